@@ -1,0 +1,6 @@
+pub mod Grammar
+pub mod Items
+pub mod Touch
+pub mod Text
+pub mod Twin
+pub mod Built

@@ -29,3 +29,7 @@ pub enum ItemKind {
     /// From `//` to the end of the line, 6.4.9.
     LineComment,
 }
+
+mod laws;
+
+pub use laws::{has_one_list, keeps_items, keeps_items_over_gaps};

@@ -1,0 +1,17 @@
+pub mod Lists
+pub mod Firsts
+pub mod Classes
+pub mod Words
+pub mod Sorts
+pub mod Singles
+pub mod Unique
+pub mod Goes
+pub mod Seam
+pub mod Closed
+pub mod Stops
+pub mod Before
+pub mod Items
+pub mod OtherGap
+pub mod Reading
+pub mod Twins
+pub mod Built
