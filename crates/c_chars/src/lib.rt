@@ -4,6 +4,11 @@
 //! that is left keeps the span of its own raw bytes.
 #![tactic(auto)]
 
+mod reader;
+mod units;
+
+pub use reader::Chars;
+
 /// The most bytes that one input may have.
 pub const LIMIT: usize = 8_388_608;
 

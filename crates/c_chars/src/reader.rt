@@ -1,0 +1,134 @@
+//! Reads the characters of a text one after another.
+
+ghost use Rattle.std.specs.Prelude.{◌≡◌, ◌+◌, ◌<◌, ◌≤◌, ◌^◌, length, MatchOption, ◌∷◌, [], slice_get};
+ghost use Rattle.c_chars.specs.Characters.{chars, logical};
+ghost use Rattle.c_chars.specs.Coming.{Coming};
+
+use crate::units::unit;
+use crate::{Dialect, LIMIT, LogicalChar};
+use std::marker::Model;
+
+/// A place in a text, and what stands behind it.
+#[derive(Clone, Copy)]
+struct Cursor<'s> {
+    rest: &'s [u8],
+    at: usize,
+    dialect: Dialect,
+    ghost fits: { at + length rest.now < 2 ^ 32 },
+}
+
+impl<'s> Cursor<'s> {
+    /// The next character; none exactly at the end.
+    fn next(&mut self) -> Option<LogicalChar>
+        ensures dialect { self.new.dialect ≡ self.old.dialect }
+        ensures next { MatchOption result
+            ((chars self.old.dialect self.old.at self.old.rest.now ≡ []) × (chars self.new.dialect self.new.at self.new.rest.now ≡ []))
+            (λ c. chars self.old.dialect self.old.at self.old.rest.now ≡ c ∷ chars self.new.dialect self.new.at self.new.rest.now) }
+    {
+        while !self.rest.is_empty() {
+            let (byte, len) = unit(self.dialect, self.rest);
+            let (_, behind) = self.rest.split_at(len);
+            if byte != b'\\' {
+                return Some(self.take_unit(byte, len, behind));
+            }
+            if behind.is_empty() {
+                return Some(self.take_unit(byte, len, behind));
+            }
+            let (next, next_len) = unit(self.dialect, behind);
+            if next != b'\n' {
+                return Some(self.take_unit(byte, len, behind));
+            }
+            let (_, after) = behind.split_at(next_len);
+            self.rest = after;
+            self.at += len + next_len;
+        }
+        None
+    }
+
+    /// Steps over a character of this byte and so many bytes.
+    fn take_unit(&mut self, byte: u8, len: usize, behind: &'s [u8]) -> LogicalChar
+        requires { self.old.at + len + length behind.now < 2 ^ 32 }
+        ensures dialect { self.new.dialect ≡ self.old.dialect }
+        ensures rest { self.new.rest.now ≡ behind.now }
+        ensures at { self.new.at ≡ self.old.at + len }
+        ensures made { (result.byte ≡ byte) × (result.from ≡ self.old.at) × (result.to ≡ self.old.at + len) }
+    {
+        let from = self.at as u32;
+        let to = (self.at + len) as u32;
+        self.rest = behind;
+        self.at += len;
+        LogicalChar { byte, from, to }
+    }
+
+    /// The character that k others stand before.
+    fn peek(&self, k: usize) -> Option<LogicalChar>
+        ensures { result ≡ slice_get (chars self.now.dialect self.now.at self.now.rest.now) k }
+    {
+        let mut ahead = *self;
+        for _ in 0..k {
+            if ahead.next().is_none() {
+                return None;
+            }
+        }
+        ahead.next()
+    }
+}
+
+/// Reads the characters of a text one after another.
+///
+/// Trigraphs are replaced, spliced lines joined, and `\r\n` is one new-line (C11 5.1.1.2, phases 1
+/// and 2). A byte order mark at the text's start is no character.
+pub struct Chars<'s> {
+    cursor: Cursor<'s>,
+}
+
+impl<'s> Model for Chars<'s> {
+    ghost use Rattle.c_chars.specs.Characters.{chars};
+    ghost use Rattle.c_chars.specs.Coming.{Coming};
+
+    ghost Value = { Coming };
+
+    ghost view = { λ a. record { dialect = a.cursor.dialect; chars = chars a.cursor.dialect a.cursor.at a.cursor.rest.now } };
+}
+
+impl<'s> Chars<'s> {
+    /// The characters of a text of at most [`LIMIT`] bytes.
+    pub fn new(text: &'s [u8], dialect: Dialect) -> Chars<'s>
+        requires { length text.now ≤ LIMIT }
+        ensures { result ≡ record { dialect = dialect; chars = logical dialect text.now } }
+    {
+        let cursor = match text {
+            [0xef, 0xbb, 0xbf, rest @ ..] => Cursor {
+                rest,
+                at: 3,
+                dialect,
+            },
+            _ => Cursor {
+                rest: text,
+                at: 0,
+                dialect,
+            },
+        };
+        Chars { cursor }
+    }
+
+    /// The next character; none exactly at the end.
+    pub fn next(&mut self) -> Option<LogicalChar>
+        ensures dialect { self.new.dialect ≡ self.old.dialect }
+        ensures next { MatchOption result
+            ((self.old.chars ≡ []) × (self.new.chars ≡ []))
+            (λ c. self.old.chars ≡ c ∷ self.new.chars) }
+    {
+        self.cursor.next()
+    }
+
+    /// The character that stands behind the next k characters, 0 for the next one.
+    ///
+    /// It reads on from the next character each time, so k is to be small.
+    pub fn peek(&self, k: usize) -> Option<LogicalChar>
+        requires { k ≤ 8 }
+        ensures { result ≡ slice_get self.now.chars k }
+    {
+        self.cursor.peek(k)
+    }
+}
