@@ -81,7 +81,7 @@ phase_cut : (d : Dialect) (a b : List LogicalChar) → (ends_in (λ c. c.byte ==
 phase_cut C11 a b h = replaced_cut a b h
 phase_cut C23 a b h = refl
 
-placed_append : (at : ℕ) (a b : List ℕ) → placed at (a ++ b) ≡ placed at a ++ placed (at + length a) b
+pub placed_append : (at : ℕ) (a b : List ℕ) → placed at (a ++ b) ≡ placed at a ++ placed (at + length a) b
 placed_append at [] b = let e : at ≡ at + 0 = omega arith in ap (λ n. placed n b) e
 placed_append at (x ∷ a) b =
     let e : (at + 1) + length a ≡ at + suc (length a) = omega arith in

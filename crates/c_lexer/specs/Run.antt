@@ -1,0 +1,66 @@
+-- How far the lexer reads on.
+use Rattle.std.specs.Prelude.{◌==◌, ◌||◌, ◌&&◌, not, ◌+◌, ℕ, Bool, false, List, [], ◌∷◌, if◌then◌else◌, take, drop, length, codes, nat_eq}
+use Rattle.std.specs.List.{starts_with}
+use Rattle.c_grammar.specs.Grammar.{is_of, is_letter, is_digit, is_sign, is_exponent, Shape}
+use Rattle.c_grammar.specs.Items.{IsLongest}
+use Rattle.c_grammar.specs.Touch.{starts}
+use Rattle.c_grammar.specs.Built.{is_built}
+use Rattle.c_chars.specs.declared.Dialect.{Dialect}
+use Rattle.c_chars.specs.declared.Dialect.TheVariants.{C11, C23}
+
+-- a number goes on with c behind this character
+unfoldable pub goes : ℕ → ℕ → Bool
+goes previous c = is_letter c || is_digit c || c == 46 || (is_sign c && is_exponent previous)
+
+-- how many characters a number goes on with behind this one
+abbrev pub run : ℕ → List ℕ → ℕ
+run previous [] = 0
+run previous (c ∷ s) = if goes previous c then 1 + run c s else 0
+
+-- a digit, or a point before a digit
+abbrev pub begins_number : List ℕ → Bool
+begins_number [] = false
+begins_number (f ∷ s) = is_digit f || (f == 46 && starts is_digit s)
+
+-- The first n characters are the longest that spell an item.
+abbrev pub IsCut : Dialect → Shape → List ℕ → ℕ → Type 0
+IsCut d k s n = IsLongest d k (take n s) (drop n s)
+
+-- the punctuators of two characters and more that both dialects have, each before those that it begins with
+abbrev pub common_long : List (List ℕ)
+common_long =
+    codes "->" ∷ codes "==" ∷ codes "&&" ∷ codes "++" ∷ codes "||" ∷ codes "!=" ∷ codes "+=" ∷ codes "<=" ∷ codes ">=" ∷ codes "--"
+    ∷ codes "<<=" ∷ codes "<<" ∷ codes ">>=" ∷ codes ">>" ∷ codes "-=" ∷ codes "|=" ∷ codes "&=" ∷ codes "*=" ∷ codes "/=" ∷ codes "%="
+    ∷ codes "^=" ∷ codes "..." ∷ codes "##" ∷ codes "<:" ∷ codes ":>" ∷ codes "<%" ∷ codes "%>" ∷ codes "%:%:" ∷ codes "%:" ∷ []
+
+-- those of the dialect
+abbrev pub long : Dialect → List (List ℕ)
+long C11 = common_long
+long C23 = codes "::" ∷ common_long
+
+-- the length of the first of these that begins the text, otherwise 1
+abbrev pub first_front : List (List ℕ) → List ℕ → ℕ
+first_front [] s = 1
+first_front (p ∷ ps) s = if starts_with nat_eq s p then length p else first_front ps s
+
+-- some punctuator of two characters and more begins with this one
+unfoldable pub begins_long : ℕ → Bool
+begins_long c = is_of (codes "-=&+|!<>*/%^.#:") c
+
+-- some punctuator has this second character
+unfoldable pub goes_on_long : ℕ → Bool
+goes_on_long c = is_of (codes "=>&+|-<.:#%") c
+
+-- the first two characters can be those of a punctuator
+abbrev pub may_be_long : List ℕ → Bool
+may_be_long [] = false
+may_be_long (c ∷ []) = false
+may_be_long (c ∷ e ∷ s) = begins_long c && goes_on_long e
+
+-- a comment or a `%:` begins with these two characters
+abbrev pub begins_more : ℕ → ℕ → Bool
+begins_more previous c = (previous == 47 && is_of (codes "/*") c) || (previous == 37 && c == 58)
+
+-- In a text that is read so far c may stand behind this character.
+unfoldable pub may_follow : ℕ → ℕ → Bool
+may_follow previous c = is_built c && not (begins_more previous c)

@@ -1,0 +1,106 @@
+//! Cuts a text into items.
+
+ghost use Rattle.std.specs.Prelude.{◌≡◌, ◌||◌, ◌≤◌, ◌<◌, ◌+◌, ◌^◌, length, take, IfSome, IfNone, IsTrue, IsFalse};
+ghost use Rattle.c_grammar.specs.Grammar.{Whole, is_white, is_new_line};
+ghost use Rattle.c_grammar.specs.Items.{is_gap, LineStart, InText, past_item};
+ghost use Rattle.c_grammar.specs.Touch.{starts};
+ghost use Rattle.c_grammar.specs.Built.{are_built};
+ghost use Rattle.c_chars.specs.Characters.{logical, bytes_of};
+ghost use Rattle.c_lexer.specs.Run.{IsCut};
+ghost use Rattle.c_lexer.specs.Reading.{IsNextItem};
+
+use crate::{punctuator, scan};
+use c_chars::{Dialect, LIMIT};
+use c_grammar::ItemKind;
+use std::marker::Model;
+
+/// An item of a text.
+#[derive(Clone, Copy, Debug)]
+pub struct Item<'s> {
+    /// What it is.
+    pub kind: ItemKind,
+    /// Its bytes in the text.
+    pub raw: &'s [u8],
+    /// The offset of its first byte.
+    pub start: u32,
+}
+
+/// The item that the text begins with, and how many bytes it has.
+fn item_len(dialect: Dialect, s: &[u8]) -> (ItemKind, usize)
+    requires some { 0 < length s.now }
+    requires built { IsTrue (are_built s.now) }
+    requires begins { IsFalse (starts (λ c. is_white c || is_new_line c) s.now) }
+    ensures cut { IsCut dialect (Whole result.0) s.now result.1 }
+    ensures at_start { past_item dialect LineStart result.0 (take result.1 s.now) ≡ InText }
+    ensures in_text { past_item dialect InText result.0 (take result.1 s.now) ≡ InText }
+    ensures within { result.1 ≤ length s.now }
+    ensures long { 0 < result.1 }
+{
+    if scan::begins_letter(s) {
+        (ItemKind::Identifier, scan::word_len(s))
+    } else if scan::begins_number(s) {
+        (ItemKind::Number, scan::number_len(s))
+    } else {
+        (ItemKind::Punct, punctuator::punctuator_len(dialect, s))
+    }
+}
+
+/// Reads the items of a text one after another.
+pub struct Lexer<'s> {
+    text: &'s [u8],
+    rest: &'s [u8],
+    at: usize,
+    dialect: Dialect,
+}
+
+impl<'s> Model for Lexer<'s> {
+    ghost use Rattle.c_lexer.specs.Reading.{Reading, IsRestAt, left_at};
+
+    ghost Value = { Reading };
+
+    ghost view = { λ a. record { text = a.text.now; dialect = a.dialect; left = left_at a.at a.rest.now } };
+
+    ghost invariant = { λ a. IsRestAt a.text.now a.rest.now a.at };
+}
+
+impl<'s> Lexer<'s> {
+    /// The items of a text of at most [`LIMIT`] bytes, which are all built.
+    pub fn new(text: &'s [u8], dialect: Dialect) -> Lexer<'s>
+        requires fits { length text.now ≤ LIMIT }
+        requires built { IsTrue (are_built text.now) }
+        ensures text { result.text ≡ text.now }
+        ensures dialect { result.dialect ≡ dialect }
+        ensures left { result.left ≡ record { place = LineStart; chars = logical dialect text.now } }
+    {
+        Lexer {
+            text,
+            rest: text,
+            at: 0,
+            dialect,
+        }
+    }
+
+    /// The next item; none exactly where no item is left.
+    pub fn next_item(&mut self) -> Option<Item<'s>>
+        ensures text { self.new.text ≡ self.old.text }
+        ensures dialect { self.new.dialect ≡ self.old.dialect }
+        ensures some { IfSome result (λ item. IsNextItem self.old self.new item.kind item.start item.raw.now) }
+        ensures none { IfNone result (IsTrue (is_gap (bytes_of self.old.left.chars))) }
+        ensures end { IfNone result (self.new ≡ self.old) }
+    {
+        let (gap, rest) = self.rest.split_at(scan::gap_len(self.rest));
+        if rest.is_empty() {
+            return None;
+        }
+        let start = self.at + gap.len();
+        let (kind, len) = item_len(self.dialect, rest);
+        let (raw, rest) = rest.split_at(len);
+        self.rest = rest;
+        self.at = start + len;
+        Some(Item {
+            kind,
+            raw,
+            start: start as u32,
+        })
+    }
+}

@@ -1,0 +1,92 @@
+//! The punctuators of C11 6.4.6, and `::` of C23.
+
+ghost use Rattle.std.specs.Prelude.{◌≡◌, ◌≤◌, ◌<◌, length, map};
+ghost use Rattle.c_lexer.specs.Run.{long, first_front, begins_long, goes_on_long, may_be_long};
+
+use c_chars::Dialect;
+
+/// The punctuators of two bytes and more, each before those that it begins with.
+const LONG_C11: [&[u8]; 29] = [
+    b"->", b"==", b"&&", b"++", b"||", b"!=", b"+=", b"<=", b">=", b"--", b"<<=", b"<<", b">>=",
+    b">>", b"-=", b"|=", b"&=", b"*=", b"/=", b"%=", b"^=", b"...", b"##", b"<:", b":>", b"<%",
+    b"%>", b"%:%:", b"%:",
+];
+
+/// The same of C23.
+const LONG_C23: [&[u8]; 30] = [
+    b"::", b"->", b"==", b"&&", b"++", b"||", b"!=", b"+=", b"<=", b">=", b"--", b"<<=", b"<<",
+    b">>=", b">>", b"-=", b"|=", b"&=", b"*=", b"/=", b"%=", b"^=", b"...", b"##", b"<:", b":>",
+    b"<%", b"%>", b"%:%:", b"%:",
+];
+
+/// The length of the first entry that begins the text, otherwise 1.
+fn first_front(table: &[&[u8]], s: &[u8]) -> usize
+    ensures { result ≡ first_front (map (λ p. p.now) table.now) s.now }
+{
+    for p in table {
+        if s.starts_with(p) {
+            return p.len();
+        }
+    }
+    1
+}
+
+/// Whether some punctuator of two bytes and more begins with this one.
+#[tactic(auto, unfolding(crate::specs::Run::begins_long))]
+fn begins_long(b: u8) -> bool
+    ensures { result ≡ begins_long b }
+{
+    matches!(
+        b,
+        b'-' | b'='
+            | b'&'
+            | b'+'
+            | b'|'
+            | b'!'
+            | b'<'
+            | b'>'
+            | b'*'
+            | b'/'
+            | b'%'
+            | b'^'
+            | b'.'
+            | b'#'
+            | b':'
+    )
+}
+
+/// Whether some punctuator has this second byte.
+#[tactic(auto, unfolding(crate::specs::Run::goes_on_long))]
+fn goes_on_long(b: u8) -> bool
+    ensures { result ≡ goes_on_long b }
+{
+    matches!(
+        b,
+        b'=' | b'>' | b'&' | b'+' | b'|' | b'-' | b'<' | b'.' | b':' | b'#' | b'%'
+    )
+}
+
+fn may_be_long(s: &[u8]) -> bool
+    ensures { result ≡ may_be_long s.now }
+{
+    match s {
+        [c, e, ..] => begins_long(*c) && goes_on_long(*e),
+        _ => false,
+    }
+}
+
+/// The length of the longest punctuator that the text begins with, otherwise 1.
+///
+/// Most punctuators of a text have one byte, so the table is walked only where the first two bytes
+/// allow a longer one.
+pub(crate) fn punctuator_len(dialect: Dialect, s: &[u8]) -> usize
+    ensures { result ≡ first_front (long dialect) s.now }
+{
+    if !may_be_long(s) {
+        return 1;
+    }
+    match dialect {
+        Dialect::C11 => first_front(&LONG_C11, s),
+        Dialect::C23 => first_front(&LONG_C23, s),
+    }
+}
