@@ -13,5 +13,6 @@ pub mod Before
 pub mod Items
 pub mod OtherGap
 pub mod Reading
+pub mod AllGaps
 pub mod Twins
 pub mod Built

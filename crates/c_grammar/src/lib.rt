@@ -32,4 +32,4 @@ pub enum ItemKind {
 
 mod laws;
 
-pub use laws::{has_one_list, keeps_items, keeps_items_over_gaps};
+pub use laws::{has_one_list, keeps_items, keeps_items_over_all_gaps, keeps_items_over_gaps};
