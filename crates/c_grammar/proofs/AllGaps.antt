@@ -1,14 +1,13 @@
 -- Other gaps before all items, and another last gap, leave the items.
-use Rattle.std.proofs.Common.{◌≡◌, ◌&&◌, ◌||◌, not, ℕ, Bool, true, false, List, [], ◌∷◌, ◌++◌, refl, sym, ◌∙◌, ap, subst, inl, inr, append_assoc}
-use Rattle.std.specs.Prelude.{IsTrue, if◌then◌else◌}
-use Rattle.std.specs.List.{list_any, list_all}
+use Rattle.std.proofs.Common.{◌≡◌, not, ℕ, true, false, List, [], ◌∷◌, ◌++◌, refl, sym, ◌∙◌, ap, subst, inl, inr, append_assoc}
+use Rattle.std.specs.List.{list_any}
 use Rattle.std.proofs.lemmas.Bool.{and_parts, cases_Bool, not-true}
 use Rattle.c_chars.specs.declared.Dialect.{Dialect}
 use Rattle.c_grammar.specs.declared.ItemKind.{ItemKind}
-use Rattle.c_grammar.specs.Grammar.{is_new_line, is_same}
-use Rattle.c_grammar.specs.Items.{Place, LineStart, past_gap, past_item, is_gap, IsNext, BeginsHeader, Piece, Reads, Lexes, written}
+use Rattle.c_grammar.specs.Grammar.{is_new_line}
+use Rattle.c_grammar.specs.Items.{Place, LineStart, past_gap, past_item, is_gap, IsNext, BeginsHeader, Piece, Reads, written}
 use Rattle.c_grammar.specs.Touch.{takes_line, regapped}
-use Rattle.c_grammar.specs.Regapping.{IsLikeGap, IsSameItem, HaveLikeGaps, AreRegapped, none_takes_line, KeepsItemsOverAllGaps}
+use Rattle.c_grammar.specs.Regapping.{IsLikeGap, IsSameItem, HaveLikeGaps, none_takes_line, KeepsItemsOverAllGaps}
 use Rattle.c_grammar.proofs.Lists.{two_cuts}
 use Rattle.c_grammar.proofs.Firsts.{starts_or_empty}
 use Rattle.c_grammar.proofs.Unique.{is_blank}
@@ -81,17 +80,18 @@ other_gaps d place xs l (p ∷ ps) (q ∷ qs) last h t n like =
 
 -- The first gap
 
-first_place : (g : List ℕ) → past_gap LineStart g ≡ LineStart
+pub first_place : (g : List ℕ) → past_gap LineStart g ≡ LineStart
 first_place g = elim (cases_Bool (list_any is_new_line g)) [ inl y ↦ rw y refl | inr n ↦ rw n refl ]
 
 other_first : (d : Dialect) (p q : Piece) (ps : List Piece) (last : List ℕ) → Reads d LineStart (p ∷ ps) last → IsSameItem p q → is_gap q.gap ≡ true → Reads d LineStart (q ∷ ps) last
 other_first d p q ps last h same w =
     let places : past_gap LineStart p.gap ≡ past_gap LineStart q.gap = first_place p.gap ∙ sym (first_place q.gap) in
     let to_q = piece_is p q same in
-    let here : Reads d LineStart (regapped q.gap p ∷ ps) last =
-    (w,
-    subst (λ z. IsNext d z p.kind p.spelling (written ps last)) places h.1,
-    subst (λ z. Reads d (past_item d z p.kind p.spelling) ps last) places h.2) in
+    let here : Reads d LineStart (regapped q.gap p ∷ ps) last = (
+      w,
+      subst (λ z. IsNext d z p.kind p.spelling (written ps last)) places h.1,
+      subst (λ z. Reads d (past_item d z p.kind p.spelling) ps last) places h.2,
+    ) in
     subst (λ z. Reads d LineStart (z ∷ ps) last) to_q here
 
 pub keeps_items_over_all_gaps : KeepsItemsOverAllGaps

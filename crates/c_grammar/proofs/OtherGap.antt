@@ -15,7 +15,7 @@ use Rattle.c_grammar.proofs.Firsts.{Begins, begins, starts_or_empty, can_begin, 
 use Rattle.c_grammar.proofs.Words.{digit_wordlike, is_wordlike, identifier_wordlike}
 use Rattle.c_grammar.proofs.Classes.{not_of, IsNone, other_is_none, other_not_mark}
 use Rattle.c_grammar.proofs.Sorts.{apart_at}
-use Rattle.c_grammar.proofs.Items.{item_at, item_begins, joined_so, white_inside, header_last, rest_is, TwoItems, two_items, ends_in_left, something, FirstPiece, first_piece, line_of, quote_first, blank_no_quote}
+use Rattle.c_grammar.proofs.Items.{item_at, item_begins, joined_so, white_inside, header_last, rest_is, two_items, ends_in_left, something, FirstPiece, first_piece, line_of, quote_first, blank_no_quote}
 use Rattle.c_grammar.proofs.Before.{IsSeam, IsMost, IsItemBefore, QuoteFirst, nothing_crosses}
 use Rattle.c_grammar.proofs.Unique.{is_blank}
 use Rattle.c_grammar.proofs.Seam.{item_begin}
@@ -375,10 +375,11 @@ pub other_gap : (d : Dialect) (place : Place) (xs : List Piece) (l r : Piece) (y
 other_gap d place xs l r ys last g h like t =
     other_rest d place xs l (r ∷ ys) (regapped g r ∷ ys) last last h (like_may_follow g r.gap (r.spelling ++ written ys last) like) t
     (λ behind k.
-        let same = like_place behind g r.gap like.lines in
-        (like.white,
-        subst (λ z. IsNext d z r.kind r.spelling (written ys last)) same k.1,
-        subst (λ z. Reads d (past_item d z r.kind r.spelling) ys last) same k.2))
+    let same = like_place behind g r.gap like.lines in (
+      like.white,
+      subst (λ z. IsNext d z r.kind r.spelling (written ys last)) same k.1,
+      subst (λ z. Reads d (past_item d z r.kind r.spelling) ys last) same k.2,
+    ))
 
 pub like_gaps : (g o : List ℕ) → is_gap g ≡ true → is_gap o ≡ true → (g ≡ [] → ⊥) → (o ≡ [] → ⊥) → list_any is_new_line g ≡ list_any is_new_line o → AreLikeGaps g o
 like_gaps [] o w v n m e = absurd (n refl)
