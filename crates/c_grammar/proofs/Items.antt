@@ -218,8 +218,8 @@ any_front : (p : ℕ → Bool) (a b : List ℕ) → list_any p a ≡ true → li
 any_front p [] b h = cc
 any_front p (c ∷ a) b h = elim (or_cases (p c) (list_any p a) h) [ inl e ↦ or_left (p c) (list_any p (a ++ b)) e | inr e ↦ or_right (p c) (list_any p (a ++ b)) (any_front p a b e) ]
 
-pub rest_is : (xs : List Piece) (l r : Piece) (ys : List Piece) (last : List ℕ) → written (xs ++ l ∷ r ∷ ys) last ≡ written (xs ++ l ∷ []) [] ++ (r.gap ++ (r.spelling ++ written ys last))
-rest_is xs l r ys last = written_more xs (l ∷ r ∷ ys) last ∙ (sym (written_more xs (l ∷ []) (r.gap ++ (r.spelling ++ written ys last))) ∙ written_from (xs ++ l ∷ []) (r.gap ++ (r.spelling ++ written ys last)))
+pub rest_is : (xs : List Piece) (l : Piece) (ns : List Piece) (last : List ℕ) → written (xs ++ l ∷ ns) last ≡ written (xs ++ l ∷ []) [] ++ written ns last
+rest_is xs l ns last = written_more xs (l ∷ ns) last ∙ (sym (written_more xs (l ∷ []) (written ns last)) ∙ written_from (xs ++ l ∷ []) (written ns last))
 
 -- an item's first character isn't blank
 pub item_black : (d : Dialect) (kind : ItemKind) (s : List ℕ) → IsHeaderName s ⊎ Spells d (Whole kind) s → (f : ℕ) × (t : List ℕ) × (s ≡ f ∷ t) × (is_blank f ≡ false)
@@ -244,30 +244,30 @@ either_item d place kind s (inl h) = inl h.2
 either_item d place kind s (inr h) = inr h
 
 -- a new-line stands before the next item where one takes its line
-pub line_of : (d : Dialect) (place here : Place) (kind : ItemKind) (spelling : List ℕ) (xs : List Piece) (l r : Piece) (ys : List Piece) (last : List ℕ) → FirstPiece d place l.kind (written (xs ++ l ∷ []) []) →
-    takes_line kind ≡ true → IsNext d here kind spelling (written (xs ++ l ∷ r ∷ ys) last) → list_any is_new_line (written (xs ++ l ∷ []) []) ≡ true
-line_of d place here kind spelling xs l r ys last next t (inl g) = let k = g.1 in let f : takes_line HeaderName ≡ true = subst (λ z. takes_line z ≡ true) k t in cc
-line_of d place here kind spelling xs l r ys last next t (inr g) =
+pub line_of : (d : Dialect) (place here : Place) (kind : ItemKind) (spelling : List ℕ) (xs : List Piece) (l : Piece) (ns : List Piece) (last : List ℕ) → FirstPiece d place l.kind (written (xs ++ l ∷ []) []) →
+    takes_line kind ≡ true → IsNext d here kind spelling (written (xs ++ l ∷ ns) last) → list_any is_new_line (written (xs ++ l ∷ []) []) ≡ true
+line_of d place here kind spelling xs l ns last next t (inl g) = let k = g.1 in let f : takes_line HeaderName ≡ true = subst (λ z. takes_line z ≡ true) k t in cc
+line_of d place here kind spelling xs l ns last next t (inr g) =
     let black = item_black d next.kind next.spelling (either_item d (past_gap place next.gap) next.kind next.spelling next.item) in
-    let Z : List ℕ = r.gap ++ (r.spelling ++ written ys last) in
-    let old : written (xs ++ l ∷ r ∷ ys) last ≡ next.gap ++ black.0 ∷ ((black.1 ++ next.rest) ++ Z) =
-    rest_is xs l r ys last ∙ (ap (λ z. z ++ Z) (next.whole ∙ ap (λ z. next.gap ++ (z ++ next.rest)) black.2) ∙ append_assoc next.gap (black.0 ∷ (black.1 ++ next.rest)) Z) in
+    let Z : List ℕ = written ns last in
+    let old : written (xs ++ l ∷ ns) last ≡ next.gap ++ black.0 ∷ ((black.1 ++ next.rest) ++ Z) =
+    rest_is xs l ns last ∙ (ap (λ z. z ++ Z) (next.whole ∙ ap (λ z. next.gap ++ (z ++ next.rest)) black.2) ∙ append_assoc next.gap (black.0 ∷ (black.1 ++ next.rest)) Z) in
     let there = line_behind d kind spelling next.gap black.0 ((black.1 ++ next.rest) ++ Z) t next.white black.3 (subst (λ z. IsLongest d (Whole kind) spelling z) old g.1) in
     subst (λ z. list_any is_new_line z ≡ true) (sym next.whole) (any_front is_new_line next.gap (next.spelling ++ next.rest) there)
 
-pub first_piece : (d : Dialect) (place : Place) (xs : List Piece) (l r : Piece) (ys : List Piece) (last : List ℕ) → Reads d place (xs ++ l ∷ r ∷ ys) last → FirstPiece d place l.kind (written (xs ++ l ∷ []) [])
-first_piece d place [] l r ys last h = record {
+pub first_piece : (d : Dialect) (place : Place) (xs : List Piece) (l : Piece) (ns : List Piece) (last : List ℕ) → Reads d place (xs ++ l ∷ ns) last → FirstPiece d place l.kind (written (xs ++ l ∷ []) [])
+first_piece d place [] l ns last h = record {
   gap = l.gap;
   kind = l.kind;
   spelling = l.spelling;
   rest = [];
   white = h.0;
   whole = refl;
-  item = to_item d (past_gap place l.gap) l.kind l.spelling (written (r ∷ ys) last) h.1;
+  item = to_item d (past_gap place l.gap) l.kind l.spelling (written ns last) h.1;
   line = λ t. inr t;
 }
-first_piece d place (m ∷ xs) l r ys last h =
-    let next = first_piece d (past_item d (past_gap place m.gap) m.kind m.spelling) xs l r ys last h.2 in
+first_piece d place (m ∷ xs) l ns last h =
+    let next = first_piece d (past_item d (past_gap place m.gap) m.kind m.spelling) xs l ns last h.2 in
     record {
       gap = m.gap;
       kind = m.kind;
@@ -275,8 +275,8 @@ first_piece d place (m ∷ xs) l r ys last h =
       rest = written (xs ++ l ∷ []) [];
       white = h.0;
       whole = refl;
-      item = to_item d (past_gap place m.gap) m.kind m.spelling (written (xs ++ l ∷ r ∷ ys) last) h.1;
-      line = λ t. inl (line_of d (past_item d (past_gap place m.gap) m.kind m.spelling) (past_gap place m.gap) m.kind m.spelling xs l r ys last next t h.1);
+      item = to_item d (past_gap place m.gap) m.kind m.spelling (written (xs ++ l ∷ ns) last) h.1;
+      line = λ t. inl (line_of d (past_item d (past_gap place m.gap) m.kind m.spelling) (past_gap place m.gap) m.kind m.spelling xs l ns last next t h.1);
     }
 
 -- an include's name is no prefix of a literal
@@ -371,6 +371,11 @@ quote_first d place j left f p x A h [] spelling rest kind w e (inr g) line q k 
       ]
     ]
 
+-- the item that stands behind xs
+pub item_at : (d : Dialect) (place : Place) (xs : List Piece) (l : Piece) (ns : List Piece) (last : List ℕ) → Reads d place (xs ++ l ∷ ns) last → ((l.kind ≡ HeaderName) × IsHeaderName l.spelling) ⊎ Spells d (Whole l.kind) l.spelling
+item_at d place [] l ns last h = next_item_of d (past_gap place l.gap) l.kind l.spelling (written ns last) h.1
+item_at d place (m ∷ xs) l ns last h = item_at d (past_item d (past_gap place m.gap) m.kind m.spelling) xs l ns last h.2
+
 -- The seam
 
 -- the left item and the right one of a text
@@ -419,10 +424,10 @@ before_next d place kind s xs l r ys last (inr h) hs t n = inr (no_header, longe
     B = r.spelling ++ written ys last
 
     old : written (xs ++ l ∷ r ∷ ys) last ≡ A ++ (r.gap ++ B)
-    old = rest_is xs l r ys last
+    old = rest_is xs l (r ∷ ys) last
 
     new : written (xs ++ l ∷ closed_up r ∷ ys) last ≡ A ++ B
-    new = rest_is xs l (closed_up r) ys last
+    new = rest_is xs l (closed_up r ∷ ys) last
 
     start : Begins (can_begin d (Whole kind)) s
     start = begins d (Whole kind) s h.1.spells
@@ -474,12 +479,12 @@ before_next d place kind s xs l r ys last (inr h) hs t n = inr (no_header, longe
         }
 
         piece : FirstPiece d (past_item d place kind s) l.kind A
-        piece = first_piece d (past_item d place kind s) xs l r ys last hs
+        piece = first_piece d (past_item d place kind s) xs l (r ∷ ys) last hs
 
         item_before : IsItemBefore d kind (start.c ∷ start.rest) (some.0 ∷ some.1)
         item_before = record {
           spelled = subst (λ z. Spells d (Whole kind) z) start.whole h.1.spells;
-          line = λ u. subst (λ z. list_any is_new_line z ≡ true) some.2 (line_of d (past_item d place kind s) place kind s xs l r ys last piece u (inr h));
+          line = λ u. subst (λ z. list_any is_new_line z ≡ true) some.2 (line_of d (past_item d place kind s) place kind s xs l (r ∷ ys) last piece u (inr h));
           most = subst (λ z. IsMost d (start.c ∷ start.rest) z) some.2 (subst (λ z. IsMost d z A) start.whole most);
         }
 

@@ -11,11 +11,11 @@ use Rattle.c_chars.specs.declared.Dialect.{Dialect}
 use Rattle.c_grammar.specs.declared.ItemKind.{ItemKind}
 use Rattle.c_grammar.specs.declared.ItemKind.TheVariants.{Identifier, Number, CharConst, StringLit, Punct, HeaderName, StrayQuote, Other, BlockComment, LineComment}
 use Rattle.c_grammar.proofs.Lists.{two_cuts, all_append}
-use Rattle.c_grammar.proofs.Firsts.{Begins, begins, can_begin, is_quote, is_mark, is_number_start}
+use Rattle.c_grammar.proofs.Firsts.{Begins, begins, starts_or_empty, can_begin, is_quote, is_mark, is_number_start}
 use Rattle.c_grammar.proofs.Words.{digit_wordlike, is_wordlike, identifier_wordlike}
 use Rattle.c_grammar.proofs.Classes.{not_of, IsNone, other_is_none, other_not_mark}
 use Rattle.c_grammar.proofs.Sorts.{apart_at}
-use Rattle.c_grammar.proofs.Items.{item_begins, joined_so, white_inside, header_last, rest_is, TwoItems, two_items, ends_in_left, something, FirstPiece, first_piece, line_of, quote_first, blank_no_quote}
+use Rattle.c_grammar.proofs.Items.{item_at, item_begins, joined_so, white_inside, header_last, rest_is, two_items, ends_in_left, something, FirstPiece, first_piece, line_of, quote_first, blank_no_quote}
 use Rattle.c_grammar.proofs.Before.{IsSeam, IsMost, IsItemBefore, QuoteFirst, nothing_crosses}
 use Rattle.c_grammar.proofs.Unique.{is_blank}
 use Rattle.c_grammar.proofs.Seam.{item_begin}
@@ -158,11 +158,11 @@ gap_end_blank : (a : List ℕ) (z : ℕ) → is_gap (a ++ z ∷ []) ≡ true →
 gap_end_blank [] z h = (and_parts (is_blank z) true h).0
 gap_end_blank (c ∷ a) z h = gap_end_blank a z (and_parts (is_blank c) (is_gap (a ++ z ∷ [])) h).1
 
-gap_front : (a b : List ℕ) → is_gap (a ++ b) ≡ true → is_gap a ≡ true
+pub gap_front : (a b : List ℕ) → is_gap (a ++ b) ≡ true → is_gap a ≡ true
 gap_front a b h = let both : (is_gap a && is_gap b) ≡ true = rw all_append at h in (and_parts (is_gap a) (is_gap b) both).0
 
 -- a name doesn't end in a gap
-no_end_in_gap : (n : List ℕ) → (h : IsHeaderName n) → (f : ℕ) (S : List ℕ) (c : ℕ) (more : List ℕ) → n ≡ (f ∷ S) ++ c ∷ more → is_gap (c ∷ more) ≡ true → ⊥
+pub no_end_in_gap : (n : List ℕ) → (h : IsHeaderName n) → (f : ℕ) (S : List ℕ) (c : ℕ) (more : List ℕ) → n ≡ (f ∷ S) ++ c ∷ more → is_gap (c ∷ more) ≡ true → ⊥
 no_end_in_gap n h f S c more e w =
     let r = last_there c more in
     let all : f ∷ (S ++ c ∷ more) ≡ h.first ∷ (h.body ++ h.last ∷ []) = sym e ∙ h.whole in
@@ -218,6 +218,133 @@ header_other f S B g o wg wo same_lines x o2 o_is h = elim (two_cuts h.name h.le
             let q = and_parts (not (c == n.last)) (not (is_new_line c)) p.0 in
             or_from (is_new_line c) (list_any is_new_line g) (not-true (is_new_line c) q.1) (no_lines g p.1)
 
+-- What is asked of the rest that comes behind an item in the place of its own rest: it is empty or begins with a blank, and makes no header name.
+pub record MayFollow (old new : List ℕ) : Type 0 where
+  pub blank : starts_or_empty is_blank new ≡ true
+  pub header : (f : ℕ) (S : List ℕ) → BeginsHeader ((f ∷ S) ++ new) → BeginsHeader ((f ∷ S) ++ old)
+
+-- the item directly before
+left_other : (d : Dialect) (place : Place) (kind : ItemKind) (s old new : List ℕ) → IsNext d place kind s old → MayFollow old new → takes_line kind ≡ false → IsNext d place kind s new
+left_other d place kind s old new (inl h) like t = inl h
+left_other d place kind s old new (inr h) like t = inr (no_header, longest)
+  where
+    start : Begins (can_begin d (Whole kind)) s
+    start = begins d (Whole kind) s h.1.spells
+
+    no_header : place ≡ AfterInclude → BeginsHeader (s ++ new) → ⊥
+    no_header p k = h.0 p (subst (λ z. BeginsHeader (z ++ old)) (sym start.whole) (like.header start.c start.rest (subst (λ z. BeginsHeader (z ++ new)) start.whole k)))
+
+    longest : IsLongest d (Whole kind) s new
+    longest = record { spells = h.1.spells; longest = λ k c more left cut q. no_blank_after d kind k s c more h.1.spells t (subst (λ z. starts_or_empty is_blank z ≡ true) cut like.blank) q }
+
+-- an item further before
+before_other : (d : Dialect) (place : Place) (kind : ItemKind) (s : List ℕ) (xs : List Piece) (l : Piece) (ns ms : List Piece) (last end : List ℕ) →
+    IsNext d place kind s (written (xs ++ l ∷ ns) last) → Reads d (past_item d place kind s) (xs ++ l ∷ ns) last →
+    MayFollow (written ns last) (written ms end) → takes_line l.kind ≡ false → IsNext d place kind s (written (xs ++ l ∷ ms) end)
+before_other d place kind s xs l ns ms last end (inl h) hs like t = inl h
+before_other d place kind s xs l ns ms last end (inr h) hs like t = inr (no_header, longest)
+  where
+    item : ((l.kind ≡ HeaderName) × IsHeaderName l.spelling) ⊎ Spells d (Whole l.kind) l.spelling
+    item = item_at d (past_item d place kind s) xs l ns last hs
+
+    A : List ℕ
+    A = written (xs ++ l ∷ []) []
+
+    Z : List ℕ
+    Z = written ns last
+
+    Y : List ℕ
+    Y = written ms end
+
+    old : written (xs ++ l ∷ ns) last ≡ A ++ Z
+    old = rest_is xs l ns last
+
+    new : written (xs ++ l ∷ ms) end ≡ A ++ Y
+    new = rest_is xs l ms end
+
+    start : Begins (can_begin d (Whole kind)) s
+    start = begins d (Whole kind) s h.1.spells
+
+    no_header : place ≡ AfterInclude → BeginsHeader (s ++ written (xs ++ l ∷ ms) end) → ⊥
+    no_header p k = h.0 p (subst (λ z. BeginsHeader z) back over)
+      where
+        there : BeginsHeader ((start.c ∷ (start.rest ++ A)) ++ Y)
+        there = subst (λ z. BeginsHeader z) (ap (λ z. s ++ z) new ∙ (ap (λ z. z ++ (A ++ Y)) start.whole ∙ sym (append_assoc (start.c ∷ start.rest) A Y))) k
+
+        over : BeginsHeader ((start.c ∷ (start.rest ++ A)) ++ Z)
+        over = like.header start.c (start.rest ++ A) there
+
+        back : (start.c ∷ (start.rest ++ A)) ++ Z ≡ s ++ written (xs ++ l ∷ ns) last
+        back = append_assoc (start.c ∷ start.rest) A Z ∙ (ap (λ z. z ++ (A ++ Z)) (sym start.whole) ∙ ap (λ z. s ++ z) (sym old))
+
+    most : IsMost d s A
+    most k c more left e q = h.1.longest k c more (left ++ Z) (old ∙ (ap (λ z. z ++ Z) e ∙ append_assoc (c ∷ more) left Z)) q
+
+    crossing : (k : Shape) (e : ℕ) (more : List ℕ) (left : List ℕ) → Y ≡ (e ∷ more) ++ left → Spells d k (s ++ (A ++ e ∷ more)) → ⊥
+    crossing k e more left b q =
+        nothing_crosses d l.kind Identifier l.spelling some.0 some.1 e [] seam_is kind start.c start.rest more item_before first k
+        (subst (λ z. Spells d k z) shape q)
+      where
+        left_there : Begins (item_begin d l.kind) l.spelling
+        left_there = item_begins d l.kind l.spelling item
+
+        some : (x : ℕ) × (A0 : List ℕ) × (A ≡ x ∷ A0)
+        some = something xs l left_there.c left_there.rest left_there.whole
+
+        blank : is_blank e ≡ true
+        blank = subst (λ z. starts_or_empty is_blank z ≡ true) b like.blank
+
+        seam_is : IsSeam d l.kind Identifier l.spelling (some.0 ∷ some.1) e []
+        seam_is = record {
+          before = written xs [] ++ l.gap;
+          ends_in = sym some.2 ∙ ends_in_left xs l;
+          item = item;
+          words = λ w v. blank_no_word e blank v;
+          line = t;
+          marks = λ p o f. blank_no_front l.spelling e blank f;
+        }
+
+        piece : FirstPiece d (past_item d place kind s) l.kind A
+        piece = first_piece d (past_item d place kind s) xs l ns last hs
+
+        item_before : IsItemBefore d kind (start.c ∷ start.rest) (some.0 ∷ some.1)
+        item_before = record {
+          spelled = subst (λ z. Spells d (Whole kind) z) start.whole h.1.spells;
+          line = λ u. subst (λ z. list_any is_new_line z ≡ true) some.2 (line_of d (past_item d place kind s) place kind s xs l ns last piece u (inr h));
+          most = subst (λ z. IsMost d (start.c ∷ start.rest) z) some.2 (subst (λ z. IsMost d z A) start.whole most);
+        }
+
+        first : QuoteFirst l.kind (start.c ∷ start.rest) some.0 some.1
+        first = quote_first d place kind l.kind start.c start.rest some.0 some.1 item_before.spelled piece.gap piece.spelling piece.rest piece.kind piece.white (sym some.2 ∙ piece.whole)
+            (subst (λ z. ((past_gap (past_item d place kind z) piece.gap ≡ AfterInclude) × (piece.kind ≡ HeaderName) × IsHeaderName piece.spelling) ⊎ Spells d (Whole piece.kind) piece.spelling) start.whole piece.item) piece.line
+
+        shape : s ++ (A ++ e ∷ more) ≡ ((start.c ∷ start.rest) ++ some.0 ∷ some.1) ++ e ∷ more
+        shape = ap (λ z. z ++ (A ++ e ∷ more)) start.whole ∙ (ap (λ z. (start.c ∷ start.rest) ++ (z ++ e ∷ more)) some.2 ∙ sym (append_assoc (start.c ∷ start.rest) (some.0 ∷ some.1) (e ∷ more)))
+
+    longest : IsLongest d (Whole kind) s (written (xs ++ l ∷ ms) end)
+    longest = record {
+      spells = h.1.spells;
+      longest = λ k c more left w q. elim (two_cuts A Y (c ∷ more) left (sym new ∙ w)) [
+        | inl same ↦ most k c more [] (same.front_is ∙ sym (append-nil (c ∷ more))) q
+        | inr on ↦ elim on [
+          | inl o ↦ crossing k o.c o.more left o.rest_is (subst (λ z. Spells d k (s ++ z)) o.front_is q)
+          | inr o ↦ most k c more (o.c ∷ o.more) o.front_is q
+        ]
+      ];
+    }
+
+-- The items up to l stay where this rest comes behind it in the place of its own.
+pub other_rest : (d : Dialect) (place : Place) (xs : List Piece) (l : Piece) (ns ms : List Piece) (last end : List ℕ) → Reads d place (xs ++ l ∷ ns) last → MayFollow (written ns last) (written ms end) → takes_line l.kind ≡ false →
+    ((behind : Place) → Reads d behind ns last → Reads d behind ms end) → Reads d place (xs ++ l ∷ ms) end
+other_rest d place [] l ns ms last end h like t rest =
+    let here = past_gap place l.gap in
+    (h.0, left_other d here l.kind l.spelling (written ns last) (written ms end) h.1 like t, rest (past_item d here l.kind l.spelling) h.2)
+other_rest d place (x ∷ xs) l ns ms last end h like t rest =
+    let here = past_gap place x.gap in
+    (h.0, before_other d here x.kind x.spelling xs l ns ms last end h.1 h.2 like t, other_rest d (past_item d here x.kind x.spelling) xs l ns ms last end h.2 like t rest)
+
+-- One gap
+
 -- What is asked of the two gaps.
 pub record AreLikeGaps (g o : List ℕ) : Type 0 where
   pub white : is_gap g ≡ true
@@ -233,119 +360,11 @@ pub record AreLikeGaps (g o : List ℕ) : Type 0 where
 first_blank : (g o : List ℕ) → (h : AreLikeGaps g o) → is_blank h.b ≡ true
 first_blank g o h = (and_parts (is_blank h.b) (is_gap h.more) (subst (λ z. is_gap z ≡ true) h.there h.white)).0
 
-left_other : (d : Dialect) (place : Place) (kind : ItemKind) (s g o B : List ℕ) → IsNext d place kind s (o ++ B) → AreLikeGaps g o → takes_line kind ≡ false → IsNext d place kind s (g ++ B)
-left_other d place kind s g o B (inl h) like t = inl h
-left_other d place kind s g o B (inr h) like t = inr (no_header, longest)
-  where
-    start : Begins (can_begin d (Whole kind)) s
-    start = begins d (Whole kind) s h.1.spells
-
-    no_header : place ≡ AfterInclude → BeginsHeader (s ++ (g ++ B)) → ⊥
-    no_header p k = h.0 p (subst (λ z. BeginsHeader (z ++ (o ++ B))) (sym start.whole) (header_other start.c start.rest B g o like.white like.old_white like.lines like.x like.old_more like.old_there (subst (λ z. BeginsHeader (z ++ (g ++ B))) start.whole k)))
-
-    longest : IsLongest d (Whole kind) s (g ++ B)
-    longest = record {
-      spells = h.1.spells;
-      longest = λ k c more left cut q.
-          let e : like.b ∷ (like.more ++ B) ≡ c ∷ (more ++ left) = sym (ap (λ z. z ++ B) like.there) ∙ cut in
-          let heads : c ≡ like.b = cc in
-          no_blank_after d kind k s like.b more h.1.spells t (first_blank g o like) (subst (λ z. Spells d k (s ++ z ∷ more)) heads q);
-    }
-
-before_other : (d : Dialect) (place : Place) (kind : ItemKind) (s : List ℕ) (xs : List Piece) (l r : Piece) (ys : List Piece) (last g : List ℕ) →
-    IsNext d place kind s (written (xs ++ l ∷ r ∷ ys) last) → Reads d (past_item d place kind s) (xs ++ l ∷ r ∷ ys) last →
-    AreLikeGaps g r.gap → takes_line l.kind ≡ false → IsNext d place kind s (written (xs ++ l ∷ regapped g r ∷ ys) last)
-before_other d place kind s xs l r ys last g (inl h) hs like t = inl h
-before_other d place kind s xs l r ys last g (inr h) hs like t = inr (no_header, longest)
-  where
-    items : TwoItems d l r
-    items = two_items d (past_item d place kind s) xs l r ys last hs
-
-    A : List ℕ
-    A = written (xs ++ l ∷ []) []
-
-    B : List ℕ
-    B = r.spelling ++ written ys last
-
-    old : written (xs ++ l ∷ r ∷ ys) last ≡ A ++ (r.gap ++ B)
-    old = rest_is xs l r ys last
-
-    new : written (xs ++ l ∷ regapped g r ∷ ys) last ≡ A ++ (g ++ B)
-    new = rest_is xs l (regapped g r) ys last
-
-    start : Begins (can_begin d (Whole kind)) s
-    start = begins d (Whole kind) s h.1.spells
-
-    no_header : place ≡ AfterInclude → BeginsHeader (s ++ written (xs ++ l ∷ regapped g r ∷ ys) last) → ⊥
-    no_header p k = h.0 p (subst (λ z. BeginsHeader z) back over)
-      where
-        there : BeginsHeader ((start.c ∷ (start.rest ++ A)) ++ (g ++ B))
-        there = subst (λ z. BeginsHeader z) (ap (λ z. s ++ z) new ∙ (ap (λ z. z ++ (A ++ (g ++ B))) start.whole ∙ sym (append_assoc (start.c ∷ start.rest) A (g ++ B)))) k
-
-        over : BeginsHeader ((start.c ∷ (start.rest ++ A)) ++ (r.gap ++ B))
-        over = header_other start.c (start.rest ++ A) B g r.gap like.white like.old_white like.lines like.x like.old_more like.old_there there
-
-        back : (start.c ∷ (start.rest ++ A)) ++ (r.gap ++ B) ≡ s ++ written (xs ++ l ∷ r ∷ ys) last
-        back = append_assoc (start.c ∷ start.rest) A (r.gap ++ B) ∙ (ap (λ z. z ++ (A ++ (r.gap ++ B))) (sym start.whole) ∙ ap (λ z. s ++ z) (sym old))
-
-    most : IsMost d s A
-    most k c more left e q = h.1.longest k c more (left ++ (r.gap ++ B)) (old ∙ (ap (λ z. z ++ (r.gap ++ B)) e ∙ append_assoc (c ∷ more) left (r.gap ++ B))) q
-
-    crossing : (k : Shape) (e : ℕ) (more : List ℕ) (left : List ℕ) → g ++ B ≡ (e ∷ more) ++ left → Spells d k (s ++ (A ++ e ∷ more)) → ⊥
-    crossing k e more left b q =
-        nothing_crosses d l.kind r.kind l.spelling some.0 some.1 like.b [] seam_is kind start.c start.rest more item_before first k
-        (subst (λ z. Spells d k z) shape q)
-      where
-        left_there : Begins (item_begin d l.kind) l.spelling
-        left_there = item_begins d l.kind l.spelling items.left
-
-        some : (x : ℕ) × (A0 : List ℕ) × (A ≡ x ∷ A0)
-        some = something xs l left_there.c left_there.rest left_there.whole
-
-        head_is : e ≡ like.b
-        head_is = let w : like.b ∷ (like.more ++ B) ≡ e ∷ (more ++ left) = sym (ap (λ z. z ++ B) like.there) ∙ b in cc
-
-        blank : is_blank like.b ≡ true
-        blank = first_blank g r.gap like
-
-        seam_is : IsSeam d l.kind r.kind l.spelling (some.0 ∷ some.1) like.b []
-        seam_is = record {
-          before = written xs [] ++ l.gap;
-          ends_in = sym some.2 ∙ ends_in_left xs l;
-          item = items.left;
-          words = λ w v. blank_no_word like.b blank v;
-          line = t;
-          marks = λ p o f. blank_no_front l.spelling like.b blank f;
-        }
-
-        piece : FirstPiece d (past_item d place kind s) l.kind A
-        piece = first_piece d (past_item d place kind s) xs l r ys last hs
-
-        item_before : IsItemBefore d kind (start.c ∷ start.rest) (some.0 ∷ some.1)
-        item_before = record {
-          spelled = subst (λ z. Spells d (Whole kind) z) start.whole h.1.spells;
-          line = λ u. subst (λ z. list_any is_new_line z ≡ true) some.2 (line_of d (past_item d place kind s) place kind s xs l r ys last piece u (inr h));
-          most = subst (λ z. IsMost d (start.c ∷ start.rest) z) some.2 (subst (λ z. IsMost d z A) start.whole most);
-        }
-
-        first : QuoteFirst l.kind (start.c ∷ start.rest) some.0 some.1
-        first = quote_first d place kind l.kind start.c start.rest some.0 some.1 item_before.spelled piece.gap piece.spelling piece.rest piece.kind piece.white (sym some.2 ∙ piece.whole)
-            (subst (λ z. ((past_gap (past_item d place kind z) piece.gap ≡ AfterInclude) × (piece.kind ≡ HeaderName) × IsHeaderName piece.spelling) ⊎ Spells d (Whole piece.kind) piece.spelling) start.whole piece.item) piece.line
-
-        shape : s ++ (A ++ e ∷ more) ≡ ((start.c ∷ start.rest) ++ some.0 ∷ some.1) ++ like.b ∷ more
-        shape = ap (λ z. s ++ (A ++ z ∷ more)) head_is ∙ (ap (λ z. z ++ (A ++ like.b ∷ more)) start.whole ∙ (ap (λ z. (start.c ∷ start.rest) ++ (z ++ like.b ∷ more)) some.2 ∙ sym (append_assoc (start.c ∷ start.rest) (some.0 ∷ some.1) (like.b ∷ more))))
-
-    longest : IsLongest d (Whole kind) s (written (xs ++ l ∷ regapped g r ∷ ys) last)
-    longest = record {
-      spells = h.1.spells;
-      longest = λ k c more left w q. elim (two_cuts A (g ++ B) (c ∷ more) left (sym new ∙ w)) [
-        | inl same ↦ most k c more [] (same.front_is ∙ sym (append-nil (c ∷ more))) q
-        | inr on ↦ elim on [
-          | inl o ↦ crossing k o.c o.more left o.rest_is (subst (λ z. Spells d k (s ++ z)) o.front_is q)
-          | inr o ↦ most k c more (o.c ∷ o.more) o.front_is q
-        ]
-      ];
-    }
+like_may_follow : (g o B : List ℕ) → AreLikeGaps g o → MayFollow (o ++ B) (g ++ B)
+like_may_follow g o B h = record {
+  blank = subst (λ z. starts_or_empty is_blank (z ++ B) ≡ true) (sym h.there) (first_blank g o h);
+  header = λ f S k. header_other f S B g o h.white h.old_white h.lines h.x h.old_more h.old_there k;
+}
 
 like_place : (place : Place) (g o : List ℕ) → list_any is_new_line g ≡ list_any is_new_line o → past_gap place o ≡ past_gap place g
 like_place place g o e = ap (λ b. if b then LineStart else place) (sym e)
@@ -353,23 +372,24 @@ like_place place g o e = ap (λ b. if b then LineStart else place) (sym e)
 -- Another gap in the place of a gap, both with a new-line or both without, leaves all items as they were, behind an item that doesn't take its line.
 pub other_gap : (d : Dialect) (place : Place) (xs : List Piece) (l r : Piece) (ys : List Piece) (last g : List ℕ) → Reads d place (xs ++ l ∷ r ∷ ys) last →
     AreLikeGaps g r.gap → takes_line l.kind ≡ false → Reads d place (xs ++ l ∷ regapped g r ∷ ys) last
-other_gap d place [] l r ys last g h like t =
-    let here = past_gap place l.gap in
-    let after = past_item d here l.kind l.spelling in
-    let second = h.2 in
-    let right : IsNext d (past_gap after g) r.kind r.spelling (written ys last) = subst (λ z. IsNext d z r.kind r.spelling (written ys last)) (like_place after g r.gap like.lines) second.1 in
-    let rest : Reads d (past_item d (past_gap after g) r.kind r.spelling) ys last = subst (λ z. Reads d (past_item d z r.kind r.spelling) ys last) (like_place after g r.gap like.lines) second.2 in
-    (h.0, left_other d here l.kind l.spelling g r.gap (r.spelling ++ written ys last) h.1 like t, (like.white, right, rest))
-other_gap d place (x ∷ xs) l r ys last g h like t =
-    let here = past_gap place x.gap in
-    (h.0, before_other d here x.kind x.spelling xs l r ys last g h.1 h.2 like t, other_gap d (past_item d here x.kind x.spelling) xs l r ys last g h.2 like t)
+other_gap d place xs l r ys last g h like t =
+    other_rest d place xs l (r ∷ ys) (regapped g r ∷ ys) last last h (like_may_follow g r.gap (r.spelling ++ written ys last) like) t
+    (λ behind k.
+    let same = like_place behind g r.gap like.lines in (
+      like.white,
+      subst (λ z. IsNext d z r.kind r.spelling (written ys last)) same k.1,
+      subst (λ z. Reads d (past_item d z r.kind r.spelling) ys last) same k.2,
+    ))
 
-like_gaps : (g o : List ℕ) → is_gap g ≡ true → is_gap o ≡ true → (g ≡ [] → ⊥) → (o ≡ [] → ⊥) → list_any is_new_line g ≡ list_any is_new_line o → AreLikeGaps g o
+pub like_gaps : (g o : List ℕ) → is_gap g ≡ true → is_gap o ≡ true → (g ≡ [] → ⊥) → (o ≡ [] → ⊥) → list_any is_new_line g ≡ list_any is_new_line o → AreLikeGaps g o
 like_gaps [] o w v n m e = absurd (n refl)
 like_gaps (b ∷ g) [] w v n m e = absurd (m refl)
 like_gaps (b ∷ g) (x ∷ o) w v n m e = record { white = w; old_white = v; lines = e; b = b; more = g; there = refl; x = x; old_more = o; old_there = refl }
 
+-- the gap before the right item
+pub gap_at : (d : Dialect) (place : Place) (xs : List Piece) (l r : Piece) (ys : List Piece) (last : List ℕ) → Reads d place (xs ++ l ∷ r ∷ ys) last → is_gap r.gap ≡ true
+gap_at d place xs l r ys last h = (two_items d place xs l r ys last h).white
+
 pub keeps_items_over_gaps : KeepsItemsOverGaps
 keeps_items_over_gaps d text before after l r last gap h w n m e t =
-    let items = two_items d LineStart before l r after last h.reads in
-    record { whole = refl; reads = other_gap d LineStart before l r after last gap h.reads (like_gaps gap r.gap w items.white n m e) t }
+    record { whole = refl; reads = other_gap d LineStart before l r after last gap h.reads (like_gaps gap r.gap w (gap_at d LineStart before l r after last h.reads) n m e) t }

@@ -3,4 +3,5 @@ pub mod Items
 pub mod Touch
 pub mod Text
 pub mod Twin
+pub mod Regapping
 pub mod Built

@@ -69,3 +69,11 @@ ReadsUpTo d old (item ∷ items) left = (new : Left) × IsStep d old new item ×
 -- These items have been read from the start of the text, and that is left.
 pub record IsReadUpTo (d : Dialect) (text : List ℕ) (items : List ReadItem) (left : Left) : Type 0 where
   pub steps : ReadsUpTo d (record { place = LineStart; chars = logical d text }) items left
+
+-- A text has one list of items, and one last gap.
+abbrev pub TextHasOneList : Type 0
+TextHasOneList =
+    (d : Dialect) (text : List ℕ) (items others : List ReadItem) (last end : List LogicalChar) →
+    LexesText d text items last →
+    LexesText d text others end →
+    (items ≡ others) × (last ≡ end)

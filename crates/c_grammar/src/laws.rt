@@ -1,10 +1,18 @@
 //! The laws of the grammar. Each stands on the contract of a function that does nothing.
 
+ghost use Rattle.c_grammar.specs.Built.{BuiltTextsAreTheirBytes};
+ghost use Rattle.c_grammar.specs.Regapping.{KeepsItemsOverAllGaps, RegapsBuiltTexts};
+ghost use Rattle.c_grammar.specs.Text.{TextHasOneList};
 ghost use Rattle.c_grammar.specs.Touch.{HasOneList, KeepsItems, KeepsItemsOverGaps};
 
-/// A text has one list of items, and one last gap.
+/// A list of characters has one list of items, and one last gap.
 pub fn has_one_list()
     ensures { HasOneList }
+{}
+
+/// A text of bytes has one list of items, and one last gap.
+pub fn text_has_one_list()
+    ensures { TextHasOneList }
 {}
 
 /// Where two items may touch, taking away a gap without a new-line between them leaves all items
@@ -13,7 +21,24 @@ pub fn keeps_items()
     ensures { KeepsItems }
 {}
 
-/// Another gap in the place of a gap leaves all items as they were.
+/// Another gap in the place of a gap, none of them empty, both with a new-line or both without,
+/// leaves all items as they were, behind an item that doesn't take its line.
 pub fn keeps_items_over_gaps()
     ensures { KeepsItemsOverGaps }
+{}
+
+/// Other gaps in the place of all gaps leave all items as they were: each but the first and the last
+/// is empty where the old one is and has a new-line where the old one has, and no item takes its line.
+pub fn keeps_items_over_all_gaps()
+    ensures { KeepsItemsOverAllGaps }
+{}
+
+/// The logical characters of a built text are its bytes.
+pub fn built_texts_are_their_bytes()
+    ensures { BuiltTextsAreTheirBytes }
+{}
+
+/// Other gaps of blanks and new-lines in a built text, like the old ones, give a twin of it.
+pub fn regaps_built_texts()
+    ensures { RegapsBuiltTexts }
 {}

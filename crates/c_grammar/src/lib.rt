@@ -32,4 +32,7 @@ pub enum ItemKind {
 
 mod laws;
 
-pub use laws::{has_one_list, keeps_items, keeps_items_over_gaps};
+pub use laws::{
+    built_texts_are_their_bytes, has_one_list, keeps_items, keeps_items_over_all_gaps,
+    keeps_items_over_gaps, regaps_built_texts, text_has_one_list,
+};
