@@ -8,6 +8,7 @@
 #![tactic(auto)]
 
 mod memory;
+mod plan;
 mod real;
 #[cfg(test)]
 mod tests;

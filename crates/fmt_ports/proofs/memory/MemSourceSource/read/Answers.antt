@@ -5,13 +5,14 @@ use Rattle.fmt_ports.proofs.memory.MemSourceSource.read.Goals as goal
 
 pub returns-clause-bytes : goal.returns-clause-bytes
 returns-clause-bytes c =
-    let xs : List ℕ = c.args.self.now.bytes.items in
-    let at : ℕ = c.args.self.now.at in
+    let xs : List ℕ = c.self.inside.bytes.items in
+    let at : ℕ = c.self.inside.at in
     let n : ℕ = c.min-count.result in
     let is : n ≡ min (length (drop at xs)) (length c.args.buf.now) =
-    rw (take_rest c.deref-2.result.now at, c.deref-2.ensures.value) at c.min-count.ensures in
+    rw (take_rest c.deref.result.now at, c.deref.ensures.value) at c.min-count.ensures in
     let copied : c.copy_from_slice.new.self ≡ take n (drop at xs) =
-    rw (take_rest c.deref-2.result.now at, c.deref-2.ensures.value) at c.copy_from_slice.ensures.after in (
+    rw (take_rest c.deref.result.now at, c.deref.ensures.value) at c.copy_from_slice.ensures.after in
+    rw (← c.self.view_is) (
       read_copied xs c.args.buf.now c.copy_from_slice.new.self at n (omega (arith, is)) copied,
       copied_none xs c.args.buf.now c.copy_from_slice.new.self at n is copied (omega (arith, is)),
     )
