@@ -1,0 +1,108 @@
+// All the bytes of a source, and all bytes to a sink.
+ghost use Rattle.std.specs.Prelude.{◌≡◌, ◌<◌, ◌≤◌, ◌+◌, length, IfOk, vec_len};
+ghost use Rattle.std.specs.Io.KnownBytes.{Appends};
+ghost use Rattle.fmt_ports.specs.Causes.{AppendsPart, Counts};
+ghost use Rattle.fmt_ports.specs.Whole.{ConsumesAtMost, InCounts, TellsAll};
+ghost use Rattle.fmt_ports.specs.declared.whole.InFault.TheVariants as InFaults;
+
+use crate::{Failed, Sink, Source};
+use std::alloc::{AllocError, AllocFailed, Global};
+use thiserror::Error;
+
+/// Why the bytes of a source can't be had.
+#[derive(Clone, Copy, Debug, PartialEq, Eq, Error)]
+pub enum InFault {
+    /// A read failed.
+    #[error("failed")]
+    Failed,
+    /// There are more bytes than the limit.
+    #[error("too long")]
+    TooLong,
+    /// There is not enough memory for the bytes.
+    #[error("out of memory")]
+    NoMemory,
+}
+
+impl From<Failed> for InFault {
+    ghost from_gives = { λ _ fault. fault ≡ InFaults.Failed };
+
+    fn from(_: Failed) -> InFault {
+        InFault::Failed
+    }
+}
+
+impl From<AllocError> for InFault {
+    ghost from_gives = { λ _ fault. fault ≡ InFaults.NoMemory };
+
+    fn from(_: AllocError) -> InFault {
+        InFault::NoMemory
+    }
+}
+
+impl<T: Drop> From<AllocFailed<T>> for InFault {
+    ghost from_gives = { λ _ fault. fault ≡ InFaults.NoMemory };
+
+    fn from(_: AllocFailed<T>) -> InFault {
+        InFault::NoMemory
+    }
+}
+
+/// How many bytes `read_all` asks for at a time: what a pipe holds.
+pub const BUFFER: usize = 65_536;
+
+// So many zeros.
+fn zeros(alloc: Global, len: usize) -> Result<Vec<u8>, AllocError>
+    ensures { IfOk result (λ zeros. vec_len zeros ≡ len) }
+{
+    vec![in alloc; 0u8; len]
+}
+
+// All bytes that are left, read through a buffer.
+fn read_through<S: Source>(
+    alloc: Global,
+    source: &mut S,
+    buffer: &mut [u8],
+    limit: u64,
+) -> Result<Vec<u8>, InFault>
+    requires { 0 < length buffer.old }
+    ensures bytes { TellsAll limit (S.left source.old) (S.left source.new) result }
+    ensures taken { ConsumesAtMost (limit + length buffer.old) (S.left source.old) (S.left source.new) }
+    ensures counts { InCounts (S.faults source.old) (S.faults source.new) result }
+{
+    let mut all = Vec::new(alloc);
+    loop {
+        let count = source.read(buffer)?;
+        if count == 0 {
+            return Ok(all);
+        }
+        if count as u64 > limit - all.len() as u64 {
+            return Err(InFault::TooLong);
+        }
+        all.extend_from_slice(&buffer[..count])?;
+    }
+}
+
+/// All bytes that are left, if they are no more than the limit. Past the limit, no more than one
+/// buffer was taken from the source.
+pub fn read_all<S: Source>(alloc: Global, source: &mut S, limit: u64) -> Result<Vec<u8>, InFault>
+    ensures bytes { TellsAll limit (S.left source.old) (S.left source.new) result }
+    ensures taken { ConsumesAtMost (limit + BUFFER) (S.left source.old) (S.left source.new) }
+    ensures counts { InCounts (S.faults source.old) (S.faults source.new) result }
+{
+    let mut buffer = zeros(alloc, BUFFER)?;
+    read_through(alloc, source, buffer.as_mut_slice(), limit)
+}
+
+/// Appends all the bytes. After `Failed` a front part of them was appended. It takes no memory.
+pub fn write_all<K: Sink>(sink: &mut K, bytes: &[u8]) -> Result<(), Failed>
+    ensures ok { IfOk result (λ _. Appends (K.taken sink.old) (K.taken sink.new) bytes.now) }
+    ensures part { AppendsPart (K.taken sink.old) (K.taken sink.new) bytes.now }
+    ensures counts { Counts (K.faults sink.old) (K.faults sink.new) result }
+{
+    let mut at = 0;
+    while at < bytes.len() {
+        let count = sink.write(&bytes[at..])?;
+        at += count;
+    }
+    Ok(())
+}
