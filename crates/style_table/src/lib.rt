@@ -1,0 +1,15 @@
+//! The style table: what can be set, within which bounds, and what each named style sets.
+//!
+//! `Style` has one field for each key of a configuration. The table of the named styles and the table
+//! of the keys are stated in `docs/PROFILE.md`, "Styles", and stand here in the same order.
+#![tactic(auto)]
+
+mod style;
+
+pub use style::{
+    AlignAfterOpenBracket, AlignEscapedNewlines, AlignTrailingCommentsKind,
+    AllowShortBlocksOnASingleLine, AllowShortFunctionsOnASingleLine,
+    AllowShortIfStatementsOnASingleLine, BraceWrappingAfterControlStatement,
+    BreakBeforeBinaryOperators, BreakBeforeBraces, IndentPPDirectives, LineEnding,
+    PointerAlignment, SpaceBeforeParens, Style, UseTab,
+};
