@@ -4,8 +4,12 @@
 //! of the keys are stated in `docs/PROFILE.md`, "Styles", and stand here in the same order.
 #![tactic(auto)]
 
+mod key;
 mod style;
+mod value;
+mod words;
 
+pub use key::{KEYS, Key};
 pub use style::{
     AlignAfterOpenBracket, AlignEscapedNewlines, AlignTrailingCommentsKind,
     AllowShortBlocksOnASingleLine, AllowShortFunctionsOnASingleLine,
@@ -13,3 +17,5 @@ pub use style::{
     BreakBeforeBinaryOperators, BreakBeforeBraces, IndentPPDirectives, LineEnding,
     PointerAlignment, SpaceBeforeParens, Style, UseTab,
 };
+pub use value::{Value, ValueFault};
+pub use words::{bool_from_word, bool_word};
