@@ -1,0 +1,4 @@
+pub mod Range
+pub mod Words
+pub mod Keys
+pub mod Values
