@@ -78,6 +78,7 @@ impl<'s> Cursor<'s> {
 ///
 /// Trigraphs are replaced, spliced lines joined, and `\r\n` is one new-line (C11 5.1.1.2, phases 1
 /// and 2). A byte order mark at the text's start is no character.
+#[derive(Drop)]
 pub struct Chars<'s> {
     cursor: Cursor<'s>,
 }
@@ -130,5 +131,30 @@ impl<'s> Chars<'s> {
         ensures { result ≡ slice_get self.now.chars k }
     {
         self.cursor.peek(k)
+    }
+}
+
+#[cfg(test)]
+mod tests {
+    use super::*;
+    use std::test::Fail;
+
+    /// A splice, one that is spelled by a trigraph, and a line end of two bytes.
+    #[test]
+    fn joins_lines_and_replaces_trigraphs(rt: HostRuntime) -> Result<(), Fail> {
+        let mut chars = Chars::new(b"\xef\xbb\xbfa\\\nb??/\r\n??(\r\n", Dialect::C11);
+        assert_eq!(rt;
+            chars.peek(2),
+            Some(LogicalChar {
+                byte: b'[',
+                from: 12,
+                to: 15
+            })
+        );
+        for (byte, from, to) in [(b'a', 3, 4), (b'b', 6, 7), (b'[', 12, 15), (b'\n', 15, 17)] {
+            assert_eq!(rt; chars.next(), Some(LogicalChar { byte, from, to }));
+        }
+        assert_eq!(rt; chars.next(), None);
+        Ok(())
     }
 }

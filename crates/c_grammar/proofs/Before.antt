@@ -4,24 +4,23 @@ use Rattle.std.specs.Prelude.{codes, nat_le, if◌then◌else◌}
 use Rattle.std.specs.List.{list_any, list_all}
 use Rattle.std.proofs.lemmas.Bool.{and_parts, or_cases, and_from, or_left, eqb-true, cases_Bool, not-true, both_ways}
 use Rattle.std.proofs.lemmas.List.{append-nil}
-use Rattle.c_grammar.specs.Grammar.{is_same, joined, AreUnits, IsHeaded, is_one, is_two, is_letter, is_digit, is_white, is_new_line, is_sign, is_exponent, is_letter_unit, is_word_unit, is_number_head, is_number_unit, common_punctuators, punctuators, is_punctuator, is_string_prefix, is_separated, is_other, IsHeaderName, IsUnclosed, IsBlock, IsOpen, IsLine, is_quoted_unit, has_end, Shape, Whole, Unended, Spells}
-use Rattle.c_grammar.specs.Touch.{starts, is_front}
+use Rattle.c_grammar.specs.Grammar.{is_same, joined, AreUnits, IsHeaded, is_one, is_two, is_letter, is_digit, is_white, is_new_line, is_sign, is_exponent, is_letter_unit, is_word_unit, is_number_head, is_number_unit, common_punctuators, punctuators, is_punctuator, is_string_prefix, is_separated, IsHeaderName, IsUnclosed, IsBlock, IsOpen, IsLine, is_quoted_unit, has_end, Shape, Whole, Unended, Spells}
+use Rattle.c_grammar.specs.Touch.{starts, is_front, is_identifier, is_number, is_punct, is_other_kind, is_literal, takes_line, punct_goes_on}
 use Rattle.c_chars.specs.declared.Dialect.{Dialect}
 use Rattle.c_chars.specs.declared.Dialect.TheVariants.{C11, C23}
 use Rattle.c_grammar.specs.declared.ItemKind.{ItemKind}
 use Rattle.c_grammar.specs.declared.ItemKind.TheVariants.{Identifier, Number, CharConst, StringLit, Punct, HeaderName, StrayQuote, Other, BlockComment, LineComment}
-use Rattle.c_grammar.proofs.Lists.{GoesOn, two_cuts, all_append, all_weaken, units_all, in_table, of_table, same_is}
+use Rattle.c_grammar.proofs.Lists.{all_weaken, GoesOn, two_cuts, all_append, all_weaken, units_all, in_table, of_table, same_is}
 use Rattle.c_grammar.proofs.Firsts.{Begins, begins, starts_or_empty, is_quote, is_mark, is_number_start, is_letter_start}
-use Rattle.c_grammar.proofs.Words.{is_wordlike, word_unit_wordlike, identifier_wordlike, wordlike_not_quote, wordlike_not_mark}
+use Rattle.c_grammar.proofs.Words.{high_wordlike, is_wordlike, word_unit_wordlike, identifier_wordlike, wordlike_not_quote, wordlike_not_mark}
+use Rattle.c_grammar.proofs.Wide.{is_high}
 use Rattle.c_grammar.proofs.Classes.{mark_not_letter_start, other_is_none}
-use Rattle.c_grammar.proofs.Sorts.{apart_at, closes}
+use Rattle.c_grammar.proofs.Sorts.{apart_at, closes, one_kind, sort_is, sort_of, quote_sort, quote_sort_is, slash_sort, mark_sort}
 use Rattle.c_grammar.proofs.Singles.{is_word, word_single, letter_single, singles}
 use Rattle.c_grammar.proofs.Stops.{units_more}
-use Rattle.c_grammar.proofs.Sorts.{one_kind, sort_is, sort_of, quote_sort, quote_sort_is, slash_sort, mark_sort}
 use Rattle.c_grammar.proofs.Seam.{Touch, item_begin, no_word}
-use Rattle.c_grammar.specs.Touch.{is_identifier, is_number, is_punct, is_other_kind, is_literal, takes_line, punct_goes_on}
 use Rattle.c_grammar.proofs.Closed.{slash_mark, closed_not_word, of_quotes, letter_is_start, closed_stays, block_stays, char_closed, string_closed, IsClosed}
-use Rattle.c_grammar.proofs.Goes.{char_prefix_string, touch_table, separated_wordlike, tail_passes, front_passes, not_number_start}
+use Rattle.c_grammar.proofs.Goes.{other_long, char_prefix_string, touch_table, separated_wordlike, tail_passes, front_passes, not_number_start}
 
 -- Where a sequence of units is cut: between two, or inside one.
 
@@ -691,16 +690,20 @@ literal_before d left right l x A e r s j f p more b qf k g h prefix again =
     renamed : (a b : List ℕ) (q z : ℕ) (body : List ℕ) → a ≡ b → q ≡ z → a ++ q ∷ (body ++ q ∷ []) ≡ b ++ z ∷ (body ++ z ∷ [])
     renamed a b q z body u v = cc
 
+-- what goes on over the seam isn't all of characters that stand in words
+words_before : (d : Dialect) (left right : ItemKind) (l : List ℕ) (x : ℕ) (A : List ℕ) (e : ℕ) (r : List ℕ) → IsSeam d left right l (x ∷ A) e r → (p more : List ℕ) → list_all is_wordlike ((p ++ x ∷ A) ++ e ∷ more) ≡ true → ⊥
+words_before d left right l x A e r s p more all =
+    word_seam d left right l (x ∷ A) e r s (back_all p (x ∷ A) (front_passes is_wordlike (p ++ x ∷ A) (e ∷ more) all)) (tail_passes is_wordlike (p ++ x ∷ A) e more all)
+  where
+    back_all : (a b : List ℕ) → list_all is_wordlike (a ++ b) ≡ true → list_all is_wordlike b ≡ true
+    back_all a b h = let both : (list_all is_wordlike a && list_all is_wordlike b) ≡ true = rw all_append at h in (and_parts (list_all is_wordlike a) (list_all is_wordlike b) both).1
+
 -- Nothing goes on from an item before the left one over the seam.
 pub nothing_crosses : (d : Dialect) (left right : ItemKind) (l : List ℕ) (x : ℕ) (A : List ℕ) (e : ℕ) (r : List ℕ) → IsSeam d left right l (x ∷ A) e r → (j : ItemKind) (f : ℕ) (p more : List ℕ) → IsItemBefore d j (f ∷ p) (x ∷ A) → QuoteFirst left (f ∷ p) x A →
     (k : Shape) → Spells d k (((f ∷ p) ++ x ∷ A) ++ e ∷ more) → ⊥
 unfolding char_closed string_closed
 nothing_crosses d left right l x A e r s j f p more b qf (Whole Identifier) h =
-    let all = identifier_wordlike (((f ∷ p) ++ x ∷ A) ++ e ∷ more) h in
-    word_seam d left right l (x ∷ A) e r s (back_all (f ∷ p) (x ∷ A) (front_passes is_wordlike ((f ∷ p) ++ x ∷ A) (e ∷ more) all)) (tail_passes is_wordlike ((f ∷ p) ++ x ∷ A) e more all)
-  where
-    back_all : (a b : List ℕ) → list_all is_wordlike (a ++ b) ≡ true → list_all is_wordlike b ≡ true
-    back_all a b h = let both : (list_all is_wordlike a && list_all is_wordlike b) ≡ true = rw all_append at h in (and_parts (list_all is_wordlike a) (list_all is_wordlike b) both).1
+    words_before d left right l x A e r s (f ∷ p) more (identifier_wordlike (((f ∷ p) ++ x ∷ A) ++ e ∷ more) h)
 nothing_crosses d left right l x A e r s j f p more b qf (Whole Number) h = number_before d left right l x A e r s f p more b.most h
 nothing_crosses d left right l x A e r s j f p more b qf (Whole CharConst) h =
     literal_before d left right l x A e r s j f p more b qf (Whole CharConst) h (char_closed d (((f ∷ p) ++ x ∷ A) ++ e ∷ more) h) (char_prefix_string d h.before h.begins)
@@ -711,7 +714,9 @@ nothing_crosses d left right l x A e r s j f p more b qf (Whole StringLit) h =
 nothing_crosses d left right l x A e r s j f p more b qf (Whole Punct) h = punct_before d left right l x A e r s f p more b.most h
 nothing_crosses d left right l x A e r s j f p more b qf (Whole HeaderName) h = h
 nothing_crosses d left right l x A e r s j f p more b qf (Whole StrayQuote) h = stray_before d j f p A x e more b h
-nothing_crosses d left right l x A e r s j f p more b qf (Whole Other) h = not_one (is_other d) f (p ++ x ∷ A) e more h
+nothing_crosses d left right l x A e r s j f p more b qf (Whole Other) h =
+    let high = other_long d ((f ∷ p) ++ x ∷ A) f (p ++ x ∷ A) e more refl h in
+    words_before d left right l x A e r s (f ∷ p) more (all_weaken is_high is_wordlike high_wordlike (((f ∷ p) ++ x ∷ A) ++ e ∷ more) high)
 nothing_crosses d left right l x A e r s j f p more b qf (Whole BlockComment) h = comment_before d j f p A x e more (Whole BlockComment) 42 (h.body ++ 42 ∷ 47 ∷ []) b h h.whole (inl refl)
 nothing_crosses d left right l x A e r s j f p more b qf (Whole LineComment) h = comment_before d j f p A x e more (Whole LineComment) 47 h.body b h h.whole (inr (refl, comment_line (((f ∷ p) ++ x ∷ A) ++ e ∷ more) h))
 nothing_crosses d left right l x A e r s j f p more b qf Unended h = comment_before d j f p A x e more Unended 42 h.body b h h.whole (inl refl)

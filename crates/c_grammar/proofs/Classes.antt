@@ -1,14 +1,16 @@
 -- Which classes of characters are apart.
-use Rattle.std.proofs.Common.{◌≡◌, ◌==◌, ◌||◌, not, ℕ, Bool, true, false, List, [], ◌∷◌, refl, arith, inl, inr}
+use Rattle.std.proofs.Common.{◌≡◌, ◌==◌, ◌||◌, ℕ, true, false, [], ◌∷◌, refl, arith, inl, inr}
 use Rattle.std.specs.Prelude.{codes}
-use Rattle.std.specs.List.{list_any, list_all}
+use Rattle.std.specs.List.{list_any}
 use Rattle.std.proofs.lemmas.Bool.{or_cases, eqb-true, not-true, both_ways, or_parts, false_from_ne_true}
 use Rattle.std.proofs.lemmas.Bool.Decides.{nat_tests}
 use Rattle.c_grammar.specs.Grammar.{is_same, is_of, is_letter, is_digit, is_white, is_new_line, is_other, is_punctuator, punctuators, common_punctuators}
 use Rattle.c_chars.specs.declared.Dialect.{Dialect}
 use Rattle.c_chars.specs.declared.Dialect.TheVariants.{C11, C23}
+pub use Rattle.c_grammar.proofs.Lists.{not_of, none_of}
+use Rattle.c_grammar.proofs.Wide.{is_high}
 use Rattle.c_grammar.proofs.Lists.{of_table}
-use Rattle.c_grammar.proofs.Firsts.{is_quote, is_letter_start, is_mark}
+use Rattle.c_grammar.proofs.Firsts.{is_rare, is_quote, is_letter_start, is_mark}
 
 pub letter_not_digit : (c : ℕ) → is_letter c ≡ true → is_digit c ≡ false
 unfolding is_letter is_digit
@@ -16,14 +18,10 @@ letter_not_digit c h = grind (arith, nat_tests)
 
 pub letter_start_not_digit : (c : ℕ) → is_letter_start c ≡ true → is_digit c ≡ false
 unfolding is_letter_start is_digit
-letter_start_not_digit c h = elim (or_cases (is_letter c) (c == 92) h) [ inl e ↦ letter_not_digit c e | inr e ↦ let is : c ≡ 92 = eqb-true c 92 e in rw is refl ]
-
-pub not_of : (p : ℕ → Bool) (cs : List ℕ) → list_all (λ x. not (p x)) cs ≡ true → (c : ℕ) → is_of cs c ≡ true → p c ≡ false
-not_of p cs h c e = not-true (p c) (of_table (λ x. not (p x)) cs h c e)
-
--- what isn't p, where what passes p isn't in the table
-pub none_of : (p : ℕ → Bool) (cs : List ℕ) → list_all (λ x. not (p x)) cs ≡ true → (c : ℕ) → p c ≡ true → is_of cs c ≡ false
-none_of p cs h c e = false_from_ne_true (is_of cs c) (λ i. both_ways (p c) (not_of p cs h c i) e)
+letter_start_not_digit c h = elim (or_cases (is_letter c) (is_rare c) h) [
+  | inl e ↦ letter_not_digit c e
+  | inr r ↦ elim (or_cases (c == 92) (is_high c) r) [ inl e ↦ let is : c ≡ 92 = eqb-true c 92 e in rw is refl | inr e ↦ grind (arith, nat_tests) ]
+]
 
 pub quote_not_letter_start : (c : ℕ) → is_quote c ≡ true → is_letter_start c ≡ false
 unfolding is_quote is_letter_start is_letter

@@ -3,18 +3,19 @@ use Rattle.std.proofs.Common.{◌≡◌, ◌==◌, ◌||◌, ◌&&◌, not, ℕ,
 use Rattle.std.specs.Prelude.{codes, if◌then◌else◌}
 use Rattle.std.specs.List.{list_all}
 use Rattle.std.proofs.lemmas.Bool.{and_parts, or_cases, or_left, or_right, eqb-true, eq-eqb, not-true, both_ways, ne_eqb}
-use Rattle.c_grammar.specs.Grammar.{is_same, is_of, joined, AreUnits, is_one, is_letter, is_digit, is_new_line, is_punctuator, is_other, IsUnclosed, IsEmptyQuotes, IsBlock, is_quoted_unit, has_end, Shape, Whole, Unended, Spells}
+use Rattle.c_grammar.specs.Grammar.{is_other_unit, is_same, is_of, joined, AreUnits, is_letter, is_digit, is_new_line, is_punctuator, IsUnclosed, IsEmptyQuotes, IsBlock, is_quoted_unit, has_end, Shape, Whole, Unended, Spells}
 use Rattle.c_grammar.specs.Touch.{starts}
 use Rattle.c_chars.specs.declared.Dialect.{Dialect}
 use Rattle.c_grammar.specs.declared.ItemKind.TheVariants.{Identifier, Number, CharConst, StringLit, Punct, HeaderName, StrayQuote, Other, BlockComment, LineComment}
 use Rattle.c_grammar.proofs.Lists.{SameCut, all_weaken}
-use Rattle.c_grammar.proofs.Firsts.{Begins, begins, starts_or_empty, char_prefix_letter, string_prefix_letter, is_quote, is_mark, is_number_start, is_letter_start}
+use Rattle.c_grammar.proofs.Firsts.{is_rare, high_not_letter, high_not_quote, Begins, begins, starts_or_empty, char_prefix_letter, string_prefix_letter, is_quote, is_mark, is_number_start, is_letter_start}
 use Rattle.c_grammar.proofs.Words.{is_wordlike, identifier_wordlike, char_prefix_wordlike, string_prefix_wordlike, wordlike_not_quote}
+use Rattle.c_grammar.proofs.Wide.{is_high}
 use Rattle.c_grammar.proofs.Classes.{not_of, mark_not_letter_start, mark_not_quote}
 use Rattle.c_grammar.proofs.Sorts.{closes, closes_body, body_starts, apostrophe, quotation, unclosed_end}
 use Rattle.c_grammar.proofs.Unique.{same_span}
 use Rattle.std.proofs.lemmas.List.{same_from_push}
-use Rattle.c_grammar.proofs.Goes.{tail_passes, front_passes, slash_no_punct, not_number_start, one_short}
+use Rattle.c_grammar.proofs.Goes.{other_first, tail_passes, front_passes, slash_no_punct, not_number_start}
 
 -- what stands behind the closing quote
 abbrev pub after_close : ℕ → List ℕ → List ℕ
@@ -213,7 +214,7 @@ closed_no_empty l c more g h = by_prefix g.before refl
 
 pub letter_is_start : (c : ℕ) → is_letter c ≡ true → is_letter_start c ≡ true
 unfolding is_letter_start
-letter_is_start c e = or_left (is_letter c) (c == 92) e
+letter_is_start c e = or_left (is_letter c) (is_rare c) e
 
 -- the first character of the front and of the whole
 pub front_first : {p q : ℕ → Bool} (l : List ℕ) (c : ℕ) (more : List ℕ) → Begins p l → Begins q (l ++ c ∷ more) → (f : ℕ) × (p f ≡ true) × (q f ≡ true)
@@ -257,7 +258,13 @@ closed_stays d (Whole Punct) l c more g h = closed_no_mark l c more g (begins d 
 closed_stays d (Whole HeaderName) l c more g h = h
 closed_stays d (Whole StrayQuote) l c more g (inl h) = closed_no_unclosed l c more g h
 closed_stays d (Whole StrayQuote) l c more g (inr h) = closed_no_empty l c more g h
-closed_stays d (Whole Other) l c more g h = let b = closed_begins l g in one_short (is_other d) l b.c b.rest c more b.whole h
+closed_stays d (Whole Other) l c more g h =
+    let b = closed_begins l g in
+    let high = other_first d l b.c b.rest c more b.whole h in
+    elim (or_cases (is_letter b.c) (is_quote b.c) b.passes) [
+      | inl e ↦ both_ways (is_letter b.c) (high_not_letter b.c high) e
+      | inr e ↦ both_ways (is_quote b.c) (high_not_quote b.c high) e
+    ]
 closed_stays d (Whole BlockComment) l c more g h = closed_no_mark l c more g (slash_mark (l ++ c ∷ more) (begins d (Whole BlockComment) (l ++ c ∷ more) h))
 closed_stays d (Whole LineComment) l c more g h = closed_no_mark l c more g (slash_mark (l ++ c ∷ more) (begins d (Whole LineComment) (l ++ c ∷ more) h))
 closed_stays d Unended l c more g h = closed_no_mark l c more g (slash_mark (l ++ c ∷ more) (begins d Unended (l ++ c ∷ more) h))
@@ -300,7 +307,7 @@ block_stays d k l c more g h = at_shape k (l ++ c ∷ more) h whole_is
     at_shape (Whole Punct) s h w = slash_no_punct d 42 (g.body ++ 42 ∷ 47 ∷ (c ∷ more)) (inr refl) (subst (λ x. is_punctuator d x ≡ true) w h)
     at_shape (Whole HeaderName) s h w = h
     at_shape (Whole StrayQuote) s h w = let f = first_is is_quote s w (begins d (Whole StrayQuote) s h) in cc
-    at_shape (Whole Other) s h w = let f : is_one (is_other d) (47 ∷ 42 ∷ (g.body ++ 42 ∷ 47 ∷ (c ∷ more))) ≡ true = subst (λ x. is_one (is_other d) x ≡ true) w h in cc
+    at_shape (Whole Other) s h w = let f : is_high 47 ≡ true = other_first d (47 ∷ []) 47 [] 42 (g.body ++ 42 ∷ 47 ∷ (c ∷ more)) refl (subst (λ x. is_other_unit d x ≡ true) w h) in cc
     at_shape (Whole BlockComment) s h w = let e : 47 ∷ 42 ∷ (g.body ++ 42 ∷ 47 ∷ (c ∷ more)) ≡ 47 ∷ 42 ∷ (h.body ++ 42 ∷ 47 ∷ []) = sym w ∙ h.whole in let e2 : g.body ++ 42 ∷ 47 ∷ (c ∷ more) ≡ h.body ++ 42 ∷ 47 ∷ [] = cc in block_no_block g.body h.body c more h.first_end e2
     at_shape (Whole LineComment) s h w = let e : 47 ∷ 42 ∷ (g.body ++ 42 ∷ 47 ∷ (c ∷ more)) ≡ 47 ∷ 47 ∷ h.body = sym w ∙ h.whole in let f : ◌≡◌ {A = ℕ} 42 47 = cc in absurd (omega (arith, f))
     at_shape Unended s h w = let e : 47 ∷ 42 ∷ (g.body ++ 42 ∷ 47 ∷ (c ∷ more)) ≡ 47 ∷ 42 ∷ h.body = sym w ∙ h.whole in let e2 : g.body ++ 42 ∷ 47 ∷ (c ∷ more) ≡ h.body = cc in both_ways (has_end h.body) h.no_end (subst (λ x. has_end x ≡ true) e2 (has_end_inside g.body (c ∷ more)))

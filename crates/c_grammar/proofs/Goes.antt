@@ -3,15 +3,16 @@ use Rattle.std.proofs.Common.{◌≡◌, ◌==◌, ◌||◌, ◌&&◌, not, ℕ,
 use Rattle.std.specs.Prelude.{codes, nat_le}
 use Rattle.std.specs.List.{list_any, list_all}
 use Rattle.std.proofs.lemmas.Bool.{and_parts, or_cases, and_from, or_left, or_right, eqb-true, eq-eqb, not-true, both_ways, or_from}
-use Rattle.c_grammar.specs.Grammar.{is_same, is_of, joined, IsHeaded, is_one, is_two, is_letter, is_digit, is_sign, is_exponent, is_word_unit, is_number_head, is_number_unit, is_separated, common_punctuators, punctuators, is_punctuator, is_char_prefix, is_string_prefix, is_other, Shape, Whole, Unended, Spells}
+use Rattle.c_grammar.specs.Grammar.{is_other_unit, is_same, is_of, joined, IsHeaded, is_one, is_two, is_letter, is_digit, is_sign, is_exponent, is_word_unit, is_number_head, is_number_unit, is_separated, common_punctuators, punctuators, is_punctuator, is_char_prefix, is_string_prefix, is_other, Shape, Whole, Unended, Spells}
 use Rattle.c_grammar.specs.Touch.{ends, is_front}
 use Rattle.c_chars.specs.declared.Dialect.{Dialect}
 use Rattle.c_chars.specs.declared.Dialect.TheVariants.{C11, C23}
 use Rattle.c_grammar.specs.declared.ItemKind.TheVariants.{Identifier, Number, CharConst, StringLit, Punct, HeaderName, StrayQuote, Other, BlockComment, LineComment}
-use Rattle.c_grammar.proofs.Lists.{two_cuts, of_table, in_table, all_append, same_is}
-use Rattle.c_grammar.proofs.Firsts.{Begins, begins, can_begin, is_quote, is_letter_start, is_number_start, is_mark}
+use Rattle.c_grammar.proofs.Lists.{passes_at, two_cuts, of_table, in_table, all_append, same_is}
+use Rattle.c_grammar.proofs.Firsts.{is_rare, not_start, other_cases, high_not_mark, Begins, begins, can_begin, is_quote, is_letter_start, is_number_start, is_mark}
+use Rattle.c_grammar.proofs.Wide.{is_high, wide_high}
 use Rattle.c_grammar.proofs.Classes.{not_of, letter_not_digit, letter_start_not_digit, mark_not_letter_start, mark_not_quote, letter_start_not_quote, letter_start_not_mark, digit_not_mark}
-use Rattle.c_grammar.proofs.Words.{is_wordlike, digit_wordlike, word_unit_wordlike, identifier_wordlike, char_prefix_wordlike, string_prefix_wordlike, wordlike_not_quote}
+use Rattle.c_grammar.proofs.Words.{high_wordlike, is_wordlike, digit_wordlike, word_unit_wordlike, identifier_wordlike, char_prefix_wordlike, string_prefix_wordlike, wordlike_not_quote}
 use Rattle.std.proofs.lemmas.Bool.Decides.{nat_tests}
 use Rattle.c_grammar.proofs.Sorts.{apart_at}
 
@@ -36,6 +37,14 @@ both_begin d left k l c more g h =
 pub one_short : (p : ℕ → Bool) (l : List ℕ) (f : ℕ) (rest : List ℕ) (c : ℕ) (more : List ℕ) → l ≡ f ∷ rest → is_one p (l ++ c ∷ more) ≡ true → ⊥
 one_short p l f [] c more w h = let g : is_one p (f ∷ c ∷ more) ≡ true = rw w at h in cc
 one_short p l f (e ∷ rest) c more w h = let g : is_one p (f ∷ e ∷ (rest ++ c ∷ more)) ≡ true = rw w at h in cc
+
+-- an Other of two characters and more is past ASCII
+pub other_long : (d : Dialect) (l : List ℕ) (f : ℕ) (rest : List ℕ) (c : ℕ) (more : List ℕ) → l ≡ f ∷ rest → is_other_unit d (l ++ c ∷ more) ≡ true → list_all is_high (l ++ c ∷ more) ≡ true
+other_long d l f rest c more w h = elim (other_cases d (l ++ c ∷ more) h) [ inl e ↦ absurd (one_short (is_other d) l f rest c more w e) | inr e ↦ (wide_high not_start (l ++ c ∷ more) e).high ]
+
+pub other_first : (d : Dialect) (l : List ℕ) (f : ℕ) (rest : List ℕ) (c : ℕ) (more : List ℕ) → l ≡ f ∷ rest → is_other_unit d (l ++ c ∷ more) ≡ true → is_high f ≡ true
+other_first d l f rest c more w h =
+    (and_parts (is_high f) (list_all is_high (rest ++ c ∷ more)) (subst (λ z. list_all is_high (z ++ c ∷ more) ≡ true) w (other_long d l f rest c more w h))).0
 
 -- what stands behind l in a list of which each character passes
 pub tail_passes : (p : ℕ → Bool) (l : List ℕ) (c : ℕ) (more : List ℕ) → list_all p (l ++ c ∷ more) ≡ true → p c ≡ true
@@ -98,7 +107,7 @@ identifier_goes_at d (Whole StringLit) l c more g h b = quoted_here l c more h.b
 identifier_goes_at d (Whole Punct) l c more g h b = absurd (both_ways (is_mark b.f) (letter_start_not_mark b.f b.first) b.second)
 identifier_goes_at d (Whole HeaderName) l c more g h b = absurd h
 identifier_goes_at d (Whole StrayQuote) l c more g h b = absurd (both_ways (is_quote b.f) (letter_start_not_quote b.f b.first) b.second)
-identifier_goes_at d (Whole Other) l c more g h b = absurd (one_short (is_other d) l b.f b.rest c more b.whole h)
+identifier_goes_at d (Whole Other) l c more g h b = or_left (is_wordlike c) (is_string_prefix l && is_quote c) (high_wordlike c (passes_at is_high l c more (other_long d l b.f b.rest c more b.whole h)))
 identifier_goes_at d (Whole BlockComment) l c more g h b = absurd (both_ways (b.f == 47) (apart_at is_letter_start b.f 47 b.first refl) b.second)
 identifier_goes_at d (Whole LineComment) l c more g h b = absurd (both_ways (b.f == 47) (apart_at is_letter_start b.f 47 b.first refl) b.second)
 identifier_goes_at d Unended l c more g h b = absurd (both_ways (b.f == 47) (apart_at is_letter_start b.f 47 b.first refl) b.second)
@@ -279,7 +288,7 @@ number_goes_at d (Whole Punct) l c more g h b =
     absurd (number_no_punct d g.head (g.tail ++ c ∷ more) g.begins p (begins d (Whole Punct) (g.head ++ (g.tail ++ c ∷ more)) p))
 number_goes_at d (Whole HeaderName) l c more g h b = absurd h
 number_goes_at d (Whole StrayQuote) l c more g h b = absurd (both_ways (is_number_start b.f) (not_of is_number_start (codes "'\"") refl b.f b.second) b.first)
-number_goes_at d (Whole Other) l c more g h b = absurd (one_short (is_other d) l b.f b.rest c more b.whole h)
+number_goes_at d (Whole Other) l c more g h b = or_left (is_wordlike c || is_of (codes ".'") c) (is_sign c && ends is_exponent l) (or_left (is_wordlike c) (is_of (codes ".'") c) (high_wordlike c (passes_at is_high l c more (other_long d l b.f b.rest c more b.whole h))))
 number_goes_at d (Whole BlockComment) l c more g h b = absurd (both_ways (b.f == 47) (apart_at is_number_start b.f 47 b.first refl) b.second)
 number_goes_at d (Whole LineComment) l c more g h b = absurd (both_ways (b.f == 47) (apart_at is_number_start b.f 47 b.first refl) b.second)
 number_goes_at d Unended l c more g h b = absurd (both_ways (b.f == 47) (apart_at is_number_start b.f 47 b.first refl) b.second)
@@ -362,7 +371,7 @@ point_here d l c more (a ∷ b ∷ e2 ∷ u) tail p h f l' w m e = cc
 pub mark_no_prefix : (q f : ℕ) → is_quote q ≡ true → is_mark f ≡ true → (is_letter f || f == q) ≡ true → ⊥
 unfolding is_letter_start
 mark_no_prefix q f k m h = elim (or_cases (is_letter f) (f == q) h) [
-  | inl e ↦ both_ways (is_letter_start f) (mark_not_letter_start f m) (or_left (is_letter f) (f == 92) e)
+  | inl e ↦ both_ways (is_letter_start f) (mark_not_letter_start f m) (or_left (is_letter f) (is_rare f) e)
   | inr e ↦ let is : f ≡ q = eqb-true f q e in both_ways (is_quote f) (mark_not_quote f m) (rw is k)
 ]
 
@@ -375,7 +384,7 @@ punct_goes_at d (Whole StringLit) l c more g h b = absurd (mark_no_prefix 34 b.f
 punct_goes_at d (Whole Punct) l c more g h b = goes_on l c (l ++ c ∷ more) (front_append l more c) (in_touch_table d (l ++ c ∷ more) h)
 punct_goes_at d (Whole HeaderName) l c more g h b = absurd h
 punct_goes_at d (Whole StrayQuote) l c more g h b = absurd (both_ways (is_quote b.f) (mark_not_quote b.f b.first) b.second)
-punct_goes_at d (Whole Other) l c more g h b = absurd (one_short (is_other d) l b.f b.rest c more b.whole h)
+punct_goes_at d (Whole Other) l c more g h b = absurd (both_ways (is_mark b.f) (high_not_mark b.f (other_first d l b.f b.rest c more b.whole h)) b.first)
 punct_goes_at d (Whole BlockComment) l c more g h b = slash_here d l c more 42 (h.body ++ 42 ∷ 47 ∷ []) g (inr refl) b.f b.rest b.whole h.whole
 punct_goes_at d (Whole LineComment) l c more g h b = slash_here d l c more 47 h.body g (inl refl) b.f b.rest b.whole h.whole
 punct_goes_at d Unended l c more g h b = slash_here d l c more 42 h.body g (inr refl) b.f b.rest b.whole h.whole

@@ -19,7 +19,6 @@ use Rattle.c_grammar.proofs.Singles.{is_word, word_single, letter_single, single
 use Rattle.c_grammar.proofs.Before.{touch_words, touch_marks, IsSeam, IsMost, IsItemBefore, LiteralFirst, QuoteFirst, nothing_crosses, quote_kind, prefix_words}
 use Rattle.c_grammar.proofs.Unique.{is_blank, item_not_blank}
 use Rattle.c_grammar.proofs.Stops.{stray_stops, line_stops}
-use Rattle.c_grammar.proofs.Sorts.{one_kind}
 use Rattle.c_grammar.proofs.Seam.{Touch, touch_parts, item_begin, no_crossing}
 use Rattle.c_grammar.specs.Touch.{is_literal, takes_line, may_touch, closed_up, KeepsItems}
 use Rattle.c_grammar.proofs.Closed.{letter_is_start, closed_stays, block_stays, char_closed, string_closed}

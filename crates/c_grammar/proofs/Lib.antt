@@ -1,4 +1,5 @@
 pub mod Lists
+pub mod Wide
 pub mod Firsts
 pub mod Classes
 pub mod Words

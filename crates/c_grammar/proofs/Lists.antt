@@ -1,7 +1,7 @@
 -- Lists of characters, apart from any grammar.
-use Rattle.std.proofs.Common.{◌≡◌, ◌==◌, ◌&&◌, ℕ, Bool, true, List, [], ◌∷◌, ◌++◌, refl, sym, arith, inl, inr, ◌⊎◌}
+use Rattle.std.proofs.Common.{not, false, ◌≡◌, ◌==◌, ◌&&◌, ℕ, Bool, true, List, [], ◌∷◌, ◌++◌, refl, sym, arith, inl, inr, ◌⊎◌}
 use Rattle.std.specs.List.{list_any, list_all}
-use Rattle.std.proofs.lemmas.Bool.{and_parts, or_cases, and_from, eqb-true, cases_Bool}
+use Rattle.std.proofs.lemmas.Bool.{not-true, both_ways, false_from_ne_true, and_parts, or_cases, and_from, eqb-true, cases_Bool}
 use Rattle.c_grammar.specs.Grammar.{is_same, is_of, joined, AreUnits, is_one}
 
 -- Two ways to cut one list: one front is the other and more.
@@ -89,3 +89,16 @@ all_weaken p q f [] h = refl
 all_weaken p q f (c ∷ s) h =
     let parts = and_parts (p c) (list_all p s) h in
     and_from (q c) (list_all q s) (f c parts.0) (all_weaken p q f s parts.1)
+
+pub not_of : (p : ℕ → Bool) (cs : List ℕ) → list_all (λ x. not (p x)) cs ≡ true → (c : ℕ) → is_of cs c ≡ true → p c ≡ false
+not_of p cs h c e = not-true (p c) (of_table (λ x. not (p x)) cs h c e)
+
+-- what isn't p, where what passes p isn't in the table
+pub none_of : (p : ℕ → Bool) (cs : List ℕ) → list_all (λ x. not (p x)) cs ≡ true → (c : ℕ) → p c ≡ true → is_of cs c ≡ false
+none_of p cs h c e = false_from_ne_true (is_of cs c) (λ i. both_ways (p c) (not_of p cs h c i) e)
+
+-- the character in the middle
+pub passes_at : (p : ℕ → Bool) (s : List ℕ) (c : ℕ) (t : List ℕ) → list_all p (s ++ c ∷ t) ≡ true → p c ≡ true
+passes_at p s c t h =
+    let both : (list_all p s && list_all p (c ∷ t)) ≡ true = rw all_append at h in
+    (and_parts (p c) (list_all p t) (and_parts (list_all p s) (list_all p (c ∷ t)) both).1).0

@@ -3,26 +3,25 @@ use Rattle.std.proofs.Common.{◌≡◌, ◌==◌, ◌||◌, ◌&&◌, not, ℕ,
 use Rattle.std.specs.Prelude.{codes, if◌then◌else◌}
 use Rattle.std.specs.List.{list_any, list_all}
 use Rattle.std.proofs.lemmas.Bool.{and_parts, or_cases, and_from, eqb-true, not-true, both_ways, or_from}
-use Rattle.std.proofs.lemmas.List.{append-nil}
-use Rattle.c_grammar.specs.Grammar.{is_same, is_of, is_one, is_letter, is_digit, is_white, is_new_line, is_sign, is_exponent, is_string_prefix, is_other, IsHeaderName, Shape, Whole, Unended, Spells}
+use Rattle.std.proofs.lemmas.List.{append-nil, same_from_push}
+use Rattle.c_grammar.specs.Grammar.{is_other_unit, is_same, is_of, is_letter, is_digit, is_white, is_new_line, is_sign, is_exponent, is_string_prefix, is_other, IsHeaderName, Shape, Whole, Unended, Spells}
 use Rattle.c_grammar.specs.Items.{IsLongest, is_gap, Place, LineStart, AfterInclude, past_gap, past_item, BeginsHeader, IsNext, Piece, written, Reads}
-use Rattle.c_grammar.specs.Touch.{ends, is_front}
+use Rattle.c_grammar.specs.Touch.{ends, is_front, takes_line, regapped, KeepsItemsOverGaps}
 use Rattle.c_chars.specs.declared.Dialect.{Dialect}
 use Rattle.c_grammar.specs.declared.ItemKind.{ItemKind}
 use Rattle.c_grammar.specs.declared.ItemKind.TheVariants.{Identifier, Number, CharConst, StringLit, Punct, HeaderName, StrayQuote, Other, BlockComment, LineComment}
 use Rattle.c_grammar.proofs.Lists.{two_cuts, all_append}
 use Rattle.c_grammar.proofs.Firsts.{Begins, begins, starts_or_empty, can_begin, is_quote, is_mark, is_number_start}
-use Rattle.c_grammar.proofs.Words.{digit_wordlike, is_wordlike, identifier_wordlike}
+use Rattle.c_grammar.proofs.Words.{high_wordlike, digit_wordlike, is_wordlike, identifier_wordlike}
+use Rattle.c_grammar.proofs.Wide.{is_high}
 use Rattle.c_grammar.proofs.Classes.{not_of, IsNone, other_is_none, other_not_mark}
 use Rattle.c_grammar.proofs.Sorts.{apart_at}
 use Rattle.c_grammar.proofs.Items.{item_at, item_begins, joined_so, white_inside, header_last, rest_is, two_items, ends_in_left, something, FirstPiece, first_piece, line_of, quote_first, blank_no_quote}
 use Rattle.c_grammar.proofs.Before.{IsSeam, IsMost, IsItemBefore, QuoteFirst, nothing_crosses}
 use Rattle.c_grammar.proofs.Unique.{is_blank}
 use Rattle.c_grammar.proofs.Seam.{item_begin}
-use Rattle.c_grammar.specs.Touch.{takes_line, regapped, KeepsItemsOverGaps}
 use Rattle.c_grammar.proofs.Closed.{last_there, slash_mark, closed_stays, block_stays, char_closed, string_closed}
-use Rattle.std.proofs.lemmas.List.{same_from_push}
-use Rattle.c_grammar.proofs.Goes.{touch_table, tail_passes, identifier_goes_on, number_goes_on_at, punct_goes_on_at}
+use Rattle.c_grammar.proofs.Goes.{other_long, touch_table, tail_passes, identifier_goes_on, number_goes_on_at, punct_goes_on_at}
 
 blank_no_word : (b : ℕ) → is_blank b ≡ true → is_wordlike b ≡ true → ⊥
 unfolding is_white is_new_line is_wordlike is_letter is_digit
@@ -80,33 +79,41 @@ other_literal d c q o k h = elim (or_cases (is_letter c) (c == q) h) [
   | inr e ↦ let is : c ≡ q = eqb-true c q e in both_ways (is_quote c) (other_is_none d c o).quote (subst (λ z. is_quote z ≡ true) (sym is) k)
 ]
 
+-- a blank isn't past ASCII
+blank_not_high : (b : ℕ) → is_blank b ≡ true → is_high b ≡ true → ⊥
+blank_not_high b h w = blank_no_word b h (high_wordlike b w)
+
 -- nothing goes on over a blank from an item that doesn't take its line
-other_blank : (d : Dialect) (k : Shape) (l : List ℕ) (b : ℕ) (more : List ℕ) → is_one (is_other d) l ≡ true → is_blank b ≡ true → Spells d k (l ++ b ∷ more) → ⊥
-other_blank d k [] b more o h g = cc
-other_blank d k (c ∷ e ∷ l) b more o h g = cc
-other_blank d k (c ∷ []) b more o h g = by_kind k g
+other_blank : (d : Dialect) (k : Shape) (l : List ℕ) (b : ℕ) (more : List ℕ) → is_other_unit d l ≡ true → is_blank b ≡ true → Spells d k (l ++ b ∷ more) → ⊥
+other_blank d k l b more o h g = by_kind k g
   where
-    none : IsNone c
-    none = other_is_none d c o
+    start : Begins (is_other d) l
+    start = begins d (Whole Other) l o
 
-    no_mark : is_mark c ≡ false
-    no_mark = other_not_mark d c o
+    none : IsNone start.c
+    none = other_is_none d start.c start.passes
 
-    first : {p : ℕ → Bool} → Begins p (c ∷ b ∷ more) → p c ≡ true
-    first {p = p} s = let w = s.whole in let heads : s.c ≡ c = cc in subst (λ z. p z ≡ true) heads s.passes
+    no_mark : is_mark start.c ≡ false
+    no_mark = other_not_mark d start.c start.passes
 
-    by_kind : (k : Shape) → Spells d k (c ∷ b ∷ more) → ⊥
-    by_kind (Whole Identifier) g = blank_no_word b h (tail_passes is_wordlike (c ∷ []) b more (identifier_wordlike (c ∷ b ∷ more) g))
-    by_kind (Whole Number) g = other_number d c o (first (begins d (Whole Number) (c ∷ b ∷ more) g))
-    by_kind (Whole CharConst) g = other_literal d c 39 o refl (first (begins d (Whole CharConst) (c ∷ b ∷ more) g))
-    by_kind (Whole StringLit) g = other_literal d c 34 o refl (first (begins d (Whole StringLit) (c ∷ b ∷ more) g))
-    by_kind (Whole Punct) g = both_ways (is_mark c) no_mark (first (begins d (Whole Punct) (c ∷ b ∷ more) g))
+    first : {p : ℕ → Bool} → Begins p (l ++ b ∷ more) → p start.c ≡ true
+    first {p = p} s =
+        let w : s.c ∷ s.rest ≡ start.c ∷ (start.rest ++ b ∷ more) = sym s.whole ∙ ap (λ z. z ++ b ∷ more) start.whole in
+        let heads : s.c ≡ start.c = cc in
+        subst (λ z. p z ≡ true) heads s.passes
+
+    by_kind : (k : Shape) → Spells d k (l ++ b ∷ more) → ⊥
+    by_kind (Whole Identifier) g = blank_no_word b h (tail_passes is_wordlike l b more (identifier_wordlike (l ++ b ∷ more) g))
+    by_kind (Whole Number) g = other_number d start.c start.passes (first (begins d (Whole Number) (l ++ b ∷ more) g))
+    by_kind (Whole CharConst) g = other_literal d start.c 39 start.passes refl (first (begins d (Whole CharConst) (l ++ b ∷ more) g))
+    by_kind (Whole StringLit) g = other_literal d start.c 34 start.passes refl (first (begins d (Whole StringLit) (l ++ b ∷ more) g))
+    by_kind (Whole Punct) g = both_ways (is_mark start.c) no_mark (first (begins d (Whole Punct) (l ++ b ∷ more) g))
     by_kind (Whole HeaderName) g = g
-    by_kind (Whole StrayQuote) g = both_ways (is_quote c) none.quote (first (begins d (Whole StrayQuote) (c ∷ b ∷ more) g))
-    by_kind (Whole Other) g = cc
-    by_kind (Whole BlockComment) g = both_ways (is_mark c) no_mark (first (slash_mark (c ∷ b ∷ more) (begins d (Whole BlockComment) (c ∷ b ∷ more) g)))
-    by_kind (Whole LineComment) g = both_ways (is_mark c) no_mark (first (slash_mark (c ∷ b ∷ more) (begins d (Whole LineComment) (c ∷ b ∷ more) g)))
-    by_kind Unended g = both_ways (is_mark c) no_mark (first (slash_mark (c ∷ b ∷ more) (begins d Unended (c ∷ b ∷ more) g)))
+    by_kind (Whole StrayQuote) g = both_ways (is_quote start.c) none.quote (first (begins d (Whole StrayQuote) (l ++ b ∷ more) g))
+    by_kind (Whole Other) g = blank_not_high b h (tail_passes is_high l b more (other_long d l start.c start.rest b more start.whole g))
+    by_kind (Whole BlockComment) g = both_ways (is_mark start.c) no_mark (first (slash_mark (l ++ b ∷ more) (begins d (Whole BlockComment) (l ++ b ∷ more) g)))
+    by_kind (Whole LineComment) g = both_ways (is_mark start.c) no_mark (first (slash_mark (l ++ b ∷ more) (begins d (Whole LineComment) (l ++ b ∷ more) g)))
+    by_kind Unended g = both_ways (is_mark start.c) no_mark (first (slash_mark (l ++ b ∷ more) (begins d Unended (l ++ b ∷ more) g)))
 
 no_blank_after : (d : Dialect) (left : ItemKind) (k : Shape) (l : List ℕ) (b : ℕ) (more : List ℕ) → Spells d (Whole left) l → takes_line left ≡ false → is_blank b ≡ true → Spells d k (l ++ b ∷ more) → ⊥
 no_blank_after d Identifier k l b more s t h g = elim (or_cases (is_wordlike b) (is_string_prefix l && is_quote b) (identifier_goes_on d k l b more s g)) [

@@ -2,7 +2,8 @@
 use Rattle.std.proofs.Common.{◌≡◌, ◌||◌, ℕ, Bool, true, List, [], ◌∷◌, refl, ap, inl, inr}
 use Rattle.std.specs.List.{list_all}
 use Rattle.std.proofs.lemmas.Bool.{and_parts, or_cases, and_from, or_left, or_right}
-use Rattle.c_grammar.specs.Grammar.{AreUnits, is_letter, is_digit, is_letter_unit, is_word_unit, is_universal_name}
+use Rattle.unicode_ident.specs.Ident.{is_xid_start, is_xid_continue}
+use Rattle.c_grammar.specs.Grammar.{is_wide, AreUnits, is_letter, is_digit, is_letter_unit, is_word_unit, is_universal_name}
 
 -- characters that are units
 pub singles : (p : ℕ → Bool) (q : List ℕ → Bool) → ((c : ℕ) → p c ≡ true → q (c ∷ []) ≡ true) → (s : List ℕ) → list_all p s ≡ true → AreUnits q s
@@ -17,13 +18,13 @@ singles p q f (c ∷ s) h =
 abbrev pub is_word : ℕ → Bool
 is_word c = is_letter c || is_digit c
 
-pub word_single : (c : ℕ) → is_word c ≡ true → is_word_unit (c ∷ []) ≡ true
-unfolding is_word_unit is_letter_unit
-word_single c h = elim (or_cases (is_letter c) (is_digit c) h) [
-  | inl e ↦ or_right (is_digit c) (is_letter c || is_universal_name (c ∷ [])) (or_left (is_letter c) (is_universal_name (c ∷ [])) e)
-  | inr e ↦ or_left (is_digit c) (is_letter c || is_universal_name (c ∷ [])) e
-]
-
 pub letter_single : (c : ℕ) → is_letter c ≡ true → is_letter_unit (c ∷ []) ≡ true
 unfolding is_letter_unit
-letter_single c h = or_left (is_letter c) (is_universal_name (c ∷ [])) h
+letter_single c h = or_left (is_letter c) (is_universal_name (c ∷ []) || is_wide is_xid_start (c ∷ [])) h
+
+pub word_single : (c : ℕ) → is_word c ≡ true → is_word_unit (c ∷ []) ≡ true
+unfolding is_word_unit
+word_single c h = elim (or_cases (is_letter c) (is_digit c) h) [
+  | inl e ↦ or_right (is_digit c) (is_letter_unit (c ∷ []) || is_wide is_xid_continue (c ∷ [])) (or_left (is_letter_unit (c ∷ [])) (is_wide is_xid_continue (c ∷ [])) (letter_single c e))
+  | inr e ↦ or_left (is_digit c) (is_letter_unit (c ∷ []) || is_wide is_xid_continue (c ∷ [])) e
+]

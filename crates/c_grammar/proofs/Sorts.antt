@@ -1,14 +1,18 @@
 -- No list spells two kinds: a function tells the kind of what is spelled.
-use Rattle.std.proofs.Common.{◌≡◌, ◌==◌, ◌||◌, ◌&&◌, not, ℕ, Bool, true, false, List, [], ◌∷◌, ◌++◌, refl, sym, ◌∙◌, ap, subst, inl, inr, append_assoc}
+use Rattle.std.proofs.Common.{◌≡◌, ◌==◌, ◌||◌, ◌&&◌, not, ℕ, Bool, true, false, List, [], ◌∷◌, ◌++◌, refl, sym, ◌∙◌, ap, subst, inl, inr, append_assoc, length}
 use Rattle.std.specs.Prelude.{codes, if◌then◌else◌}
 use Rattle.std.specs.List.{list_all}
-use Rattle.std.proofs.lemmas.Bool.{and_parts, or_cases, or_left, or_right, eqb-true, cases_Bool, not-true, both_ways, or_from, ne_eqb, false_from_ne_true}
-use Rattle.c_grammar.specs.Grammar.{is_same, joined, AreUnits, IsHeaded, IsQuoted, IsUnclosed, IsEmptyQuotes, IsBlock, IsLine, IsOpen, is_one, is_letter, is_digit, is_new_line, is_universal_name, is_letter_unit, is_word_unit, is_number_head, is_number_unit, common_punctuators, punctuators, is_punctuator, is_quoted_unit, is_char_prefix, is_string_prefix, is_other, has_end, Shape, Whole, Unended, Spells}
+use Rattle.std.proofs.lemmas.Bool.{and_from, and_parts, or_cases, or_left, or_right, eqb-true, cases_Bool, not-true, both_ways, or_from, ne_eqb, false_from_ne_true}
+use Rattle.c_grammar.specs.Grammar.{is_hex, is_wide, is_other_unit, is_same, joined, AreUnits, IsHeaded, IsQuoted, IsUnclosed, IsEmptyQuotes, IsBlock, IsLine, IsOpen, is_one, is_letter, is_digit, is_new_line, is_universal_name, is_letter_unit, is_word_unit, is_number_head, is_number_unit, common_punctuators, punctuators, is_punctuator, is_quoted_unit, is_char_prefix, is_string_prefix, is_other, has_end, Shape, Whole, Unended, Spells}
+use Rattle.c_grammar.specs.Touch.{starts}
 use Rattle.c_chars.specs.declared.Dialect.{Dialect}
 use Rattle.c_chars.specs.declared.Dialect.TheVariants.{C11, C23}
 use Rattle.c_grammar.specs.declared.ItemKind.TheVariants.{Identifier, Number, CharConst, StringLit, Punct, HeaderName, StrayQuote, Other, BlockComment, LineComment}
-use Rattle.c_grammar.proofs.Lists.{in_table}
-use Rattle.c_grammar.proofs.Firsts.{Begins, begins, is_quote, is_letter_start, is_mark, char_prefix_letter, string_prefix_letter}
+use Rattle.c_grammar.proofs.Lists.{in_table, passes_at}
+use Rattle.c_grammar.proofs.Wide.{is_high, wide_high, wide_alone, wide_both}
+use Rattle.unicode_ident.specs.Ident.{is_xid_start}
+use Rattle.std.proofs.lemmas.List.{append-nil}
+use Rattle.c_grammar.proofs.Firsts.{is_rare, not_start, letter_cases, other_cases, high_begins, high_letter_start, high_not_letter, high_not_quote, Begins, begins, is_quote, is_letter_start, is_mark, char_prefix_letter, string_prefix_letter}
 use Rattle.c_grammar.proofs.Classes.{letter_start_not_digit, quote_not_letter_start, quote_not_digit, other_is_none, other_not_mark}
 use Rattle.c_grammar.proofs.Words.{is_wordlike, identifier_wordlike, char_prefix_wordlike, string_prefix_wordlike, wordlike_not_quote}
 
@@ -23,13 +27,13 @@ closes q [] = false
 closes q (c ∷ []) = c == q
 closes q (c ∷ e ∷ s) = if c == q then true else (if c == 92 then closes q s else closes q (e ∷ s))
 
-abbrev pub starts : (ℕ → Bool) → List ℕ → Bool
-starts p [] = false
-starts p (c ∷ s) = p c
+-- an item by itself, though a word may begin so
+abbrev pub is_lone : List ℕ → Bool
+is_lone s = is_same s (92 ∷ []) || (is_one is_high s || is_wide not_start s)
 
 abbrev pub word_sort : List ℕ → Shape
 word_sort s =
-    if is_same s (92 ∷ []) then Whole Other
+    if is_lone s then Whole Other
     else (if first_quote s == 39 then Whole CharConst
     else (if first_quote s == 34 then Whole StringLit
     else Whole Identifier))
@@ -91,24 +95,86 @@ not_backslash [] q t h = let e = not_92 q h in rw e refl
 not_backslash (c ∷ []) q t h = elim (cases_Bool (c == 92)) [ inl e ↦ rw e refl | inr e ↦ rw e refl ]
 not_backslash (c ∷ e ∷ s) q t h = elim (cases_Bool (c == 92)) [ inl e ↦ rw e refl | inr e ↦ rw e refl ]
 
+high_quote : (q : ℕ) → is_quote q ≡ true → is_high q ≡ true → ⊥
+high_quote q k h = both_ways (is_quote q) (high_not_quote q h) k
+
+not_all_high : (p : ℕ → Bool) (s : List ℕ) (q : ℕ) (t : List ℕ) → (is_high q ≡ true → ⊥) → is_wide p (s ++ q ∷ t) ≡ false
+not_all_high p s q t n = false_from_ne_true (is_wide p (s ++ q ∷ t)) (λ w. n (passes_at is_high s q t (wide_high p (s ++ q ∷ t) w).high))
+
+-- a list with a quote is no item by itself
+not_lone : (s : List ℕ) (q : ℕ) (t : List ℕ) → is_quote q ≡ true → is_lone (s ++ q ∷ t) ≡ false
+not_lone s q t k =
+    let backslash = not_backslash s q t k in
+    let wide = not_all_high not_start s q t (high_quote q k) in
+    let one : is_one is_high (s ++ q ∷ t) ≡ false = no_one s t in
+    or_from (is_same (s ++ q ∷ t) (92 ∷ [])) (is_one is_high (s ++ q ∷ t) || is_wide not_start (s ++ q ∷ t)) backslash
+    (or_from (is_one is_high (s ++ q ∷ t)) (is_wide not_start (s ++ q ∷ t)) one wide)
+  where
+    no_one : (s t : List ℕ) → is_one is_high (s ++ q ∷ t) ≡ false
+    no_one [] [] = false_from_ne_true (is_high q) (high_quote q k)
+    no_one [] (e ∷ t) = refl
+    no_one (c ∷ []) t = refl
+    no_one (c ∷ e ∷ s) t = refl
+
 letter_not_92 : (c : ℕ) → is_letter c ≡ true → (c == 92) ≡ false
 unfolding is_letter
 letter_not_92 c h = apart_at is_letter c 92 h refl
 
-pub identifier_not_backslash : (head tail : List ℕ) → is_letter_unit head ≡ true → is_same (head ++ tail) (92 ∷ []) ≡ false
-unfolding is_letter_unit is_universal_name
-identifier_not_backslash [] tail h = cc
-identifier_not_backslash (c ∷ []) tail h = elim (or_cases (is_letter c) false h) [
-  | inl e ↦ let f = letter_not_92 c e in rw f refl
-  | inr e ↦ cc
+letter_not_high : (c : ℕ) → is_letter c ≡ true → is_high c ≡ true → ⊥
+letter_not_high c l h = both_ways (is_letter c) (high_not_letter c h) l
+
+letter_not_lone : (head tail : List ℕ) → is_one is_letter head ≡ true → is_lone (head ++ tail) ≡ false
+letter_not_lone [] tail h = cc
+letter_not_lone (c ∷ e ∷ s) tail h = cc
+letter_not_lone (c ∷ []) tail h =
+    let backslash = letter_not_92 c h in
+    let wide = not_all_high not_start [] c tail (letter_not_high c h) in
+    let one : is_one is_high (c ∷ tail) ≡ false = no_one tail in
+    rw (backslash, one, wide) refl
+  where
+    no_one : (tail : List ℕ) → is_one is_high (c ∷ tail) ≡ false
+    no_one [] = false_from_ne_true (is_high c) (letter_not_high c h)
+    no_one (e ∷ tail) = refl
+
+-- two characters and more aren't one
+two_same : (b k : ℕ) (s : List ℕ) → is_same (b ∷ k ∷ s) (92 ∷ []) ≡ false
+two_same b k s = elim (cases_Bool (b == 92)) [ inl e ↦ rw e refl | inr e ↦ rw e refl ]
+
+name_not_lone : (head tail : List ℕ) → is_universal_name head ≡ true → is_lone (head ++ tail) ≡ false
+unfolding is_universal_name
+name_not_lone [] tail h = cc
+name_not_lone (b ∷ []) tail h = cc
+name_not_lone (b ∷ k ∷ digits) tail h =
+    let parts = and_parts (b == 92) (((k == 117) && (length digits == 4)) || ((k == 85) && (length digits == 8))) (and_parts _ (list_all is_hex digits) h).0 in
+    let same = two_same b k (digits ++ tail) in
+    let low : is_high b ≡ true → ⊥ = λ z. both_ways (is_high 92) refl (subst (λ y. is_high y ≡ true) (eqb-true b 92 parts.0) z) in
+    let wide = not_all_high not_start [] b (k ∷ (digits ++ tail)) low in
+    rw (same, wide) refl
+
+wide_not_lone : (head tail : List ℕ) → is_wide is_xid_start head ≡ true → is_lone (head ++ tail) ≡ false
+wide_not_lone head tail h =
+    let high = wide_high is_xid_start head h in
+    let w : head ++ tail ≡ high.first ∷ high.second ∷ (high.rest ++ tail) = ap (λ z. z ++ tail) high.whole in
+    let same : is_same (head ++ tail) (92 ∷ []) ≡ false = rw w (two_same high.first high.second (high.rest ++ tail)) in
+    let one : is_one is_high (head ++ tail) ≡ false = rw w refl in
+    let wide : is_wide not_start (head ++ tail) ≡ false = false_from_ne_true (is_wide not_start (head ++ tail)) (λ g.
+    let none = wide_alone is_xid_start not_start head tail h g in
+    let whole : is_wide not_start head ≡ true = subst (λ z. is_wide not_start z ≡ true) (ap (λ z. head ++ z) none ∙ append-nil head) g in
+    let both = wide_both is_xid_start not_start head h whole in
+    both_ways (is_xid_start both.0) (not-true (is_xid_start both.0) both.2) both.1) in
+    rw (same, one, wide) refl
+
+pub identifier_not_lone : (head tail : List ℕ) → is_letter_unit head ≡ true → is_lone (head ++ tail) ≡ false
+identifier_not_lone head tail h = elim (letter_cases head h) [
+  | inl e ↦ letter_not_lone head tail e
+  | inr r ↦ elim r [ inl e ↦ name_not_lone head tail e | inr e ↦ wide_not_lone head tail e ]
 ]
-identifier_not_backslash (c ∷ k ∷ s) tail h = elim (cases_Bool (c == 92)) [ inl e ↦ rw e refl | inr e ↦ rw e refl ]
 
 identifier_sort : (s : List ℕ) → IsHeaded is_letter_unit is_word_unit s → Begins is_letter_start s → sort_of s ≡ Whole Identifier
 identifier_sort s h b =
     let none = first_quote_none s (identifier_wordlike s h) in
     let w = h.whole in
-    let apart : is_same s (92 ∷ []) ≡ false = rw w (identifier_not_backslash h.head h.tail h.begins) in
+    let apart : is_lone s ≡ false = rw w (identifier_not_lone h.head h.tail h.begins) in
     letter_sort s b ∙ rw (apart, none) refl
 
 -- quotes
@@ -181,12 +247,12 @@ quotation = refl
 letters_sort : (q : ℕ) (s : List ℕ) → is_quote q ≡ true → (before rest : List ℕ) → s ≡ before ++ q ∷ rest → list_all is_wordlike before ≡ true → Begins is_letter_start s → sort_of s ≡ (if q == 39 then Whole CharConst else (if q == 34 then Whole StringLit else Whole Identifier))
 letters_sort q s k before rest w l b =
     let found : first_quote s ≡ q = rw w (first_quote_at before q rest l k) in
-    let apart : is_same s (92 ∷ []) ≡ false = rw w (not_backslash before q rest k) in
+    let apart : is_lone s ≡ false = rw w (not_lone before q rest k) in
     letter_sort s b ∙ rw (apart, found) refl
 
 letter_begins_so : (c : ℕ) (before rest s : List ℕ) → s ≡ (c ∷ before) ++ rest → is_letter c ≡ true → Begins is_letter_start s
 unfolding is_letter_start
-letter_begins_so c before rest s w h = record { c = c; rest = before ++ rest; whole = w; passes = or_left (is_letter c) (c == 92) h }
+letter_begins_so c before rest s w h = record { c = c; rest = before ++ rest; whole = w; passes = or_left (is_letter c) (is_rare c) h }
 
 char_sort : (d : Dialect) (s : List ℕ) → (h : IsQuoted (is_char_prefix d) 39 false s) → (before : List ℕ) → h.before ≡ before → sort_of s ≡ Whole CharConst
 char_sort d s h [] e =
@@ -301,18 +367,33 @@ number_sort_at (c ∷ e ∷ f ∷ s) tail h = cc
 number_sort : (d : Dialect) (s : List ℕ) → IsHeaded is_number_head (is_number_unit d) s → sort_of s ≡ Whole Number
 number_sort d s h = ap sort_of h.whole ∙ number_sort_at h.head h.tail h.begins
 
-other_sort : (d : Dialect) (s : List ℕ) → is_one (is_other d) s ≡ true → sort_of s ≡ Whole Other
+one_other_sort : (d : Dialect) (s : List ℕ) → is_one (is_other d) s ≡ true → sort_of s ≡ Whole Other
 unfolding is_letter_start
-other_sort d [] h = cc
-other_sort d (c ∷ []) h =
+one_other_sort d [] h = cc
+one_other_sort d (c ∷ []) h =
     let none = other_is_none d c h in
     let l = none.letter in let g = none.digit in let q = none.quote in
     let m = other_not_mark d c h in
-    elim (cases_Bool (c == 92)) [
-      | inl e ↦ let start : is_letter_start c ≡ true = or_right (is_letter c) (c == 92) e in rw (start, e) refl
-      | inr e ↦ let start : is_letter_start c ≡ false = or_from (is_letter c) (c == 92) l e in rw (start, g, q, m) refl
+    elim (cases_Bool (is_rare c)) [
+      | inl e ↦ let start : is_letter_start c ≡ true = or_right (is_letter c) (is_rare c) e in let lone = rare_lone c e in rw (start, lone) refl
+      | inr e ↦ let start : is_letter_start c ≡ false = or_from (is_letter c) (is_rare c) l e in rw (start, g, q, m) refl
     ]
-other_sort d (c ∷ e ∷ s) h = cc
+  where
+    rare_lone : (c : ℕ) → is_rare c ≡ true → is_lone (c ∷ []) ≡ true
+    rare_lone c e = elim (or_cases (c == 92) (is_high c) e) [
+      | inl i ↦ or_left (is_same (c ∷ []) (92 ∷ [])) (is_high c || is_wide not_start (c ∷ [])) (and_from (c == 92) true i refl)
+      | inr i ↦ or_right (is_same (c ∷ []) (92 ∷ [])) (is_high c || is_wide not_start (c ∷ [])) (or_left (is_high c) (is_wide not_start (c ∷ [])) i)
+    ]
+one_other_sort d (c ∷ e ∷ s) h = cc
+
+other_sort : (d : Dialect) (s : List ℕ) → is_other_unit d s ≡ true → sort_of s ≡ Whole Other
+other_sort d s h = elim (other_cases d s h) [
+  | inl e ↦ one_other_sort d s e
+  | inr e ↦
+      let start : Begins is_letter_start s = high_begins s (wide_high not_start s e) high_letter_start in
+      let lone : is_lone s ≡ true = or_right (is_same s (92 ∷ [])) (is_one is_high s || is_wide not_start s) (or_right (is_one is_high s) (is_wide not_start s) e) in
+      letter_sort s start ∙ rw lone refl
+]
 
 pub sort_is : (d : Dialect) (k : Shape) (s : List ℕ) → Spells d k s → sort_of s ≡ k
 sort_is d (Whole Identifier) s h = identifier_sort s h (begins d (Whole Identifier) s h)

@@ -5,7 +5,7 @@ use Rattle.std.proofs.lemmas.Bool.{and_parts, or_cases, and_left, eqb-true, eq-e
 use Rattle.std.proofs.lemmas.List.{append-nil}
 use Rattle.c_grammar.specs.Grammar.{is_letter, is_digit, is_white, is_new_line, is_other, Shape, Whole, Unended, Spells, IsHeaderName}
 use Rattle.c_grammar.specs.Items.{IsLongest, Place, LineStart, is_gap, past_gap, past_item, IsNext, Piece, written, Reads, Lexes}
-use Rattle.c_grammar.specs.Touch.{HasOneList}
+use Rattle.c_grammar.specs.Touch.{starts, HasOneList}
 use Rattle.c_chars.specs.declared.Dialect.{Dialect}
 use Rattle.c_grammar.specs.declared.ItemKind.{ItemKind}
 use Rattle.c_grammar.specs.declared.ItemKind.TheVariants.{Identifier, Number, CharConst, StringLit, Punct, HeaderName, StrayQuote, Other, BlockComment, LineComment}
@@ -13,10 +13,6 @@ use Rattle.c_grammar.proofs.Lists.{SameCut, two_cuts}
 use Rattle.c_grammar.proofs.Firsts.{begins, can_begin, is_quote, is_letter_start, is_number_start, is_mark}
 use Rattle.c_grammar.proofs.Classes.{none_of}
 use Rattle.c_grammar.proofs.Sorts.{one_kind}
-
-abbrev pub starts : (ℕ → Bool) → List ℕ → Bool
-starts p [] = false
-starts p (c ∷ s) = p c
 
 -- two lists of what passes, each before what doesn't
 pub same_span : (p : ℕ → Bool) (a x b y : List ℕ) → list_all p a ≡ true → list_all p b ≡ true → starts p x ≡ false → starts p y ≡ false → a ++ x ≡ b ++ y → SameCut a x b y
@@ -147,11 +143,11 @@ pub next_not_empty : (d : Dialect) (place : Place) (kind : ItemKind) (s t : List
 next_not_empty d place kind s t (inl h) e = let w = h.2.whole in let f : h.2.first ∷ ((h.2.body ++ h.2.last ∷ []) ++ t) ≡ [] = rw w at e in cc
 next_not_empty d place kind s t (inr h) e = let b = begins d (Whole kind) s h.1.spells in let w = b.whole in let f : b.c ∷ (b.rest ++ t) ≡ [] = rw w at e in cc
 
-abbrev piece_of : List ℕ → ItemKind → List ℕ → Piece
-piece_of g k s = record { gap = g; kind = k; spelling = s }
+abbrev piece : List ℕ → ItemKind → List ℕ → Piece
+piece g k s = record { gap = g; kind = k; spelling = s }
 
 piece_is : (p q : Piece) → p.gap ≡ q.gap → p.kind ≡ q.kind → p.spelling ≡ q.spelling → p ≡ q
-piece_is p q a b c = let same : piece_of p.gap p.kind p.spelling ≡ piece_of q.gap q.kind q.spelling = cc in same
+piece_is p q a b c = let same : piece p.gap p.kind p.spelling ≡ piece q.gap q.kind q.spelling = cc in same
 
 gap_before : (g h x : List ℕ) → is_gap g ≡ true → is_gap h ≡ true → starts is_blank x ≡ false → g ≡ h ++ x → SameCut g [] h x
 gap_before g h x a b n e = same_span is_blank g [] h x a b refl n (append-nil g ∙ e)

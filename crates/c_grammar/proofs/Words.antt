@@ -3,17 +3,19 @@ use Rattle.std.proofs.Common.{◌≡◌, ◌==◌, ◌||◌, ◌&&◌, ℕ, Bool
 use Rattle.std.specs.Prelude.{codes}
 use Rattle.std.specs.List.{list_all}
 use Rattle.std.proofs.lemmas.Bool.{and_parts, or_cases, and_from, or_left, or_right, eqb-true}
-use Rattle.c_grammar.specs.Grammar.{IsHeaded, is_one, is_letter, is_digit, is_hex, is_universal_name, is_letter_unit, is_word_unit, is_char_prefix, is_string_prefix}
+use Rattle.c_grammar.specs.Grammar.{is_wide, IsHeaded, is_one, is_letter, is_digit, is_hex, is_universal_name, is_letter_unit, is_word_unit, is_char_prefix, is_string_prefix}
 use Rattle.c_chars.specs.declared.Dialect.{Dialect}
 use Rattle.c_chars.specs.declared.Dialect.TheVariants.{C11, C23}
 use Rattle.c_grammar.proofs.Lists.{in_table, all_append, units_all, one_all, all_weaken}
-use Rattle.c_grammar.proofs.Firsts.{is_quote, is_letter_start, is_mark}
+use Rattle.c_grammar.proofs.Firsts.{is_rare, letter_cases, high_letter_start, is_quote, is_letter_start, is_mark}
 use Rattle.std.proofs.lemmas.Bool.Decides.{nat_tests}
+use Rattle.c_grammar.proofs.Wide.{is_high, wide_high}
+use Rattle.unicode_ident.specs.Ident.{is_xid_start, is_xid_continue}
 use Rattle.c_grammar.proofs.Classes.{none_of}
 
 -- a character that stands in identifiers
 unfoldable pub is_wordlike : ℕ → Bool
-is_wordlike c = is_letter c || is_digit c || c == 92
+is_wordlike c = is_letter c || is_digit c || is_rare c
 
 pub letter_wordlike : (c : ℕ) → is_letter c ≡ true → is_wordlike c ≡ true
 unfolding is_wordlike
@@ -21,13 +23,13 @@ letter_wordlike c h = rw h refl
 
 pub digit_wordlike : (c : ℕ) → is_digit c ≡ true → is_wordlike c ≡ true
 unfolding is_wordlike
-digit_wordlike c h = or_left (is_letter c || is_digit c) (c == 92) (or_right (is_letter c) (is_digit c) h)
+digit_wordlike c h = or_left (is_letter c || is_digit c) (is_rare c) (or_right (is_letter c) (is_digit c) h)
 
 pub letter_start_wordlike : (c : ℕ) → is_letter_start c ≡ true → is_wordlike c ≡ true
 unfolding is_wordlike is_letter_start
-letter_start_wordlike c h = elim (or_cases (is_letter c) (c == 92) h) [
+letter_start_wordlike c h = elim (or_cases (is_letter c) (is_rare c) h) [
   | inl e ↦ letter_wordlike c e
-  | inr e ↦ or_right (is_letter c || is_digit c) (c == 92) e
+  | inr e ↦ or_right (is_letter c || is_digit c) (is_rare c) e
 ]
 
 hex_wordlike : (c : ℕ) → is_hex c ≡ true → is_wordlike c ≡ true
@@ -50,18 +52,23 @@ name_wordlike (b ∷ k ∷ digits) h =
     and_from (is_wordlike b) (is_wordlike k && list_all is_wordlike digits) b_like
     (and_from (is_wordlike k) (list_all is_wordlike digits) k_is (all_weaken is_hex is_wordlike hex_wordlike digits parts.1))
 
+pub high_wordlike : (c : ℕ) → is_high c ≡ true → is_wordlike c ≡ true
+high_wordlike c h = letter_start_wordlike c (high_letter_start c h)
+
+pub wide_wordlike : (p : ℕ → Bool) (u : List ℕ) → is_wide p u ≡ true → list_all is_wordlike u ≡ true
+wide_wordlike p u h = all_weaken is_high is_wordlike high_wordlike u (wide_high p u h).high
+
 pub letter_unit_wordlike : (u : List ℕ) → is_letter_unit u ≡ true → list_all is_wordlike u ≡ true
-unfolding is_letter_unit
-letter_unit_wordlike u h = elim (or_cases (is_one is_letter u) (is_universal_name u) h) [
+letter_unit_wordlike u h = elim (letter_cases u h) [
   | inl e ↦ one_all is_letter is_wordlike letter_wordlike u e
-  | inr e ↦ name_wordlike u e
+  | inr r ↦ elim r [ inl e ↦ name_wordlike u e | inr e ↦ wide_wordlike is_xid_start u e ]
 ]
 
 pub word_unit_wordlike : (u : List ℕ) → is_word_unit u ≡ true → list_all is_wordlike u ≡ true
 unfolding is_word_unit
-word_unit_wordlike u h = elim (or_cases (is_one is_digit u) (is_letter_unit u) h) [
+word_unit_wordlike u h = elim (or_cases (is_one is_digit u) (is_letter_unit u || is_wide is_xid_continue u) h) [
   | inl e ↦ one_all is_digit is_wordlike digit_wordlike u e
-  | inr e ↦ letter_unit_wordlike u e
+  | inr r ↦ elim (or_cases (is_letter_unit u) (is_wide is_xid_continue u) r) [ inl e ↦ letter_unit_wordlike u e | inr e ↦ wide_wordlike is_xid_continue u e ]
 ]
 
 -- every character of an identifier is one that stands in identifiers

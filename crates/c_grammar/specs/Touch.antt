@@ -18,6 +18,7 @@ ends p [] = false
 ends p (c ∷ []) = p c
 ends p (c ∷ e ∷ s) = ends p (e ∷ s)
 
+-- the first character alone
 abbrev pub first_of : List ℕ → List ℕ
 first_of [] = []
 first_of (c ∷ s) = c ∷ []
@@ -28,22 +29,27 @@ is_front [] s = true
 is_front (c ∷ f) [] = false
 is_front (c ∷ f) (e ∷ s) = (c == e) && is_front f s
 
+-- the kind is Identifier
 abbrev pub is_identifier : ItemKind → Bool
 is_identifier Identifier = true
 is_identifier _ = false
 
+-- the kind is Number
 abbrev pub is_number : ItemKind → Bool
 is_number Number = true
 is_number _ = false
 
+-- the kind is Punct
 abbrev pub is_punct : ItemKind → Bool
 is_punct Punct = true
 is_punct _ = false
 
+-- the kind is Other
 abbrev pub is_other_kind : ItemKind → Bool
 is_other_kind Other = true
 is_other_kind _ = false
 
+-- the kind is CharConst or StringLit
 abbrev pub is_literal : ItemKind → Bool
 is_literal CharConst = true
 is_literal StringLit = true
@@ -55,21 +61,27 @@ takes_line LineComment = true
 takes_line StrayQuote = true
 takes_line _ = false
 
+-- an identifier or a number, and what would go on with it: another, or a literal with a prefix
 abbrev pub word_by_word : ItemKind → ItemKind → List ℕ → Bool
 word_by_word left right r = (is_identifier left || is_number left) && (is_identifier right || is_number right || (is_literal right && starts is_letter r))
 
+-- an identifier that is a prefix, and a quote
 abbrev pub prefix_by_quote : ItemKind → List ℕ → List ℕ → Bool
 prefix_by_quote left l r = is_identifier left && is_string_prefix l && starts (is_of (codes "'\"")) r
 
+-- a number, and a point, an apostrophe, or a sign behind its exponent
 abbrev pub number_goes_on : ItemKind → List ℕ → List ℕ → Bool
 number_goes_on left l r = is_number left && (starts (is_of (codes ".'")) r || (starts is_sign r && ends is_exponent l))
 
+-- a point, and a number
 abbrev pub point_by_number : List ℕ → ItemKind → Bool
 point_by_number l right = is_same l (codes ".") && is_number right
 
+-- a punctuator that with the next character begins a punctuator of an edition or a comment
 abbrev pub punct_goes_on : ItemKind → List ℕ → List ℕ → Bool
 punct_goes_on left l r = is_punct left && list_any (is_front (l ++ first_of r)) (codes "::" ∷ codes "//" ∷ codes "/*" ∷ common_punctuators)
 
+-- a `?`, and what could make a trigraph of it
 abbrev pub trigraph_comes : List ℕ → List ℕ → Bool
 trigraph_comes l r = is_same l (codes "?") && starts (is_of (codes "?=(/)'<!>-")) r
 

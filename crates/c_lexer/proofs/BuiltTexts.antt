@@ -8,16 +8,16 @@ use Rattle.c_grammar.specs.Touch.{starts}
 use Rattle.c_lexer.specs.Run.{begins_number}
 use Rattle.c_grammar.specs.Built.{is_built, are_built}
 use Rattle.c_grammar.proofs.Lists.{of_table}
-use Rattle.c_grammar.proofs.Firsts.{is_quote, is_mark}
+use Rattle.c_grammar.proofs.Firsts.{is_rare, is_quote, is_mark}
 use Rattle.c_grammar.proofs.Classes.{none_of}
 use Rattle.c_grammar.proofs.Sorts.{apart_at}
 use Rattle.c_grammar.proofs.Goes.{no_punct_front}
-use Rattle.c_grammar.proofs.Built.{built_head, built_tail}
+use Rattle.c_grammar.proofs.Built.{built_head, built_not_rare, built_tail}
 use Rattle.c_lexer.proofs.Words.{is_trap}
 
 built_no_trap : (c : ℕ) → is_built c ≡ true → is_trap c ≡ false
 unfolding is_built is_quote is_letter is_digit
-built_no_trap c h = or_from (c == 92) (is_quote c) (apart_at is_built c 92 h refl) (none_of is_built (codes "'\"") refl c h)
+built_no_trap c h = or_from (is_rare c) (is_quote c) (built_not_rare c h) (none_of is_built (codes "'\"") refl c h)
 
 pub built_drop : (n : ℕ) (s : List ℕ) → are_built s ≡ true → are_built (drop n s) ≡ true
 unfolding are_built

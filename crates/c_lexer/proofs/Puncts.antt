@@ -4,16 +4,16 @@ use Rattle.std.specs.Prelude.{codes}
 use Rattle.std.specs.List.{list_any, list_all, starts_with}
 use Rattle.std.proofs.lemmas.Bool.{and_parts, or_cases, and_from, or_left, or_right, eqb-true, eq-eqb, cases_Bool, not-true, both_ways, false_from_ne_true, cases_lt}
 use Rattle.std.proofs.lemmas.List.{take-append-drop}
-use Rattle.c_grammar.specs.Grammar.{is_same, is_digit, is_number_head, common_punctuators, punctuators, is_punctuator, is_other, Shape, Whole, Unended, Spells}
+use Rattle.c_grammar.specs.Grammar.{is_same, is_digit, is_number_head, common_punctuators, punctuators, is_punctuator, Shape, Whole, Unended, Spells}
 use Rattle.c_grammar.specs.Touch.{starts, is_front}
 use Rattle.c_lexer.specs.Run.{long, common_long, first_front, IsCut, begins_long, goes_on_long, may_be_long}
 use Rattle.c_chars.specs.declared.Dialect.{Dialect}
 use Rattle.c_chars.specs.declared.Dialect.TheVariants.{C11, C23}
 use Rattle.c_grammar.specs.declared.ItemKind.TheVariants.{Identifier, Number, CharConst, StringLit, Punct, HeaderName, StrayQuote, Other, BlockComment, LineComment}
 use Rattle.c_grammar.proofs.Lists.{in_table, same_is, same_refl}
-use Rattle.c_grammar.proofs.Firsts.{Begins, is_quote, is_mark, is_letter_start}
+use Rattle.c_grammar.proofs.Firsts.{Begins, high_not_mark, is_quote, is_mark, is_letter_start}
 use Rattle.c_grammar.proofs.Classes.{mark_not_letter_start, mark_not_quote, digit_not_mark, mark_is_punctuator}
-use Rattle.c_grammar.proofs.Goes.{BothBegin, both_begin, no_punct_front, mark_no_prefix, one_short}
+use Rattle.c_grammar.proofs.Goes.{BothBegin, both_begin, no_punct_front, mark_no_prefix, other_first}
 
 front_same : (s p : List ℕ) → starts_with nat_eq s p ≡ is_front p s
 front_same s [] = refl
@@ -134,7 +134,7 @@ punct_only d (Whole StringLit) l c more h b n = absurd (mark_no_prefix 34 b.f re
 punct_only d (Whole Punct) l c more h b n = h
 punct_only d (Whole HeaderName) l c more h b n = absurd h
 punct_only d (Whole StrayQuote) l c more h b n = absurd (both_ways (is_quote b.f) (mark_not_quote b.f b.first) b.second)
-punct_only d (Whole Other) l c more h b n = absurd (one_short (is_other d) l b.f b.rest c more b.whole h)
+punct_only d (Whole Other) l c more h b n = absurd (both_ways (is_mark b.f) (high_not_mark b.f (other_first d l b.f b.rest c more b.whole h)) b.first)
 punct_only d (Whole BlockComment) l c more h b n = let w = h.whole in let g : no_punct_front (47 ∷ 42 ∷ (h.body ++ 42 ∷ 47 ∷ [])) ≡ true = subst (λ x. no_punct_front x ≡ true) w n in cc
 punct_only d (Whole LineComment) l c more h b n = let w = h.whole in let g : no_punct_front (47 ∷ 47 ∷ h.body) ≡ true = subst (λ x. no_punct_front x ≡ true) w n in cc
 punct_only d Unended l c more h b n = let w = h.whole in let g : no_punct_front (47 ∷ 42 ∷ h.body) ≡ true = subst (λ x. no_punct_front x ≡ true) w n in cc

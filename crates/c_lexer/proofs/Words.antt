@@ -9,22 +9,22 @@ use Rattle.c_grammar.specs.Touch.{starts, ends}
 use Rattle.c_lexer.specs.Run.{goes, run, begins_number, IsCut}
 use Rattle.c_chars.specs.declared.Dialect.{Dialect}
 use Rattle.c_grammar.specs.declared.ItemKind.TheVariants.{Identifier, Number}
-use Rattle.c_grammar.proofs.Firsts.{is_quote}
+use Rattle.c_grammar.proofs.Firsts.{is_quote, is_rare}
 use Rattle.c_grammar.proofs.Words.{is_wordlike}
 use Rattle.c_grammar.proofs.Classes.{not_of, none_of}
 use Rattle.c_grammar.proofs.Goes.{identifier_goes, number_goes, identifier_goes_on, number_goes_on_at}
 use Rattle.c_grammar.proofs.Singles.{singles, is_word, word_single, letter_single}
 use Rattle.c_lexer.proofs.Runs.{stops, passes}
 
--- what makes more of a word than letters and digits: a universal character name, a literal
+-- what makes more of a word than letters and digits: a universal character name, a character past ASCII, a literal
 abbrev pub is_trap : ℕ → Bool
-is_trap c = c == 92 || is_quote c
+is_trap c = is_rare c || is_quote c
 
 word_stop : (l : List ℕ) (e : ℕ) → is_word e ≡ false → is_trap e ≡ false → identifier_goes l e ≡ false
 unfolding is_wordlike
 word_stop l e w t =
     let ws = or_parts (is_letter e) (is_digit e) w in
-    let ts = or_parts (e == 92) (is_quote e) t in
+    let ts = or_parts (is_rare e) (is_quote e) t in
     let a = ws.0 in let b = ws.1 in let d = ts.0 in let q = ts.1 in
     or_from (is_wordlike e) (is_string_prefix l && is_quote e) (rw (a, b, d) refl) (elim (cases_Bool (is_string_prefix l)) [ inl y ↦ rw (y, q) refl | inr n ↦ rw n refl ])
 
@@ -55,7 +55,7 @@ goes_trap l f e g t x =
     let gs = or_parts (is_letter e || is_digit e || e == 46) (is_sign e && is_exponent f) g in
     let g2 = or_parts (is_letter e || is_digit e) (e == 46) gs.0 in
     let ws = or_parts (is_letter e) (is_digit e) g2.0 in
-    let ts = or_parts (e == 92) (is_quote e) t in
+    let ts = or_parts (is_rare e) (is_quote e) t in
     let qs = or_parts (39 == e) ((34 == e) || false) ts.1 in
     let point : (46 == e) ≡ false = ne_eqb 46 e (λ i. both_ways (e == 46) g2.1 (eq-eqb e 46 (sym i))) in
     let a = ws.0 in let b = ws.1 in let c = ts.0 in let q = qs.0 in

@@ -1,10 +1,9 @@
 -- How far the lexer reads on.
-use Rattle.std.specs.Prelude.{◌==◌, ◌||◌, ◌&&◌, not, ◌+◌, ℕ, Bool, false, List, [], ◌∷◌, if◌then◌else◌, take, drop, length, codes, nat_eq}
+use Rattle.std.specs.Prelude.{◌==◌, ◌||◌, ◌&&◌, ◌+◌, ℕ, Bool, false, List, [], ◌∷◌, if◌then◌else◌, take, drop, length, codes, nat_eq}
 use Rattle.std.specs.List.{starts_with}
 use Rattle.c_grammar.specs.Grammar.{is_of, is_letter, is_digit, is_sign, is_exponent, Shape}
 use Rattle.c_grammar.specs.Items.{IsLongest}
 use Rattle.c_grammar.specs.Touch.{starts}
-use Rattle.c_grammar.specs.Built.{is_built}
 use Rattle.c_chars.specs.declared.Dialect.{Dialect}
 use Rattle.c_chars.specs.declared.Dialect.TheVariants.{C11, C23}
 
@@ -56,11 +55,3 @@ abbrev pub may_be_long : List ℕ → Bool
 may_be_long [] = false
 may_be_long (c ∷ []) = false
 may_be_long (c ∷ e ∷ s) = begins_long c && goes_on_long e
-
--- a comment or a `%:` begins with these two characters
-abbrev pub begins_more : ℕ → ℕ → Bool
-begins_more previous c = (previous == 47 && is_of (codes "/*") c) || (previous == 37 && c == 58)
-
--- In a text that is read so far c may stand behind this character.
-unfoldable pub may_follow : ℕ → ℕ → Bool
-may_follow previous c = is_built c && not (begins_more previous c)

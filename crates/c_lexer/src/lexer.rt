@@ -26,6 +26,7 @@ pub struct Item<'s> {
 }
 
 /// The item that the text begins with, and how many bytes it has.
+#[inline(always)]
 fn item_len(dialect: Dialect, s: &[u8]) -> (ItemKind, usize)
     requires some { 0 < length s.now }
     requires built { IsTrue (are_built s.now) }
@@ -46,6 +47,7 @@ fn item_len(dialect: Dialect, s: &[u8]) -> (ItemKind, usize)
 }
 
 /// Reads the items of a text one after another.
+#[derive(Drop)]
 pub struct Lexer<'s> {
     text: &'s [u8],
     rest: &'s [u8],
@@ -81,6 +83,7 @@ impl<'s> Lexer<'s> {
     }
 
     /// The next item; none exactly where no item is left.
+    #[inline(always)]
     pub fn next_item(&mut self) -> Option<Item<'s>>
         ensures text { self.new.text ≡ self.old.text }
         ensures dialect { self.new.dialect ≡ self.old.dialect }
@@ -102,5 +105,34 @@ impl<'s> Lexer<'s> {
             raw,
             start: start as u32,
         })
+    }
+}
+
+#[cfg(test)]
+mod tests {
+    use super::*;
+    use std::test::Fail;
+
+    /// Where a longer item could begin, a shorter one is not taken.
+    #[test]
+    fn takes_the_longest_item(rt: HostRuntime) -> Result<(), Fail> {
+        let mut lexer = Lexer::new(b"a1 =\t.5e+x--->y;", Dialect::C11);
+        let expected: [(ItemKind, &[u8], u32); 7] = [
+            (ItemKind::Identifier, b"a1", 0),
+            (ItemKind::Punct, b"=", 3),
+            (ItemKind::Number, b".5e+x", 5),
+            (ItemKind::Punct, b"--", 10),
+            (ItemKind::Punct, b"->", 12),
+            (ItemKind::Identifier, b"y", 14),
+            (ItemKind::Punct, b";", 15),
+        ];
+        for (kind, raw, start) in expected {
+            let item = lexer.next_item().ok_or("an item")?;
+            assert_eq!(rt; item.kind, kind);
+            assert_eq!(rt; item.raw, raw);
+            assert_eq!(rt; item.start, start);
+        }
+        assert!(rt; lexer.next_item().is_none());
+        Ok(())
     }
 }

@@ -1,22 +1,17 @@
 //! The punctuators of C11 6.4.6, and `::` of C23.
 
 ghost use Rattle.std.specs.Prelude.{◌≡◌, ◌≤◌, ◌<◌, length, map};
+ghost use Rattle.c_chars.specs.declared.Dialect.TheVariants.{C23};
 ghost use Rattle.c_lexer.specs.Run.{long, first_front, begins_long, goes_on_long, may_be_long};
 
 use c_chars::Dialect;
 
-/// The punctuators of two bytes and more, each before those that it begins with.
-const LONG_C11: [&[u8]; 29] = [
+/// The punctuators of two bytes and more that both dialects have, each before those that it begins
+/// with.
+const LONG: [&[u8]; 29] = [
     b"->", b"==", b"&&", b"++", b"||", b"!=", b"+=", b"<=", b">=", b"--", b"<<=", b"<<", b">>=",
     b">>", b"-=", b"|=", b"&=", b"*=", b"/=", b"%=", b"^=", b"...", b"##", b"<:", b":>", b"<%",
     b"%>", b"%:%:", b"%:",
-];
-
-/// The same of C23.
-const LONG_C23: [&[u8]; 30] = [
-    b"::", b"->", b"==", b"&&", b"++", b"||", b"!=", b"+=", b"<=", b">=", b"--", b"<<=", b"<<",
-    b">>=", b">>", b"-=", b"|=", b"&=", b"*=", b"/=", b"%=", b"^=", b"...", b"##", b"<:", b":>",
-    b"<%", b"%>", b"%:%:", b"%:",
 ];
 
 /// The length of the first entry that begins the text, otherwise 1.
@@ -66,6 +61,7 @@ fn goes_on_long(b: u8) -> bool
     )
 }
 
+#[inline(always)]
 fn may_be_long(s: &[u8]) -> bool
     ensures { result ≡ may_be_long s.now }
 {
@@ -75,10 +71,22 @@ fn may_be_long(s: &[u8]) -> bool
     }
 }
 
+/// The length of the longest punctuator of C23 that the text begins with, otherwise 1.
+fn long_of_c23(s: &[u8]) -> usize
+    ensures { result ≡ first_front (long C23) s.now }
+{
+    if s.starts_with(b"::") {
+        2
+    } else {
+        first_front(&LONG, s)
+    }
+}
+
 /// The length of the longest punctuator that the text begins with, otherwise 1.
 ///
 /// Most punctuators of a text have one byte, so the table is walked only where the first two bytes
 /// allow a longer one.
+#[inline(always)]
 pub(crate) fn punctuator_len(dialect: Dialect, s: &[u8]) -> usize
     ensures { result ≡ first_front (long dialect) s.now }
 {
@@ -86,7 +94,7 @@ pub(crate) fn punctuator_len(dialect: Dialect, s: &[u8]) -> usize
         return 1;
     }
     match dialect {
-        Dialect::C11 => first_front(&LONG_C11, s),
-        Dialect::C23 => first_front(&LONG_C23, s),
+        Dialect::C11 => first_front(&LONG, s),
+        Dialect::C23 => long_of_c23(s),
     }
 }

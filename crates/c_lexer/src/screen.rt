@@ -1,8 +1,8 @@
 //! Which texts can be read so far.
 
-ghost use Rattle.std.specs.Prelude.{◌≡◌, ◌&&◌, ◌+◌, ◌<◌, length, take, IsTrue, IsFalse, MatchOption};
+ghost use Rattle.std.specs.Prelude.{◌≡◌, IsTrue, MatchOption};
 ghost use Rattle.c_grammar.specs.Built.{is_built, are_built};
-ghost use Rattle.c_lexer.specs.Run.{begins_more, may_follow};
+ghost use Rattle.c_lexer.specs.Screen.{built_before, is_built_first, IsFirstNotBuilt};
 
 /// Whether the lexer reads texts with this byte.
 #[tactic(auto, unfolding(c_grammar::specs::Built::is_built, c_grammar::specs::Grammar::is_letter, c_grammar::specs::Grammar::is_digit))]
@@ -17,36 +17,42 @@ fn is_built(b: u8) -> bool
     )
 }
 
-/// Whether a comment or a `%:` begins with these two bytes.
-fn begins_more(previous: u8, b: u8) -> bool
-    ensures { result ≡ begins_more previous b }
+/// Whether a byte is built where this one follows: no comment and no `%:` begins with it.
+#[inline(always)]
+#[tactic(auto, unfolding(crate::specs::Screen::built_before, c_grammar::specs::Built::is_built, c_grammar::specs::Grammar::is_letter, c_grammar::specs::Grammar::is_digit))]
+fn built_before(b: u8, next: u8) -> bool
+    ensures { result ≡ built_before b next }
 {
-    (previous == b'/' && matches!(b, b'/' | b'*')) || (previous == b'%' && b == b':')
+    match b {
+        b'/' => !matches!(next, b'/' | b'*'),
+        b'%' => next != b':',
+        _ => is_built(b),
+    }
 }
 
-/// Whether the lexer reads texts with this byte behind that one.
-#[tactic(auto, unfolding(crate::specs::Run::may_follow))]
-fn may_follow(previous: u8, b: u8) -> bool
-    ensures { result ≡ may_follow previous b }
+/// Whether the first byte is built.
+#[inline(always)]
+fn is_built_first(s: &[u8]) -> bool
+    ensures { result ≡ is_built_first s.now }
 {
-    is_built(b) && !begins_more(previous, b)
+    match s {
+        [b, next, ..] => built_before(*b, *next),
+        [b] => is_built(*b),
+        [] => true,
+    }
 }
 
-/// The offset of the first byte at which the text is one that the lexer doesn't read yet; none where
-/// it reads the text.
+/// The offset of the first byte that isn't built; none where the lexer reads the text.
 ///
-/// Behind a `/` these are a second `/` and a `*`, behind a `%` a `:`.
+/// A byte is built where it is a letter, a digit, `_`, a blank, a tab, a new-line or one of
+/// `[ ] ( ) { } . - + & * ~ ! / % < > = ^ | : ; ,`, but for a `/` before `/` or `*` and a `%` before `:`.
 pub fn first_not_built(text: &[u8]) -> Option<usize>
-    ensures { MatchOption result
-        (IsTrue (are_built text.now))
-        (λ at. (at < length text.now) × IsTrue (are_built (take at text.now)) × IsFalse (are_built (take (at + 1) text.now))) }
+    ensures { MatchOption result (IsTrue (are_built text.now)) (IsFirstNotBuilt text.now) }
 {
-    let mut previous = b' ';
-    for (at, b) in text.iter().enumerate() {
-        if !may_follow(previous, *b) {
+    for at in 0..text.len() {
+        if !is_built_first(&text[at..]) {
             return Some(at);
         }
-        previous = *b;
     }
     None
 }

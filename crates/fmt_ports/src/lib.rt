@@ -7,11 +7,16 @@
 //! or writer inside tells.
 #![tactic(auto)]
 
+mod files;
 mod memory;
+mod memory_files;
+mod name;
 mod plan;
 mod real;
+mod real_files;
 #[cfg(test)]
 mod tests;
+mod text;
 mod whole;
 
 ghost use Rattle.std.specs.Prelude.{◌≤◌, ◌<◌, ℕ, List, Option, length, IfOk};
@@ -19,8 +24,13 @@ ghost use Rattle.std.specs.Io.{ReadsAtMost, WritesAtMost};
 ghost use Rattle.std.specs.Io.KnownBytes.{ReadConsumes, WriteAppends};
 ghost use Rattle.fmt_ports.specs.Causes.{Counts};
 
+pub use files::{FileFault, Files};
 pub use memory::{MemSink, MemSource};
+pub use memory_files::MemFiles;
+pub use name::Name;
 pub use real::{RealIn, RealOut};
+pub use real_files::RealFiles;
+pub use text::TextSink;
 use thiserror::Error;
 pub use whole::{BUFFER, InFault, read_all, write_all};
 

@@ -94,6 +94,7 @@ pub fn read_all<S: Source>(alloc: Global, source: &mut S, limit: u64) -> Result<
 }
 
 /// Appends all the bytes. After `Failed` a front part of them was appended. It takes no memory.
+#[inline(always)]
 pub fn write_all<K: Sink>(sink: &mut K, bytes: &[u8]) -> Result<(), Failed>
     ensures ok { IfOk result (λ _. Appends (K.taken sink.old) (K.taken sink.new) bytes.now) }
     ensures part { AppendsPart (K.taken sink.old) (K.taken sink.new) bytes.now }

@@ -3,9 +3,12 @@
 //! These are the types that the tables of spaces, breaks and joined lines look at. They hold no text.
 #![tactic(auto)]
 
+mod no_memory;
 mod role;
+mod role_sets;
 
 pub use c_grammar::ItemKind;
+pub use no_memory::NoMemory;
 pub use role::Role;
 
 /// An item of a file, counted from 0 in the order of the file.

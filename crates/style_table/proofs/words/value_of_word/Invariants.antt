@@ -1,8 +1,0 @@
-use Rattle.std.proofs.Common.{◌≡◌, map, drop}
-use Rattle.style_table.specs.Words.{value_of_word}
-use Rattle.style_table.proofs.words.value_of_word.Given as goal
-
-abbrev pub invariant-loop-word : goal.invariant-loop-word
-invariant-loop-word g l =
-    value_of_word (map (λ row. (row.0.now, row.1)) (drop l.word-index l.rows)) l.text
-    ≡ value_of_word (map (λ row. (row.0.now, row.1)) l.fn.rows) l.text

@@ -1,4 +1,0 @@
-pub mod Range
-pub mod Words
-pub mod Keys
-pub mod Values

@@ -1,9 +1,0 @@
--- The text of a value.
-use Rattle.std.specs.Prelude.{ℕ, List, decimal}
-use Rattle.style_table.specs.declared.value.Value.{Value}
-use Rattle.style_table.specs.declared.value.Value.TheVariants.{Number, Word}
-
--- how a value is written
-abbrev pub text_of : Value → List ℕ
-text_of (Number number) = decimal number
-text_of (Word word) = word.now
