@@ -1,0 +1,164 @@
+-- Entries as they are made, item by item: what they keep so far, and what one more adds.
+use Rattle.std.proofs.Common.{◌≡◌, ◌==◌, ◌∙◌, ℕ, suc, ◌+◌, ◌≤◌, Bool, true, false, List, [], ◌∷◌, ◌++◌, length, take, drop, refl, sym, ap, subst, arith}
+use Rattle.std.proofs.lemmas.Bool.{ne_eqb}
+use Rattle.std.proofs.lemmas.List.{length-map, map-append}
+use Rattle.std.proofs.lemmas.List.Elements.{All-append}
+use Rattle.c_chars.specs.Characters.{placed, logical, mark_len, bytes_of}
+use Rattle.c_chars.specs.declared.Dialect.{Dialect}
+use Rattle.c_chars.specs.declared.TheConstants.{LIMIT}
+use Rattle.c_grammar.specs.Built.{are_built}
+use Rattle.c_grammar.specs.Items.{LineStart, is_gap}
+use Rattle.c_grammar.specs.Text.{ReadItem, Left, IsStep, IsReadUpTo, start_of, end_of, raw_of}
+use Rattle.c_grammar.proofs.Reading.{begun, stepped, ended}
+use Rattle.c_lexer.proofs.BuiltChars.{built_characters, no_mark_len}
+use Rattle.token_arena.specs.Stored.{Stored, stored_of, stored_from, stored_items, line_at}
+use Rattle.token_arena.specs.Gaps.{Stands, StandFrom, behind}
+use Rattle.token_arena.specs.Entries.{kept_by, kept_by_all, AllWithin, AreEntries}
+use Rattle.token_arena.specs.declared.arena.Entry.{Entry}
+use Rattle.token_arena.proofs.StepLemmas.{IsPlacedStep}
+
+-- an item that is the first where none was read
+abbrev pub first_of : Bool → List ReadItem → Bool
+first_of is_first [] = is_first
+first_of is_first (item ∷ items) = false
+
+-- where the gap behind these items begins
+abbrev pub items_end : ℕ → List ReadItem → ℕ
+items_end from [] = from
+items_end from (item ∷ items) = items_end (end_of item) items
+
+pub stored_from-push : (text : List ℕ) (is_first : Bool) (from : ℕ) (items : List ReadItem) (item : ReadItem)
+    → stored_from text is_first from (items ++ item ∷ []) ≡ stored_from text is_first from items ++ stored_of text (first_of is_first items) (items_end from items) item ∷ []
+stored_from-push text is_first from [] item = refl
+stored_from-push text is_first from (i ∷ items) item =
+    let rest = stored_from-push text false (end_of i) items item in
+    let same : first_of false items ≡ false = never items in
+    ap (λ s. stored_of text is_first from i ∷ s) (subst (λ b. stored_from text false (end_of i) (items ++ item ∷ []) ≡ stored_from text false (end_of i) items ++ stored_of text b (items_end (end_of i) items) item ∷ []) same rest)
+  where
+    never : (items : List ReadItem) → first_of false items ≡ false
+    never [] = refl
+    never (i ∷ items) = refl
+
+pub items_end-push : (from : ℕ) (items : List ReadItem) (item : ReadItem) → items_end from (items ++ item ∷ []) ≡ end_of item
+items_end-push from [] item = refl
+items_end-push from (i ∷ items) item = items_end-push (end_of i) items item
+
+pub length-stored_from : (text : List ℕ) (is_first : Bool) (from : ℕ) (items : List ReadItem) → length (stored_from text is_first from items) ≡ length items
+length-stored_from text is_first from [] = refl
+length-stored_from text is_first from (i ∷ items) = ap (λ n. suc n) (length-stored_from text false (end_of i) items)
+
+-- where items end that stand in order
+abbrev pub end_from : ℕ → List Stored → ℕ
+end_from at [] = at
+end_from at (token ∷ tokens) = end_from (behind token) tokens
+
+pub StandFrom-push : (text : List ℕ) (at : ℕ) (tokens : List Stored) (x : Stored) → StandFrom text at tokens → Stands text (end_from at tokens) x → StandFrom text at (tokens ++ x ∷ [])
+StandFrom-push text at [] x stand more = (more, more.within)
+StandFrom-push text at (token ∷ tokens) x stand more = (stand.0, StandFrom-push text (behind token) tokens x stand.1 more)
+
+pub end_from-push : (at : ℕ) (tokens : List Stored) (x : Stored) → end_from at (tokens ++ x ∷ []) ≡ behind x
+end_from-push at [] x = refl
+end_from-push at (token ∷ tokens) x = end_from-push (behind token) tokens x
+
+-- No entry is kept exactly where no item was read.
+pub first_is : (items : List ReadItem) (n : ℕ) → length items ≡ n → first_of true items ≡ (n == 0)
+first_is [] n h = rw (← h) refl
+first_is (item ∷ items) n h = rw (← h) (sym (ne_eqb (length (item ∷ items)) 0 (λ e. absurd (omega arith))))
+
+-- Items have been read up to an offset of their text, and these entries keep them.
+pub record IsKeptUpTo (d : Dialect) (text : List ℕ) (left : Left) (entries : List Entry) (at line : ℕ) : Type 0 where
+  pub items : List ReadItem
+  pub read : IsReadUpTo d text items left
+  pub rest : left.chars ≡ placed at (drop at text)
+  pub reached : at ≤ length text
+  pub line_is : line ≡ line_at text at
+  pub kept : kept_by_all text entries ≡ stored_items text items
+  pub items_stop : items_end (mark_len text) items ≡ at
+  pub stand : StandFrom text (mark_len text) (kept_by_all text entries)
+  pub stop : end_from (mark_len text) (kept_by_all text entries) ≡ at
+  pub within : AllWithin text entries
+
+pub kept_begun : (d : Dialect) (text : List ℕ) → are_built text ≡ true → IsKeptUpTo d text (record { place = LineStart; chars = logical d text }) [] 0 1
+kept_begun d text built =
+    let no_mark : mark_len text ≡ 0 = no_mark_len text built in
+    record {
+      items = [];
+      read = begun d text;
+      rest = built_characters d text built;
+      reached = omega arith;
+      line_is = refl;
+      kept = refl;
+      items_stop = no_mark;
+      stand = omega (arith, no_mark);
+      stop = no_mark;
+      within = λ k d below. absurd (omega arith);
+    }
+
+pub kept_step : (d : Dialect) (text : List ℕ) (old new : Left) (entries : List Entry) (entry : Entry) (at line at2 line2 : ℕ) (read : ReadItem)
+    → (before : IsKeptUpTo d text old entries at line)
+    → IsStep d old new read
+    → IsPlacedStep text at new read (length read.gap) (length read.chars)
+    → kept_by text entry ≡ stored_of text (length entries == 0) at read
+    → entry.start + entry.len ≤ length text
+    → at2 ≡ end_of read
+    → line2 ≡ line_at text at2
+    → IsKeptUpTo d text new (entries ++ entry ∷ []) at2 line2
+kept_step d text old new entries entry at line at2 line2 read before step placed_at told room at2_is line2_is =
+    let mark : ℕ = mark_len text in
+    let tokens : List Stored = kept_by_all text entries in
+    let pushed : kept_by_all text (entries ++ entry ∷ []) ≡ tokens ++ kept_by text entry ∷ [] = map-append (kept_by text) entries (entry ∷ []) in
+    let count : length before.items ≡ length entries =
+    sym (length-stored_from text true mark before.items) ∙ (sym (ap length before.kept) ∙ length-map entries (kept_by text)) in
+    let first : first_of true before.items ≡ (length entries == 0) = first_is before.items (length entries) count in
+    let more : stored_items text (before.items ++ read ∷ []) ≡ stored_items text before.items ++ stored_of text (first_of true before.items) (items_end mark before.items) read ∷ [] =
+    stored_from-push text true mark before.items read in
+    let same : stored_of text (first_of true before.items) (items_end mark before.items) read ≡ kept_by text entry =
+    ap (λ b. stored_of text b (items_end mark before.items) read) first ∙ (ap (λ k. stored_of text (length entries == 0) k read) before.items_stop ∙ sym told) in
+    let kept : kept_by_all text (entries ++ entry ∷ []) ≡ stored_items text (before.items ++ read ∷ []) =
+    pushed ∙ (ap (λ s. s ++ kept_by text entry ∷ []) before.kept ∙ (ap (λ x. stored_items text before.items ++ x ∷ []) (sym same) ∙ sym more)) in
+    let raw_len : length (raw_of text read) ≡ length read.chars = ap length placed_at.raw_is ∙ placed_at.chars_fit in
+    let starts : (kept_by text entry).start ≡ start_of read = ap (λ (t : Stored). t.start) told in
+    let raws : (kept_by text entry).raw ≡ raw_of text read = ap (λ (t : Stored). t.raw) told in
+    let raws_len : length (kept_by text entry).raw ≡ length read.chars = ap length raws ∙ raw_len in
+    let raws_are : (kept_by text entry).raw ≡ take (length (kept_by text entry).raw) (drop (kept_by text entry).start text) =
+    raws ∙ (placed_at.raw_is ∙ (ap (λ k. take (length read.chars) (drop k text)) (sym placed_at.start_is) ∙ (ap (λ k. take (length read.chars) (drop k text)) (sym starts) ∙ ap (λ k. take k (drop (kept_by text entry).start text)) (sym raws_len)))) in
+    let start : (kept_by text entry).start ≡ at + length read.gap = starts ∙ placed_at.start_is in
+    let stands : Stands text at (kept_by text entry) = record {
+      later = omega (arith, start);
+      within = omega (arith, start, raws_len, placed_at.within);
+      bytes = raws_are;
+      some = omega (arith, raws_len, placed_at.some);
+    } in
+    let stops : behind (kept_by text entry) ≡ at2 = omega (arith, start, raws_len, placed_at.end_is, at2_is) in
+    let at2_so : at2 ≡ (at + length read.gap) + length read.chars = at2_is ∙ placed_at.end_is in
+    let rest : new.chars ≡ placed at2 (drop at2 text) = placed_at.rest ∙ ap (λ k. placed k (drop k text)) (sym at2_so) in
+    let stand : StandFrom text mark (tokens ++ kept_by text entry ∷ []) =
+    StandFrom-push text mark tokens (kept_by text entry) before.stand (subst (λ k. Stands text k (kept_by text entry)) (sym before.stop) stands) in
+    record {
+      items = before.items ++ read ∷ [];
+      read = stepped d text before.items old new read before.read step;
+      rest = rest;
+      reached = omega (arith, at2_so, placed_at.within);
+      line_is = line2_is;
+      kept = kept;
+      items_stop = items_end-push mark before.items read ∙ sym at2_is;
+      stand = subst (StandFrom text mark) (sym pushed) stand;
+      stop = ap (end_from mark) pushed ∙ (end_from-push mark tokens (kept_by text entry) ∙ stops);
+      within = All-append (λ (e : Entry). e.start + e.len ≤ length text) entries (entry ∷ []) before.within (λ k other below. let first : k ≡ 0 = omega arith in rw first room);
+    }
+
+pub kept_ended : (d : Dialect) (text : List ℕ) (left : Left) (entries : List Entry) (at line : ℕ) → length text ≤ LIMIT → IsKeptUpTo d text left entries at line
+    → is_gap (bytes_of left.chars) ≡ true → AreEntries text d entries
+kept_ended d text left entries at line fits all gap = record {
+  within = all.within;
+  sound = record {
+    stand = all.stand;
+    fits = fits;
+    holds = record {
+      items = all.items;
+      last = left.chars;
+      lexes = ended d text all.items left all.read gap;
+      tokens = all.kept;
+    };
+  };
+}

@@ -1,0 +1,44 @@
+-- Where the first row of an item ends, and where its last row begins.
+use Rattle.std.proofs.Common.{◌≡◌, ◌==◌, ◌∙◌, ℕ, zero, suc, ◌+◌, ◌-◌, ◌<◌, ◌≤◌, not, Bool, true, false, List, [], ◌∷◌, length, get_or, refl, sym, ap, arith, eq-eqb, count_by, if◌then◌else◌}
+use Rattle.std.specs.List.{position_or_len, suffix_len}
+use Rattle.std.proofs.lemmas.List.Sums.{position_or_len_is, suffix_len_is, sum_by-cons}
+use Rattle.token_arena.specs.Stored.{is_line_feed, first_row, last_row}
+
+pub first_row_ends : (raw : List ℕ) (i : ℕ) → i ≤ length raw → ((k : ℕ) → k < i → is_line_feed (get_or raw k 0) ≡ false)
+    → (i < length raw → get_or raw i 0 ≡ 10) → i ≡ position_or_len is_line_feed raw
+first_row_ends raw i within before here =
+    sym (position_or_len_is is_line_feed raw i 0 within before (λ below. eq-eqb (get_or raw i 0) 10 (here below)))
+
+pub last_row_starts : (raw : List ℕ) (n : ℕ) → n ≤ length raw → ((k : ℕ) → n ≤ k → k < length raw → is_line_feed (get_or raw k 0) ≡ false)
+    → (0 < n → get_or raw (n - 1) 0 ≡ 10) → n ≡ length raw - suffix_len (λ b. not (is_line_feed b)) raw
+last_row_starts raw n within behind before =
+    let e : suffix_len (λ b. not (is_line_feed b)) raw ≡ length raw - n =
+    suffix_len_is (λ b. not (is_line_feed b)) raw n 0 within (λ k later below. ap not (behind k later below)) (λ some. ap not (eq-eqb (get_or raw (n - 1) 0) 10 (before some))) in
+    rw e (omega arith)
+
+counted_none : (b : ℕ) (raw : List ℕ) → count_by is_line_feed (b ∷ raw) ≡ 0 → (is_line_feed b ≡ false) × (count_by is_line_feed raw ≡ 0)
+counted_none b raw none =
+    let sum : (if is_line_feed b then 1 else 0) + count_by is_line_feed raw ≡ 0 = sym (sum_by-cons (λ (c : ℕ). if is_line_feed c then 1 else 0) b raw) ∙ none in
+    (is_not (is_line_feed b) (omega (arith, sum)), omega (arith, sum))
+  where
+    is_not : (t : Bool) → ◌≡◌ {A = ℕ} (if t then 1 else 0) 0 → t ≡ false
+    is_not true h = absurd (omega arith)
+    is_not false h = refl
+
+-- where no new-line is counted, no byte is one
+no_feed : (raw : List ℕ) → count_by is_line_feed raw ≡ 0 → (k : ℕ) → k < length raw → is_line_feed (get_or raw k 0) ≡ false
+no_feed [] none k below = absurd (omega arith)
+no_feed (b ∷ raw) none zero below = (counted_none b raw none).0
+no_feed (b ∷ raw) none (suc k) below = no_feed raw (counted_none b raw none).1 k (omega arith)
+
+-- an item without a new-line is its own first row, and its own last row
+pub first_row-one : (raw : List ℕ) → count_by is_line_feed raw ≡ 0 → first_row raw ≡ raw
+first_row-one raw none =
+    let ends : length raw ≡ position_or_len is_line_feed raw = first_row_ends raw (length raw) (omega arith) (no_feed raw none) (λ below. absurd (omega arith)) in
+    let test : (position_or_len is_line_feed raw == length raw) ≡ true = eq-eqb (position_or_len is_line_feed raw) (length raw) (sym ends) in
+    rw test refl
+
+pub last_row-one : (raw : List ℕ) → count_by is_line_feed raw ≡ 0 → last_row raw ≡ raw
+last_row-one raw none =
+    let starts : 0 ≡ length raw - suffix_len (λ b. not (is_line_feed b)) raw = last_row_starts raw 0 (omega arith) (λ k later below. no_feed raw none k below) (λ some. absurd (omega arith)) in
+    rw (← starts) refl

@@ -1,0 +1,53 @@
+-- How the items lie in memory.
+use Rattle.std.specs.Prelude.{◌≤◌, ◌+◌, ℕ, List, All, length, take, drop, map}
+use Rattle.token_arena.specs.Gaps.{Contents}
+use Rattle.token_arena.specs.Holds.{IsSound}
+use Rattle.c_chars.specs.declared.Dialect.{Dialect}
+use Rattle.token_arena.specs.Stored.{Stored}
+use Rattle.token_arena.specs.declared.arena.Entry.{Entry}
+use Rattle.token_arena.specs.declared.arena.Token.{Token}
+
+-- what an entry says of an item of this text
+abbrev pub kept_by : List ℕ → Entry → Stored
+kept_by text entry = record {
+  kind = entry.kind;
+  start = entry.start;
+  raw = take entry.len (drop entry.start text);
+  gap = entry.gap;
+  line = entry.line;
+  rows = entry.rows;
+  first_width = entry.first_width;
+  last_width = entry.last_width;
+  back = entry.back;
+}
+
+-- what the entries say of their items
+abbrev pub kept_by_all : List ℕ → List Entry → List Stored
+kept_by_all text entries = map (kept_by text) entries
+
+-- what a token says of its item
+abbrev pub told_by : Token → Stored
+told_by token = record {
+  kind = token.item.kind;
+  start = token.item.start;
+  raw = token.item.raw.now;
+  gap = token.gap;
+  line = token.line;
+  rows = token.rows;
+  first_width = token.first_width;
+  last_width = token.last_width;
+  back = token.back;
+}
+
+-- each entry's bytes are bytes of this text
+abbrev pub AllWithin : List ℕ → List Entry → Type 0
+AllWithin text entries = All (λ entry. entry.start + entry.len ≤ length text) entries
+
+-- a text, its dialect and what these entries keep of it
+abbrev pub contents_of : List ℕ → Dialect → List Entry → Contents
+contents_of text dialect entries = record { text = text; dialect = dialect; tokens = kept_by_all text entries }
+
+-- these entries are an arena of this text
+pub record AreEntries (text : List ℕ) (dialect : Dialect) (entries : List Entry) : Type 0 where
+  pub within : AllWithin text entries
+  pub sound : IsSound (contents_of text dialect entries)

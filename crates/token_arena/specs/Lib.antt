@@ -1,0 +1,6 @@
+pub mod Stored
+pub mod Gaps
+pub mod Holds
+pub mod Entries
+pub mod BuiltFacts
+pub mod Building

@@ -1,0 +1,170 @@
+//! The store of items, and what it answers.
+
+ghost use Rattle.std.specs.Prelude.{◌≡◌, ◌==◌, ◌<◌, ◌≤◌, length, drop, Some, slice_get, if◌then◌else◌};
+ghost use Rattle.c_chars.specs.Characters.{mark_len};
+ghost use Rattle.c_chars.specs.declared.TheConstants.{LIMIT};
+ghost use Rattle.token_arena.specs.Gaps.{gap_of, gap_start, gap_end, joined};
+ghost use Rattle.token_arena.specs.Holds.{HoldsItems};
+ghost use Rattle.token_arena.specs.Entries.{told_by, AreEntries, contents_of};
+
+use c_lexer::{Dialect, Item, ItemKind};
+use line_tokens::{GapFacts, TokenId};
+use std::marker::Model;
+
+/// The bytes of a byte order mark.
+const MARK: [u8; 3] = [0xEF, 0xBB, 0xBF];
+
+/// An item of a text, with what stands before it and what it takes.
+#[derive(Clone, Copy, Debug)]
+pub struct Token<'s> {
+    /// Its kind, its bytes and the offset of the first of them.
+    pub item: Item<'s>,
+    /// The gap before it.
+    pub gap: GapFacts,
+    /// The physical line on which it begins, from 1.
+    pub line: u32,
+    /// How many physical lines it has, from 1.
+    pub rows: u32,
+    /// The width of its first row, in columns.
+    pub first_width: u32,
+    /// The width of its last row, in columns.
+    pub last_width: u32,
+    /// Its last character is a backslash.
+    pub back: bool,
+}
+
+/// An item as it lies in memory; its bytes are those of the text from `start` on.
+#[derive(Clone, Copy)]
+pub(crate) struct Entry {
+    pub start: u32,
+    pub len: u32,
+    pub gap: GapFacts,
+    pub line: u32,
+    pub rows: u32,
+    pub first_width: u32,
+    pub last_width: u32,
+    pub kind: ItemKind,
+    pub back: bool,
+}
+
+const _: () = prove!(size_of::<Entry>() <= 48);
+
+/// The items of a text in its order. A contract sees the text, its dialect and what is kept of each item.
+#[derive(Drop)]
+pub struct TokenArena<'a, 's> {
+    text: &'s [u8],
+    dialect: Dialect,
+    entries: &'a [Entry],
+}
+
+impl<'a, 's> Model for TokenArena<'a, 's> {
+    ghost use Rattle.token_arena.specs.Gaps.{Contents};
+    ghost use Rattle.token_arena.specs.Entries.{AreEntries, contents_of};
+
+    ghost Value = { Contents };
+
+    ghost view = { λ a. contents_of a.text.now a.dialect a.entries.now };
+
+    ghost invariant = { λ a. AreEntries a.text.now a.dialect a.entries.now };
+}
+
+impl<'a, 's> TokenArena<'a, 's> {
+    /// An arena of these entries of a text.
+    pub(crate) fn of(text: &'s [u8], dialect: Dialect, entries: &'a [Entry]) -> TokenArena<'a, 's>
+        requires { AreEntries text.now dialect entries.now }
+        ensures { result ≡ contents_of text.now dialect entries.now }
+    {
+        TokenArena {
+            text,
+            dialect,
+            entries,
+        }
+    }
+
+    /// How many items there are.
+    pub fn len(&self) -> u32
+        ensures count { result ≡ length self.now.tokens }
+        ensures most { result ≤ LIMIT }
+        ensures whole { joined self.now ≡ drop (mark_len self.now.text) self.now.text }
+        ensures holds { HoldsItems self.now }
+    {
+        self.entries.len() as u32
+    }
+
+    /// There is no item: the text has at most a mark and white space.
+    pub fn is_empty(&self) -> bool
+        ensures { result ≡ (length self.now.tokens == 0) }
+    {
+        self.entries.is_empty()
+    }
+
+    /// The item with this number.
+    pub fn get(&self, id: TokenId) -> Token<'s>
+        requires { id.0 < length self.now.tokens }
+        ensures { slice_get self.now.tokens id.0 ≡ Some (told_by result) }
+    {
+        let entry = self.entries[id.0 as usize];
+        let from = entry.start as usize;
+        let to = from + entry.len as usize;
+        Token {
+            item: Item {
+                kind: entry.kind,
+                raw: &self.text[from..to],
+                start: entry.start,
+            },
+            gap: entry.gap,
+            line: entry.line,
+            rows: entry.rows,
+            first_width: entry.first_width,
+            last_width: entry.last_width,
+            back: entry.back,
+        }
+    }
+
+    /// The bytes before the item with this number, or after the last item. The mark is in no gap.
+    pub fn gap(&self, place: u32) -> &'s [u8]
+        requires { place ≤ length self.now.tokens }
+        ensures { result.now ≡ gap_of self.now place }
+    {
+        let from = self.gap_start(place);
+        let to = self.gap_end(place);
+        &self.text[from..to]
+    }
+
+    /// Whether the text begins with a byte order mark.
+    pub fn mark(&self) -> bool
+        ensures { mark_len self.now.text ≡ (if result then 3 else 0) }
+    {
+        self.text.starts_with(&MARK)
+    }
+
+    /// The dialect that the text was read in.
+    pub fn dialect(&self) -> Dialect
+        ensures { result ≡ self.now.dialect }
+    {
+        self.dialect
+    }
+
+    // Where the gap at a place begins.
+    fn gap_start(&self, place: u32) -> usize
+        requires { place ≤ length self.now.tokens }
+        ensures { result ≡ gap_start (mark_len self.now.text) self.now.tokens place }
+    {
+        if place == 0 {
+            return if self.mark() { MARK.len() } else { 0 };
+        }
+        let before = self.entries[place as usize - 1];
+        before.start as usize + before.len as usize
+    }
+
+    // Where the gap at a place ends.
+    fn gap_end(&self, place: u32) -> usize
+        requires { place ≤ length self.now.tokens }
+        ensures { result ≡ gap_end (length self.now.text) self.now.tokens place }
+    {
+        if place as usize == self.entries.len() {
+            return self.text.len();
+        }
+        self.entries[place as usize].start as usize
+    }
+}

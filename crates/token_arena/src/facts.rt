@@ -1,0 +1,154 @@
+//! What is kept of an item, from its bytes and those of the gap before it.
+
+ghost use Rattle.std.specs.Prelude.{◌≡◌, ◌<◌, ◌+◌, ◌-◌, ◌^◌, not, length, count_by};
+ghost use Rattle.std.specs.List.{position_or_len, suffix_len};
+ghost use Rattle.std.specs.Io.BufRead.{strip_last};
+ghost use Rattle.token_arena.specs.Stored.{is_line_feed, rows_of, first_row, last_row, width_of};
+ghost use Rattle.token_arena.specs.BuiltFacts.{built_gap, ends_in_back, built_entry};
+
+use crate::arena::Entry;
+use c_lexer::Item;
+use line_tokens::GapFacts;
+
+/// How many new-lines there are among these bytes.
+pub(crate) fn line_feeds(bytes: &[u8]) -> u32
+    requires { length bytes.now < 2 ^ 32 }
+    ensures { result ≡ count_by is_line_feed bytes.now }
+{
+    bytes.iter().filter(|b| **b == b'\n').count() as u32
+}
+
+/// What a gap of these bytes is.
+fn gap_facts(gap: &[u8], is_first: bool) -> GapFacts
+    requires { length gap.now < 2 ^ 32 }
+    ensures { result ≡ built_gap is_first gap.now }
+{
+    let lines = line_feeds(gap);
+    GapFacts {
+        lines,
+        empty: gap.is_empty(),
+        white: !gap.is_empty(),
+        splice: false,
+        began: is_first || lines > 0,
+    }
+}
+
+/// A row without the carriage return at its end.
+fn without_return(row: &[u8]) -> &[u8]
+    ensures { result.now ≡ strip_last 13 row.now }
+{
+    match row {
+        [rest @ .., b'\r'] => rest,
+        _ => row,
+    }
+}
+
+/// Where the first row ends: at the first new-line, or where there is none.
+fn first_row_end(raw: &[u8]) -> usize
+    ensures { result ≡ position_or_len is_line_feed raw.now }
+{
+    for (i, b) in raw.iter().enumerate() {
+        if *b == b'\n' {
+            return i;
+        }
+    }
+    raw.len()
+}
+
+/// Where the last row begins: behind the last new-line.
+fn last_row_start(raw: &[u8]) -> usize
+    ensures { result ≡ length raw.now - suffix_len (λ b. not (is_line_feed b)) raw.now }
+{
+    let mut start = raw.len();
+    while start > 0 && raw[start - 1] != b'\n' {
+        start -= 1;
+    }
+    start
+}
+
+/// The first row of an item, without its line end.
+fn first_row(raw: &[u8]) -> &[u8]
+    ensures { result.now ≡ first_row raw.now }
+{
+    let end = first_row_end(raw);
+    if end == raw.len() {
+        return raw;
+    }
+    without_return(&raw[..end])
+}
+
+/// The last row of an item.
+fn last_row(raw: &[u8]) -> &[u8]
+    ensures { result.now ≡ last_row raw.now }
+{
+    &raw[last_row_start(raw)..]
+}
+
+/// How many columns a row takes.
+fn width(row: &[u8]) -> u32
+    requires { length row.now < 2 ^ 32 }
+    ensures { result ≡ width_of row.now }
+{
+    row.len() as u32
+}
+
+/// How many rows an item has, and the widths of the first and of the last, in columns.
+#[derive(Clone, Copy)]
+struct Rows {
+    count: u32,
+    first_width: u32,
+    last_width: u32,
+}
+
+/// The rows of an item. Most items have one, whose width is then measured once.
+fn rows_of(raw: &[u8]) -> Rows
+    requires { length raw.now < 2 ^ 31 }
+    ensures count { result.count ≡ rows_of raw.now }
+    ensures first { result.first_width ≡ width_of (first_row raw.now) }
+    ensures last { result.last_width ≡ width_of (last_row raw.now) }
+{
+    let feeds = line_feeds(raw);
+    if feeds == 0 {
+        let width = width(raw);
+        return Rows {
+            count: 1,
+            first_width: width,
+            last_width: width,
+        };
+    }
+    Rows {
+        count: feeds + 1,
+        first_width: width(first_row(raw)),
+        last_width: width(last_row(raw)),
+    }
+}
+
+/// Whether a backslash ends an item.
+fn ends_in_back(raw: &[u8]) -> bool
+    requires { 0 < length raw.now }
+    ensures { result ≡ ends_in_back raw.now }
+{
+    raw[raw.len() - 1] == b'\\'
+}
+
+/// The entry of an item behind this gap, which begins on this line.
+pub(crate) fn entry_of(item: &Item<'_>, is_first: bool, gap: &[u8], line: u32) -> Entry
+    requires some { 0 < length item.now.raw.now }
+    requires fits { length item.now.raw.now < 2 ^ 31 }
+    requires room { line + length gap.now < 2 ^ 32 }
+    ensures { result ≡ built_entry item.now.kind item.now.start item.now.raw.now is_first gap.now line }
+{
+    let gap = gap_facts(gap, is_first);
+    let rows = rows_of(item.raw);
+    Entry {
+        start: item.start,
+        len: item.raw.len() as u32,
+        gap,
+        line: line + gap.lines,
+        rows: rows.count,
+        first_width: rows.first_width,
+        last_width: rows.last_width,
+        kind: item.kind,
+        back: ends_in_back(item.raw),
+    }
+}

@@ -1,0 +1,17 @@
+//! The items of a text, each once and in order, with what stands between them.
+//!
+//! [`build`] reads a text into an arena. From then on every layer asks the arena: an item is named by
+//! its [`TokenId`], its bytes are borrowed from the text and never copied, and the gaps and the items
+//! joined are the text. Nothing here changes after `build`.
+#![tactic(auto)]
+
+mod arena;
+mod facts;
+mod fault;
+mod reading;
+
+pub use arena::{Token, TokenArena};
+pub use c_lexer::{Dialect, Item, ItemKind, LIMIT};
+pub use fault::ArenaFault;
+pub use line_tokens::{GapFacts, TokenId};
+pub use reading::build;
