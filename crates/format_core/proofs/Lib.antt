@@ -1,0 +1,4 @@
+pub mod PlainGaps
+pub mod PlainTwin
+pub mod Braces
+pub mod PlainSteps

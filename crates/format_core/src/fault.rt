@@ -1,0 +1,44 @@
+//! Why a text isn't formatted.
+
+ghost use Rattle.std.specs.Prelude.{◌≡◌};
+ghost use Rattle.format_core.specs.Faults.{fault_of};
+ghost use Rattle.format_core.specs.declared.fault.FormatFault.TheVariants as FormatFault;
+
+use c_chars::LIMIT;
+use std::alloc::AllocError;
+use thiserror::Error;
+use token_arena::ArenaFault;
+
+/// Why a text isn't formatted.
+#[derive(Clone, Copy, Debug, PartialEq, Eq, Error)]
+pub enum FormatFault {
+    /// The text is within the limit, and this is the offset of its first byte that is not read yet.
+    #[error("not built at byte {at}")]
+    NotBuilt { at: u32 },
+    /// The text has more than [`LIMIT`] bytes; it has this many.
+    #[error("more than {LIMIT} bytes")]
+    TooLarge { bytes: u64 },
+    /// Memory ran out.
+    #[error("no memory")]
+    NoMemory,
+}
+
+impl From<ArenaFault> for FormatFault {
+    ghost from_gives = { λ fault result. result ≡ fault_of fault };
+
+    fn from(fault: ArenaFault) -> Self {
+        match fault {
+            ArenaFault::NotBuilt { at } => FormatFault::NotBuilt { at },
+            ArenaFault::TooLarge { bytes } => FormatFault::TooLarge { bytes },
+            ArenaFault::NoMemory => FormatFault::NoMemory,
+        }
+    }
+}
+
+impl From<AllocError> for FormatFault {
+    ghost from_gives = { λ _ result. result ≡ FormatFault.NoMemory };
+
+    fn from(_: AllocError) -> Self {
+        FormatFault::NoMemory
+    }
+}
