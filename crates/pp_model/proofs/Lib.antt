@@ -1,0 +1,12 @@
+pub mod Blanks
+pub mod Blank
+pub mod Defines
+pub mod Sections
+pub mod Included
+pub mod Streams
+pub mod Spelled
+pub mod Cuts
+pub mod Spells
+pub mod Found
+pub mod Alike
+pub mod Tests

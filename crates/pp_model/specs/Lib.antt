@@ -1,0 +1,12 @@
+pub mod Token
+pub mod Macro
+pub mod Call
+pub mod Replace
+pub mod Expand
+pub mod Define
+pub mod Condition
+pub mod Preprocess
+pub mod Finding
+pub mod Stream
+pub mod Setting
+pub mod Alike
