@@ -1,5 +1,5 @@
 -- Phases 1 and 2 go by parts where no pattern lies over the cut.
-use Rattle.std.proofs.Common.{◌≡◌, ◌==◌, ◌||◌, ◌&&◌, not, ℕ, ◌+◌, suc, arith, length, map, Bool, false, List, [], ◌∷◌, ◌++◌, refl, ◌∙◌, ap, subst, inl, inr}
+use Rattle.std.proofs.Common.{◌≡◌, ◌==◌, ◌||◌, ◌&&◌, not, ℕ, ◌+◌, suc, arith, length, map, Bool, false, List, [], ◌∷◌, ◌++◌, refl, ◌∙◌, ap, inl, inr}
 use Rattle.std.proofs.lemmas.Bool.{cases_Bool, or_parts}
 use Rattle.c_chars.specs.Characters.{trigraph, is_trigraph, replaced, with_lines, spliced, placed, phase_1, chars, moved}
 use Rattle.c_chars.specs.declared.Dialect.{Dialect}
@@ -42,44 +42,62 @@ with_lines_cut (x ∷ y ∷ z ∷ a) b h = elim (cases_Bool ((x.byte == 13) && (
   | inr e ↦ rw e (ap (λ w. x ∷ w) (with_lines_cut (y ∷ z ∷ a) b h))
 ]
 
--- a character that can be the second or the third of a trigraph
-abbrev pub is_inner : LogicalChar → Bool
-is_inner c = (c.byte == 63) || not (trigraph c.byte == 0)
+-- the first character can be the last of a trigraph
+abbrev pub starts_third : List LogicalChar → Bool
+starts_third [] = false
+starts_third (c ∷ s) = not (trigraph c.byte == 0)
 
-not_inner : (x y z : LogicalChar) → (x.byte == 63 && is_inner y) ≡ false → is_trigraph x y z ≡ false
-not_inner x y z h = elim (cases_Bool (x.byte == 63)) [
-  | inr n ↦ rw n refl
-  | inl e ↦ let f : is_inner y ≡ false = subst (λ b. (b && is_inner y) ≡ false) e h in let g = (or_parts (y.byte == 63) (not (trigraph y.byte == 0)) f).0 in rw (e, g) refl
-]
+-- the first two characters can be the last two of a trigraph
+abbrev pub starts_inner : List LogicalChar → Bool
+starts_inner [] = false
+starts_inner (c ∷ s) = (c.byte == 63) && starts_third s
 
-not_third : (x y z : LogicalChar) → (y.byte == 63 && is_inner z) ≡ false → is_trigraph x y z ≡ false
-not_third x y z h = elim (cases_Bool (x.byte == 63)) [
-  | inr n ↦ rw n refl
-  | inl e ↦ elim (cases_Bool (y.byte == 63)) [
-    | inr n ↦ rw (e, n) refl
-    | inl f ↦ let g : is_inner z ≡ false = subst (λ b. (b && is_inner z) ≡ false) f h in let k = (or_parts (z.byte == 63) (not (trigraph z.byte == 0)) g).1 in rw (e, f, k) refl
-  ]
-]
+-- a trigraph lies over the cut between the two
+abbrev pub trigraph_over : List LogicalChar → List LogicalChar → Bool
+trigraph_over [] b = false
+trigraph_over (x ∷ []) b = (x.byte == 63) && starts_inner b
+trigraph_over (x ∷ y ∷ []) b = ((x.byte == 63) && ((y.byte == 63) && starts_third b)) || ((y.byte == 63) && starts_inner b)
+trigraph_over (x ∷ y ∷ z ∷ a) b = trigraph_over (y ∷ z ∷ a) b
 
-pub replaced_cut : (a b : List LogicalChar) → (ends_in (λ c. c.byte == 63) a && starts_in is_inner b) ≡ false → replaced (a ++ b) ≡ replaced a ++ replaced b
+over_less : (x y : LogicalChar) (a b : List LogicalChar) → trigraph_over (x ∷ y ∷ a) b ≡ false → trigraph_over (y ∷ a) b ≡ false
+over_less x y [] b h = (or_parts ((x.byte == 63) && ((y.byte == 63) && starts_third b)) ((y.byte == 63) && starts_inner b) h).1
+over_less x y (z ∷ a) b h = h
+
+pub replaced_cut : (a b : List LogicalChar) → trigraph_over a b ≡ false → replaced (a ++ b) ≡ replaced a ++ replaced b
 replaced_cut [] b h = refl
 replaced_cut (x ∷ []) [] h = refl
 replaced_cut (x ∷ []) (y ∷ []) h = refl
-replaced_cut (x ∷ []) (y ∷ z ∷ b) h = let e = not_inner x y z h in rw e refl
+replaced_cut (x ∷ []) (y ∷ z ∷ b) h = rw h refl
 replaced_cut (x ∷ y ∷ []) [] h = refl
-replaced_cut (x ∷ y ∷ []) (z ∷ b) h = let e = not_third x y z h in rw e (ap (λ w. x ∷ w) (replaced_cut (y ∷ []) (z ∷ b) h))
+replaced_cut (x ∷ y ∷ []) (z ∷ b) h =
+    let parts = or_parts ((x.byte == 63) && ((y.byte == 63) && not (trigraph z.byte == 0))) ((y.byte == 63) && starts_inner (z ∷ b)) h in
+    let e : is_trigraph x y z ≡ false = parts.0 in
+    rw e (ap (λ w. x ∷ w) (replaced_cut (y ∷ []) (z ∷ b) parts.1))
 replaced_cut (x ∷ y ∷ z ∷ []) b h = elim (cases_Bool (is_trigraph x y z)) [
   | inl e ↦ rw e refl
   | inr e ↦ rw e (ap (λ w. x ∷ w) (replaced_cut (y ∷ z ∷ []) b h))
 ]
 replaced_cut (x ∷ y ∷ z ∷ u ∷ a) b h = elim (cases_Bool (is_trigraph x y z)) [
-  | inl e ↦ rw e (ap (λ w. record { byte = trigraph z.byte; from = x.from; to = z.to } ∷ w) (replaced_cut (u ∷ a) b h))
+  | inl e ↦ rw e (ap (λ w. record { byte = trigraph z.byte; from = x.from; to = z.to } ∷ w) (replaced_cut (u ∷ a) b (over_less z u a b h)))
   | inr e ↦ rw e (ap (λ w. x ∷ w) (replaced_cut (y ∷ z ∷ u ∷ a) b h))
 ]
 
-phase_cut : (d : Dialect) (a b : List LogicalChar) → (ends_in (λ c. c.byte == 63) a && starts_in is_inner b) ≡ false → phase_1 d (a ++ b) ≡ phase_1 d a ++ phase_1 d b
+-- a trigraph of the dialect lies over the cut
+abbrev pub phase_over : Dialect → List LogicalChar → List LogicalChar → Bool
+phase_over C11 a b = trigraph_over a b
+phase_over C23 a b = false
+
+phase_cut : (d : Dialect) (a b : List LogicalChar) → phase_over d a b ≡ false → phase_1 d (a ++ b) ≡ phase_1 d a ++ phase_1 d b
 phase_cut C11 a b h = replaced_cut a b h
 phase_cut C23 a b h = refl
+
+-- a `\r\n` lies over the cut
+abbrev pub return_over : List LogicalChar → List LogicalChar → Bool
+return_over a b = ends_in (λ c. c.byte == 13) a && starts_in (λ c. c.byte == 10) b
+
+-- a splice lies over the cut
+abbrev pub splice_over : List LogicalChar → List LogicalChar → Bool
+splice_over a b = ends_in (λ c. c.byte == 92) a && starts_in (λ c. c.byte == 10) b
 
 pub placed_append : (at : ℕ) (a b : List ℕ) → placed at (a ++ b) ≡ placed at a ++ placed (at + length a) b
 placed_append at [] b = let e : at ≡ at + 0 = omega arith in ap (λ n. placed n b) e
@@ -87,11 +105,15 @@ placed_append at (x ∷ a) b =
     let e : (at + 1) + length a ≡ at + suc (length a) = omega arith in
     ap (λ z. record { byte = x; from = at; to = at + 1 } ∷ z) (placed_append (at + 1) a b ∙ ap (λ n. placed (at + 1) a ++ placed n b) e)
 
+-- the characters before splices are taken out
+abbrev pub units : Dialect → ℕ → List ℕ → List LogicalChar
+units d at s = with_lines (phase_1 d (placed at s))
+
 -- no trigraph, no `\r\n` and no splice lies over the cut
 pub record IsCleanCut (d : Dialect) (at : ℕ) (a b : List ℕ) : Type 0 where
-  pub trigraph : (ends_in (λ c. c.byte == 63) (placed at a) && starts_in is_inner (placed (at + length a) b)) ≡ false
-  pub line : (ends_in (λ c. c.byte == 13) (phase_1 d (placed at a)) && starts_in (λ c. c.byte == 10) (phase_1 d (placed (at + length a) b))) ≡ false
-  pub splice : (ends_in (λ c. c.byte == 92) (with_lines (phase_1 d (placed at a))) && starts_in (λ c. c.byte == 10) (with_lines (phase_1 d (placed (at + length a) b)))) ≡ false
+  pub trigraph : phase_over d (placed at a) (placed (at + length a) b) ≡ false
+  pub line : return_over (phase_1 d (placed at a)) (phase_1 d (placed (at + length a) b)) ≡ false
+  pub splice : splice_over (units d at a) (units d (at + length a) b) ≡ false
 
 pub chars_cut : (d : Dialect) (at : ℕ) (a b : List ℕ) → IsCleanCut d at a b → chars d at (a ++ b) ≡ chars d at a ++ chars d (at + length a) b
 chars_cut d at a b h =
@@ -99,6 +121,12 @@ chars_cut d at a b h =
     ∙ (ap (λ z. spliced (with_lines z)) (phase_cut d (placed at a) (placed (at + length a) b) h.trigraph)
     ∙ (ap spliced (with_lines_cut (phase_1 d (placed at a)) (phase_1 d (placed (at + length a) b)) h.line)
     ∙ spliced_cut (with_lines (phase_1 d (placed at a))) (with_lines (phase_1 d (placed (at + length a) b))) h.splice))
+
+pub units_cut : (d : Dialect) (at : ℕ) (a b : List ℕ) → IsCleanCut d at a b → units d at (a ++ b) ≡ units d at a ++ units d (at + length a) b
+units_cut d at a b h =
+    ap (λ z. with_lines (phase_1 d z)) (placed_append at a b)
+    ∙ (ap with_lines (phase_cut d (placed at a) (placed (at + length a) b) h.trigraph)
+    ∙ with_lines_cut (phase_1 d (placed at a)) (phase_1 d (placed (at + length a) b)) h.line)
 
 -- Moving a text moves its characters.
 
@@ -136,6 +164,10 @@ spliced_moved n (a ∷ b ∷ s) = elim (cases_Bool ((a.byte == 92) && (b.byte ==
 phase_moved : (d : Dialect) (n : ℕ) (s : List LogicalChar) → phase_1 d (map (moved n) s) ≡ map (moved n) (phase_1 d s)
 phase_moved C11 n s = replaced_moved n s
 phase_moved C23 n s = refl
+
+pub units_moved : (d : Dialect) (n at : ℕ) (s : List ℕ) → units d (at + n) s ≡ map (moved n) (units d at s)
+units_moved d n at s =
+    ap (λ z. with_lines (phase_1 d z)) (placed_moved n at s) ∙ (ap with_lines (phase_moved d n (placed at s)) ∙ lines_moved n (phase_1 d (placed at s)))
 
 pub chars_moved : (d : Dialect) (n at : ℕ) (s : List ℕ) → chars d (at + n) s ≡ map (moved n) (chars d at s)
 chars_moved d n at s =

@@ -8,7 +8,7 @@ use Rattle.c_chars.specs.declared.Dialect.TheVariants.{C11, C23}
 use Rattle.c_chars.specs.declared.LogicalChar.{LogicalChar}
 use Rattle.c_chars.proofs.Cuts.{starts_in}
 
-trigraph_no_line : (c : ℕ) → (trigraph c == 10) ≡ false
+pub trigraph_no_line : (c : ℕ) → (trigraph c == 10) ≡ false
 unfolding trigraph
 trigraph_no_line c = grind (arith, nat_tests)
 
@@ -16,15 +16,15 @@ trigraph_no_return : (c : ℕ) → (trigraph c == 13) ≡ false
 unfolding trigraph
 trigraph_no_return c = grind (arith, nat_tests)
 
-abbrev is_line : LogicalChar → Bool
+abbrev pub is_line : LogicalChar → Bool
 is_line c = c.byte == 10
 
-abbrev begins_line : List ℕ → Bool
+abbrev pub begins_line : List ℕ → Bool
 begins_line [] = false
 begins_line (b ∷ s) = b == 10
 
 -- trigraphs neither make nor break a new-line at the front
-front_line : (d : Dialect) (at : ℕ) (s : List ℕ) → starts_in is_line (phase_1 d (placed at s)) ≡ begins_line s
+pub front_line : (d : Dialect) (at : ℕ) (s : List ℕ) → starts_in is_line (phase_1 d (placed at s)) ≡ begins_line s
 front_line C23 at [] = refl
 front_line C23 at (b ∷ s) = refl
 front_line C11 at [] = refl

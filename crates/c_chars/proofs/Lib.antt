@@ -1,2 +1,5 @@
 pub mod Cuts
 pub mod FirstUnits
+pub mod Spans
+pub mod Splits
+pub mod Ends

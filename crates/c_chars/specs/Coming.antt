@@ -1,9 +1,25 @@
 -- What is left to read.
-use Rattle.std.specs.Prelude.{List}
+use Rattle.std.specs.Prelude.{ℕ, zero, suc, ◌≤◌, ◌<◌, List, [], ◌∷◌}
 use Rattle.c_chars.specs.declared.Dialect.{Dialect}
 use Rattle.c_chars.specs.declared.LogicalChar.{LogicalChar}
 
--- the dialect that a text is read in, and its characters that are still to come
+-- the dialect that a text is read in, the offset behind the last character that was read, and the characters that are still to come
 pub record Coming : Type 0 where
   pub dialect : Dialect
+  pub at : ℕ
   pub chars : List LogicalChar
+
+-- The characters stand one behind another between these offsets, and each has a byte or more.
+abbrev pub AreBetween : ℕ → List LogicalChar → ℕ → Type 0
+AreBetween low [] high = low ≤ high
+AreBetween low (c ∷ s) high = (low ≤ c.from) × (c.from < c.to) × AreBetween c.to s high
+
+-- what is to come behind n more of these characters
+abbrev pub passed : Dialect → ℕ → List LogicalChar → ℕ → Coming
+passed d at s zero = record { dialect = d; at = at; chars = s }
+passed d at [] (suc n) = record { dialect = d; at = at; chars = [] }
+passed d at (c ∷ s) (suc n) = passed d c.to s n
+
+-- what is to come behind the next n characters
+abbrev pub behind : Coming → ℕ → Coming
+behind x n = passed x.dialect x.at x.chars n

@@ -1,8 +1,8 @@
 //! Reads the characters of a text one after another.
 
-ghost use Rattle.std.specs.Prelude.{◌≡◌, ◌+◌, ◌<◌, ◌≤◌, ◌^◌, length, MatchOption, ◌∷◌, [], slice_get};
-ghost use Rattle.c_chars.specs.Characters.{chars, logical};
-ghost use Rattle.c_chars.specs.Coming.{Coming};
+ghost use Rattle.std.specs.Prelude.{◌≡◌, ◌+◌, ◌<◌, ◌≤◌, ◌^◌, length, drop, MatchOption, IfSome, IfNone, ◌∷◌, [], slice_get};
+ghost use Rattle.c_chars.specs.Characters.{chars, logical, mark_len};
+ghost use Rattle.c_chars.specs.Coming.{AreBetween};
 
 use crate::units::unit;
 use crate::{Dialect, LIMIT, LogicalChar};
@@ -22,42 +22,46 @@ impl<'s> Cursor<'s> {
     fn next(&mut self) -> Option<LogicalChar>
         ensures dialect { self.new.dialect ≡ self.old.dialect }
         ensures next { MatchOption result
-            ((chars self.old.dialect self.old.at self.old.rest.now ≡ []) × (chars self.new.dialect self.new.at self.new.rest.now ≡ []))
-            (λ c. chars self.old.dialect self.old.at self.old.rest.now ≡ c ∷ chars self.new.dialect self.new.at self.new.rest.now) }
+            ((chars self.old.dialect self.old.at self.old.rest.now ≡ []) × (self.new.at ≡ self.old.at) × (self.new.rest.now ≡ self.old.rest.now))
+            (λ c. (chars self.old.dialect self.old.at self.old.rest.now ≡ c ∷ chars self.new.dialect self.new.at self.new.rest.now) × (self.new.at ≡ c.to)) }
     {
-        while !self.rest.is_empty() {
-            let (byte, len) = unit(self.dialect, self.rest);
-            let (_, behind) = self.rest.split_at(len);
+        let mut rest = self.rest;
+        let mut at = self.at;
+        while !rest.is_empty() {
+            let (byte, len) = unit(self.dialect, rest);
+            let (_, behind) = rest.split_at(len);
             if byte != b'\\' {
-                return Some(self.take_unit(byte, len, behind));
+                return Some(self.take_unit(byte, at, len, behind));
             }
             if behind.is_empty() {
-                return Some(self.take_unit(byte, len, behind));
+                return Some(self.take_unit(byte, at, len, behind));
             }
             let (next, next_len) = unit(self.dialect, behind);
             if next != b'\n' {
-                return Some(self.take_unit(byte, len, behind));
+                return Some(self.take_unit(byte, at, len, behind));
             }
             let (_, after) = behind.split_at(next_len);
-            self.rest = after;
-            self.at += len + next_len;
+            rest = after;
+            at += len + next_len;
         }
         None
     }
 
-    /// Steps over a character of this byte and so many bytes.
-    fn take_unit(&mut self, byte: u8, len: usize, behind: &'s [u8]) -> LogicalChar
-        requires { self.old.at + len + length behind.now < 2 ^ 32 }
+    /// Steps behind a character of this byte, that so many bytes at this offset are.
+    fn take_unit(&mut self, byte: u8, at: usize, len: usize, behind: &'s [u8]) -> LogicalChar
+        requires { at + len + length behind.now < 2 ^ 32 }
         ensures dialect { self.new.dialect ≡ self.old.dialect }
         ensures rest { self.new.rest.now ≡ behind.now }
-        ensures at { self.new.at ≡ self.old.at + len }
-        ensures made { (result.byte ≡ byte) × (result.from ≡ self.old.at) × (result.to ≡ self.old.at + len) }
+        ensures at { self.new.at ≡ at + len }
+        ensures made { (result.byte ≡ byte) × (result.from ≡ at) × (result.to ≡ at + len) }
     {
-        let from = self.at as u32;
-        let to = (self.at + len) as u32;
         self.rest = behind;
-        self.at += len;
-        LogicalChar { byte, from, to }
+        self.at = at + len;
+        LogicalChar {
+            byte,
+            from: at as u32,
+            to: (at + len) as u32,
+        }
     }
 
     /// The character that k others stand before.
@@ -71,6 +75,18 @@ impl<'s> Cursor<'s> {
             }
         }
         ahead.next()
+    }
+}
+
+/// What stands behind a byte order mark, and at which offset.
+fn behind_mark(text: &[u8]) -> (usize, &[u8])
+    ensures at { result.0 ≡ mark_len text.now }
+    ensures rest { result.1.now ≡ drop (mark_len text.now) text.now }
+    ensures len { result.0 + length result.1.now ≡ length text.now }
+{
+    match text {
+        [0xef, 0xbb, 0xbf, rest @ ..] => (3, rest),
+        _ => (0, text),
     }
 }
 
@@ -89,36 +105,27 @@ impl<'s> Model for Chars<'s> {
 
     ghost Value = { Coming };
 
-    ghost view = { λ a. record { dialect = a.cursor.dialect; chars = chars a.cursor.dialect a.cursor.at a.cursor.rest.now } };
+    ghost view = { λ a. record { dialect = a.cursor.dialect; at = a.cursor.at; chars = chars a.cursor.dialect a.cursor.at a.cursor.rest.now } };
 }
 
 impl<'s> Chars<'s> {
     /// The characters of a text of at most [`LIMIT`] bytes.
     pub fn new(text: &'s [u8], dialect: Dialect) -> Chars<'s>
         requires { length text.now ≤ LIMIT }
-        ensures { result ≡ record { dialect = dialect; chars = logical dialect text.now } }
+        ensures coming { result ≡ record { dialect = dialect; at = mark_len text.now; chars = logical dialect text.now } }
+        ensures spans { AreBetween result.at result.chars (length text.now) }
     {
-        let cursor = match text {
-            [0xef, 0xbb, 0xbf, rest @ ..] => Cursor {
-                rest,
-                at: 3,
-                dialect,
-            },
-            _ => Cursor {
-                rest: text,
-                at: 0,
-                dialect,
-            },
-        };
-        Chars { cursor }
+        let (at, rest) = behind_mark(text);
+        Chars {
+            cursor: Cursor { rest, at, dialect },
+        }
     }
 
     /// The next character; none exactly at the end.
     pub fn next(&mut self) -> Option<LogicalChar>
         ensures dialect { self.new.dialect ≡ self.old.dialect }
-        ensures next { MatchOption result
-            ((self.old.chars ≡ []) × (self.new.chars ≡ []))
-            (λ c. self.old.chars ≡ c ∷ self.new.chars) }
+        ensures some { IfSome result (λ c. (self.old.chars ≡ c ∷ self.new.chars) × (self.new.at ≡ c.to)) }
+        ensures none { IfNone result ((self.old.chars ≡ []) × (self.new ≡ self.old)) }
     {
         self.cursor.next()
     }
@@ -131,6 +138,23 @@ impl<'s> Chars<'s> {
         ensures { result ≡ slice_get self.now.chars k }
     {
         self.cursor.peek(k)
+    }
+
+    /// The offset behind the last character that was read; where none was, the one of the text behind
+    /// its byte order mark.
+    pub fn at(&self) -> usize
+        ensures { result ≡ self.now.at }
+    {
+        self.cursor.at
+    }
+
+    /// A second reader that stands at the same place.
+    pub fn ahead(&self) -> Chars<'s>
+        ensures { result ≡ self.now }
+    {
+        Chars {
+            cursor: self.cursor,
+        }
     }
 }
 
