@@ -29,11 +29,11 @@ header_before_gap f S end last w h = elim (two_cuts h.name h.left (f ∷ S) end 
   ]
 ]
 
-gap_may_follow : (last end : List ℕ) → is_gap end ≡ true → MayFollow last end
+pub gap_may_follow : (last end : List ℕ) → is_gap end ≡ true → MayFollow last end
 gap_may_follow last end w = record { blank = gap_starts end w; header = λ f S h. header_before_gap f S end last w h }
 
 -- the pieces behind one more
-onward : (xs : List Piece) (l : Piece) (ps : List Piece) → (xs ++ l ∷ []) ++ ps ≡ xs ++ l ∷ ps
+pub onward : (xs : List Piece) (l : Piece) (ps : List Piece) → (xs ++ l ∷ []) ++ ps ≡ xs ++ l ∷ ps
 onward xs l ps = append_assoc xs (l ∷ []) ps
 
 other_last : (d : Dialect) (place : Place) (xs : List Piece) (l : Piece) (ps : List Piece) (last end : List ℕ) → Reads d place (xs ++ l ∷ ps) last →
@@ -46,7 +46,7 @@ other_last d place xs l (p ∷ ps) last end h t n w =
 
 -- One gap like the old one
 
-piece_is : (p q : Piece) → IsSameItem p q → regapped q.gap p ≡ q
+pub piece_is : (p q : Piece) → IsSameItem p q → regapped q.gap p ≡ q
 piece_is p q s = made p.kind q.kind p.spelling q.spelling (sym s.kind) (sym s.spelling)
   where
     made : (k l : ItemKind) (s t : List ℕ) → k ≡ l → s ≡ t → ◌≡◌ {A = Piece} (record { gap = q.gap; kind = k; spelling = s }) (record { gap = q.gap; kind = l; spelling = t })
@@ -83,7 +83,7 @@ other_gaps d place xs l (p ∷ ps) (q ∷ qs) last h t n like =
 pub first_place : (g : List ℕ) → past_gap LineStart g ≡ LineStart
 first_place g = elim (cases_Bool (list_any is_new_line g)) [ inl y ↦ rw y refl | inr n ↦ rw n refl ]
 
-other_first : (d : Dialect) (p q : Piece) (ps : List Piece) (last : List ℕ) → Reads d LineStart (p ∷ ps) last → IsSameItem p q → is_gap q.gap ≡ true → Reads d LineStart (q ∷ ps) last
+pub other_first : (d : Dialect) (p q : Piece) (ps : List Piece) (last : List ℕ) → Reads d LineStart (p ∷ ps) last → IsSameItem p q → is_gap q.gap ≡ true → Reads d LineStart (q ∷ ps) last
 other_first d p q ps last h same w =
     let places : past_gap LineStart p.gap ≡ past_gap LineStart q.gap = first_place p.gap ∙ sym (first_place q.gap) in
     let to_q = piece_is p q same in

@@ -177,7 +177,7 @@ lone d left right l A e x r s a = go s.before (sym s.ends_in ∙ a)
 -- Numbers
 
 -- what a unit of two characters or more is: word characters, an exponent and its sign, a separator and what it separates
-unit_cases : (d : Dialect) (u : List ℕ) → is_number_unit d u ≡ true → (list_all is_wordlike u ≡ true) ⊎ ((is_one (λ c. c == 46) u ≡ true) ⊎ ((is_two is_exponent is_sign u ≡ true) ⊎ (is_two (λ c. c == 39) is_wordlike u ≡ true)))
+pub unit_cases : (d : Dialect) (u : List ℕ) → is_number_unit d u ≡ true → (list_all is_wordlike u ≡ true) ⊎ ((is_one (λ c. c == 46) u ≡ true) ⊎ ((is_two is_exponent is_sign u ≡ true) ⊎ (is_two (λ c. c == 39) is_wordlike u ≡ true)))
 unfolding is_number_unit
 unit_cases d u h =
     elim (or_cases (is_word_unit u || is_one (λ c. c == 46) u || is_two is_exponent is_sign u) (is_separated d u) h) [
@@ -391,14 +391,14 @@ punct_before d left right l x A e r s f p more most h =
 
 -- no new-line stands in a literal
 
-not_line : ℕ → Bool
+unfoldable pub not_line : ℕ → Bool
 not_line c = not (is_new_line c)
 
-word_line : (c : ℕ) → is_wordlike c ≡ true → not_line c ≡ true
+pub word_line : (c : ℕ) → is_wordlike c ≡ true → not_line c ≡ true
 unfolding not_line is_new_line is_wordlike is_letter is_digit
 word_line c h = let e = apart_at is_wordlike c 10 h refl in rw e refl
 
-quote_line : (c : ℕ) → is_quote c ≡ true → not_line c ≡ true
+pub quote_line : (c : ℕ) → is_quote c ≡ true → not_line c ≡ true
 unfolding not_line is_new_line is_quote
 quote_line c h = let e = apart_at is_quote c 10 h refl in rw e refl
 
@@ -419,7 +419,7 @@ unit_line q (c ∷ e ∷ f ∷ s) h = cc
 append_line : (a b : List ℕ) → list_all not_line a ≡ true → list_all not_line b ≡ true → list_all not_line (a ++ b) ≡ true
 append_line a b h g = rw all_append (and_from (list_all not_line a) (list_all not_line b) h g)
 
-closed_line : (q : List ℕ) → IsClosed q → list_all not_line q ≡ true
+pub closed_line : (q : List ℕ) → IsClosed q → list_all not_line q ≡ true
 closed_line q h =
     let body = units_all (is_quoted_unit h.quote) not_line (unit_line h.quote) h.body h.inside in
     let quote = quote_line h.quote h.is_quote_ in
@@ -439,17 +439,17 @@ unclosed_line q h =
     ] in
     subst (λ z. list_all not_line z ≡ true) (sym h.whole) (and_from (not_line h.quote) (list_all not_line (h.body ++ h.last)) quote (append_line h.body h.last body last))
 
-stray_line : (d : Dialect) (q : List ℕ) → Spells d (Whole StrayQuote) q → list_all not_line q ≡ true
+pub stray_line : (d : Dialect) (q : List ℕ) → Spells d (Whole StrayQuote) q → list_all not_line q ≡ true
 unfolding not_line is_new_line
 stray_line d q (inl h) = unclosed_line q h
 stray_line d q (inr h) = subst (λ z. list_all not_line z ≡ true) (sym h.whole) (and_from _ _ refl (and_from _ _ refl h.in_line))
 
-comment_line : (q : List ℕ) → IsLine q → list_all not_line q ≡ true
+pub comment_line : (q : List ℕ) → IsLine q → list_all not_line q ≡ true
 unfolding not_line is_new_line
 comment_line q h = subst (λ z. list_all not_line z ≡ true) (sym h.whole) (and_from _ _ refl (and_from _ _ refl h.in_line))
 
 -- a new-line in the middle
-line_not : (c : ℕ) → is_new_line c ≡ true → not_line c ≡ true → ⊥
+pub line_not : (c : ℕ) → is_new_line c ≡ true → not_line c ≡ true → ⊥
 unfolding not_line
 line_not c h n = both_ways (is_new_line c) (not-true (is_new_line c) n) h
 
@@ -537,7 +537,7 @@ slash_block j t e = let f : Whole j ≡ (if has_end t then Whole BlockComment el
   | inr n ↦ let g : Whole j ≡ Unended = f ∙ rw n refl in cc
 ]
 
-slash_item : (d : Dialect) (j : ItemKind) (g : ℕ) (t : List ℕ) → Spells d (Whole j) (47 ∷ g ∷ t) → (g ≡ 47 → takes_line j ≡ true) × (g ≡ 42 → j ≡ BlockComment)
+pub slash_item : (d : Dialect) (j : ItemKind) (g : ℕ) (t : List ℕ) → Spells d (Whole j) (47 ∷ g ∷ t) → (g ≡ 47 → takes_line j ≡ true) × (g ≡ 42 → j ≡ BlockComment)
 slash_item d j g t h = (line_case, block_case)
   where
     line_case : g ≡ 47 → takes_line j ≡ true
@@ -552,7 +552,7 @@ slash_item d j g t h = (line_case, block_case)
     block_case : g ≡ 42 → j ≡ BlockComment
     block_case i = slash_block j t (sym (sort_is d (Whole j) (47 ∷ g ∷ t) h) ∙ (ap (λ z. sort_of (47 ∷ z ∷ t)) i ∙ slash_sort (42 ∷ t)))
 
-open_two : IsOpen (47 ∷ 42 ∷ [])
+pub open_two : IsOpen (47 ∷ 42 ∷ [])
 open_two = record { body = []; no_end = refl; whole = refl }
 
 line_two : IsLine (47 ∷ 47 ∷ [])

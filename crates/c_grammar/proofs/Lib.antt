@@ -21,3 +21,13 @@ pub mod Placed
 pub mod RegappedText
 pub mod LikeGaps
 pub mod Twins
+pub mod LineGaps
+pub mod Apart
+pub mod FitGaps
+pub mod GapBytes
+pub mod ItemBytes
+pub mod NewText
+pub mod Rewritten
+pub mod KeptBytes
+pub mod White
+pub mod Lines

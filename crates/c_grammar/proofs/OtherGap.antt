@@ -115,7 +115,7 @@ other_blank d k l b more o h g = by_kind k g
     by_kind (Whole LineComment) g = both_ways (is_mark start.c) no_mark (first (slash_mark (l ++ b ∷ more) (begins d (Whole LineComment) (l ++ b ∷ more) g)))
     by_kind Unended g = both_ways (is_mark start.c) no_mark (first (slash_mark (l ++ b ∷ more) (begins d Unended (l ++ b ∷ more) g)))
 
-no_blank_after : (d : Dialect) (left : ItemKind) (k : Shape) (l : List ℕ) (b : ℕ) (more : List ℕ) → Spells d (Whole left) l → takes_line left ≡ false → is_blank b ≡ true → Spells d k (l ++ b ∷ more) → ⊥
+pub no_blank_after : (d : Dialect) (left : ItemKind) (k : Shape) (l : List ℕ) (b : ℕ) (more : List ℕ) → Spells d (Whole left) l → takes_line left ≡ false → is_blank b ≡ true → Spells d k (l ++ b ∷ more) → ⊥
 no_blank_after d Identifier k l b more s t h g = elim (or_cases (is_wordlike b) (is_string_prefix l && is_quote b) (identifier_goes_on d k l b more s g)) [
   | inl e ↦ blank_no_word b h e
   | inr e ↦ blank_no_quote b (and_parts (is_string_prefix l) (is_quote b) e).1 h
@@ -244,12 +244,13 @@ left_other d place kind s old new (inr h) like t = inr (no_header, longest)
     longest : IsLongest d (Whole kind) s new
     longest = record { spells = h.1.spells; longest = λ k c more left cut q. no_blank_after d kind k s c more h.1.spells t (subst (λ z. starts_or_empty is_blank z ≡ true) cut like.blank) q }
 
--- an item further before
-before_other : (d : Dialect) (place : Place) (kind : ItemKind) (s : List ℕ) (xs : List Piece) (l : Piece) (ns ms : List Piece) (last end : List ℕ) →
+-- an item further before, where what comes begins with a blank and makes no header name
+pub before_blank : (d : Dialect) (place : Place) (kind : ItemKind) (s : List ℕ) (xs : List Piece) (l : Piece) (ns ms : List Piece) (last end : List ℕ) →
     IsNext d place kind s (written (xs ++ l ∷ ns) last) → Reads d (past_item d place kind s) (xs ++ l ∷ ns) last →
-    MayFollow (written ns last) (written ms end) → takes_line l.kind ≡ false → IsNext d place kind s (written (xs ++ l ∷ ms) end)
-before_other d place kind s xs l ns ms last end (inl h) hs like t = inl h
-before_other d place kind s xs l ns ms last end (inr h) hs like t = inr (no_header, longest)
+    starts_or_empty is_blank (written ms end) ≡ true → (place ≡ AfterInclude → (BeginsHeader (s ++ written (xs ++ l ∷ ns) last) → ⊥) → BeginsHeader (s ++ written (xs ++ l ∷ ms) end) → ⊥) →
+    takes_line l.kind ≡ false → IsNext d place kind s (written (xs ++ l ∷ ms) end)
+before_blank d place kind s xs l ns ms last end (inl h) hs blank_first no_name t = inl h
+before_blank d place kind s xs l ns ms last end (inr h) hs blank_first no_name t = inr (λ p. no_name p (h.0 p), longest)
   where
     item : ((l.kind ≡ HeaderName) × IsHeaderName l.spelling) ⊎ Spells d (Whole l.kind) l.spelling
     item = item_at d (past_item d place kind s) xs l ns last hs
@@ -272,18 +273,6 @@ before_other d place kind s xs l ns ms last end (inr h) hs like t = inr (no_head
     start : Begins (can_begin d (Whole kind)) s
     start = begins d (Whole kind) s h.1.spells
 
-    no_header : place ≡ AfterInclude → BeginsHeader (s ++ written (xs ++ l ∷ ms) end) → ⊥
-    no_header p k = h.0 p (subst (λ z. BeginsHeader z) back over)
-      where
-        there : BeginsHeader ((start.c ∷ (start.rest ++ A)) ++ Y)
-        there = subst (λ z. BeginsHeader z) (ap (λ z. s ++ z) new ∙ (ap (λ z. z ++ (A ++ Y)) start.whole ∙ sym (append_assoc (start.c ∷ start.rest) A Y))) k
-
-        over : BeginsHeader ((start.c ∷ (start.rest ++ A)) ++ Z)
-        over = like.header start.c (start.rest ++ A) there
-
-        back : (start.c ∷ (start.rest ++ A)) ++ Z ≡ s ++ written (xs ++ l ∷ ns) last
-        back = append_assoc (start.c ∷ start.rest) A Z ∙ (ap (λ z. z ++ (A ++ Z)) (sym start.whole) ∙ ap (λ z. s ++ z) (sym old))
-
     most : IsMost d s A
     most k c more left e q = h.1.longest k c more (left ++ Z) (old ∙ (ap (λ z. z ++ Z) e ∙ append_assoc (c ∷ more) left Z)) q
 
@@ -299,7 +288,7 @@ before_other d place kind s xs l ns ms last end (inr h) hs like t = inr (no_head
         some = something xs l left_there.c left_there.rest left_there.whole
 
         blank : is_blank e ≡ true
-        blank = subst (λ z. starts_or_empty is_blank z ≡ true) b like.blank
+        blank = subst (λ z. starts_or_empty is_blank z ≡ true) b blank_first
 
         seam_is : IsSeam d l.kind Identifier l.spelling (some.0 ∷ some.1) e []
         seam_is = record {
@@ -339,6 +328,36 @@ before_other d place kind s xs l ns ms last end (inr h) hs like t = inr (no_head
         ]
       ];
     }
+
+before_other : (d : Dialect) (place : Place) (kind : ItemKind) (s : List ℕ) (xs : List Piece) (l : Piece) (ns ms : List Piece) (last end : List ℕ) →
+    IsNext d place kind s (written (xs ++ l ∷ ns) last) → Reads d (past_item d place kind s) (xs ++ l ∷ ns) last →
+    MayFollow (written ns last) (written ms end) → takes_line l.kind ≡ false → IsNext d place kind s (written (xs ++ l ∷ ms) end)
+before_other d place kind s xs l ns ms last end (inl h) hs like t = inl h
+before_other d place kind s xs l ns ms last end (inr h) hs like t = before_blank d place kind s xs l ns ms last end (inr h) hs like.blank no_header t
+  where
+    A : List ℕ
+    A = written (xs ++ l ∷ []) []
+
+    Z : List ℕ
+    Z = written ns last
+
+    Y : List ℕ
+    Y = written ms end
+
+    start : Begins (can_begin d (Whole kind)) s
+    start = begins d (Whole kind) s h.1.spells
+
+    no_header : place ≡ AfterInclude → (BeginsHeader (s ++ written (xs ++ l ∷ ns) last) → ⊥) → BeginsHeader (s ++ written (xs ++ l ∷ ms) end) → ⊥
+    no_header p none k = none (subst (λ z. BeginsHeader z) back over)
+      where
+        there : BeginsHeader ((start.c ∷ (start.rest ++ A)) ++ Y)
+        there = subst (λ z. BeginsHeader z) (ap (λ z. s ++ z) (rest_is xs l ms end) ∙ (ap (λ z. z ++ (A ++ Y)) start.whole ∙ sym (append_assoc (start.c ∷ start.rest) A Y))) k
+
+        over : BeginsHeader ((start.c ∷ (start.rest ++ A)) ++ Z)
+        over = like.header start.c (start.rest ++ A) there
+
+        back : (start.c ∷ (start.rest ++ A)) ++ Z ≡ s ++ written (xs ++ l ∷ ns) last
+        back = append_assoc (start.c ∷ start.rest) A Z ∙ (ap (λ z. z ++ (A ++ Z)) (sym start.whole) ∙ ap (λ z. s ++ z) (sym (rest_is xs l ns last)))
 
 -- The items up to l stay where this rest comes behind it in the place of its own.
 pub other_rest : (d : Dialect) (place : Place) (xs : List Piece) (l : Piece) (ns ms : List Piece) (last end : List ℕ) → Reads d place (xs ++ l ∷ ns) last → MayFollow (written ns last) (written ms end) → takes_line l.kind ≡ false →

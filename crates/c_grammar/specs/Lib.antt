@@ -5,3 +5,5 @@ pub mod Text
 pub mod Twin
 pub mod Regapping
 pub mod Built
+pub mod Fitting
+pub mod Rewritten
