@@ -1,3 +1,13 @@
 pub mod Run
 pub mod Reading
+pub mod Comment
+pub mod Quote
+pub mod Header
+pub mod Class
+pub mod Cut
 pub mod Screen
+pub mod Literal
+pub mod Unread
+pub mod Place
+pub mod Next
+pub mod Fault

@@ -2,9 +2,11 @@
 
 ghost use Rattle.std.specs.Prelude.{◌≡◌, ◌≤◌, ◌<◌, length, map};
 ghost use Rattle.c_chars.specs.declared.Dialect.TheVariants.{C23};
+ghost use Rattle.c_chars.specs.Characters.{bytes_of};
 ghost use Rattle.c_lexer.specs.Run.{long, first_front, begins_long, goes_on_long, may_be_long};
 
-use c_chars::Dialect;
+use crate::front;
+use c_chars::{Chars, Dialect};
 
 /// The punctuators of two bytes and more that both dialects have, each before those that it begins
 /// with.
@@ -28,7 +30,7 @@ fn first_front(table: &[&[u8]], s: &[u8]) -> usize
 
 /// Whether some punctuator of two bytes and more begins with this one.
 #[tactic(auto, unfolding(crate::specs::Run::begins_long))]
-fn begins_long(b: u8) -> bool
+pub(crate) fn begins_long(b: u8) -> bool
     ensures { result ≡ begins_long b }
 {
     matches!(
@@ -52,7 +54,7 @@ fn begins_long(b: u8) -> bool
 
 /// Whether some punctuator has this second byte.
 #[tactic(auto, unfolding(crate::specs::Run::goes_on_long))]
-fn goes_on_long(b: u8) -> bool
+pub(crate) fn goes_on_long(b: u8) -> bool
     ensures { result ≡ goes_on_long b }
 {
     matches!(
@@ -96,5 +98,29 @@ pub(crate) fn punctuator_len(dialect: Dialect, s: &[u8]) -> usize
     match dialect {
         Dialect::C11 => first_front(&LONG, s),
         Dialect::C23 => long_of_c23(s),
+    }
+}
+
+/// The length of the longest punctuator of C23 that the text begins with, otherwise 1.
+fn text_len_c23(text: &Chars) -> usize
+    ensures { result ≡ first_front (long C23) (bytes_of text.now.chars) }
+{
+    if front::begins_with(text, b"::") {
+        2
+    } else {
+        front::first_front(&LONG, text)
+    }
+}
+
+/// The length of the longest punctuator that the text of characters begins with, otherwise 1.
+pub(crate) fn text_len(dialect: Dialect, text: &Chars) -> usize
+    ensures { result ≡ first_front (long dialect) (bytes_of text.now.chars) }
+{
+    if !front::may_be_long(text) {
+        return 1;
+    }
+    match dialect {
+        Dialect::C11 => front::first_front(&LONG, text),
+        Dialect::C23 => text_len_c23(text),
     }
 }

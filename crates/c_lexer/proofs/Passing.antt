@@ -1,0 +1,174 @@
+-- Steps over characters.
+use Rattle.std.specs.List.{list_any, prefix_len}
+use Rattle.c_lexer.specs.Run.{goes, run}
+use Rattle.c_lexer.specs.Quote.{closes_quote, quote_len}
+use Rattle.c_lexer.specs.Header.{ends_name, name_len, begins_header, header_len}
+use Rattle.c_lexer.specs.Comment.{closes_block, block_len, line_len, over_white}
+use Rattle.std.specs.Prelude.{if◌then◌else◌, not, slice_get, Option, Some, None, MatchOption}
+use Rattle.std.proofs.lemmas.Bool.{cases_Bool, eqb-true, eq-eqb, ne_eqb, and_parts, not-false}
+use Rattle.c_grammar.specs.Grammar.{is_white, is_new_line}
+use Rattle.c_grammar.specs.Touch.{starts}
+use Rattle.std.proofs.Common.{true, inl, inr, ◌≡◌, ◌==◌, ◌&&◌, Bool, false, ℕ, suc, ◌+◌, ◌||◌, List, [], ◌∷◌, take, refl, sym, ◌∙◌, ap, arith}
+use Rattle.c_chars.specs.Coming.{Coming, behind}
+use Rattle.c_chars.specs.Characters.{bytes_of}
+use Rattle.c_chars.specs.declared.LogicalChar.{LogicalChar}
+
+-- one character, and then n more
+pub behind_next : (x y : Coming) (c : LogicalChar) (n : ℕ) → x.chars ≡ c ∷ y.chars → y.at ≡ c.to → y.dialect ≡ x.dialect → behind x (1 + n) ≡ behind y n
+behind_next x y c n chars at dialect = let one : 1 + n ≡ suc n = omega arith in rw (one, chars, at, dialect) refl
+
+pub behind_none : (x : Coming) → behind x 0 ≡ x
+behind_none x = refl
+
+-- a comment that doesn't end with this character
+pub block_next : (x y : Coming) (c : LogicalChar) (star : Bool) → x.chars ≡ c ∷ y.chars → y.at ≡ c.to → y.dialect ≡ x.dialect → (star && c.byte == 47) ≡ false →
+    (closes_block star (bytes_of x.chars) ≡ closes_block (c.byte == 42) (bytes_of y.chars)) × (behind x (block_len star (bytes_of x.chars)) ≡ behind y (block_len (c.byte == 42) (bytes_of y.chars)))
+block_next x y c star chars at dialect n = (
+  ap (λ s. closes_block star (bytes_of s)) chars ∙ (rw n refl),
+  ap (λ s. behind x (block_len star (bytes_of s))) chars ∙ (rw n (behind_next x y c (block_len (c.byte == 42) (bytes_of y.chars)) chars at dialect)),
+)
+
+-- where a line comment ends whose last character that isn't white is this one, from what stands behind that and what is left
+abbrev pub line_end : ℕ → Coming → Coming → Coming
+line_end last rest kept = if line_len last (bytes_of rest.chars) == 0 && not (last == 92) then kept else behind rest (line_len last (bytes_of rest.chars))
+
+pub line_begin : (last : ℕ) (x : Coming) → line_end last x x ≡ behind x (line_len last (bytes_of x.chars))
+line_begin last x = elim (cases_Bool (line_len last (bytes_of x.chars) == 0)) [
+  | inl y ↦ elim (cases_Bool (last == 92)) [
+    | inl b ↦ rw (y, b) refl
+    | inr b ↦ let none : line_len last (bytes_of x.chars) ≡ 0 = eqb-true (line_len last (bytes_of x.chars)) 0 y in rw (y, b) (sym (ap (λ n. behind x n) none))
+  ]
+  | inr n ↦ rw n refl
+]
+
+black_len : (last c : ℕ) (s : List ℕ) → is_new_line c ≡ false → is_white c ≡ false → line_len last (c ∷ s) ≡ 1 + line_len c s
+black_len last c s n b = rw (n, b) refl
+
+white_len : (last c : ℕ) (s : List ℕ) → is_new_line c ≡ false → is_white c ≡ true → line_len last (c ∷ s) ≡ over_white (last == 92) (line_len last s)
+white_len last c s n b = rw (n, b) refl
+
+pub line_black : (last : ℕ) (x y kept : Coming) (c : LogicalChar) → x.chars ≡ c ∷ y.chars → y.at ≡ c.to → y.dialect ≡ x.dialect → is_new_line c.byte ≡ false → is_white c.byte ≡ false →
+    line_end c.byte y y ≡ line_end last x kept
+line_black last x y kept c chars at dialect n b =
+    let len : line_len last (bytes_of x.chars) ≡ 1 + line_len c.byte (bytes_of y.chars) = ap (λ s. line_len last (bytes_of s)) chars ∙ black_len last c.byte (bytes_of y.chars) n b in
+    let some : (line_len last (bytes_of x.chars) == 0) ≡ false = some_more (line_len last (bytes_of x.chars)) (line_len c.byte (bytes_of y.chars)) len in
+    line_begin c.byte y ∙ sym (rw some (ap (λ n. behind x n) len ∙ behind_next x y c (line_len c.byte (bytes_of y.chars)) chars at dialect))
+  where
+    some_more : (n m : ℕ) → n ≡ 1 + m → (n == 0) ≡ false
+    some_more n m e = ne_eqb n 0 (λ z. absurd (omega (arith, e, z)))
+
+pub line_white : (last : ℕ) (x y kept : Coming) (c : LogicalChar) → x.chars ≡ c ∷ y.chars → y.at ≡ c.to → y.dialect ≡ x.dialect → is_new_line c.byte ≡ false → is_white c.byte ≡ true →
+    line_end last y kept ≡ line_end last x kept
+line_white last x y kept c chars at dialect n b =
+    let len : line_len last (bytes_of x.chars) ≡ over_white (last == 92) (line_len last (bytes_of y.chars)) = ap (λ s. line_len last (bytes_of s)) chars ∙ white_len last c.byte (bytes_of y.chars) n b in
+    at_white (line_len last (bytes_of x.chars)) (line_len last (bytes_of y.chars)) len
+  where
+    at_white : (m k : ℕ) → m ≡ over_white (last == 92) k → (if k == 0 && not (last == 92) then kept else behind y k) ≡ (if m == 0 && not (last == 92) then kept else behind x m)
+    at_white m k e = elim (cases_Bool (k == 0 && not (last == 92))) [
+      | inl z ↦
+          let none : m ≡ 0 = e ∙ (rw z refl) in
+          let last_is : not (last == 92) ≡ true = (and_parts (k == 0) (not (last == 92)) z).1 in
+          rw (z, none, last_is) refl
+      | inr z ↦
+          let one : m ≡ 1 + k = e ∙ (rw z refl) in
+          let some : (m == 0) ≡ false = ne_eqb m 0 (λ q. absurd (omega (arith, one, q))) in
+          rw (z, some) (sym (ap (λ n. behind x n) one ∙ behind_next x y c k chars at dialect))
+    ]
+
+pub line_done : (last : ℕ) (x kept : Coming) → starts (λ c. not (is_new_line c)) (bytes_of x.chars) ≡ false → line_end last x kept ≡ (if last == 92 then x else kept)
+line_done last x kept h =
+    let none : line_len last (bytes_of x.chars) ≡ 0 = ends_here (bytes_of x.chars) h in
+    elim (cases_Bool (last == 92)) [ inl y ↦ rw (none, y) refl | inr y ↦ rw (none, y) refl ]
+  where
+    ends_here : (s : List ℕ) → starts (λ c. not (is_new_line c)) s ≡ false → line_len last s ≡ 0
+    ends_here [] h = refl
+    ends_here (c ∷ s) h = let line = not-false (is_new_line c) h in rw line refl
+
+-- what stands first
+
+pub first_is : (p : ℕ → Bool) (s : List LogicalChar) (c : LogicalChar) → slice_get s 0 ≡ Some c → starts p (bytes_of s) ≡ p c.byte
+first_is p [] c h = cc
+first_is p (e ∷ s) c h = let same : e ≡ c = cc in ap (λ z. p z.byte) same
+
+pub first_none : (p : ℕ → Bool) (s : List LogicalChar) → slice_get s 0 ≡ None → starts p (bytes_of s) ≡ false
+first_none p [] h = refl
+first_none p (e ∷ s) h = cc
+
+-- quotes and names
+
+pub quote_next : (q : ℕ) (escaped : Bool) (x y : Coming) (c : LogicalChar) → x.chars ≡ c ∷ y.chars → y.at ≡ c.to → y.dialect ≡ x.dialect → is_new_line c.byte ≡ false → (not escaped && c.byte == q) ≡ false →
+    (closes_quote q escaped (bytes_of x.chars) ≡ closes_quote q (not escaped && c.byte == 92) (bytes_of y.chars))
+    × (behind x (quote_len q escaped (bytes_of x.chars)) ≡ behind y (quote_len q (not escaped && c.byte == 92) (bytes_of y.chars)))
+quote_next q escaped x y c chars at dialect l n = (
+  ap (λ s. closes_quote q escaped (bytes_of s)) chars ∙ (rw (l, n) refl),
+  ap (λ s. behind x (quote_len q escaped (bytes_of s))) chars ∙ (rw (l, n) (behind_next x y c (quote_len q (not escaped && c.byte == 92) (bytes_of y.chars)) chars at dialect)),
+)
+
+pub name_next : (last : ℕ) (some : Bool) (x y : Coming) (c : LogicalChar) → x.chars ≡ c ∷ y.chars → y.at ≡ c.to → y.dialect ≡ x.dialect → is_new_line c.byte ≡ false → (c.byte == last) ≡ false →
+    (ends_name last some (bytes_of x.chars) ≡ ends_name last true (bytes_of y.chars)) × (behind x (name_len last (bytes_of x.chars)) ≡ behind y (name_len last (bytes_of y.chars)))
+name_next last some x y c chars at dialect l n = (
+  ap (λ s. ends_name last some (bytes_of s)) chars ∙ (rw (l, n) refl),
+  ap (λ s. behind x (name_len last (bytes_of s))) chars ∙ (rw n (behind_next x y c (name_len last (bytes_of y.chars)) chars at dialect)),
+)
+
+pub name_done : (last : ℕ) (some : Bool) (s : List ℕ) → starts (λ c. not (is_new_line c)) s ≡ false → ends_name last some s ≡ false
+name_done last some [] h = refl
+name_done last some (c ∷ s) h = let line = not-false (is_new_line c) h in rw line refl
+
+pub header_angle : (x y : Coming) (c : LogicalChar) → x.chars ≡ c ∷ y.chars → y.at ≡ c.to → y.dialect ≡ x.dialect → c.byte ≡ 60 →
+    (begins_header (bytes_of x.chars) ≡ ends_name 62 false (bytes_of y.chars)) × (behind x (header_len (bytes_of x.chars)) ≡ behind y (name_len 62 (bytes_of y.chars)))
+header_angle x y c chars at dialect e =
+    let angle = eq-eqb c.byte 60 e in (
+      ap (λ s. begins_header (bytes_of s)) chars ∙ (rw angle refl),
+      ap (λ s. behind x (header_len (bytes_of s))) chars ∙ (rw angle (behind_next x y c (name_len 62 (bytes_of y.chars)) chars at dialect)),
+    )
+
+pub header_quote : (x y : Coming) (c : LogicalChar) → x.chars ≡ c ∷ y.chars → y.at ≡ c.to → y.dialect ≡ x.dialect → (c.byte == 60) ≡ false → c.byte ≡ 34 →
+    (begins_header (bytes_of x.chars) ≡ ends_name 34 false (bytes_of y.chars)) × (behind x (header_len (bytes_of x.chars)) ≡ behind y (name_len 34 (bytes_of y.chars)))
+header_quote x y c chars at dialect n e =
+    let quote = eq-eqb c.byte 34 e in (
+      ap (λ s. begins_header (bytes_of s)) chars ∙ (rw (n, quote) refl),
+      ap (λ s. behind x (header_len (bytes_of s))) chars ∙ (rw n (behind_next x y c (name_len 34 (bytes_of y.chars)) chars at dialect)),
+    )
+
+-- the same outcome under other names
+pub same_outcome : (o : Option Coming) (a b : Bool) (r t : Coming) → a ≡ b → r ≡ t → MatchOption o (b ≡ false) (λ rest. (b ≡ true) × (rest ≡ t)) → MatchOption o (a ≡ false) (λ rest. (a ≡ true) × (rest ≡ r))
+same_outcome None a b r t e f h = e ∙ h
+same_outcome (Some x) a b r t e f h = (e ∙ h.0, h.1 ∙ sym f)
+
+-- runs of what passes
+
+pub prefix_next : (p : ℕ → Bool) (x y : Coming) (c : LogicalChar) → x.chars ≡ c ∷ y.chars → y.at ≡ c.to → y.dialect ≡ x.dialect → p c.byte ≡ true →
+    behind x (prefix_len p (bytes_of x.chars)) ≡ behind y (prefix_len p (bytes_of y.chars))
+prefix_next p x y c chars at dialect h =
+    ap (λ s. behind x (prefix_len p (bytes_of s))) chars ∙ (rw h (behind_next x y c (prefix_len p (bytes_of y.chars)) chars at dialect))
+
+pub prefix_done : (p : ℕ → Bool) (s : List ℕ) → starts p s ≡ false → prefix_len p s ≡ 0
+prefix_done p [] h = refl
+prefix_done p (c ∷ s) h = rw h refl
+
+-- whether a new-line stands in the run
+abbrev pub has_line : (ℕ → Bool) → List ℕ → Bool
+has_line p s = list_any is_new_line (take (prefix_len p s) s)
+
+pub line_next : (p : ℕ → Bool) (x y : Coming) (c : LogicalChar) → x.chars ≡ c ∷ y.chars → p c.byte ≡ true →
+    has_line p (bytes_of x.chars) ≡ (is_new_line c.byte || has_line p (bytes_of y.chars))
+line_next p x y c chars h = ap (λ s. has_line p (bytes_of s)) chars ∙ at c.byte (bytes_of y.chars) h
+  where
+    at : (c : ℕ) (s : List ℕ) → p c ≡ true → has_line p (c ∷ s) ≡ (is_new_line c || has_line p s)
+    at c s h = let one : 1 + prefix_len p s ≡ suc (prefix_len p s) = omega arith in rw (h, one) refl
+
+pub or_assoc : (a b c : Bool) → ((a || b) || c) ≡ (a || (b || c))
+or_assoc true b c = refl
+or_assoc false b c = refl
+
+-- numbers
+
+pub run_next : (previous : ℕ) (x y : Coming) (c : LogicalChar) → x.chars ≡ c ∷ y.chars → y.at ≡ c.to → y.dialect ≡ x.dialect → goes previous c.byte ≡ true →
+    behind x (run previous (bytes_of x.chars)) ≡ behind y (run c.byte (bytes_of y.chars))
+run_next previous x y c chars at dialect h =
+    ap (λ s. behind x (run previous (bytes_of s))) chars ∙ (rw h (behind_next x y c (run c.byte (bytes_of y.chars)) chars at dialect))
+
+pub run_done : (previous : ℕ) (s : List ℕ) → starts (goes previous) s ≡ false → run previous s ≡ 0
+run_done previous [] h = refl
+run_done previous (c ∷ s) h = rw h refl

@@ -1,0 +1,142 @@
+-- How far a word reaches, and the place behind an item.
+use Rattle.std.proofs.Common.{◌≡◌, ◌==◌, Bool, true, false, ℕ, suc, zero, ◌≤◌, ◌<◌, List, [], ◌∷◌, length, take, nat_eq, refl, sym, ◌∙◌, ap, subst, arith, inl, inr}
+use Rattle.std.specs.List.{starts_with}
+use Rattle.std.proofs.lemmas.Bool.{and_parts, eqb-true, eq-eqb, cases_Bool, false_from_ne_true}
+use Rattle.c_chars.specs.Characters.{bytes_of}
+use Rattle.c_chars.specs.Coming.{Coming, AreBetween, passed, behind}
+use Rattle.c_chars.specs.declared.Dialect.{Dialect}
+use Rattle.c_chars.specs.declared.LogicalChar.{LogicalChar}
+use Rattle.c_grammar.specs.Grammar.{is_same}
+use Rattle.c_grammar.specs.Items.{Place, LineStart, AfterHash, AfterInclude, AfterDefine, AfterMacroName, InDirective, InText, past_item}
+use Rattle.c_grammar.specs.declared.ItemKind.{ItemKind}
+use Rattle.c_grammar.specs.declared.ItemKind.TheVariants.{Identifier, Number, CharConst, StringLit, Punct, HeaderName, StrayQuote, Other, BlockComment, LineComment}
+use Rattle.c_grammar.proofs.Lists.{same_refl}
+use Rattle.c_lexer.specs.Place.{IsSpanned, past_plain, past_mark, past_word}
+use Rattle.c_lexer.proofs.Stepping.{onwards}
+
+-- behind fewer characters it stands elsewhere
+at_inject : (d : Dialect) (at n m high : ℕ) (s : List LogicalChar) → AreBetween at s high → n ≤ length s → m ≤ length s → (passed d at s n).at ≡ (passed d at s m).at → n ≡ m
+at_inject d at zero zero high s b i j e = refl
+at_inject d at zero (suc m) high [] b i j e = absurd (omega arith)
+at_inject d at zero (suc m) high (c ∷ s) b i j e = let first : at ≤ c.from = b.0 in let some : c.from < c.to = b.1 in let more = onwards d c.to m high s b.2 in absurd (omega arith)
+at_inject d at (suc n) zero high [] b i j e = absurd (omega arith)
+at_inject d at (suc n) zero high (c ∷ s) b i j e = let first : at ≤ c.from = b.0 in let some : c.from < c.to = b.1 in let more = onwards d c.to n high s b.2 in absurd (omega arith)
+at_inject d at (suc n) (suc m) high [] b i j e = absurd (omega arith)
+at_inject d at (suc n) (suc m) high (c ∷ s) b i j e = ap suc (at_inject d c.to n m high s b.2 (omega arith) (omega arith) e)
+
+-- a front of a text is its first characters
+front_take : (s w : List ℕ) → starts_with nat_eq s w ≡ true → take (length w) s ≡ w
+front_take s [] h = refl
+front_take [] (b ∷ w) h = cc
+front_take (c ∷ s) (b ∷ w) h =
+    let parts = and_parts (b == c) (starts_with nat_eq s w) h in
+    let e : b ≡ c = eqb-true b c parts.0 in
+    let rest = front_take s w parts.1 in
+    ap (λ z. z ∷ take (length w) s) (sym e) ∙ ap (λ z. b ∷ z) rest
+
+front_len : (s : List LogicalChar) (w : List ℕ) → starts_with nat_eq (bytes_of s) w ≡ true → length w ≤ length s
+front_len s [] h = omega arith
+front_len [] (b ∷ w) h = cc
+front_len (c ∷ s) (b ∷ w) h = let rest = front_len s w (and_parts (b == c.byte) (starts_with nat_eq (bytes_of s) w) h).1 in omega arith
+
+take_front : (n : ℕ) (s : List LogicalChar) (w : List ℕ) → n ≤ length s → is_same (take n (bytes_of s)) w ≡ true → (starts_with nat_eq (bytes_of s) w ≡ true) × (n ≡ length w)
+take_front zero s [] i h = (refl, refl)
+take_front zero s (b ∷ w) i h = cc
+take_front (suc n) [] w i h = absurd (omega arith)
+take_front (suc n) (c ∷ s) [] i h = cc
+take_front (suc n) (c ∷ s) (b ∷ w) i h =
+    let parts = and_parts (c.byte == b) (is_same (take n (bytes_of s)) w) h in
+    let e : (b == c.byte) ≡ true = eq-eqb b c.byte (sym (eqb-true c.byte b parts.0)) in
+    let rest = take_front n s w (omega arith) parts.1 in
+    let there = rest.0 in
+    (rw (e, there) refl, ap suc rest.1)
+
+-- they reach as far as the word, and are it
+pub spelled_yes : (x y left : Coming) (w : List ℕ) (n : ℕ) (b : Bool) → IsSpanned x → y ≡ behind x (length w) → y.at ≡ left.at → b ≡ starts_with nat_eq (bytes_of x.chars) w → n ≤ length x.chars → left ≡ behind x n → b ≡ is_same (take n (bytes_of x.chars)) w
+spelled_yes x y left w n b sp e at h i l = elim (cases_Bool (starts_with nat_eq (bytes_of x.chars) w)) [
+  | inl t ↦
+      let same : n ≡ length w = at_inject x.dialect x.at n (length w) sp.high x.chars sp.spans i (front_len x.chars w t) (sym (ap (λ z. z.at) l) ∙ (sym at ∙ ap (λ z. z.at) e)) in
+      let is : take n (bytes_of x.chars) ≡ w = ap (λ k. take k (bytes_of x.chars)) same ∙ front_take (bytes_of x.chars) w t in
+      h ∙ (t ∙ sym (subst (λ z. is_same z w ≡ true) (sym is) (same_refl w)))
+  | inr t ↦ h ∙ (t ∙ sym (false_from_ne_true (is_same (take n (bytes_of x.chars)) w) (λ z. let y = (take_front n x.chars w i z).0 in cc)))
+]
+
+-- they reach elsewhere
+pub spelled_no : (x y left : Coming) (w : List ℕ) (n : ℕ) → y ≡ behind x (length w) → (y.at ≡ left.at → ⊥) → n ≤ length x.chars → left ≡ behind x n → false ≡ is_same (take n (bytes_of x.chars)) w
+spelled_no x y left w n e at i l = sym (false_from_ne_true (is_same (take n (bytes_of x.chars)) w) (λ z.
+    let same : n ≡ length w = (take_front n x.chars w i z).1 in
+    at (ap (λ k. k.at) (e ∙ (ap (λ k. behind x k) (sym same) ∙ sym l)))))
+
+pub mark_place : (d : Dialect) (p : Place) (s : List ℕ) → past_mark p s ≡ past_item d p Punct s
+mark_place d LineStart s = refl
+mark_place d AfterHash s = refl
+mark_place d AfterInclude s = refl
+mark_place d AfterDefine s = refl
+mark_place d AfterMacroName s = refl
+mark_place d InDirective s = refl
+mark_place d InText s = refl
+
+pub word_place : (d : Dialect) (p : Place) (s : List ℕ) → past_word d p s ≡ past_item d p Identifier s
+word_place d LineStart s = refl
+word_place d AfterHash s = refl
+word_place d AfterInclude s = refl
+word_place d AfterDefine s = refl
+word_place d AfterMacroName s = refl
+word_place d InDirective s = refl
+word_place d InText s = refl
+
+-- a kind whose spelling tells nothing of the place
+abbrev pub is_plain : ItemKind → Bool
+is_plain Identifier = false
+is_plain Punct = false
+is_plain BlockComment = false
+is_plain LineComment = false
+is_plain kind = true
+
+pub plain_place : (d : Dialect) (p : Place) (k : ItemKind) (s : List ℕ) → is_plain k ≡ true → past_plain p ≡ past_item d p k s
+plain_place d p Identifier s h = cc
+plain_place d p Punct s h = cc
+plain_place d p BlockComment s h = cc
+plain_place d p LineComment s h = cc
+plain_place d LineStart Number s h = refl
+plain_place d AfterHash Number s h = refl
+plain_place d AfterInclude Number s h = refl
+plain_place d AfterDefine Number s h = refl
+plain_place d AfterMacroName Number s h = refl
+plain_place d InDirective Number s h = refl
+plain_place d InText Number s h = refl
+plain_place d LineStart CharConst s h = refl
+plain_place d AfterHash CharConst s h = refl
+plain_place d AfterInclude CharConst s h = refl
+plain_place d AfterDefine CharConst s h = refl
+plain_place d AfterMacroName CharConst s h = refl
+plain_place d InDirective CharConst s h = refl
+plain_place d InText CharConst s h = refl
+plain_place d LineStart StringLit s h = refl
+plain_place d AfterHash StringLit s h = refl
+plain_place d AfterInclude StringLit s h = refl
+plain_place d AfterDefine StringLit s h = refl
+plain_place d AfterMacroName StringLit s h = refl
+plain_place d InDirective StringLit s h = refl
+plain_place d InText StringLit s h = refl
+plain_place d LineStart HeaderName s h = refl
+plain_place d AfterHash HeaderName s h = refl
+plain_place d AfterInclude HeaderName s h = refl
+plain_place d AfterDefine HeaderName s h = refl
+plain_place d AfterMacroName HeaderName s h = refl
+plain_place d InDirective HeaderName s h = refl
+plain_place d InText HeaderName s h = refl
+plain_place d LineStart StrayQuote s h = refl
+plain_place d AfterHash StrayQuote s h = refl
+plain_place d AfterInclude StrayQuote s h = refl
+plain_place d AfterDefine StrayQuote s h = refl
+plain_place d AfterMacroName StrayQuote s h = refl
+plain_place d InDirective StrayQuote s h = refl
+plain_place d InText StrayQuote s h = refl
+plain_place d LineStart Other s h = refl
+plain_place d AfterHash Other s h = refl
+plain_place d AfterInclude Other s h = refl
+plain_place d AfterDefine Other s h = refl
+plain_place d AfterMacroName Other s h = refl
+plain_place d InDirective Other s h = refl
+plain_place d InText Other s h = refl

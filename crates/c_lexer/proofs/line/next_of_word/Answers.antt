@@ -1,0 +1,13 @@
+use Rattle.std.proofs.Common.{◌∙◌, ◌||◌, sym, refl}
+use Rattle.c_grammar.specs.Grammar.{is_letter, is_digit}
+use Rattle.c_lexer.proofs.Passing.{first_is, first_none}
+use Rattle.c_lexer.proofs.line.next_of_word.Goals as goal
+
+pub returns-then-not-is_word-clause-none : goal.returns-then-not-is_word-clause-none
+returns-then-not-is_word-clause-none c = (
+  first_is (λ x. is_letter x || is_digit x) c.args.chars.now.chars c.in-Some.c (sym c.peek.ensures ∙ c.in-Some.is) ∙ (sym c.is_word.ensures ∙ c.if-not-is_word.true),
+  refl,
+)
+
+pub returns-in-None-clause-none : goal.returns-in-None-clause-none
+returns-in-None-clause-none c = (first_none (λ x. is_letter x || is_digit x) c.args.chars.now.chars (sym c.peek.ensures ∙ c.in-None.is), refl)

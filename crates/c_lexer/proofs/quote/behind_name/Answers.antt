@@ -1,0 +1,14 @@
+use Rattle.std.proofs.Common.{◌∙◌, sym}
+use Rattle.std.proofs.lemmas.Bool.{ne_eqb}
+use Rattle.c_chars.specs.Characters.{bytes_of}
+use Rattle.c_lexer.proofs.Passing.{name_next, name_done}
+use Rattle.c_lexer.proofs.quote.behind_name.Goals as goal
+
+pub loop-c-preserved : goal.loop-c-preserved
+loop-c-preserved c =
+    let step = name_next c.args.last c.loop-c.some c.loop-c.rest c.next_of_line.new.chars c.in-Some.c c.in-Some.ensures.some.0 c.in-Some.ensures.some.1 c.next_of_line.ensures.dialect c.in-Some.ensures.some.2
+    (ne_eqb c.in-Some.c.byte c.args.last c.if-c-last.false) in
+    (sym step.0 ∙ c.loop-c.invariant.0, sym step.1 ∙ c.loop-c.invariant.1)
+
+pub returns : goal.returns
+returns c = sym c.loop-c.invariant.0 ∙ name_done c.args.last c.loop-c.some (bytes_of c.loop-c.rest.chars) c.in_default.ensures.none.0

@@ -1,0 +1,52 @@
+//! The item that stands next: behind an `include` a header name, wherever one begins (C11 6.4p4).
+
+ghost use Rattle.std.specs.Prelude.{◌≡◌, ◌||◌, ◌<◌, length, IsFalse, MatchOption, MatchResult};
+ghost use Rattle.c_chars.specs.Characters.{bytes_of};
+ghost use Rattle.c_grammar.specs.Grammar.{is_white, is_new_line};
+ghost use Rattle.c_grammar.specs.Items.{AfterInclude, BeginsHeader};
+ghost use Rattle.c_grammar.specs.Touch.{starts};
+ghost use Rattle.c_grammar.specs.declared.ItemKind.TheVariants.{HeaderName};
+ghost use Rattle.c_lexer.specs.Cut.{IsStop};
+ghost use Rattle.c_lexer.specs.Next.{IsCutNext};
+ghost use Rattle.c_lexer.specs.Place.{place_of};
+
+use crate::cut::{self, Stop};
+use crate::place::Standing;
+use crate::quote;
+use c_chars::{Chars, Dialect};
+use c_grammar::ItemKind;
+
+/// What stands behind the header name that stands next; none where none does.
+fn cut_header<'s>(standing: Standing, text: &Chars<'s>) -> Option<Chars<'s>>
+    requires { 0 < length text.now.chars }
+    ensures { MatchOption result
+        (place_of standing ≡ AfterInclude → BeginsHeader (bytes_of text.now.chars) → ⊥)
+        (λ left. IsCutNext (place_of standing) text.now left HeaderName) }
+{
+    match standing {
+        Standing::BehindInclude => quote::behind_header(text),
+        Standing::FirstInLine
+        | Standing::BehindHash
+        | Standing::BehindDefine
+        | Standing::BehindMacroName
+        | Standing::WithinDirective
+        | Standing::WithinText => None,
+    }
+}
+
+/// The item that stands next in the text, and what stands behind it.
+pub(crate) fn cut_next<'s>(
+    dialect: Dialect,
+    standing: Standing,
+    text: &Chars<'s>,
+) -> Result<(ItemKind, Chars<'s>), Stop>
+    requires dialect { dialect ≡ text.now.dialect }
+    requires some { 0 < length text.now.chars }
+    requires begins { IsFalse (starts (λ c. is_white c || is_new_line c) (bytes_of text.now.chars)) }
+    ensures { MatchResult result (λ r. IsCutNext (place_of standing) text.now r.1 r.0) (λ stop. IsStop text.now stop) }
+{
+    match cut_header(standing, text) {
+        Some(left) => Ok((ItemKind::HeaderName, left)),
+        None => cut::cut_item(dialect, text),
+    }
+}

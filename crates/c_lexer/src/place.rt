@@ -1,0 +1,175 @@
+//! Where an item stands: in a line, and in a directive (C11 6.10).
+
+ghost use Rattle.std.specs.Prelude.{◌≡◌, ◌≤◌, length, take, codes, if◌then◌else◌, true, false};
+ghost use Rattle.c_chars.specs.Characters.{bytes_of};
+ghost use Rattle.c_chars.specs.Coming.{behind};
+ghost use Rattle.c_grammar.specs.Grammar.{is_same};
+ghost use Rattle.c_grammar.specs.Items.{LineStart, past_item, past_name, past_comment, is_hash, is_include};
+ghost use Rattle.c_grammar.specs.declared.ItemKind.TheVariants.{Identifier, Punct, Other, BlockComment};
+ghost use Rattle.c_lexer.specs.Place.{place_of, past_plain, past_mark, past_word, IsSpanned, SpelledBy};
+
+use crate::front;
+use c_chars::{Chars, Dialect};
+use c_grammar::ItemKind;
+
+/// Where an item stands.
+#[derive(Clone, Copy, Debug)]
+pub(crate) enum Standing {
+    /// First in its line, comments aside.
+    FirstInLine,
+    /// Behind the `#` of a directive.
+    BehindHash,
+    /// Behind the `include` of a directive.
+    BehindInclude,
+    /// Behind the `define` of a directive.
+    BehindDefine,
+    /// Directly behind the name of a macro that is defined.
+    BehindMacroName,
+    /// Further on in a directive.
+    WithinDirective,
+    /// In a text line.
+    WithinText,
+}
+
+/// Whether the characters of the text up to what is left of it are these.
+fn spells(text: &Chars, left: &Chars, word: &[u8]) -> bool
+    requires { IsSpanned text.now }
+    ensures { SpelledBy text.now left.now (λ s. result ≡ is_same s word.now) }
+{
+    front::behind(text, word.len()).at() == left.at() && front::begins_with(text, word)
+}
+
+/// Whether they are `#` or its digraph.
+fn spells_hash(text: &Chars, left: &Chars) -> bool
+    requires { IsSpanned text.now }
+    ensures { SpelledBy text.now left.now (λ s. result ≡ is_hash s) }
+{
+    spells(text, left, b"#") || spells(text, left, b"%:")
+}
+
+/// Whether they are the name of a directive whose operand may be a header name.
+fn spells_include(dialect: Dialect, text: &Chars, left: &Chars) -> bool
+    requires { IsSpanned text.now }
+    ensures { SpelledBy text.now left.now (λ s. result ≡ is_include dialect s) }
+{
+    match dialect {
+        Dialect::C11 => spells(text, left, b"include"),
+        Dialect::C23 => spells(text, left, b"include") || spells(text, left, b"embed"),
+    }
+}
+
+/// Behind the name of a directive.
+fn past_name(dialect: Dialect, text: &Chars, left: &Chars) -> Standing
+    requires { IsSpanned text.now }
+    ensures { SpelledBy text.now left.now (λ s. place_of result ≡ past_name dialect s) }
+{
+    if spells_include(dialect, text, left) {
+        return Standing::BehindInclude;
+    }
+    if spells(text, left, b"define") {
+        return Standing::BehindDefine;
+    }
+    Standing::WithinDirective
+}
+
+/// Behind a comment.
+fn past_comment(standing: Standing) -> Standing
+    ensures { place_of result ≡ past_comment (place_of standing) }
+{
+    match standing {
+        Standing::BehindMacroName => Standing::WithinDirective,
+        Standing::FirstInLine => Standing::FirstInLine,
+        Standing::BehindHash => Standing::BehindHash,
+        Standing::BehindInclude => Standing::BehindInclude,
+        Standing::BehindDefine => Standing::BehindDefine,
+        Standing::WithinDirective => Standing::WithinDirective,
+        Standing::WithinText => Standing::WithinText,
+    }
+}
+
+/// Behind an item whose spelling tells nothing.
+fn past_other(standing: Standing) -> Standing
+    ensures { place_of result ≡ past_plain (place_of standing) }
+{
+    match standing {
+        Standing::FirstInLine | Standing::WithinText => Standing::WithinText,
+        Standing::BehindHash
+        | Standing::BehindInclude
+        | Standing::BehindDefine
+        | Standing::BehindMacroName
+        | Standing::WithinDirective => Standing::WithinDirective,
+    }
+}
+
+/// Behind a punctuator.
+fn past_mark(standing: Standing, text: &Chars, left: &Chars) -> Standing
+    requires { IsSpanned text.now }
+    ensures { SpelledBy text.now left.now (λ s. place_of result ≡ past_mark (place_of standing) s) }
+{
+    match standing {
+        Standing::FirstInLine => {
+            if spells_hash(text, left) {
+                Standing::BehindHash
+            } else {
+                Standing::WithinText
+            }
+        }
+        Standing::BehindHash
+        | Standing::BehindInclude
+        | Standing::BehindDefine
+        | Standing::BehindMacroName
+        | Standing::WithinDirective
+        | Standing::WithinText => past_other(standing),
+    }
+}
+
+/// Behind a word.
+fn past_word(dialect: Dialect, standing: Standing, text: &Chars, left: &Chars) -> Standing
+    requires { IsSpanned text.now }
+    ensures { SpelledBy text.now left.now (λ s. place_of result ≡ past_word dialect (place_of standing) s) }
+{
+    match standing {
+        Standing::BehindHash => past_name(dialect, text, left),
+        Standing::BehindDefine => Standing::BehindMacroName,
+        Standing::FirstInLine
+        | Standing::BehindInclude
+        | Standing::BehindMacroName
+        | Standing::WithinDirective
+        | Standing::WithinText => past_other(standing),
+    }
+}
+
+/// Behind an item of this kind, whose characters are those of the text up to what is left of it.
+pub(crate) fn past_item(
+    dialect: Dialect,
+    standing: Standing,
+    kind: ItemKind,
+    text: &Chars,
+    left: &Chars,
+) -> Standing
+    requires { IsSpanned text.now }
+    ensures { SpelledBy text.now left.now (λ s. place_of result ≡ past_item dialect (place_of standing) kind s) }
+{
+    match kind {
+        ItemKind::Identifier => past_word(dialect, standing, text, left),
+        ItemKind::Punct => past_mark(standing, text, left),
+        ItemKind::BlockComment | ItemKind::LineComment => past_comment(standing),
+        ItemKind::Number
+        | ItemKind::CharConst
+        | ItemKind::StringLit
+        | ItemKind::HeaderName
+        | ItemKind::StrayQuote
+        | ItemKind::Other => past_other(standing),
+    }
+}
+
+/// Behind a gap with a new-line or without one.
+pub(crate) fn past_gap(standing: Standing, new_line: bool) -> Standing
+    ensures { place_of result ≡ if new_line then LineStart else place_of standing }
+{
+    if new_line {
+        Standing::FirstInLine
+    } else {
+        standing
+    }
+}

@@ -1,0 +1,74 @@
+//! What stands behind a quote, and header names.
+
+ghost use Rattle.std.specs.Prelude.{◌≡◌, ◌==◌, ◌&&◌, not, true, false, IsTrue, IsFalse, MatchOption};
+ghost use Rattle.c_chars.specs.Characters.{bytes_of};
+ghost use Rattle.c_chars.specs.Coming.{behind};
+ghost use Rattle.c_lexer.specs.Quote.{closes_quote, quote_len};
+ghost use Rattle.c_lexer.specs.Header.{ends_name, name_len, begins_header, header_len};
+
+use crate::line;
+use c_chars::Chars;
+
+/// Whether the byte is this one, and no backslash takes its meaning.
+fn stands_for(escaped: bool, b: u8, byte: u8) -> bool
+    ensures { result ≡ (not escaped && b == byte) }
+{
+    !escaped && b == byte
+}
+
+/// Whether the line closes the quote that stands before the text (C11 6.4.4.4, 6.4.5), and what
+/// stands behind the closing quote, or is the line's end.
+pub(crate) fn behind_quote<'s>(text: &Chars<'s>, quote: u8) -> (bool, Chars<'s>)
+    ensures closed { result.0 ≡ closes_quote quote false (bytes_of text.now.chars) }
+    ensures rest { result.1 ≡ behind text.now (quote_len quote false (bytes_of text.now.chars)) }
+{
+    let mut rest = text.ahead();
+    let mut escaped = false;
+    while let Some(c) = line::next_of_line(&mut rest) {
+        if stands_for(escaped, c.byte, quote) {
+            return (true, rest);
+        }
+        escaped = stands_for(escaped, c.byte, b'\\');
+    }
+    (false, rest)
+}
+
+/// What stands behind a name that ends in this byte, whose first byte stands before the text; none
+/// where the line has no such name.
+fn behind_name<'s>(text: &Chars<'s>, last: u8) -> Option<Chars<'s>>
+    ensures { MatchOption result
+        (IsFalse (ends_name last false (bytes_of text.now.chars)))
+        (λ rest. IsTrue (ends_name last false (bytes_of text.now.chars)) × (rest ≡ behind text.now (name_len last (bytes_of text.now.chars)))) }
+{
+    let mut rest = text.ahead();
+    let mut some = false;
+    while let Some(c) = line::next_of_line(&mut rest) {
+        if c.byte == last {
+            return if some { Some(rest) } else { None };
+        }
+        some = true;
+    }
+    None
+}
+
+/// What stands behind the header name that the text begins with (C11 6.4.7); none where it begins
+/// with none.
+pub(crate) fn behind_header<'s>(text: &Chars<'s>) -> Option<Chars<'s>>
+    ensures { MatchOption result
+        (IsFalse (begins_header (bytes_of text.now.chars)))
+        (λ rest. IsTrue (begins_header (bytes_of text.now.chars)) × (rest ≡ behind text.now (header_len (bytes_of text.now.chars)))) }
+{
+    let mut rest = text.ahead();
+    match rest.next() {
+        Some(c) => {
+            if c.byte == b'<' {
+                behind_name(&rest, b'>')
+            } else if c.byte == b'"' {
+                behind_name(&rest, b'"')
+            } else {
+                None
+            }
+        }
+        None => None,
+    }
+}
