@@ -1,7 +1,7 @@
 -- Entries as they are made, item by item: what they keep so far, and what one more adds.
-use Rattle.std.proofs.Common.{◌≡◌, ◌==◌, ◌∙◌, ℕ, suc, ◌+◌, ◌≤◌, Bool, true, false, List, [], ◌∷◌, ◌++◌, length, take, drop, refl, sym, ap, subst, arith}
+use Rattle.std.proofs.Common.{◌≡◌, ◌==◌, ◌∙◌, ℕ, suc, ◌+◌, ◌-◌, ◌≤◌, Bool, true, false, List, [], ◌∷◌, ◌++◌, length, take, drop, refl, sym, ap, subst, arith}
 use Rattle.std.proofs.lemmas.Bool.{ne_eqb}
-use Rattle.std.proofs.lemmas.List.{length-map, map-append}
+use Rattle.std.proofs.lemmas.List.{length-map, map-append, length-drop, length-take-le}
 use Rattle.std.proofs.lemmas.List.Elements.{All-append}
 use Rattle.c_chars.specs.Characters.{placed, logical, mark_len, bytes_of}
 use Rattle.c_chars.specs.declared.Dialect.{Dialect}
@@ -15,7 +15,8 @@ use Rattle.token_arena.specs.Stored.{Stored, stored_of, stored_from, stored_item
 use Rattle.token_arena.specs.Gaps.{Stands, StandFrom, behind}
 use Rattle.token_arena.specs.Entries.{kept_by, kept_by_all, AllWithin, AreEntries}
 use Rattle.token_arena.specs.declared.arena.Entry.{Entry}
-use Rattle.token_arena.proofs.StepLemmas.{IsPlacedStep}
+use Rattle.c_chars.proofs.Spans.{Ascend, placed_ascend}
+use Rattle.token_arena.proofs.Spans.{IsSpanned}
 
 -- an item that is the first where none was read
 abbrev pub first_of : Bool → List ReadItem → Bool
@@ -70,7 +71,7 @@ pub record IsKeptUpTo (d : Dialect) (text : List ℕ) (left : Left) (entries : L
   pub items : List ReadItem
   pub read : IsReadUpTo d text items left
   pub rest : left.chars ≡ placed at (drop at text)
-  pub reached : at ≤ length text
+  pub up : Ascend at (length text) left.chars
   pub line_is : line ≡ line_at text at
   pub kept : kept_by_all text entries ≡ stored_items text items
   pub items_stop : items_end (mark_len text) items ≡ at
@@ -85,7 +86,7 @@ kept_begun d text built =
       items = [];
       read = begun d text;
       rest = built_characters d text built;
-      reached = omega arith;
+      up = subst (Ascend 0 (length text)) (sym (built_characters d text built)) (placed_ascend 0 (length text) text (omega arith));
       line_is = refl;
       kept = refl;
       items_stop = no_mark;
@@ -97,13 +98,14 @@ kept_begun d text built =
 pub kept_step : (d : Dialect) (text : List ℕ) (old new : Left) (entries : List Entry) (entry : Entry) (at line at2 line2 : ℕ) (read : ReadItem)
     → (before : IsKeptUpTo d text old entries at line)
     → IsStep d old new read
-    → IsPlacedStep text at new read (length read.gap) (length read.chars)
+    → IsSpanned at (length text) read new.chars
+    → new.chars ≡ placed at2 (drop at2 text)
     → kept_by text entry ≡ stored_of text (length entries == 0) at read
     → entry.start + entry.len ≤ length text
     → at2 ≡ end_of read
     → line2 ≡ line_at text at2
     → IsKeptUpTo d text new (entries ++ entry ∷ []) at2 line2
-kept_step d text old new entries entry at line at2 line2 read before step placed_at told room at2_is line2_is =
+kept_step d text old new entries entry at line at2 line2 read before step span rest told room at2_is line2_is =
     let mark : ℕ = mark_len text in
     let tokens : List Stored = kept_by_all text entries in
     let pushed : kept_by_all text (entries ++ entry ∷ []) ≡ tokens ++ kept_by text entry ∷ [] = map-append (kept_by text) entries (entry ∷ []) in
@@ -116,29 +118,28 @@ kept_step d text old new entries entry at line at2 line2 read before step placed
     ap (λ b. stored_of text b (items_end mark before.items) read) first ∙ (ap (λ k. stored_of text (length entries == 0) k read) before.items_stop ∙ sym told) in
     let kept : kept_by_all text (entries ++ entry ∷ []) ≡ stored_items text (before.items ++ read ∷ []) =
     pushed ∙ (ap (λ s. s ++ kept_by text entry ∷ []) before.kept ∙ (ap (λ x. stored_items text before.items ++ x ∷ []) (sym same) ∙ sym more)) in
-    let raw_len : length (raw_of text read) ≡ length read.chars = ap length placed_at.raw_is ∙ placed_at.chars_fit in
+    let wide : ℕ = end_of read - start_of read in
+    let behind_start : length (drop (start_of read) text) ≡ length text - start_of read = length-drop (start_of read) text in
+    let raw_len : length (raw_of text read) ≡ wide = length-take-le wide (drop (start_of read) text) (omega (arith, behind_start, span.some, span.within)) in
     let starts : (kept_by text entry).start ≡ start_of read = ap (λ (t : Stored). t.start) told in
     let raws : (kept_by text entry).raw ≡ raw_of text read = ap (λ (t : Stored). t.raw) told in
-    let raws_len : length (kept_by text entry).raw ≡ length read.chars = ap length raws ∙ raw_len in
+    let raws_len : length (kept_by text entry).raw ≡ wide = ap length raws ∙ raw_len in
     let raws_are : (kept_by text entry).raw ≡ take (length (kept_by text entry).raw) (drop (kept_by text entry).start text) =
-    raws ∙ (placed_at.raw_is ∙ (ap (λ k. take (length read.chars) (drop k text)) (sym placed_at.start_is) ∙ (ap (λ k. take (length read.chars) (drop k text)) (sym starts) ∙ ap (λ k. take k (drop (kept_by text entry).start text)) (sym raws_len)))) in
-    let start : (kept_by text entry).start ≡ at + length read.gap = starts ∙ placed_at.start_is in
+    raws ∙ (ap (λ k. take wide (drop k text)) (sym starts) ∙ ap (λ k. take k (drop (kept_by text entry).start text)) (sym raws_len)) in
     let stands : Stands text at (kept_by text entry) = record {
-      later = omega (arith, start);
-      within = omega (arith, start, raws_len, placed_at.within);
+      later = omega (arith, starts, span.later);
+      within = omega (arith, starts, raws_len, span.some, span.within);
       bytes = raws_are;
-      some = omega (arith, raws_len, placed_at.some);
+      some = omega (arith, raws_len, span.some);
     } in
-    let stops : behind (kept_by text entry) ≡ at2 = omega (arith, start, raws_len, placed_at.end_is, at2_is) in
-    let at2_so : at2 ≡ (at + length read.gap) + length read.chars = at2_is ∙ placed_at.end_is in
-    let rest : new.chars ≡ placed at2 (drop at2 text) = placed_at.rest ∙ ap (λ k. placed k (drop k text)) (sym at2_so) in
+    let stops : behind (kept_by text entry) ≡ at2 = omega (arith, starts, raws_len, span.some, at2_is) in
     let stand : StandFrom text mark (tokens ++ kept_by text entry ∷ []) =
     StandFrom-push text mark tokens (kept_by text entry) before.stand (subst (λ k. Stands text k (kept_by text entry)) (sym before.stop) stands) in
     record {
       items = before.items ++ read ∷ [];
       read = stepped d text before.items old new read before.read step;
       rest = rest;
-      reached = omega (arith, at2_so, placed_at.within);
+      up = subst (λ k. Ascend k (length text) new.chars) (sym at2_is) span.up;
       line_is = line2_is;
       kept = kept;
       items_stop = items_end-push mark before.items read ∙ sym at2_is;

@@ -6,3 +6,4 @@ pub mod StepLemmas
 pub mod KeptLemmas
 pub mod CountLemmas
 pub mod NextLemmas
+pub mod Spans

@@ -11,6 +11,9 @@ use Rattle.token_arena.specs.BuiltFacts.{built_entry}
 use Rattle.token_arena.specs.Entries.{kept_by}
 use Rattle.token_arena.specs.declared.arena.Entry.{Entry}
 use Rattle.token_arena.proofs.StepLemmas.{IsPlacedStep, placed_step, entry_told, line_at-more}
+use Rattle.c_chars.proofs.Spans.{ascend_fits}
+use Rattle.token_arena.proofs.Spans.{IsSpanned, spanned_step}
+use Rattle.c_chars.specs.Characters.{placed}
 use Rattle.token_arena.proofs.KeptLemmas.{IsKeptUpTo, kept_step}
 
 -- The item is in the text, behind what was read.
@@ -27,7 +30,7 @@ step_of d old new kind start raw e next = subst (λ z. IsStep z old.left new.lef
 placed_of : (d : Dialect) (text : List ℕ) (old new : Reading) (entries : List Entry) (at line : ℕ) (kind : ItemKind) (start : ℕ) (raw : List ℕ) → old.dialect ≡ d
     → IsKeptUpTo d text old.left entries at line → (next : IsNextItem old new kind start raw) → IsPlacedStep text at new.left next.read (length next.read.gap) (length next.read.chars)
 placed_of d text old new entries at line kind start raw e before next =
-    placed_step d text at old.left new.left next.read before.reached before.rest (step_of d old new kind start raw e next)
+    placed_step d text at old.left new.left next.read (ascend_fits at (length text) old.left.chars before.up) before.rest (step_of d old new kind start raw e next)
 
 length-raw : (text : List ℕ) (old new : Reading) (at : ℕ) (kind : ItemKind) (start : ℕ) (raw : List ℕ) → old.text ≡ text → (next : IsNextItem old new kind start raw)
     → IsPlacedStep text at new.left next.read (length next.read.gap) (length next.read.chars) → length raw ≡ length next.read.chars
@@ -67,11 +70,16 @@ next_kept d text old new entries at line kind start raw text_is dialect_is befor
     let grown : line_at text (start + length raw) ≡ line_at text start + count_by is_line_feed (take (length raw) (drop start text)) = line_at-more text start (length raw) in
     let same_line : line_at text (start_of next.read) ≡ line_at text start = ap (line_at text) (sym next.start_is) in
     let lines : made.line + (made.rows - 1) ≡ line_at text (start + length raw) = omega (arith, first_line, feeds, grown, same_line) in
+    let span : IsSpanned at (length text) next.read new.left.chars =
+    spanned_step at (length text) old.left.chars new.left.chars next.read before.up next.step.whole (omega (arith, placed_at.some)) in
+    let reach : (at + length next.read.gap) + length next.read.chars ≡ start + length raw = omega (arith, stops, placed_at.end_is) in
+    let rest = ap (λ k. placed k (drop k text)) reach in
+    let left = placed_at.rest ∙ rest in
     let all : IsKeptUpTo d text new.left (entries ++ made ∷ []) (start + length raw) (made.line + (made.rows - 1)) =
-    kept_step d text old.left new.left entries made at line (start + length raw) (made.line + (made.rows - 1)) next.read before (step_of d old new kind start raw dialect_is next) placed_at told room stops lines in
+    kept_step d text old.left new.left entries made at line (start + length raw) (made.line + (made.rows - 1)) next.read before (step_of d old new kind start raw dialect_is next) span left told room stops lines in
     subst (λ e. IsKeptUpTo d text new.left (entries ++ e ∷ []) (start + length raw) (e.line + (e.rows - 1))) (sym entry_is) all
 
 pub kept_line_small : (d : Dialect) (text : List ℕ) (left : Left) (entries : List Entry) (at line : ℕ) → IsKeptUpTo d text left entries at line → line ≤ length text + 1
 kept_line_small d text left entries at line all =
     let some : count_by is_line_feed (take at text) ≤ length (take at text) = count_by-le-length is_line_feed (take at text) in
-    omega (arith, all.line_is, some, length-take at text, all.reached)
+    omega (arith, all.line_is, some, length-take at text, ascend_fits at (length text) left.chars all.up)

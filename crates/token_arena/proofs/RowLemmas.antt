@@ -1,8 +1,16 @@
 -- Where the first row of an item ends, and where its last row begins.
 use Rattle.std.proofs.Common.{◌≡◌, ◌==◌, ◌∙◌, ℕ, zero, suc, ◌+◌, ◌-◌, ◌<◌, ◌≤◌, not, Bool, true, false, List, [], ◌∷◌, length, get_or, refl, sym, ap, arith, eq-eqb, count_by, if◌then◌else◌}
-use Rattle.std.specs.List.{position_or_len, suffix_len}
+use Rattle.std.specs.List.{position_or_len, suffix_len, list_all}
 use Rattle.std.proofs.lemmas.List.Sums.{position_or_len_is, suffix_len_is, sum_by-cons}
-use Rattle.token_arena.specs.Stored.{is_line_feed, first_row, last_row}
+use Rattle.token_arena.specs.Stored.{is_line_feed, first_row, last_row, width_of}
+use Rattle.std.specs.Str.{IsAscii, IsUtf8, chars}
+use Rattle.std.specs.Int.{is_in_range}
+use Rattle.std.proofs.lemmas.Bool.{and_parts}
+use Rattle.std.proofs.lemmas.Bool.Decides.{nat_tests}
+use Rattle.unicode_width.proofs.Rules.{str_width-printable}
+use Rattle.std.specs.Str.Lossy.{utf8_valid_len}
+use Rattle.std.proofs.lemmas.Str.{chars-IsAscii, utf8_valid_len-IsUtf8}
+use Rattle.unicode_width.specs.Width.{str_width}
 
 pub first_row_ends : (raw : List ℕ) (i : ℕ) → i ≤ length raw → ((k : ℕ) → k < i → is_line_feed (get_or raw k 0) ≡ false)
     → (i < length raw → get_or raw i 0 ≡ 10) → i ≡ position_or_len is_line_feed raw
@@ -42,3 +50,28 @@ pub last_row-one : (raw : List ℕ) → count_by is_line_feed raw ≡ 0 → last
 last_row-one raw none =
     let starts : 0 ≡ length raw - suffix_len (λ b. not (is_line_feed b)) raw = last_row_starts raw 0 (omega arith) (λ k later below. no_feed raw none k below) (λ some. absurd (omega arith)) in
     rw (← starts) refl
+
+-- a row that is UTF-8 is as wide as its text
+pub width_of-utf8 : (row : List ℕ) → IsUtf8 row → width_of row ≡ str_width false (chars row)
+width_of-utf8 row text =
+    let test : (utf8_valid_len row == length row) ≡ true = eq-eqb (utf8_valid_len row) (length row) (utf8_valid_len-IsUtf8 row text) in
+    ap (λ t. if t then str_width false (chars row) else length row) test
+
+-- printable ASCII is ASCII
+ascii : (row : List ℕ) → list_all (is_in_range 0x20 0x7E) row ≡ true → IsAscii row
+ascii [] h i = omega arith
+ascii (b ∷ row) h zero = in_ascii b (and_parts (is_in_range 0x20 0x7E b) (list_all (is_in_range 0x20 0x7E) row) h).0
+  where
+    in_ascii : (b : ℕ) → is_in_range 0x20 0x7E b ≡ true → b < 128
+    in_ascii b h = grind (arith, nat_tests)
+ascii (b ∷ row) h (suc i) = ascii row (and_parts (is_in_range 0x20 0x7E b) (list_all (is_in_range 0x20 0x7E) row) h).1 i
+
+either : (t : Bool) (x y : ℕ) → x ≡ y → (if t then x else y) ≡ y
+either true x y h = h
+either false x y h = refl
+
+-- a row of printable ASCII is as wide as it is long
+pub width_of-printable : (row : List ℕ) → list_all (is_in_range 0x20 0x7E) row ≡ true → width_of row ≡ length row
+width_of-printable row h =
+    let same : str_width false (chars row) ≡ length row = ap (str_width false) (chars-IsAscii row (ascii row h)) ∙ str_width-printable false row h in
+    either (utf8_valid_len row == length row) (str_width false (chars row)) (length row) same

@@ -1,7 +1,9 @@
 -- What is kept of an item: its kind and bytes, the gap before it, its line, its rows, and whether a backslash ends it.
-use Rattle.std.specs.Prelude.{◌==◌, ◌||◌, not, ℕ, ◌+◌, ◌-◌, Bool, true, false, List, [], ◌∷◌, length, take, sum_by, count_by, if◌then◌else◌}
+use Rattle.std.specs.Prelude.{chars, ◌==◌, ◌||◌, not, ℕ, ◌+◌, ◌-◌, Bool, true, false, List, [], ◌∷◌, length, take, sum_by, count_by, if◌then◌else◌}
 use Rattle.std.specs.List.{position_or_len, before_first, after_last}
 use Rattle.std.specs.Io.BufRead.{strip_last}
+use Rattle.std.specs.Str.Lossy.{utf8_valid_len}
+use Rattle.unicode_width.specs.Width.{str_width}
 use Rattle.c_chars.specs.Characters.{mark_len}
 use Rattle.c_chars.specs.declared.LogicalChar.{LogicalChar}
 use Rattle.c_grammar.specs.Grammar.{is_new_line}
@@ -50,9 +52,9 @@ first_row raw = if position_or_len is_line_feed raw == length raw then raw else 
 abbrev pub last_row : List ℕ → List ℕ
 last_row raw = after_last is_line_feed raw
 
--- how many columns a row takes: each built byte takes one
+-- how many columns a row takes: by the widths of its characters (Unicode Standard Annex 11); a row that is no UTF-8 takes one for each byte
 abbrev pub width_of : List ℕ → ℕ
-width_of row = length row
+width_of row = if utf8_valid_len row == length row then str_width false (chars row) else length row
 
 -- The item.
 

@@ -1,7 +1,8 @@
 //! What is kept of an item, from its bytes and those of the gap before it.
 
 ghost use Rattle.std.specs.Prelude.{◌≡◌, ◌<◌, ◌+◌, ◌-◌, ◌^◌, not, length, count_by};
-ghost use Rattle.std.specs.List.{position_or_len, suffix_len};
+ghost use Rattle.std.specs.Int.{is_in_range};
+ghost use Rattle.std.specs.List.{list_all, position_or_len, suffix_len};
 ghost use Rattle.std.specs.Io.BufRead.{strip_last};
 ghost use Rattle.token_arena.specs.Stored.{is_line_feed, rows_of, first_row, last_row, width_of};
 ghost use Rattle.token_arena.specs.BuiltFacts.{built_gap, ends_in_back, built_entry};
@@ -9,6 +10,8 @@ ghost use Rattle.token_arena.specs.BuiltFacts.{built_gap, ends_in_back, built_en
 use crate::arena::Entry;
 use c_lexer::Item;
 use line_tokens::GapFacts;
+use std::str::from_utf8;
+use unicode_width::UnicodeWidthStr;
 
 /// How many new-lines there are among these bytes.
 pub(crate) fn line_feeds(bytes: &[u8]) -> u32
@@ -84,12 +87,25 @@ fn last_row(raw: &[u8]) -> &[u8]
     &raw[last_row_start(raw)..]
 }
 
-/// How many columns a row takes.
+/// Whether each byte is a printable character of ASCII.
+fn is_printable(row: &[u8]) -> bool
+    ensures { result ≡ list_all (is_in_range 0x20 0x7E) row.now }
+{
+    row.iter().all(|b| (0x20..=0x7E).contains(b))
+}
+
+/// How many columns a row takes. Most rows are printable ASCII.
 fn width(row: &[u8]) -> u32
-    requires { length row.now < 2 ^ 32 }
+    requires { length row.now < 2 ^ 31 }
     ensures { result ≡ width_of row.now }
 {
-    row.len() as u32
+    if is_printable(row) {
+        return row.len() as u32;
+    }
+    match from_utf8(row) {
+        Ok(text) => text.width() as u32,
+        Err(_) => row.len() as u32,
+    }
 }
 
 /// How many rows an item has, and the widths of the first and of the last, in columns.
@@ -150,5 +166,28 @@ pub(crate) fn entry_of(item: &Item<'_>, is_first: bool, gap: &[u8], line: u32) -
         last_width: rows.last_width,
         kind: item.kind,
         back: ends_in_back(item.raw),
+    }
+}
+
+#[cfg(test)]
+mod tests {
+    use super::*;
+
+    #[test]
+    fn measures_each_row_in_columns(rt: HostRuntime) {
+        let cases: [(&[u8], u32, u32, u32); 5] = [
+            (b"word", 1, 4, 4),
+            ("/* \u{4e00} */".as_bytes(), 1, 8, 8),
+            (b"\"\xff\xfe\"", 1, 4, 4),
+            (b"/* a\r\nbc\n\t*/", 3, 4, 3),
+            (b"/*\r*/", 1, 5, 5),
+        ];
+        for (raw, count, first, last) in cases {
+            assert!(rt; raw.len() < 100);
+            let rows = rows_of(raw);
+            assert_eq!(rt; rows.count, count, "rows of {raw:?}");
+            assert_eq!(rt; rows.first_width, first, "first row of {raw:?}");
+            assert_eq!(rt; rows.last_width, last, "last row of {raw:?}");
+        }
     }
 }

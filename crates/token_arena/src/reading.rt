@@ -11,7 +11,7 @@ use crate::facts::entry_of;
 use crate::fault::ArenaFault;
 use bumpalo::Bump;
 use bumpalo::collections::into_bump_slice;
-use c_lexer::{Dialect, LIMIT, Lexer, first_not_built};
+use c_lexer::{BuiltLexer, Dialect, LIMIT, first_not_built};
 use std::alloc::AllocError;
 
 /// How many items a text has.
@@ -20,7 +20,7 @@ fn count_items(text: &[u8], dialect: Dialect) -> usize
     requires built { IsTrue (are_built text.now) }
     ensures { CountsItems dialect text.now result }
 {
-    let mut lexer = Lexer::new(text, dialect);
+    let mut lexer = BuiltLexer::new(text, dialect);
     let mut count = 0;
     while let Some(_item) = lexer.next_item() {
         count += 1;
@@ -35,7 +35,7 @@ fn entries_of<'a>(bump: &'a Bump, text: &[u8], dialect: Dialect) -> Result<&'a [
     ensures { IfOk result (λ entries. AreEntries text.now dialect entries.now) }
 {
     let mut entries = Vec::with_capacity(bump, count_items(text, dialect))?;
-    let mut lexer = Lexer::new(text, dialect);
+    let mut lexer = BuiltLexer::new(text, dialect);
     let mut at = 0;
     let mut line = 1;
     while let Some(item) = lexer.next_item() {
