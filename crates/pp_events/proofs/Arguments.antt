@@ -1,0 +1,26 @@
+-- Arguments by their number, and the parts of a string.
+use Rattle.std.proofs.Common.{◌≡◌, ℕ, zero, suc, ◌-◌, ◌<◌, false, List, [], ◌∷◌, ◌++◌, map, refl, ap, arith}
+use Rattle.pp_model.specs.Token.{part, one_more, Tok}
+use Rattle.pp_model.specs.Replace.{argument, spaced, parts_of, joined_tokens}
+use Rattle.pp_events.specs.View.{shown, tok_shown, spaceds_of, spaced_pairs, trimmed, tokens_of as shown_list}
+use Rattle.pp_events.specs.declared.token.Tok.{Tok as TokValue}
+use Rattle.pp_events.specs.declared.token.PpToken.{PpToken as TokenValue}
+
+pub argument_next : (a : List Tok) (rest : List (List Tok)) (k : ℕ) → 0 < k → argument (a ∷ rest) k ≡ argument rest (k - 1)
+argument_next a rest zero h = absurd (omega arith)
+argument_next a rest (suc k) h = ap (argument rest) (omega arith)
+
+pub argument_first : (a : List Tok) (rest : List (List Tok)) (k : ℕ) → k ≡ 0 → argument (a ∷ rest) k ≡ a
+argument_first a rest k e = ap (argument (a ∷ rest)) e
+
+spaced_shown : (ts : List TokValue) → spaceds_of (spaced_pairs ts) ≡ spaced (map tok_shown ts)
+spaced_shown [] = refl
+spaced_shown (t ∷ ts) = ap (part t.white (shown t.token)) (spaced_shown ts)
+
+pub parts_of_shown : (ts : List TokValue) → spaceds_of (trimmed (spaced_pairs ts)) ≡ parts_of (map tok_shown ts)
+parts_of_shown [] = refl
+parts_of_shown (t ∷ ts) = ap (part false (shown t.token)) (spaced_shown ts)
+
+pub joined_shown : (xs ys : List TokenValue) → shown_list (map shown (xs ++ ys)) ≡ joined_tokens (shown_list (map shown xs)) (shown_list (map shown ys))
+joined_shown [] ys = refl
+joined_shown (x ∷ xs) ys = ap (one_more (shown x)) (joined_shown xs ys)

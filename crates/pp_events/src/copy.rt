@@ -1,0 +1,126 @@
+//! Copies.
+
+ghost use Rattle.std.specs.Prelude.{◌≡◌, ℕ, List, [], ◌∷◌, map, IfOk};
+ghost use Rattle.pp_events.specs.View.{shown, shown_tokens, shown_spaceds, tok_shown, toks_shown};
+
+use crate::token::{PpToken, PpTokens, Spaced, SpacedList, Tok};
+use std::alloc::{AllocError, Global};
+use std::collections::VecDeque;
+
+/// A copy of a text.
+pub fn copy_bytes(alloc: Global, text: &[u8]) -> Result<Vec<u8>, AllocError>
+    ensures { IfOk result (λ r. r.items ≡ text.now) }
+{
+    let mut items = Vec::new(alloc);
+    items.extend_from_slice(text)?;
+    Ok(items)
+}
+
+/// A copy of a token.
+#[cycle(copying)]
+pub fn copy_token(alloc: Global, t: &PpToken) -> Result<PpToken, AllocError>
+    ensures { IfOk result (λ r. shown r ≡ shown t.now) }
+{
+    match t {
+        PpToken::Plain { text } => {
+            let copy = copy_bytes(alloc, text)?;
+            Ok(PpToken::Plain { text: copy })
+        }
+        PpToken::Line { number } => Ok(PpToken::Line { number: *number }),
+        PpToken::Str { parts } => {
+            let copy = copy_parts(alloc, parts)?;
+            Ok(PpToken::Str { parts: copy })
+        }
+        PpToken::Pasted { parts } => {
+            let copy = copy_tokens(alloc, parts)?;
+            Ok(PpToken::Pasted { parts: copy })
+        }
+    }
+}
+
+/// A copy of a list.
+#[cycle(copying)]
+pub fn copy_tokens(alloc: Global, ts: &PpTokens) -> Result<PpTokens, AllocError>
+    ensures { IfOk result (λ r. shown_tokens r ≡ shown_tokens ts.now) }
+{
+    let mut items = Vec::new(alloc);
+    for t in &ts.items {
+        items.push(copy_token(alloc, t)?)?;
+    }
+    Ok(PpTokens { items })
+}
+
+/// A copy of a string's parts.
+#[cycle(copying)]
+pub fn copy_parts(alloc: Global, ps: &SpacedList) -> Result<SpacedList, AllocError>
+    ensures { IfOk result (λ r. shown_spaceds r ≡ shown_spaceds ps.now) }
+{
+    let mut items = Vec::new(alloc);
+    for p in &ps.items {
+        let token = copy_token(alloc, &p.token)?;
+        items.push(Spaced {
+            token,
+            white: p.white,
+        })?;
+    }
+    Ok(SpacedList { items })
+}
+
+/// A copy of a list of names.
+pub fn copy_names(alloc: Global, names: &[Vec<u8>]) -> Result<Vec<Vec<u8>>, AllocError>
+    ensures { IfOk result (λ r. map (λ n. n.items) r.items ≡ map (λ n. n.items) names.now) }
+{
+    let mut out = Vec::new(alloc);
+    for n in names {
+        out.push(copy_bytes(alloc, n.as_slice())?)?;
+    }
+    Ok(out)
+}
+
+/// A copy of a token in an expansion.
+pub fn copy_tok(alloc: Global, t: &Tok) -> Result<Tok, AllocError>
+    ensures { IfOk result (λ r. tok_shown r ≡ tok_shown t.now) }
+{
+    let token = copy_token(alloc, &t.token)?;
+    let hide = copy_names(alloc, t.hide.as_slice())?;
+    Ok(Tok {
+        token,
+        kind: t.kind,
+        hide,
+        white: t.white,
+        line: t.line,
+    })
+}
+
+/// A copy of some tokens.
+pub fn copy_toks(alloc: Global, ts: &[Tok]) -> Result<Vec<Tok>, AllocError>
+    ensures { IfOk result (λ r. toks_shown r ≡ map tok_shown ts.now) }
+{
+    let mut out = Vec::new(alloc);
+    for t in ts {
+        out.push(copy_tok(alloc, t)?)?;
+    }
+    Ok(out)
+}
+
+/// A copy of what is left.
+pub fn copy_rest(alloc: Global, ts: &VecDeque<Tok>) -> Result<VecDeque<Tok>, AllocError>
+    ensures { IfOk result (λ r. map tok_shown r.items ≡ map tok_shown ts.now.items) }
+{
+    let mut out = VecDeque::new(alloc);
+    for i in 0..ts.len() {
+        out.push_back(copy_tok(alloc, &ts[i])?)?;
+    }
+    Ok(out)
+}
+
+/// A copy of some arguments.
+pub fn copy_args(alloc: Global, args: &[Vec<Tok>]) -> Result<VecDeque<Vec<Tok>>, AllocError>
+    ensures { IfOk result (λ r. map toks_shown r.items ≡ map toks_shown args.now) }
+{
+    let mut out = VecDeque::new(alloc);
+    for a in args {
+        out.push_back(copy_toks(alloc, a.as_slice())?)?;
+    }
+    Ok(out)
+}

@@ -1,0 +1,380 @@
+//! The expansion of a text, one step after another.
+
+ghost use Rattle.std.specs.Prelude.{◌≡◌, ℕ, ◌<◌, ◌^◌, List, [], ◌∷◌, ◌++◌, length, map, IfOk, IfSome, Option, Some, None, option_map, reverse};
+ghost use Rattle.pp_model.specs.Token.{Tok, text_of};
+ghost use Rattle.pp_model.specs.Macro.{lookup};
+ghost use Rattle.pp_model.specs.Call.{begin, begin_macro, begin_call, with_actuals, named, fits, no_tokens};
+ghost use Rattle.pp_model.specs.Expand.{resume, run, expand, settle, is_line, step, close, expanded, is_over};
+ghost use Rattle.pp_model.specs.Replace.{replacement};
+ghost use Rattle.pp_events.specs.View.{shown, tok_shown, toks_shown, part_shown, macro_shown, actuals_shown};
+ghost use Rattle.pp_events.specs.MachineView.{call_shown, calls_shown, state_shown, begun_shown, expanded_shown};
+
+use crate::Spellings;
+use crate::call::{collect_actuals, is_identifier_kind, is_spelled};
+use crate::copy::{copy_args, copy_bytes, copy_rest};
+use crate::replace::{common_names, contains_name, replacement_of};
+use crate::state::{Begun, Call, State};
+use crate::token::{Actuals, Macro, Part, PpToken, Tok};
+use c_grammar::ItemKind;
+use std::alloc::{AllocError, Global};
+use std::collections::VecDeque;
+
+/// The spelling of a plain token.
+fn spelling_of(token: &PpToken) -> &[u8]
+    ensures { result.now ≡ text_of (shown token.now) }
+{
+    match token {
+        PpToken::Plain { text } => text.as_slice(),
+        PpToken::Line { .. } => &[],
+        PpToken::Str { .. } => &[],
+        PpToken::Pasted { .. } => &[],
+    }
+}
+
+/// The macro of a name: the first entry decides.
+fn look_up<'t>(table: &'t [Macro], name: &[u8]) -> Option<&'t Macro>
+    ensures { option_map (λ m. macro_shown m.now) result ≡ lookup (map macro_shown table.now) name.now }
+{
+    for m in table {
+        if m.name.as_slice() == name {
+            return Some(m);
+        }
+    }
+    None
+}
+
+/// The macro that a token names.
+fn named_macro<'t>(table: &'t [Macro], token: &Tok) -> Option<&'t Macro>
+    ensures { option_map (λ m. macro_shown m.now) result ≡ named (map macro_shown table.now) (tok_shown token.now) }
+{
+    let name = spelling_of(&token.token);
+    if is_identifier_kind(token.kind) && !contains_name(token.hide.as_slice(), name) {
+        look_up(table, name)
+    } else {
+        None
+    }
+}
+
+/// Whether there is one argument, and it is empty.
+fn is_one_empty(args: &[Vec<Tok>]) -> bool
+    ensures { result ≡ no_tokens (map toks_shown args.now) }
+{
+    args.len() == 1 && args[0].is_empty()
+}
+
+/// Whether the number of arguments is right.
+fn has_right_number(m: &Macro, args: &[Vec<Tok>]) -> bool
+    ensures { result ≡ fits (macro_shown m.now) (map toks_shown args.now) }
+{
+    let n = args.len();
+    if m.variadic {
+        n > 0 && n - 1 == m.arity
+    } else {
+        n == m.arity || m.arity == 0 && is_one_empty(args)
+    }
+}
+
+/// A name before a list of names.
+fn with_name(alloc: Global, name: &[u8], names: &[Vec<u8>]) -> Result<Vec<Vec<u8>>, AllocError>
+    ensures { IfOk result (λ r. map (λ n. n.items) r.items ≡ name.now ∷ map (λ n. n.items) names.now) }
+{
+    let mut out = Vec::new(alloc);
+    out.push(copy_bytes(alloc, name)?)?;
+    for n in names {
+        out.push(copy_bytes(alloc, n.as_slice())?)?;
+    }
+    Ok(out)
+}
+
+/// A call whose arguments were read, where their number is right.
+fn with_arguments<'t>(
+    alloc: Global,
+    m: &'t Macro,
+    token: &Tok,
+    a: Actuals,
+) -> Result<Option<Begun<'t>>, AllocError>
+    ensures begun { IfOk result (λ r. option_map begun_shown r ≡ with_actuals (macro_shown m.now) (tok_shown token.now) (actuals_shown a)) }
+    ensures waiting { IfOk result (λ r. IfSome r (λ b. map toks_shown b.waiting.items ≡ map toks_shown b.args.items)) }
+{
+    if has_right_number(m, a.args.as_slice()) {
+        let both = common_names(alloc, token.hide.as_slice(), a.close.as_slice())?;
+        let hide = with_name(alloc, m.name.as_slice(), both.as_slice())?;
+        let waiting = copy_args(alloc, a.args.as_slice())?;
+        Ok(Some(Begun {
+            named: m,
+            hide,
+            args: a.args,
+            waiting,
+            after: a.after,
+        }))
+    } else {
+        Ok(None)
+    }
+}
+
+/// A call of a function-like macro.
+fn begin_function<'t>(
+    alloc: Global,
+    m: &'t Macro,
+    token: &Tok,
+    rest: &VecDeque<Tok>,
+) -> Result<Option<Begun<'t>>, AllocError>
+    ensures begun { IfOk result (λ r. option_map begun_shown r ≡ begin_call (macro_shown m.now) (tok_shown token.now) (map tok_shown rest.now.items)) }
+    ensures waiting { IfOk result (λ r. IfSome r (λ b. map toks_shown b.waiting.items ≡ map toks_shown b.args.items)) }
+{
+    let mut copy = copy_rest(alloc, rest)?;
+    match copy.pop_front() {
+        None => Ok(None),
+        Some(open) => {
+            if is_spelled(&open, b"(") {
+                let limit = if m.variadic { Some(m.arity) } else { None };
+                match collect_actuals(alloc, limit, copy)? {
+                    None => Ok(None),
+                    Some(a) => with_arguments(alloc, m, token, a),
+                }
+            } else {
+                Ok(None)
+            }
+        }
+    }
+}
+
+/// The replacement that a name of a macro begins.
+fn begin_named<'t>(
+    alloc: Global,
+    m: &'t Macro,
+    token: &Tok,
+    rest: &VecDeque<Tok>,
+) -> Result<Option<Begun<'t>>, AllocError>
+    ensures begun { IfOk result (λ r. option_map begun_shown r ≡ begin_macro (tok_shown token.now) (map tok_shown rest.now.items) (macro_shown m.now)) }
+    ensures waiting { IfOk result (λ r. IfSome r (λ b. map toks_shown b.waiting.items ≡ map toks_shown b.args.items)) }
+{
+    if m.function_like {
+        begin_function(alloc, m, token, rest)
+    } else {
+        let hide = with_name(alloc, m.name.as_slice(), token.hide.as_slice())?;
+        let after = copy_rest(alloc, rest)?;
+        Ok(Some(Begun {
+            named: m,
+            hide,
+            args: Vec::new(alloc),
+            waiting: VecDeque::new(alloc),
+            after,
+        }))
+    }
+}
+
+/// The replacement that a token begins, with what follows it.
+fn begin_at<'t>(
+    alloc: Global,
+    table: &'t [Macro],
+    token: &Tok,
+    rest: &VecDeque<Tok>,
+) -> Result<Option<Begun<'t>>, AllocError>
+    ensures begun { IfOk result (λ r. option_map begun_shown r ≡ begin (map macro_shown table.now) (tok_shown token.now) (map tok_shown rest.now.items)) }
+    ensures waiting { IfOk result (λ r. IfSome r (λ b. map toks_shown b.waiting.items ≡ map toks_shown b.args.items)) }
+{
+    match named_macro(table, token) {
+        None => Ok(None),
+        Some(m) => begin_named(alloc, m, token, rest),
+    }
+}
+
+/// Whether the token is `__LINE__`.
+fn is_line_name(token: &Tok) -> bool
+    ensures { result ≡ is_line (tok_shown token.now) }
+{
+    is_identifier_kind(token.kind) && is_spelled(token, b"__LINE__")
+}
+
+/// A token that stays.
+fn settled(token: Tok) -> Tok
+    ensures { tok_shown result ≡ settle (tok_shown token) }
+{
+    if is_line_name(&token) {
+        let white = token.white;
+        let line = token.line;
+        Tok {
+            token: PpToken::Line { number: line },
+            kind: ItemKind::Other,
+            hide: token.hide,
+            white,
+            line,
+        }
+    } else {
+        token
+    }
+}
+
+/// The tokens before the others.
+fn put_before(mut tokens: Vec<Tok>, rest: &mut VecDeque<Tok>) -> Result<(), AllocError>
+    ensures { IfOk result (λ _. rest.new.items ≡ tokens.items ++ rest.old.items) }
+{
+    while let Some(t) = tokens.pop() {
+        rest.push_front(t)?;
+    }
+    Ok(())
+}
+
+/// Goes on with a call, whose next argument is read or whose replacement is.
+fn resume_call<'t, R: Spellings>(
+    alloc: Global,
+    reader: &R,
+    mut call: Call<'t>,
+    mut calls: VecDeque<Call<'t>>,
+) -> Result<State<'t>, AllocError>
+    ensures { IfOk result (λ s. state_shown s ≡ resume (R.kinds reader.now) (call_shown call.entry) (calls_shown calls.entry) (map toks_shown call.entry.waiting.items)) }
+{
+    match call.waiting.pop_front() {
+        None => {
+            let named = call.named;
+            let line = call.line;
+            let made = replacement_of(
+                alloc,
+                reader,
+                line,
+                call.hide.as_slice(),
+                call.written.as_slice(),
+                call.full.as_slice(),
+                named.body.as_slice(),
+            )?;
+            let mut rest = call.after;
+            put_before(made, &mut rest)?;
+            Ok(State {
+                rest,
+                out: call.before,
+                calls,
+            })
+        }
+        Some(argument) => {
+            let mut rest = VecDeque::new(alloc);
+            put_before(argument, &mut rest)?;
+            calls.push_front(call)?;
+            Ok(State {
+                rest,
+                out: Vec::new(alloc),
+                calls,
+            })
+        }
+    }
+}
+
+/// Whether nothing is left to be read.
+fn is_done<'t>(state: &State<'t>) -> bool
+    ensures { result ≡ is_over (state_shown state.now) }
+{
+    state.rest.is_empty() && state.calls.is_empty()
+}
+
+/// A call with one more expanded argument.
+fn with_expanded<'t>(mut call: Call<'t>, out: Vec<Tok>) -> Result<Call<'t>, AllocError>
+    ensures { IfOk result (λ r. call_shown r ≡ expanded (call_shown call.entry) (map tok_shown out.items)) }
+{
+    call.full.push(out)?;
+    Ok(call)
+}
+
+/// The end of an argument.
+fn close_call<'t, R: Spellings>(
+    alloc: Global,
+    reader: &R,
+    rest: VecDeque<Tok>,
+    out: Vec<Tok>,
+    mut calls: VecDeque<Call<'t>>,
+) -> Result<State<'t>, AllocError>
+    requires { rest.items ≡ [] }
+    ensures { IfOk result (λ r. state_shown r ≡ close (R.kinds reader.now) (map tok_shown out.items) (calls_shown calls.entry)) }
+{
+    match calls.pop_front() {
+        None => Ok(State { rest, out, calls }),
+        Some(call) => {
+            let call = with_expanded(call, out)?;
+            resume_call(alloc, reader, call, calls)
+        }
+    }
+}
+
+/// One step, which spends one turn.
+fn step_once<'t, R: Spellings>(
+    alloc: Global,
+    reader: &R,
+    table: &'t [Macro],
+    state: State<'t>,
+) -> Result<State<'t>, AllocError>
+    ensures { IfOk result (λ r. state_shown r ≡ step (R.kinds reader.now) (map macro_shown table.now) (state_shown state.entry)) }
+{
+    let State {
+        mut rest,
+        mut out,
+        calls,
+    } = state;
+    match rest.pop_front() {
+        None => close_call(alloc, reader, rest, out, calls),
+        Some(token) => match begin_at(alloc, table, &token, &rest)? {
+            None => {
+                out.push(settled(token))?;
+                Ok(State { rest, out, calls })
+            }
+            Some(begun) => {
+                let line = token.line;
+                let call = Call {
+                    named: begun.named,
+                    line,
+                    hide: begun.hide,
+                    written: begun.args,
+                    full: Vec::new(alloc),
+                    waiting: begun.waiting,
+                    before: out,
+                    after: begun.after,
+                };
+                resume_call(alloc, reader, call, calls)
+            }
+        },
+    }
+}
+
+/// The expansion of a text, and the turns that are left; none where they don't suffice.
+#[tactic(auto, using(crate::proofs::Runs::run_over, crate::proofs::Runs::run_spent, crate::proofs::Runs::run_step))]
+fn run_all<'t, R: Spellings>(
+    alloc: Global,
+    reader: &R,
+    table: &'t [Macro],
+    turns: u64,
+    start: State<'t>,
+) -> Result<Option<(Vec<Tok>, u64)>, AllocError>
+    ensures { IfOk result (λ r. expanded_shown r ≡ run (R.kinds reader.now) (map macro_shown table.now) turns (state_shown start.entry)) }
+{
+    let mut left = turns;
+    let mut state = start;
+    'turns: loop {
+        if is_done(&state) {
+            return Ok(Some((state.out, left)));
+        }
+        if left == 0 {
+            return Ok(None);
+        }
+        left -= 1;
+        state = step_once(alloc, reader, table, state)?;
+    }
+}
+
+/// The expansion of a text, and the turns that are left; none where they don't suffice.
+///
+/// Each step spends a turn: reading a token, a whole call where it begins one, or ending an
+/// argument (C11 6.10.3.1, 6.10.3.4).
+pub fn expand<R: Spellings>(
+    alloc: Global,
+    reader: &R,
+    table: &[Macro],
+    turns: u64,
+    text: VecDeque<Tok>,
+) -> Result<Option<(Vec<Tok>, u64)>, AllocError>
+    ensures { IfOk result (λ r. expanded_shown r ≡ expand (R.kinds reader.now) (map macro_shown table.now) turns (map tok_shown text.items)) }
+{
+    let start = State {
+        rest: text,
+        out: Vec::new(alloc),
+        calls: VecDeque::new(alloc),
+    };
+    run_all(alloc, reader, table, turns, start)
+}

@@ -1,0 +1,466 @@
+//! What a macro's body becomes.
+
+ghost use Rattle.std.specs.Prelude.{◌≡◌, ℕ, List, [], ◌∷◌, ◌++◌, map, IfOk, Option, option_map, flat_map, Bool};
+ghost use Rattle.pp_model.specs.Token.{Tok, common, is_in};
+ghost use Rattle.pp_model.specs.Replace.{Piece, pieces, pieces_of, tokens_of, argument, parts_of, quoted, paste, paste_all, paste_from, join, kept, hidden, joined, lined, placed, free, two, pasted, joined_tokens, replacement};
+ghost use Rattle.pp_events.specs.View.{shown, shown_tokens, shown_spaceds, tok_shown, toks_shown, part_shown, piece_shown, shown_spaced, spaceds_of, spaced_pairs, trimmed, what_shown, tokens_of as shown_list};
+
+use crate::Spellings;
+use crate::copy::{copy_bytes, copy_names, copy_tok, copy_token, copy_toks};
+use crate::token::{Part, Piece, PpToken, PpTokens, Spaced, SpacedList, Tok, What};
+use c_grammar::ItemKind;
+use std::alloc::{AllocError, Global};
+use std::collections::VecDeque;
+
+/// Whether a name is in a list.
+pub fn contains_name(names: &[Vec<u8>], name: &[u8]) -> bool
+    ensures { result ≡ is_in name.now (map (λ n. n.items) names.now) }
+{
+    for n in names {
+        if name == n.as_slice() {
+            return true;
+        }
+    }
+    false
+}
+
+/// The names in both.
+pub fn common_names(alloc: Global, a: &[Vec<u8>], b: &[Vec<u8>]) -> Result<Vec<Vec<u8>>, AllocError>
+    ensures { IfOk result (λ r. map (λ n. n.items) r.items ≡ common (map (λ n. n.items) a.now) (map (λ n. n.items) b.now)) }
+{
+    let mut out = Vec::new(alloc);
+    for n in a {
+        if contains_name(b, n.as_slice()) {
+            out.push(copy_bytes(alloc, n.as_slice())?)?;
+        }
+    }
+    Ok(out)
+}
+
+/// The spelling of two plain tokens beside each other.
+fn joined_text(alloc: Global, a: &PpToken, b: &PpToken) -> Result<Option<Vec<u8>>, AllocError>
+    ensures { IfOk result (λ r. option_map (λ v. v.items) r ≡ joined (shown a.now) (shown b.now)) }
+{
+    match a {
+        PpToken::Plain { text: s } => match b {
+            PpToken::Plain { text: t } => {
+                let mut text = copy_bytes(alloc, s.as_slice())?;
+                text.extend_from_slice(t.as_slice())?;
+                Ok(Some(text))
+            }
+            PpToken::Line { .. } => Ok(None),
+            PpToken::Str { .. } => Ok(None),
+            PpToken::Pasted { .. } => Ok(None),
+        },
+        PpToken::Line { .. } => Ok(None),
+        PpToken::Str { .. } => Ok(None),
+        PpToken::Pasted { .. } => Ok(None),
+    }
+}
+
+/// One token in a list.
+fn one_in_list(alloc: Global, t: PpToken) -> Result<Vec<PpToken>, AllocError>
+    ensures { IfOk result (λ r. map shown r.items ≡ shown t ∷ []) }
+{
+    let mut items = Vec::new(alloc);
+    items.push(t)?;
+    Ok(items)
+}
+
+/// What was pasted in a token.
+fn pasted_items(alloc: Global, t: PpToken) -> Result<Vec<PpToken>, AllocError>
+    ensures { IfOk result (λ r. shown_list (map shown r.items) ≡ pasted (shown t)) }
+{
+    match t {
+        PpToken::Pasted { parts } => Ok(parts.items),
+        PpToken::Plain { text } => one_in_list(alloc, PpToken::Plain { text }),
+        PpToken::Line { number } => one_in_list(alloc, PpToken::Line { number }),
+        PpToken::Str { parts } => one_in_list(alloc, PpToken::Str { parts }),
+    }
+}
+
+/// One list behind another.
+fn joined_items(first: Vec<PpToken>, second: Vec<PpToken>) -> Result<Vec<PpToken>, AllocError>
+    ensures { IfOk result (λ r. r.items ≡ first.items ++ second.items) }
+{
+    let mut out = first;
+    let mut second = second;
+    out.append(&mut second)?;
+    Ok(out)
+}
+
+/// A list of tokens.
+fn as_tokens(items: Vec<PpToken>) -> PpTokens
+    ensures { shown_tokens result ≡ shown_list (map shown items.items) }
+{
+    PpTokens { items }
+}
+
+/// All that was pasted in two tokens.
+#[tactic(auto, using(crate::proofs::Arguments::joined_shown))]
+fn two_tokens(alloc: Global, a: PpToken, b: PpToken) -> Result<PpTokens, AllocError>
+    ensures { IfOk result (λ r. shown_tokens r ≡ joined_tokens (pasted (shown a)) (pasted (shown b))) }
+{
+    let first = pasted_items(alloc, a)?;
+    let second = pasted_items(alloc, b)?;
+    Ok(as_tokens(joined_items(first, second)?))
+}
+
+/// A paste that is no item.
+fn pasted_token(alloc: Global, a: PpToken, b: PpToken) -> Result<PpToken, AllocError>
+    ensures { IfOk result (λ r. shown r ≡ two (shown a) (shown b)) }
+{
+    let parts = two_tokens(alloc, a, b)?;
+    Ok(PpToken::Pasted { parts })
+}
+
+/// What `##` makes of two tokens.
+pub fn paste_tokens<R: Spellings>(
+    alloc: Global,
+    reader: &R,
+    a: Tok,
+    b: Tok,
+) -> Result<Tok, AllocError>
+    ensures { IfOk result (λ r. tok_shown r ≡ paste (R.kinds reader.now) (tok_shown a) (tok_shown b)) }
+{
+    let hide = common_names(alloc, a.hide.as_slice(), b.hide.as_slice())?;
+    let white = a.white;
+    let line = a.line;
+    match joined_text(alloc, &a.token, &b.token)? {
+        Some(text) => match reader.kind_of(text.as_slice()) {
+            Some(kind) => Ok(Tok {
+                token: PpToken::Plain { text },
+                kind,
+                hide,
+                white,
+                line,
+            }),
+            None => Ok(Tok {
+                token: pasted_token(alloc, a.token, b.token)?,
+                kind: ItemKind::Other,
+                hide,
+                white,
+                line,
+            }),
+        },
+        None => Ok(Tok {
+            token: pasted_token(alloc, a.token, b.token)?,
+            kind: ItemKind::Other,
+            hide,
+            white,
+            line,
+        }),
+    }
+}
+
+/// The argument of a parameter, empty past the last.
+#[tactic(auto, using(crate::proofs::Arguments::argument_next, crate::proofs::Arguments::argument_first))]
+fn argument_of(args: &[Vec<Tok>], i: usize) -> &[Tok]
+    ensures { map tok_shown result.now ≡ argument (map toks_shown args.now) i }
+{
+    let mut k = i;
+    for a in args {
+        if k == 0 {
+            return a.as_slice();
+        }
+        k -= 1;
+    }
+    &[]
+}
+
+/// The tokens of an argument as parts of a string.
+fn quoted_items(alloc: Global, ts: &[Tok]) -> Result<Vec<Spaced>, AllocError>
+    ensures { IfOk result (λ r. map shown_spaced r.items ≡ spaced_pairs ts.now) }
+{
+    let mut items = Vec::new(alloc);
+    for t in ts {
+        let token = copy_token(alloc, &t.token)?;
+        items.push(Spaced {
+            token,
+            white: t.white,
+        })?;
+    }
+    Ok(items)
+}
+
+/// A list of parts.
+fn as_parts(items: Vec<Spaced>) -> SpacedList
+    ensures { shown_spaceds result ≡ spaceds_of (map shown_spaced items.items) }
+{
+    SpacedList { items }
+}
+
+/// The parts, with no white space before the first.
+fn trimmed(items: Vec<Spaced>) -> Vec<Spaced>
+    ensures { map shown_spaced result.items ≡ trimmed (map shown_spaced items.items) }
+{
+    let mut items = items;
+    if let Some(first) = items.first_mut() {
+        first.white = false;
+    }
+    items
+}
+
+/// The string that `#` makes.
+#[tactic(auto, using(crate::proofs::Arguments::parts_of_shown))]
+fn quoted_parts(alloc: Global, ts: &[Tok]) -> Result<SpacedList, AllocError>
+    ensures { IfOk result (λ r. shown_spaceds r ≡ parts_of (map tok_shown ts.now)) }
+{
+    let items = quoted_items(alloc, ts)?;
+    Ok(as_parts(trimmed(items)))
+}
+
+/// The token that `#` makes.
+fn quoted_tok(alloc: Global, line: u64, ts: &[Tok]) -> Result<Tok, AllocError>
+    ensures { IfOk result (λ r. tok_shown r ≡ quoted line (map tok_shown ts.now)) }
+{
+    let parts = quoted_parts(alloc, ts)?;
+    Ok(Tok {
+        token: PpToken::Str { parts },
+        kind: ItemKind::Other,
+        hide: Vec::new(alloc),
+        white: false,
+        line,
+    })
+}
+
+/// One token.
+fn one_token(alloc: Global, t: Tok) -> Result<Vec<Tok>, AllocError>
+    ensures { IfOk result (λ r. map tok_shown r.items ≡ tok_shown t ∷ []) }
+{
+    let mut out = Vec::new(alloc);
+    out.push(t)?;
+    Ok(out)
+}
+
+/// A token on another line.
+fn lined_tok(t: Tok, line: u64) -> Tok
+    ensures { tok_shown result ≡ lined line (tok_shown t) }
+{
+    Tok {
+        token: t.token,
+        kind: t.kind,
+        hide: t.hide,
+        white: t.white,
+        line,
+    }
+}
+
+/// What a part stands for.
+fn tokens_of_part(
+    alloc: Global,
+    line: u64,
+    written: &[Vec<Tok>],
+    full: &[Vec<Tok>],
+    what: &What,
+) -> Result<Vec<Tok>, AllocError>
+    ensures { IfOk result (λ r. map tok_shown r.items ≡ tokens_of line (map toks_shown written.now) (map toks_shown full.now) (what_shown what.now)) }
+{
+    match what {
+        What::Word(t) => {
+            let copy = copy_tok(alloc, t)?;
+            one_token(alloc, lined_tok(copy, line))
+        }
+        What::Full(i) => copy_toks(alloc, argument_of(full, *i)),
+        What::Written(i) => copy_toks(alloc, argument_of(written, *i)),
+        What::Quoted(i) => {
+            let made = quoted_tok(alloc, line, argument_of(written, *i))?;
+            one_token(alloc, made)
+        }
+    }
+}
+
+/// A token with other white space before it.
+fn placed_tok(t: Tok, white: bool) -> Tok
+    ensures { tok_shown result ≡ placed white (tok_shown t) }
+{
+    Tok {
+        token: t.token,
+        kind: t.kind,
+        hide: t.hide,
+        white,
+        line: t.line,
+    }
+}
+
+/// The pieces of a part, after others.
+fn add_pieces(
+    out: &mut VecDeque<Piece>,
+    glue: bool,
+    white: bool,
+    toks: VecDeque<Tok>,
+) -> Result<(), AllocError>
+    ensures { IfOk result (λ _. map piece_shown out.new.items ≡ map piece_shown out.old.items ++ pieces glue white (map tok_shown toks.items)) }
+{
+    let mut toks = toks;
+    match toks.pop_front() {
+        None => {
+            out.push_back(Piece { tok: None, glue })?;
+            Ok(())
+        }
+        Some(first) => {
+            out.push_back(Piece {
+                tok: Some(placed_tok(first, white)),
+                glue,
+            })?;
+            add_free(out, toks)
+        }
+    }
+}
+
+/// Tokens with no paste before them, after other pieces.
+fn add_free(out: &mut VecDeque<Piece>, toks: VecDeque<Tok>) -> Result<(), AllocError>
+    ensures { IfOk result (λ _. map piece_shown out.new.items ≡ map piece_shown out.old.items ++ map free (map tok_shown toks.items)) }
+{
+    let mut toks = toks;
+    while let Some(t) = toks.pop_front() {
+        out.push_back(Piece {
+            tok: Some(t),
+            glue: false,
+        })?;
+    }
+    Ok(())
+}
+
+/// The first tokens first.
+fn in_order(alloc: Global, toks: Vec<Tok>) -> Result<VecDeque<Tok>, AllocError>
+    ensures { IfOk result (λ r. r.items ≡ toks.items) }
+{
+    let mut toks = toks;
+    let mut out = VecDeque::new(alloc);
+    while let Some(t) = toks.pop() {
+        out.push_front(t)?;
+    }
+    Ok(out)
+}
+
+/// The pieces of a body.
+fn body_pieces(
+    alloc: Global,
+    line: u64,
+    written: &[Vec<Tok>],
+    full: &[Vec<Tok>],
+    body: &[Part],
+) -> Result<VecDeque<Piece>, AllocError>
+    ensures { IfOk result (λ r. map piece_shown r.items ≡ flat_map (pieces_of line (map toks_shown written.now) (map toks_shown full.now)) (map part_shown body.now)) }
+{
+    let mut out = VecDeque::new(alloc);
+    for p in body {
+        let toks = tokens_of_part(alloc, line, written, full, &p.what)?;
+        let toks = in_order(alloc, toks)?;
+        add_pieces(&mut out, p.glue, p.white, toks)?;
+    }
+    Ok(out)
+}
+
+/// What `##` makes of two pieces.
+fn join_toks<R: Spellings>(
+    alloc: Global,
+    reader: &R,
+    a: Option<Tok>,
+    b: Option<Tok>,
+) -> Result<Option<Tok>, AllocError>
+    ensures { IfOk result (λ r. option_map tok_shown r ≡ join (R.kinds reader.now) (option_map tok_shown a) (option_map tok_shown b)) }
+{
+    match a {
+        None => Ok(b),
+        Some(a) => match b {
+            None => Ok(Some(a)),
+            Some(b) => {
+                let made = paste_tokens(alloc, reader, a, b)?;
+                Ok(Some(made))
+            }
+        },
+    }
+}
+
+/// Pastes from left to right, from a first piece on.
+fn paste_rest<R: Spellings>(
+    alloc: Global,
+    reader: &R,
+    first: Piece,
+    rest: VecDeque<Piece>,
+) -> Result<VecDeque<Piece>, AllocError>
+    ensures { IfOk result (λ r. map piece_shown r.items ≡ paste_from (R.kinds reader.now) (piece_shown first) (map piece_shown rest.items)) }
+{
+    let mut out = VecDeque::new(alloc);
+    let mut p = first;
+    let mut rest = rest;
+    while let Some(q) = rest.pop_front() {
+        if q.glue {
+            p = Piece {
+                tok: join_toks(alloc, reader, p.tok, q.tok)?,
+                glue: false,
+            };
+        } else {
+            out.push_back(p)?;
+            p = q;
+        }
+    }
+    out.push_back(p)?;
+    Ok(out)
+}
+
+/// Pastes from left to right.
+fn paste_pieces<R: Spellings>(
+    alloc: Global,
+    reader: &R,
+    ps: VecDeque<Piece>,
+) -> Result<VecDeque<Piece>, AllocError>
+    ensures { IfOk result (λ r. map piece_shown r.items ≡ paste_all (R.kinds reader.now) (map piece_shown ps.items)) }
+{
+    let mut ps = ps;
+    match ps.pop_front() {
+        None => Ok(ps),
+        Some(p) => paste_rest(alloc, reader, p, ps),
+    }
+}
+
+/// A token with more names in its hide set.
+fn hidden_tok(alloc: Global, hide: &[Vec<u8>], t: Tok) -> Result<Tok, AllocError>
+    ensures { IfOk result (λ r. tok_shown r ≡ hidden (map (λ n. n.items) hide.now) (tok_shown t)) }
+{
+    let mut names = copy_names(alloc, hide)?;
+    for n in &t.hide {
+        names.push(copy_bytes(alloc, n.as_slice())?)?;
+    }
+    Ok(Tok {
+        token: t.token,
+        kind: t.kind,
+        hide: names,
+        white: t.white,
+        line: t.line,
+    })
+}
+
+/// The tokens of pieces, without placemarkers, each with more names in its hide set.
+fn kept_toks(alloc: Global, hide: &[Vec<u8>], ps: VecDeque<Piece>) -> Result<Vec<Tok>, AllocError>
+    ensures { IfOk result (λ r. map tok_shown r.items ≡ map (hidden (map (λ n. n.items) hide.now)) (kept (map piece_shown ps.items))) }
+{
+    let mut out = Vec::new(alloc);
+    let mut ps = ps;
+    while let Some(p) = ps.pop_front() {
+        if let Some(t) = p.tok {
+            let made = hidden_tok(alloc, hide, t)?;
+            out.push(made)?;
+        }
+    }
+    Ok(out)
+}
+
+/// The replacement of a macro.
+pub fn replacement_of<R: Spellings>(
+    alloc: Global,
+    reader: &R,
+    line: u64,
+    hide: &[Vec<u8>],
+    written: &[Vec<Tok>],
+    full: &[Vec<Tok>],
+    body: &[Part],
+) -> Result<Vec<Tok>, AllocError>
+    ensures { IfOk result (λ r. map tok_shown r.items ≡ replacement (R.kinds reader.now) line (map (λ n. n.items) hide.now) (map toks_shown written.now) (map toks_shown full.now) (map part_shown body.now)) }
+{
+    let made = body_pieces(alloc, line, written, full, body)?;
+    let pasted = paste_pieces(alloc, reader, made)?;
+    kept_toks(alloc, hide, pasted)
+}
