@@ -1,0 +1,6 @@
+pub mod Range
+pub mod Words
+pub mod Keys
+pub mod Values
+pub mod Named
+pub mod Dump

@@ -1,0 +1,264 @@
+//! The keys of a configuration.
+
+/// A key of a configuration, in the order in which a style is written.
+#[derive(Clone, Copy, Debug, PartialEq, Eq)]
+pub enum Key {
+    /// `ColumnLimit`.
+    ColumnLimit,
+    /// `IndentWidth`.
+    IndentWidth,
+    /// `ContinuationIndentWidth`.
+    ContinuationIndentWidth,
+    /// `TabWidth`.
+    TabWidth,
+    /// `UseTab`.
+    UseTab,
+    /// `BreakBeforeBraces`.
+    BreakBeforeBraces,
+    /// `BraceWrapping.AfterCaseLabel`.
+    BraceWrappingAfterCaseLabel,
+    /// `BraceWrapping.AfterEnum`.
+    BraceWrappingAfterEnum,
+    /// `BraceWrapping.AfterExternBlock`.
+    BraceWrappingAfterExternBlock,
+    /// `BraceWrapping.AfterFunction`.
+    BraceWrappingAfterFunction,
+    /// `BraceWrapping.AfterStruct`.
+    BraceWrappingAfterStruct,
+    /// `BraceWrapping.AfterUnion`.
+    BraceWrappingAfterUnion,
+    /// `BraceWrapping.BeforeElse`.
+    BraceWrappingBeforeElse,
+    /// `BraceWrapping.BeforeWhile`.
+    BraceWrappingBeforeWhile,
+    /// `BraceWrapping.AfterControlStatement`.
+    BraceWrappingAfterControlStatement,
+    /// `PointerAlignment`.
+    PointerAlignment,
+    /// `SpaceBeforeParens`.
+    SpaceBeforeParens,
+    /// `AlignAfterOpenBracket`.
+    AlignAfterOpenBracket,
+    /// `BinPackArguments`.
+    BinPackArguments,
+    /// `BinPackParameters`.
+    BinPackParameters,
+    /// `BreakBeforeBinaryOperators`.
+    BreakBeforeBinaryOperators,
+    /// `BreakBeforeTernaryOperators`.
+    BreakBeforeTernaryOperators,
+    /// `MaxEmptyLinesToKeep`.
+    MaxEmptyLinesToKeep,
+    /// `KeepEmptyLinesAtTheStartOfBlocks`.
+    KeepEmptyLinesAtTheStartOfBlocks,
+    /// `IndentCaseLabels`.
+    IndentCaseLabels,
+    /// `IndentGotoLabels`.
+    IndentGotoLabels,
+    /// `IndentPPDirectives`.
+    IndentPPDirectives,
+    /// `AllowShortFunctionsOnASingleLine`.
+    AllowShortFunctionsOnASingleLine,
+    /// `AllowShortIfStatementsOnASingleLine`.
+    AllowShortIfStatementsOnASingleLine,
+    /// `AllowShortLoopsOnASingleLine`.
+    AllowShortLoopsOnASingleLine,
+    /// `AllowShortBlocksOnASingleLine`.
+    AllowShortBlocksOnASingleLine,
+    /// `AllowShortCaseLabelsOnASingleLine`.
+    AllowShortCaseLabelsOnASingleLine,
+    /// `AllowShortEnumsOnASingleLine`.
+    AllowShortEnumsOnASingleLine,
+    /// `SpacesBeforeTrailingComments`.
+    SpacesBeforeTrailingComments,
+    /// `SpaceAfterCStyleCast`.
+    SpaceAfterCStyleCast,
+    /// `Cpp11BracedListStyle`.
+    Cpp11BracedListStyle,
+    /// `AlignEscapedNewlines`.
+    AlignEscapedNewlines,
+    /// `AlignTrailingComments.Kind`.
+    AlignTrailingCommentsKind,
+    /// `LineEnding`.
+    LineEnding,
+    /// `InsertNewlineAtEOF`.
+    InsertNewlineAtEOF,
+    /// `SkipMacroDefinitionBody`.
+    SkipMacroDefinitionBody,
+    /// `PenaltyBreakAssignment`.
+    PenaltyBreakAssignment,
+    /// `PenaltyBreakBeforeFirstCallParameter`.
+    PenaltyBreakBeforeFirstCallParameter,
+    /// `PenaltyBreakOpenParenthesis`.
+    PenaltyBreakOpenParenthesis,
+    /// `PenaltyExcessCharacter`.
+    PenaltyExcessCharacter,
+    /// `PenaltyReturnTypeOnItsOwnLine`.
+    PenaltyReturnTypeOnItsOwnLine,
+}
+
+ghost use Rattle.std.specs.Prelude.{◌≡◌, ◌≤◌, length, find};
+ghost use Rattle.style_table.specs.Keys.{outer_of, label_of, is_spelled, key_of, is_first_inside};
+
+/// All keys, in the order in which a style is written.
+pub const KEYS: [Key; 46] = [
+    Key::ColumnLimit,
+    Key::IndentWidth,
+    Key::ContinuationIndentWidth,
+    Key::TabWidth,
+    Key::UseTab,
+    Key::BreakBeforeBraces,
+    Key::BraceWrappingAfterCaseLabel,
+    Key::BraceWrappingAfterEnum,
+    Key::BraceWrappingAfterExternBlock,
+    Key::BraceWrappingAfterFunction,
+    Key::BraceWrappingAfterStruct,
+    Key::BraceWrappingAfterUnion,
+    Key::BraceWrappingBeforeElse,
+    Key::BraceWrappingBeforeWhile,
+    Key::BraceWrappingAfterControlStatement,
+    Key::PointerAlignment,
+    Key::SpaceBeforeParens,
+    Key::AlignAfterOpenBracket,
+    Key::BinPackArguments,
+    Key::BinPackParameters,
+    Key::BreakBeforeBinaryOperators,
+    Key::BreakBeforeTernaryOperators,
+    Key::MaxEmptyLinesToKeep,
+    Key::KeepEmptyLinesAtTheStartOfBlocks,
+    Key::IndentCaseLabels,
+    Key::IndentGotoLabels,
+    Key::IndentPPDirectives,
+    Key::AllowShortFunctionsOnASingleLine,
+    Key::AllowShortIfStatementsOnASingleLine,
+    Key::AllowShortLoopsOnASingleLine,
+    Key::AllowShortBlocksOnASingleLine,
+    Key::AllowShortCaseLabelsOnASingleLine,
+    Key::AllowShortEnumsOnASingleLine,
+    Key::SpacesBeforeTrailingComments,
+    Key::SpaceAfterCStyleCast,
+    Key::Cpp11BracedListStyle,
+    Key::AlignEscapedNewlines,
+    Key::AlignTrailingCommentsKind,
+    Key::LineEnding,
+    Key::InsertNewlineAtEOF,
+    Key::SkipMacroDefinitionBody,
+    Key::PenaltyBreakAssignment,
+    Key::PenaltyBreakBeforeFirstCallParameter,
+    Key::PenaltyBreakOpenParenthesis,
+    Key::PenaltyExcessCharacter,
+    Key::PenaltyReturnTypeOnItsOwnLine,
+];
+
+/// The first of the keys that is spelled so.
+fn find_in(keys: &[Key], outer: &[u8], label: &[u8]) -> Option<Key>
+    ensures { result ≡ find (is_spelled outer.now label.now) keys.now }
+{
+    for key in keys {
+        if key.is_spelled(outer, label) {
+            return Some(*key);
+        }
+    }
+    None
+}
+
+impl Key {
+    /// The key that is spelled so: `outer` is the key that it stands under, empty where there is none.
+    pub fn find(outer: &[u8], label: &[u8]) -> Option<Key>
+        ensures { result ≡ key_of outer.now label.now }
+    {
+        find_in(&KEYS, outer, label)
+    }
+
+    /// Whether it is spelled so.
+    fn is_spelled(self, outer: &[u8], label: &[u8]) -> bool
+        ensures { result ≡ is_spelled outer.now label.now self }
+    {
+        self.outer().as_bytes() == outer && self.label().as_bytes() == label
+    }
+
+    /// How it is spelled: the key that it stands under, empty where there is none, and its own part.
+    fn spelling(self) -> (&'static str, &'static str)
+        ensures outer { result.0.now ≡ outer_of self }
+        ensures label { result.1.now ≡ label_of self }
+        ensures short { (length result.0.now ≤ 40) × (length result.1.now ≤ 40) }
+    {
+        match self {
+            Key::ColumnLimit => ("", "ColumnLimit"),
+            Key::IndentWidth => ("", "IndentWidth"),
+            Key::ContinuationIndentWidth => ("", "ContinuationIndentWidth"),
+            Key::TabWidth => ("", "TabWidth"),
+            Key::UseTab => ("", "UseTab"),
+            Key::BreakBeforeBraces => ("", "BreakBeforeBraces"),
+            Key::BraceWrappingAfterCaseLabel => ("BraceWrapping", "AfterCaseLabel"),
+            Key::BraceWrappingAfterEnum => ("BraceWrapping", "AfterEnum"),
+            Key::BraceWrappingAfterExternBlock => ("BraceWrapping", "AfterExternBlock"),
+            Key::BraceWrappingAfterFunction => ("BraceWrapping", "AfterFunction"),
+            Key::BraceWrappingAfterStruct => ("BraceWrapping", "AfterStruct"),
+            Key::BraceWrappingAfterUnion => ("BraceWrapping", "AfterUnion"),
+            Key::BraceWrappingBeforeElse => ("BraceWrapping", "BeforeElse"),
+            Key::BraceWrappingBeforeWhile => ("BraceWrapping", "BeforeWhile"),
+            Key::BraceWrappingAfterControlStatement => ("BraceWrapping", "AfterControlStatement"),
+            Key::PointerAlignment => ("", "PointerAlignment"),
+            Key::SpaceBeforeParens => ("", "SpaceBeforeParens"),
+            Key::AlignAfterOpenBracket => ("", "AlignAfterOpenBracket"),
+            Key::BinPackArguments => ("", "BinPackArguments"),
+            Key::BinPackParameters => ("", "BinPackParameters"),
+            Key::BreakBeforeBinaryOperators => ("", "BreakBeforeBinaryOperators"),
+            Key::BreakBeforeTernaryOperators => ("", "BreakBeforeTernaryOperators"),
+            Key::MaxEmptyLinesToKeep => ("", "MaxEmptyLinesToKeep"),
+            Key::KeepEmptyLinesAtTheStartOfBlocks => ("", "KeepEmptyLinesAtTheStartOfBlocks"),
+            Key::IndentCaseLabels => ("", "IndentCaseLabels"),
+            Key::IndentGotoLabels => ("", "IndentGotoLabels"),
+            Key::IndentPPDirectives => ("", "IndentPPDirectives"),
+            Key::AllowShortFunctionsOnASingleLine => ("", "AllowShortFunctionsOnASingleLine"),
+            Key::AllowShortIfStatementsOnASingleLine => ("", "AllowShortIfStatementsOnASingleLine"),
+            Key::AllowShortLoopsOnASingleLine => ("", "AllowShortLoopsOnASingleLine"),
+            Key::AllowShortBlocksOnASingleLine => ("", "AllowShortBlocksOnASingleLine"),
+            Key::AllowShortCaseLabelsOnASingleLine => ("", "AllowShortCaseLabelsOnASingleLine"),
+            Key::AllowShortEnumsOnASingleLine => ("", "AllowShortEnumsOnASingleLine"),
+            Key::SpacesBeforeTrailingComments => ("", "SpacesBeforeTrailingComments"),
+            Key::SpaceAfterCStyleCast => ("", "SpaceAfterCStyleCast"),
+            Key::Cpp11BracedListStyle => ("", "Cpp11BracedListStyle"),
+            Key::AlignEscapedNewlines => ("", "AlignEscapedNewlines"),
+            Key::AlignTrailingCommentsKind => ("AlignTrailingComments", "Kind"),
+            Key::LineEnding => ("", "LineEnding"),
+            Key::InsertNewlineAtEOF => ("", "InsertNewlineAtEOF"),
+            Key::SkipMacroDefinitionBody => ("", "SkipMacroDefinitionBody"),
+            Key::PenaltyBreakAssignment => ("", "PenaltyBreakAssignment"),
+            Key::PenaltyBreakBeforeFirstCallParameter => (
+                "",
+                "PenaltyBreakBeforeFirstCallParameter",
+            ),
+            Key::PenaltyBreakOpenParenthesis => ("", "PenaltyBreakOpenParenthesis"),
+            Key::PenaltyExcessCharacter => ("", "PenaltyExcessCharacter"),
+            Key::PenaltyReturnTypeOnItsOwnLine => ("", "PenaltyReturnTypeOnItsOwnLine"),
+        }
+    }
+
+    /// The key that it stands under, empty where it stands under none.
+    pub fn outer(self) -> &'static str
+        ensures text { result.now ≡ outer_of self }
+        ensures short { length result.now ≤ 40 }
+    {
+        self.spelling().0
+    }
+
+    /// How it is spelled, the key that it stands under aside.
+    pub fn label(self) -> &'static str
+        ensures text { result.now ≡ label_of self }
+        ensures short { length result.now ≤ 40 }
+    {
+        self.spelling().1
+    }
+
+    /// Whether it is the first of the keys under its outer key.
+    pub fn is_first_inside(self) -> bool
+        ensures { result ≡ is_first_inside self }
+    {
+        matches!(
+            self,
+            Key::BraceWrappingAfterCaseLabel | Key::AlignTrailingCommentsKind
+        )
+    }
+}
