@@ -1,0 +1,15 @@
+mod Cut
+mod Documents
+mod DumpLines
+mod DumpRead
+mod DumpText
+mod Effects
+mod Keys
+mod Labels
+mod Marks
+mod Names
+mod Numbers
+mod Seen
+mod Shown
+mod Steps
+mod Words

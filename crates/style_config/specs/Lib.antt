@@ -1,0 +1,4 @@
+pub mod Entries
+pub mod Lines
+pub mod Reading
+pub mod Texts
