@@ -1,0 +1,7 @@
+pub mod Ways
+pub mod Cover
+pub mod Table
+pub mod Updates
+pub mod Moves
+pub mod Weights
+pub mod Thrift
