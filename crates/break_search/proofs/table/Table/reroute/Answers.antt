@@ -1,0 +1,13 @@
+use Rattle.std.proofs.Common.{◌∙◌, refl, ap, slice_set}
+use Rattle.least_breaking.proofs.Table.{Vertex}
+use Rattle.line_state.specs.Layout.{Layout}
+use Rattle.break_search.proofs.Nodes.{read_at, written_at, stays_listed, within_nodes}
+use Rattle.break_search.proofs.table.Table.reroute.Goals as goal
+
+pub invariant_of-self : goal.invariant_of-self
+invariant_of-self c = stays_listed _ _ _ _ c.index_mut-node.result.now _ (within_nodes _ _ c.self.view_is c.requires) c.index_mut-node.ensures.value refl refl c.self.invariant
+
+pub returns : goal.returns
+returns c = λ x at.
+    written_at _ _ _ c.index_mut-node.result.now _ c.index_mut-node.ensures.value refl _ c.self.view_is
+    ∙ ap (λ (y : Vertex Layout). slice_set c.args.self.now c.args.at (record y { cost = c.args.cost; parent = c.args.parent; brk = c.args.brk })) (read_at _ _ c.index_mut-node.result.now c.index_mut-node.ensures.value _ c.self.view_is x at)

@@ -1,0 +1,253 @@
+//! Worked lines, and all short lines against a search of every breaking.
+
+ghost use Rattle.std.specs.Prelude.{◌≡◌, ◌<◌, ◌≤◌, length};
+ghost use Rattle.style_table.specs.Range.{IsInRange};
+
+use crate::{Outcome, search};
+use bumpalo::Bump;
+use line_state::{allowed, start, step};
+use line_tokens::{Fixed, GapFacts, ItemKind, LineTok, Role, TokenId};
+use std::alloc::Global;
+use std::process::Abort;
+use std::test::Fail;
+use style_table::{AlignAfterOpenBracket, Style};
+
+/// A token of this role, depth and width, behind a blank.
+fn token(role: Role, depth: u32, width: u32) -> LineTok {
+    LineTok {
+        id: TokenId(0),
+        role,
+        power: 4,
+        depth,
+        trailing_list: false,
+        held: false,
+        touch: true,
+        directive: false,
+        gap: GapFacts {
+            lines: 0,
+            empty: false,
+            white: true,
+            splice: false,
+            began: false,
+        },
+        kind: ItemKind::Identifier,
+        rows: 1,
+        first_width: width,
+        last_width: width,
+    }
+}
+
+/// A call of two arguments, with the widths of its name and its arguments.
+fn call(name: u32, first: u32, second: u32) -> [LineTok; 7] {
+    [
+        token(Role::Word, 0, name),
+        token(Role::CallOpen, 0, 1),
+        token(Role::Word, 1, first),
+        token(Role::Comma, 1, 1),
+        token(Role::Word, 1, second),
+        token(Role::CallClose, 1, 1),
+        token(Role::Semi, 0, 1),
+    ]
+}
+
+#[test]
+fn breaks_calls_at_their_least_cost(rt: HostRuntime) -> Result<(), Fail> {
+    let style = Style::named("LLVM").ok_or("a style")?;
+    let run = Bump::new(rt.alloc());
+    let free = [None; 7];
+    let behind_comma = [false, false, false, true, false, false];
+    let behind_opener = [false, true, false, false, false, false];
+    let behind_both = [false, true, false, true, false, false];
+    let nowhere = [false; 6];
+    for (name, line, want, want_cost) in [
+        ("fits", call(4, 10, 10), nowhere, 0),
+        ("behind the comma", call(4, 50, 36), behind_comma, 1),
+        ("behind the opener", call(40, 40, 30), behind_opener, 19),
+        ("past the limit", call(4, 100, 1), behind_both, 25_000_020),
+    ] {
+        match search(rt.alloc(), &style, &line, 0, &free, 2_000_000, &run)? {
+            Outcome::Found { breaks, cost } => {
+                assert_eq!(rt; breaks, want.as_slice(), "{name}");
+                assert_eq!(rt; cost, want_cost, "{name}");
+            }
+            Outcome::OverBudget { cells: _ } => assert!(rt; false, "{name}"),
+        }
+    }
+    match search(rt.alloc(), &style, &call(4, 50, 36), 0, &free, 1, &run)? {
+        Outcome::Found { breaks: _, cost: _ } => assert!(rt; false, "within one cell"),
+        Outcome::OverBudget { cells } => assert!(rt; cells > 1, "over one cell"),
+    }
+    Ok(())
+}
+
+/// The cost of a breaking, if it is admissible. Of the bits the highest is that of the first gap.
+fn cost_of(
+    rt: &impl Abort,
+    alloc: Global,
+    style: &Style,
+    line: &[LineTok],
+    fixed: &[Option<Fixed>],
+    bits: u32,
+) -> Result<Option<u128>, Fail>
+    requires range { IsInRange style.now }
+    requires even { length fixed.now ≡ length line.now }
+{
+    let mut state = start(alloc, style, 0);
+    for at in 0..line.len() {
+        let right = &line[at];
+        let left = if at == 0 { right } else { &line[at - 1] };
+        let place = line.len() - 1 - at;
+        assert!(rt; place < 32);
+        let brk = at == 0 || (bits >> place) % 2 == 1;
+        if !allowed(style, &state, left, right, fixed[at], brk) {
+            return Ok(None);
+        }
+        assert!(rt; state.index < 4_294_967_295);
+        assert!(rt; state.cost <= u128::from(state.index) * 18_446_744_073_709_551_615);
+        state = step(style, &state, left, right, fixed[at], brk)?;
+    }
+    Ok(Some(state.cost))
+}
+
+/// Compares the search of a line with all of its breakings, told by their bits.
+fn compare(
+    rt: &impl Abort,
+    alloc: Global,
+    style: &Style,
+    line: &[LineTok],
+    fixed: &[Option<Fixed>],
+    run: &Bump,
+) -> Result<(), Fail>
+    requires range { IsInRange style.now }
+    requires some { 0 < length line.now }
+    requires even { length fixed.now ≡ length line.now }
+{
+    assert!(rt; line.len() <= 5);
+    let mut least: Option<(u128, u32)> = None;
+    for bits in 0..1u32 << (line.len() - 1) {
+        if let Some(cost) = cost_of(rt, alloc, style, line, fixed, bits)? {
+            if least.is_none_or(|(least, _)| cost < least) {
+                least = Some((cost, bits));
+            }
+        }
+    }
+    let (want, bits) = least.ok_or("an admissible breaking")?;
+    match search(alloc, style, line, 0, fixed, 2_000_000, run)? {
+        Outcome::Found { breaks, cost } => {
+            assert!(rt; u128::from(cost) == want, "{line:?}");
+            let mut found: u32 = 0;
+            for brk in breaks {
+                found = found.wrapping_mul(2).wrapping_add(u32::from(*brk));
+            }
+            assert!(rt; found == bits, "{line:?}");
+        }
+        Outcome::OverBudget { cells: _ } => assert!(rt; false, "{line:?}"),
+    }
+    Ok(())
+}
+
+/// The line whose tokens are told by the digits of a number in base 5.
+fn line_of(alloc: Global, code: u32, len: u32) -> Result<Vec<LineTok>, Fail> {
+    let mut tokens = Vec::new(alloc);
+    let mut rest = code;
+    let mut depth: u32 = 0;
+    for _ in 0..len {
+        let (role, width) = match rest % 5 {
+            0 => (Role::Word, 3),
+            1 => (Role::Comma, 1),
+            2 => (Role::CallOpen, 1),
+            3 => (Role::CallClose, 1),
+            _ => (Role::Binary, 2),
+        };
+        rest = rest / 5;
+        tokens.push(token(role, depth, width))?;
+        depth = match role {
+            Role::CallOpen => depth.saturating_add(1),
+            Role::CallClose => depth.saturating_sub(1),
+            _ => depth,
+        };
+    }
+    Ok(tokens)
+}
+
+/// A style with a narrow limit.
+fn narrow(style: Style, align: AlignAfterOpenBracket, pack: bool) -> Style
+    requires { IsInRange style }
+    ensures { IsInRange result }
+{
+    Style {
+        column_limit: 8,
+        align_after_open_bracket: align,
+        bin_pack_arguments: pack,
+        ..style
+    }
+}
+
+/// Compares all lines of at most five tokens, with no decision and with one.
+fn compare_short_lines(rt: &impl Abort, alloc: Global, style: &Style) -> Result<(), Fail>
+    requires { IsInRange style.now }
+{
+    let free = [None; 5];
+    let decision = Fixed {
+        column: 5,
+        broken: true,
+    };
+    let decided = [None, None, Some(decision), None, None];
+    for (len, lines) in [(1, 5), (2, 25), (3, 125), (4, 625), (5, 3_125)] {
+        for code in 0..lines {
+            let run = Bump::new(alloc);
+            let tokens = line_of(alloc, code, len)?;
+            let line = tokens.as_slice();
+            assert!(rt; !line.is_empty() && line.len() <= 5);
+            compare(rt, alloc, style, line, &free[..line.len()], &run)?;
+            compare(rt, alloc, style, line, &decided[..line.len()], &run)?;
+        }
+    }
+    Ok(())
+}
+
+#[test]
+fn finds_the_least_of_all_breakings_of_short_lines(rt: HostRuntime) -> Result<(), Fail> {
+    let llvm = Style::named("LLVM").ok_or("a style")?;
+    let aligned = narrow(llvm, AlignAfterOpenBracket::Align, true);
+    compare_short_lines(&rt, rt.alloc(), &aligned)?;
+    let unaligned = narrow(llvm, AlignAfterOpenBracket::DontAlign, false);
+    compare_short_lines(&rt, rt.alloc(), &unaligned)?;
+    let broken = narrow(llvm, AlignAfterOpenBracket::AlwaysBreak, false);
+    compare_short_lines(&rt, rt.alloc(), &broken)
+}
+
+#[test]
+fn breaks_a_long_initialiser_into_rows(rt: HostRuntime) -> Result<(), Fail> {
+    let style = Style::named("LLVM").ok_or("a style")?;
+    let run = Bump::new(rt.alloc());
+    let mut tokens = vec![in rt.alloc();
+        token(Role::Word, 0, 8),
+        token(Role::Word, 0, 4),
+        token(Role::Word, 0, 1),
+        token(Role::IndexOpen, 0, 1),
+        token(Role::IndexClose, 1, 1),
+        token(Role::Assign, 0, 1),
+        token(Role::ListOpen, 0, 1),
+    ]?;
+    for at in 0..4_096 {
+        if at > 0 {
+            tokens.push(token(Role::Comma, 1, 1))?;
+        }
+        tokens.push(token(Role::Literal, 1, 4))?;
+    }
+    tokens.push(token(Role::ListClose, 1, 1))?;
+    tokens.push(token(Role::Semi, 0, 1))?;
+    let line = tokens.as_slice();
+    let free = vec![in rt.alloc(); None; line.len()]?;
+    let fixed = free.as_slice();
+    assert!(rt; !line.is_empty() && line.len() < 4_294_967_295 && fixed.len() == line.len());
+    match search(rt.alloc(), &style, line, 0, fixed, 2_000_000, &run)? {
+        Outcome::Found { breaks, cost } => {
+            assert_eq!(rt; cost, 351);
+            assert_eq!(rt; breaks.iter().filter(|brk| **brk).count(), 342);
+        }
+        Outcome::OverBudget { cells: _ } => assert!(rt; false),
+    }
+    Ok(())
+}

@@ -1,0 +1,23 @@
+//! The layout of a line, one token at a time: which breaks are admissible, where a token then stands
+//! and what that costs.
+//!
+//! A state holds the column behind the line's last placed token and a frame for each bracket that is
+//! open there. `step` places one token more, `allowed` tells whether a choice is admissible, and
+//! `cells` tells what a state counts. The rules are those of `docs/PROFILE.md`, "Breaking a line";
+//! which breaking is best isn't asked here.
+#![tactic(auto)]
+
+mod frames;
+mod gap;
+mod placing;
+mod rules;
+mod state;
+#[cfg(test)]
+mod tests;
+
+pub use frames::{Frame, Frames};
+pub use gap::Gap;
+pub use line_tokens::NoMemory;
+pub use placing::step;
+pub use rules::allowed;
+pub use state::{State, cells, has_same_layout, start};
