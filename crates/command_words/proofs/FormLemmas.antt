@@ -1,0 +1,31 @@
+-- The command is one of which `clap` says exactly what it makes of the words.
+use Rattle.std.proofs.Common.{◌≡◌, ◌≢◌, ◌⊎◌, List, [], refl, sym, true, subst, inl, inr, Err}
+use Rattle.clap.specs.Words.{HasKind, Kinds, Text, is_simple, kind_of}
+use Rattle.clap.specs.Faults.{is_simple_and_free}
+use Rattle.clap.specs.declared.error.Error.{Error}
+use Rattle.clap.specs.declared.error.kind.ErrorKind.TheVariants.{OutOfMemory}
+use Rattle.command_words.specs.Command.{command, form_faults}
+use Rattle.command_words.specs.Said.{ReadsForm}
+use Rattle.command_words.specs.declared.fault.WordsFault.{WordsFault}
+use Rattle.command_words.specs.declared.fault.WordsFault.TheVariants.{Form, NoMemory}
+
+pub command_is_simple : is_simple command ≡ true
+command_is_simple = refl
+
+pub command_is_free : is_simple_and_free command ≡ true
+command_is_free = refl
+
+-- an error that isn't want of memory comes only where the form has a fault
+has_fault : (words : List Text) (e : Error) → HasKind (form_faults words) e
+    → kind_of e ≢ OutOfMemory → form_faults words ≢ []
+has_fault words e has other = λ none.
+    let has_none : HasKind [] e = subst (λ (kinds : Kinds). HasKind kinds e) none has in
+    elim has_none [ inl memory ↦ other memory | inr never ↦ absurd never ]
+
+-- what a failed parse is told as
+pub refuses : (words : List Text) (fault : WordsFault) (e : Error) → HasKind (form_faults words) e
+    → (fault ≡ Form → kind_of e ≢ OutOfMemory) → (fault ≡ Form) ⊎ (fault ≡ NoMemory) → ReadsForm words (Err fault)
+refuses words fault e has form cause = elim cause [
+  | inl is ↦ subst (λ (told : WordsFault). ReadsForm words (Err told)) (sym is) (has_fault words e has (form is))
+  | inr is ↦ subst (λ (told : WordsFault). ReadsForm words (Err told)) (sym is) tt
+]

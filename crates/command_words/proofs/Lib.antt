@@ -1,0 +1,3 @@
+mod Builders
+mod FormLemmas
+pub mod Examples

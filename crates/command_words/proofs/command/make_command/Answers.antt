@@ -1,0 +1,12 @@
+use Rattle.std.proofs.Common.{ap₂, ◌∙◌}
+use Rattle.clap.specs.Words.{with_rule}
+use Rattle.command_words.proofs.command.make_command.Goals as goal
+
+pub returns : goal.returns
+returns c =
+    c.in_ok-whole.ensures
+    ∙ ap₂ with_rule (c.in_ok-with_dump_config.ensures
+    ∙ ap₂ with_rule (c.in_ok-with_in_place.ensures
+    ∙ ap₂ with_rule (c.in_ok-with_style.ensures
+    ∙ ap₂ with_rule c.bare_command-bare.ensures c.option-style.ensures.rule)
+    c.letter-in_place.ensures.rule) c.flag-dump_config.ensures.rule) c.names-file.ensures.rule

@@ -1,0 +1,12 @@
+use Rattle.std.proofs.Common.{codes}
+use Rattle.clap.proofs.WalkLemmas.{first_value-rows, raw_values-rows}
+use Rattle.clap.specs.Words.{found_of}
+use Rattle.command_words.proofs.read.said.Goals as goal
+
+pub returns : goal.returns
+returns c = record {
+  style = rw (← first_value-rows (found_of c.args.matches.now) (codes "style")) c.style_of-style.ensures;
+  in_place = rw (← first_value-rows (found_of c.args.matches.now) (codes "in-place")) c.is_given-in_place.ensures;
+  dump_config = rw (← first_value-rows (found_of c.args.matches.now) (codes "dump-config")) c.is_given-dump_config.ensures;
+  files = rw (← raw_values-rows (found_of c.args.matches.now) (codes "file")) c.in_ok-files.ensures;
+}

@@ -1,0 +1,3 @@
+pub mod Command
+pub mod Said
+pub mod Notes

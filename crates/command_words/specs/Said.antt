@@ -1,0 +1,44 @@
+-- What the command's words say, and how reading them ends: docs/PROFILE.md, "Words of the command".
+use Rattle.std.specs.Prelude.{◌≡◌, ◌≢◌, ◌↔◌, ◌++◌, List, [], ⊤, IsTrue, Ok, Err, codes, map}
+use Rattle.std.specs.declared.result.Result.{Result}
+use Rattle.clap.specs.Words.{Row, Text}
+use Rattle.command_words.specs.Command.{Gives, IsOfForm, file_names, rows_of_words, style_word}
+use Rattle.command_words.specs.declared.read.StyleChoice.{StyleChoice}
+use Rattle.command_words.specs.declared.read.StyleChoice.TheVariants.{File, FileAt, Named}
+use Rattle.command_words.specs.declared.read.Words.{Words}
+use Rattle.command_words.specs.declared.fault.WordsFault.{WordsFault}
+use Rattle.command_words.specs.declared.fault.WordsFault.TheVariants.{Form, NoInput, NoMemory}
+
+-- `file` is the file of the working folder, `file:PATH` is the file PATH, and any other word is a style's name
+abbrev pub Chooses : Text → StyleChoice → Type 0
+Chooses word File = word ≡ codes "file"
+Chooses word (FileAt path) = word ≡ codes "file:" ++ path.now
+Chooses word (Named name) = (word ≡ name.now) × (word ≢ codes "file") × ((path : Text) → word ≢ codes "file:" ++ path)
+
+-- the words say this
+pub record Says (rows : List Row) (said : Words) : Type 0 where
+  pub style : Chooses (style_word rows) said.style
+  pub in_place : IsTrue said.in_place ↔ Gives (codes "in-place") rows
+  pub dump_config : IsTrue said.dump_config ↔ Gives (codes "dump-config") rows
+  pub files : map (λ name. name.now) said.files.items ≡ file_names rows
+
+-- the words have `-i`, and neither a FILE nor `--dump-config`
+pub record LacksFile (rows : List Row) : Type 0 where
+  pub in_place : Gives (codes "in-place") rows
+  pub no_dump : ¬ Gives (codes "dump-config") rows
+  pub no_file : file_names rows ≡ []
+
+-- words are read exactly where they are of the form and `-i` has its FILE, each fault has its own cause, and
+-- want of memory may come at any time
+abbrev pub Reads : List Text → Result Words WordsFault → Type 0
+Reads words (Ok said) = IsOfForm words × (¬ LacksFile (rows_of_words words)) × Says (rows_of_words words) said
+Reads words (Err Form) = ¬ IsOfForm words
+Reads words (Err NoInput) = IsOfForm words × LacksFile (rows_of_words words)
+Reads words (Err NoMemory) = ⊤
+
+-- the same without the rule on `-i`
+abbrev pub ReadsForm : List Text → Result Words WordsFault → Type 0
+ReadsForm words (Ok said) = IsOfForm words × Says (rows_of_words words) said
+ReadsForm words (Err Form) = ¬ IsOfForm words
+ReadsForm words (Err NoInput) = ⊥
+ReadsForm words (Err NoMemory) = ⊤

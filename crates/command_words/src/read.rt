@@ -1,0 +1,127 @@
+//! Reading the words: what they say, each by a small function.
+
+ghost use Rattle.std.specs.Prelude.{◌≡◌, ◌≢◌, ◌⊎◌, ◌↔◌, [], IfOk, IsTrue, Some, codes, map, option_map, string_bytes, unwrap_or};
+ghost use Rattle.clap.specs.Words.{first_value, found_of, kind_of, matched_of, raw_values, rows_of};
+ghost use Rattle.command_words.specs.Said.{Chooses, Reads, ReadsForm, Says};
+
+use crate::command::make_command;
+use crate::fault::WordsFault;
+use clap::error::ErrorKind;
+use clap::{ArgMatches, Error};
+use std::alloc::{AllocError, Global};
+
+/// Which style the words choose.
+#[derive(Clone, Copy, Debug, PartialEq, Eq)]
+pub enum StyleChoice<'w> {
+    /// The configuration of the working folder, or LLVM where there is none: `file`, and without `--style`.
+    File,
+    /// The configuration at this path: `file:PATH`.
+    FileAt(&'w str),
+    /// The style of this name. It need not be known.
+    Named(&'w str),
+}
+
+/// What the words say.
+#[derive(Drop)]
+pub struct Words<'w> {
+    /// `--style S`.
+    pub style: StyleChoice<'w>,
+    /// `-i`: each FILE is written back.
+    pub in_place: bool,
+    /// `--dump-config`: the style in force is written, and no input is read.
+    pub dump_config: bool,
+    /// The FILEs in order, none for standard input.
+    pub files: Vec<&'w str>,
+}
+
+/// The choice that a value of `--style` makes.
+fn choice_of<'w>(word: &'w str) -> StyleChoice<'w>
+    ensures { Chooses word.entry.now result }
+{
+    if word == "file" {
+        return StyleChoice::File;
+    }
+    match word.strip_prefix("file:") {
+        Some(path) => StyleChoice::FileAt(path),
+        None => StyleChoice::Named(word),
+    }
+}
+
+/// Whether a flag was given.
+fn is_given(matches: &ArgMatches, flag: &str) -> bool
+    ensures { IsTrue result ↔ (first_value (found_of matches.now) flag.now ≡ Some (codes "true")) }
+{
+    match matches.get_str(flag) {
+        Some(text) => text == "true",
+        None => false,
+    }
+}
+
+/// The choice of the style, `file` where none was given.
+fn style_of<'w>(matches: &ArgMatches<'w>) -> StyleChoice<'w>
+    ensures { Chooses (unwrap_or (first_value (found_of matches.now) (codes "style")) (codes "file")) result }
+{
+    choice_of(matches.get_str("style").unwrap_or("file"))
+}
+
+/// The FILEs that were given.
+fn files_of<'w>(alloc: Global, matches: &ArgMatches<'w>) -> Result<Vec<&'w str>, AllocError>
+    ensures { IfOk result (λ files. map (λ name. name.now) files.items ≡ unwrap_or (option_map raw_values (matched_of (found_of matches.now) (codes "file"))) []) }
+{
+    match matches.get_strs("file") {
+        Some(files) => Ok(Vec::from_slice(alloc, files)?),
+        None => Ok(Vec::new(alloc)),
+    }
+}
+
+/// What the matches say.
+fn said<'w>(alloc: Global, matches: &ArgMatches<'w>) -> Result<Words<'w>, AllocError>
+    ensures { IfOk result (Says (rows_of (found_of matches.now))) }
+{
+    let files = files_of(alloc, matches)?;
+    let style = style_of(matches);
+    let in_place = is_given(matches, "in-place");
+    let dump_config = is_given(matches, "dump-config");
+    Ok(Words {
+        style,
+        in_place,
+        dump_config,
+        files,
+    })
+}
+
+/// Why the parse failed.
+fn fault_of_error(error: &Error) -> WordsFault
+    ensures form { result ≡ WordsFault.Form → kind_of error.now ≢ ErrorKind.OutOfMemory }
+    ensures cause { (result ≡ WordsFault.Form) ⊎ (result ≡ WordsFault.NoMemory) }
+{
+    match error.kind() {
+        ErrorKind::OutOfMemory => WordsFault::NoMemory,
+        _ => WordsFault::Form,
+    }
+}
+
+/// Reads words of the command's form.
+fn read_form<'w>(alloc: Global, words: &'w [String]) -> Result<Words<'w>, WordsFault>
+    ensures { ReadsForm (map string_bytes words.now) result }
+{
+    let command = make_command(alloc)?;
+    match command.try_get_matches_from(words) {
+        Ok(matches) => Ok(said(alloc, &matches)?),
+        Err(error) => Err(fault_of_error(&error)),
+    }
+}
+
+/// Reads the words that stand after the program's name.
+///
+/// `Form`: they are not of the command's form. `NoInput`: they are, with `-i` and neither a FILE nor
+/// `--dump-config`. `NoMemory`: memory ran out.
+pub fn read_words<'w>(alloc: Global, words: &'w [String]) -> Result<Words<'w>, WordsFault>
+    ensures { Reads (map string_bytes words.now) result }
+{
+    let said = read_form(alloc, words)?;
+    if said.in_place && !said.dump_config && said.files.is_empty() {
+        return Err(WordsFault::NoInput);
+    }
+    Ok(said)
+}
