@@ -4,7 +4,7 @@ ghost use Rattle.std.specs.Prelude.{◌≡◌, ◌+◌, ◌<◌, ◌≤◌, ◌^
 ghost use Rattle.c_chars.specs.Characters.{chars, logical, mark_len};
 ghost use Rattle.c_chars.specs.Coming.{AreBetween};
 
-use crate::units::unit;
+use crate::units::{is_plain, unit};
 use crate::{Dialect, LIMIT, LogicalChar};
 use std::marker::Model;
 
@@ -18,8 +18,41 @@ struct Cursor<'s> {
 }
 
 impl<'s> Cursor<'s> {
-    /// The next character; none exactly at the end.
+    /// The next character; none exactly at the end. Most bytes are plain, and taken here.
+    #[inline(always)]
     fn next(&mut self) -> Option<LogicalChar>
+        ensures dialect { self.new.dialect ≡ self.old.dialect }
+        ensures next { MatchOption result
+            ((chars self.old.dialect self.old.at self.old.rest.now ≡ []) × (self.new.at ≡ self.old.at) × (self.new.rest.now ≡ self.old.rest.now))
+            (λ c. (chars self.old.dialect self.old.at self.old.rest.now ≡ c ∷ chars self.new.dialect self.new.at self.new.rest.now) × (self.new.at ≡ c.to)) }
+    {
+        let [byte, behind @ ..] = self.rest else {
+            return None;
+        };
+        if is_plain(*byte) {
+            return Some(self.take_unit(*byte, self.at, 1, behind));
+        }
+        let (next, left) = self.next_any();
+        *self = left;
+        next
+    }
+
+    /// The next character, whatever it is written as, and what is left behind it. By value, so that a
+    /// loop over plain bytes keeps its reader in registers.
+    #[inline(never)]
+    fn next_any(self) -> (Option<LogicalChar>, Cursor<'s>)
+        ensures dialect { result.1.dialect ≡ self.entry.dialect }
+        ensures next { MatchOption result.0
+            ((chars self.entry.dialect self.entry.at self.entry.rest.now ≡ []) × (result.1.at ≡ self.entry.at) × (result.1.rest.now ≡ self.entry.rest.now))
+            (λ c. (chars self.entry.dialect self.entry.at self.entry.rest.now ≡ c ∷ chars result.1.dialect result.1.at result.1.rest.now) × (result.1.at ≡ c.to)) }
+    {
+        let mut left = self;
+        let next = left.read_any();
+        (next, left)
+    }
+
+    /// Reads the next character, whatever it is written as.
+    fn read_any(&mut self) -> Option<LogicalChar>
         ensures dialect { self.new.dialect ≡ self.old.dialect }
         ensures next { MatchOption result
             ((chars self.old.dialect self.old.at self.old.rest.now ≡ []) × (self.new.at ≡ self.old.at) × (self.new.rest.now ≡ self.old.rest.now))
@@ -48,6 +81,7 @@ impl<'s> Cursor<'s> {
     }
 
     /// Steps behind a character of this byte, that so many bytes at this offset are.
+    #[inline(always)]
     fn take_unit(&mut self, byte: u8, at: usize, len: usize, behind: &'s [u8]) -> LogicalChar
         requires { at + len + length behind.now < 2 ^ 32 }
         ensures dialect { self.new.dialect ≡ self.old.dialect }
@@ -65,6 +99,7 @@ impl<'s> Cursor<'s> {
     }
 
     /// The character that k others stand before.
+    #[inline(always)]
     fn peek(&self, k: usize) -> Option<LogicalChar>
         ensures { result ≡ slice_get (chars self.now.dialect self.now.at self.now.rest.now) k }
     {
@@ -122,6 +157,7 @@ impl<'s> Chars<'s> {
     }
 
     /// The next character; none exactly at the end.
+    #[inline(always)]
     pub fn next(&mut self) -> Option<LogicalChar>
         ensures dialect { self.new.dialect ≡ self.old.dialect }
         ensures some { IfSome result (λ c. (self.old.chars ≡ c ∷ self.new.chars) × (self.new.at ≡ c.to)) }
@@ -133,6 +169,7 @@ impl<'s> Chars<'s> {
     /// The character that stands behind the next k characters, 0 for the next one.
     ///
     /// It reads on from the next character each time, so k is to be small.
+    #[inline(always)]
     pub fn peek(&self, k: usize) -> Option<LogicalChar>
         requires { k ≤ 8 }
         ensures { result ≡ slice_get self.now.chars k }
@@ -142,6 +179,7 @@ impl<'s> Chars<'s> {
 
     /// The offset behind the last character that was read; where none was, the one of the text behind
     /// its byte order mark.
+    #[inline(always)]
     pub fn at(&self) -> usize
         ensures { result ≡ self.now.at }
     {
@@ -149,6 +187,7 @@ impl<'s> Chars<'s> {
     }
 
     /// A second reader that stands at the same place.
+    #[inline(always)]
     pub fn ahead(&self) -> Chars<'s>
         ensures { result ≡ self.now }
     {

@@ -1,7 +1,7 @@
 //! The first character of a text, before splices are taken out.
 
 ghost use Rattle.std.specs.Prelude.{◌≡◌, ◌&&◌, ◌<◌, ◌≤◌, length};
-ghost use Rattle.c_chars.specs.Characters.{trigraph, IsUnit, begins_trigraph, begins_return, has_trigraphs};
+ghost use Rattle.c_chars.specs.Characters.{trigraph, IsUnit, begins_trigraph, begins_return, has_trigraphs, is_plain};
 
 use crate::Dialect;
 
@@ -53,6 +53,15 @@ fn replaces(dialect: Dialect, s: &[u8]) -> bool
     ensures { result ≡ (has_trigraphs dialect && begins_trigraph s.now) }
 {
     has_trigraphs(dialect) && begins_trigraph(s)
+}
+
+/// Whether the byte is a character by itself, whatever follows it: it begins no trigraph, no line end
+/// of two bytes and no splice.
+#[inline(always)]
+pub(crate) fn is_plain(b: u8) -> bool
+    ensures { result ≡ is_plain b }
+{
+    b != b'?' && (b != b'\r' && b != b'\\')
 }
 
 /// The first character before splices are taken out, and how many bytes it has.

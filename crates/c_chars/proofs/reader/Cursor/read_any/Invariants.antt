@@ -1,6 +1,6 @@
 use Rattle.std.proofs.Common.{◌≡◌, length, ◌+◌, ◌<◌, ◌^◌}
 use Rattle.c_chars.specs.Characters.{chars}
-use Rattle.c_chars.proofs.reader.Cursor.next.Given as goal
+use Rattle.c_chars.proofs.reader.Cursor.read_any.Given as goal
 
 abbrev pub invariant-loop-rest : goal.invariant-loop-rest
 invariant-loop-rest l =

@@ -2,7 +2,7 @@ use Rattle.std.proofs.Common.{◌∙◌, sym}
 use Rattle.std.proofs.lemmas.Bool.{ne_eqb}
 use Rattle.c_chars.specs.Characters.{chars}
 use Rattle.c_chars.proofs.FirstUnits.{plain_from}
-use Rattle.c_chars.proofs.reader.Cursor.next.Goals as goal
+use Rattle.c_chars.proofs.reader.Cursor.read_any.Goals as goal
 
 pub returns-then-byte-ne92-clause-next : goal.returns-then-byte-ne92-clause-next
 returns-then-byte-ne92-clause-next c = (
