@@ -1,11 +1,10 @@
 pub mod Runs
-pub mod Words
+pub mod Units
+pub mod WideOff
+pub mod UnitsOff
 pub mod Puncts
-pub mod BuiltTexts
-pub mod BuiltChars
 pub mod Fronts
-pub mod Screening
-pub mod Steps
+pub mod FirstBytes
 pub mod Comments
 pub mod LineComments
 pub mod Quotes
@@ -13,6 +12,7 @@ pub mod Passing
 pub mod Headers
 pub mod Stepping
 pub mod Others
+pub mod Numbers
 pub mod Prefixes
 pub mod CutOffs
 pub mod WordsOff
@@ -21,3 +21,6 @@ pub mod Literals
 pub mod Places
 pub mod Nexts
 pub mod NextItems
+pub mod Gaps
+pub mod Backslashes
+pub mod Lexemes

@@ -1,26 +1,28 @@
 -- Words before quotes, and literals with a prefix.
-use Rattle.std.proofs.Common.{◌≡◌, ◌==◌, ◌||◌, ◌&&◌, not, ◌<◌, Bool, true, false, ◌⊎◌, ℕ, suc, ◌+◌, List, [], ◌∷◌, ◌++◌, length, take, drop, nat_eq, refl, sym, ◌∙◌, ap, subst, arith, inl, inr}
+use Rattle.std.proofs.Common.{◌≡◌, ◌==◌, ◌||◌, ◌&&◌, not, Bool, true, false, ◌⊎◌, ℕ, suc, ◌+◌, List, [], ◌∷◌, ◌++◌, length, drop, nat_eq, refl, sym, ◌∙◌, ap, subst, arith, inl, inr, append_assoc}
 use Rattle.std.specs.Prelude.{codes}
-use Rattle.std.specs.List.{list_any, prefix_len, starts_with}
-use Rattle.std.proofs.lemmas.Bool.{or_left, or_right, or_cases, and_parts, both_ways, false_from_ne_true, eq-eqb, eqb-true}
-use Rattle.std.proofs.lemmas.List.{take-append-drop}
+use Rattle.std.specs.List.{list_any, list_all, starts_with}
+use Rattle.std.proofs.lemmas.Bool.{or_left, or_right, or_cases, and_parts, both_ways, eq-eqb, eqb-true}
+use Rattle.std.proofs.lemmas.List.{append-nil}
 use Rattle.c_chars.specs.Characters.{bytes_of}
 use Rattle.c_chars.specs.Coming.{Coming, behind}
 use Rattle.c_chars.specs.declared.Dialect.{Dialect}
 use Rattle.c_chars.specs.declared.Dialect.TheVariants.{C11, C23}
-use Rattle.c_grammar.specs.Grammar.{Whole, is_letter, is_digit, is_same, is_of, is_char_prefix, is_string_prefix}
+use Rattle.c_grammar.specs.Grammar.{AreUnits, IsHeaded, joined, Shape, Whole, Spells, is_letter_unit, is_word_unit, is_same, is_of, is_char_prefix, is_string_prefix}
+use Rattle.c_grammar.specs.Items.{IsLongest}
 use Rattle.c_grammar.specs.Touch.{starts}
-use Rattle.c_grammar.specs.declared.ItemKind.TheVariants.{Identifier}
-use Rattle.c_grammar.proofs.Lists.{same_is}
-use Rattle.c_grammar.proofs.Firsts.{is_quote}
-use Rattle.c_grammar.proofs.Singles.{is_word}
-use Rattle.c_lexer.specs.Run.{IsCut, begins_number}
-use Rattle.c_lexer.specs.Cut.{IsCutOff}
-use Rattle.c_lexer.specs.Class.{is_strange, is_quote_mark}
+use Rattle.c_grammar.specs.declared.ItemKind.TheVariants.{Identifier, CharConst, StringLit}
+use Rattle.c_grammar.proofs.Lists.{same_is, two_cuts}
+use Rattle.c_grammar.proofs.Firsts.{begins, is_quote}
+use Rattle.c_grammar.proofs.Goes.{both_begin}
+use Rattle.c_grammar.proofs.Stops.{units_more}
+use Rattle.c_grammar.proofs.Singles.{is_word, word_single}
+use Rattle.c_lexer.specs.Class.{is_quote_mark}
+use Rattle.c_lexer.specs.Unit.{IsLongestHeld}
 use Rattle.c_lexer.specs.Quote.{closes_quote}
 use Rattle.c_lexer.specs.Literal.{is_string_at, is_constant_at, is_literal, begins_literal}
-use Rattle.c_lexer.specs.Unread.{is_beyond, is_unread}
-use Rattle.c_lexer.proofs.Prefixes.{is_constant, is_string, word_cut}
+use Rattle.c_lexer.proofs.Prefixes.{is_constant, is_string, word_kinds, constant_there, string_there, char_goes, string_goes}
+use Rattle.c_lexer.proofs.Units.{onto, nothing, letter_is_word, word_some, word_alone}
 use Rattle.c_lexer.proofs.CutOffs.{left_bytes}
 
 -- a text begins with a prefix and one more
@@ -78,58 +80,64 @@ word_literal : (d : Dialect) (c : ℕ) (l s : List ℕ) → is_string_prefix (c 
 unfolding is_string_prefix
 word_literal d c l s h g = any_same (λ p. is_literal d p s) (codes "L" ∷ codes "u" ∷ codes "U" ∷ codes "u8" ∷ []) (c ∷ l) h g
 
-quote_is : (q : ℕ) → is_quote_mark q ≡ true → is_quote q ≡ true
+headed_units : (s : List ℕ) → IsHeaded is_letter_unit is_word_unit s → AreUnits is_word_unit s
+headed_units s h = subst (AreUnits is_word_unit) (sym h.whole) (onto is_word_unit h.head h.tail (letter_is_word h.head h.begins) h.goes_on)
+
+-- what a word's run goes on with makes a longer run, or a literal that begins the text
+longer_literal : (d : Dialect) (l rest : List ℕ) (k : Shape) (e : ℕ) (more left : List ℕ) → Spells d (Whole Identifier) l → IsLongestHeld (AreUnits is_word_unit) l rest → (starts is_quote_mark rest ≡ true → begins_literal d (l ++ rest) ≡ false) →
+    rest ≡ (e ∷ more) ++ left → (is_word e ≡ true) ⊎ (is_quote e ≡ true) → (is_quote e ≡ true → begins_literal d (l ++ rest) ≡ true) → ⊥
 unfolding is_quote
-quote_is q h = h
+longer_literal d l rest k e more left g held none w (inl word) there = held.longest e [] (more ++ left) w (units_more is_word_unit l (e ∷ []) held.holds (word_single e word))
+longer_literal d l rest k e more left g held none w (inr quote) there = both_ways (begins_literal d (l ++ rest)) (none (subst (λ z. starts is_quote_mark z ≡ true) (sym w) quote)) (there quote)
 
--- a word before a quote, with which it makes no literal
-pub before_quote : (d : Dialect) (s : List ℕ) → starts is_letter s ≡ true → starts is_quote_mark (drop (prefix_len is_word s) s) ≡ true → begins_literal d s ≡ false → IsCut d (Whole Identifier) s (prefix_len is_word s)
-before_quote d [] h q n = cc
-before_quote d (c ∷ s) h q n =
-    let word : is_word c ≡ true = or_left (is_letter c) (is_digit c) h in
-    let len : prefix_len is_word (c ∷ s) ≡ suc (prefix_len is_word s) = rw word (omega arith) in
-    let q' : starts is_quote_mark (drop (prefix_len is_word s) s) ≡ true = subst (λ k. starts is_quote_mark (drop k (c ∷ s)) ≡ true) len q in
-    subst (λ k. IsCut d (Whole Identifier) (c ∷ s) k) (sym len) (at (drop (prefix_len is_word s) s) refl q')
-  where
-    at : (r : List ℕ) → drop (prefix_len is_word s) s ≡ r → starts is_quote_mark r ≡ true → IsCut d (Whole Identifier) (c ∷ s) (suc (prefix_len is_word s))
-    at [] e q = cc
-    at (k ∷ t) e q =
-        let l : List ℕ = take (prefix_len is_word s) s in
-        let whole : c ∷ s ≡ (c ∷ take (prefix_len is_word s) s) ++ k ∷ t = ap (λ z. c ∷ z) (sym (take-append-drop (prefix_len is_word s) s) ∙ ap (λ z. take (prefix_len is_word s) s ++ z) e) in
-        word_cut d c s t k h (quote_is k q) e
-        (λ is. false_from_ne_true (is_constant d (c ∷ take (prefix_len is_word s) s) t) (λ y.
-        let there : is_literal d (c ∷ take (prefix_len is_word s) s) (c ∷ s) ≡ true = subst (λ z. is_literal d (c ∷ take (prefix_len is_word s) s) z ≡ true) (sym (whole ∙ ap (λ z. (c ∷ take (prefix_len is_word s) s) ++ z ∷ t) is)) (constant_at d (c ∷ take (prefix_len is_word s) s) t y) in
-        let prefix = char_is_string_prefix d (c ∷ take (prefix_len is_word s) s) (and_parts (is_char_prefix d (c ∷ take (prefix_len is_word s) s)) (not (starts (λ c. c == 39) t) && closes_quote 39 false t) y).0 in
-        both_ways (begins_literal d (c ∷ s)) n (word_literal d c (take (prefix_len is_word s) s) (c ∷ s) prefix there)))
-        (λ is. false_from_ne_true (is_string (c ∷ take (prefix_len is_word s) s) t) (λ y.
-        let there : is_literal d (c ∷ take (prefix_len is_word s) s) (c ∷ s) ≡ true = subst (λ z. is_literal d (c ∷ take (prefix_len is_word s) s) z ≡ true) (sym (whole ∙ ap (λ z. (c ∷ take (prefix_len is_word s) s) ++ z ∷ t) is)) (string_at d (c ∷ take (prefix_len is_word s) s) t y) in
-        let prefix = (and_parts (is_string_prefix (c ∷ take (prefix_len is_word s) s)) (closes_quote 34 false t) y).0 in
-        both_ways (begins_literal d (c ∷ s)) n (word_literal d c (take (prefix_len is_word s) s) (c ∷ s) prefix there)))
+-- a literal that a word is the prefix of begins the text
+literal_there : (d : Dialect) (l t : List ℕ) (q : ℕ) → Spells d (Whole Identifier) l → is_string_prefix l ≡ true → is_literal d l (l ++ q ∷ t) ≡ true → begins_literal d (l ++ q ∷ t) ≡ true
+literal_there d l t q g p h = let b = begins d (Whole Identifier) l g in let w = b.whole in
+    word_literal d b.c b.rest (l ++ q ∷ t) (subst (λ z. is_string_prefix z ≡ true) w p) (subst (λ z. is_literal d z (l ++ q ∷ t) ≡ true) w h)
 
-some_word : (s : List ℕ) → starts is_letter s ≡ true → 0 < prefix_len is_word s
-some_word [] h = cc
-some_word (c ∷ s) h = let w : is_word c ≡ true = or_left (is_letter c) (is_digit c) h in rw w (omega arith)
-
-pub before_quote_off : (x left : Coming) → starts is_letter (bytes_of x.chars) ≡ true → left ≡ behind x (prefix_len is_word (bytes_of x.chars)) → starts is_quote_mark (bytes_of left.chars) ≡ true → begins_literal x.dialect (bytes_of x.chars) ≡ false → IsCutOff x left Identifier
-before_quote_off x left h e q n = record {
-  n = prefix_len is_word (bytes_of x.chars);
-  some = some_word (bytes_of x.chars) h;
-  left_is = e;
-  cut = before_quote x.dialect (bytes_of x.chars) h (subst (λ z. starts is_quote_mark z ≡ true) (left_bytes x left (prefix_len is_word (bytes_of x.chars)) e) q) n;
+pub word_longest_run : (d : Dialect) (l rest : List ℕ) → Spells d (Whole Identifier) l → IsLongestHeld (AreUnits is_word_unit) l rest → (starts is_quote_mark rest ≡ true → begins_literal d (l ++ rest) ≡ false) → IsLongest d (Whole Identifier) l rest
+word_longest_run d l rest spelled held none = record {
+  spells = spelled;
+  longest = λ k e more left w g. elim (word_kinds d k l e more spelled g (both_begin d (Whole Identifier) k l e more spelled g)) [
+    | inl is ↦ held.longest e more left w (headed_units (l ++ e ∷ more) (subst (λ z. Spells d z (l ++ e ∷ more)) is g))
+    | inr lit ↦ elim lit [
+      | inl is ↦
+          let i : Spells d (Whole CharConst) (l ++ e ∷ more) = subst (λ z. Spells d z (l ++ e ∷ more)) is g in
+          longer_literal d l rest k e more left spelled held none w (char_goes d l e more spelled i) (λ quote.
+          let found = constant_there d l more (more ++ left) left e spelled quote refl i in
+          let prefix = char_is_string_prefix d l (and_parts (is_char_prefix d l) _ found.1).0 in
+          let all : l ++ rest ≡ l ++ 39 ∷ (more ++ left) = ap (λ z. l ++ z) (w ∙ ap (λ z. z ∷ (more ++ left)) found.0) in
+          subst (λ z. begins_literal d z ≡ true) (sym all) (literal_there d l (more ++ left) 39 spelled prefix (constant_at d l (more ++ left) found.1)))
+      | inr is ↦
+          let i : Spells d (Whole StringLit) (l ++ e ∷ more) = subst (λ z. Spells d z (l ++ e ∷ more)) is g in
+          longer_literal d l rest k e more left spelled held none w (string_goes d l e more spelled i) (λ quote.
+          let found = string_there d l more (more ++ left) left e spelled quote refl i in
+          let prefix = (and_parts (is_string_prefix l) _ found.1).0 in
+          let all : l ++ rest ≡ l ++ 34 ∷ (more ++ left) = ap (λ z. l ++ z) (w ∙ ap (λ z. z ∷ (more ++ left)) found.0) in
+          subst (λ z. begins_literal d z ≡ true) (sym all) (literal_there d l (more ++ left) 34 spelled prefix (string_at d l (more ++ left) found.1)))
+    ]
+  ];
 }
 
--- neither a quote nor beyond
-pub not_strange : (s : List ℕ) → starts is_beyond s ≡ false → starts is_quote_mark s ≡ false → starts is_strange s ≡ false
-unfolding is_strange is_beyond
-not_strange [] b q = refl
-not_strange (c ∷ s) b q = rw (b, q) refl
+-- the run of a word whose first unit starts one
+pub run_headed : (u t l rest : List ℕ) → is_letter_unit u ≡ true → l ++ rest ≡ u ++ t → IsLongestHeld (AreUnits is_word_unit) l rest → IsHeaded is_letter_unit is_word_unit l
+run_headed u t l rest h w held = at held.holds.units held.holds.each held.holds.whole
+  where
+    some : (u : List ℕ) → is_letter_unit u ≡ true → l ≡ [] → rest ≡ u ++ t → ⊥
+    some [] h n e = word_some (letter_is_word [] h)
+    some (c ∷ u) h n e = held.longest c u t e (subst (λ z. AreUnits is_word_unit (z ++ c ∷ u)) (sym n) (subst (AreUnits is_word_unit) (append-nil (c ∷ u)) (onto is_word_unit (c ∷ u) [] (letter_is_word (c ∷ u) h) (nothing is_word_unit))))
 
--- where an item isn't read
-pub unread_word : (x left : Coming) → starts is_letter (bytes_of x.chars) ≡ true → left ≡ behind x (prefix_len is_word (bytes_of x.chars)) → starts is_beyond (bytes_of left.chars) ≡ true → is_unread (bytes_of x.chars) ≡ true
-unread_word x left h e b = rw h (subst (λ z. starts is_beyond z ≡ true) (left_bytes x left (prefix_len is_word (bytes_of x.chars)) e) b)
-
-pub unread_first : (s : List ℕ) → starts is_letter s ≡ false → begins_number s ≡ false → starts is_beyond s ≡ true → is_unread s ≡ true
-unread_first s l n b = rw (l, n) b
+    at : (vs : List (List ℕ)) → list_all is_word_unit vs ≡ true → l ≡ joined vs → IsHeaded is_letter_unit is_word_unit l
+    at [] a e = absurd (some u h e (subst (λ z. z ++ rest ≡ u ++ t) e w))
+    at (v ∷ vs) a e =
+        let parts = and_parts (is_word_unit v) (list_all is_word_unit vs) a in
+        elim (two_cuts v (joined vs ++ rest) u t (sym (append_assoc v (joined vs) rest) ∙ subst (λ z. z ++ rest ≡ u ++ t) e w)) [
+          | inl same ↦ record { head = v; tail = joined vs; begins = subst (λ z. is_letter_unit z ≡ true) (sym same.front_is) h; goes_on = record { units = vs; each = parts.1; whole = refl }; whole = e }
+          | inr on ↦ elim on [
+            | inl g ↦ absurd (word_alone v g.c g.more parts.0 (subst (λ z. is_word_unit z ≡ true) g.front_is (letter_is_word u h)))
+            | inr g ↦ absurd (word_alone u g.c g.more (letter_is_word u h) (subst (λ z. is_word_unit z ≡ true) g.front_is parts.0))
+          ]
+        ]
 
 pub quoted_yes : (x y : Coming) (p : List ℕ) (q : ℕ) → starts_with nat_eq (bytes_of x.chars) p ≡ true → y ≡ behind x (length p) → starts_with nat_eq (bytes_of y.chars) (q ∷ []) ≡ starts_with nat_eq (bytes_of x.chars) (p ++ q ∷ [])
 quoted_yes x y p q h e =

@@ -1,6 +1,6 @@
 -- Punctuators and quotes, cut off a text of characters.
 use Rattle.std.proofs.Common.{◌≡◌, ◌==◌, ◌||◌, ◌&&◌, ◌<◌, Bool, true, false, ℕ, List, [], ◌∷◌, drop, nat_eq, refl, sym, ◌∙◌, subst, arith, inl, inr}
-use Rattle.std.specs.List.{list_any, list_all, starts_with}
+use Rattle.std.specs.List.{list_all, starts_with}
 use Rattle.std.proofs.lemmas.Bool.{or_parts, or_cases, and_parts, both_ways, cases_Bool, eqb-true, eq-eqb}
 use Rattle.c_chars.specs.Characters.{bytes_of}
 use Rattle.c_chars.specs.Coming.{Coming, behind}
@@ -13,7 +13,7 @@ use Rattle.c_grammar.proofs.Firsts.{is_mark}
 use Rattle.c_grammar.proofs.Goes.{no_punct_front}
 use Rattle.c_lexer.specs.Run.{IsCut, long, first_front, begins_number}
 use Rattle.c_lexer.specs.Cut.{IsCutOff}
-use Rattle.c_lexer.specs.Class.{begins_punctuator, is_quote_mark, is_strange}
+use Rattle.c_lexer.specs.Class.{begins_punctuator, is_quote_mark}
 use Rattle.c_lexer.proofs.Puncts.{punct_cut}
 
 abbrev is_some : List ℕ → Bool
@@ -98,7 +98,3 @@ quotation_first (c ∷ s) h n = elim (or_cases (39 == c) ((34 == c) || false) h)
   | inl y ↦ let both : starts_with nat_eq (c ∷ s) (39 ∷ []) ≡ true = rw y refl in absurd (both_ways (starts_with nat_eq (c ∷ s) (39 ∷ [])) n both)
   | inr y ↦ elim (or_cases (34 == c) false y) [ inl z ↦ rw z refl | inr z ↦ cc ]
 ]
-
-pub strange_first : (s : List ℕ) → starts is_strange s ≡ true → list_any is_strange s ≡ true
-strange_first [] h = cc
-strange_first (c ∷ s) h = rw h refl

@@ -17,9 +17,8 @@ use Rattle.c_lexer.specs.Fault.{IsAt, IsFault, past_blank, fault_of}
 use Rattle.c_lexer.specs.Next.{IsCutNext}
 use Rattle.c_lexer.specs.Place.{IsSpanned, SpelledBy}
 use Rattle.c_lexer.specs.Reading.{Reading, IsNextItem}
-use Rattle.c_lexer.specs.Unread.{is_unread}
 use Rattle.c_lexer.specs.declared.cut.Stop.{Stop}
-use Rattle.c_lexer.specs.declared.cut.Stop.TheVariants.{Unterminated, NotRead}
+use Rattle.c_lexer.specs.declared.cut.Stop.TheVariants.{Unterminated}
 use Rattle.c_lexer.proofs.Runs.{stops}
 use Rattle.c_lexer.proofs.Stepping.{behind_chars, behind_dialect, between_behind, at_within, starts_before, step_of, bytes_drop}
 
@@ -95,9 +94,6 @@ fault_there text d place x y first Unterminated a e h s =
       ap begin_of (sym (first_of_some y.chars first h) ∙ rest),
       subst (λ z. IsLongest d Unended (bytes_of z) []) rest (subst (λ z. IsLongest z Unended (bytes_of y.chars) []) same s),
     )
-fault_there text d place x y first NotRead a e h s =
-    let rest : y.chars ≡ past_blank x.chars = rest_chars x y (gap_of x) e in
-    (ap begin_of (sym (first_of_some y.chars first h) ∙ rest), subst (λ z. is_unread (bytes_of z) ≡ true) rest s)
 
 pub next_there : (text : List ℕ) (d : Dialect) (place here past : Place) (x y left : Coming) (b : Bool) (first : LogicalChar) (kind : ItemKind) (raw : List ℕ) → IsAt text d x →
     b ≡ list_any is_new_line (take (gap_of x) (bytes_of x.chars)) → y ≡ behind x (gap_of x) → slice_get y.chars 0 ≡ Some first → here ≡ (if b then LineStart else place) → IsCutNext here y left kind →

@@ -1,19 +1,15 @@
--- A character that begins nothing else is the longest that spells an item, where it is no backslash and none past ASCII.
-use Rattle.std.proofs.Common.{◌≡◌, ◌==◌, ℕ, true, false, List, [], ◌∷◌, refl, sym, subst, inl, inr}
-use Rattle.std.proofs.lemmas.Bool.{or_left, or_cases, both_ways, eqb-true}
+-- What begins nothing else is the longest that spells an item.
+use Rattle.std.proofs.Common.{◌≡◌, ◌==◌, ℕ, true, false, List, ◌∷◌, ◌++◌, refl, sym, ◌∙◌, ap, subst, inl, inr, ◌⊎◌, append_assoc}
+use Rattle.std.proofs.lemmas.Bool.{or_cases, both_ways, eqb-true}
 use Rattle.c_chars.specs.declared.Dialect.{Dialect}
-use Rattle.c_grammar.specs.Grammar.{is_other, is_one, is_other_unit, is_wide, is_letter, is_digit, Shape, Whole, Unended, Spells}
+use Rattle.c_grammar.specs.Grammar.{is_other, is_other_unit, is_wide, is_letter, is_digit, is_letter_unit, Shape, Whole, Unended, Spells}
+use Rattle.c_grammar.specs.Items.{IsLongest}
 use Rattle.c_grammar.specs.declared.ItemKind.TheVariants.{Identifier, Number, CharConst, StringLit, Punct, HeaderName, StrayQuote, Other, BlockComment, LineComment}
-use Rattle.c_grammar.proofs.Firsts.{is_quote, is_mark, is_number_start, is_letter_start, can_begin, not_start}
+use Rattle.c_grammar.proofs.Firsts.{is_quote, is_mark, is_number_start, can_begin, not_start, other_cases}
 use Rattle.c_grammar.proofs.Classes.{other_is_none, other_not_mark}
-use Rattle.c_grammar.proofs.Goes.{both_begin, other_first}
+use Rattle.c_grammar.proofs.Goes.{both_begin, one_short}
 use Rattle.c_grammar.proofs.Sorts.{apostrophe, quotation}
-use Rattle.c_grammar.proofs.Wide.{is_high}
-use Rattle.c_lexer.specs.Run.{IsCut}
-
-one_other : (d : Dialect) (c : ℕ) → is_other d c ≡ true → Spells d (Whole Other) (c ∷ [])
-unfolding is_other_unit
-one_other d c h = or_left (is_one (is_other d) (c ∷ [])) (is_wide not_start (c ∷ [])) h
+use Rattle.c_lexer.specs.Unit.{BeginsUnit}
 
 no_mark_of : (d : Dialect) (c n : ℕ) → is_other d c ≡ true → is_mark n ≡ true → (c == n) ≡ true → ⊥
 no_mark_of d c n h m e = both_ways (is_mark c) (other_not_mark d c h) (subst (λ z. is_mark z ≡ true) (sym (eqb-true c n e)) m)
@@ -29,27 +25,39 @@ slash = refl
 no_quote_of : (c n : ℕ) → is_quote c ≡ false → is_quote n ≡ true → (c == n) ≡ true → ⊥
 no_quote_of c n q m e = both_ways (is_quote c) q (subst (λ z. is_quote z ≡ true) (sym (eqb-true c n e)) m)
 
--- no other item begins with it
-begins_none : (d : Dialect) (k : Shape) (c e : ℕ) (more : List ℕ) → is_other d c ≡ true → is_letter_start c ≡ false → is_high c ≡ false → Spells d k (c ∷ e ∷ more) → can_begin d k c ≡ true → ⊥
+-- no other item begins with it but a word
+other_kinds : (d : Dialect) (k : Shape) (c : ℕ) → is_other d c ≡ true → can_begin d k c ≡ true → (k ≡ Whole Identifier) ⊎ (k ≡ Whole Other)
 unfolding is_number_start
-begins_none d (Whole Identifier) c e more h l p g b = both_ways (is_letter_start c) l b
-begins_none d (Whole Number) c e more h l p g b = elim (or_cases (is_digit c) (c == 46) b) [ inl y ↦ both_ways (is_digit c) (other_is_none d c h).digit y | inr y ↦ no_mark_of d c 46 h point y ]
-begins_none d (Whole CharConst) c e more h l p g b = elim (or_cases (is_letter c) (c == 39) b) [ inl y ↦ both_ways (is_letter c) (other_is_none d c h).letter y | inr y ↦ no_quote_of c 39 (other_is_none d c h).quote apostrophe y ]
-begins_none d (Whole StringLit) c e more h l p g b = elim (or_cases (is_letter c) (c == 34) b) [ inl y ↦ both_ways (is_letter c) (other_is_none d c h).letter y | inr y ↦ no_quote_of c 34 (other_is_none d c h).quote quotation y ]
-begins_none d (Whole Punct) c e more h l p g b = both_ways (is_mark c) (other_not_mark d c h) b
-begins_none d (Whole HeaderName) c e more h l p g b = g
-begins_none d (Whole StrayQuote) c e more h l p g b = both_ways (is_quote c) (other_is_none d c h).quote b
-begins_none d (Whole Other) c e more h l p g b = both_ways (is_high c) p (other_first d (c ∷ []) c [] e more refl g)
-begins_none d (Whole BlockComment) c e more h l p g b = no_mark_of d c 47 h slash b
-begins_none d (Whole LineComment) c e more h l p g b = no_mark_of d c 47 h slash b
-begins_none d Unended c e more h l p g b = no_mark_of d c 47 h slash b
+other_kinds d (Whole Identifier) c h b = inl refl
+other_kinds d (Whole Number) c h b = absurd (elim (or_cases (is_digit c) (c == 46) b) [ inl y ↦ both_ways (is_digit c) (other_is_none d c h).digit y | inr y ↦ no_mark_of d c 46 h point y ])
+other_kinds d (Whole CharConst) c h b = absurd (elim (or_cases (is_letter c) (c == 39) b) [ inl y ↦ both_ways (is_letter c) (other_is_none d c h).letter y | inr y ↦ no_quote_of c 39 (other_is_none d c h).quote apostrophe y ])
+other_kinds d (Whole StringLit) c h b = absurd (elim (or_cases (is_letter c) (c == 34) b) [ inl y ↦ both_ways (is_letter c) (other_is_none d c h).letter y | inr y ↦ no_quote_of c 34 (other_is_none d c h).quote quotation y ])
+other_kinds d (Whole Punct) c h b = absurd (both_ways (is_mark c) (other_not_mark d c h) b)
+other_kinds d (Whole HeaderName) c h b = cc
+other_kinds d (Whole StrayQuote) c h b = absurd (both_ways (is_quote c) (other_is_none d c h).quote b)
+other_kinds d (Whole Other) c h b = inr refl
+other_kinds d (Whole BlockComment) c h b = absurd (no_mark_of d c 47 h slash b)
+other_kinds d (Whole LineComment) c h b = absurd (no_mark_of d c 47 h slash b)
+other_kinds d Unended c h b = absurd (no_mark_of d c 47 h slash b)
 
-alone : (d : Dialect) (k : Shape) (c e : ℕ) (more : List ℕ) → is_other d c ≡ true → is_letter_start c ≡ false → is_high c ≡ false → Spells d k (c ∷ e ∷ more) → ⊥
-alone d k c e more h l p g =
-    let b = both_begin d (Whole Other) k (c ∷ []) e more (one_other d c h) g in
-    let w = b.whole in
-    let head : b.f ≡ c = cc in
-    begins_none d k c e more h l p g (subst (λ z. can_begin d k z ≡ true) head b.second)
-
-pub other_cut : (d : Dialect) (c : ℕ) (s : List ℕ) → is_other d c ≡ true → is_letter_start c ≡ false → is_high c ≡ false → IsCut d (Whole Other) (c ∷ s) 1
-other_cut d c s h l p = record { spells = one_other d c h; longest = λ k e more left r g. alone d k c e more h l p g }
+-- where no word begins, and no longer character past ASCII
+pub other_longest : (d : Dialect) (u rest : List ℕ) → is_other_unit d u ≡ true → (BeginsUnit is_letter_unit (u ++ rest) → ⊥) →
+    ((c : ℕ) (more left : List ℕ) → rest ≡ (c ∷ more) ++ left → is_wide not_start (u ++ c ∷ more) ≡ true → ⊥) → IsLongest d (Whole Other) u rest
+other_longest d u rest h word wide = record {
+  spells = h;
+  longest = λ k e more left w g.
+      let b = both_begin d (Whole Other) k u e more h g in
+      elim (other_kinds d k b.f b.first b.second) [
+        | inl is ↦
+            let i : Spells d (Whole Identifier) (u ++ e ∷ more) = subst (λ z. Spells d z (u ++ e ∷ more)) is g in
+            word (record {
+              unit = i.head;
+              rest = i.tail ++ left;
+              passes = i.begins;
+              whole = ap (λ z. u ++ z) w ∙ (sym (append_assoc u (e ∷ more) left) ∙ (ap (λ z. z ++ left) i.whole ∙ append_assoc i.head i.tail left));
+            })
+        | inr is ↦
+            let i : is_other_unit d (u ++ e ∷ more) ≡ true = subst (λ z. Spells d z (u ++ e ∷ more)) is g in
+            elim (other_cases d (u ++ e ∷ more) i) [ inl one ↦ one_short (is_other d) u b.f b.rest e more b.whole one | inr more_wide ↦ wide e more left w more_wide ]
+      ];
+}

@@ -1,6 +1,5 @@
 -- Steps over characters.
 use Rattle.std.specs.List.{list_any, prefix_len}
-use Rattle.c_lexer.specs.Run.{goes, run}
 use Rattle.c_lexer.specs.Quote.{closes_quote, quote_len}
 use Rattle.c_lexer.specs.Header.{ends_name, name_len, begins_header, header_len}
 use Rattle.c_lexer.specs.Comment.{closes_block, block_len, line_len, over_white}
@@ -161,14 +160,3 @@ line_next p x y c chars h = ap (λ s. has_line p (bytes_of s)) chars ∙ at c.by
 pub or_assoc : (a b c : Bool) → ((a || b) || c) ≡ (a || (b || c))
 or_assoc true b c = refl
 or_assoc false b c = refl
-
--- numbers
-
-pub run_next : (previous : ℕ) (x y : Coming) (c : LogicalChar) → x.chars ≡ c ∷ y.chars → y.at ≡ c.to → y.dialect ≡ x.dialect → goes previous c.byte ≡ true →
-    behind x (run previous (bytes_of x.chars)) ≡ behind y (run c.byte (bytes_of y.chars))
-run_next previous x y c chars at dialect h =
-    ap (λ s. behind x (run previous (bytes_of s))) chars ∙ (rw h (behind_next x y c (run c.byte (bytes_of y.chars)) chars at dialect))
-
-pub run_done : (previous : ℕ) (s : List ℕ) → starts (goes previous) s ≡ false → run previous s ≡ 0
-run_done previous [] h = refl
-run_done previous (c ∷ s) h = rw h refl

@@ -1,41 +1,47 @@
 -- A word before a quote, where the two make no literal, is the longest that spells an item.
-use Rattle.std.proofs.Common.{◌≡◌, ◌==◌, ◌&&◌, not, ℕ, Bool, true, false, List, [], ◌∷◌, ◌++◌, take, drop, refl, sym, ◌∙◌, ap, subst, inl, inr, ◌⊎◌, append_assoc}
-use Rattle.std.specs.List.{list_all, prefix_len}
-use Rattle.std.proofs.lemmas.Bool.{and_parts, or_cases, eqb-true, eq-eqb, both_ways, not-true, ne_eqb}
+use Rattle.std.proofs.Common.{◌≡◌, ◌==◌, ◌&&◌, not, ℕ, Bool, true, false, List, [], ◌∷◌, ◌++◌, refl, sym, ◌∙◌, ap, subst, inl, inr, ◌⊎◌, append_assoc}
+use Rattle.std.specs.List.{list_all}
+use Rattle.std.specs.Prelude.{codes}
+use Rattle.std.proofs.lemmas.Bool.{or_right, and_parts, or_cases, eqb-true, eq-eqb, both_ways, not-true, ne_eqb}
 use Rattle.c_chars.specs.declared.Dialect.{Dialect}
-use Rattle.c_grammar.specs.Grammar.{is_same, is_letter, is_digit, is_new_line, joined, IsHeaded, is_letter_unit, is_word_unit, is_quoted_unit, is_char_prefix, is_string_prefix, Shape, Whole, Unended, Spells}
-use Rattle.c_grammar.specs.Items.{IsLongest}
+use Rattle.c_chars.specs.declared.Dialect.TheVariants.{C11, C23}
+use Rattle.c_grammar.specs.Grammar.{is_one, is_wide, is_other, is_same, is_letter, is_digit, is_new_line, joined, is_quoted_unit, is_char_prefix, is_string_prefix, Shape, Whole, Unended, Spells}
 use Rattle.c_grammar.specs.Touch.{starts}
 use Rattle.c_grammar.specs.declared.ItemKind.TheVariants.{Identifier, Number, CharConst, StringLit, Punct, HeaderName, StrayQuote, Other, BlockComment, LineComment}
-use Rattle.c_grammar.proofs.Lists.{passes_at}
-use Rattle.c_grammar.proofs.Firsts.{is_quote, is_mark, is_number_start, is_letter_start, high_not_quote}
+use Rattle.c_grammar.proofs.Lists.{in_table, two_cuts}
+use Rattle.c_grammar.proofs.Firsts.{is_quote, is_mark, is_number_start, is_letter_start, not_start, other_cases}
 use Rattle.c_grammar.proofs.Classes.{letter_start_not_digit, letter_start_not_mark, letter_start_not_quote}
 use Rattle.c_grammar.proofs.Words.{is_wordlike, identifier_wordlike, char_prefix_wordlike, string_prefix_wordlike, wordlike_not_quote}
-use Rattle.c_grammar.proofs.Sorts.{apart_at, apostrophe, quotation, body_starts}
-use Rattle.c_grammar.proofs.Goes.{BothBegin, both_begin, tail_passes, other_long}
+use Rattle.c_grammar.proofs.Sorts.{apart_at, apostrophe, quotation, body_starts, is_lone, identifier_not_lone}
+use Rattle.c_grammar.proofs.Goes.{BothBegin, one_short, tail_passes}
 use Rattle.c_grammar.proofs.Closed.{same_prefix}
-use Rattle.c_grammar.proofs.Singles.{singles, is_word, word_single, letter_single}
+use Rattle.c_grammar.proofs.Singles.{is_word}
 use Rattle.c_grammar.proofs.Wide.{is_high}
 use Rattle.c_lexer.specs.Quote.{closes_quote}
-use Rattle.c_lexer.proofs.Runs.{passes}
 
--- what goes on from a word with a quote is a literal
-literal_kind : (d : Dialect) (k : Shape) (l : List ℕ) (q : ℕ) (more : List ℕ) → Spells d (Whole Identifier) l → is_quote q ≡ true → Spells d k (l ++ q ∷ more) → BothBegin d (Whole Identifier) k l → (k ≡ Whole CharConst) ⊎ (k ≡ Whole StringLit)
+-- what goes on from a word is a word or a literal
+pub word_kinds : (d : Dialect) (k : Shape) (l : List ℕ) (e : ℕ) (more : List ℕ) → Spells d (Whole Identifier) l → Spells d k (l ++ e ∷ more) → BothBegin d (Whole Identifier) k l →
+    (k ≡ Whole Identifier) ⊎ ((k ≡ Whole CharConst) ⊎ (k ≡ Whole StringLit))
 unfolding is_number_start is_letter_start is_letter
-literal_kind d (Whole Identifier) l q more g i h b = absurd (both_ways (is_quote q) (wordlike_not_quote q (tail_passes is_wordlike l q more (identifier_wordlike (l ++ q ∷ more) h))) i)
-literal_kind d (Whole Number) l q more g i h b = absurd (elim (or_cases (is_digit b.f) (b.f == 46) b.second) [
+word_kinds d (Whole Identifier) l q more g h b = inl refl
+word_kinds d (Whole Number) l q more g h b = absurd (elim (or_cases (is_digit b.f) (b.f == 46) b.second) [
   | inl e ↦ both_ways (is_digit b.f) (letter_start_not_digit b.f b.first) e
   | inr e ↦ both_ways (b.f == 46) (apart_at is_letter_start b.f 46 b.first refl) e
 ])
-literal_kind d (Whole CharConst) l q more g i h b = inl refl
-literal_kind d (Whole StringLit) l q more g i h b = inr refl
-literal_kind d (Whole Punct) l q more g i h b = absurd (both_ways (is_mark b.f) (letter_start_not_mark b.f b.first) b.second)
-literal_kind d (Whole HeaderName) l q more g i h b = absurd h
-literal_kind d (Whole StrayQuote) l q more g i h b = absurd (both_ways (is_quote b.f) (letter_start_not_quote b.f b.first) b.second)
-literal_kind d (Whole Other) l q more g i h b = absurd (both_ways (is_quote q) (high_not_quote q (passes_at is_high l q more (other_long d l b.f b.rest q more b.whole h))) i)
-literal_kind d (Whole BlockComment) l q more g i h b = absurd (both_ways (b.f == 47) (apart_at is_letter_start b.f 47 b.first refl) b.second)
-literal_kind d (Whole LineComment) l q more g i h b = absurd (both_ways (b.f == 47) (apart_at is_letter_start b.f 47 b.first refl) b.second)
-literal_kind d Unended l q more g i h b = absurd (both_ways (b.f == 47) (apart_at is_letter_start b.f 47 b.first refl) b.second)
+word_kinds d (Whole CharConst) l q more g h b = inr (inl refl)
+word_kinds d (Whole StringLit) l q more g h b = inr (inr refl)
+word_kinds d (Whole Punct) l q more g h b = absurd (both_ways (is_mark b.f) (letter_start_not_mark b.f b.first) b.second)
+word_kinds d (Whole HeaderName) l q more g h b = absurd h
+word_kinds d (Whole StrayQuote) l q more g h b = absurd (both_ways (is_quote b.f) (letter_start_not_quote b.f b.first) b.second)
+word_kinds d (Whole Other) l q more g h b = absurd (elim (other_cases d (l ++ q ∷ more) h) [
+  | inl one ↦ one_short (is_other d) l b.f b.rest q more b.whole one
+  | inr wide ↦
+      let apart : is_lone (l ++ q ∷ more) ≡ false = ap (λ z. is_lone z) (ap (λ z. z ++ q ∷ more) g.whole ∙ append_assoc g.head g.tail (q ∷ more)) ∙ identifier_not_lone g.head (g.tail ++ q ∷ more) g.begins in
+      both_ways (is_lone (l ++ q ∷ more)) apart (or_right (is_same (l ++ q ∷ more) (92 ∷ [])) _ (or_right (is_one is_high (l ++ q ∷ more)) (is_wide not_start (l ++ q ∷ more)) wide))
+])
+word_kinds d (Whole BlockComment) l q more g h b = absurd (both_ways (b.f == 47) (apart_at is_letter_start b.f 47 b.first refl) b.second)
+word_kinds d (Whole LineComment) l q more g h b = absurd (both_ways (b.f == 47) (apart_at is_letter_start b.f 47 b.first refl) b.second)
+word_kinds d Unended l q more g h b = absurd (both_ways (b.f == 47) (apart_at is_letter_start b.f 47 b.first refl) b.second)
 
 -- a closed body closes
 closes_there : (q : ℕ) → is_quote q ≡ true → (us : List (List ℕ)) → list_all (is_quoted_unit q) us ≡ true → (left : List ℕ) → closes_quote q false (joined us ++ q ∷ left) ≡ true
@@ -69,7 +75,7 @@ is_constant d l t = is_char_prefix d l && (not (starts (λ c. c == 39) t) && clo
 abbrev pub is_string : List ℕ → List ℕ → Bool
 is_string l t = is_string_prefix l && closes_quote 34 false t
 
-constant_there : (d : Dialect) (l more t left : List ℕ) (q : ℕ) → Spells d (Whole Identifier) l → is_quote q ≡ true → t ≡ more ++ left → Spells d (Whole CharConst) (l ++ q ∷ more) → (q ≡ 39) × (is_constant d l t ≡ true)
+pub constant_there : (d : Dialect) (l more t left : List ℕ) (q : ℕ) → Spells d (Whole Identifier) l → is_quote q ≡ true → t ≡ more ++ left → Spells d (Whole CharConst) (l ++ q ∷ more) → (q ≡ 39) × (is_constant d l t ≡ true)
 constant_there d l more t left q g i e h =
     let cut = same_prefix l h.before more (h.body ++ 39 ∷ []) q 39 (identifier_wordlike l g) (char_prefix_wordlike d h.before h.begins) i apostrophe h.whole in
     let rests = cut.rest_is in
@@ -82,7 +88,7 @@ constant_there d l more t left q g i e h =
     let closed : closes_quote 39 false t ≡ true = subst (λ z. closes_quote 39 false z ≡ true) (sym whole) (closes_there 39 apostrophe h.inside.units h.inside.each left) in
     (quote, rw (prefix, first, closed) refl)
 
-string_there : (d : Dialect) (l more t left : List ℕ) (q : ℕ) → Spells d (Whole Identifier) l → is_quote q ≡ true → t ≡ more ++ left → Spells d (Whole StringLit) (l ++ q ∷ more) → (q ≡ 34) × (is_string l t ≡ true)
+pub string_there : (d : Dialect) (l more t left : List ℕ) (q : ℕ) → Spells d (Whole Identifier) l → is_quote q ≡ true → t ≡ more ++ left → Spells d (Whole StringLit) (l ++ q ∷ more) → (q ≡ 34) × (is_string l t ≡ true)
 string_there d l more t left q g i e h =
     let cut = same_prefix l h.before more (h.body ++ 34 ∷ []) q 34 (identifier_wordlike l g) (string_prefix_wordlike h.before h.begins) i quotation h.whole in
     let rests = cut.rest_is in
@@ -93,32 +99,37 @@ string_there d l more t left q g i e h =
     let closed : closes_quote 34 false t ≡ true = subst (λ z. closes_quote 34 false z ≡ true) (sym whole) (closes_there 34 quotation h.inside.units h.inside.each left) in
     (quote, rw (prefix, closed) refl)
 
--- a word before a quote that makes no literal with it
-pub word_cut : (d : Dialect) (c : ℕ) (s t : List ℕ) (q : ℕ) → is_letter c ≡ true → is_quote q ≡ true → drop (prefix_len is_word s) s ≡ q ∷ t →
-    (q ≡ 39 → is_constant d (c ∷ take (prefix_len is_word s) s) t ≡ false) → (q ≡ 34 → is_string (c ∷ take (prefix_len is_word s) s) t ≡ false) →
-    IsLongest d (Whole Identifier) (c ∷ take (prefix_len is_word s) s) (drop (prefix_len is_word s) s)
-word_cut d c s t q h i r constant string =
-    let l : List ℕ = c ∷ take (prefix_len is_word s) s in
-    let spelled : IsHeaded is_letter_unit is_word_unit (c ∷ take (prefix_len is_word s) s) = record {
-      head = c ∷ [];
-      tail = take (prefix_len is_word s) s;
-      begins = letter_single c h;
-      goes_on = singles is_word is_word_unit word_single (take (prefix_len is_word s) s) (passes is_word s);
-      whole = refl;
-    } in
-    record { spells = spelled; longest = λ k e more left w g. nothing_more d k (c ∷ take (prefix_len is_word s) s) e more left t q spelled i (sym r ∙ w) constant string g }
-  where
-    nothing_more : (d : Dialect) (k : Shape) (l : List ℕ) (e : ℕ) (more left t : List ℕ) (q : ℕ) → Spells d (Whole Identifier) l → is_quote q ≡ true → q ∷ t ≡ (e ∷ more) ++ left →
-        (q ≡ 39 → is_constant d l t ≡ false) → (q ≡ 34 → is_string l t ≡ false) → Spells d k (l ++ e ∷ more) → ⊥
-    nothing_more d k l e more left t q spelled i w constant string g =
-        let head : q ≡ e = cc in
-        let tail : t ≡ more ++ left = cc in
-        let quote : is_quote e ≡ true = subst (λ z. is_quote z ≡ true) head i in
-        elim (literal_kind d k l e more spelled quote g (both_begin d (Whole Identifier) k l e more spelled g)) [
-          | inl is ↦
-              let found = constant_there d l more t left e spelled quote tail (subst (λ z. Spells d z (l ++ e ∷ more)) is g) in
-              both_ways (is_constant d l t) (constant (head ∙ found.0)) found.1
-          | inr is ↦
-              let found = string_there d l more t left e spelled quote tail (subst (λ z. Spells d z (l ++ e ∷ more)) is g) in
-              both_ways (is_string l t) (string (head ∙ found.0)) found.1
-        ]
+-- the characters of a literal's prefix are letters and digits
+char_prefix_words : (d : Dialect) (p : List ℕ) → is_char_prefix d p ≡ true → list_all is_word p ≡ true
+unfolding is_char_prefix is_letter is_digit
+char_prefix_words C11 p h = in_table (list_all is_word) ([] ∷ codes "L" ∷ codes "u" ∷ codes "U" ∷ []) refl p h
+char_prefix_words C23 p h = in_table (list_all is_word) ([] ∷ codes "L" ∷ codes "u" ∷ codes "U" ∷ codes "u8" ∷ []) refl p h
+
+string_prefix_words : (p : List ℕ) → is_string_prefix p ≡ true → list_all is_word p ≡ true
+unfolding is_string_prefix is_letter is_digit
+string_prefix_words p h = in_table (list_all is_word) ([] ∷ codes "L" ∷ codes "u" ∷ codes "U" ∷ codes "u8" ∷ []) refl p h
+
+-- what goes on from a word to a literal is of its prefix or its quote
+prefix_goes : (l : List ℕ) (e : ℕ) (more before rest : List ℕ) (q : ℕ) → is_quote q ≡ true → list_all is_wordlike l ≡ true → list_all is_word before ≡ true → l ++ e ∷ more ≡ before ++ q ∷ rest → (is_word e ≡ true) ⊎ (is_quote e ≡ true)
+prefix_goes l e more before rest q k a b w = elim (two_cuts l (e ∷ more) before (q ∷ rest) w) [
+  | inl same ↦
+      let rests = same.rest_is in
+      let heads : q ≡ e = cc in
+      inr (subst (λ z. is_quote z ≡ true) heads k)
+  | inr on ↦ elim on [
+    | inl g ↦
+        let rests = g.rest_is in
+        let heads : g.c ≡ e = cc in
+        inl (subst (λ z. is_word z ≡ true) heads (tail_passes is_word l g.c g.more (subst (λ z. list_all is_word z ≡ true) g.front_is b)))
+    | inr g ↦
+        let rests = g.rest_is in
+        let heads : g.c ≡ q = cc in
+        absurd (both_ways (is_quote q) (wordlike_not_quote q (subst (λ z. is_wordlike z ≡ true) heads (tail_passes is_wordlike before g.c g.more (subst (λ z. list_all is_wordlike z ≡ true) g.front_is a)))) k)
+  ]
+]
+
+pub char_goes : (d : Dialect) (l : List ℕ) (e : ℕ) (more : List ℕ) → Spells d (Whole Identifier) l → Spells d (Whole CharConst) (l ++ e ∷ more) → (is_word e ≡ true) ⊎ (is_quote e ≡ true)
+char_goes d l e more g h = prefix_goes l e more h.before (h.body ++ 39 ∷ []) 39 apostrophe (identifier_wordlike l g) (char_prefix_words d h.before h.begins) h.whole
+
+pub string_goes : (d : Dialect) (l : List ℕ) (e : ℕ) (more : List ℕ) → Spells d (Whole Identifier) l → Spells d (Whole StringLit) (l ++ e ∷ more) → (is_word e ≡ true) ⊎ (is_quote e ≡ true)
+string_goes d l e more g h = prefix_goes l e more h.before (h.body ++ 34 ∷ []) 34 quotation (identifier_wordlike l g) (string_prefix_words h.before h.begins) h.whole

@@ -1,5 +1,5 @@
 -- Classes of characters that tell which kind of item begins.
-use Rattle.std.specs.Prelude.{◌==◌, ◌||◌, ℕ, Bool, nat_le, codes}
+use Rattle.std.specs.Prelude.{◌≡◌, ◌==◌, ◌||◌, ℕ, Bool, List, ◌∷◌, nat_le, codes}
 use Rattle.c_grammar.specs.Grammar.{is_of}
 
 -- an apostrophe or a quotation mark
@@ -10,6 +10,11 @@ is_quote_mark c = is_of (codes "'\"") c
 unfoldable pub begins_punctuator : ℕ → Bool
 begins_punctuator c = is_of (codes "[](){}.-+&*~!/%<>=^|?:;,#") c
 
--- a backslash, a quote, or past ASCII: behind a word or a number it may belong to it
-unfoldable pub is_strange : ℕ → Bool
-is_strange c = ((c == 92) || nat_le 128 c) || is_quote_mark c
+-- a backslash, or past ASCII
+unfoldable pub is_beyond : ℕ → Bool
+is_beyond c = (c == 92) || nat_le 128 c
+
+-- the characters begin with this one
+pub record IsFirst (c : ℕ) (s : List ℕ) : Type 0 where
+  pub rest : List ℕ
+  pub whole : s ≡ c ∷ rest

@@ -5,9 +5,8 @@ pub mod Quote
 pub mod Header
 pub mod Class
 pub mod Cut
-pub mod Screen
 pub mod Literal
-pub mod Unread
+pub mod Unit
 pub mod Place
 pub mod Next
 pub mod Fault

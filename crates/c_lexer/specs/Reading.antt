@@ -1,12 +1,14 @@
--- A text that is being read, and the item that comes next.
-use Rattle.std.specs.Prelude.{◌≡◌, ◌==◌, ◌≤◌, ℕ, List, length, drop, IsTrue, if◌then◌else◌}
+-- A text that is being read, the item that comes next, and what it and the gap before it tell.
+use Rattle.std.specs.Prelude.{◌≡◌, ◌≤◌, ◌==◌, ◌||◌, ◌&&◌, not, ℕ, ◌-◌, Bool, false, List, [], ◌∷◌, ⊤, length, take, get_or, sum_by, count_by, IsTrue}
+use Rattle.std.specs.List.{prefix_len}
+use Rattle.c_chars.specs.Characters.{bytes_of}
+use Rattle.c_chars.specs.Coming.{Coming, behind}
 use Rattle.c_chars.specs.declared.Dialect.{Dialect}
-use Rattle.c_chars.specs.declared.TheConstants.{LIMIT}
-use Rattle.c_chars.specs.Characters.{placed}
+use Rattle.c_chars.specs.declared.LogicalChar.{LogicalChar}
+use Rattle.c_grammar.specs.Grammar.{is_white, is_new_line}
 use Rattle.c_grammar.specs.declared.ItemKind.{ItemKind}
-use Rattle.c_grammar.specs.Items.{Place, LineStart, InText}
 use Rattle.c_grammar.specs.Text.{Left, ReadItem, IsStep, start_of, raw_of}
-use Rattle.c_grammar.specs.Built.{are_built}
+use Rattle.c_lexer.specs.declared.item.Lexeme.{Lexeme}
 
 -- a text, the dialect that it is read in, and what is left of it
 pub record Reading : Type 0 where
@@ -22,17 +24,41 @@ pub record IsNextItem (old new : Reading) (kind : ItemKind) (start : ℕ) (raw :
   pub start_is : start ≡ start_of read
   pub raw_is : raw ≡ raw_of old.text read
 
--- In a built text a directive never begins, so only the first item stands at the start of a line.
-abbrev pub place_at : ℕ → Place
-place_at at = if at == 0 then LineStart else InText
+-- how many new-lines there are among these characters
+abbrev pub new_lines : List LogicalChar → ℕ
+new_lines s = count_by (λ c. is_new_line c.byte) s
 
--- what is left from this offset on
-abbrev pub left_at : ℕ → List ℕ → Left
-left_at at rest = record { place = place_at at; chars = placed at rest }
+-- how many bytes of the text these characters are; a spliced line end is in no character
+abbrev pub bytes_in : List LogicalChar → ℕ
+bytes_in s = sum_by (λ c. c.to - c.from) s
 
--- This is the text's rest from this offset on.
-pub record IsRestAt (text rest : List ℕ) (at : ℕ) : Type 0 where
-  pub fits : length text ≤ LIMIT
-  pub within : at ≤ length text
-  pub rest_is : rest ≡ drop at text
-  pub built : IsTrue (are_built rest)
+-- a backslash is the last of these characters
+abbrev pub ends_in_backslash : List LogicalChar → Bool
+ends_in_backslash [] = false
+ends_in_backslash (c ∷ []) = c.byte == 92
+ends_in_backslash (c ∷ e ∷ s) = ends_in_backslash (e ∷ s)
+
+-- the gap that these characters begin with (C11 6.4p3)
+abbrev pub first_gap : List LogicalChar → List LogicalChar
+first_gap s = take (prefix_len (λ c. is_white c || is_new_line c) (bytes_of s)) s
+
+-- The next item of the text is this one, and this is what its characters and those of its gap tell.
+pub record IsNextLexeme (old new : Reading) (lexeme : Lexeme) : Type 0 where
+  pub next : IsNextItem old new lexeme.item.kind lexeme.item.start lexeme.item.raw.now
+  pub lines_are : lexeme.lines ≡ new_lines next.read.gap
+  pub bytes_are : lexeme.bytes ≡ bytes_in next.read.gap
+  pub white_is : lexeme.white ≡ not (length next.read.gap == 0)
+  pub back_is : lexeme.back ≡ ends_in_backslash next.read.chars
+
+-- a backslash may end with these two bytes: by itself, or as its trigraph (C11 5.2.1.1)
+unfoldable pub ends_backslash : ℕ → ℕ → Bool
+ends_backslash before last = last == 92 || (before == 63 && last == 47)
+
+-- The raw bytes of each backslash among these characters of the text end so.
+abbrev pub AreSlashed : List ℕ → List LogicalChar → Type 0
+AreSlashed text [] = ⊤
+AreSlashed text (c ∷ s) = (c.byte ≡ 92 → IsTrue (ends_backslash (get_or text (c.to - 2) 0) (get_or text (c.to - 1) 0))) × AreSlashed text s
+
+-- It holds of the characters up to what is left of them.
+abbrev pub BeforeLeft : Coming → Coming → (List LogicalChar → Type 0) → Type 0
+BeforeLeft chars left Holds = (n : ℕ) → n ≤ length chars.chars → left ≡ behind chars n → Holds (take n chars.chars)

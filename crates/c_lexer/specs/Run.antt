@@ -1,25 +1,20 @@
 -- How far the lexer reads on.
-use Rattle.std.specs.Prelude.{◌==◌, ◌||◌, ◌&&◌, ◌+◌, ℕ, Bool, false, List, [], ◌∷◌, if◌then◌else◌, take, drop, length, codes, nat_eq}
+use Rattle.std.specs.Prelude.{◌==◌, ◌||◌, ◌&&◌, ℕ, Bool, false, List, [], ◌∷◌, if◌then◌else◌, take, drop, length, codes, nat_eq}
 use Rattle.std.specs.List.{starts_with}
-use Rattle.c_grammar.specs.Grammar.{is_of, is_letter, is_digit, is_sign, is_exponent, Shape}
+use Rattle.c_grammar.specs.Grammar.{is_of, is_digit, Shape}
 use Rattle.c_grammar.specs.Items.{IsLongest}
 use Rattle.c_grammar.specs.Touch.{starts}
 use Rattle.c_chars.specs.declared.Dialect.{Dialect}
 use Rattle.c_chars.specs.declared.Dialect.TheVariants.{C11, C23}
 
--- a number goes on with c behind this character
-unfoldable pub goes : ℕ → ℕ → Bool
-goes previous c = is_letter c || is_digit c || c == 46 || (is_sign c && is_exponent previous)
-
--- how many characters a number goes on with behind this one
-abbrev pub run : ℕ → List ℕ → ℕ
-run previous [] = 0
-run previous (c ∷ s) = if goes previous c then 1 + run c s else 0
-
 -- a digit, or a point before a digit
 abbrev pub begins_number : List ℕ → Bool
 begins_number [] = false
 begins_number (f ∷ s) = is_digit f || (f == 46 && starts is_digit s)
+
+-- how many characters the head of a number has
+abbrev pub head_len : List ℕ → ℕ
+head_len s = if starts is_digit s then 1 else 2
 
 -- The first n characters are the longest that spell an item.
 abbrev pub IsCut : Dialect → Shape → List ℕ → ℕ → Type 0

@@ -1,13 +1,15 @@
 //! Classes of characters.
 
-ghost use Rattle.std.specs.Prelude.{◌≡◌, ◌||◌};
-ghost use Rattle.c_grammar.specs.Grammar.{is_white, is_new_line, is_digit, is_letter, is_sign, is_exponent};
-ghost use Rattle.c_lexer.specs.Run.{goes};
-ghost use Rattle.c_lexer.specs.Class.{is_quote_mark, begins_punctuator, is_strange};
-ghost use Rattle.c_lexer.specs.Unread.{is_beyond};
+ghost use Rattle.std.specs.Prelude.{◌≡◌, ◌==◌, ◌||◌, ◌&&◌, ◌∷◌, [], nat_le};
+ghost use Rattle.c_grammar.specs.Grammar.{is_white, is_new_line, is_digit, is_letter, is_sign, is_exponent, is_hex, is_separated};
+ghost use Rattle.c_lexer.specs.Class.{is_quote_mark, begins_punctuator, is_beyond};
+ghost use Rattle.c_lexer.specs.Unit.{is_pair, is_single};
+
+use c_chars::Dialect;
 
 /// White space and new-lines.
 #[tactic(auto, unfolding(c_grammar::specs::Grammar::is_white, c_grammar::specs::Grammar::is_new_line))]
+#[inline(always)]
 pub(crate) fn is_blank(b: u8) -> bool
     ensures { result ≡ (is_white b || is_new_line b) }
 {
@@ -16,6 +18,7 @@ pub(crate) fn is_blank(b: u8) -> bool
 
 /// White space that ends no line.
 #[tactic(auto, unfolding(c_grammar::specs::Grammar::is_white))]
+#[inline(always)]
 pub(crate) fn is_white(b: u8) -> bool
     ensures { result ≡ is_white b }
 {
@@ -23,6 +26,7 @@ pub(crate) fn is_white(b: u8) -> bool
 }
 
 #[tactic(auto, unfolding(c_grammar::specs::Grammar::is_new_line))]
+#[inline(always)]
 pub(crate) fn is_new_line(b: u8) -> bool
     ensures { result ≡ is_new_line b }
 {
@@ -30,6 +34,7 @@ pub(crate) fn is_new_line(b: u8) -> bool
 }
 
 #[tactic(auto, unfolding(c_grammar::specs::Grammar::is_digit))]
+#[inline(always)]
 pub(crate) fn is_digit(b: u8) -> bool
     ensures { result ≡ is_digit b }
 {
@@ -38,6 +43,7 @@ pub(crate) fn is_digit(b: u8) -> bool
 
 /// A letter, `_` or `$`.
 #[tactic(auto, unfolding(c_grammar::specs::Grammar::is_letter))]
+#[inline(always)]
 pub(crate) fn is_letter(b: u8) -> bool
     ensures { result ≡ is_letter b }
 {
@@ -45,6 +51,7 @@ pub(crate) fn is_letter(b: u8) -> bool
 }
 
 #[tactic(auto, unfolding(c_grammar::specs::Grammar::is_sign))]
+#[inline(always)]
 fn is_sign(b: u8) -> bool
     ensures { result ≡ is_sign b }
 {
@@ -52,6 +59,7 @@ fn is_sign(b: u8) -> bool
 }
 
 #[tactic(auto, unfolding(c_grammar::specs::Grammar::is_exponent))]
+#[inline(always)]
 fn is_exponent(b: u8) -> bool
     ensures { result ≡ is_exponent b }
 {
@@ -59,21 +67,15 @@ fn is_exponent(b: u8) -> bool
 }
 
 /// A letter or a digit.
+#[inline(always)]
 pub(crate) fn is_word(b: u8) -> bool
     ensures { result ≡ (is_letter b || is_digit b) }
 {
     is_letter(b) || is_digit(b)
 }
 
-/// Whether a number goes on with this byte behind that one (C11 6.4.8).
-#[tactic(auto, unfolding(crate::specs::Run::goes))]
-pub(crate) fn goes_on(previous: u8, b: u8) -> bool
-    ensures { result ≡ goes previous b }
-{
-    is_word(b) || b == b'.' || (is_sign(b) && is_exponent(previous))
-}
-
 /// An apostrophe or a quotation mark.
+#[inline(always)]
 pub(crate) fn is_quote_mark(b: u8) -> bool
     ensures { result ≡ is_quote_mark b }
 {
@@ -82,6 +84,7 @@ pub(crate) fn is_quote_mark(b: u8) -> bool
 
 /// The first byte of a punctuator.
 #[tactic(auto, unfolding(crate::specs::Class::begins_punctuator))]
+#[inline(always)]
 pub(crate) fn begins_punctuator(b: u8) -> bool
     ensures { result ≡ begins_punctuator b }
 {
@@ -114,19 +117,55 @@ pub(crate) fn begins_punctuator(b: u8) -> bool
     )
 }
 
-/// A byte that may belong to the word or the number that it stands behind, though it is no letter and
-/// no digit.
-#[tactic(auto, unfolding(crate::specs::Class::is_strange))]
-pub(crate) fn is_strange(b: u8) -> bool
-    ensures { result ≡ is_strange b }
+/// A hexadecimal digit.
+#[tactic(auto, unfolding(c_grammar::specs::Grammar::is_hex))]
+pub(crate) fn is_hex(b: u8) -> bool
+    ensures { result ≡ is_hex b }
 {
-    b == b'\\' || b >= 128 || is_quote_mark(b)
+    is_digit(b) || matches!(b, b'A'..=b'F' | b'a'..=b'f')
 }
 
 /// A backslash, or a byte past ASCII.
-#[tactic(auto, unfolding(crate::specs::Unread::is_beyond))]
+#[tactic(auto, unfolding(crate::specs::Class::is_beyond))]
+#[inline(always)]
 pub(crate) fn is_beyond(b: u8) -> bool
     ensures { result ≡ is_beyond b }
 {
     b == b'\\' || b >= 128
+}
+
+/// Whether these two separate digits (C23 6.4.4.1).
+#[inline(always)]
+fn is_separated(dialect: Dialect, c: u8, e: u8) -> bool
+    ensures { result ≡ is_separated dialect (c ∷ e ∷ []) }
+{
+    match dialect {
+        Dialect::C11 => false,
+        Dialect::C23 => c == b'\'' && is_separable(e),
+    }
+}
+
+/// What may stand behind a separator.
+#[tactic(auto, unfolding(c_grammar::specs::Grammar::is_digit))]
+#[inline(always)]
+fn is_separable(e: u8) -> bool
+    ensures { result ≡ (is_digit e || ((nat_le 65 e && nat_le e 90) || (nat_le 97 e && nat_le e 122) || e == 95)) }
+{
+    e.is_ascii_digit() || (e.is_ascii_alphabetic() || e == b'_')
+}
+
+/// Whether a number goes on with both of these as one unit (C11 6.4.8).
+#[inline(always)]
+pub(crate) fn is_pair(dialect: Dialect, c: u8, e: u8) -> bool
+    ensures { result ≡ is_pair dialect c e }
+{
+    (is_exponent(c) && is_sign(e)) || is_separated(dialect, c, e)
+}
+
+/// Whether a number goes on with this one by itself (C11 6.4.8).
+#[inline(always)]
+pub(crate) fn is_single(c: u8) -> bool
+    ensures { result ≡ is_single c }
+{
+    is_word(c) || c == b'.'
 }

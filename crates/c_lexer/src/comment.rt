@@ -9,6 +9,7 @@ use crate::{class, line};
 use c_chars::Chars;
 
 /// Whether this byte ends a block comment, behind a star or not.
+#[inline(always)]
 fn ends_block(star: bool, b: u8) -> bool
     ensures { result ≡ (star && b == 47) }
 {

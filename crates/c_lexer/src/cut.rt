@@ -1,6 +1,6 @@
 //! Cuts off the item that a text begins with.
 
-ghost use Rattle.std.specs.Prelude.{◌≡◌, ◌∷◌, ◌++◌, ◌+◌, ◌||◌, ◌<◌, ◌^◌, length, true, false, codes, [], ◌==◌, nat_eq, not, drop, get_or, IsTrue, IsFalse, MatchOption, MatchResult};
+ghost use Rattle.std.specs.Prelude.{◌≡◌, ◌∷◌, ◌++◌, ◌+◌, ◌||◌, ◌<◌, ◌^◌, length, true, false, codes, [], ◌==◌, nat_eq, not, drop, IsTrue, IsFalse, MatchOption, MatchResult};
 ghost use Rattle.std.specs.List.{starts_with};
 ghost use Rattle.c_chars.specs.Characters.{bytes_of};
 ghost use Rattle.c_chars.specs.Coming.{behind};
@@ -10,10 +10,12 @@ ghost use Rattle.c_lexer.specs.Quote.{closes_quote};
 ghost use Rattle.c_grammar.specs.Items.{IsLongest};
 ghost use Rattle.c_grammar.specs.declared.ItemKind.TheVariants.{Identifier, Number, Punct, Other, CharConst, StringLit, StrayQuote, LineComment, BlockComment};
 ghost use Rattle.c_lexer.specs.Cut.{IsCutOff, IsStop};
-ghost use Rattle.c_lexer.specs.Class.{is_strange, begins_punctuator, is_quote_mark};
-ghost use Rattle.c_lexer.specs.Run.{begins_number, run};
+ghost use Rattle.c_lexer.specs.Class.{begins_punctuator, is_quote_mark};
+ghost use Rattle.c_lexer.specs.Run.{begins_number, head_len};
+ghost use Rattle.c_lexer.specs.Unit.{BeginsUnit, is_rare_unit};
+ghost use Rattle.unicode_ident.specs.Ident.{is_xid_start};
 
-use crate::{class, comment, front, line, punctuator, quote, word};
+use crate::{class, comment, front, line, punctuator, quote, unit, utf8, word};
 use c_chars::{Chars, Dialect};
 use c_grammar::ItemKind;
 
@@ -22,8 +24,6 @@ use c_grammar::ItemKind;
 pub(crate) enum Stop {
     /// Nothing ends the block comment that begins.
     Unterminated,
-    /// A character stands there that isn't read yet.
-    NotRead,
 }
 
 /// What stands behind the block comment that the text begins with; none where nothing ends it.
@@ -91,48 +91,39 @@ pub(crate) fn cut_empty<'s>(text: &Chars<'s>) -> Chars<'s>
     line::behind_line(&front::behind(text, 2))
 }
 
-/// Whether a byte comes next that may belong to what stands before it.
-fn begins_strange(text: &Chars) -> bool
-    ensures { result ≡ starts is_strange (bytes_of text.now.chars) }
+/// How many characters the head of the number has that the text begins with: a digit, or a point and a
+/// digit.
+fn head_len(text: &Chars) -> usize
+    ensures { result ≡ head_len (bytes_of text.now.chars) }
 {
-    match text.peek(0) {
-        Some(c) => class::is_strange(c.byte),
-        None => false,
-    }
+    if front::begins_digit(text) { 1 } else { 2 }
 }
 
-/// What stands behind the number that the text begins with; none where it may go on.
-pub(crate) fn cut_number<'s>(text: &Chars<'s>) -> Option<Chars<'s>>
-    requires { IsTrue (begins_number (bytes_of text.now.chars)) }
-    ensures { MatchOption result
-        (IsTrue (starts is_strange (drop (1 + run (get_or (bytes_of text.now.chars) 0 0) (drop 1 (bytes_of text.now.chars))) (bytes_of text.now.chars))))
-        (λ left. IsCutOff text.now left Number) }
+/// What stands behind the number that the text begins with.
+pub(crate) fn cut_number<'s>(dialect: Dialect, text: &Chars<'s>) -> Chars<'s>
+    requires dialect { dialect ≡ text.now.dialect }
+    requires number { IsTrue (begins_number (bytes_of text.now.chars)) }
+    ensures { IsCutOff text.now result Number }
 {
-    let mut rest = text.ahead();
-    match rest.next() {
-        Some(c) => {
-            let left = line::behind_number(&rest, c.byte);
-            if begins_strange(&left) {
-                None
-            } else {
-                Some(left)
-            }
-        }
-        None => None,
-    }
+    unit::behind_number(dialect, &front::behind(text, head_len(text)))
 }
 
-/// What stands behind the character that the text begins with, where it begins nothing else.
+/// What stands behind the character that the text begins with, where it begins nothing else. A byte
+/// past ASCII that begins no character stands for itself.
 pub(crate) fn cut_other<'s>(text: &Chars<'s>) -> Chars<'s>
     requires blank { IsFalse (starts (λ c. is_white c || is_new_line c) (bytes_of text.now.chars)) }
     requires letter { IsFalse (starts is_letter (bytes_of text.now.chars)) }
-    requires digit { IsFalse (starts is_digit (bytes_of text.now.chars)) }
+    requires word { BeginsUnit (is_rare_unit is_xid_start) (bytes_of text.now.chars) → ⊥ }
+    requires number { IsFalse (begins_number (bytes_of text.now.chars)) }
     requires mark { IsFalse (starts begins_punctuator (bytes_of text.now.chars)) }
-    requires strange { IsFalse (starts is_strange (bytes_of text.now.chars)) }
+    requires quote { IsFalse (starts is_quote_mark (bytes_of text.now.chars)) }
     requires some { 0 < length text.now.chars }
     ensures { IsCutOff text.now result Other }
 {
-    front::behind(text, 1)
+    match utf8::next_char(text) {
+        Some((_, left)) => left,
+        None => front::behind(text, 1),
+    }
 }
 
 /// What stands behind the punctuator that the text begins with.
@@ -177,35 +168,30 @@ pub(crate) fn cut_item<'s>(
     requires begins { IsFalse (starts (λ c. is_white c || is_new_line c) (bytes_of text.now.chars)) }
     ensures { MatchResult result (λ r. IsCutOff text.now r.1 r.0) (λ stop. IsStop text.now stop) }
 {
-    if front::begins_letter(text) {
-        return match word::cut_word(dialect, text) {
-            Some(cut) => Ok(cut),
-            None => Err(Stop::NotRead),
-        };
+    let first = front::first_byte(text);
+    if class::is_letter(first) {
+        return Ok(word::cut_word(dialect, text));
     }
-    if front::begins_number(text) {
-        return match cut_number(text) {
-            Some(left) => Ok((ItemKind::Number, left)),
-            None => Err(Stop::NotRead),
-        };
+    if front::begins_number(text, first) {
+        return Ok((ItemKind::Number, cut_number(dialect, text)));
     }
-    if front::begins_with(text, b"/*") {
+    if front::begins_two(text, first, b'/', b'*') {
         return match cut_block(text) {
             Some(left) => Ok((ItemKind::BlockComment, left)),
             None => Err(Stop::Unterminated),
         };
     }
-    if front::begins_with(text, b"//") {
+    if front::begins_two(text, first, b'/', b'/') {
         return Ok((ItemKind::LineComment, cut_line(text)));
     }
-    if front::begins_mark(text) {
+    if class::begins_punctuator(first) {
         return Ok((ItemKind::Punct, cut_mark(dialect, text)));
     }
-    if front::begins_quote(text) {
+    if class::is_quote_mark(first) {
         return Ok(cut_quoted(text));
     }
-    if word::begins_beyond(text) {
-        return Err(Stop::NotRead);
+    if unit::begins_rare_word(text) {
+        return Ok(word::cut_word(dialect, text));
     }
     Ok((ItemKind::Other, cut_other(text)))
 }

@@ -12,10 +12,6 @@ pub enum LexFault {
     /// A block comment begins at this offset, and nothing ends it (C11 6.4.9).
     #[error("the comment at byte {start} doesn't end")]
     UnterminatedComment { start: u32 },
-    /// An item begins at this offset that isn't read yet: with a backslash or a character past ASCII,
-    /// or a word with one directly behind it, or a number with one or a quote directly behind it.
-    #[error("not read yet at byte {start}")]
-    Unread { start: u32 },
 }
 
 /// Why no item is cut off at this offset.
@@ -24,6 +20,5 @@ pub(crate) fn fault_of(stop: Stop, start: u32) -> LexFault
 {
     match stop {
         Stop::Unterminated => LexFault::UnterminatedComment { start },
-        Stop::NotRead => LexFault::Unread { start },
     }
 }

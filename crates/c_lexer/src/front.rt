@@ -1,18 +1,19 @@
 //! What a text begins with.
 
-ghost use Rattle.std.specs.Prelude.{◌≡◌, map, nat_eq, length, IsTrue};
+ghost use Rattle.std.specs.Prelude.{◌≡◌, ◌<◌, ◌∷◌, [], map, nat_eq, length, drop};
 ghost use Rattle.std.specs.List.{starts_with};
 ghost use Rattle.c_chars.specs.Characters.{bytes_of};
 ghost use Rattle.c_chars.specs.Coming.{behind};
-ghost use Rattle.c_grammar.specs.Grammar.{is_letter, is_digit};
+ghost use Rattle.c_grammar.specs.Grammar.{is_digit};
 ghost use Rattle.c_grammar.specs.Touch.{starts};
-ghost use Rattle.c_lexer.specs.Class.{begins_punctuator, is_quote_mark};
+ghost use Rattle.c_lexer.specs.Class.{IsFirst, is_quote_mark, is_beyond};
 ghost use Rattle.c_lexer.specs.Run.{begins_number, first_front, may_be_long, goes_on_long};
 
 use crate::{class, punctuator};
 use c_chars::Chars;
 
 /// Whether the text begins with these bytes.
+#[inline(always)]
 pub(crate) fn begins_with(text: &Chars, front: &[u8]) -> bool
     ensures { result ≡ starts_with nat_eq (bytes_of text.now.chars) front.now }
 {
@@ -43,6 +44,7 @@ pub(crate) fn first_front(table: &[&[u8]], text: &Chars) -> usize
 }
 
 /// What stands behind the next n characters.
+#[inline(always)]
 pub(crate) fn behind<'s>(text: &Chars<'s>, n: usize) -> Chars<'s>
     ensures { result ≡ behind text.now n }
 {
@@ -56,18 +58,9 @@ pub(crate) fn behind<'s>(text: &Chars<'s>, n: usize) -> Chars<'s>
     rest
 }
 
-/// Whether a letter, `_` or `$` comes next.
-pub(crate) fn begins_letter(text: &Chars) -> bool
-    ensures { result ≡ starts is_letter (bytes_of text.now.chars) }
-{
-    match text.peek(0) {
-        Some(c) => class::is_letter(c.byte),
-        None => false,
-    }
-}
-
 /// Whether a digit comes next.
-fn begins_digit(text: &Chars) -> bool
+#[inline(always)]
+pub(crate) fn begins_digit(text: &Chars) -> bool
     ensures { result ≡ starts is_digit (bytes_of text.now.chars) }
 {
     match text.peek(0) {
@@ -76,28 +69,55 @@ fn begins_digit(text: &Chars) -> bool
     }
 }
 
-/// Whether the first character of a punctuator comes next.
-pub(crate) fn begins_mark(text: &Chars) -> bool
-    ensures { result ≡ starts begins_punctuator (bytes_of text.now.chars) }
+/// The byte that comes next.
+#[inline(always)]
+pub(crate) fn first_byte(text: &Chars) -> u8
+    requires { 0 < length text.now.chars }
+    ensures { IsFirst result (bytes_of text.now.chars) }
 {
     match text.peek(0) {
-        Some(c) => class::begins_punctuator(c.byte),
+        Some(c) => c.byte,
+        None => 0,
+    }
+}
+
+/// Whether a digit comes behind the next character.
+#[inline(always)]
+fn has_second_digit(text: &Chars) -> bool
+    ensures { result ≡ starts is_digit (drop 1 (bytes_of text.now.chars)) }
+{
+    match text.peek(1) {
+        Some(c) => class::is_digit(c.byte),
         None => false,
     }
 }
 
-/// Whether a digit comes next, or a point and a digit.
-pub(crate) fn begins_number(text: &Chars) -> bool
+/// Whether the text, which begins with this byte, begins with a digit, or with a point and a digit.
+#[inline(always)]
+pub(crate) fn begins_number(text: &Chars, first: u8) -> bool
+    requires { IsFirst first (bytes_of text.now.chars) }
     ensures { result ≡ begins_number (bytes_of text.now.chars) }
 {
-    let mut rest = text.ahead();
-    match rest.next() {
-        Some(c) => class::is_digit(c.byte) || (c.byte == b'.' && begins_digit(&rest)),
+    class::is_digit(first) || (first == b'.' && has_second_digit(text))
+}
+
+/// Whether the text, which begins with this byte, begins with these two.
+#[inline(always)]
+pub(crate) fn begins_two(text: &Chars, first: u8, a: u8, b: u8) -> bool
+    requires { IsFirst first (bytes_of text.now.chars) }
+    ensures { result ≡ starts_with nat_eq (bytes_of text.now.chars) (a ∷ b ∷ []) }
+{
+    if first != a {
+        return false;
+    }
+    match text.peek(1) {
+        Some(c) => b == c.byte,
         None => false,
     }
 }
 
 /// Whether the next two characters can be those of a punctuator.
+#[inline(always)]
 pub(crate) fn may_be_long(text: &Chars) -> bool
     ensures { result ≡ may_be_long (bytes_of text.now.chars) }
 {
@@ -109,6 +129,7 @@ pub(crate) fn may_be_long(text: &Chars) -> bool
 }
 
 /// Whether the second character of a punctuator comes next.
+#[inline(always)]
 fn goes_on_long(text: &Chars) -> bool
     ensures { result ≡ starts goes_on_long (bytes_of text.now.chars) }
 {
@@ -119,11 +140,23 @@ fn goes_on_long(text: &Chars) -> bool
 }
 
 /// Whether an apostrophe or a quotation mark comes next.
+#[inline(always)]
 pub(crate) fn begins_quote(text: &Chars) -> bool
     ensures { result ≡ starts is_quote_mark (bytes_of text.now.chars) }
 {
     match text.peek(0) {
         Some(c) => class::is_quote_mark(c.byte),
+        None => false,
+    }
+}
+
+/// Whether a backslash or a byte past ASCII comes next.
+#[inline(always)]
+pub(crate) fn begins_beyond(text: &Chars) -> bool
+    ensures { result ≡ starts is_beyond (bytes_of text.now.chars) }
+{
+    match text.peek(0) {
+        Some(c) => class::is_beyond(c.byte),
         None => false,
     }
 }

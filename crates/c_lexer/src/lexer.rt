@@ -1,13 +1,14 @@
 //! Reads the items of a text one after another.
 
-ghost use Rattle.std.specs.Prelude.{◌≡◌, ◌≤◌, ◌-◌, length, take, drop, IsTrue, IfOk, IfErr, MatchOption, ⊤};
+ghost use Rattle.std.specs.Prelude.{◌≡◌, ◌≤◌, ◌<◌, ◌-◌, length, take, drop, get_or, IsTrue, IfOk, IfErr, MatchOption, ⊤};
 ghost use Rattle.c_grammar.specs.Items.{is_gap, LineStart};
 ghost use Rattle.c_chars.specs.Characters.{logical, bytes_of};
-ghost use Rattle.c_lexer.specs.Reading.{IsNextItem};
+ghost use Rattle.c_lexer.specs.Place.{IsSpanned};
+ghost use Rattle.c_lexer.specs.Reading.{IsNextItem, IsNextLexeme, AreSlashed, BeforeLeft, ends_backslash, ends_in_backslash};
 ghost use Rattle.c_lexer.specs.Fault.{IsFault};
 
 use crate::fault::{self, LexFault};
-use crate::item::Item;
+use crate::item::{Item, Lexeme};
 use crate::place::{self, Standing};
 use crate::{line, next};
 use c_chars::{Chars, Dialect, LIMIT};
@@ -22,6 +23,53 @@ fn between(text: &[u8], from: usize, to: usize) -> &[u8]
     &text[from..to]
 }
 
+/// Whether a backslash may end with these two bytes.
+#[tactic(auto, unfolding(crate::specs::Reading::ends_backslash))]
+fn ends_backslash(before: u8, last: u8) -> bool
+    ensures { result ≡ ends_backslash before last }
+{
+    last == b'\\' || (before == b'?' && last == b'/')
+}
+
+/// Whether a backslash may end at this offset.
+fn may_end_backslash(text: &[u8], at: usize) -> bool
+    requires some { 0 < at }
+    requires within { at ≤ length text.now }
+    ensures { result ≡ ends_backslash (get_or text.now (at - 2) 0) (get_or text.now (at - 1) 0) }
+{
+    ends_backslash(text[at.saturating_sub(2)], text[at - 1])
+}
+
+/// Whether a backslash is the last of the characters up to what is left of them.
+fn ends_in_backslash(chars: &Chars, left: &Chars) -> bool
+    requires { IsSpanned chars.now }
+    ensures { BeforeLeft chars.now left.now (λ s. result ≡ ends_in_backslash s) }
+{
+    let mut ahead = chars.ahead();
+    let mut back = false;
+    while ahead.at() < left.at() {
+        let Some(c) = ahead.next() else {
+            break;
+        };
+        back = c.byte == b'\\';
+    }
+    back
+}
+
+/// Whether a backslash is the last of an item's characters. Most items end in a byte that tells it.
+fn is_backslash_last(text: &[u8], chars: &Chars, left: &Chars) -> bool
+    requires some { 0 < left.now.at }
+    requires within { left.now.at ≤ length text.now }
+    requires spans { IsSpanned chars.now }
+    requires slashed { AreSlashed text.now chars.now.chars }
+    ensures { BeforeLeft chars.now left.now (λ s. result ≡ ends_in_backslash s) }
+{
+    if !may_end_backslash(text, left.at()) {
+        return false;
+    }
+    ends_in_backslash(chars, left)
+}
+
 /// Reads the items of a text one after another.
 #[derive(Drop)]
 pub struct Lexer<'s> {
@@ -32,7 +80,7 @@ pub struct Lexer<'s> {
 }
 
 impl<'s> Model for Lexer<'s> {
-    ghost use Rattle.c_lexer.specs.Reading.{Reading};
+    ghost use Rattle.c_lexer.specs.Reading.{Reading, AreSlashed};
     ghost use Rattle.c_lexer.specs.Place.{place_of};
     ghost use Rattle.c_lexer.specs.Fault.{IsAt};
 
@@ -40,7 +88,7 @@ impl<'s> Model for Lexer<'s> {
 
     ghost view = { λ a. record { text = a.text.now; dialect = a.dialect; left = record { place = place_of a.standing; chars = a.chars.chars } } };
 
-    ghost invariant = { λ a. IsAt a.text.now a.dialect a.chars };
+    ghost invariant = { λ a. IsAt a.text.now a.dialect a.chars × AreSlashed a.text.now a.chars.chars };
 }
 
 impl<'s> Lexer<'s> {
@@ -59,6 +107,42 @@ impl<'s> Lexer<'s> {
         }
     }
 
+    /// The next item, with what it and its gap tell; none exactly where no item is left.
+    pub fn next_lexeme(&mut self) -> Result<Option<Lexeme<'s>>, LexFault>
+        ensures text { self.new.text ≡ self.old.text }
+        ensures dialect { self.new.dialect ≡ self.old.dialect }
+        ensures some { IfOk result (λ next. MatchOption next (IsTrue (is_gap (bytes_of self.old.left.chars))) (λ lexeme. IsNextLexeme self.old self.new lexeme)) }
+        ensures end { IfOk result (λ next. MatchOption next (self.new ≡ self.old) (λ lexeme. ⊤)) }
+        ensures fault { IfErr result (λ fault. IsFault self.old fault) }
+        ensures stays { IfErr result (λ fault. self.new ≡ self.old) }
+    {
+        let gap = line::behind_gap(&self.chars);
+        let Some(first) = gap.rest.peek(0) else {
+            return Ok(None);
+        };
+        let standing = place::past_gap(self.standing, gap.lines != 0);
+        match next::cut_next(self.dialect, standing, &gap.rest) {
+            Ok((kind, left)) => {
+                let raw = between(self.text, first.from as usize, left.at());
+                let back = is_backslash_last(self.text, &gap.rest, &left);
+                self.standing = place::past_item(self.dialect, standing, kind, &gap.rest, &left);
+                self.chars = left;
+                Ok(Some(Lexeme {
+                    item: Item {
+                        kind,
+                        raw,
+                        start: first.from,
+                    },
+                    lines: gap.lines,
+                    bytes: gap.bytes,
+                    white: gap.bytes != 0,
+                    back,
+                }))
+            }
+            Err(stop) => Err(fault::fault_of(stop, first.from)),
+        }
+    }
+
     /// The next item; none exactly where no item is left.
     pub fn next_item(&mut self) -> Result<Option<Item<'s>>, LexFault>
         ensures text { self.new.text ≡ self.old.text }
@@ -68,23 +152,10 @@ impl<'s> Lexer<'s> {
         ensures fault { IfErr result (λ fault. IsFault self.old fault) }
         ensures stays { IfErr result (λ fault. self.new ≡ self.old) }
     {
-        let (new_line, rest) = line::behind_gap(&self.chars);
-        let Some(first) = rest.peek(0) else {
-            return Ok(None);
-        };
-        let standing = place::past_gap(self.standing, new_line);
-        match next::cut_next(self.dialect, standing, &rest) {
-            Ok((kind, left)) => {
-                let raw = between(self.text, first.from as usize, left.at());
-                self.standing = place::past_item(self.dialect, standing, kind, &rest, &left);
-                self.chars = left;
-                Ok(Some(Item {
-                    kind,
-                    raw,
-                    start: first.from,
-                }))
-            }
-            Err(stop) => Err(fault::fault_of(stop, first.from)),
+        match self.next_lexeme() {
+            Ok(Some(lexeme)) => Ok(Some(lexeme.item)),
+            Ok(None) => Ok(None),
+            Err(fault) => Err(fault),
         }
     }
 }
@@ -123,6 +194,30 @@ mod tests {
             let open = lexer.next_item().err();
             assert_eq!(rt; open, Some(LexFault::UnterminatedComment { start: 64 }));
         }
+        Ok(())
+    }
+
+    /// What is told beside each item: new-lines and bytes of the gap, whether it has a character, and whether a backslash ends the item.
+    #[test]
+    fn tells_of_gaps_and_ends(rt: HostRuntime) -> Result<(), Fail> {
+        let text = b"a\\\n/ \\\r\n\r\n\tb\\\n \n /* */ // ??/";
+        let mut lexer = Lexer::new(text, Dialect::C11);
+        let expected: [(&[u8], u32, u32, bool, bool); 5] = [
+            (b"a", 0, 0, false, false),
+            (b"/", 0, 0, false, false),
+            (b"b", 1, 4, true, false),
+            (b"/* */", 1, 3, true, false),
+            (b"// ??/", 0, 1, true, true),
+        ];
+        for (raw, lines, bytes, white, back) in expected {
+            let lexeme = lexer.next_lexeme()?.ok_or("an item")?;
+            assert_eq!(rt; lexeme.item.raw, raw);
+            assert_eq!(rt; lexeme.lines, lines, "lines before {raw:?}");
+            assert_eq!(rt; lexeme.bytes, bytes, "bytes before {raw:?}");
+            assert_eq!(rt; lexeme.white, white, "white space before {raw:?}");
+            assert_eq!(rt; lexeme.back, back, "the end of {raw:?}");
+        }
+        assert!(rt; lexer.next_lexeme()?.is_none());
         Ok(())
     }
 }

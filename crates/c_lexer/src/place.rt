@@ -40,6 +40,7 @@ fn spells(text: &Chars, left: &Chars, word: &[u8]) -> bool
 }
 
 /// Whether they are `#` or its digraph.
+#[inline(never)]
 fn spells_hash(text: &Chars, left: &Chars) -> bool
     requires { IsSpanned text.now }
     ensures { SpelledBy text.now left.now (λ s. result ≡ is_hash s) }
@@ -59,6 +60,7 @@ fn spells_include(dialect: Dialect, text: &Chars, left: &Chars) -> bool
 }
 
 /// Behind the name of a directive.
+#[inline(never)]
 fn past_name(dialect: Dialect, text: &Chars, left: &Chars) -> Standing
     requires { IsSpanned text.now }
     ensures { SpelledBy text.now left.now (λ s. place_of result ≡ past_name dialect s) }

@@ -10,6 +10,7 @@ use crate::line;
 use c_chars::Chars;
 
 /// Whether the byte is this one, and no backslash takes its meaning.
+#[inline(always)]
 fn stands_for(escaped: bool, b: u8, byte: u8) -> bool
     ensures { result ≡ (not escaped && b == byte) }
 {

@@ -1,18 +1,17 @@
 //! Words, and the literals whose prefix a word is (C11 6.4.2.1, 6.4.4.4, 6.4.5).
 
-ghost use Rattle.std.specs.Prelude.{◌≡◌, ◌∷◌, ◌++◌, ◌+◌, ◌==◌, ◌||◌, ◌&&◌, not, [], length, drop, codes, nat_eq, IsTrue, IsFalse, MatchOption};
-ghost use Rattle.std.specs.List.{starts_with, prefix_len};
+ghost use Rattle.std.specs.Prelude.{◌≡◌, ◌∷◌, ◌++◌, ◌+◌, ◌==◌, ◌&&◌, not, [], length, drop, codes, nat_eq, IsTrue, IsFalse, MatchOption};
+ghost use Rattle.std.specs.List.{starts_with};
 ghost use Rattle.c_chars.specs.Characters.{bytes_of};
-ghost use Rattle.c_chars.specs.Coming.{behind};
-ghost use Rattle.c_grammar.specs.Grammar.{is_letter, is_digit, is_char_prefix, is_string_prefix};
+ghost use Rattle.c_grammar.specs.Grammar.{is_letter_unit, is_word_unit, is_char_prefix, is_string_prefix};
 ghost use Rattle.c_grammar.specs.Touch.{starts};
 ghost use Rattle.c_grammar.specs.declared.ItemKind.TheVariants.{CharConst, StringLit};
 ghost use Rattle.c_lexer.specs.Class.{is_quote_mark};
 ghost use Rattle.c_lexer.specs.Cut.{IsCutOff};
 ghost use Rattle.c_lexer.specs.Literal.{is_string_at, is_constant_at, is_literal, begins_literal};
-ghost use Rattle.c_lexer.specs.Unread.{is_beyond, is_unread};
+ghost use Rattle.c_lexer.specs.Unit.{BeginsUnit, IsRunOff};
 
-use crate::{class, cut, front, line};
+use crate::{cut, front, unit};
 use c_chars::{Chars, Dialect};
 use c_grammar::ItemKind;
 
@@ -124,14 +123,15 @@ fn cut_prefixed<'s>(dialect: Dialect, text: &Chars<'s>) -> Option<(ItemKind, Cha
 
 /// The item that the text begins with a word of, before a quote, and what stands behind it: the
 /// literal whose prefix the word is, otherwise the word. `left` is what stands behind the word.
+#[inline(never)]
 fn cut_before_quote<'s>(
     dialect: Dialect,
     text: &Chars<'s>,
     left: Chars<'s>,
 ) -> (ItemKind, Chars<'s>)
     requires dialect { dialect ≡ text.now.dialect }
-    requires letter { IsTrue (starts is_letter (bytes_of text.now.chars)) }
-    requires left { left ≡ behind text.now (prefix_len (λ c. is_letter c || is_digit c) (bytes_of text.now.chars)) }
+    requires letter { BeginsUnit is_letter_unit (bytes_of text.now.chars) }
+    requires left { IsRunOff is_word_unit text.now left }
     requires quote { IsTrue (starts is_quote_mark (bytes_of left.chars)) }
     ensures { IsCutOff text.now result.1 result.0 }
 {
@@ -141,31 +141,16 @@ fn cut_before_quote<'s>(
     }
 }
 
-/// Whether a backslash or a character past ASCII comes next.
-pub(crate) fn begins_beyond(text: &Chars) -> bool
-    ensures { result ≡ starts is_beyond (bytes_of text.now.chars) }
-{
-    match text.peek(0) {
-        Some(c) => class::is_beyond(c.byte),
-        None => false,
-    }
-}
-
-/// The item that the text begins with a word of, and what stands behind it; none where a character
-/// that isn't read yet stands directly behind the word.
-pub(crate) fn cut_word<'s>(dialect: Dialect, text: &Chars<'s>) -> Option<(ItemKind, Chars<'s>)>
+/// The item that the text begins with a word of, and what stands behind it.
+#[inline(always)]
+pub(crate) fn cut_word<'s>(dialect: Dialect, text: &Chars<'s>) -> (ItemKind, Chars<'s>)
     requires dialect { dialect ≡ text.now.dialect }
-    requires letter { IsTrue (starts is_letter (bytes_of text.now.chars)) }
-    ensures { MatchOption result
-        (IsTrue (is_unread (bytes_of text.now.chars)))
-        (λ r. IsCutOff text.now r.1 r.0) }
+    requires letter { BeginsUnit is_letter_unit (bytes_of text.now.chars) }
+    ensures { IsCutOff text.now result.1 result.0 }
 {
-    let left = line::behind_word(text);
-    if begins_beyond(&left) {
-        return None;
-    }
+    let left = unit::behind_word(text);
     if front::begins_quote(&left) {
-        return Some(cut_before_quote(dialect, text, left));
+        return cut_before_quote(dialect, text, left);
     }
-    Some((ItemKind::Identifier, left))
+    (ItemKind::Identifier, left)
 }

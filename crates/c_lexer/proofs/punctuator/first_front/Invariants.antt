@@ -1,6 +1,0 @@
-use Rattle.std.proofs.Common.{◌≡◌, drop, map}
-use Rattle.c_lexer.specs.Run.{first_front}
-use Rattle.c_lexer.proofs.punctuator.first_front.Given as goal
-
-abbrev pub invariant-loop-p : goal.invariant-loop-p
-invariant-loop-p l = first_front (drop l.p-index (map (λ p. p.now) l.table)) l.s ≡ first_front (map (λ p. p.now) l.table) l.s

@@ -1,0 +1,7 @@
+use Rattle.std.proofs.Common.{◌≡◌, ◌-◌, ◌≤◌}
+use Rattle.c_chars.specs.Characters.{bytes_of}
+use Rattle.c_lexer.specs.Unit.{begins_hex}
+use Rattle.c_lexer.proofs.unit.begins_hex.Given as goal
+
+abbrev pub invariant-loop : goal.invariant-loop
+invariant-loop l = (l.counter ≤ l.n) × (begins_hex (l.n - l.counter) (bytes_of l.rest.chars) ≡ begins_hex l.n (bytes_of l.text.chars))

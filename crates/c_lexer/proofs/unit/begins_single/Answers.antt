@@ -1,0 +1,10 @@
+use Rattle.std.proofs.Common.{◌∙◌, sym}
+use Rattle.c_lexer.specs.Unit.{is_single}
+use Rattle.c_lexer.proofs.Passing.{first_is, first_none}
+use Rattle.c_lexer.proofs.unit.begins_single.Goals as goal
+
+pub returns-in-Some : goal.returns-in-Some
+returns-in-Some c = c.is_single.ensures ∙ sym (first_is is_single c.args.text.now.chars c.in-Some.c (sym c.peek.ensures ∙ c.in-Some.is))
+
+pub returns-in-None : goal.returns-in-None
+returns-in-None c = sym (first_none is_single c.args.text.now.chars (sym c.peek.ensures ∙ c.in-None.is))

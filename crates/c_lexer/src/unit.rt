@@ -1,0 +1,159 @@
+//! The units of words and numbers (C11 6.4.2.1, 6.4.3, 6.4.8), and their runs.
+
+ghost use Rattle.std.specs.Prelude.{◌≡◌, IsTrue, IsFalse, MatchOption};
+ghost use Rattle.unicode_ident.specs.Ident.{is_xid_start, is_xid_continue};
+ghost use Rattle.c_chars.specs.Characters.{bytes_of};
+ghost use Rattle.c_grammar.specs.Grammar.{is_universal_name, is_word_unit, is_number_unit};
+ghost use Rattle.c_grammar.specs.Touch.{starts};
+ghost use Rattle.c_lexer.specs.Unit.{BeginsUnit, IsUnitOff, IsRunOff, is_rare_unit, is_single, begins_hex, begins_name, begins_pair};
+
+use crate::{class, front, line, utf8};
+use c_chars::{Chars, Dialect};
+
+/// Whether the text begins with so many hexadecimal digits.
+fn begins_hex(text: &Chars, n: usize) -> bool
+    ensures { result ≡ begins_hex n (bytes_of text.now.chars) }
+{
+    let mut rest = text.ahead();
+    for _ in 0..n {
+        match rest.next() {
+            Some(c) => {
+                if !class::is_hex(c.byte) {
+                    return false;
+                }
+            }
+            None => return false,
+        }
+    }
+    true
+}
+
+/// Whether the text begins with a backslash, this letter and so many hexadecimal digits.
+fn begins_name(text: &Chars, letter: u8, n: usize) -> bool
+    ensures { result ≡ begins_name letter n (bytes_of text.now.chars) }
+{
+    front::begins_with(text, &[b'\\', letter]) && begins_hex(&front::behind(text, 2), n)
+}
+
+/// What stands behind the universal character name that the text begins with; none where it begins
+/// with none.
+#[inline(never)]
+fn behind_name<'s>(text: &Chars<'s>) -> Option<Chars<'s>>
+    ensures { MatchOption result
+        (BeginsUnit is_universal_name (bytes_of text.now.chars) → ⊥)
+        (λ left. IsUnitOff is_universal_name text.now left) }
+{
+    if begins_name(text, b'u', 4) {
+        return Some(front::behind(text, 6));
+    }
+    if begins_name(text, b'U', 8) {
+        return Some(front::behind(text, 10));
+    }
+    None
+}
+
+/// Whether the text begins with a universal character name, or with a character past ASCII that
+/// starts an identifier.
+#[inline(never)]
+pub(crate) fn begins_rare_word(text: &Chars) -> bool
+    ensures yes { IsTrue result → BeginsUnit (is_rare_unit is_xid_start) (bytes_of text.now.chars) }
+    ensures no { IsFalse result → BeginsUnit (is_rare_unit is_xid_start) (bytes_of text.now.chars) → ⊥ }
+{
+    if !front::begins_beyond(text) {
+        return false;
+    }
+    if let Some(_) = behind_name(text) {
+        return true;
+    }
+    match utf8::next_char(text) {
+        Some((c, _)) => unicode_ident::is_xid_start(c),
+        None => false,
+    }
+}
+
+/// What stands behind the universal character name, or the character past ASCII that continues an
+/// identifier, that the text begins with; none where it begins with none.
+#[inline(always)]
+fn behind_rare<'s>(text: &Chars<'s>) -> Option<Chars<'s>>
+    ensures { MatchOption result
+        (BeginsUnit (is_rare_unit is_xid_continue) (bytes_of text.now.chars) → ⊥)
+        (λ left. IsUnitOff (is_rare_unit is_xid_continue) text.now left) }
+{
+    if !front::begins_beyond(text) {
+        return None;
+    }
+    if let Some(left) = behind_name(text) {
+        return Some(left);
+    }
+    let Some((c, left)) = utf8::next_char(text) else {
+        return None;
+    };
+    if unicode_ident::is_xid_continue(c) {
+        Some(left)
+    } else {
+        None
+    }
+}
+
+/// What stands behind the word that the text goes on with.
+#[inline(always)]
+pub(crate) fn behind_word<'s>(text: &Chars<'s>) -> Chars<'s>
+    ensures { IsRunOff is_word_unit text.now result }
+{
+    let mut rest = line::behind_word(text);
+    while let Some(left) = behind_rare(&rest) {
+        rest = line::behind_word(&left);
+    }
+    rest
+}
+
+/// Whether two characters come next with both of which a number goes on as one unit.
+#[inline(always)]
+fn begins_pair(dialect: Dialect, text: &Chars) -> bool
+    ensures { result ≡ begins_pair dialect (bytes_of text.now.chars) }
+{
+    match text.peek(0) {
+        Some(c) => match text.peek(1) {
+            Some(e) => class::is_pair(dialect, c.byte, e.byte),
+            None => false,
+        },
+        None => false,
+    }
+}
+
+/// Whether a character comes next with which a number goes on by itself.
+#[inline(always)]
+fn begins_single(text: &Chars) -> bool
+    ensures { result ≡ starts is_single (bytes_of text.now.chars) }
+{
+    match text.peek(0) {
+        Some(c) => class::is_single(c.byte),
+        None => false,
+    }
+}
+
+/// What stands behind the unit with which a number goes on; none where it doesn't.
+fn behind_number_unit<'s>(dialect: Dialect, text: &Chars<'s>) -> Option<Chars<'s>>
+    ensures { MatchOption result
+        (BeginsUnit (is_number_unit dialect) (bytes_of text.now.chars) → ⊥)
+        (λ left. IsUnitOff (is_number_unit dialect) text.now left) }
+{
+    if begins_pair(dialect, text) {
+        return Some(front::behind(text, 2));
+    }
+    if begins_single(text) {
+        return Some(front::behind(text, 1));
+    }
+    behind_rare(text)
+}
+
+/// What stands behind the number whose head stands before the text.
+pub(crate) fn behind_number<'s>(dialect: Dialect, text: &Chars<'s>) -> Chars<'s>
+    ensures { IsRunOff (is_number_unit dialect) text.now result }
+{
+    let mut rest = text.ahead();
+    while let Some(left) = behind_number_unit(dialect, &rest) {
+        rest = left;
+    }
+    rest
+}

@@ -1,0 +1,83 @@
+//! Characters past ASCII, in UTF-8.
+
+ghost use Rattle.std.specs.Prelude.{◌≡◌, ◌+◌, ◌≤◌, ◌++◌, ℕ, List, length, take, IsTrue, IsFalse, MatchOption};
+ghost use Rattle.std.specs.Str.{continuation_len};
+ghost use Rattle.c_chars.specs.Characters.{bytes_of};
+ghost use Rattle.c_grammar.specs.Grammar.{is_wide};
+ghost use Rattle.c_lexer.specs.Unit.{BeginsUnit, IsUnitOff, any_char, only};
+
+use crate::front;
+use c_chars::Chars;
+
+/// The one character past ASCII that the bytes are; none where they are none.
+fn only_char(bytes: &[u8]) -> Option<char>
+    ensures { MatchOption result
+        (IsFalse (is_wide any_char bytes.now))
+        (λ c. IsTrue (is_wide (only c) bytes.now)) }
+{
+    let Ok(text) = std::str::from_utf8(bytes) else {
+        return None;
+    };
+    let mut chars = text.chars();
+    let Some(c) = chars.next() else {
+        return None;
+    };
+    if (c as u32) < 128 {
+        return None;
+    }
+    match chars.next() {
+        Some(_) => None,
+        None => Some(c),
+    }
+}
+
+/// How many bytes a character has that begins with this one.
+fn char_len(b: u8) -> usize
+    ensures len { result ≡ continuation_len b + 1 }
+    ensures within { result ≤ 4 }
+{
+    if b < 128 {
+        1
+    } else if b < 224 {
+        2
+    } else if b < 240 {
+        3
+    } else {
+        4
+    }
+}
+
+/// The one character past ASCII that the next `len` bytes are; none where they are none.
+fn char_of(text: &Chars, len: usize) -> Option<char>
+    requires { len ≤ 4 }
+    ensures { MatchOption result
+        ((u rest : List ℕ) → bytes_of text.now.chars ≡ u ++ rest → length u ≡ len → IsFalse (is_wide any_char u))
+        (λ c. (len ≤ length text.now.chars) × IsTrue (is_wide (only c) (take len (bytes_of text.now.chars)))) }
+{
+    let mut bytes: [u8; 4] = [0; 4];
+    for i in 0..len {
+        match text.peek(i) {
+            Some(c) => bytes[i] = c.byte,
+            None => return None,
+        }
+    }
+    only_char(&bytes[..len])
+}
+
+/// The character past ASCII that the text begins with, and what stands behind it; none where it
+/// begins with none.
+#[inline(never)]
+pub(crate) fn next_char<'s>(text: &Chars<'s>) -> Option<(char, Chars<'s>)>
+    ensures { MatchOption result
+        (BeginsUnit (is_wide any_char) (bytes_of text.now.chars) → ⊥)
+        (λ r. IsUnitOff (is_wide (only r.0)) text.now r.1) }
+{
+    let Some(first) = text.peek(0) else {
+        return None;
+    };
+    let len = char_len(first.byte);
+    match char_of(text, len) {
+        Some(c) => Some((c, front::behind(text, len))),
+        None => None,
+    }
+}
