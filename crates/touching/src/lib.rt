@@ -1,0 +1,13 @@
+//! Which two items may stand side by side, and that taking the white space between them away changes nothing.
+//!
+//! [`may_touch`] is the table; [`takes_gaps_away`] carries the law that it is sound.
+#![tactic(auto)]
+
+mod laws;
+mod spelling;
+#[cfg(test)]
+mod tests;
+mod touch;
+
+pub use laws::takes_gaps_away;
+pub use touch::may_touch;
