@@ -1,21 +1,19 @@
 -- Entries as they are made, item by item: what they keep so far, and what one more adds.
-use Rattle.std.proofs.Common.{◌≡◌, ◌==◌, ◌∙◌, ℕ, suc, ◌+◌, ◌-◌, ◌≤◌, Bool, true, false, List, [], ◌∷◌, ◌++◌, length, take, drop, refl, sym, ap, subst, arith}
-use Rattle.std.proofs.lemmas.Bool.{ne_eqb}
+use Rattle.std.proofs.Common.{◌≡◌, ◌==◌, ◌&&◌, ◌∙◌, ℕ, suc, ◌+◌, ◌-◌, ◌≤◌, Bool, true, false, List, [], ◌∷◌, ◌++◌, length, take, drop, inl, inr, refl, sym, ap, subst, arith}
+use Rattle.std.proofs.lemmas.Bool.{cases_Bool, and_parts, and_right, eqb-true, ne_eqb}
 use Rattle.std.proofs.lemmas.List.{length-map, map-append, length-drop, length-take-le}
 use Rattle.std.proofs.lemmas.List.Elements.{All-append}
-use Rattle.c_chars.specs.Characters.{placed, logical, mark_len, bytes_of}
+use Rattle.c_chars.specs.Characters.{logical, mark_len, bytes_of}
 use Rattle.c_chars.specs.declared.Dialect.{Dialect}
 use Rattle.c_chars.specs.declared.TheConstants.{LIMIT}
-use Rattle.c_grammar.specs.Built.{are_built}
 use Rattle.c_grammar.specs.Items.{LineStart, is_gap}
 use Rattle.c_grammar.specs.Text.{ReadItem, Left, IsStep, IsReadUpTo, start_of, end_of, raw_of}
 use Rattle.c_grammar.proofs.Reading.{begun, stepped, ended}
-use Rattle.c_lexer.proofs.BuiltChars.{built_characters, no_mark_len}
 use Rattle.token_arena.specs.Stored.{Stored, stored_of, stored_from, stored_items, line_at}
 use Rattle.token_arena.specs.Gaps.{Stands, StandFrom, behind}
 use Rattle.token_arena.specs.Entries.{kept_by, kept_by_all, AllWithin, AreEntries}
 use Rattle.token_arena.specs.declared.arena.Entry.{Entry}
-use Rattle.c_chars.proofs.Spans.{Ascend, placed_ascend}
+use Rattle.c_chars.proofs.Spans.{Ascend, chars_ascend}
 use Rattle.token_arena.proofs.Spans.{IsSpanned}
 
 -- an item that is the first where none was read
@@ -70,7 +68,6 @@ first_is (item ∷ items) n h = rw (← h) (sym (ne_eqb (length (item ∷ items)
 pub record IsKeptUpTo (d : Dialect) (text : List ℕ) (left : Left) (entries : List Entry) (at line : ℕ) : Type 0 where
   pub items : List ReadItem
   pub read : IsReadUpTo d text items left
-  pub rest : left.chars ≡ placed at (drop at text)
   pub up : Ascend at (length text) left.chars
   pub line_is : line ≡ line_at text at
   pub kept : kept_by_all text entries ≡ stored_items text items
@@ -79,19 +76,45 @@ pub record IsKeptUpTo (d : Dialect) (text : List ℕ) (left : Left) (entries : L
   pub stop : end_from (mark_len text) (kept_by_all text entries) ≡ at
   pub within : AllWithin text entries
 
-pub kept_begun : (d : Dialect) (text : List ℕ) → are_built text ≡ true → IsKeptUpTo d text (record { place = LineStart; chars = logical d text }) [] 0 1
-kept_begun d text built =
-    let no_mark : mark_len text ≡ 0 = no_mark_len text built in
+-- A byte order mark is in its text and ends no line.
+pub record IsMarked (text : List ℕ) : Type 0 where
+  pub within : mark_len text ≤ length text
+  pub no_line : line_at text (mark_len text) ≡ 1
+
+not_marked : (text : List ℕ) → mark_len text ≡ 0 → IsMarked text
+not_marked text e = record { within = rw e (omega arith); no_line = rw e refl }
+
+pub marked : (text : List ℕ) → IsMarked text
+marked [] = not_marked [] refl
+marked (a ∷ []) = let n : ((239 == a) && false) ≡ false = and_right (239 == a) false refl in not_marked (a ∷ []) (rw n refl)
+marked (a ∷ b ∷ []) = let n : ((239 == a) && ((187 == b) && false)) ≡ false = and_right (239 == a) ((187 == b) && false) (and_right (187 == b) false refl) in not_marked (a ∷ b ∷ []) (rw n refl)
+marked (a ∷ b ∷ c ∷ text) = elim (cases_Bool ((239 == a) && ((187 == b) && ((191 == c) && true)))) [
+  | inr n ↦ not_marked (a ∷ b ∷ c ∷ text) (rw n refl)
+  | inl y ↦
+      let p = and_parts (239 == a) ((187 == b) && ((191 == c) && true)) y in
+      let q = and_parts (187 == b) ((191 == c) && true) p.1 in
+      let a_is : 239 ≡ a = eqb-true 239 a p.0 in
+      let b_is : 187 ≡ b = eqb-true 187 b q.0 in
+      let c_is : 191 ≡ c = eqb-true 191 c (and_parts (191 == c) true q.1).0 in
+      subst (λ z. IsMarked (z ∷ b ∷ c ∷ text)) a_is (subst (λ z. IsMarked (239 ∷ z ∷ c ∷ text)) b_is (subst (λ z. IsMarked (239 ∷ 187 ∷ z ∷ text)) c_is (with_mark text)))
+]
+  where
+    with_mark : (text : List ℕ) → IsMarked (239 ∷ 187 ∷ 191 ∷ text)
+    with_mark text = record { within = omega arith; no_line = refl }
+
+pub kept_begun : (d : Dialect) (text : List ℕ) → IsKeptUpTo d text (record { place = LineStart; chars = logical d text }) [] (mark_len text) 1
+kept_begun d text =
+    let mark : IsMarked text = marked text in
+    let len : length (drop (mark_len text) text) ≡ length text - mark_len text = length-drop (mark_len text) text in
     record {
       items = [];
       read = begun d text;
-      rest = built_characters d text built;
-      up = subst (Ascend 0 (length text)) (sym (built_characters d text built)) (placed_ascend 0 (length text) text (omega arith));
-      line_is = refl;
+      up = chars_ascend d (mark_len text) (length text) (drop (mark_len text) text) (omega (arith, len, mark.within));
+      line_is = sym mark.no_line;
       kept = refl;
-      items_stop = no_mark;
-      stand = omega (arith, no_mark);
-      stop = no_mark;
+      items_stop = refl;
+      stand = mark.within;
+      stop = refl;
       within = λ k d below. absurd (omega arith);
     }
 
@@ -99,13 +122,12 @@ pub kept_step : (d : Dialect) (text : List ℕ) (old new : Left) (entries : List
     → (before : IsKeptUpTo d text old entries at line)
     → IsStep d old new read
     → IsSpanned at (length text) read new.chars
-    → new.chars ≡ placed at2 (drop at2 text)
     → kept_by text entry ≡ stored_of text (length entries == 0) at read
     → entry.start + entry.len ≤ length text
     → at2 ≡ end_of read
     → line2 ≡ line_at text at2
     → IsKeptUpTo d text new (entries ++ entry ∷ []) at2 line2
-kept_step d text old new entries entry at line at2 line2 read before step span rest told room at2_is line2_is =
+kept_step d text old new entries entry at line at2 line2 read before step span told room at2_is line2_is =
     let mark : ℕ = mark_len text in
     let tokens : List Stored = kept_by_all text entries in
     let pushed : kept_by_all text (entries ++ entry ∷ []) ≡ tokens ++ kept_by text entry ∷ [] = map-append (kept_by text) entries (entry ∷ []) in
@@ -138,7 +160,6 @@ kept_step d text old new entries entry at line at2 line2 read before step span r
     record {
       items = before.items ++ read ∷ [];
       read = stepped d text before.items old new read before.read step;
-      rest = rest;
       up = subst (λ k. Ascend k (length text) new.chars) (sym at2_is) span.up;
       line_is = line2_is;
       kept = kept;

@@ -1,8 +1,15 @@
 -- Where items stand, from the spans of their characters.
-use Rattle.std.proofs.Common.{◌≡◌, ◌<◌, ◌≤◌, ℕ, List, [], ◌∷◌, ◌++◌, length, refl, subst, arith}
+use Rattle.std.proofs.Common.{◌≡◌, ◌∙◌, ◌+◌, ◌<◌, ◌≤◌, true, false, ℕ, List, [], ◌∷◌, ◌++◌, length, refl, inl, inr, ap, subst, arith, length-append}
+use Rattle.std.proofs.lemmas.List.{length-map}
+use Rattle.c_chars.specs.Characters.{bytes_of}
+use Rattle.c_chars.specs.declared.Dialect.{Dialect}
 use Rattle.c_chars.specs.declared.LogicalChar.{LogicalChar}
 use Rattle.c_chars.proofs.Spans.{Ascend, finish_from, ascend_cut, ascend_on, ascend_fits}
-use Rattle.c_grammar.specs.Text.{ReadItem, begin_of, finish_of, start_of, end_of}
+use Rattle.c_grammar.specs.declared.ItemKind.{ItemKind}
+use Rattle.c_grammar.specs.Grammar.{Whole, is_white, is_new_line}
+use Rattle.c_grammar.specs.Items.{Place, IsNext, past_gap}
+use Rattle.c_grammar.specs.Text.{ReadItem, Left, IsStep, begin_of, finish_of, start_of, end_of}
+use Rattle.c_grammar.proofs.Unique.{spelled_begins}
 
 -- Characters whose spans ascend begin before they end.
 pub record IsSpan (at stop : ℕ) (s : List LogicalChar) : Type 0 where
@@ -47,3 +54,19 @@ spanned_step at stop left rest read up whole some =
       within = ascend_fits (end_of read) stop rest up_from;
       up = up_from;
     }
+
+-- an item has a character
+pub next_some : (d : Dialect) (place : Place) (kind : ItemKind) (s t : List ℕ) → IsNext d place kind s t → 0 < length s
+unfolding is_white is_new_line
+next_some d place kind [] t (inl h) = let f : [] ≡ h.2.first ∷ (h.2.body ++ h.2.last ∷ []) = h.2.whole in cc
+next_some d place kind [] t (inr h) = let f : true ≡ false = spelled_begins d (Whole kind) [] (32 ∷ []) h.1.spells in cc
+next_some d place kind (c ∷ s) t h = omega arith
+
+-- a step leaves less
+pub step_shorter : (d : Dialect) (old new : Left) (read : ReadItem) → IsStep d old new read → (0 < length read.chars) × (length new.chars < length old.chars)
+step_shorter d old new read step =
+    let whole : length old.chars ≡ length read.gap + (length read.chars + length new.chars) =
+    ap length step.whole ∙ (length-append read.gap (read.chars ++ new.chars) ∙ ap (λ k. length read.gap + k) (length-append read.chars new.chars)) in
+    let chars_len : length (bytes_of read.chars) ≡ length read.chars = length-map read.chars (λ c. c.byte) in
+    let some : 0 < length (bytes_of read.chars) = next_some d (past_gap old.place (bytes_of read.gap)) read.kind (bytes_of read.chars) (bytes_of new.chars) step.next in
+    (omega (arith, chars_len, some), omega (arith, whole, chars_len, some))

@@ -1,69 +1,31 @@
--- One step over a text whose characters are its bytes: where the item stands, and what its entry is.
-use Rattle.std.proofs.Common.{◌≡◌, ◌==◌, ◌||◌, ◌∙◌, not, ℕ, ◌+◌, ◌-◌, ◌<◌, ◌≤◌, Bool, false, List, ◌++◌, length, take, drop, refl, sym, ap, arith, eq-eqb, count_by, length-append, if◌then◌else◌}
+-- What the entry of an item keeps, from what the lexer tells of it.
+use Rattle.std.proofs.Common.{◌≡◌, ◌==◌, ◌||◌, ◌∙◌, not, ℕ, ◌+◌, ◌-◌, ◌≤◌, Bool, List, ◌++◌, length, take, drop, sym, ap, arith, eq-eqb, count_by, if◌then◌else◌}
 use Rattle.std.specs.Cmp.{both_ways}
 use Rattle.std.proofs.lemmas.Bool.{eqb-true}
-use Rattle.std.proofs.lemmas.List.{drop-drop, length-drop, length-take-le, length-map}
+use Rattle.std.proofs.lemmas.List.{length-drop, length-take-le}
 use Rattle.std.proofs.lemmas.List.Sums.{sum_by-append}
 use Rattle.std.proofs.Math.Seq.{take-add}
-use Rattle.c_chars.specs.Characters.{placed, bytes_of}
-use Rattle.c_chars.specs.declared.Dialect.{Dialect}
+use Rattle.c_chars.specs.declared.LogicalChar.{LogicalChar}
 use Rattle.c_grammar.specs.declared.ItemKind.{ItemKind}
-use Rattle.c_grammar.specs.Items.{past_gap}
-use Rattle.c_grammar.specs.Text.{ReadItem, Left, IsStep, start_of, end_of, raw_of, begin_of, finish_of}
+use Rattle.c_grammar.specs.Text.{ReadItem, start_of, end_of, raw_of}
+use Rattle.c_lexer.specs.Reading.{Reading, IsNextLexeme, new_lines, bytes_in, ends_in_backslash}
+use Rattle.c_lexer.specs.declared.item.Lexeme.{Lexeme}
 use Rattle.line_tokens.specs.declared.GapFacts.{GapFacts}
-use Rattle.token_arena.specs.Stored.{Stored, stored_of, gap_facts, line_at, is_line_feed, new_lines, bytes_in, ends_in_backslash, rows_of, first_row, last_row, width_of}
-use Rattle.token_arena.specs.BuiltFacts.{built_gap, built_entry, ends_in_back}
-use Rattle.token_arena.specs.Entries.{kept_by}
-use Rattle.token_arena.proofs.PlacedLemmas.{next_some, placed_cut, IsCutAt, begin_of-placed, finish_of-placed, new_lines-placed, bytes_in-placed, ends_in_backslash-placed}
+use Rattle.token_arena.specs.Stored.{Stored, stored_of, gap_facts, line_at, is_line_feed, rows_of, first_row, last_row, width_of}
+use Rattle.token_arena.specs.Entries.{kept_by, gap_told, entry_of}
+use Rattle.token_arena.proofs.Spans.{IsSpanned}
 
--- The item begins g bytes behind this offset, and has n bytes.
-pub record IsPlacedStep (text : List ℕ) (at : ℕ) (new : Left) (read : ReadItem) (g n : ℕ) : Type 0 where
-  pub some : 0 < n
-  pub within : (at + g) + n ≤ length text
-  pub gap_len : length read.gap ≡ g
-  pub gap_is : read.gap ≡ placed at (take g (drop at text))
-  pub gap_fits : length (take g (drop at text)) ≡ g
-  pub chars_are : read.chars ≡ placed (at + g) (take n (drop (at + g) text))
-  pub chars_fit : length (take n (drop (at + g) text)) ≡ n
-  pub start_is : start_of read ≡ at + g
-  pub end_is : end_of read ≡ (at + g) + n
-  pub raw_is : raw_of text read ≡ take n (drop (at + g) text)
-  pub rest : new.chars ≡ placed ((at + g) + n) (drop ((at + g) + n) text)
+-- an item has the bytes between where it begins and where it ends
+pub length-raw : (text : List ℕ) (at : ℕ) (read : ReadItem) (rest : List LogicalChar) → IsSpanned at (length text) read rest → length (raw_of text read) ≡ end_of read - start_of read
+length-raw text at read rest span =
+    let behind_start : length (drop (start_of read) text) ≡ length text - start_of read = length-drop (start_of read) text in
+    length-take-le (end_of read - start_of read) (drop (start_of read) text) (omega (arith, behind_start, span.some, span.within))
 
-pub placed_step : (d : Dialect) (text : List ℕ) (at : ℕ) (old new : Left) (read : ReadItem) → at ≤ length text → old.chars ≡ placed at (drop at text)
-    → IsStep d old new read → IsPlacedStep text at new read (length read.gap) (length read.chars)
-placed_step d text at old new read reached rest step =
-    let g : ℕ = length read.gap in
-    let n : ℕ = length read.chars in
-    let cut : IsCutAt at (drop at text) read.gap (read.chars ++ new.chars) = placed_cut at (drop at text) read.gap (read.chars ++ new.chars) (sym rest ∙ step.whole) in
-    let behind : drop g (drop at text) ≡ drop (at + g) text = drop-drop g at text in
-    let left : read.chars ++ new.chars ≡ placed (at + g) (drop (at + g) text) = cut.back ∙ ap (placed (at + g)) behind in
-    let cut2 : IsCutAt (at + g) (drop (at + g) text) read.chars new.chars = placed_cut (at + g) (drop (at + g) text) read.chars new.chars (sym left) in
-    let behind2 : drop n (drop (at + g) text) ≡ drop ((at + g) + n) text = drop-drop n (at + g) text in
-    let rest_len : length (drop at text) ≡ length text - at = length-drop at text in
-    let rest_len2 : length (drop (at + g) text) ≡ length text - (at + g) = length-drop (at + g) text in
-    let chars_len : length (bytes_of read.chars) ≡ n = length-map read.chars (λ c. c.byte) in
-    let some_chars : 0 < length (bytes_of read.chars) = next_some d (past_gap old.place (bytes_of read.gap)) read.kind (bytes_of read.chars) (bytes_of new.chars) step.next in
-    let some : 0 < n = omega (arith, some_chars, chars_len) in
-    let gap_fits : length (take g (drop at text)) ≡ g = length-take-le g (drop at text) cut.fits in
-    let chars_fit : length (take n (drop (at + g) text)) ≡ n = length-take-le n (drop (at + g) text) cut2.fits in
-    let has : 0 < length (take n (drop (at + g) text)) = omega (arith, chars_fit, some) in
-    let start : start_of read ≡ at + g = ap begin_of cut2.front ∙ begin_of-placed (at + g) (take n (drop (at + g) text)) has in
-    let stop : end_of read ≡ (at + g) + n = ap finish_of cut2.front ∙ (finish_of-placed (at + g) (take n (drop (at + g) text)) has ∙ ap (λ k. (at + g) + k) chars_fit) in
-    let len : end_of read - start_of read ≡ n = omega (arith, start, stop) in
-    record {
-      some = some;
-      within = omega (arith, cut.fits, cut2.fits, rest_len, rest_len2, reached, some);
-      gap_len = refl;
-      gap_is = cut.front;
-      gap_fits = gap_fits;
-      chars_are = cut2.front;
-      chars_fit = chars_fit;
-      start_is = start;
-      end_is = stop;
-      raw_is = ap (λ k. take k (drop (start_of read) text)) len ∙ ap (λ k. take n (drop k text)) start;
-      rest = cut2.back ∙ ap (placed ((at + g) + n)) behind2;
-    }
+-- and its gap those before it
+pub length-gap : (text : List ℕ) (at start : ℕ) → at ≤ start → start ≤ length text → length (take (start - at) (drop at text)) ≡ start - at
+length-gap text at start later within =
+    let behind_at : length (drop at text) ≡ length text - at = length-drop at text in
+    length-take-le (start - at) (drop at text) (omega (arith, behind_at, later, within))
 
 -- The line of an offset grows by the new-lines on the way.
 pub line_at-more : (text : List ℕ) (at n : ℕ) → line_at text (at + n) ≡ line_at text at + count_by is_line_feed (take n (drop at text))
@@ -81,23 +43,19 @@ gap_made : (lines lines2 : ℕ) (empty empty2 white white2 splice splice2 began 
     → ◌≡◌ {A = GapFacts} (record { lines = lines; empty = empty; white = white; splice = splice; began = began }) (record { lines = lines2; empty = empty2; white = white2; splice = splice2; began = began2 })
 gap_made lines lines2 empty empty2 white white2 splice splice2 began began2 a b c e f = cc
 
--- what the bytes of a gap tell is what its characters tell
-pub gap_told : (text : List ℕ) (at : ℕ) (new : Left) (read : ReadItem) (g n : ℕ) (is_first : Bool) → IsPlacedStep text at new read g n
-    → built_gap is_first (take g (drop at text)) ≡ gap_facts is_first at read
-gap_told text at new read g n is_first step =
-    let gap : List ℕ = take g (drop at text) in
-    let lines : count_by is_line_feed gap ≡ new_lines read.gap = sym (ap new_lines step.gap_is ∙ new_lines-placed at gap) in
-    let bytes : bytes_in read.gap ≡ g = ap bytes_in step.gap_is ∙ (bytes_in-placed at gap ∙ step.gap_fits) in
-    let len : length gap ≡ length read.gap = step.gap_fits ∙ sym step.gap_len in
-    let fits : length gap ≡ g = step.gap_fits in
-    let start : start_of read ≡ at + g = step.start_is in
-    let all : bytes_in read.gap ≡ start_of read - at = omega (arith, bytes, start) in
-    gap_made (count_by is_line_feed gap) (new_lines read.gap) (length gap == 0) (start_of read == at) (not (length gap == 0)) (not (length read.gap == 0))
-    false (not (bytes_in read.gap == start_of read - at)) (is_first || not (count_by is_line_feed gap == 0)) (is_first || not (new_lines read.gap == 0))
+-- what the lexer tells of a gap of so many bytes is what its characters tell
+told_gap : (old new : Reading) (lexeme : Lexeme) (is_first : Bool) (at len : ℕ) → (next : IsNextLexeme old new lexeme) → at + len ≡ start_of next.next.read
+    → gap_told lexeme is_first len ≡ gap_facts is_first at next.next.read
+told_gap old new lexeme is_first at len next wide =
+    let start : ℕ = start_of next.next.read in
+    let len_is : len ≡ start - at = omega (arith, wide) in
+    let lines : lexeme.lines ≡ new_lines next.next.read.gap = next.lines_are in
+    gap_made lexeme.lines (new_lines next.next.read.gap) (len == 0) (start == at) lexeme.white (not (length next.next.read.gap == 0))
+    (not (lexeme.bytes == len)) (not (bytes_in next.next.read.gap == start - at)) (is_first || not (lexeme.lines == 0)) (is_first || not (new_lines next.next.read.gap == 0))
     lines
-    (same_test (length gap) 0 (start_of read) at (λ h. omega (arith, h, fits, start)) (λ h. omega (arith, h, fits, start)))
-    (ap (λ k. not (k == 0)) len)
-    (sym (ap not (eq-eqb (bytes_in read.gap) (start_of read - at) all)))
+    (same_test len 0 start at (λ h. omega (arith, h, wide)) (λ h. omega (arith, h, wide)))
+    next.white_is
+    (ap (λ k. not (k == len)) next.bytes_are ∙ ap (λ k. not (bytes_in next.next.read.gap == k)) len_is)
     (ap (λ k. is_first || not (k == 0)) lines)
 
 stored_made : (kind kind2 : ItemKind) (start start2 : ℕ) (raw raw2 : List ℕ) (gap gap2 : GapFacts) (line line2 rows rows2 first first2 last last2 : ℕ) (back back2 : Bool)
@@ -106,37 +64,27 @@ stored_made : (kind kind2 : ItemKind) (start start2 : ℕ) (raw raw2 : List ℕ)
     (record { kind = kind2; start = start2; raw = raw2; gap = gap2; line = line2; rows = rows2; first_width = first2; last_width = last2; back = back2 })
 stored_made kind kind2 start start2 raw raw2 gap gap2 line line2 rows rows2 first first2 last last2 back back2 a b c e f g h i j = cc
 
--- The entry that is made of the bytes of an item and its gap keeps what the definitions say of the item.
-pub entry_told : (text : List ℕ) (at : ℕ) (new : Left) (read : ReadItem) (g n : ℕ) (is_first : Bool) (kind : ItemKind) (start : ℕ) (raw : List ℕ) (line : ℕ)
-    → IsPlacedStep text at new read g n → kind ≡ read.kind → start ≡ start_of read → raw ≡ raw_of text read → line ≡ line_at text at
-    → kept_by text (built_entry kind start raw is_first (take (start - at) (drop at text)) line) ≡ stored_of text is_first at read
-entry_told text at new read g n is_first kind start raw line step kind_is start_is raw_is line_is =
-    let begins : start ≡ at + g = start_is ∙ step.start_is in
-    let bytes : raw ≡ take n (drop (at + g) text) = raw_is ∙ step.raw_is in
-    let len : length raw ≡ n = ap length bytes ∙ step.chars_fit in
-    let wide : start - at ≡ g = omega (arith, begins) in
+-- The entry that is made of what the lexer tells keeps what the definitions say of the item.
+pub entry_told : (text : List ℕ) (at line : ℕ) (is_first : Bool) (old new : Reading) (lexeme : Lexeme) (rest : List LogicalChar) → old.text ≡ text → (next : IsNextLexeme old new lexeme)
+    → IsSpanned at (length text) next.next.read rest → line ≡ line_at text at
+    → kept_by text (entry_of lexeme is_first (take (lexeme.item.start - at) (drop at text)) line) ≡ stored_of text is_first at next.next.read
+entry_told text at line is_first old new lexeme rest text_is next span line_is =
+    let read : ReadItem = next.next.read in
+    let raw : List ℕ = lexeme.item.raw.now in
+    let start : ℕ = lexeme.item.start in
+    let start_is : start ≡ start_of read = next.next.start_is in
+    let raw_is : raw ≡ raw_of text read = next.next.raw_is ∙ ap (λ t. raw_of t read) text_is in
+    let len : length raw ≡ end_of read - start_of read = ap length raw_is ∙ length-raw text at read rest span in
     let gap : List ℕ = take (start - at) (drop at text) in
-    let gap_bytes : gap ≡ take g (drop at text) = ap (λ k. take k (drop at text)) wide in
-    let gap_is : built_gap is_first gap ≡ gap_facts is_first at read = ap (built_gap is_first) gap_bytes ∙ gap_told text at new read g n is_first step in
+    let gap_len : length gap ≡ start - at = length-gap text at start (omega (arith, start_is, span.later)) (omega (arith, start_is, span.some, span.within)) in
+    let wide : at + length gap ≡ start_of read = omega (arith, gap_len, start_is, span.later) in
+    let reach : at + (start - at) ≡ start_of read = omega (arith, start_is, span.later) in
     let taken : take (length raw) (drop start text) ≡ raw_of text read =
-    ap (λ k. take k (drop start text)) len ∙ (ap (λ k. take n (drop k text)) begins ∙ sym step.raw_is) in
-    let counted : line + count_by is_line_feed gap ≡ line_at text at + count_by is_line_feed (take g (drop at text)) = ap (λ s. line + count_by is_line_feed s) gap_bytes ∙ ap (λ k. k + count_by is_line_feed (take g (drop at text))) line_is in
+    ap (λ k. take k (drop start text)) len ∙ ap (λ k. take (end_of read - start_of read) (drop k text)) start_is in
     let here : line + count_by is_line_feed gap ≡ line_at text (start_of read) =
-    counted ∙ (sym (line_at-more text at g) ∙ ap (line_at text) (sym step.start_is)) in
-    let some : 0 < length (take n (drop (at + g) text)) = omega (arith, step.chars_fit, step.some) in
-    let back : ends_in_back raw ≡ ends_in_backslash read.chars =
-    ap ends_in_back bytes ∙ sym (ap ends_in_backslash step.chars_are ∙ ends_in_backslash-placed (at + g) (take n (drop (at + g) text)) some) in
-    stored_made kind read.kind start (start_of read) (take (length raw) (drop start text)) (raw_of text read) (built_gap is_first gap) (gap_facts is_first at read)
+    ap (λ k. k + count_by is_line_feed gap) line_is ∙ (sym (line_at-more text at (start - at)) ∙ ap (line_at text) reach) in
+    stored_made lexeme.item.kind read.kind start (start_of read) (take (length raw) (drop start text)) (raw_of text read) (gap_told lexeme is_first (length gap)) (gap_facts is_first at read)
     (line + count_by is_line_feed gap) (line_at text (start_of read)) (rows_of raw) (rows_of (raw_of text read))
     (width_of (first_row raw)) (width_of (first_row (raw_of text read))) (width_of (last_row raw)) (width_of (last_row (raw_of text read)))
-    (ends_in_back raw) (ends_in_backslash read.chars)
-    kind_is start_is taken gap_is here (ap rows_of raw_is) (ap (λ r. width_of (first_row r)) raw_is) (ap (λ r. width_of (last_row r)) raw_is) back
-
--- a step leaves less
-pub step_shorter : (d : Dialect) (old new : Left) (read : ReadItem) → IsStep d old new read → length new.chars < length old.chars
-step_shorter d old new read step =
-    let whole : length old.chars ≡ length read.gap + (length read.chars + length new.chars) =
-    ap length step.whole ∙ (length-append read.gap (read.chars ++ new.chars) ∙ ap (λ k. length read.gap + k) (length-append read.chars new.chars)) in
-    let chars_len : length (bytes_of read.chars) ≡ length read.chars = length-map read.chars (λ c. c.byte) in
-    let some : 0 < length (bytes_of read.chars) = next_some d (past_gap old.place (bytes_of read.gap)) read.kind (bytes_of read.chars) (bytes_of new.chars) step.next in
-    omega (arith, whole, chars_len, some)
+    lexeme.back (ends_in_backslash read.chars)
+    next.next.kind_is start_is taken (told_gap old new lexeme is_first at (length gap) next wide) here (ap rows_of raw_is) (ap (λ r. width_of (first_row r)) raw_is) (ap (λ r. width_of (last_row r)) raw_is) next.back_is

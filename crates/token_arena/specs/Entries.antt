@@ -1,9 +1,11 @@
 -- How the items lie in memory.
-use Rattle.std.specs.Prelude.{◌≤◌, ◌+◌, ℕ, List, All, length, take, drop, map}
+use Rattle.std.specs.Prelude.{◌==◌, ◌||◌, ◌≤◌, ◌+◌, not, ℕ, Bool, List, All, length, take, drop, map, count_by}
 use Rattle.token_arena.specs.Gaps.{Contents}
 use Rattle.token_arena.specs.Holds.{IsSound}
 use Rattle.c_chars.specs.declared.Dialect.{Dialect}
-use Rattle.token_arena.specs.Stored.{Stored}
+use Rattle.c_lexer.specs.declared.item.Lexeme.{Lexeme}
+use Rattle.line_tokens.specs.declared.GapFacts.{GapFacts}
+use Rattle.token_arena.specs.Stored.{Stored, is_line_feed, rows_of, first_row, last_row, width_of}
 use Rattle.token_arena.specs.declared.arena.Entry.{Entry}
 use Rattle.token_arena.specs.declared.arena.Token.{Token}
 
@@ -51,3 +53,27 @@ contents_of text dialect entries = record { text = text; dialect = dialect; toke
 pub record AreEntries (text : List ℕ) (dialect : Dialect) (entries : List Entry) : Type 0 where
   pub within : AllWithin text entries
   pub sound : IsSound (contents_of text dialect entries)
+
+-- the gap of this item, which has so many bytes, and is the first of its text or not
+abbrev pub gap_told : Lexeme → Bool → ℕ → GapFacts
+gap_told lexeme is_first len = record {
+  lines = lexeme.lines;
+  empty = len == 0;
+  white = lexeme.white;
+  splice = not (lexeme.bytes == len);
+  began = is_first || not (lexeme.lines == 0);
+}
+
+-- the entry of this item behind a gap of these bytes, which begins on this line
+abbrev pub entry_of : Lexeme → Bool → List ℕ → ℕ → Entry
+entry_of lexeme is_first gap line = record {
+  start = lexeme.item.start;
+  len = length lexeme.item.raw.now;
+  gap = gap_told lexeme is_first (length gap);
+  line = line + count_by is_line_feed gap;
+  rows = rows_of lexeme.item.raw.now;
+  first_width = width_of (first_row lexeme.item.raw.now);
+  last_width = width_of (last_row lexeme.item.raw.now);
+  kind = lexeme.item.kind;
+  back = lexeme.back;
+}

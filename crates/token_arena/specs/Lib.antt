@@ -2,5 +2,4 @@ pub mod Stored
 pub mod Gaps
 pub mod Holds
 pub mod Entries
-pub mod BuiltFacts
 pub mod Building

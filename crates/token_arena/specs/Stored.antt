@@ -1,25 +1,16 @@
 -- What is kept of an item: its kind and bytes, the gap before it, its line, its rows, and whether a backslash ends it.
-use Rattle.std.specs.Prelude.{chars, ◌==◌, ◌||◌, not, ℕ, ◌+◌, ◌-◌, Bool, true, false, List, [], ◌∷◌, length, take, sum_by, count_by, if◌then◌else◌}
+use Rattle.std.specs.Prelude.{chars, ◌==◌, ◌||◌, not, ℕ, ◌+◌, ◌-◌, Bool, true, false, List, [], ◌∷◌, length, take, count_by, if◌then◌else◌}
 use Rattle.std.specs.List.{position_or_len, before_first, after_last}
 use Rattle.std.specs.Io.BufRead.{strip_last}
 use Rattle.std.specs.Str.Lossy.{utf8_valid_len}
 use Rattle.unicode_width.specs.Width.{str_width}
 use Rattle.c_chars.specs.Characters.{mark_len}
-use Rattle.c_chars.specs.declared.LogicalChar.{LogicalChar}
-use Rattle.c_grammar.specs.Grammar.{is_new_line}
 use Rattle.c_grammar.specs.Text.{ReadItem, start_of, end_of, raw_of}
 use Rattle.c_grammar.specs.declared.ItemKind.{ItemKind}
+pub use Rattle.c_lexer.specs.Reading.{new_lines, bytes_in, ends_in_backslash}
 use Rattle.line_tokens.specs.declared.GapFacts.{GapFacts}
 
 -- The white space before an item.
-
--- how many new-lines there are among these characters
-abbrev pub new_lines : List LogicalChar → ℕ
-new_lines s = count_by (λ c. is_new_line c.byte) s
-
--- how many bytes of the text these characters are; a spliced line end is in no character
-abbrev pub bytes_in : List LogicalChar → ℕ
-bytes_in s = sum_by (λ c. c.to - c.from) s
 
 -- the gap before an item that begins at this offset, and is the first of its text or not
 abbrev pub gap_facts : Bool → ℕ → ReadItem → GapFacts
@@ -57,12 +48,6 @@ abbrev pub width_of : List ℕ → ℕ
 width_of row = if utf8_valid_len row == length row then str_width false (chars row) else length row
 
 -- The item.
-
--- a backslash is the last of these characters
-abbrev pub ends_in_backslash : List LogicalChar → Bool
-ends_in_backslash [] = false
-ends_in_backslash (c ∷ []) = c.byte == 92
-ends_in_backslash (c ∷ e ∷ s) = ends_in_backslash (e ∷ s)
 
 -- what is kept of an item
 pub record Stored : Type 0 where

@@ -12,7 +12,7 @@ use line_tokens::{GapFacts, TokenId};
 use std::marker::Model;
 
 /// The bytes of a byte order mark.
-const MARK: [u8; 3] = [0xEF, 0xBB, 0xBF];
+pub(crate) const MARK: [u8; 3] = [0xEF, 0xBB, 0xBF];
 
 /// An item of a text, with what stands before it and what it takes.
 #[derive(Clone, Copy, Debug)]

@@ -5,10 +5,10 @@ ghost use Rattle.std.specs.Int.{is_in_range};
 ghost use Rattle.std.specs.List.{list_all, position_or_len, suffix_len};
 ghost use Rattle.std.specs.Io.BufRead.{strip_last};
 ghost use Rattle.token_arena.specs.Stored.{is_line_feed, rows_of, first_row, last_row, width_of};
-ghost use Rattle.token_arena.specs.BuiltFacts.{built_gap, ends_in_back, built_entry};
+ghost use Rattle.token_arena.specs.Entries.{gap_told, entry_of};
 
 use crate::arena::Entry;
-use c_lexer::Item;
+use c_lexer::Lexeme;
 use line_tokens::GapFacts;
 use std::str::from_utf8;
 use unicode_width::UnicodeWidthStr;
@@ -21,18 +21,16 @@ pub(crate) fn line_feeds(bytes: &[u8]) -> u32
     bytes.iter().filter(|b| **b == b'\n').count() as u32
 }
 
-/// What a gap of these bytes is.
-fn gap_facts(gap: &[u8], is_first: bool) -> GapFacts
-    requires { length gap.now < 2 ^ 32 }
-    ensures { result ≡ built_gap is_first gap.now }
+/// What the gap of an item is, where it has so many bytes. Spliced line ends are bytes of no character.
+fn gap_facts(lexeme: &Lexeme<'_>, is_first: bool, len: u32) -> GapFacts
+    ensures { result ≡ gap_told lexeme.now is_first len }
 {
-    let lines = line_feeds(gap);
     GapFacts {
-        lines,
-        empty: gap.is_empty(),
-        white: !gap.is_empty(),
-        splice: false,
-        began: is_first || lines > 0,
+        lines: lexeme.lines,
+        empty: len == 0,
+        white: lexeme.white,
+        splice: lexeme.bytes != len,
+        began: is_first || lexeme.lines != 0,
     }
 }
 
@@ -95,6 +93,7 @@ fn is_printable(row: &[u8]) -> bool
 }
 
 /// How many columns a row takes. Most rows are printable ASCII.
+#[inline(always)]
 fn width(row: &[u8]) -> u32
     requires { length row.now < 2 ^ 31 }
     ensures { result ≡ width_of row.now }
@@ -139,33 +138,24 @@ fn rows_of(raw: &[u8]) -> Rows
     }
 }
 
-/// Whether a backslash ends an item.
-fn ends_in_back(raw: &[u8]) -> bool
-    requires { 0 < length raw.now }
-    ensures { result ≡ ends_in_back raw.now }
-{
-    raw[raw.len() - 1] == b'\\'
-}
-
-/// The entry of an item behind this gap, which begins on this line.
-pub(crate) fn entry_of(item: &Item<'_>, is_first: bool, gap: &[u8], line: u32) -> Entry
-    requires some { 0 < length item.now.raw.now }
-    requires fits { length item.now.raw.now < 2 ^ 31 }
+/// The entry of an item behind a gap of these bytes, which begins on this line.
+pub(crate) fn entry_of(lexeme: &Lexeme<'_>, is_first: bool, gap: &[u8], line: u32) -> Entry
+    requires fits { length lexeme.now.item.raw.now < 2 ^ 31 }
     requires room { line + length gap.now < 2 ^ 32 }
-    ensures { result ≡ built_entry item.now.kind item.now.start item.now.raw.now is_first gap.now line }
+    ensures { result ≡ entry_of lexeme.now is_first gap.now line }
 {
-    let gap = gap_facts(gap, is_first);
+    let item = &lexeme.item;
     let rows = rows_of(item.raw);
     Entry {
         start: item.start,
         len: item.raw.len() as u32,
-        gap,
-        line: line + gap.lines,
+        gap: gap_facts(lexeme, is_first, gap.len() as u32),
+        line: line + line_feeds(gap),
         rows: rows.count,
         first_width: rows.first_width,
         last_width: rows.last_width,
         kind: item.kind,
-        back: ends_in_back(item.raw),
+        back: lexeme.back,
     }
 }
 

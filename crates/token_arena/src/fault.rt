@@ -10,9 +10,9 @@ use thiserror::Error;
 /// Why [`build`](crate::build) made no arena.
 #[derive(Clone, Copy, Debug, PartialEq, Eq, Error)]
 pub enum ArenaFault {
-    /// The text is within the limit, and this is the offset of its first byte that is not read yet.
-    #[error("not built at byte {at}")]
-    NotBuilt { at: u32 },
+    /// The text is within the limit, and a block comment that nothing ends begins at this offset (C11 6.4.9).
+    #[error("comment without an end at byte {start}")]
+    UnterminatedComment { start: u32 },
     /// The text has more than [`LIMIT`] bytes; it has this many.
     #[error("{bytes} bytes, more than {LIMIT}")]
     TooLarge { bytes: u64 },

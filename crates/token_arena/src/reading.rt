@@ -1,71 +1,89 @@
 //! Reads a text into an arena.
 
-ghost use Rattle.std.specs.Prelude.{◌≡◌, ◌<◌, ◌≤◌, ◌+◌, ◌^◌, length, IfOk, IfErr, IsTrue};
+ghost use Rattle.std.specs.Prelude.{◌≡◌, ◌<◌, ◌≤◌, ◌+◌, ◌^◌, length, if◌then◌else◌, IfOk, IfErr, IsTrue};
+ghost use Rattle.c_chars.specs.Characters.{mark_len};
 ghost use Rattle.c_chars.specs.declared.TheConstants.{LIMIT};
-ghost use Rattle.c_grammar.specs.Built.{are_built};
+ghost use Rattle.token_arena.specs.Building.{IsArenaOf, IsCause};
 ghost use Rattle.token_arena.specs.Entries.{AreEntries};
-ghost use Rattle.token_arena.specs.Building.{IsArenaOf, IsCause, CountsItems};
 
-use crate::arena::{Entry, TokenArena};
+use crate::arena::{Entry, MARK, TokenArena};
 use crate::facts::entry_of;
 use crate::fault::ArenaFault;
 use bumpalo::Bump;
 use bumpalo::collections::into_bump_slice;
-use c_lexer::{BuiltLexer, Dialect, LIMIT, first_not_built};
-use std::alloc::AllocError;
+use c_lexer::{Dialect, LIMIT, LexFault, Lexer};
 
-/// How many items a text has.
-fn count_items(text: &[u8], dialect: Dialect) -> usize
-    requires fits { length text.now ≤ LIMIT }
-    requires built { IsTrue (are_built text.now) }
-    ensures { CountsItems dialect text.now result }
+/// How many bytes a byte order mark takes that the text begins with.
+fn mark_len(text: &[u8]) -> usize
+    ensures { result ≡ mark_len text.now }
 {
-    let mut lexer = BuiltLexer::new(text, dialect);
+    if text.starts_with(&MARK) {
+        MARK.len()
+    } else {
+        0
+    }
+}
+
+/// Whether a byte goes on a word or a number.
+fn is_word(b: u8) -> bool {
+    b.is_ascii_alphanumeric() || b == b'_'
+}
+
+/// A bound on the number of items: the bytes that begin no blank and go on no word. It needs no more than to be near:
+/// entries are moved where it is too low, and memory that holds none is never touched.
+fn most_items(text: &[u8]) -> usize {
     let mut count = 0;
-    while let Some(_item) = lexer.next_item() {
-        count += 1;
+    let mut in_word = false;
+    for b in text {
+        let word = is_word(*b);
+        if !b.is_ascii_whitespace() && !(word && in_word) {
+            count += 1;
+        }
+        in_word = word;
     }
     count
 }
 
-/// The entries of all items of a text. Its items are counted first, so that no memory is wasted.
-fn entries_of<'a>(bump: &'a Bump, text: &[u8], dialect: Dialect) -> Result<&'a [Entry], AllocError>
+/// The entries of all items of a text.
+fn entries_of<'a>(bump: &'a Bump, text: &[u8], dialect: Dialect) -> Result<&'a [Entry], ArenaFault>
     requires fits { length text.now ≤ LIMIT }
-    requires built { IsTrue (are_built text.now) }
-    ensures { IfOk result (λ entries. AreEntries text.now dialect entries.now) }
+    ensures entries { IfOk result (λ entries. AreEntries text.now dialect entries.now) }
+    ensures fault { IfErr result (IsCause dialect text.now) }
 {
-    let mut entries = Vec::with_capacity(bump, count_items(text, dialect))?;
-    let mut lexer = BuiltLexer::new(text, dialect);
-    let mut at = 0;
+    let mut entries = Vec::with_capacity(bump, most_items(text))?;
+    let mut lexer = Lexer::new(text, dialect);
+    let mut at = mark_len(text);
     let mut line = 1;
-    while let Some(item) = lexer.next_item() {
-        let start = item.start as usize;
-        let entry = entry_of(&item, entries.is_empty(), &text[at..start], line);
-        entries.push(entry)?;
-        line = entry.line + (entry.rows - 1);
-        at = start + item.raw.len();
+    loop {
+        match lexer.next_lexeme() {
+            Ok(Some(lexeme)) => {
+                let start = lexeme.item.start as usize;
+                let entry = entry_of(&lexeme, entries.is_empty(), &text[at..start], line);
+                entries.push(entry)?;
+                line = entry.line + (entry.rows - 1);
+                at = start + lexeme.item.raw.len();
+            }
+            Ok(None) => return Ok(into_bump_slice(entries)),
+            Err(LexFault::UnterminatedComment { start }) => {
+                return Err(ArenaFault::UnterminatedComment { start });
+            }
+        }
     }
-    Ok(into_bump_slice(entries))
 }
 
-/// Reads a text of at most [`LIMIT`] bytes, all of them built, into an arena.
-///
-/// The size is tested first and the bytes next; only then memory is taken.
+/// Reads a text of at most [`LIMIT`] bytes into an arena. The size is tested first.
 pub fn build<'a, 's>(
     bump: &'a Bump,
     text: &'s [u8],
     dialect: Dialect,
 ) -> Result<TokenArena<'a, 's>, ArenaFault>
     ensures arena { IfOk result (IsArenaOf text.now dialect) }
-    ensures fault { IfErr result (IsCause text.now) }
+    ensures fault { IfErr result (IsCause dialect text.now) }
 {
     if text.len() > LIMIT {
         return Err(ArenaFault::TooLarge {
             bytes: text.len() as u64,
         });
-    }
-    if let Some(at) = first_not_built(text) {
-        return Err(ArenaFault::NotBuilt { at: at as u32 });
     }
     let entries = entries_of(bump, text, dialect)?;
     Ok(TokenArena::of(text, dialect, entries))
@@ -76,46 +94,79 @@ mod tests {
     use super::*;
     use c_lexer::ItemKind;
     use line_tokens::{GapFacts, TokenId};
-    use std::alloc::Global;
+    use std::alloc::{AllocError, Global};
+    use std::process::Abort;
     use std::test::Fail;
 
-    /// A gap with so many new-lines.
-    fn gap(lines: u32, empty: bool, began: bool) -> GapFacts {
+    /// A gap of blanks with so many new-lines.
+    fn blanks(lines: u32) -> GapFacts {
         GapFacts {
             lines,
-            empty,
-            white: !empty,
+            empty: false,
+            white: true,
             splice: false,
-            began,
+            began: lines > 0,
         }
+    }
+
+    /// No gap.
+    fn none() -> GapFacts {
+        GapFacts {
+            lines: 0,
+            empty: true,
+            white: false,
+            splice: false,
+            began: false,
+        }
+    }
+
+    /// The gap before the first item of a text.
+    fn first(gap: GapFacts) -> GapFacts {
+        GapFacts { began: true, ..gap }
+    }
+
+    /// A gap with a spliced line end.
+    fn spliced(gap: GapFacts) -> GapFacts {
+        GapFacts {
+            empty: false,
+            splice: true,
+            ..gap
+        }
+    }
+
+    /// Each item of a text in C11: kind, bytes, offset, gap, line, rows, and the widths of the first and of the last row.
+    type Row<'s> = (ItemKind, &'s [u8], u32, GapFacts, u32, u32, u32, u32);
+
+    fn compare(rt: &impl Abort, arena: &TokenArena<'_, '_>, id: u32, row: Row<'_>) {
+        let (kind, raw, start, gap, line, rows, first_width, last_width) = row;
+        assert!(rt; id < arena.len());
+        let token = arena.get(TokenId(id));
+        assert_eq!(rt; token.item.kind, kind, "of item {id}");
+        assert_eq!(rt; token.item.raw, raw, "of item {id}");
+        assert_eq!(rt; token.item.start, start, "of item {id}");
+        assert_eq!(rt; token.gap, gap, "before item {id}");
+        assert_eq!(rt; token.line, line, "of item {id}");
+        assert_eq!(rt; token.rows, rows, "of item {id}");
+        assert_eq!(rt; token.first_width, first_width, "of item {id}");
+        assert_eq!(rt; token.last_width, last_width, "of item {id}");
     }
 
     #[test]
     fn keeps_each_item_with_its_facts(rt: HostRuntime) -> Result<(), Fail> {
         let bump = Bump::new(rt.alloc());
         let arena = build(&bump, b"\n a12\t=\n\n(1)+b \n", Dialect::C11)?;
-        let expected: [(ItemKind, &[u8], u32, GapFacts, u32); 7] = [
-            (ItemKind::Identifier, b"a12", 2, gap(1, false, true), 2),
-            (ItemKind::Punct, b"=", 6, gap(0, false, false), 2),
-            (ItemKind::Punct, b"(", 9, gap(2, false, true), 4),
-            (ItemKind::Number, b"1", 10, gap(0, true, false), 4),
-            (ItemKind::Punct, b")", 11, gap(0, true, false), 4),
-            (ItemKind::Punct, b"+", 12, gap(0, true, false), 4),
-            (ItemKind::Identifier, b"b", 13, gap(0, true, false), 4),
+        let rows: [Row<'_>; 7] = [
+            (ItemKind::Identifier, b"a12", 2, blanks(1), 2, 1, 3, 3),
+            (ItemKind::Punct, b"=", 6, blanks(0), 2, 1, 1, 1),
+            (ItemKind::Punct, b"(", 9, blanks(2), 4, 1, 1, 1),
+            (ItemKind::Number, b"1", 10, none(), 4, 1, 1, 1),
+            (ItemKind::Punct, b")", 11, none(), 4, 1, 1, 1),
+            (ItemKind::Punct, b"+", 12, none(), 4, 1, 1, 1),
+            (ItemKind::Identifier, b"b", 13, none(), 4, 1, 1, 1),
         ];
         let mut id = 0u32;
-        for (kind, raw, start, before, line) in expected {
-            assert!(rt; id < arena.len());
-            let token = arena.get(TokenId(id));
-            assert_eq!(rt; token.item.kind, kind, "of item {id}");
-            assert_eq!(rt; token.item.raw, raw, "of item {id}");
-            assert_eq!(rt; token.item.start, start, "of item {id}");
-            assert_eq!(rt; token.gap, before, "before item {id}");
-            assert_eq!(rt; token.line, line, "of item {id}");
-            assert_eq!(rt; token.rows, 1, "of item {id}");
-            assert_eq!(rt; token.first_width as usize, raw.len(), "of item {id}");
-            assert_eq!(rt; token.last_width as usize, raw.len(), "of item {id}");
-            assert!(rt; !token.back);
+        for row in rows {
+            compare(&rt, &arena, id, row);
             id = id.saturating_add(1);
         }
         assert_eq!(rt; arena.len(), 7);
@@ -125,6 +176,74 @@ mod tests {
         assert_eq!(rt; arena.gap(2), b"\n\n".as_slice());
         assert_eq!(rt; arena.gap(3), b"".as_slice());
         assert_eq!(rt; arena.gap(7), b" \n".as_slice());
+        Ok(())
+    }
+
+    /// A mark, splices in items and in gaps, line ends of two bytes and comments of several rows.
+    #[test]
+    fn counts_lines_over_splices(rt: HostRuntime) -> Result<(), Fail> {
+        let bump = Bump::new(rt.alloc());
+        let text = b"\xef\xbb\xbfi\\\nnt x; \\\r\n\r\n/* a\r\n  bc */ y\\\n+??/\n";
+        let arena = build(&bump, text, Dialect::C11)?;
+        let rows: [Row<'_>; 6] = [
+            (
+                ItemKind::Identifier,
+                b"i\\\nnt",
+                3,
+                first(none()),
+                1,
+                2,
+                2,
+                2,
+            ),
+            (ItemKind::Identifier, b"x", 9, blanks(0), 2, 1, 1, 1),
+            (ItemKind::Punct, b";", 10, none(), 2, 1, 1, 1),
+            (
+                ItemKind::BlockComment,
+                b"/* a\r\n  bc */",
+                17,
+                spliced(blanks(1)),
+                4,
+                2,
+                4,
+                7,
+            ),
+            (ItemKind::Identifier, b"y", 31, blanks(0), 5, 1, 1, 1),
+            (ItemKind::Punct, b"+", 34, spliced(none()), 6, 1, 1, 1),
+        ];
+        let mut id = 0u32;
+        for row in rows {
+            compare(&rt, &arena, id, row);
+            id = id.saturating_add(1);
+        }
+        assert_eq!(rt; arena.len(), 6);
+        assert!(rt; arena.mark());
+        assert_eq!(rt; arena.gap(0), b"".as_slice());
+        assert_eq!(rt; arena.gap(3), b" \\\r\n\r\n".as_slice());
+        assert_eq!(rt; arena.gap(6), b"??/\n".as_slice());
+        Ok(())
+    }
+
+    /// Whether a backslash ends the last item.
+    #[test]
+    fn tells_a_backslash_at_the_end(rt: HostRuntime) -> Result<(), Fail> {
+        let cases: [(&[u8], Dialect, bool); 8] = [
+            (b"// a ??/", Dialect::C11, true),
+            (b"// a ??/", Dialect::C23, false),
+            (b"// a \\", Dialect::C23, true),
+            (b"// a \\\\\n\n", Dialect::C11, true),
+            (b"// a /", Dialect::C11, false),
+            (b"'\\", Dialect::C11, true),
+            (b"/* \\*/", Dialect::C11, false),
+            (b"'\\\\'", Dialect::C11, false),
+        ];
+        for (text, dialect, back) in cases {
+            assert!(rt; text.len() < 100);
+            let bump = Bump::new(rt.alloc());
+            let arena = build(&bump, text, dialect)?;
+            assert_eq!(rt; arena.len(), 1, "items of {text:?}");
+            assert_eq!(rt; arena.get(TokenId(0)).back, back, "the end of {text:?}");
+        }
         Ok(())
     }
 
@@ -138,15 +257,15 @@ mod tests {
     }
 
     #[test]
-    fn refuses_what_it_does_not_read(rt: HostRuntime) -> Result<(), Fail> {
+    fn refuses_what_has_no_arena(rt: HostRuntime) -> Result<(), Fail> {
         let bump = Bump::new(rt.alloc());
         let full = repeated(rt.alloc(), b' ', LIMIT)?;
         assert!(rt; build(&bump, full.as_slice(), Dialect::C23)?.is_empty());
         let larger = repeated(rt.alloc(), b'#', LIMIT + 1)?;
         let large = build(&bump, larger.as_slice(), Dialect::C11).err();
         assert_eq!(rt; large, Some(ArenaFault::TooLarge { bytes: 8_388_609 }));
-        let directive = build(&bump, b"a  #b", Dialect::C11).err();
-        assert_eq!(rt; directive, Some(ArenaFault::NotBuilt { at: 3 }));
+        let open = build(&bump, b"a; /* b", Dialect::C11).err();
+        assert_eq!(rt; open, Some(ArenaFault::UnterminatedComment { start: 3 }));
         Ok(())
     }
 
@@ -155,10 +274,8 @@ mod tests {
     fn takes_memory_for_its_items_alone(rt: HostRuntime) -> Result<(), Fail> {
         let bump = Bump::new(rt.alloc());
         let commas = repeated(rt.alloc(), b',', 100_000)?;
-        assert_eq!(rt;
-            build(&bump, commas.as_slice(), Dialect::C11)?.len(),
-            100_000
-        );
+        let arena = build(&bump, commas.as_slice(), Dialect::C11)?;
+        assert_eq!(rt; arena.len(), 100_000);
         assert!(rt; bump.allocated_bytes() < 100_000 * 48);
         Ok(())
     }
