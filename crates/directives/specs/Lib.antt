@@ -1,0 +1,5 @@
+pub mod Directives
+pub mod Keeping
+pub mod Nesting
+pub mod Sections
+pub mod Standing
