@@ -1,0 +1,14 @@
+pub mod Cover
+pub mod Live
+pub mod Items
+pub mod Together
+pub mod Examples
+pub mod Zeros
+pub mod Linked
+pub mod Walked
+pub mod Kept
+pub mod Order
+pub mod Places
+pub mod Bridge
+pub mod ZeroLemmas
+pub mod Within

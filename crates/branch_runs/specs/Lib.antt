@@ -1,0 +1,12 @@
+pub mod Zero
+pub mod Marks
+pub mod Cut
+pub mod Tree
+pub mod Reading
+pub mod Runs
+pub mod Dead
+pub mod Laws
+pub mod Links
+pub mod Fits
+pub mod Walk
+pub mod Front

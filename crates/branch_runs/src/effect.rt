@@ -1,0 +1,60 @@
+//! What each section does where it stands, and which items are dead.
+
+ghost use Rattle.std.specs.Prelude.{◌≡◌, ◌<◌, ◌≤◌, ◌+◌, ◌++◌, ◌^◌, [], length, replicate, IfOk};
+ghost use Rattle.branch_runs.specs.Reading.{effects, kind_in, open_after};
+ghost use Rattle.branch_runs.specs.Dead.{flags_in, groups_around, has_zero};
+
+use crate::open_groups::OpenGroups;
+use crate::{Mark, MarkKind, NoMemory};
+use bumpalo::Bump;
+use bumpalo::collections::into_bump_slice;
+
+// Adds a flag so many times.
+fn push_flags(flags: &mut Vec<bool, &Bump>, count: u32, flag: bool) -> Result<(), NoMemory>
+    ensures { IfOk result (λ _. flags.new.items ≡ flags.old.items ++ replicate count flag) }
+{
+    for _place in 0..count {
+        flags.push(flag)?;
+    }
+    Ok(())
+}
+
+// What a section does, and whether it is dead.
+fn enter(groups: &mut OpenGroups<'_>, kind: MarkKind) -> Result<(MarkKind, bool), NoMemory>
+    requires { length groups.old < 2 ^ 31 }
+    ensures kind { IfOk result (λ r. r.0 ≡ kind_in kind groups.old) }
+    ensures dead { IfOk result (λ r. r.1 ≡ has_zero (groups_around r.0 groups.old)) }
+    ensures after { IfOk result (λ r. groups.new ≡ open_after r.0 groups.old) }
+    ensures len { IfOk result (λ _. length groups.new ≤ length groups.old + 1) }
+{
+    let before = groups.is_dead();
+    let kind = groups.enter(kind)?;
+    let after = groups.is_dead();
+    Ok((kind, before && after))
+}
+
+/// The marks with what their sections do where they stand, and for each of so many items whether it stands in the
+/// group of a literal `#if 0`.
+pub(crate) fn effects<'a>(
+    marks: &[Mark],
+    items: u32,
+    bump: &'a Bump,
+) -> Result<(&'a [Mark], &'a [bool]), NoMemory>
+    requires { length marks.now < 2 ^ 31 }
+    ensures marks { IfOk result (λ r. r.0.now ≡ effects marks.now) }
+    ensures dead { IfOk result (λ r. r.1.now ≡ flags_in [] (effects marks.now)) }
+{
+    let mut groups = OpenGroups::new(bump);
+    let mut done = Vec::with_capacity(bump, marks.len())?;
+    let mut flags = Vec::with_capacity(bump, items as usize)?;
+    for mark in marks {
+        let (kind, dead) = enter(&mut groups, mark.kind)?;
+        done.push(Mark {
+            first: mark.first,
+            end: mark.end,
+            kind,
+        })?;
+        push_flags(&mut flags, mark.end.saturating_sub(mark.first), dead)?;
+    }
+    Ok((into_bump_slice(done), into_bump_slice(flags)))
+}

@@ -1,0 +1,22 @@
+//! The runs of a text: what each run sees where conditionals leave out groups (C11 6.10.1).
+//!
+//! A text whose `#if` and `#else` both hold code can't be laid out as one text. It is laid out once for
+//! each run; in a run each conditional takes one of its branches, and every item outside the groups of
+//! a literal `#if 0` is seen by some run. `docs/PROFILE.md`, "Runs", says which branch a run takes.
+#![tactic(auto)]
+
+mod effect;
+mod link;
+mod mark;
+mod node;
+mod open_groups;
+mod stack;
+#[cfg(test)]
+mod tests;
+mod tree;
+mod walk;
+mod zero;
+
+pub use mark::{Mark, MarkKind};
+pub use token_views::{NoMemory, TokenId, View};
+pub use tree::CondTree;

@@ -1,0 +1,106 @@
+//! The sections of a text, as conditionals see them.
+
+ghost use Rattle.std.specs.Prelude.{◌≡◌, ◌++◌, All, IfOk, length, map};
+ghost use Rattle.branch_runs.specs.Marks.{mark_of, kind_by, IsWithin};
+
+use crate::NoMemory;
+use crate::zero::is_if_zero;
+use bumpalo::Bump;
+use bumpalo::collections::into_bump_slice;
+use directives::{Nesting, Section, nesting_of};
+use token_arena::TokenArena;
+
+/// What a section does to the conditionals that are open.
+#[derive(Clone, Copy, Debug, PartialEq, Eq)]
+pub enum MarkKind {
+    /// It is a text.
+    Text,
+    /// It opens a conditional whose first group is that of a literal `#if 0`.
+    IfZero,
+    /// It opens any other conditional.
+    Opens,
+    /// It begins a branch, and others may follow.
+    Branch,
+    /// It begins the last branch.
+    LastBranch,
+    /// It ends a conditional.
+    Ends,
+    /// It is a directive that does nothing to them.
+    Flat,
+}
+
+/// A section, as conditionals see it.
+#[derive(Clone, Copy, Debug, PartialEq, Eq)]
+pub struct Mark {
+    /// Its first item.
+    pub first: u32,
+    /// The first item behind it.
+    pub end: u32,
+    /// What it does.
+    pub kind: MarkKind,
+}
+
+/// A conditional that is open, by the group of it that is being read.
+#[derive(Clone, Copy, Debug, PartialEq, Eq)]
+pub(crate) enum Open {
+    /// The group of a literal `#if 0`.
+    Zero,
+    /// The group behind `#else`.
+    Last,
+    /// Any other.
+    Live,
+}
+
+// What a directive of this nesting does, which is a literal `#if 0` or not.
+fn kind_by(is_zero: bool, nesting: Nesting) -> MarkKind
+    ensures { result ≡ kind_by is_zero nesting }
+{
+    match nesting {
+        Nesting::Opens => {
+            if is_zero {
+                MarkKind::IfZero
+            } else {
+                MarkKind::Opens
+            }
+        }
+        Nesting::Branch => MarkKind::Branch,
+        Nesting::LastBranch => MarkKind::LastBranch,
+        Nesting::Ends => MarkKind::Ends,
+        Nesting::Flat => MarkKind::Flat,
+    }
+}
+
+// The mark of a section.
+fn mark_of(arena: &TokenArena<'_, '_>, section: Section) -> Mark
+    requires { IsWithin (length arena.now.tokens) section }
+    ensures { result ≡ mark_of arena.now section }
+{
+    match section {
+        Section::Text { first, end } => Mark {
+            first,
+            end,
+            kind: MarkKind::Text,
+        },
+        Section::Dir(directive) => Mark {
+            first: directive.first,
+            end: directive.end,
+            kind: kind_by(is_if_zero(arena, directive), nesting_of(directive.kind)),
+        },
+    }
+}
+
+/// The marks of sections.
+pub(crate) fn marks_of<'a>(
+    arena: &TokenArena<'_, '_>,
+    sections: &[Section],
+    bump: &'a Bump,
+) -> Result<&'a [Mark], NoMemory>
+    requires { All (IsWithin (length arena.now.tokens)) sections.now }
+    ensures { IfOk result (λ marks. marks.now ≡ map (mark_of arena.now) sections.now) }
+{
+    let mut marks = Vec::with_capacity(bump, sections.len())?;
+    for section in sections {
+        marks.push(mark_of(arena, *section))?;
+    }
+    Ok(into_bump_slice(marks))
+}

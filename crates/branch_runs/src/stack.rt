@@ -1,0 +1,76 @@
+//! A list that grows and shrinks at its front.
+
+ghost use Rattle.std.specs.Prelude.{◌≡◌, [], ◌∷◌, IfOk, OnErr, MatchOption};
+ghost use Rattle.branch_runs.specs.Front.{IsFront};
+
+use crate::NoMemory;
+use bumpalo::Bump;
+use bumpalo::collections::into_bump_slice;
+use std::marker::Model;
+
+/// A stack. A contract sees the list of what it holds, the last pushed first.
+#[derive(Drop)]
+pub(crate) struct Stack<'a, T: Drop> {
+    items: Vec<T, &'a Bump>,
+}
+
+impl<'a, T: Drop> Model for Stack<'a, T> {
+    ghost use Rattle.std.specs.Prelude.{List, reverse};
+
+    ghost Value = { List T };
+
+    ghost view = { λ s. reverse s.items.items };
+}
+
+impl<'a, T: Drop> Stack<'a, T> {
+    /// A stack that holds nothing.
+    pub fn new(bump: &'a Bump) -> Self
+        ensures { result ≡ [] }
+    {
+        Stack {
+            items: Vec::new(bump),
+        }
+    }
+
+    /// A stack that holds nothing, with room for so many values before more memory is taken.
+    pub fn with_room(bump: &'a Bump, room: usize) -> Result<Self, NoMemory>
+        ensures { IfOk result (λ stack. stack ≡ []) }
+    {
+        Ok(Stack {
+            items: Vec::with_capacity(bump, room)?,
+        })
+    }
+
+    /// Puts a value to the front.
+    pub fn push(&mut self, x: T) -> Result<(), NoMemory>
+        ensures ok { IfOk result (λ _. self.new ≡ x ∷ self.old) }
+        ensures err { OnErr result (self.new ≡ self.old) }
+    {
+        self.items.push(x)?;
+        Ok(())
+    }
+
+    /// Takes the value at the front away.
+    pub fn pop(&mut self) -> Option<T>
+        ensures { MatchOption result ((self.old ≡ []) × (self.new ≡ [])) (λ x. self.old ≡ x ∷ self.new) }
+    {
+        self.items.pop()
+    }
+
+    /// The value at the front.
+    pub fn top(&self) -> Option<T>
+    where
+        T: Copy,
+        ensures { MatchOption result (self.now ≡ []) (λ x. IsFront self.now x) }
+    {
+        self.items.last().copied()
+    }
+
+    /// What it holds, the front first.
+    pub fn into_slice(mut self) -> &'a [T]
+        ensures { result.now ≡ self.entry }
+    {
+        self.items.reverse();
+        into_bump_slice(self.items)
+    }
+}

@@ -1,0 +1,115 @@
+//! The conditionals of a text, and what each run sees.
+
+ghost use Rattle.std.specs.Prelude.{◌≡◌, ◌<◌, ◌≤◌, ◌^◌, [], All, IfOk, length, map};
+ghost use Rattle.token_views.specs.Ids.{Increase};
+ghost use Rattle.directives.specs.Sections.{sections_of, IsCut};
+ghost use Rattle.branch_runs.specs.Marks.{marks_of};
+ghost use Rattle.branch_runs.specs.Reading.{read, effects};
+ghost use Rattle.branch_runs.specs.Runs.{need, view_of};
+ghost use Rattle.branch_runs.specs.Dead.{is_dead_in};
+ghost use Rattle.branch_runs.specs.Laws.{IsCovered, NeverParted};
+ghost use Rattle.branch_runs.specs.Cut.{IsCutFrom, end_of};
+
+use crate::effect::effects;
+use crate::link::nodes_of;
+use crate::mark::marks_of;
+use crate::node::Node;
+use crate::walk::stretches_of;
+use crate::{Mark, NoMemory};
+use bumpalo::Bump;
+use directives::Section;
+use std::marker::Model;
+use token_arena::TokenArena;
+use token_views::{TokenId, View};
+
+/// The conditionals of a text. A contract sees the marks of its sections, each with what it does where it stands.
+#[derive(Drop)]
+pub struct CondTree<'a> {
+    nodes: &'a [Node],
+    dead: &'a [bool],
+    count: u32,
+}
+
+impl<'a> Model for CondTree<'a> {
+    ghost use Rattle.std.specs.Prelude.{◌≡◌, ◌<◌, ◌^◌, List, [], map, length};
+    ghost use Rattle.branch_runs.specs.declared.mark.Mark.{Mark};
+    ghost use Rattle.branch_runs.specs.Reading.{read};
+    ghost use Rattle.branch_runs.specs.Links.{node_mark};
+    ghost use Rattle.branch_runs.specs.Fits.{FitNodes};
+    ghost use Rattle.branch_runs.specs.Cut.{IsCutFrom};
+    ghost use Rattle.branch_runs.specs.Dead.{flags_in};
+    ghost use Rattle.branch_runs.specs.Runs.{need};
+
+    ghost Value = { List Mark };
+
+    ghost view = { λ t. map node_mark t.nodes.now };
+
+    ghost invariant = { λ t. record { fit : FitNodes (map node_mark t.nodes.now) 0 t.nodes.now; need_is : t.count ≡ need (read (map node_mark t.nodes.now)); small : length t.nodes.now < 2 ^ 24; cut : IsCutFrom 0 (map node_mark t.nodes.now); flags : t.dead.now ≡ flags_in [] (map node_mark t.nodes.now) } };
+}
+
+impl<'a> CondTree<'a> {
+    /// Reads the conditionals from the sections of a text, which [`directives::sections`] gives.
+    pub fn build(
+        arena: &TokenArena<'_, '_>,
+        sections: &[Section],
+        bump: &'a Bump,
+    ) -> Result<CondTree<'a>, NoMemory>
+        requires sections { sections.now ≡ sections_of arena.now }
+        requires cut { IsCut 0 (length arena.now.tokens) sections.now }
+        ensures marks { IfOk result (λ tree. tree ≡ effects (marks_of arena.now)) }
+        ensures end { IfOk result (λ tree. end_of 0 tree ≡ length arena.now.tokens) }
+        ensures covered { IfOk result (λ _. IsCovered (marks_of arena.now)) }
+        ensures together { IfOk result (λ _. NeverParted (marks_of arena.now)) }
+    {
+        let items = arena.len();
+        let marks = marks_of(arena, sections, bump)?;
+        let tree = CondTree::of_marks(marks, items, bump)?;
+        Ok(tree)
+    }
+
+    /// Reads the conditionals from the marks of so many items.
+    pub(crate) fn of_marks(
+        marks: &[Mark],
+        items: u32,
+        bump: &'a Bump,
+    ) -> Result<CondTree<'a>, NoMemory>
+        requires small { length marks.now ≤ items }
+        requires limit { items < 2 ^ 24 }
+        requires cut { IsCutFrom 0 marks.now }
+        ensures marks { IfOk result (λ tree. tree ≡ effects marks.now) }
+        ensures end { IfOk result (λ tree. end_of 0 tree ≡ end_of 0 marks.now) }
+    {
+        let (marks, dead) = effects(marks, items, bump)?;
+        let (nodes, count) = nodes_of(marks, bump)?;
+        Ok(CondTree { nodes, dead, count })
+    }
+
+    /// How many runs there are.
+    #[tactic(auto, using(crate::proofs::Cover::need_some))]
+    pub fn runs(&self) -> u32
+        ensures need { result ≡ need (read self.now) }
+        ensures some { 1 ≤ result }
+    {
+        self.count
+    }
+
+    /// What a run sees.
+    pub fn view<'r>(&self, r: u32, run: &'r Bump) -> Result<View<'r>, NoMemory>
+        requires { r < need (read self.now) }
+        ensures view { IfOk result (λ view. view ≡ view_of (read self.now) r) }
+        ensures increase { IfOk result (λ view. Increase view) }
+        ensures within { IfOk result (λ view. All (λ id. id < end_of 0 self.now) view) }
+    {
+        let stretches = stretches_of(self.nodes, r, run)?;
+        let view = View::of_stretches(stretches, run)?;
+        Ok(view)
+    }
+
+    /// Whether an item stands in the group of a literal `#if 0`. It takes no memory.
+    pub fn is_dead(&self, id: TokenId) -> bool
+        requires { id.0 < end_of 0 self.now }
+        ensures { result ≡ is_dead_in [] self.now id.0 }
+    {
+        self.dead[id.0 as usize]
+    }
+}

@@ -1,0 +1,143 @@
+//! Views and their segments.
+
+ghost use Rattle.std.specs.Prelude.{◌≡◌, ◌≢◌, ◌<◌, ◌≤◌, ◌+◌, ◌-◌, ◌↔◌, ℕ, map, length, get_or, IsTrue, IfOk};
+ghost use Rattle.token_views.specs.Segments.{segment_bounds, ids_of, AreSegments, HasPlace, AscendFrom, bounds_of};
+ghost use Rattle.token_views.specs.Ids.{Increase};
+
+use bumpalo::Bump;
+use bumpalo::collections::into_bump_slice;
+use line_tokens::{NoMemory, TokenId};
+use std::marker::Model;
+
+/// Items that follow one another in a text, within a view.
+#[derive(Clone, Copy, Debug, PartialEq, Eq)]
+pub struct Segment {
+    /// The number of its first item.
+    pub first: u32,
+    /// The number of the first item behind it.
+    pub end: u32,
+    /// How many places the view has before it.
+    pub before: u32,
+}
+
+/// Items that follow one another in a text.
+#[derive(Clone, Copy, Debug, PartialEq, Eq)]
+pub struct Stretch {
+    /// The number of its first item.
+    pub first: u32,
+    /// The number of the first item behind it.
+    pub end: u32,
+}
+
+/// Some items of a text, in its order. A contract sees the list of their numbers.
+#[derive(Drop)]
+pub struct View<'r> {
+    segments: &'r [Segment],
+}
+
+impl<'r> Model for View<'r> {
+    ghost use Rattle.std.specs.Prelude.{List, ℕ, map};
+    ghost use Rattle.token_views.specs.Segments.{segment_bounds, ids_of, AreSegments};
+
+    ghost Value = { List ℕ };
+
+    ghost view = { λ v. ids_of (map segment_bounds v.segments.now) };
+
+    ghost invariant = { λ v. AreSegments v.segments.now };
+}
+
+impl<'r> View<'r> {
+    /// The view of these segments. It takes no memory.
+    pub fn from_segments(segments: &'r [Segment]) -> View<'r>
+        requires { AreSegments segments.now }
+        ensures items { result ≡ ids_of (map segment_bounds segments.now) }
+        ensures increase { Increase result }
+    {
+        View { segments }
+    }
+
+    /// The view of these stretches, with their places counted.
+    pub fn of_stretches(stretches: &[Stretch], run: &'r Bump) -> Result<View<'r>, NoMemory>
+        requires { AscendFrom 0 (map bounds_of stretches.now) }
+        ensures items { IfOk result (λ view. view ≡ ids_of (map bounds_of stretches.now)) }
+        ensures increase { IfOk result (λ view. Increase view) }
+    {
+        let mut segments = Vec::new(run);
+        let mut before = 0;
+        for stretch in stretches {
+            segments.push(Segment {
+                first: stretch.first,
+                end: stretch.end,
+                before,
+            })?;
+            before += stretch.end - stretch.first;
+        }
+        Ok(View::from_segments(into_bump_slice(segments)))
+    }
+
+    /// The segments, in the order of the text.
+    pub fn segments(&self) -> &'r [Segment]
+        ensures items { ids_of (map segment_bounds result.now) ≡ self.now }
+        ensures rule { AreSegments result.now }
+    {
+        self.segments
+    }
+
+    /// How many places there are.
+    pub fn len(&self) -> u32
+        ensures count { result ≡ length self.now }
+        ensures increase { Increase self.now }
+    {
+        let count = self.segments.len();
+        if count == 0 {
+            return 0;
+        }
+        let last = self.segments[count - 1];
+        last.before + (last.end - last.first)
+    }
+
+    /// Whether the view has no item.
+    pub fn is_empty(&self) -> bool
+        ensures { IsTrue result ↔ (length self.now ≡ 0) }
+    {
+        self.len() == 0
+    }
+
+    /// The item at a place, found by halving.
+    pub fn at(&self, k: u32) -> TokenId
+        requires { k < length self.now }
+        ensures { (d : ℕ) → get_or self.now k d ≡ result.0 }
+    {
+        let segment = self.segments[segment_at(self.segments, k)];
+        TokenId(segment.first + (k - segment.before))
+    }
+
+    /// Whether items of the text are left out directly before a place that isn't the first.
+    pub fn directive_before(&self, k: u32) -> bool
+        requires { k < length self.now }
+        ensures { IsTrue result ↔ ((0 < k) × (get_or self.now k 0 ≢ get_or self.now (k - 1) 0 + 1)) }
+    {
+        let segment = self.segments[segment_at(self.segments, k)];
+        k > 0 && segment.before == k
+    }
+}
+
+// The number of the segment that has a place.
+fn segment_at(segments: &[Segment], k: u32) -> usize
+    requires rule { AreSegments segments.now }
+    requires within { k < length (ids_of (map segment_bounds segments.now)) }
+    ensures within { result < length segments.now }
+    ensures has { HasPlace segments.now k result }
+{
+    let mut low = 0;
+    let mut high = segments.len();
+    while high - low > 1 {
+        let mid = low + (high - low) / 2;
+        if segments[mid].before <= k {
+            low = mid;
+        } else {
+            high = mid;
+        }
+    }
+    low
+}
