@@ -1,0 +1,4 @@
+pub mod Classes
+pub mod Partners
+pub mod Viewed
+pub mod Words

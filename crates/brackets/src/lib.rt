@@ -1,0 +1,18 @@
+//! Which brackets of a view belong together, and what the tokens of a view are spelled as far as that and the
+//! cut into lines depend on it.
+#![tactic(auto)]
+
+mod characters;
+mod class;
+mod class_sets;
+mod pairing;
+mod spelling;
+#[cfg(test)]
+mod tests;
+mod viewed;
+mod words;
+
+pub use class::TokenClass;
+pub use line_tokens::NoMemory;
+pub use pairing::partners_of_classes;
+pub use viewed::{classes, item_class, partners};

@@ -1,0 +1,166 @@
+//! Partners of brackets, found with a stack of the openers that wait.
+
+ghost use Rattle.std.specs.Prelude.{◌≡◌, ◌∷◌, [], ◌++◌, ◌<◌, ◌≤◌, ◌+◌, ◌^◌, reverse, IfOk, Option, Some, None, IfSome, IfNone, MatchOption, length, ℕ, All, OnOk, slice_set};
+ghost use Rattle.std.specs.Option.{ForSome, ForNone};
+ghost use Rattle.brackets.specs.Partners.{partners_of, count_braces, nearest_brace, topmost, is_round, is_square, bracket_step, matching_of, StandBefore};
+
+use crate::TokenClass;
+use bumpalo::Bump;
+use bumpalo::collections::into_bump_slice;
+use line_tokens::NoMemory;
+
+/// An opening bracket that waits for its partner.
+#[derive(Clone, Copy, Debug, Drop)]
+pub(crate) struct Opener {
+    pub place: u32,
+    pub kind: TokenClass,
+}
+
+#[tactic(auto, using(crate::proofs::BracketLemmas::no_brace))]
+/// Takes off the openers above the nearest brace, and the brace, and gives the brace's place.
+fn take_brace(stack: &mut Vec<Opener, &Bump>, braces: &mut usize) -> Option<u32>
+    requires { braces.old ≡ count_braces (reverse stack.old.items) }
+    ensures some { IfSome result (λ p. nearest_brace (reverse stack.old.items) ≡ Some (record { place = p; below = reverse stack.new.items })) }
+    ensures none { IfNone result (nearest_brace (reverse stack.old.items) ≡ None) }
+    ensures same { IfNone result (stack.new.items ≡ stack.old.items) }
+    ensures count { braces.new ≡ count_braces (reverse stack.new.items) }
+    ensures fewer { braces.new ≤ braces.old }
+{
+    if *braces == 0 {
+        return None;
+    }
+    while let Some(o) = stack.pop() {
+        if o.kind == TokenClass::OpenBrace {
+            *braces -= 1;
+            return Some(o.place);
+        }
+    }
+    None
+}
+
+/// Takes off the topmost opener, where it is a square one.
+fn take_square(stack: &mut Vec<Opener, &Bump>) -> Option<u32>
+    ensures some { IfSome result (λ p. topmost is_square (reverse stack.old.items) ≡ Some (record { place = p; below = reverse stack.new.items })) }
+    ensures none { IfNone result (topmost is_square (reverse stack.old.items) ≡ None) }
+    ensures same { IfNone result (stack.new.items ≡ stack.old.items) }
+    ensures count { count_braces (reverse stack.new.items) ≡ count_braces (reverse stack.old.items) }
+{
+    match stack.last() {
+        Some(o) => {
+            if o.kind == TokenClass::OpenSquare {
+                let place = o.place;
+                let _ = stack.pop();
+                Some(place)
+            } else {
+                None
+            }
+        }
+        None => None,
+    }
+}
+
+/// Takes off the topmost opener, where it is a round one.
+fn take_round(stack: &mut Vec<Opener, &Bump>) -> Option<u32>
+    ensures some { IfSome result (λ p. topmost is_round (reverse stack.old.items) ≡ Some (record { place = p; below = reverse stack.new.items })) }
+    ensures none { IfNone result (topmost is_round (reverse stack.old.items) ≡ None) }
+    ensures same { IfNone result (stack.new.items ≡ stack.old.items) }
+    ensures count { count_braces (reverse stack.new.items) ≡ count_braces (reverse stack.old.items) }
+{
+    match stack.last() {
+        Some(o) => {
+            if o.kind == TokenClass::OpenRound {
+                let place = o.place;
+                let _ = stack.pop();
+                Some(place)
+            } else {
+                None
+            }
+        }
+        None => None,
+    }
+}
+
+/// Makes the two places partners.
+fn match_up(partners: &mut [Option<u32>], o: u32, i: u32)
+    requires opener { o < length partners.old }
+    requires closer { i < length partners.old }
+    ensures { partners.new ≡ slice_set (slice_set partners.old o (Some i)) i (Some o) }
+{
+    partners[o as usize] = Some(i);
+    partners[i as usize] = Some(o);
+}
+
+/// Makes the opener and the closer partners, where the closer has one.
+fn close(partners: &mut [Option<u32>], o: Option<u32>, i: u32)
+    requires opener { ForSome o (λ p. p < length partners.old) }
+    requires closer { i < length partners.old }
+    ensures some { ForSome o (λ p. partners.new ≡ slice_set (slice_set partners.old p (Some i)) i (Some p)) }
+    ensures none { ForNone o (partners.new ≡ partners.old) }
+{
+    if let Some(p) = o {
+        match_up(partners, p, i);
+    }
+}
+
+/// One token.
+fn bracket_step(
+    stack: &mut Vec<Opener, &Bump>,
+    braces: &mut usize,
+    partners: &mut [Option<u32>],
+    i: u32,
+    c: TokenClass,
+) -> Result<(), NoMemory>
+    requires count { braces.old ≡ count_braces (reverse stack.old.items) }
+    requires small { braces.old ≤ i }
+    requires before { StandBefore i (reverse stack.old.items) }
+    requires here { i < length partners.old }
+    ensures step { OnOk result (matching_of stack.new.items partners.new ≡ bracket_step c i (matching_of stack.old.items partners.old)) }
+    ensures count { OnOk result (braces.new ≡ count_braces (reverse stack.new.items)) }
+    ensures small { OnOk result (braces.new ≤ i + 1) }
+    ensures before { OnOk result (StandBefore (i + 1) (reverse stack.new.items)) }
+{
+    match c {
+        TokenClass::OpenRound | TokenClass::OpenSquare => {
+            stack.push(Opener { place: i, kind: c })?;
+            Ok(())
+        }
+        TokenClass::OpenBrace => {
+            *braces += 1;
+            stack.push(Opener { place: i, kind: c })?;
+            Ok(())
+        }
+        TokenClass::CloseRound => {
+            let o = take_round(stack);
+            close(partners, o, i);
+            Ok(())
+        }
+        TokenClass::CloseSquare => {
+            let o = take_square(stack);
+            close(partners, o, i);
+            Ok(())
+        }
+        TokenClass::CloseBrace => {
+            let o = take_brace(stack, braces);
+            close(partners, o, i);
+            Ok(())
+        }
+        _ => Ok(()),
+    }
+}
+
+/// The partner of each place of a view, by the classes of its tokens.
+pub fn partners_of_classes<'r>(
+    classes: &[TokenClass],
+    run: &'r Bump,
+) -> Result<&'r [Option<u32>], NoMemory>
+    requires { length classes.now < 2 ^ 32 }
+    ensures { IfOk result (λ partners. partners.now ≡ partners_of classes.now) }
+{
+    let mut partners = vec![in run; None; classes.len()]?;
+    let mut stack: Vec<Opener, &Bump> = Vec::new(run);
+    let mut braces: usize = 0;
+    for (i, c) in classes.iter().enumerate() {
+        bracket_step(&mut stack, &mut braces, &mut partners, i as u32, *c)?;
+    }
+    Ok(into_bump_slice(partners))
+}

@@ -1,0 +1,79 @@
+//! The classes and partners of the places of a view.
+
+ghost use Rattle.std.specs.Prelude.{◌≡◌, ◌<◌, ◌≤◌, length, IfOk};
+ghost use Rattle.c_chars.specs.declared.TheConstants.{LIMIT};
+ghost use Rattle.brackets.specs.Partners.{partners_of};
+ghost use Rattle.brackets.specs.Viewed.{AreWithin, item_class, classes_of};
+
+use crate::class::TokenClass;
+use crate::pairing::partners_of_classes;
+use crate::{spelling, words};
+use bumpalo::Bump;
+use bumpalo::collections::into_bump_slice;
+use line_tokens::{NoMemory, TokenId};
+use token_arena::{ItemKind, TokenArena};
+use token_views::View;
+
+/// The class of an item.
+pub fn item_class(
+    arena: &TokenArena<'_, '_>,
+    id: TokenId,
+    run: &Bump,
+) -> Result<TokenClass, NoMemory>
+    requires { id.0 < length arena.now.tokens }
+    ensures { IfOk result (λ class. class ≡ item_class arena.now id.0) }
+{
+    let token = arena.get(id);
+    match token.item.kind {
+        ItemKind::Identifier => {
+            let spelled = spelling::spelling(arena.dialect(), token.item.raw, run)?;
+            Ok(words::word_class(spelled))
+        }
+        ItemKind::Punct => {
+            let spelled = spelling::spelling(arena.dialect(), token.item.raw, run)?;
+            Ok(words::punctuator_class(spelled))
+        }
+        ItemKind::StringLit => Ok(TokenClass::Text),
+        ItemKind::LineComment => Ok(TokenClass::LineComment),
+        ItemKind::BlockComment => Ok(TokenClass::BlockComment),
+        ItemKind::Number
+        | ItemKind::CharConst
+        | ItemKind::HeaderName
+        | ItemKind::StrayQuote
+        | ItemKind::Other => Ok(TokenClass::Other),
+    }
+}
+
+/// The class of each place of a view.
+pub fn classes<'r>(
+    arena: &TokenArena<'_, '_>,
+    view: &View<'_>,
+    run: &'r Bump,
+) -> Result<&'r [TokenClass], NoMemory>
+    requires { AreWithin arena.now view.now }
+    ensures classes { IfOk result (λ classes. classes.now ≡ classes_of arena.now view.now) }
+    ensures few { IfOk result (λ classes. length classes.now ≤ LIMIT) }
+{
+    let count = view.len();
+    let items = arena.len();
+    prove!(count <= items);
+    let mut classes = Vec::new(run);
+    for k in 0..count {
+        classes.push(item_class(arena, view.at(k), run)?)?;
+    }
+    Ok(into_bump_slice(classes))
+}
+
+/// The partner of each place of a view: the place of the other bracket of its pair, none for every other token.
+///
+/// Brackets pair as `docs/PROFILE.md` says under "Partners". Want of memory is the only error.
+pub fn partners<'r>(
+    arena: &TokenArena<'_, '_>,
+    view: &View<'_>,
+    run: &'r Bump,
+) -> Result<&'r [Option<u32>], NoMemory>
+    requires { AreWithin arena.now view.now }
+    ensures { IfOk result (λ partners. partners.now ≡ partners_of (classes_of arena.now view.now)) }
+{
+    partners_of_classes(classes(arena, view, run)?, run)
+}

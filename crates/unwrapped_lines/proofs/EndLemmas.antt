@@ -1,0 +1,183 @@
+-- Lemmas on the level at a view's end.
+use Rattle.std.proofs.Common.{◌≡◌, ℕ, zero, suc, ◌+◌, ◌-◌, ◌*◌, ◌<◌, ◌≤◌, nat_lt, Bool, true, false, ◌&&◌, List, [], ◌∷◌, ◌++◌, length, reverse, refl, arith, sym, ◌∙◌, ap, subst}
+use Rattle.unwrapped_lines.specs.declared.token.CodeToken.{CodeToken}
+use Rattle.unwrapped_lines.specs.declared.braces.Braces.{Braces}
+use Rattle.unwrapped_lines.specs.declared.open.Open.{Open}
+use Rattle.unwrapped_lines.specs.declared.open.Start.{Start}
+use Rattle.unwrapped_lines.specs.declared.open.Start.TheVariants.{Fresh, Closing}
+use Rattle.unwrapped_lines.specs.declared.open.Head.{Head}
+use Rattle.unwrapped_lines.specs.declared.form.Form.{Form}
+use Rattle.unwrapped_lines.specs.declared.form.Next.TheVariants.{Ends, Goes, Waits, Opens}
+use Rattle.brackets.specs.Classes.{is_else}
+use Rattle.unwrapped_lines.specs.Forms.{IsLow, StaysIn, form_of, seen, tail_end, is_if_head, is_do_head}
+use Rattle.unwrapped_lines.specs.Tree.{end_level_from, end_level, settled, Reading, body_of, whole_file}
+use Rattle.unwrapped_lines.specs.Stack.{OpenToEnd, LeadsToEnd}
+use Rattle.unwrapped_lines.proofs.Lists.{reverse_snoc}
+use Rattle.unwrapped_lines.proofs.StackLemmas.{choice_keeps, settled_low, lt_true}
+use Rattle.unwrapped_lines.proofs.TurnLemmas.{stays_at, low_up}
+
+-- ## Lists that are open to the end
+
+pub open_later : (whole at to : ℕ) (os : List Open) → at ≤ to → OpenToEnd whole at os → OpenToEnd whole to os
+open_later whole at to [] h k = tt
+open_later whole at to (o ∷ os) h k =
+    (k.0, ((let q = k.1.0 in omega arith), ((let q = k.1.1.0 in omega arith), open_later whole at to os h k.1.1.1)))
+
+pub settled_open : (tokens : List CodeToken) (i whole at : ℕ) (os : List Open) → OpenToEnd whole at os → OpenToEnd whole at (settled tokens i os).opens
+settled_open tokens i whole at [] h = h
+settled_open tokens i whole at (o ∷ os) h =
+    elim o.block as (λ b. let p = record o { block = b } in OpenToEnd whole at (p ∷ os) → OpenToEnd whole at (settled tokens i (p ∷ os)).opens) [
+      | true ↦ λ k. k
+      | false ↦ λ k. choice_keeps (λ x. OpenToEnd whole at x) (is_if_head o.head && is_else (seen tokens o.end i)) (is_do_head o.head && nat_lt i (tail_end tokens o.end i)) os (settled tokens i os) k.1.1.1 (settled_open tokens i whole at os k.1.1.1)
+    ] h
+
+-- ## One line
+
+lt_false : (a b : ℕ) → b ≤ a → nat_lt a b ≡ false
+lt_false a b h = grind arith
+
+pub end_here : (n : ℕ) (braces : Braces) (tokens : List CodeToken) (os : List Open) (o : Open) (start : Start) (at : ℕ)
+    → 0 < n → o.end ≤ at → end_level_from n braces tokens (o ∷ os) start at ≡ o.level
+end_here zero braces tokens os o start at some h = absurd (omega arith)
+end_here (suc n) braces tokens os o start at some h = let e : nat_lt at o.end ≡ false = grind arith in rw (e, end_level_from) refl
+
+end_ends : (n : ℕ) (braces : Braces) (tokens : List CodeToken) (os : List Open) (o : Open) (start : Start) (at : ℕ) (f : Form)
+    → nat_lt at o.end ≡ true → form_of braces tokens o start at ≡ f → f.next ≡ Ends
+    → end_level_from (suc n) braces tokens (o ∷ os) start at
+    ≡ end_level_from n braces tokens (settled tokens f.end (o ∷ os)).opens (settled tokens f.end (o ∷ os)).start f.end
+end_ends n braces tokens os o start at f lt e q =
+    let P : Form → Type 0 = λ g. g.next ≡ Ends → end_level_from (suc n) braces tokens (o ∷ os) start at ≡ end_level_from n braces tokens (settled tokens g.end (o ∷ os)).opens (settled tokens g.end (o ∷ os)).start g.end in
+    subst P e (λ k. rw (lt, k, end_level_from) refl) q
+
+end_goes : (n : ℕ) (braces : Braces) (tokens : List CodeToken) (os : List Open) (o : Open) (start : Start) (at : ℕ) (f : Form) (s : Start)
+    → nat_lt at o.end ≡ true → form_of braces tokens o start at ≡ f → f.next ≡ Goes s
+    → end_level_from (suc n) braces tokens (o ∷ os) start at ≡ end_level_from n braces tokens (o ∷ os) s f.end
+end_goes n braces tokens os o start at f s lt e q =
+    let P : Form → Type 0 = λ g. g.next ≡ Goes s → end_level_from (suc n) braces tokens (o ∷ os) start at ≡ end_level_from n braces tokens (o ∷ os) s g.end in
+    subst P e (λ k. rw (lt, k, end_level_from) refl) q
+
+end_waits : (n : ℕ) (braces : Braces) (tokens : List CodeToken) (os : List Open) (o : Open) (start : Start) (at : ℕ) (f : Form) (h : Head)
+    → nat_lt at o.end ≡ true → form_of braces tokens o start at ≡ f → f.next ≡ Waits h
+    → end_level_from (suc n) braces tokens (o ∷ os) start at ≡ end_level_from n braces tokens (body_of o h f.level ∷ o ∷ os) Fresh f.end
+end_waits n braces tokens os o start at f h lt e q =
+    let P : Form → Type 0 = λ g. g.next ≡ Waits h → end_level_from (suc n) braces tokens (o ∷ os) start at ≡ end_level_from n braces tokens (body_of o h g.level ∷ o ∷ os) Fresh g.end in
+    subst P e (λ k. rw (lt, k, end_level_from) refl) q
+
+end_past : (n : ℕ) (braces : Braces) (tokens : List CodeToken) (os : List Open) (o : Open) (start : Start) (at : ℕ) (f : Form) (w : Bool) (b : Open)
+    → nat_lt at o.end ≡ true → form_of braces tokens o start at ≡ f → f.next ≡ Opens w b → nat_lt b.end o.end ≡ true
+    → end_level_from (suc n) braces tokens (o ∷ os) start at ≡ end_level_from n braces tokens (o ∷ os) (Closing b) b.end
+end_past n braces tokens os o start at f w b lt e q before =
+    let P : Form → Type 0 = λ g. g.next ≡ Opens w b → end_level_from (suc n) braces tokens (o ∷ os) start at ≡ end_level_from n braces tokens (o ∷ os) (Closing b) b.end in
+    subst P e (λ k. rw (lt, k, before, end_level_from) refl) q
+
+end_into : (n : ℕ) (braces : Braces) (tokens : List CodeToken) (os : List Open) (o : Open) (start : Start) (at : ℕ) (f : Form) (w : Bool) (b : Open)
+    → nat_lt at o.end ≡ true → form_of braces tokens o start at ≡ f → f.next ≡ Opens w b → nat_lt b.end o.end ≡ false
+    → end_level_from (suc n) braces tokens (o ∷ os) start at ≡ end_level_from n braces tokens (b ∷ []) Fresh (f.end + 1)
+end_into n braces tokens os o start at f w b lt e q before =
+    let P : Form → Type 0 = λ g. g.next ≡ Opens w b → end_level_from (suc n) braces tokens (o ∷ os) start at ≡ end_level_from n braces tokens (b ∷ []) Fresh (g.end + 1) in
+    subst P e (λ k. rw (lt, k, before, end_level_from) refl) q
+
+-- ## Between two lines
+
+-- from one place to a later one, with one line read
+leads : (fuel at to : ℕ) (braces : Braces) (tokens : List CodeToken) (os os' : List Open) (start start' : Start)
+    → length tokens - at < fuel → end_level_from fuel braces tokens os start at ≡ end_level braces tokens → at < to → at < length tokens
+    → ((n : ℕ) → end_level_from (suc n) braces tokens os start at ≡ end_level_from n braces tokens os' start' to)
+    → OpenToEnd (length tokens) to os' → IsLow to start' → LeadsToEnd braces tokens os' start' to
+leads zero at to braces tokens os os' start start' enough same up within step opens low = absurd (omega arith)
+leads (suc n) at to braces tokens os os' start start' enough same up within step opens low =
+    record { fuel = n; enough = (omega arith); same = sym (step n) ∙ same; open_lists = opens; low = low }
+
+move_stack : (braces : Braces) (tokens : List CodeToken) (os os' : List Open) (start : Start) (at : ℕ) → os ≡ os' → LeadsToEnd braces tokens os start at → LeadsToEnd braces tokens os' start at
+move_stack braces tokens os os' start at e h = let P : List Open → Type 0 = λ x. LeadsToEnd braces tokens x start at in subst P e h
+
+move_reading : (braces : Braces) (tokens : List CodeToken) (r r' : Reading) (at : ℕ) → r ≡ r' → LeadsToEnd braces tokens r.opens r.start at → LeadsToEnd braces tokens r'.opens r'.start at
+move_reading braces tokens r r' at e h = let P : Reading → Type 0 = λ x. LeadsToEnd braces tokens x.opens x.start at in subst P e h
+
+pub ends_skip : (braces : Braces) (tokens : List CodeToken) (o : Open) (stack0 stack1 stack2 : List Open) (start s2 : Start) (at : ℕ) (f : Form)
+    → LeadsToEnd braces tokens (o ∷ reverse stack0) start at → at < o.end → form_of braces tokens o start at ≡ f → f.next ≡ Ends → StaysIn at o f f.next
+    → stack1 ≡ stack0 ++ o ∷ [] → settled tokens f.end (reverse stack1) ≡ record { opens = reverse stack2; start = s2 }
+    → LeadsToEnd braces tokens (reverse stack2) s2 f.end
+ends_skip braces tokens o stack0 stack1 stack2 start s2 at f s lt e q stay es r =
+    let h = stays_at at o f Ends q stay in
+    let up : at < f.end = h.0 in
+    let end : o.end ≡ length tokens = s.open_lists.0 in
+    let os : List Open = o ∷ reverse stack0 in
+    let t = leads s.fuel at f.end braces tokens os (settled tokens f.end os).opens start (settled tokens f.end os).start s.enough s.same up (omega arith)
+    (λ n. end_ends n braces tokens (reverse stack0) o start at f (lt_true at o.end lt) e q)
+    (settled_open tokens f.end (length tokens) f.end os (open_later (length tokens) at f.end os (omega arith) s.open_lists)) (settled_low tokens f.end f.end os) in
+    move_reading braces tokens (settled tokens f.end os) (record { opens = reverse stack2; start = s2 }) f.end (rw (reverse_snoc stack0 stack1 o es) at r) t
+
+pub goes_skip : (braces : Braces) (tokens : List CodeToken) (o : Open) (stack0 stack1 : List Open) (start g : Start) (at : ℕ) (f : Form)
+    → LeadsToEnd braces tokens (o ∷ reverse stack0) start at → at < o.end → form_of braces tokens o start at ≡ f → f.next ≡ Goes g → StaysIn at o f f.next
+    → stack1 ≡ stack0 ++ o ∷ [] → LeadsToEnd braces tokens (reverse stack1) g f.end
+goes_skip braces tokens o stack0 stack1 start g at f s lt e q stay es =
+    let h = stays_at at o f (Goes g) q stay in
+    let up : at < f.end = h.0 in
+    let end : o.end ≡ length tokens = s.open_lists.0 in
+    let os : List Open = o ∷ reverse stack0 in
+    move_stack braces tokens os (reverse stack1) g f.end (sym (reverse_snoc stack0 stack1 o es))
+    (leads s.fuel at f.end braces tokens os os start g s.enough s.same up (omega arith)
+    (λ n. end_goes n braces tokens (reverse stack0) o start at f g (lt_true at o.end lt) e q)
+    (open_later (length tokens) at f.end os (omega arith) s.open_lists) (low_up at f.end g (omega arith) h.1.1))
+
+pub waits_skip : (braces : Braces) (tokens : List CodeToken) (o b : Open) (stack0 stack1 stack2 : List Open) (start : Start) (at : ℕ) (f : Form) (k : Head)
+    → LeadsToEnd braces tokens (o ∷ reverse stack0) start at → at < o.end → form_of braces tokens o start at ≡ f → f.next ≡ Waits k → StaysIn at o f f.next → f.level ≤ 2 * at
+    → stack1 ≡ stack0 ++ o ∷ [] → b ≡ body_of o k f.level → stack2 ≡ stack1 ++ b ∷ []
+    → LeadsToEnd braces tokens (reverse stack2) Fresh f.end
+waits_skip braces tokens o b stack0 stack1 stack2 start at f k s lt e q stay level es eb es2 =
+    let h = stays_at at o f (Waits k) q stay in
+    let up : at < f.end = h.0 in
+    let end : o.end ≡ length tokens = s.open_lists.0 in
+    let os : List Open = o ∷ reverse stack0 in
+    let r2 : reverse stack2 ≡ b ∷ reverse stack1 = reverse_snoc stack1 stack2 b es2 in
+    let r1 : reverse stack1 ≡ o ∷ reverse stack0 = reverse_snoc stack0 stack1 o es in
+    move_stack braces tokens (body_of o k f.level ∷ os) (reverse stack2) Fresh f.end (cc)
+    (leads s.fuel at f.end braces tokens os (body_of o k f.level ∷ os) start Fresh s.enough s.same up (omega arith)
+    (λ n. end_waits n braces tokens (reverse stack0) o start at f k (lt_true at o.end lt) e q)
+    (end, ((omega arith), ((omega arith), open_later (length tokens) at f.end os (omega arith) s.open_lists))) tt)
+
+pub past_skip : (braces : Braces) (tokens : List CodeToken) (o b : Open) (stack0 stack1 : List Open) (start : Start) (at : ℕ) (f : Form) (w : Bool)
+    → LeadsToEnd braces tokens (o ∷ reverse stack0) start at → at < o.end → form_of braces tokens o start at ≡ f → f.next ≡ Opens w b → StaysIn at o f f.next → f.level ≤ 2 * at
+    → b.end < o.end → stack1 ≡ stack0 ++ o ∷ [] → LeadsToEnd braces tokens (reverse stack1) (Closing b) b.end
+past_skip braces tokens o b stack0 stack1 start at f w s lt e q stay level before es =
+    let h = stays_at at o f (Opens w b) q stay in
+    let begins : at ≤ f.end = h.begins in
+    let on : f.end < b.end = h.goes_on in
+    let low : b.head_level ≤ f.level = h.head_level in
+    let end : o.end ≡ length tokens = s.open_lists.0 in
+    let os : List Open = o ∷ reverse stack0 in
+    move_stack braces tokens os (reverse stack1) (Closing b) b.end (sym (reverse_snoc stack0 stack1 o es))
+    (leads s.fuel at b.end braces tokens os os start (Closing b) s.enough s.same (omega arith) (omega arith)
+    (λ n. end_past n braces tokens (reverse stack0) o start at f w b (lt_true at o.end lt) e q (lt_true b.end o.end before))
+    (open_later (length tokens) at b.end os (omega arith) s.open_lists) (omega arith))
+
+pub into_skip : (braces : Braces) (tokens : List CodeToken) (o b : Open) (stack0 stack1 stack2 : List Open) (start : Start) (at : ℕ) (f : Form) (w : Bool)
+    → LeadsToEnd braces tokens (o ∷ reverse stack0) start at → at < o.end → form_of braces tokens o start at ≡ f → f.next ≡ Opens w b → StaysIn at o f f.next → f.level ≤ 2 * at
+    → o.end ≤ b.end → stack1 ≡ [] → stack2 ≡ stack1 ++ b ∷ [] → LeadsToEnd braces tokens (reverse stack2) Fresh (f.end + 1)
+into_skip braces tokens o b stack0 stack1 stack2 start at f w s lt e q stay level after es es2 =
+    let h = stays_at at o f (Opens w b) q stay in
+    let begins : at ≤ f.end = h.begins in
+    let inside : b.end ≤ o.end = h.ends in
+    let l1 : b.level ≤ f.level + 2 = h.level in
+    let l2 : b.case_level ≤ f.level + 2 = h.case_level in
+    let end : o.end ≡ length tokens = s.open_lists.0 in
+    let not_before = lt_false b.end o.end after in
+    let only : b ∷ [] ≡ stack2 = cc in
+    move_stack braces tokens (b ∷ []) (reverse stack2) Fresh (f.end + 1) (ap reverse only)
+    (leads s.fuel at (f.end + 1) braces tokens (o ∷ reverse stack0) (b ∷ []) start Fresh s.enough s.same (omega arith) (omega arith)
+    (λ n. end_into n braces tokens (reverse stack0) o start at f w b (lt_true at o.end lt) e q not_before)
+    ((omega arith), ((omega arith), ((omega arith), tt))) tt)
+
+-- ## The start
+
+pub leads_from_start : (braces : Braces) (tokens : List CodeToken) → LeadsToEnd braces tokens (whole_file tokens ∷ []) Fresh 0
+leads_from_start braces tokens =
+    record { fuel = length tokens + 1; enough = (omega arith); same = refl; open_lists = (refl, ((omega arith), ((omega arith), tt))); low = tt }
+
+-- the list that is open where the view ends
+pub end_found : (braces : Braces) (tokens : List CodeToken) (stack0 stack1 : List Open) (o : Open) (start : Start) (at : ℕ)
+    → stack1 ≡ stack0 ++ o ∷ [] → LeadsToEnd braces tokens (reverse stack1) start at → o.end ≤ at → o.level ≡ end_level braces tokens
+end_found braces tokens stack0 stack1 o start at e h within =
+    let s = move_stack braces tokens (reverse stack1) (o ∷ reverse stack0) start at (reverse_snoc stack0 stack1 o e) h in
+    sym (end_here s.fuel braces tokens (reverse stack0) o start at (let q = s.enough in omega arith) within) ∙ s.same

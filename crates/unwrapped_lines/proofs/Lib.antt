@@ -1,0 +1,9 @@
+pub mod Lists
+pub mod Examples
+pub mod ScanLemmas
+pub mod StackLemmas
+pub mod FormLemmas
+pub mod TurnLemmas
+pub mod EndLemmas
+pub mod CutLemmas
+pub mod ColonLemmas

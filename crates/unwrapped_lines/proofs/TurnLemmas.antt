@@ -1,0 +1,131 @@
+-- What the code's writes leave.
+use Rattle.std.proofs.Common.{◌≡◌, ℕ, ◌+◌, ◌*◌, ◌<◌, ◌≤◌, Bool, true, false, List, [], ◌∷◌, ◌++◌, length, reverse, Some, None, Result, Ok, Err, IfOk, ◌-◌, refl, arith, sym, ◌∙◌, subst}
+use Rattle.unwrapped_lines.specs.declared.token.CodeToken.{CodeToken}
+use Rattle.unwrapped_lines.specs.declared.line.Line.{Line}
+use Rattle.unwrapped_lines.specs.declared.braces.Braces.{Braces}
+use Rattle.unwrapped_lines.specs.declared.open.Open.{Open}
+use Rattle.unwrapped_lines.specs.declared.open.Start.{Start}
+use Rattle.unwrapped_lines.specs.declared.open.Start.TheVariants.{Fresh, Tail, Closing}
+use Rattle.unwrapped_lines.specs.declared.form.Form.{Form}
+use Rattle.unwrapped_lines.specs.declared.open.Head.{Head}
+use Rattle.unwrapped_lines.specs.declared.tree.Place.{Place}
+use Rattle.unwrapped_lines.specs.declared.form.Next.{Next}
+use Rattle.unwrapped_lines.specs.declared.form.Next.TheVariants.{Ends, Goes, Waits, Opens}
+use Rattle.unwrapped_lines.specs.Forms.{IsLow, StaysIn, form_of}
+use Rattle.unwrapped_lines.specs.Tree.{settled, Reading, line_of, head_lines, body_of}
+use Rattle.unwrapped_lines.specs.Stack.{left, Stands}
+use Rattle.unwrapped_lines.proofs.Lists.{reverse_snoc}
+use Rattle.unwrapped_lines.proofs.StackLemmas.{stands_ends, stands_goes, stands_waits, stands_opens, stands_leaves, leaves, left_some, fits_within}
+
+put : (braces : Braces) (tokens : List CodeToken) (out out' : List Line) (os os' : List Open) (start : Start) (at : ℕ)
+    → out ≡ out' → os ≡ os' → Stands braces tokens out os start at → Stands braces tokens out' os' start at
+put braces tokens out out' os os' start at e q s =
+    let P : List Line → Type 0 = λ x. Stands braces tokens x os start at in
+    let Q : List Open → Type 0 = λ x. Stands braces tokens out' x start at in
+    subst Q q (subst P e s)
+
+put_reading : (braces : Braces) (tokens : List CodeToken) (out : List Line) (r r' : Reading) (at : ℕ)
+    → r ≡ r' → Stands braces tokens out r.opens r.start at → Stands braces tokens out r'.opens r'.start at
+put_reading braces tokens out r r' at e s = let P : Reading → Type 0 = λ x. Stands braces tokens out x.opens x.start at in subst P e s
+
+pub stays_at : (at : ℕ) (o : Open) (f : Form) (n : Next) → f.next ≡ n → StaysIn at o f f.next → StaysIn at o f n
+stays_at at o f n e h = let P : Next → Type 0 = λ x. StaysIn at o f x in subst P e h
+
+pushed_line : (out0 out1 : List Line) (x y : Line) → x ≡ y → out1 ≡ out0 ++ x ∷ [] → out0 ++ y ∷ [] ≡ out1
+pushed_line out0 out1 x y e q = cc
+
+pub ends_turn : (braces : Braces) (tokens : List CodeToken) (out0 out1 : List Line) (line : Line) (o : Open) (stack0 stack1 stack2 : List Open) (start s2 : Start) (at : ℕ) (f : Form)
+    → Stands braces tokens out0 (o ∷ reverse stack0) start at → at < o.end → form_of braces tokens o start at ≡ f → f.next ≡ Ends → StaysIn at o f f.next
+    → line ≡ line_of o start at f → out1 ≡ out0 ++ line ∷ [] → stack1 ≡ stack0 ++ o ∷ []
+    → settled tokens f.end (reverse stack1) ≡ record { opens = reverse stack2; start = s2 }
+    → Stands braces tokens out1 (reverse stack2) s2 f.end
+ends_turn braces tokens out0 out1 line o stack0 stack1 stack2 start s2 at f s lt e q stay l eo es r =
+    let h = stays_at at o f Ends q stay in
+    let t = stands_ends braces tokens out0 o (reverse stack0) start at f s lt e q h.0 h.1 in
+    let k = put_reading braces tokens (out0 ++ line_of o start at f ∷ []) (settled tokens f.end (o ∷ reverse stack0)) (record { opens = reverse stack2; start = s2 }) f.end (rw (reverse_snoc stack0 stack1 o es) at r) t in
+    put braces tokens _ out1 _ (reverse stack2) s2 f.end (pushed_line out0 out1 line (line_of o start at f) l eo) refl k
+
+pub low_up : (at to : ℕ) (g : Start) → at ≤ to → IsLow at g → IsLow to g
+low_up at to Fresh h k = tt
+low_up at to Tail h k = tt
+low_up at to (Closing b) h k = omega arith
+
+pub goes_turn : (braces : Braces) (tokens : List CodeToken) (out0 out1 : List Line) (line : Line) (o : Open) (stack0 stack1 : List Open) (start g : Start) (at : ℕ) (f : Form)
+    → Stands braces tokens out0 (o ∷ reverse stack0) start at → at < o.end → form_of braces tokens o start at ≡ f → f.next ≡ Goes g → StaysIn at o f f.next
+    → line ≡ line_of o start at f → out1 ≡ out0 ++ line ∷ [] → stack1 ≡ stack0 ++ o ∷ []
+    → Stands braces tokens out1 (reverse stack1) g f.end
+goes_turn braces tokens out0 out1 line o stack0 stack1 start g at f s lt e q stay l eo es =
+    let h = stays_at at o f (Goes g) q stay in
+    let t = stands_goes braces tokens out0 o (reverse stack0) start at f g s lt e q h.0 h.1.0 (low_up at f.end g (let z : at < f.end = h.0 in omega arith) h.1.1) in
+    put braces tokens _ out1 _ (reverse stack1) g f.end (pushed_line out0 out1 line (line_of o start at f) l eo) (sym (reverse_snoc stack0 stack1 o es)) t
+
+pub waits_turn : (braces : Braces) (tokens : List CodeToken) (out0 out1 : List Line) (line : Line) (o b : Open) (stack0 stack1 stack2 : List Open) (start : Start) (at : ℕ) (f : Form) (h : Head)
+    → Stands braces tokens out0 (o ∷ reverse stack0) start at → at < o.end → form_of braces tokens o start at ≡ f → f.next ≡ Waits h → StaysIn at o f f.next → f.level ≤ 2 * at
+    → line ≡ line_of o start at f → out1 ≡ out0 ++ line ∷ [] → stack1 ≡ stack0 ++ o ∷ [] → b ≡ body_of o h f.level → stack2 ≡ stack1 ++ b ∷ []
+    → Stands braces tokens out1 (reverse stack2) Fresh f.end
+waits_turn braces tokens out0 out1 line o b stack0 stack1 stack2 start at f h s lt e q stay level l eo es eb es2 =
+    let k = stays_at at o f (Waits h) q stay in
+    let t = stands_waits braces tokens out0 o (reverse stack0) start at f h s lt e q k.0 k.1 level in
+    let r2 : reverse stack2 ≡ b ∷ reverse stack1 = reverse_snoc stack1 stack2 b es2 in
+    let r1 : reverse stack1 ≡ o ∷ reverse stack0 = reverse_snoc stack0 stack1 o es in
+    put braces tokens _ out1 _ (reverse stack2) Fresh f.end (pushed_line out0 out1 line (line_of o start at f) l eo) (cc) t
+
+pub opens_turn : (braces : Braces) (tokens : List CodeToken) (out0 out1 : List Line) (o b : Open) (stack0 stack1 stack2 : List Open) (start : Start) (at : ℕ) (f : Form) (w : Bool)
+    → Stands braces tokens out0 (o ∷ reverse stack0) start at → at < o.end → form_of braces tokens o start at ≡ f → f.next ≡ Opens w b → StaysIn at o f f.next → f.level ≤ 2 * at
+    → out1 ≡ out0 ++ head_lines o start at f w → stack1 ≡ stack0 ++ o ∷ [] → stack2 ≡ stack1 ++ b ∷ []
+    → Stands braces tokens out1 (reverse stack2) Fresh (f.end + 1)
+opens_turn braces tokens out0 out1 o b stack0 stack1 stack2 start at f w s lt e q stay level eo es es2 =
+    let t = stands_opens braces tokens out0 o (reverse stack0) start at f w b s lt e q (stays_at at o f (Opens w b) q stay) level in
+    let r2 : reverse stack2 ≡ b ∷ reverse stack1 = reverse_snoc stack1 stack2 b es2 in
+    let r1 : reverse stack1 ≡ o ∷ reverse stack0 = reverse_snoc stack0 stack1 o es in
+    put braces tokens _ out1 _ (reverse stack2) Fresh (f.end + 1) (sym eo) (cc) t
+
+-- where a line ends that takes part in no block, and where a head's brace stands
+pub ends_low : (at : ℕ) (o : Open) (f : Form) (n : Next) → f.next ≡ n → StaysIn at o f f.next → f.end ≤ o.end
+ends_low at o f Ends e h = (stays_at at o f Ends e h).1
+ends_low at o f (Goes g) e h = (stays_at at o f (Goes g) e h).1.0
+ends_low at o f (Waits k) e h = (stays_at at o f (Waits k) e h).1
+ends_low at o f (Opens w b) e h =
+    let s = stays_at at o f (Opens w b) e h in let x : f.end < b.end = s.goes_on in let y : b.end ≤ o.end = s.ends in omega arith
+
+-- ## Where a list ends
+
+left_block : (x : Bool) (o : Open) (os : List Open) → x ≡ true → left (record o { block = x } ∷ os) ≡ Some (record { block = record o { block = x }; below = os })
+left_block true o os e = refl
+left_block false o os e = cc
+
+left_body : (x : Bool) (o : Open) (os : List Open) → x ≡ false → left (record o { block = x } ∷ os) ≡ left os
+left_body true o os e = cc
+left_body false o os e = refl
+
+pub block_turn : (braces : Braces) (tokens : List CodeToken) (out : List Line) (o : Open) (os : List Open) (start : Start) (at : ℕ)
+    → Stands braces tokens out (o ∷ os) start at → o.end ≤ at → o.block ≡ true → Stands braces tokens out os (Closing o) o.end
+block_turn braces tokens out o os start at s h e = stands_leaves braces tokens out o os start at (record { block = o; below = os }) s h (left_block o.block o os e)
+
+pub body_turn : (braces : Braces) (tokens : List CodeToken) (out : List Line) (o b : Open) (os below : List Open) (start : Start) (at : ℕ)
+    → Stands braces tokens out (o ∷ os) start at → o.end ≤ at → o.block ≡ false → left os ≡ Some (record { block = b; below = below })
+    → Stands braces tokens out below (Closing b) b.end
+body_turn braces tokens out o b os below start at s h e q =
+    stands_leaves braces tokens out o os start at (record { block = b; below = below }) s h (left_body o.block o os e ∙ q)
+
+pub body_end : (braces : Braces) (tokens : List CodeToken) (out : List Line) (o b : Open) (os below : List Open) (start : Start) (at : ℕ)
+    → Stands braces tokens out (o ∷ os) start at → o.end ≤ at → o.block ≡ false → left os ≡ Some (record { block = b; below = below })
+    → b.end ≡ at
+body_end braces tokens out o b os below start at s h e q =
+    let k : o.end ≡ at = (let z = s.fits.0 in omega arith) in
+    (leaves braces tokens at s.reads.rest (o ∷ os) (record { block = b; below = below }) o.end refl k s.fits s.reads.follows (left_body o.block o os e ∙ q)).ends
+
+pub no_turn : (braces : Braces) (tokens : List CodeToken) (out : List Line) (o : Open) (os : List Open) (start : Start) (at : ℕ)
+    → Stands braces tokens out (o ∷ os) start at → o.block ≡ false → left os ≡ None → ⊥
+no_turn braces tokens out o os start at s e q = left_some (length tokens) at at (o ∷ os) o.end refl s.fits (left_body o.block o os e ∙ q)
+
+pub top_within : (braces : Braces) (tokens : List CodeToken) (out : List Line) (o : Open) (os : List Open) (start : Start) (at : ℕ)
+    → Stands braces tokens out (o ∷ os) start at → o.end ≤ length tokens
+top_within braces tokens out o os start at s = fits_within (length tokens) at o.end os s.fits.1.1.1.1.1
+
+-- a line brings the end nearer
+pub turned : {E : Type 0} (r : Result Place E) (whole end at new old : ℕ) → at < end → end ≤ whole
+    → IfOk r (λ p. (at < p.at) × (new ≤ old + 2))
+    → IfOk r (λ p. 2 * (whole - p.at) + new < 2 * (whole - at) + old + 1)
+turned (Ok p) whole end at new old lt within h = let a = h.0 in let b = h.1 in omega arith
+turned (Err e) whole end at new old lt within h = tt

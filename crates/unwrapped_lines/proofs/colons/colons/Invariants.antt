@@ -1,0 +1,12 @@
+use Rattle.std.proofs.Common.{◌≤◌, length}
+use Rattle.unwrapped_lines.specs.Colons.{AreColonsFrom}
+use Rattle.unwrapped_lines.proofs.colons.colons.Given as goal
+
+abbrev pub invariant-loop-place : goal.invariant-loop-place
+invariant-loop-place l = record {
+  colons : AreColonsFrom l.place l.colons.items l.tokens;
+  most : l.place ≤ length l.tokens;
+}
+
+abbrev pub decreases-loop-place : goal.decreases-loop-place
+decreases-loop-place l = l.place

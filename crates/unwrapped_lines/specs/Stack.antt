@@ -1,0 +1,84 @@
+-- What the code's stack of open lists stands for, the innermost first.
+use Rattle.std.specs.Prelude.{ℕ, ◌-◌, ◌*◌, ◌<◌, ◌≤◌, ◌≡◌, Bool, true, false, List, [], ◌∷◌, ◌++◌, length, Option, Some, None}
+use Rattle.unwrapped_lines.specs.declared.token.CodeToken.{CodeToken}
+use Rattle.unwrapped_lines.specs.declared.line.Line.{Line}
+use Rattle.unwrapped_lines.specs.declared.braces.Braces.{Braces}
+use Rattle.unwrapped_lines.specs.declared.open.Open.{Open}
+use Rattle.unwrapped_lines.specs.declared.open.Start.{Start}
+use Rattle.unwrapped_lines.specs.declared.open.Start.TheVariants.{Closing}
+use Rattle.unwrapped_lines.specs.Forms.{IsLow}
+use Rattle.unwrapped_lines.specs.Tree.{end_level_from, end_level, lines_from, lines_of}
+
+-- ## Lines that cut a view
+
+-- the lines cut the tokens from `a` to before `b` whole and in order
+abbrev pub IsCut : ℕ → ℕ → List Line → Type 0
+IsCut a b [] = a ≡ b
+IsCut a b (l ∷ ls) = (l.first ≡ a) × ((a < l.end) × IsCut l.end b ls)
+
+-- ## The stack
+
+-- the innermost list: its headers that wait, and itself
+abbrev pub current : List Open → List Open
+current [] = []
+current (o ∷ os) = o ∷ elim o.block [ true ↦ [] | false ↦ current os ]
+
+-- the innermost block, and what stands below it
+pub record Left : Type 0 where
+  pub block : Open
+  pub below : List Open
+
+abbrev pub left : List Open → Option Left
+left [] = None
+left (o ∷ os) = elim o.block [ true ↦ Some (record { block = o; below = os }) | false ↦ left os ]
+
+-- what follows the innermost list are these lines
+abbrev pub Rest : Braces → List CodeToken → List Open → List Line → Type 0
+Rest braces tokens [] ls = ls ≡ []
+Rest braces tokens (o ∷ os) ls =
+    elim o.block [
+      | false ↦ Rest braces tokens os ls
+      | true ↦ (n : ℕ) × ((later : List Line) × ((length tokens - o.end ≤ n) × (Rest braces tokens os later × (ls ≡ lines_from n braces tokens (current os) (Closing o) o.end ++ later))))
+    ]
+
+-- the lines so far, and those that are to come, are all lines
+pub record Reads (braces : Braces) (tokens : List CodeToken) (out : List Line) (os : List Open) (start : Start) (at : ℕ) : Type 0 where
+  pub fuel : ℕ
+  pub rest : List Line
+  pub enough : length tokens - at ≤ fuel
+  pub follows : Rest braces tokens os rest
+  pub same : out ++ (lines_from fuel braces tokens (current os) start at ++ rest) ≡ lines_of braces tokens
+
+-- the statement of a header stands in a list with the same end
+abbrev pub IsMore : Bool → ℕ → List Open → Type 0
+IsMore true e os = Unit {0}
+IsMore false e [] = ⊥
+IsMore false e (o ∷ os) = e ≡ o.end
+
+-- Each list ends where or before the one below it does, the last at the view's end; levels are low.
+abbrev pub Fits : ℕ → ℕ → ℕ → List Open → Type 0
+Fits whole at e [] = e ≡ whole
+Fits whole at e (o ∷ os) =
+    (e ≤ o.end) × ((o.level ≤ 2 * at) × ((o.case_level ≤ 2 * at) × ((o.head_level ≤ 2 * at) × (IsMore o.block o.end os × Fits whole at o.end os))))
+
+-- all that holds between two lines
+pub record Stands (braces : Braces) (tokens : List CodeToken) (out : List Line) (os : List Open) (start : Start) (at : ℕ) : Type 0 where
+  pub reads : Reads braces tokens out os start at
+  pub fits : Fits (length tokens) at at os
+  pub low : IsLow at start
+  pub cut : IsCut 0 at out
+
+-- ## The end of a view
+
+-- each of these lists is open to the view's end, and its levels are low
+abbrev pub OpenToEnd : ℕ → ℕ → List Open → Type 0
+OpenToEnd whole at [] = Unit {0}
+OpenToEnd whole at (o ∷ os) = (o.end ≡ whole) × ((o.level ≤ 2 * at) × ((o.case_level ≤ 2 * at) × OpenToEnd whole at os))
+
+-- what is left to read from here has the end's level
+pub record LeadsToEnd (braces : Braces) (tokens : List CodeToken) (os : List Open) (start : Start) (at : ℕ) : Type 0 where
+  pub fuel : ℕ
+  pub enough : length tokens - at < fuel
+  pub same : end_level_from fuel braces tokens os start at ≡ end_level braces tokens
+  pub open_lists : OpenToEnd (length tokens) at os
+  pub low : IsLow at start

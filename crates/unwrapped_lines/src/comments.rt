@@ -1,0 +1,173 @@
+//! Where the lines of a view with its comments begin.
+
+ghost use Rattle.std.specs.Prelude.{◌≡◌, ◌<◌, ◌≤◌, ◌+◌, ◌^◌, ◌++◌, drop, length, IfOk, slice_get, ℕ};
+ghost use Rattle.unwrapped_lines.specs.Comments.{token_follows, is_between, new_begin, next_marks, begins_from, no_marks, list_of, begins_line, inner_run};
+
+use crate::line::{Line, LineKind};
+use crate::part::{Begin, Marks, Part, Run};
+use bumpalo::Bump;
+use line_tokens::NoMemory;
+
+/// Whether a token comes after the inner comments at a place.
+fn token_follows(parts: &[Part], from: usize) -> bool
+    requires { from ≤ length parts.now }
+    ensures { result ≡ token_follows (drop from parts.now) }
+{
+    let mut i = from;
+    while i < parts.len() {
+        match parts[i] {
+            Part::Token => return true,
+            Part::Inner => {}
+            Part::Own | Part::Trailing => return false,
+        }
+        i += 1;
+    }
+    false
+}
+
+/// Whether no line goes on at a place.
+fn is_between(lines: &[Line], total: usize, end_level: u32, m: Marks) -> bool
+    ensures { result ≡ is_between (record { lines = lines.now; total = total; end_level = end_level }) m }
+{
+    match lines.get(m.begun) {
+        Some(l) => l.first == m.seen,
+        None => total <= m.seen,
+    }
+}
+
+fn begins_line(parts: &[Part], k: usize, p: Part, m: Marks) -> bool
+    requires { k < length parts.now }
+    ensures { result ≡ begins_line p (drop (k + 1) parts.now) m }
+{
+    match p {
+        Part::Token => m.run != Run::Begun,
+        Part::Own | Part::Trailing => false,
+        Part::Inner => m.run == Run::Apart && token_follows(parts, k + 1),
+    }
+}
+
+/// The line that begins at a place.
+fn new_begin(
+    lines: &[Line],
+    total: usize,
+    end_level: u32,
+    parts: &[Part],
+    k: usize,
+    p: Part,
+    m: Marks,
+) -> Option<Begin>
+    requires here { k < length parts.now }
+    requires few { length parts.now < 2 ^ 32 }
+    ensures { result ≡ new_begin (record { lines = lines.now; total = total; end_level = end_level }) k p (drop (k + 1) parts.now) m }
+{
+    if !is_between(lines, total, end_level, m) {
+        return None;
+    }
+    if p == Part::Own {
+        let level = match lines.get(m.begun) {
+            Some(l) => l.list_level,
+            None => end_level,
+        };
+        return Some(Begin {
+            first: k as u32,
+            level,
+            kind: LineKind::Comment,
+        });
+    }
+    if begins_line(parts, k, p, m) {
+        match lines.get(m.begun) {
+            Some(l) => Some(Begin {
+                first: k as u32,
+                level: l.level,
+                kind: l.kind,
+            }),
+            None => None,
+        }
+    } else {
+        None
+    }
+}
+
+fn inner_run(between: bool, parts: &[Part], k: usize, run: Run) -> Run
+    requires { k < length parts.now }
+    ensures { result ≡ inner_run between (drop (k + 1) parts.now) run }
+{
+    if between && run == Run::Apart {
+        if token_follows(parts, k + 1) {
+            Run::Begun
+        } else {
+            Run::Joined
+        }
+    } else {
+        run
+    }
+}
+
+fn next_marks(
+    lines: &[Line],
+    total: usize,
+    end_level: u32,
+    parts: &[Part],
+    k: usize,
+    p: Part,
+    m: Marks,
+) -> Marks
+    requires here { k < length parts.now }
+    requires seen { m.seen < 2 ^ 40 }
+    requires begun { m.begun < 2 ^ 40 }
+    ensures same { result ≡ next_marks (record { lines = lines.now; total = total; end_level = end_level }) p (drop (k + 1) parts.now) m }
+    ensures seen { result.seen ≤ m.seen + 1 }
+    ensures begun { result.begun ≤ m.begun + 1 }
+{
+    let between = is_between(lines, total, end_level, m);
+    match p {
+        Part::Token => Marks {
+            seen: m.seen + 1,
+            begun: if between { m.begun + 1 } else { m.begun },
+            run: Run::Apart,
+        },
+        Part::Own => Marks {
+            seen: m.seen,
+            begun: m.begun,
+            run: Run::Apart,
+        },
+        Part::Trailing => Marks {
+            seen: m.seen,
+            begun: m.begun,
+            run: Run::Apart,
+        },
+        Part::Inner => Marks {
+            seen: m.seen,
+            begun: m.begun,
+            run: inner_run(between, parts, k, m.run),
+        },
+    }
+}
+
+/// Where each line of a view begins.
+pub fn begins<'r>(
+    lines: &[Line],
+    total: usize,
+    end_level: u32,
+    parts: &[Part],
+    run: &'r Bump,
+) -> Result<Vec<Begin, &'r Bump>, NoMemory>
+    requires { length parts.now < 2 ^ 32 }
+    ensures { IfOk result (λ r. r.items ≡ begins_from (record { lines = lines.now; total = total; end_level = end_level }) parts.now 0 no_marks) }
+{
+    let mut out = Vec::new(run);
+    let mut m = Marks {
+        seen: 0,
+        begun: 0,
+        run: Run::Apart,
+    };
+    let mut k = 0;
+    while k < parts.len() {
+        if let Some(b) = new_begin(lines, total, end_level, parts, k, parts[k], m) {
+            out.push(b)?;
+        }
+        m = next_marks(lines, total, end_level, parts, k, parts[k], m);
+        k += 1;
+    }
+    Ok(out)
+}

@@ -1,0 +1,88 @@
+//! The unwrapped lines of a view.
+
+ghost use Rattle.std.specs.Prelude.{◌≡◌, ◌<◌, ◌≤◌, ◌^◌, length, IfOk};
+ghost use Rattle.brackets.specs.Viewed.{AreWithin};
+ghost use Rattle.unwrapped_lines.specs.Lines.{lines_between, line_up_to, tree_of, unwrapped_lines_of, CutPlaces};
+ghost use Rattle.unwrapped_lines.specs.Stack.{IsCut};
+
+use crate::braces::braces_of;
+use crate::colons::colons;
+use crate::comments::begins;
+use crate::ending::end_level;
+use crate::line::ULine;
+use crate::part::Begin;
+use crate::tree::tree_lines;
+use crate::viewed::{code_tokens, parts};
+use brackets::classes;
+use bumpalo::Bump;
+use bumpalo::collections::into_bump_slice;
+use line_tokens::NoMemory;
+use style_table::Style;
+use token_arena::TokenArena;
+use token_views::View;
+
+/// The lines that begin at these places; the last goes up to `count`.
+fn lines_between<'r>(
+    count: u32,
+    begins: &[Begin],
+    run: &'r Bump,
+) -> Result<Vec<ULine, &'r Bump>, NoMemory>
+    ensures { IfOk result (λ lines. lines.items ≡ lines_between count begins.now) }
+{
+    let mut lines = Vec::new(run);
+    for (j, begin) in begins.iter().enumerate() {
+        let end = match begins.get(j + 1) {
+            Some(next) => next.first,
+            None => count,
+        };
+        lines.push(ULine {
+            first: begin.first,
+            last: end.saturating_sub(1),
+            level: begin.level,
+            kind: begin.kind,
+        })?;
+    }
+    Ok(lines)
+}
+
+/// The lines, and that those of the tokens that are no comments cut these.
+fn read_lines<'r>(
+    style: &Style,
+    arena: &TokenArena<'_, '_>,
+    view: &View<'_>,
+    partners: &[Option<u32>],
+    run: &'r Bump,
+) -> Result<Vec<ULine, &'r Bump>, NoMemory>
+    requires { AreWithin arena.now view.now }
+    ensures lines { IfOk result (λ lines. lines.items ≡ unwrapped_lines_of style.now arena.now view.now partners.now) }
+    ensures tree { IfOk result (λ lines. IsCut 0 (tree_of style.now arena.now view.now partners.now).total (tree_of style.now arena.now view.now partners.now).lines) }
+{
+    let braces = braces_of(style);
+    let classes = classes(arena, view, run)?;
+    let tokens = code_tokens(arena, view, classes, partners, run)?;
+    let parts = parts(arena, view, classes, run)?;
+    let colons = colons(&tokens, run)?;
+    let tree = tree_lines(&braces, &tokens, &colons, run)?;
+    let level = end_level(&braces, &tokens, &colons, run)?;
+    let begins = begins(&tree, tokens.len(), level, &parts, run)?;
+    lines_between(view.len(), &begins, run)
+}
+
+/// The unwrapped lines of a view, whose brackets have these partners.
+///
+/// `docs/PROFILE.md` says under "Statements and lines" which lines there are, and what their levels and kinds
+/// are. The lines cut the view whole and in order. Want of memory is the only error.
+pub fn lines<'r>(
+    style: &Style,
+    arena: &TokenArena<'_, '_>,
+    view: &View<'_>,
+    partners: &[Option<u32>],
+    run: &'r Bump,
+) -> Result<&'r [ULine], NoMemory>
+    requires { AreWithin arena.now view.now }
+    ensures lines { IfOk result (λ lines. lines.now ≡ unwrapped_lines_of style.now arena.now view.now partners.now) }
+    ensures cut { IfOk result (λ lines. CutPlaces 0 (length view.now) lines.now) }
+{
+    let lines = read_lines(style, arena, view, partners, run)?;
+    Ok(into_bump_slice(lines))
+}

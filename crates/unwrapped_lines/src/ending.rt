@@ -1,0 +1,98 @@
+//! The level at a view's end.
+
+ghost use Rattle.std.specs.Prelude.{◌≡◌, ◌<◌, ◌≤◌, ◌-◌, ◌*◌, ◌^◌, ◌∷◌, [], reverse, length, IfOk};
+ghost use Rattle.unwrapped_lines.specs.Forms.{StaysIn, form_of};
+ghost use Rattle.unwrapped_lines.specs.Tree.{end_level};
+ghost use Rattle.unwrapped_lines.specs.Colons.{AreColonsFrom};
+ghost use Rattle.unwrapped_lines.specs.Stack.{LeadsToEnd};
+
+use crate::braces::Braces;
+use crate::form::{Form, Next};
+use crate::forms::form_of;
+use crate::open::{Open, Start};
+use crate::token::CodeToken;
+use crate::tree::{Place, body_of, settle, whole_file};
+use bumpalo::Bump;
+use line_tokens::NoMemory;
+
+/// Passes over a line, and over its block where that ends before the list around it.
+fn skip_line(
+    braces: &Braces,
+    tokens: &[CodeToken],
+    stack: &mut Vec<Open, &Bump>,
+    o: Open,
+    place: Place,
+    f: Form,
+) -> Result<Place, NoMemory>
+    requires small { length tokens.now < 2 ^ 30 }
+    requires leads { LeadsToEnd braces.now tokens.now (o ∷ reverse stack.old.items) place.start place.at }
+    requires here { place.at < o.end }
+    requires form { form_of braces.now tokens.now o place.start place.at ≡ f }
+    requires stays { StaysIn place.at o f f.next }
+    requires level { f.level ≤ 2 * place.at }
+    ensures leads { IfOk result (λ p. LeadsToEnd braces.now tokens.now (reverse stack.new.items) p.start p.at) }
+    ensures up { IfOk result (λ p. length tokens.now - p.at < length tokens.now - place.at) }
+{
+    match f.next {
+        Next::Ends => {
+            stack.push(o)?;
+            let start = settle(tokens, stack, f.end)?;
+            Ok(Place { start, at: f.end })
+        }
+        Next::Goes(start) => {
+            stack.push(o)?;
+            Ok(Place { start, at: f.end })
+        }
+        Next::Waits(head) => {
+            stack.push(o)?;
+            stack.push(body_of(o, head, f.level))?;
+            Ok(Place {
+                start: Start::Fresh,
+                at: f.end,
+            })
+        }
+        Next::Opens(_, b) => {
+            if b.end < o.end {
+                stack.push(o)?;
+                Ok(Place {
+                    start: Start::Closing(b),
+                    at: b.end,
+                })
+            } else {
+                stack.clear();
+                stack.push(b)?;
+                Ok(Place {
+                    start: Start::Fresh,
+                    at: f.end + 1,
+                })
+            }
+        }
+    }
+}
+
+/// The level of the innermost list that is open at the end.
+pub fn end_level(
+    braces: &Braces,
+    tokens: &[CodeToken],
+    colons: &[usize],
+    run: &Bump,
+) -> Result<u32, NoMemory>
+    requires few { length tokens.now < 2 ^ 30 }
+    requires colons { AreColonsFrom 0 colons.now tokens.now }
+    ensures { IfOk result (λ level. level ≡ end_level braces.now tokens.now) }
+{
+    let mut stack = Vec::new(run);
+    stack.push(whole_file(tokens))?;
+    let mut place = Place {
+        start: Start::Fresh,
+        at: 0,
+    };
+    while let Some(o) = stack.pop() {
+        if place.at >= o.end {
+            return Ok(o.level);
+        }
+        let f = form_of(braces, tokens, colons, o, place.start, place.at);
+        place = skip_line(braces, tokens, &mut stack, o, place, f)?;
+    }
+    Ok(0)
+}

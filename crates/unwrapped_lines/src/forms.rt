@@ -1,0 +1,644 @@
+//! The cases of a statement: what line begins at a place, where it ends, and what it leaves open.
+
+ghost use Rattle.std.specs.Prelude.{◌≡◌, ◌<◌, ◌≤◌, ◌+◌, ◌-◌, ◌*◌, ◌^◌, length, slice_get, Some, None, IfSome, true, false, ℕ};
+ghost use Rattle.unwrapped_lines.specs.declared.form.Next.TheVariants.{Ends, Opens};
+ghost use Rattle.unwrapped_lines.specs.declared.open.Context.TheVariants.{Code, File};
+ghost use Rattle.unwrapped_lines.specs.declared.line.LineKind.TheVariants.{ExternHead};
+ghost use Rattle.unwrapped_lines.specs.declared.open.Head.TheVariants.{Plain};
+ghost use Rattle.std.specs.Bool.{OnTrue, OnFalse};
+ghost use Rattle.brackets.specs.Classes.{is_open_brace};
+ghost use Rattle.unwrapped_lines.specs.Colons.{AreColonsFrom};
+ghost use Rattle.unwrapped_lines.specs.Forms.{class_at, seen, partner_in, after_group, step_over, block_end, began_at, touched_at, has_no_partner, case_colon, enumerator_end, class_before, opens_list, statement_stop, call_opener, tag_before, block_at, label_form, goto_level, label, header_end, head_of, label_level, control_block, control_form, tail_end, ends_macro, macro_end, tagged_kind, wraps_tagged, tagged_context, tagged_head, behind_close, kind_or_close, is_member_word, other_form, unlabelled, statement, close_form, form_of, StaysIn, IsLow};
+
+use crate::braces::Braces;
+use crate::form::{Form, Next};
+use crate::line::LineKind;
+use crate::lookups::{
+    after_group, began_at, block_end, class_at, has_no_partner, seen, touched_at,
+};
+use crate::open::{Context, Head, Open, Start};
+use crate::token::CodeToken;
+use crate::{colons, scans};
+use brackets::TokenClass;
+
+/// A block at the brace at `i`.
+fn block_at(
+    tokens: &[CodeToken],
+    end: usize,
+    i: usize,
+    context: Context,
+    head: Head,
+    head_level: u32,
+    level: u32,
+) -> Open
+    requires { i < end }
+    ensures same { result ≡ block_at tokens.now end i context head head_level level }
+    ensures least { i < result.end }
+    ensures most { result.end ≤ end }
+{
+    Open {
+        block: true,
+        context,
+        level,
+        case_level: level,
+        end: block_end(tokens, end, i),
+        head,
+        head_level,
+        assigned: false,
+    }
+}
+
+fn label_form(
+    tokens: &[CodeToken],
+    o: Open,
+    kind: LineKind,
+    level: u32,
+    wrapped: bool,
+    colon: usize,
+) -> Form
+    requires here { colon < o.end }
+    requires list { o.end ≤ length tokens.now }
+    requires small { length tokens.now < 2 ^ 30 }
+    requires low { level < 2 ^ 31 }
+    ensures same { result ≡ label_form tokens.now o kind level wrapped colon }
+    ensures stays { StaysIn colon o result result.next }
+    ensures level { result.level ≡ level }
+{
+    let next = colon + 1;
+    Form {
+        kind,
+        level,
+        end: next,
+        next: if seen(tokens, o.end, next).is_open_brace() {
+            Next::Opens(
+                wrapped,
+                block_at(
+                    tokens,
+                    o.end,
+                    next,
+                    Context::Code,
+                    Head::Plain,
+                    level,
+                    level + 1,
+                ),
+            )
+        } else {
+            Next::Ends
+        },
+    }
+}
+
+fn goto_level(braces: &Braces, o: Open) -> u32
+    ensures same { result ≡ goto_level braces.now o }
+    ensures most { result ≤ o.level }
+{
+    if braces.indent_goto_labels {
+        o.level.saturating_sub(1)
+    } else {
+        0
+    }
+}
+
+/// A label.
+fn label(
+    braces: &Braces,
+    tokens: &[CodeToken],
+    colons: &[usize],
+    o: Open,
+    at: usize,
+) -> Option<Form>
+    requires colons { AreColonsFrom 0 colons.now tokens.now }
+    requires here { at < o.end }
+    requires list { o.end ≤ length tokens.now }
+    requires small { length tokens.now < 2 ^ 30 }
+    requires low { o.level ≤ 2 * at }
+    requires case_low { o.case_level ≤ 2 * at }
+    ensures same { result ≡ label braces.now tokens.now o at }
+    ensures stays { IfSome result (λ f. StaysIn at o f f.next) }
+    ensures level { IfSome result (λ f. f.level ≤ 2 * at) }
+{
+    let c = class_at(tokens, at);
+    if c.is_case() {
+        let colon = colons::label_colon(tokens, colons, o.end, at);
+        if colon < o.end {
+            return Some(label_form(
+                tokens,
+                o,
+                LineKind::CaseLabel,
+                o.case_level,
+                braces.after_case_label,
+                colon,
+            ));
+        }
+    }
+    if !seen(tokens, o.end, at + 1).is_colon() {
+        return None;
+    }
+    if c.is_default() {
+        return Some(label_form(
+            tokens,
+            o,
+            LineKind::CaseLabel,
+            o.case_level,
+            braces.after_case_label,
+            at + 1,
+        ));
+    }
+    if c.is_plain() && o.context.is_code() && !touched_at(tokens, at + 1) {
+        return Some(label_form(
+            tokens,
+            o,
+            LineKind::GotoLabel,
+            goto_level(braces, o),
+            false,
+            at + 1,
+        ));
+    }
+    None
+}
+
+/// The end of the header of a control word.
+fn header_end(tokens: &[CodeToken], end: usize, at: usize) -> usize
+    requires here { at < end }
+    requires list { end ≤ length tokens.now }
+    requires small { length tokens.now < 2 ^ 30 }
+    ensures same { result ≡ header_end tokens.now end at }
+    ensures least { at < result }
+    ensures most { result ≤ end }
+{
+    let c = class_at(tokens, at);
+    if c.is_do() {
+        at + 1
+    } else if !c.is_else() {
+        after_group(tokens, end, at + 1)
+    } else if seen(tokens, end, at + 1).is_if() {
+        after_group(tokens, end, at + 2)
+    } else {
+        at + 1
+    }
+}
+
+fn head_of(tokens: &[CodeToken], end: usize, at: usize) -> Head
+    requires here { at < end }
+    requires list { end ≤ length tokens.now }
+    ensures { result ≡ head_of tokens.now end at }
+{
+    let c = class_at(tokens, at);
+    if c.is_if() || (c.is_else() && seen(tokens, end, at + 1).is_if()) {
+        Head::If
+    } else if c.is_do() {
+        Head::Do
+    } else if c.is_switch() {
+        Head::Switch
+    } else {
+        Head::Plain
+    }
+}
+
+fn label_level(braces: &Braces, level: u32) -> u32
+    requires { level < 2 ^ 31 }
+    ensures same { result ≡ label_level braces.now level }
+    ensures most { result ≤ level + 1 }
+{
+    if braces.indent_case_labels {
+        level + 1
+    } else {
+        level
+    }
+}
+
+fn control_block(
+    braces: &Braces,
+    tokens: &[CodeToken],
+    end: usize,
+    i: usize,
+    head: Head,
+    level: u32,
+) -> Open
+    requires here { i < end }
+    requires low { level < 2 ^ 31 }
+    ensures same { result ≡ control_block braces.now tokens.now end i head level }
+    ensures least { i < result.end }
+    ensures most { result.end ≤ end }
+    ensures block { result.block ≡ true }
+    ensures level { result.level ≤ level + 2 }
+    ensures case_level { result.case_level ≤ level + 2 }
+    ensures head_level { result.head_level ≡ level }
+{
+    if head.is_switch() {
+        let case_level = label_level(braces, level);
+        Open {
+            block: true,
+            context: Context::Code,
+            level: case_level + 1,
+            case_level,
+            end: block_end(tokens, end, i),
+            head,
+            head_level: level,
+            assigned: false,
+        }
+    } else {
+        block_at(tokens, end, i, Context::Code, head, level, level + 1)
+    }
+}
+
+fn behind_close(closes: bool, at: usize) -> usize
+    requires { at < 2 ^ 34 }
+    ensures same { result ≡ behind_close closes at }
+    ensures least { at ≤ result }
+    ensures most { result ≤ at + 1 }
+    ensures behind { OnTrue closes (result ≡ at + 1) }
+    ensures here { OnFalse closes (result ≡ at) }
+{
+    if closes { at + 1 } else { at }
+}
+
+fn kind_or_close(closes: bool, kind: LineKind) -> LineKind
+    ensures { result ≡ kind_or_close closes kind }
+{
+    if closes { LineKind::Close } else { kind }
+}
+
+/// A header, on a line of its own or behind a closing brace.
+fn control_form(
+    braces: &Braces,
+    tokens: &[CodeToken],
+    o: Open,
+    closes: bool,
+    level: u32,
+    at: usize,
+) -> Form
+    requires here { at < o.end }
+    requires header { OnTrue closes (at + 1 < o.end) }
+    requires list { o.end ≤ length tokens.now }
+    requires small { length tokens.now < 2 ^ 30 }
+    requires low { level < 2 ^ 31 }
+    ensures same { result ≡ control_form braces.now tokens.now o closes level at }
+    ensures stays { StaysIn at o result result.next }
+    ensures level { result.level ≡ level }
+{
+    let from = behind_close(closes, at);
+    let h = header_end(tokens, o.end, from);
+    let head = head_of(tokens, o.end, from);
+    Form {
+        kind: kind_or_close(closes, LineKind::Control),
+        level,
+        end: h,
+        next: if seen(tokens, o.end, h).is_open_brace() {
+            Next::Opens(
+                braces.after_control,
+                control_block(braces, tokens, o.end, h, head, level),
+            )
+        } else {
+            Next::Waits(head)
+        },
+    }
+}
+
+/// The end of the tail of a `do`, or the place where there is none.
+pub fn tail_end(tokens: &[CodeToken], end: usize, i: usize) -> usize
+    requires { i < 2 ^ 33 }
+    ensures same { result ≡ tail_end tokens.now end i }
+    ensures least { i ≤ result }
+    ensures most { i < result → result ≤ end }
+{
+    let g = after_group(tokens, end, i + 1);
+    if seen(tokens, end, i).is_while() && i + 1 < g && seen(tokens, end, g).is_semicolon() {
+        g + 1
+    } else {
+        i
+    }
+}
+
+fn ends_macro(tokens: &[CodeToken], i: usize) -> bool
+    ensures { result ≡ ends_macro tokens.now i }
+{
+    tokens.len() <= i
+        || (began_at(tokens, i)
+            && (class_at(tokens, i).is_word() || class_at(tokens, i).is_close_brace()))
+}
+
+fn macro_end(tokens: &[CodeToken], end: usize, at: usize) -> usize
+    requires here { at < end }
+    requires list { end ≤ length tokens.now }
+    ensures same { result ≡ macro_end tokens.now end at }
+    ensures least { at ≤ result }
+    ensures most { result ≤ end }
+{
+    let c = class_at(tokens, at);
+    let g = after_group(tokens, end, at + 1);
+    if c.is_plain() && (at + 1 < g || c.is_capital()) && ends_macro(tokens, g) {
+        g
+    } else {
+        at
+    }
+}
+
+fn tagged_kind(c: TokenClass) -> LineKind
+    ensures { result ≡ tagged_kind c }
+{
+    if scans::is_member_word(c) {
+        LineKind::StructHead
+    } else if c.is_enum() {
+        LineKind::EnumHead
+    } else {
+        LineKind::FuncHead
+    }
+}
+
+fn wraps_tagged(braces: &Braces, c: TokenClass) -> bool
+    ensures { result ≡ wraps_tagged braces.now c }
+{
+    if c.is_struct() {
+        braces.after_struct
+    } else if c.is_union() {
+        braces.after_union
+    } else if c.is_enum() {
+        braces.after_enum
+    } else {
+        braces.after_function
+    }
+}
+
+fn tagged_context(c: TokenClass) -> Context
+    ensures { result ≡ tagged_context c }
+{
+    if scans::is_member_word(c) {
+        Context::Member
+    } else if c.is_enum() {
+        Context::Enumerators
+    } else {
+        Context::Code
+    }
+}
+
+fn tagged_head(c: TokenClass) -> Head
+    ensures { result ≡ tagged_head c }
+{
+    if c.is_struct() || c.is_union() || c.is_enum() {
+        Head::Tagged
+    } else {
+        Head::Plain
+    }
+}
+
+/// Any other statement, or what goes on behind the closing brace of a struct, union or enum.
+fn other_form(
+    braces: &Braces,
+    tokens: &[CodeToken],
+    o: Open,
+    closes: bool,
+    level: u32,
+    at: usize,
+    assigned: bool,
+) -> Form
+    requires here { at < o.end }
+    requires list { o.end ≤ length tokens.now }
+    requires small { length tokens.now < 2 ^ 30 }
+    requires low { level < 2 ^ 31 }
+    requires first { OnFalse closes (is_open_brace (class_at tokens.now at) ≡ false) }
+    ensures same { result ≡ other_form braces.now tokens.now o closes level at assigned }
+    ensures stays { StaysIn at o result result.next }
+    ensures level { result.level ≡ level }
+{
+    let from = behind_close(closes, at);
+    let stop = scans::statement_stop(tokens, o.end, from, assigned);
+    let tag = scans::tag_before(tokens, from, stop.at);
+    if stop.opens {
+        Form {
+            kind: kind_or_close(closes, tagged_kind(tag)),
+            level,
+            end: stop.at,
+            next: Next::Opens(
+                wraps_tagged(braces, tag),
+                Open {
+                    block: true,
+                    context: tagged_context(tag),
+                    level: level + 1,
+                    case_level: level + 1,
+                    end: block_end(tokens, o.end, stop.at),
+                    head: tagged_head(tag),
+                    head_level: level,
+                    assigned: stop.assigned,
+                },
+            ),
+        }
+    } else {
+        Form {
+            kind: kind_or_close(closes, LineKind::Simple),
+            level,
+            end: stop.at,
+            next: Next::Ends,
+        }
+    }
+}
+
+/// A line alone.
+fn line_alone(kind: LineKind, level: u32, end: usize) -> Form
+    ensures { result ≡ record { kind = kind; level = level; end = end; next = Ends } }
+{
+    Form {
+        kind,
+        level,
+        end,
+        next: Next::Ends,
+    }
+}
+
+/// A line that opens a block of code at its end.
+fn opens_code(tokens: &[CodeToken], o: Open, kind: LineKind, brace: usize, wrapped: bool) -> Form
+    requires here { brace < o.end }
+    requires low { o.level < 2 ^ 31 }
+    ensures same { result ≡ record { kind = kind; level = o.level; end = brace; next = Opens wrapped (block_at tokens.now o.end brace Code Plain o.level (o.level + 1)) } }
+    ensures stays { (at : ℕ) → at ≤ brace → (wrapped ≡ true → at < brace) → StaysIn at o result result.next }
+{
+    Form {
+        kind,
+        level: o.level,
+        end: brace,
+        next: Next::Opens(
+            wrapped,
+            block_at(
+                tokens,
+                o.end,
+                brace,
+                Context::Code,
+                Head::Plain,
+                o.level,
+                o.level + 1,
+            ),
+        ),
+    }
+}
+
+/// The head of an extern block, whose brace stands two places behind.
+fn extern_form(braces: &Braces, tokens: &[CodeToken], o: Open, at: usize) -> Form
+    requires here { at + 2 < o.end }
+    requires low { o.level < 2 ^ 31 }
+    ensures same { result ≡ record { kind = ExternHead; level = o.level; end = at + 2; next = Opens braces.now.after_extern (block_at tokens.now o.end (at + 2) File Plain o.level o.level) } }
+    ensures stays { StaysIn at o result result.next }
+{
+    Form {
+        kind: LineKind::ExternHead,
+        level: o.level,
+        end: at + 2,
+        next: Next::Opens(
+            braces.after_extern,
+            block_at(
+                tokens,
+                o.end,
+                at + 2,
+                Context::File,
+                Head::Plain,
+                o.level,
+                o.level,
+            ),
+        ),
+    }
+}
+
+/// The cases behind labels and control statements.
+fn unlabelled(braces: &Braces, tokens: &[CodeToken], o: Open, at: usize) -> Form
+    requires here { at < o.end }
+    requires list { o.end ≤ length tokens.now }
+    requires small { length tokens.now < 2 ^ 30 }
+    requires low { o.level ≤ 2 * at }
+    ensures same { result ≡ unlabelled braces.now tokens.now o at }
+    ensures stays { StaysIn at o result result.next }
+    ensures level { result.level ≤ 2 * at }
+{
+    let c = class_at(tokens, at);
+    let g = after_group(tokens, o.end, at + 1);
+    if o.context.is_code() && c.is_plain() && at + 1 < g && seen(tokens, o.end, g).is_open_brace() {
+        return opens_code(tokens, o, LineKind::Control, g, braces.after_control);
+    }
+    if c.is_open_brace() {
+        return opens_code(tokens, o, LineKind::Brace, at, false);
+    }
+    if c.is_extern()
+        && seen(tokens, o.end, at + 1).is_text()
+        && seen(tokens, o.end, at + 2).is_open_brace()
+    {
+        return extern_form(braces, tokens, o, at);
+    }
+    let m = macro_end(tokens, o.end, at);
+    if at < m {
+        return line_alone(LineKind::MacroLine, o.level, m);
+    }
+    other_form(braces, tokens, o, false, o.level, at, false)
+}
+
+/// The cases, the first that fits.
+pub fn statement(
+    braces: &Braces,
+    tokens: &[CodeToken],
+    colons: &[usize],
+    o: Open,
+    at: usize,
+) -> Form
+    requires colons { AreColonsFrom 0 colons.now tokens.now }
+    requires here { at < o.end }
+    requires list { o.end ≤ length tokens.now }
+    requires small { length tokens.now < 2 ^ 30 }
+    requires low { o.level ≤ 2 * at }
+    requires case_low { o.case_level ≤ 2 * at }
+    ensures same { result ≡ statement braces.now tokens.now o at }
+    ensures stays { StaysIn at o result result.next }
+    ensures level { result.level ≤ 2 * at }
+{
+    let c = class_at(tokens, at);
+    if o.context.is_enumerators() {
+        return line_alone(
+            LineKind::Enumerator,
+            o.level,
+            scans::enumerator_end(tokens, o.end, at),
+        );
+    }
+    if c.is_close_brace() && has_no_partner(tokens, at) {
+        return line_alone(LineKind::Close, o.level, at + 1);
+    }
+    if let Some(f) = label(braces, tokens, colons, o, at) {
+        return f;
+    }
+    if c.is_control() {
+        return control_form(braces, tokens, o, false, o.level, at);
+    }
+    unlabelled(braces, tokens, o, at)
+}
+
+/// The line of a block's closing brace.
+pub fn close_form(braces: &Braces, tokens: &[CodeToken], o: Open, b: Open, at: usize) -> Form
+    requires here { at < o.end }
+    requires list { o.end ≤ length tokens.now }
+    requires small { length tokens.now < 2 ^ 30 }
+    requires low { b.head_level ≤ 2 * at }
+    ensures same { result ≡ close_form braces.now tokens.now o b at }
+    ensures stays { StaysIn at o result result.next }
+    ensures level { result.level ≤ 2 * at }
+{
+    let level = b.head_level;
+    if b.head.is_tagged() {
+        return other_form(braces, tokens, o, true, level, at, b.assigned);
+    }
+    let t = tail_end(tokens, o.end, at + 1);
+    if b.head.is_do() && at + 1 < t {
+        if braces.before_while {
+            return Form {
+                kind: LineKind::Close,
+                level,
+                end: at + 1,
+                next: Next::Goes(Start::Tail),
+            };
+        }
+        return line_alone(LineKind::Close, level, t);
+    }
+    if seen(tokens, o.end, at + 1).is_semicolon() {
+        return line_alone(LineKind::Close, level, at + 2);
+    }
+    if b.head.is_if() && seen(tokens, o.end, at + 1).is_else() {
+        if braces.before_else {
+            return Form {
+                kind: LineKind::Close,
+                level,
+                end: at + 1,
+                next: Next::Goes(Start::Fresh),
+            };
+        }
+        return control_form(braces, tokens, o, true, level, at);
+    }
+    line_alone(LineKind::Close, level, at + 1)
+}
+
+/// The line that begins at a place of the innermost list.
+pub fn form_of(
+    braces: &Braces,
+    tokens: &[CodeToken],
+    colons: &[usize],
+    o: Open,
+    start: Start,
+    at: usize,
+) -> Form
+    requires colons { AreColonsFrom 0 colons.now tokens.now }
+    requires here { at < o.end }
+    requires list { o.end ≤ length tokens.now }
+    requires small { length tokens.now < 2 ^ 30 }
+    requires low { o.level ≤ 2 * at }
+    requires case_low { o.case_level ≤ 2 * at }
+    requires start_low { IsLow at start }
+    ensures same { result ≡ form_of braces.now tokens.now o start at }
+    ensures stays { StaysIn at o result result.next }
+    ensures level { result.level ≤ 2 * at }
+{
+    match start {
+        Start::Fresh => statement(braces, tokens, colons, o, at),
+        Start::Tail => {
+            let t = tail_end(tokens, o.end, at);
+            if at < t {
+                line_alone(LineKind::Control, o.level, t)
+            } else {
+                statement(braces, tokens, colons, o, at)
+            }
+        }
+        Start::Closing(b) => close_form(braces, tokens, o, b, at),
+    }
+}

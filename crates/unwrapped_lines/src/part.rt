@@ -1,0 +1,49 @@
+//! Places of a view: tokens and comments.
+
+use crate::line::LineKind;
+
+/// What stands at a place of a view.
+#[derive(Clone, Copy, Debug, PartialEq, Eq)]
+pub enum Part {
+    /// A token that is no comment.
+    Token,
+    /// A comment on lines of its own.
+    Own,
+    /// A comment that ends its line.
+    Trailing,
+    /// Any other comment.
+    Inner,
+}
+
+/// The inner comments directly before a place: none, or they begin a line, or they belong to the line before.
+#[derive(Clone, Copy, Debug, PartialEq, Eq)]
+pub enum Run {
+    /// There is none.
+    Apart,
+    /// They begin a line.
+    Begun,
+    /// They belong to the line before them.
+    Joined,
+}
+
+/// How many tokens were passed and lines begun.
+#[derive(Clone, Copy, Debug, Drop)]
+pub struct Marks {
+    /// The tokens that were passed.
+    pub seen: usize,
+    /// The lines that have begun.
+    pub begun: usize,
+    /// The inner comments before the place.
+    pub run: Run,
+}
+
+/// The first place of a line.
+#[derive(Clone, Copy, Debug, Drop)]
+pub struct Begin {
+    /// The place.
+    pub first: u32,
+    /// The line's level.
+    pub level: u32,
+    /// What the line is.
+    pub kind: LineKind,
+}

@@ -1,0 +1,16 @@
+//! Tokens as the cut into lines sees them.
+
+use brackets::TokenClass;
+
+/// A token that is no comment.
+#[derive(Clone, Copy, Debug, Drop)]
+pub struct CodeToken {
+    /// What it is spelled.
+    pub class: TokenClass,
+    /// It began its line in the input.
+    pub began: bool,
+    /// A colon directly behind it touches it.
+    pub touched: bool,
+    /// Its partner, counted over the tokens that are no comments.
+    pub partner: Option<usize>,
+}

@@ -1,0 +1,302 @@
+//! The lines of a view, with a stack of open lists.
+
+ghost use Rattle.std.specs.Prelude.{◌≡◌, ◌<◌, ◌≤◌, ◌+◌, ◌-◌, ◌*◌, ◌^◌, ◌∷◌, [], ◌++◌, reverse, length, Some, None, IfSome, IfNone, IfOk, ℕ};
+ghost use Rattle.unwrapped_lines.specs.declared.open.Start.TheVariants.{Fresh};
+ghost use Rattle.unwrapped_lines.specs.Forms.{StaysIn, IsLow, form_of};
+ghost use Rattle.unwrapped_lines.specs.Tree.{settled, lines_of, whole_file, body_of, line_of, head_lines, comment_level, answers_else, answers_tail};
+ghost use Rattle.unwrapped_lines.specs.Colons.{AreColonsFrom};
+ghost use Rattle.unwrapped_lines.specs.Stack.{Stands, IsCut, left};
+
+use crate::braces::Braces;
+use crate::form::{Form, Next};
+use crate::forms::{form_of, tail_end};
+use crate::line::{Line, LineKind};
+use crate::lookups::seen;
+use crate::open::{Context, Head, Open, Start};
+use crate::token::CodeToken;
+use bumpalo::Bump;
+use line_tokens::NoMemory;
+
+/// What begins at a place.
+#[derive(Clone, Copy, Debug, Drop)]
+pub struct Place {
+    pub start: Start,
+    pub at: usize,
+}
+
+/// Whether an `else` goes on with the statement of a header.
+fn answers_else(tokens: &[CodeToken], o: Open, at: usize) -> bool
+    ensures { result ≡ answers_else tokens.now o at }
+{
+    o.head.is_if() && seen(tokens, o.end, at).is_else()
+}
+
+/// Whether the tail of a `do` goes on with the statement of a header.
+fn answers_tail(tokens: &[CodeToken], o: Open, at: usize) -> bool
+    requires { at < 2 ^ 33 }
+    ensures { result ≡ answers_tail tokens.now o at }
+{
+    o.head.is_do() && at < tail_end(tokens, o.end, at)
+}
+
+/// Ends the headers that waited for the statement that has ended.
+#[tactic(auto, using(crate::proofs::Lists::reverse_snoc))]
+pub(crate) fn settle(
+    tokens: &[CodeToken],
+    stack: &mut Vec<Open, &Bump>,
+    at: usize,
+) -> Result<Start, NoMemory>
+    requires { at < 2 ^ 33 }
+    ensures same { IfOk result (λ s. settled tokens.now at (reverse stack.old.items) ≡ record { opens = reverse stack.new.items; start = s }) }
+    ensures fewer { length stack.new.items ≤ length stack.old.items }
+{
+    while let Some(o) = stack.pop() {
+        if o.block {
+            stack.push(o)?;
+            return Ok(Start::Fresh);
+        }
+        if answers_else(tokens, o, at) {
+            return Ok(Start::Fresh);
+        }
+        if answers_tail(tokens, o, at) {
+            return Ok(Start::Tail);
+        }
+    }
+    Ok(Start::Fresh)
+}
+
+/// Takes off the innermost block, and all above it.
+fn leave(stack: &mut Vec<Open, &Bump>) -> Option<Open>
+    ensures some { IfSome result (λ b. left (reverse stack.old.items) ≡ Some (record { block = b; below = reverse stack.new.items })) }
+    ensures none { IfNone result (left (reverse stack.old.items) ≡ None) }
+    ensures fewer { IfSome result (λ b. length stack.new.items < length stack.old.items) }
+{
+    while let Some(o) = stack.pop() {
+        if o.block {
+            return Some(o);
+        }
+    }
+    None
+}
+
+/// The level of an own comment before a line.
+fn comment_level(o: Open, start: Start, f: Form) -> u32
+    ensures { result ≡ comment_level o start f }
+{
+    match start {
+        Start::Fresh => { if f.kind.is_label() { f.level } else { o.level } }
+        Start::Tail => o.level,
+        Start::Closing(b) => b.level,
+    }
+}
+
+/// The line at a place.
+fn line_of(o: Open, start: Start, at: usize, f: Form) -> Line
+    ensures { result ≡ line_of o start at f }
+{
+    Line {
+        first: at,
+        end: f.end,
+        level: f.level,
+        kind: f.kind,
+        list_level: comment_level(o, start, f),
+    }
+}
+
+/// Appends the lines of a head and its block's brace.
+fn push_head(
+    out: &mut Vec<Line, &Bump>,
+    o: Open,
+    start: Start,
+    at: usize,
+    f: Form,
+    wrapped: bool,
+) -> Result<(), NoMemory>
+    requires { f.end < 2 ^ 33 }
+    ensures { IfOk result (λ u. out.new.items ≡ out.old.items ++ head_lines o start at f wrapped) }
+{
+    if wrapped {
+        out.push(line_of(o, start, at, f))?;
+        out.push(Line {
+            first: f.end,
+            end: f.end + 1,
+            level: f.level,
+            kind: LineKind::Brace,
+            list_level: o.level,
+        })?;
+    } else {
+        out.push(Line {
+            first: at,
+            end: f.end + 1,
+            level: f.level,
+            kind: f.kind,
+            list_level: comment_level(o, start, f),
+        })?;
+    }
+    Ok(())
+}
+
+/// The statement that a header waits for.
+pub(crate) fn body_of(o: Open, head: Head, level: u32) -> Open
+    requires { level < 2 ^ 31 }
+    ensures { result ≡ body_of o head level }
+{
+    Open {
+        block: false,
+        context: o.context,
+        level: level + 1,
+        case_level: level + 1,
+        end: o.end,
+        head,
+        head_level: level,
+        assigned: false,
+    }
+}
+
+/// The whole view as a list.
+pub(crate) fn whole_file(tokens: &[CodeToken]) -> Open
+    ensures { result ≡ whole_file tokens.now }
+{
+    Open {
+        block: true,
+        context: Context::File,
+        level: 0,
+        case_level: 0,
+        end: tokens.len(),
+        head: Head::Plain,
+        head_level: 0,
+        assigned: false,
+    }
+}
+
+/// Leaves a list that has ended.
+fn leave_list(
+    braces: &Braces,
+    tokens: &[CodeToken],
+    out: &[Line],
+    stack: &mut Vec<Open, &Bump>,
+    o: Open,
+    place: Place,
+) -> Place
+    requires stands { Stands braces.now tokens.now out.now (o ∷ reverse stack.old.items) place.start place.at }
+    requires ended { o.end ≤ place.at }
+    ensures stands { Stands braces.now tokens.now out.now (reverse stack.new.items) result.start result.at }
+    ensures fewer { length stack.new.items ≤ length stack.old.items }
+    ensures stays { result.at ≡ place.at }
+{
+    if o.block {
+        return Place {
+            start: Start::Closing(o),
+            at: o.end,
+        };
+    }
+    match leave(stack) {
+        Some(b) => Place {
+            start: Start::Closing(b),
+            at: b.end,
+        },
+        None => place,
+    }
+}
+
+/// Appends a line, and opens or ends what it opens or ends.
+fn take_line(
+    braces: &Braces,
+    tokens: &[CodeToken],
+    out: &mut Vec<Line, &Bump>,
+    stack: &mut Vec<Open, &Bump>,
+    o: Open,
+    place: Place,
+    f: Form,
+) -> Result<Place, NoMemory>
+    requires small { length tokens.now < 2 ^ 30 }
+    requires stands { Stands braces.now tokens.now out.old.items (o ∷ reverse stack.old.items) place.start place.at }
+    requires here { place.at < o.end }
+    requires list { o.end ≤ length tokens.now }
+    requires form { form_of braces.now tokens.now o place.start place.at ≡ f }
+    requires stays { StaysIn place.at o f f.next }
+    requires level { f.level ≤ 2 * place.at }
+    ensures stands { IfOk result (λ p. Stands braces.now tokens.now out.new.items (reverse stack.new.items) p.start p.at) }
+    ensures up { IfOk result (λ p. (place.at < p.at) × (length stack.new.items ≤ length stack.old.items + 2)) }
+{
+    match f.next {
+        Next::Ends => {
+            out.push(line_of(o, place.start, place.at, f))?;
+            stack.push(o)?;
+            let start = settle(tokens, stack, f.end)?;
+            Ok(Place { start, at: f.end })
+        }
+        Next::Goes(start) => {
+            out.push(line_of(o, place.start, place.at, f))?;
+            stack.push(o)?;
+            Ok(Place { start, at: f.end })
+        }
+        Next::Waits(head) => {
+            out.push(line_of(o, place.start, place.at, f))?;
+            stack.push(o)?;
+            stack.push(body_of(o, head, f.level))?;
+            Ok(Place {
+                start: Start::Fresh,
+                at: f.end,
+            })
+        }
+        Next::Opens(wrapped, b) => {
+            push_head(out, o, place.start, place.at, f, wrapped)?;
+            stack.push(o)?;
+            stack.push(b)?;
+            Ok(Place {
+                start: Start::Fresh,
+                at: f.end + 1,
+            })
+        }
+    }
+}
+
+/// The lines of a view's tokens.
+pub fn tree_lines<'r>(
+    braces: &Braces,
+    tokens: &[CodeToken],
+    colons: &[usize],
+    run: &'r Bump,
+) -> Result<Vec<Line, &'r Bump>, NoMemory>
+    requires few { length tokens.now < 2 ^ 30 }
+    requires colons { AreColonsFrom 0 colons.now tokens.now }
+    ensures same { IfOk result (λ r. r.items ≡ lines_of braces.now tokens.now) }
+    ensures cut { IfOk result (λ r. IsCut 0 (length tokens.now) r.items) }
+{
+    let mut out = Vec::new(run);
+    let mut stack = Vec::new(run);
+    stack.push(whole_file(tokens))?;
+    let mut place = Place {
+        start: Start::Fresh,
+        at: 0,
+    };
+    while let Some(o) = stack.pop() {
+        place = turn(braces, tokens, colons, &mut out, &mut stack, o, place)?;
+    }
+    Ok(out)
+}
+
+/// One line, or the end of a list.
+fn turn(
+    braces: &Braces,
+    tokens: &[CodeToken],
+    colons: &[usize],
+    out: &mut Vec<Line, &Bump>,
+    stack: &mut Vec<Open, &Bump>,
+    o: Open,
+    place: Place,
+) -> Result<Place, NoMemory>
+    requires colons { AreColonsFrom 0 colons.now tokens.now }
+    requires small { length tokens.now < 2 ^ 30 }
+    requires stands { Stands braces.now tokens.now out.old.items (o ∷ reverse stack.old.items) place.start place.at }
+    ensures stands { IfOk result (λ p. Stands braces.now tokens.now out.new.items (reverse stack.new.items) p.start p.at) }
+    ensures up { IfOk result (λ p. 2 * (length tokens.now - p.at) + length stack.new.items < 2 * (length tokens.now - place.at) + length stack.old.items + 1) }
+{
+    if place.at < o.end {
+        let f = form_of(braces, tokens, colons, o, place.start, place.at);
+        take_line(braces, tokens, out, stack, o, place, f)
+    } else {
+        Ok(leave_list(braces, tokens, out, stack, o, place))
+    }
+}

@@ -1,0 +1,144 @@
+//! A view as a list of tokens and comments.
+
+ghost use Rattle.std.specs.Prelude.{◌≡◌, ◌<◌, ◌≤◌, ◌+◌, ◌^◌, length, map, get_or, slice_get, IfOk, Some};
+ghost use Rattle.brackets.specs.Viewed.{AreWithin, classes_of};
+ghost use Rattle.brackets.specs.declared.class.TokenClass.TheVariants.{Nothing};
+ghost use Rattle.unwrapped_lines.specs.Viewed.{item_began, line_ends_behind, colon_touches, numbers_of, partner_number, token_at, code_tokens, part_of, parts_of};
+ghost use Rattle.c_chars.specs.declared.TheConstants.{LIMIT};
+
+use crate::part::Part;
+use crate::token::CodeToken;
+use brackets::{TokenClass, item_class};
+use bumpalo::Bump;
+use line_tokens::{NoMemory, TokenId};
+use token_arena::TokenArena;
+use token_views::View;
+
+/// Whether an item began its line.
+fn item_began(arena: &TokenArena<'_, '_>, id: u32) -> bool
+    ensures { result ≡ item_began arena.now id }
+{
+    id < arena.len() && arena.get(TokenId(id)).gap.began
+}
+
+/// Whether a new-line or the end of the file comes behind an item.
+fn line_ends_behind(arena: &TokenArena<'_, '_>, id: u32) -> bool
+    requires { id < length arena.now.tokens }
+    ensures { result ≡ line_ends_behind arena.now id }
+{
+    let count = arena.len();
+    count <= id + 1 || item_began(arena, id + 1)
+}
+
+/// Whether a colon comes directly behind an item, with nothing between them.
+fn colon_touches(arena: &TokenArena<'_, '_>, id: u32, run: &Bump) -> Result<bool, NoMemory>
+    requires { id < length arena.now.tokens }
+    ensures { IfOk result (λ touches. touches ≡ colon_touches arena.now id) }
+{
+    let count = arena.len();
+    if count <= id + 1 {
+        return Ok(false);
+    }
+    let next = TokenId(id + 1);
+    if !arena.get(next).gap.empty {
+        return Ok(false);
+    }
+    let class = item_class(arena, next, run)?;
+    Ok(class.is_colon())
+}
+
+/// How many tokens that are no comments stand before each place.
+fn numbers<'r>(classes: &[TokenClass], run: &'r Bump) -> Result<Vec<usize, &'r Bump>, NoMemory>
+    ensures { IfOk result (λ numbers. numbers.items ≡ numbers_of classes.now) }
+{
+    let mut numbers = Vec::new(run);
+    let mut number: usize = 0;
+    for class in classes {
+        numbers.push(number)?;
+        if !class.is_comment() {
+            number += 1;
+        }
+    }
+    Ok(numbers)
+}
+
+/// A partner, counted over the tokens that are no comments.
+fn partner_number(numbers: &[usize], partners: &[Option<u32>], k: usize) -> Option<usize>
+    ensures { result ≡ partner_number numbers.now (slice_get partners.now k) }
+{
+    match partners.get(k) {
+        Some(Some(place)) => numbers.get(*place as usize).copied(),
+        Some(None) => None,
+        None => None,
+    }
+}
+
+/// The tokens of a view that are no comments, with their partners.
+pub(crate) fn code_tokens<'r>(
+    arena: &TokenArena<'_, '_>,
+    view: &View<'_>,
+    classes: &[TokenClass],
+    partners: &[Option<u32>],
+    run: &'r Bump,
+) -> Result<Vec<CodeToken, &'r Bump>, NoMemory>
+    requires within { AreWithin arena.now view.now }
+    requires places { length classes.now ≡ length view.now }
+    requires few { length classes.now ≤ LIMIT }
+    ensures tokens { IfOk result (λ tokens. tokens.items ≡ code_tokens arena.now view.now classes.now partners.now) }
+    ensures few { IfOk result (λ tokens. length tokens.items ≤ LIMIT) }
+{
+    let numbers = numbers(classes, run)?;
+    let mut tokens = Vec::new(run);
+    for (k, class) in classes.iter().enumerate() {
+        if !class.is_comment() {
+            let id = view.at(k as u32);
+            tokens.push(CodeToken {
+                class: *class,
+                began: item_began(arena, id.0),
+                touched: class.is_colon() && colon_touches(arena, id.0, run)?,
+                partner: partner_number(&numbers, partners, k),
+            })?;
+        }
+    }
+    Ok(tokens)
+}
+
+/// What an item is: a token, or a comment of one of three kinds.
+fn part_of(arena: &TokenArena<'_, '_>, id: u32, started: bool, class: TokenClass) -> Part
+    requires { id < length arena.now.tokens }
+    ensures { result ≡ part_of arena.now id started class }
+{
+    if !class.is_comment() {
+        return Part::Token;
+    }
+    if !started || item_began(arena, id) {
+        return Part::Own;
+    }
+    if class.is_line_comment() || line_ends_behind(arena, id) {
+        return Part::Trailing;
+    }
+    Part::Inner
+}
+
+/// The parts of a view.
+pub(crate) fn parts<'r>(
+    arena: &TokenArena<'_, '_>,
+    view: &View<'_>,
+    classes: &[TokenClass],
+    run: &'r Bump,
+) -> Result<Vec<Part, &'r Bump>, NoMemory>
+    requires within { AreWithin arena.now view.now }
+    requires places { length classes.now ≡ length view.now }
+    requires few { length classes.now ≤ LIMIT }
+    ensures parts { IfOk result (λ parts. parts.items ≡ parts_of arena.now view.now classes.now) }
+    ensures few { IfOk result (λ parts. length parts.items ≤ LIMIT) }
+{
+    let mut parts = Vec::new(run);
+    let mut started = false;
+    for (k, class) in classes.iter().enumerate() {
+        let id = view.at(k as u32);
+        parts.push(part_of(arena, id.0, started, *class))?;
+        started = started || !class.is_comment();
+    }
+    Ok(parts)
+}
