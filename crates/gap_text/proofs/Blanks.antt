@@ -6,6 +6,9 @@ use Rattle.gap_text.specs.GapText.{blanks, line_end, line_ends}
 pub blanks_split : (n m k : ℕ) → n + m ≡ k → blanks k ≡ blanks n ++ blanks m
 blanks_split n m k is = rw (← is) (sym (replicate-append-replicate n m 32))
 
+pub repeated_split : (c n m k : ℕ) → n + m ≡ k → replicate k c ≡ replicate n c ++ replicate m c
+repeated_split c n m k is = rw (← is) (sym (replicate-append-replicate n m c))
+
 pub blanks_front : (n : ℕ) → n ≤ 64 → take n (replicate 64 32) ≡ blanks n
 blanks_front n within = take-replicate n 64 32 within
 

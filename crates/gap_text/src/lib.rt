@@ -4,6 +4,8 @@
 //! the items.
 #![tactic(auto)]
 
+#[cfg(test)]
+mod tests;
 mod white;
 
 pub use white::write_gap;
@@ -15,7 +17,7 @@ pub enum Decision {
     Old,
     /// So many blanks.
     Spaces(u32),
-    /// So many line ends, and then blanks up to the column at which the next item starts.
+    /// So many line ends, and then indentation up to the column at which the next item starts.
     Lines {
         /// How many line ends.
         count: u32,
