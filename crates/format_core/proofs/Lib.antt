@@ -1,4 +1,11 @@
-pub mod PlainGaps
-pub mod PlainTwin
 pub mod Braces
-pub mod PlainSteps
+pub mod Spelled
+pub mod Counts
+pub mod Places
+pub mod TextLines
+pub mod Broken
+pub mod Leaving
+pub mod TwinGaps
+pub mod FirstMark
+pub mod PlainTwin
+pub mod Opens

@@ -1,122 +1,228 @@
--- The plain layout of a built text is a twin of it.
-use Rattle.std.proofs.Common.{◌≡◌, ◌==◌, ◌∙◌, ◌<◌, ℕ, ◌+◌, Bool, true, false, List, [], ◌∷◌, ◌++◌, length, map, drop, refl, sym, ap, subst, arith, take, length-take-le}
-use Rattle.std.proofs.lemmas.List.{length-map}
-use Rattle.std.specs.List.{list_all}
+-- The plain layout of a text is a twin of it.
+use Rattle.std.proofs.Common.{◌≡◌, ◌==◌, ◌∙◌, ◌||◌, ◌&&◌, not, ℕ, ◌+◌, Bool, true, false, List, [], ◌∷◌, ◌++◌, refl, sym, ap, subst, arith, length, map, take, drop, append_assoc, nat_lt}
+use Rattle.std.specs.Prelude.{if◌then◌else◌}
+use Rattle.std.specs.List.{list_any}
 use Rattle.std.proofs.lemmas.Bool.Decides.{nat_tests}
-use Rattle.c_chars.specs.Characters.{bytes_of, mark_len, placed}
+use Rattle.c_chars.specs.Characters.{bytes_of, chars, mark_len}
 use Rattle.c_chars.specs.declared.Dialect.{Dialect}
 use Rattle.c_chars.specs.declared.LogicalChar.{LogicalChar}
-use Rattle.c_grammar.specs.Built.{are_built}
-use Rattle.c_grammar.specs.Grammar.{is_same}
-use Rattle.c_grammar.specs.Items.{Place, LineStart, past_gap, past_item, Reads}
-use Rattle.c_grammar.specs.Text.{ReadItem, piece_of, raw_of, begin_of, finish_of, start_of, end_of, characters_of}
+use Rattle.c_grammar.specs.Grammar.{is_new_line}
+use Rattle.c_grammar.specs.Items.{Place, LineStart, past_gap, past_item, is_gap, IsNext, Reads, written}
+use Rattle.c_grammar.specs.Touch.{takes_line}
+use Rattle.c_grammar.specs.Text.{ReadItem, piece_of, raw_of, end_of, characters_of, LexesText}
 use Rattle.c_grammar.specs.Twin.{IsTwin}
-use Rattle.c_grammar.specs.Regapping.{regapped_text, AreLikeGaps, FitItems, is_plain_gap}
-use Rattle.c_grammar.proofs.Own.{built_logical, built_all_own, own_no_mark}
-use Rattle.c_grammar.proofs.RegappedText.{regaps_built_texts}
-use Rattle.token_arena.specs.Stored.{Stored, stored_of, stored_from, gap_facts}
-use Rattle.token_arena.specs.Gaps.{Contents, gap_of}
+use Rattle.c_grammar.specs.Regapping.{regapped_text}
+use Rattle.c_grammar.specs.Fitting.{in_directive, IsFitEnd}
+use Rattle.c_grammar.specs.Rewritten.{read_alone, AreFitBytes, FitBehind, FitText, kept_bytes}
+use Rattle.c_grammar.proofs.ItemBytes.{AreParted, parted}
+use Rattle.c_grammar.proofs.AllGaps.{first_place}
+use Rattle.c_grammar.proofs.KeptBytes.{kept_bytes_fit}
+use Rattle.c_grammar.proofs.Rewritten.{HasMark, mark_of, rewrites_gaps}
+use Rattle.c_grammar.proofs.White.{white_reads_so}
+use Rattle.c_grammar.specs.Rewritten.{Blank, LineEnd}
+use Rattle.c_grammar.specs.Grammar.{is_white}
+use Rattle.gap_text.specs.GapText.{line_end}
+use Rattle.format_core.proofs.FirstMark.{no_mark_comes, no_mark_left}
+use Rattle.token_arena.specs.Stored.{Stored, stored_of, stored_from, stored_items, new_lines}
+use Rattle.token_arena.specs.Gaps.{Contents, behind}
 use Rattle.token_arena.specs.Holds.{HoldsItems}
-use Rattle.token_arena.proofs.PlacedLemmas.{next_some, placed_cut, begin_of-placed, finish_of-placed}
-use Rattle.gap_text.specs.GapText.{gap_text}
-use Rattle.format_core.specs.PlainLayout.{depth_at, depth_after, gap_decision, last_decision, plain_from, mark_bytes, plain_text}
-use Rattle.format_core.proofs.PlainGaps.{plain_decision, plain_last, like_gap}
-
--- the gaps of plain layout
-pub plain_gaps : Bool → ℕ → List Stored → List (List ℕ)
-plain_gaps is_first depth [] = []
-plain_gaps is_first depth (token ∷ tokens) = gap_text false (gap_decision is_first (depth_at depth token) token.gap) [] ∷ plain_gaps false (depth_after depth token) tokens
-
-plain_gaps_plain : (is_first : Bool) (depth : ℕ) (tokens : List Stored) → list_all is_plain_gap (plain_gaps is_first depth tokens) ≡ true
-unfolding plain_gaps
-plain_gaps_plain is_first depth [] = refl
-plain_gaps_plain is_first depth (token ∷ tokens) = rw (plain_decision is_first (depth_at depth token) token.gap) (plain_gaps_plain false (depth_after depth token) tokens)
+use Rattle.directives.specs.Directives.{spelling}
+use Rattle.directives.specs.Sections.{sections_of, sections_from, lines_of}
+use Rattle.directives.specs.declared.Section.{Section}
+use Rattle.style_table.specs.declared.style.Style.{Style}
+use Rattle.format_core.specs.LineEnds.{ends_by}
+use Rattle.format_core.specs.Standing.{standing_in}
+use Rattle.format_core.specs.PlainLayout.{guard_of, first_gap, gap_before, last_gap, depth_behind, mark_bytes, plain_from, plain_text}
+use Rattle.format_core.specs.declared.guard.Guard.{Guard}
+use Rattle.format_core.specs.declared.guard.Guard.TheVariants as guard
+use Rattle.format_core.proofs.Broken.{Leaves}
+use Rattle.format_core.proofs.Leaving.{leaves_guard, keeps_line, OutPlace, out_place, from_start, from_line, new_lines-any}
+use Rattle.format_core.proofs.TextLines.{StandSo, standing_as, inside_at, leads_hash, items_stand}
+use Rattle.format_core.proofs.TwinGaps.{plain_gaps, plain_end, Here, next_here, FitsLast, last_fits, gap_fits}
+use Rattle.format_core.proofs.Spelled.{has_mark, no_mark, marked}
 
 -- plain layout puts these gaps before the items
-plain_regapped : (text last : List ℕ) (is_first begins : Bool) (depth from : ℕ) (items : List ReadItem) →
-    plain_from last is_first depth (stored_from text begins from items)
-    ≡ regapped_text (plain_gaps is_first depth (stored_from text begins from items)) items text (gap_text false (last_decision last) [])
-unfolding plain_gaps
-plain_regapped text last is_first begins depth from [] = refl
-plain_regapped text last is_first begins depth from (item ∷ items) =
-    let token = stored_of text begins from item in
-    ap (λ (x : List ℕ). gap_text false (gap_decision is_first (depth_at depth token) token.gap) [] ++ (raw_of text item ++ x))
-    (plain_regapped text last false false (depth_after depth token) (end_of item) items)
+plain_regapped : (style : Style) (crlf : Bool) (arena : Contents) (sections : List Section) (g : Guard) (depth at place from : ℕ) (first : Bool) (items : List ReadItem) →
+    plain_from style crlf arena sections g depth at place (stored_from arena.text first from items)
+    ≡ regapped_text (plain_gaps style crlf arena sections g depth at place (stored_from arena.text first from items)) items arena.text (plain_end style crlf arena g at place (stored_from arena.text first from items))
+plain_regapped style crlf arena sections g depth at place from first [] = refl
+plain_regapped style crlf arena sections g depth at place from first (i ∷ items) =
+    let t = stored_of arena.text first from i in
+    let ts = stored_from arena.text false (end_of i) items in
+    ap (λ (x : List ℕ). (if place == 0 then first_gap arena.text t else gap_before style crlf arena g depth at (standing_in sections place) t ts) ++ (raw_of arena.text i ++ x))
+    (plain_regapped style crlf arena sections (guard_of t) (depth_behind arena.dialect depth (standing_in sections place) t) (behind t) (place + 1) (end_of i) false items)
 
--- An item that is read where each byte is a character: it begins behind its gap, and the rest begins behind it.
-record IsItemAt (from : ℕ) (s : List ℕ) (item : ReadItem) (rest : List LogicalChar) : Type 0 where
-  begins : start_of item ≡ from + length item.gap
-  behind : List ℕ
-  left : rest ≡ placed (end_of item) behind
+-- The place behind an item of a line that is no directive.
+next_out : (d : Dialect) (text : List ℕ) (place : Place) (inside : Bool) (left i : ReadItem) (ts : List Stored) → spelling d (stored_of text false (end_of left) i) ≡ bytes_of i.chars →
+    (inside ≡ false → OutPlace d place (stored_of text false (end_of left) i ∷ ts)) → inside_at d inside (stored_of text false (end_of left) i) ts ≡ false →
+    OutPlace d (past_item d (past_gap place (bytes_of i.gap)) i.kind (bytes_of i.chars)) ts
+next_out d text place inside left i ts spelled out now = by (list_any is_new_line (bytes_of i.gap)) (new_lines-any i.gap) refl
+  where
+    t : Stored
+    t = stored_of text false (end_of left) i
 
-item_at : (from : ℕ) (s : List ℕ) (item : ReadItem) (rest : List LogicalChar) → placed from s ≡ item.gap ++ (item.chars ++ rest) → 0 < length item.chars → IsItemAt from s item rest
-item_at from s item rest whole some =
-    let gap = placed_cut from s item.gap (item.chars ++ rest) whole in
-    let own = placed_cut (from + length item.gap) (drop (length item.gap) s) item.chars rest (sym gap.back) in
-    let bytes : List ℕ = take (length item.chars) (drop (length item.gap) s) in
-    let long : length bytes ≡ length item.chars = length-take-le (length item.chars) (drop (length item.gap) s) own.fits in
-    let positive : 0 < length bytes = omega (arith, long, some) in
-    let finish : end_of item ≡ from + length item.gap + length item.chars =
-    ap finish_of own.front ∙ (finish_of-placed (from + length item.gap) bytes positive ∙ ap (λ (n : ℕ). from + length item.gap + n) long) in
-    record {
-      begins = ap begin_of own.front ∙ begin_of-placed (from + length item.gap) bytes positive;
-      behind = drop (length item.chars) (drop (length item.gap) s);
-      left = own.back ∙ ap (λ (n : ℕ). placed n (drop (length item.chars) (drop (length item.gap) s))) (sym finish);
-    }
+    by : (b : Bool) → not (new_lines i.gap == 0) ≡ b → list_any is_new_line (bytes_of i.gap) ≡ b → OutPlace d (past_item d (past_gap place (bytes_of i.gap)) i.kind (bytes_of i.chars)) ts
+    by true began lines =
+        let no : leads_hash d t ts ≡ false = ap (λ b. if b then leads_hash d t ts else inside) (sym began) ∙ now in
+        subst (λ b. OutPlace d (past_item d (if b then LineStart else place) i.kind (bytes_of i.chars)) ts) (sym lines)
+        (subst (λ z. OutPlace d (past_item d LineStart i.kind z) ts) spelled (from_start d t ts no))
+    by false began lines =
+        let same : inside ≡ false = ap (λ b. if b then leads_hash d t ts else inside) (sym began) ∙ now in
+        subst (λ b. OutPlace d (past_item d (if b then LineStart else place) i.kind (bytes_of i.chars)) ts) (sym lines)
+        (subst (λ z. OutPlace d (past_item d place i.kind z) ts) spelled (from_line d place t ts began (out same)))
 
--- the item stands directly behind the one before it exactly where its gap has no character
-touches : (from start : ℕ) (gap : List LogicalChar) → start ≡ from + length gap → (start == from) ≡ is_same (bytes_of gap) []
-touches from start [] is = let same : start ≡ from = omega (arith, is) in grind (arith, nat_tests)
-touches from start (c ∷ gap) is = let apart : from < start = omega (arith, is) in grind (arith, nat_tests)
+-- in a line that is no directive a gap without a new-line stands at no place of a directive
+gap_out : (d : Dialect) (text : List ℕ) (place : Place) (inside : Bool) (left i : ReadItem) (ts : List Stored) → (inside ≡ false → OutPlace d place (stored_of text false (end_of left) i ∷ ts)) →
+    inside_at d inside (stored_of text false (end_of left) i) ts ≡ false → list_any is_new_line (bytes_of i.gap) ≡ false → in_directive place ≡ false
+gap_out d text place inside left i ts out now lines =
+    let t = stored_of text false (end_of left) i in
+    let began : t.gap.began ≡ false = new_lines-any i.gap ∙ lines in
+    let same : inside ≡ false = ap (λ b. if b then leads_hash d t ts else inside) (sym began) ∙ now in
+    out_place d place (t ∷ ts) (out same)
 
--- the gaps of plain layout are like those of the items
-like_gaps : (d : Dialect) (place : Place) (text s : List ℕ) (from depth : ℕ) (items : List ReadItem) (last : List LogicalChar) →
-    placed from s ≡ characters_of items last → Reads d place (map piece_of items) (bytes_of last) →
-    AreLikeGaps (plain_gaps false depth (stored_from text false from items)) items
-unfolding plain_gaps
-like_gaps d place text s from depth [] last whole reads = tt
-like_gaps d place text s from depth (item ∷ items) last whole reads =
-    let here = past_gap place (bytes_of item.gap) in
-    let some : 0 < length (bytes_of item.chars) = next_some d here item.kind (bytes_of item.chars) _ reads.1 in
-    let long : length (bytes_of item.chars) ≡ length item.chars = length-map item.chars (λ (c : LogicalChar). c.byte) in
-    let at = item_at from s item (characters_of items last) whole (omega (arith, long, some)) in (
-      like_gap (depth_at depth (stored_of text false from item)) (gap_facts false from item) item.gap refl (touches from (start_of item) item.gap at.begins),
-      like_gaps d (past_item d here item.kind (bytes_of item.chars)) text at.behind (end_of item) (depth_after depth (stored_of text false from item)) items last (sym at.left) reads.2,
-    )
+not_first : (n : ℕ) → (n + 1 == 0) ≡ false
+not_first n = grind (arith, nat_tests)
 
-fit_items : (d : Dialect) (text : List ℕ) (items : List ReadItem) (last : List LogicalChar) →
-    placed 0 text ≡ characters_of items last → Reads d LineStart (map piece_of items) (bytes_of last) →
-    FitItems (plain_gaps true 0 (stored_from text true 0 items)) items
-unfolding plain_gaps
-fit_items d text [] last whole reads = tt
-fit_items d text (item ∷ items) last whole reads =
-    let here = past_gap LineStart (bytes_of item.gap) in
-    let some : 0 < length (bytes_of item.chars) = next_some d here item.kind (bytes_of item.chars) _ reads.1 in
-    let long : length (bytes_of item.chars) ≡ length item.chars = length-map item.chars (λ (c : LogicalChar). c.byte) in
-    let at = item_at 0 text item (characters_of items last) whole (omega (arith, long, some)) in (
-      refl,
-      like_gaps d (past_item d here item.kind (bytes_of item.chars)) text at.behind (end_of item) (depth_after 0 (stored_of text true 0 item)) items last (sym at.left) reads.2,
-    )
+-- what is shown of the gaps behind an item
+record FitsBehind (d : Dialect) (place : Place) (left : ReadItem) (gaps : List (List ℕ)) (items : List ReadItem) (last : List LogicalChar) (end : List ℕ) : Type 0 where
+  gaps_fit : FitBehind d place left gaps items end
+  end_fits : IsFitEnd (piece_of left ∷ map piece_of items) (bytes_of last) (read_alone d end)
 
--- The plain layout of a built text is a twin of it.
-pub plain_twin : (arena : Contents) → are_built arena.text ≡ true → HoldsItems arena → IsTwin arena.dialect arena.text (plain_text arena)
-plain_twin arena built holds =
-    let text : List ℕ = arena.text in
-    let no_mark : mark_len text ≡ 0 = own_no_mark text (built_all_own text built) in
-    let last : List ℕ = gap_of arena (length arena.tokens) in
-    let tokens : List Stored = stored_from text true 0 holds.items in
-    let are_tokens : arena.tokens ≡ tokens = holds.tokens ∙ ap (λ (n : ℕ). stored_from text true n holds.items) no_mark in
-    let whole : placed 0 text ≡ characters_of holds.items holds.last = sym (built_logical arena.dialect text built) ∙ holds.lexes.whole in
-    let shape : plain_text arena ≡ regapped_text (plain_gaps true 0 tokens) holds.items text (gap_text false (last_decision last) []) =
-    ap (λ (n : ℕ). mark_bytes n ++ plain_from last true 0 arena.tokens) no_mark
-    ∙ (ap (λ (ts : List Stored). plain_from last true 0 ts) are_tokens ∙ plain_regapped text last true true 0 0 holds.items) in
-    subst (λ (c : List ℕ). IsTwin arena.dialect text c) (sym shape)
-    (regaps_built_texts arena.dialect text holds.items holds.last (plain_gaps true 0 tokens) (gap_text false (last_decision last) []) built holds.lexes
-    (fit_items arena.dialect text holds.items holds.last whole holds.lexes.reads)
-    (plain_gaps_plain true 0 tokens)
-    (plain_last last))
+behind_fits : (style : Style) (crlf : Bool) (arena : Contents) (sections : List Section) (place left_place : Place) (n : ℕ) (inside : Bool) (g : Guard) (depth at : ℕ) (all before : List ReadItem) (left : ReadItem) (items : List ReadItem) (last : List LogicalChar) (old : List ℕ) →
+    LexesText arena.dialect arena.text all last → all ≡ before ++ left ∷ items → Here arena.dialect arena.text left old items last →
+    IsNext arena.dialect left_place left.kind (bytes_of left.chars) (written (map piece_of items) (bytes_of last)) → Reads arena.dialect place (map piece_of items) (bytes_of last) →
+    Leaves left g → at ≡ end_of left → (n == 0) ≡ false →
+    StandSo arena.dialect (standing_in sections) n inside (stored_from arena.text false (end_of left) items) →
+    (inside ≡ false → OutPlace arena.dialect place (stored_from arena.text false (end_of left) items)) →
+    FitsBehind arena.dialect place left (plain_gaps style crlf arena sections g depth at n (stored_from arena.text false (end_of left) items)) items last (plain_end style crlf arena g at n (stored_from arena.text false (end_of left) items))
+behind_fits style crlf arena sections place left_place n inside g depth at all before left [] last old lexes whole here next reads leaves at_is later stand out =
+    let there : drop at arena.text ≡ old = ap (λ m. drop m arena.text) at_is ∙ here.there in
+    let fits : FitsLast arena.dialect left last (last_gap style crlf arena.dialect (n == 0) g (drop at arena.text)) =
+    subst (λ z. FitsLast arena.dialect left last (last_gap style crlf arena.dialect (n == 0) g z)) (sym there) (last_fits style crlf arena.dialect arena.text (n == 0) g left old last here leaves reads) in
+    record { gaps_fit = fits.guarded; end_fits = fits.fits }
+behind_fits style crlf arena sections place left_place n inside g depth at all before left (i ∷ items) last old lexes whole here next reads leaves at_is later stand out =
+    let d = arena.dialect in
+    let text = arena.text in
+    let t = stored_of text false (end_of left) i in
+    let ts = stored_from text false (end_of i) items in
+    let now = inside_at d inside t ts in
+    let kept : AreFitBytes d place left i (kept_bytes text left i) = kept_bytes_fit d text before items left i last place (subst (λ z. LexesText d text z last) whole lexes) in
+    let line : list_any is_new_line (bytes_of i.gap) ≡ false → takes_line left.kind ≡ false =
+    λ none. keeps_line d left_place (past_gap place (bytes_of i.gap)) left.kind i.kind (bytes_of left.chars) (bytes_of i.chars) (bytes_of i.gap) _ (written (map piece_of items) (bytes_of last)) refl next reads.1 none in
+    let as_it_stands : AreFitBytes d place left i (gap_before style crlf arena g depth at (standing_as now t) t ts) =
+    gap_fits style crlf arena place left i ts g depth at now leaves at_is kept line (λ no lines. gap_out d text place inside left i ts out no lines) in
+    let one : AreFitBytes d place left i (if n == 0 then first_gap text t else gap_before style crlf arena g depth at (standing_in sections n) t ts) =
+    subst (λ b. AreFitBytes d place left i (if b then first_gap text t else gap_before style crlf arena g depth at (standing_in sections n) t ts)) (sym later)
+    (subst (λ s. AreFitBytes d place left i (gap_before style crlf arena g depth at s t ts)) (sym stand.0) as_it_stands) in
+    let here_next = next_here d text (end_of left) old i items last here.there here.chars_are here.parts reads.0 in
+    let rest = behind_fits style crlf arena sections (past_item d (past_gap place (bytes_of i.gap)) i.kind (bytes_of i.chars)) (past_gap place (bytes_of i.gap)) (n + 1) now (guard_of t)
+    (depth_behind d depth (standing_in sections n) t) (behind t) all (before ++ left ∷ []) i items last here.parts.1
+    lexes (whole ∙ sym (append_assoc before (left ∷ []) (i ∷ items))) here_next reads.1 reads.2
+    (leaves_guard d text false (end_of left) i here_next.reads) (sym here.parts.8) (not_first n) stand.1
+    (next_out d text place inside left i ts here_next.reads.spelling out) in
+    record { gaps_fit = (one, rest.gaps_fit); end_fits = record { white = rest.end_fits.white; line = rest.end_fits.line } }
 
--- twins of equal texts
-pub twin_along : (d e : Dialect) (b b' c c' : List ℕ) → d ≡ e → b ≡ b' → c ≡ c' → IsTwin d b c → IsTwin e b' c'
-twin_along d e b b' c c' dialect first second twin =
-    subst (λ (x : Dialect). IsTwin x b' c') dialect (subst (λ (x : List ℕ). IsTwin d x c') first (subst (λ (x : List ℕ). IsTwin d b x) second twin))
+-- the items of a text in its bytes
+text_parts : (d : Dialect) (text : List ℕ) (items : List ReadItem) (last : List LogicalChar) → LexesText d text items last → AreParted d text (mark_len text) (drop (mark_len text) text) items
+text_parts d text items last lexes =
+    let mark : HasMark text = mark_of text in
+    let front = take (mark_len text) text in
+    let old = drop (mark_len text) text in
+    let at_front : chars d (length front) old ≡ characters_of items last = ap (λ z. chars d z old) mark.long ∙ lexes.whole in
+    subst (λ z. AreParted d text z old items) mark.long (parted d text front old LineStart items last mark.whole at_front lexes.reads)
+
+-- the first gap is none, or a blank
+first_white : (d : Dialect) (text : List ℕ) (t : Stored) → is_gap (read_alone d (first_gap text t)) ≡ true
+unfolding is_white is_new_line
+first_white d text t = by (nat_lt 0 (mark_len text) || not (nat_lt 0 (mark_len t.raw)))
+  where
+    by : (b : Bool) → is_gap (read_alone d (if b then [] else 32 ∷ [])) ≡ true
+    by true = ap is_gap (white_reads_so d [])
+    by false = ap is_gap (white_reads_so d (Blank ∷ []))
+
+-- a text without items
+none_fits : (style : Style) (crlf : Bool) (d : Dialect) (gap : List ℕ) → is_gap (read_alone d (last_gap style crlf d true guard.Free gap)) ≡ true
+unfolding is_white is_new_line
+none_fits style crlf d gap = by (list_any is_new_line (read_alone d gap)) style.insert_newline_at_eof crlf
+  where
+    by : (a b crlf : Bool) → is_gap (read_alone d (if a then [] ++ line_end crlf else (if b && false then line_end crlf else []))) ≡ true
+    by true b true = ap is_gap (white_reads_so d (LineEnd true ∷ []))
+    by true b false = ap is_gap (white_reads_so d (LineEnd false ∷ []))
+    by false true crlf = ap is_gap (white_reads_so d [])
+    by false false crlf = ap is_gap (white_reads_so d [])
+
+-- the gaps of a whole text
+text_fits : (style : Style) (crlf : Bool) (arena : Contents) (items : List ReadItem) (last : List LogicalChar) → LexesText arena.dialect arena.text items last →
+    (sections : List Section) → sections ≡ sections_from arena.dialect 0 (lines_of (stored_items arena.text items)) →
+    FitText arena.dialect (plain_gaps style crlf arena sections guard.Free 0 (mark_len arena.text) 0 (stored_items arena.text items)) items (plain_end style crlf arena guard.Free (mark_len arena.text) 0 (stored_items arena.text items))
+    × IsFitEnd (map piece_of items) (bytes_of last) (read_alone arena.dialect (plain_end style crlf arena guard.Free (mark_len arena.text) 0 (stored_items arena.text items)))
+text_fits style crlf arena [] last lexes sections is = (tt, record { white = none_fits style crlf arena.dialect (drop (mark_len arena.text) arena.text); line = refl })
+text_fits style crlf arena (i ∷ items) last lexes sections is =
+    let d = arena.dialect in
+    let text = arena.text in
+    let n = mark_len text in
+    let old = drop n text in
+    let t = stored_of text true n i in
+    let ts = stored_from text false (end_of i) items in
+    let parts : AreParted d text n old (i ∷ items) = text_parts d text (i ∷ items) last lexes in
+    let here = next_here d text n old i items last refl lexes.whole parts lexes.reads.0 in
+    let stand : StandSo d (standing_in sections) 0 false (t ∷ ts) = subst (λ z. StandSo d (standing_in z) 0 false (t ∷ ts)) (sym is) (items_stand d t ts refl) in
+    let start : past_gap LineStart (bytes_of i.gap) ≡ LineStart = first_place (bytes_of i.gap) in
+    let reads : Reads d (past_item d LineStart i.kind (bytes_of i.chars)) (map piece_of items) (bytes_of last) = subst (λ z. Reads d (past_item d z i.kind (bytes_of i.chars)) (map piece_of items) (bytes_of last)) start lexes.reads.2 in
+    let rest = behind_fits style crlf arena sections (past_item d LineStart i.kind (bytes_of i.chars)) (past_gap LineStart (bytes_of i.gap)) (0 + 1) (leads_hash d t ts) (guard_of t)
+    (depth_behind d 0 (standing_in sections 0) t) (behind t) (i ∷ items) [] i items last parts.1
+    lexes refl here lexes.reads.1 reads (leaves_guard d text true n i here.reads) (sym parts.8) (not_first 0) stand.1
+    (λ no. subst (λ z. OutPlace d (past_item d LineStart i.kind z) ts) here.reads.spelling (from_start d t ts no)) in
+    ((first_white d text t, rest.gaps_fit), rest.end_fits)
+
+-- no byte order mark comes
+no_blank : ◌≡◌ {A = List ℕ} [] (32 ∷ []) → ⊥
+no_blank e = cc
+
+first_marked : (text : List ℕ) (t : Stored) → mark_len text ≡ 0 → first_gap text t ≡ [] → mark_len t.raw ≡ 0
+first_marked text t none e = elim (marked t.raw) [
+  | no_mark is ↦ is
+  | has_mark rest is ↦
+      let blank : first_gap text t ≡ 32 ∷ [] = ap (λ n. if nat_lt 0 n || not (nat_lt 0 (mark_len t.raw)) then [] else 32 ∷ []) none ∙ ap (λ z. if false || not (nat_lt 0 (mark_len z)) then [] else 32 ∷ []) is in
+      absurd (no_blank (sym e ∙ blank))
+]
+
+no_new_mark : (style : Style) (crlf : Bool) (arena : Contents) (items : List ReadItem) (last : List LogicalChar) (sections : List Section) → LexesText arena.dialect arena.text items last →
+    FitText arena.dialect (plain_gaps style crlf arena sections guard.Free 0 (mark_len arena.text) 0 (stored_items arena.text items)) items (plain_end style crlf arena guard.Free (mark_len arena.text) 0 (stored_items arena.text items)) →
+    is_gap (read_alone arena.dialect (plain_end style crlf arena guard.Free (mark_len arena.text) 0 (stored_items arena.text items))) ≡ true →
+    mark_len arena.text ≡ 0 →
+    mark_len (regapped_text (plain_gaps style crlf arena sections guard.Free 0 (mark_len arena.text) 0 (stored_items arena.text items)) items arena.text (plain_end style crlf arena guard.Free (mark_len arena.text) 0 (stored_items arena.text items))) ≡ 0
+no_new_mark style crlf arena [] last sections lexes fits white none = no_mark_left arena.dialect (plain_end style crlf arena guard.Free (mark_len arena.text) 0 []) white
+no_new_mark style crlf arena (i ∷ items) last sections lexes fits white none =
+    let text = arena.text in
+    let t = stored_of text true (mark_len text) i in
+    let parts = text_parts arena.dialect text (i ∷ items) last lexes in
+    let ts = stored_from text false (end_of i) items in
+    no_mark_comes arena.dialect text (first_gap text t) _ i items _ parts.1 (bytes_of last) parts.9 parts.4 lexes.reads.1 fits.1 white fits.0 (first_marked text t none)
+
+marks : (text : List ℕ) → mark_bytes (mark_len text) ≡ take (mark_len text) text
+marks text = elim (marked text) [
+  | has_mark rest is ↦ rw is refl
+  | no_mark none ↦ rw none refl
+]
+
+-- The plain layout of a text is a twin of it.
+pub plain_twin : (style : Style) (arena : Contents) → HoldsItems arena → IsTwin arena.dialect arena.text (plain_text style arena)
+unfolding plain_text
+plain_twin style arena holds =
+    let d = arena.dialect in
+    let text = arena.text in
+    let n = mark_len text in
+    let crlf = ends_by style.line_ending text in
+    let tokens = stored_items text holds.items in
+    let sections = sections_of arena in
+    let gaps = plain_gaps style crlf arena sections guard.Free 0 n 0 tokens in
+    let end = plain_end style crlf arena guard.Free n 0 tokens in
+    let sections_are : sections ≡ sections_from d 0 (lines_of tokens) = ap (λ z. sections_from d 0 (lines_of z)) holds.tokens in
+    let fits = text_fits style crlf arena holds.items holds.last holds.lexes sections sections_are in
+    let shape : plain_text style arena ≡ take n text ++ regapped_text gaps holds.items text end =
+    ap (λ z. z ++ plain_from style crlf arena sections guard.Free 0 n 0 arena.tokens) (marks text)
+    ∙ (ap (λ z. take n text ++ plain_from style crlf arena sections guard.Free 0 n 0 z) holds.tokens
+    ∙ ap (λ z. take n text ++ z) (plain_regapped style crlf arena sections guard.Free 0 n 0 n true holds.items)) in
+    subst (λ z. IsTwin d text z) (sym shape)
+    (rewrites_gaps d text holds.items holds.last gaps end holds.lexes fits.0 fits.1 (no_new_mark style crlf arena holds.items holds.last sections holds.lexes fits.0 fits.1.white))

@@ -1,3 +1,8 @@
 pub mod Faults
+pub mod LineEnds
+pub mod Standing
+pub mod Spelling
 pub mod PlainLayout
+pub mod Twins
 pub mod Formats
+pub mod Exact

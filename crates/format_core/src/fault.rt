@@ -5,6 +5,7 @@ ghost use Rattle.format_core.specs.Faults.{fault_of};
 ghost use Rattle.format_core.specs.declared.fault.FormatFault.TheVariants as FormatFault;
 
 use c_chars::LIMIT;
+use line_tokens::NoMemory;
 use std::alloc::AllocError;
 use thiserror::Error;
 use token_arena::ArenaFault;
@@ -12,9 +13,9 @@ use token_arena::ArenaFault;
 /// Why a text isn't formatted.
 #[derive(Clone, Copy, Debug, PartialEq, Eq, Error)]
 pub enum FormatFault {
-    /// The text is within the limit, and this is the offset of its first byte that is not read yet.
-    #[error("not built at byte {at}")]
-    NotBuilt { at: u32 },
+    /// The text is within the limit, and a block comment that nothing ends begins at this offset (C11 6.4.9).
+    #[error("comment without an end at byte {start}")]
+    UnterminatedComment { start: u32 },
     /// The text has more than [`LIMIT`] bytes; it has this many.
     #[error("more than {LIMIT} bytes")]
     TooLarge { bytes: u64 },
@@ -28,10 +29,18 @@ impl From<ArenaFault> for FormatFault {
 
     fn from(fault: ArenaFault) -> Self {
         match fault {
-            ArenaFault::NotBuilt { at } => FormatFault::NotBuilt { at },
+            ArenaFault::UnterminatedComment { start } => FormatFault::UnterminatedComment { start },
             ArenaFault::TooLarge { bytes } => FormatFault::TooLarge { bytes },
             ArenaFault::NoMemory => FormatFault::NoMemory,
         }
+    }
+}
+
+impl From<NoMemory> for FormatFault {
+    ghost from_gives = { λ _ result. result ≡ FormatFault.NoMemory };
+
+    fn from(_: NoMemory) -> Self {
+        FormatFault::NoMemory
     }
 }
 

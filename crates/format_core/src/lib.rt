@@ -1,12 +1,20 @@
 //! The formatted text of a text.
 //!
-//! [`format_text`] reads a text into an arena and lays it out; it takes all the memory that is needed, so that
+//! [`format`] reads a text into an arena and lays it out; it takes all the memory that is needed, so that
 //! [`Formatted::write`] takes none. The text that it writes has the same items as its input.
 #![tactic(auto)]
 
 mod fault;
-mod format;
+mod formatted;
+mod guard;
+mod laws;
+mod line_ends;
 mod plain;
+mod spelling;
+mod standing;
+#[cfg(test)]
+mod tests;
 
 pub use fault::FormatFault;
-pub use format::{Formatted, format_text};
+pub use formatted::{Formatted, format};
+pub use laws::{open_texts_have_no_layout, plain_texts_are_twins};

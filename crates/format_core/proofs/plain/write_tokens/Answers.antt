@@ -1,68 +1,44 @@
-use Rattle.std.proofs.Common.{◌≡◌, ◌==◌, ◌∙◌, ℕ, ◌+◌, ◌≤◌, ◌<◌, false, List, [], ◌++◌, length, drop, ap, refl, arith, rules}
+use Rattle.std.proofs.Common.{◌≡◌, ◌==◌, ◌∙◌, ◌+◌, ◌<◌, ℕ, List, ◌++◌, append_assoc, ap, sym, arith, drop, length}
 use Rattle.std.proofs.KnownBytes.{Appends-trans}
-use Rattle.fmt_ports.proofs.Parts.{part_of_front, part_of_rest}
-use Rattle.token_arena.specs.Entries.{told_by}
-use Rattle.token_arena.specs.Gaps.{gap_of}
-use Rattle.gap_text.specs.GapText.{gap_text}
-use Rattle.format_core.specs.PlainLayout.{depth_at, depth_after, gap_decision, last_decision, plain_from}
-use Rattle.format_core.proofs.PlainSteps.{next_token, end_of_tokens}
+use Rattle.std.proofs.lemmas.Result.{on_ok_weaker}
+use Rattle.c_chars.specs.Characters.{mark_len}
+use Rattle.token_arena.specs.Gaps.{gap_start}
+use Rattle.format_core.specs.PlainLayout.{last_gap, plain_from}
+use Rattle.format_core.proofs.Places.{gap_fits, tokens_end}
 use Rattle.format_core.proofs.plain.write_tokens.Goals as goal
-
-pub gap_decision-decision-requires : goal.gap_decision-decision-requires
-gap_decision-decision-requires g c =
-    omega (arith, c.len-place-end.ensures.count, c.len-place-end.ensures.most, c.loop-place.invariant.within, c.loop-place.invariant.shallow, c.depth_at.ensures.within)
-
-pub depth_after-depth-requires : goal.depth_after-depth-requires
-depth_after-depth-requires g c =
-    let below : c.loop-place.place < length c.args.arena.now.tokens = search rules in
-    omega (arith, c.len-place-end.ensures.count, c.len-place-end.ensures.most, below, c.loop-place.invariant.shallow)
-
-pub returns-in_err-write_token-clause-part : goal.returns-in_err-write_token-clause-part
-returns-in_err-write_token-clause-part g c =
-    let arena = c.args.arena.now in
-    let last : List ℕ = gap_of arena (length arena.tokens) in
-    let token = told_by c.get-token.result in
-    let done : List ℕ = c.loop-place.invariant.taken.0 in
-    let piece : List ℕ = gap_text false (gap_decision (c.loop-place.place == 0) (depth_at c.loop-place.depth token) token.gap) [] ++ token.raw in
-    let rest : List ℕ = plain_from last (c.loop-place.place + 1 == 0) (depth_after c.loop-place.depth token) (drop (c.loop-place.place + 1) arena.tokens) in
-    let decided : c.gap_decision-decision.result ≡ gap_decision (c.loop-place.place == 0) (depth_at c.loop-place.depth token) token.gap =
-    c.gap_decision-decision.ensures ∙ ap (λ (n : ℕ). gap_decision (c.loop-place.place == 0) n token.gap) c.depth_at.ensures.is in
-    let part = rw decided at c.in_err-write_token.ensures.part in
-    part_of_front _ _ (done ++ piece) rest _
-    (next_token last done arena.tokens c.loop-place.place c.loop-place.depth token _ c.loop-place.invariant.taken.2 c.get-token.ensures)
-    (part_of_rest _ _ _ done piece _ refl c.loop-place.invariant.taken.1 part)
 
 pub loop-place-preserved : goal.loop-place-preserved
 loop-place-preserved g c =
     let arena = c.args.arena.now in
-    let last : List ℕ = gap_of arena (length arena.tokens) in
-    let token = told_by c.get-token.result in
-    let done : List ℕ = c.loop-place.invariant.taken.0 in
-    let piece : List ℕ = gap_text false (gap_decision (c.loop-place.place == 0) (depth_at c.loop-place.depth token) token.gap) [] ++ token.raw in
-    let decided : c.gap_decision-decision.result ≡ gap_decision (c.loop-place.place == 0) (depth_at c.loop-place.depth token) token.gap =
-    c.gap_decision-decision.ensures ∙ ap (λ (n : ℕ). gap_decision (c.loop-place.place == 0) n token.gap) c.depth_at.ensures.is in
-    let all = rw decided at c.in_ok-write_token.ensures.ok in
-    let below : c.loop-place.place < length arena.tokens = search rules in
+    let kept = c.loop-place.invariant in
+    let piece = c.in_ok-write_token.ensures.ok in
+    let below : c.loop-place.place < length arena.tokens = omega (arith, c.len-count.ensures.count, c.loop-place-test.true) in
+    let rest : List ℕ = plain_from c.args.style.now c.args.crlf arena c.args.sections.now c.write_token.new.walk.guard c.write_token.new.walk.depth (gap_start (mark_len arena.text) arena.tokens (c.loop-place.place + 1)) (c.loop-place.place + 1) (drop (c.loop-place.place + 1) arena.tokens) in
     record {
       within = omega (arith, below);
-      shallow = omega (arith, c.depth_after-depth.ensures.within, c.loop-place.invariant.shallow);
+      shallow = omega (arith, c.write_token.ensures.depth, kept.shallow);
+      section = c.write_token.ensures.within;
+      known = λ k a b. c.write_token.ensures.known k (omega (arith, a)) b;
+      later = λ k a. c.write_token.ensures.later k (omega (arith, a));
       taken = (
-        done ++ piece,
-        Appends-trans _ _ _ _ _ c.loop-place.invariant.taken.1 all,
-        rw c.depth_after-depth.ensures.is (next_token last done arena.tokens c.loop-place.place c.loop-place.depth token _ c.loop-place.invariant.taken.2 c.get-token.ensures),
+        kept.taken.0 ++ piece.0,
+        Appends-trans _ _ _ _ _ kept.taken.1 piece.1,
+        kept.taken.2 ∙ (ap (λ (z : List ℕ). kept.taken.0 ++ z) piece.2 ∙ sym (append_assoc kept.taken.0 piece.0 rest)),
       );
-      faults = search rules;
     }
 
-pub returns-clause-part : goal.returns-clause-part
-returns-clause-part g c =
+pub write_last-requires : goal.write_last-requires
+write_last-requires g c =
     let arena = c.args.arena.now in
-    let last : List ℕ = gap_of arena (length arena.tokens) in
-    let past : length arena.tokens ≤ c.loop-place.place = omega (arith, c.len-place-end.ensures.count, c.loop-place-test.false) in
-    let gap : c.gap.result.now ≡ last = c.gap.ensures ∙ ap (λ (n : ℕ). gap_of arena n) c.len.ensures.count in
-    let decided = c.last_decision.ensures ∙ ap last_decision gap in
-    let part = rw decided at c.write_gap.ensures.part in
-    part_of_rest _ _ _ c.loop-place.invariant.taken.0 (gap_text false (last_decision last) []) _
-    (end_of_tokens last c.loop-place.invariant.taken.0 arena.tokens (c.loop-place.place == 0) c.loop-place.place c.loop-place.depth _ c.loop-place.invariant.taken.2 past)
-    c.loop-place.invariant.taken.1
-    part
+    rw c.gap-gap.ensures (gap_fits arena c.len-count.result c.len-count.ensures.count c.requires.fits)
+
+pub returns : goal.returns
+returns g c =
+    let arena = c.args.arena.now in
+    let kept = c.loop-place.invariant in
+    let last : List ℕ = last_gap c.args.style.now c.args.crlf c.dialect.result (c.len-count.result == 0) c.loop-place.walk.guard c.gap-gap.result.now in
+    let same : c.len-count.result ≡ c.loop-place.place = omega (arith, c.len-count.ensures.count, c.loop-place-test.false, kept.within) in
+    let place_is : c.loop-place.place ≡ length arena.tokens = omega (arith, c.len-count.ensures.count, same) in
+    let end = tokens_end c.args.style.now c.args.crlf arena c.args.sections.now c.loop-place.walk.guard c.loop-place.walk.depth c.loop-place.place c.len-count.result c.gap-gap.result.now c.dialect.result place_is same c.gap-gap.ensures c.dialect.ensures in
+    rw (kept.taken.2 ∙ ap (λ (z : List ℕ). kept.taken.0 ++ z) end)
+    (on_ok_weaker c.write_last.result (λ h. Appends-trans _ _ _ _ _ kept.taken.1 h) c.write_last.ensures)

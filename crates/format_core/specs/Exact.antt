@@ -1,0 +1,10 @@
+-- Which texts are formatted: a text that has a comment without an end has no items, so it is refused wherever it is met.
+use Rattle.std.specs.Prelude.{ℕ, List}
+use Rattle.c_chars.specs.declared.Dialect.{Dialect}
+use Rattle.c_lexer.specs.Fault.{IsOpenAt}
+use Rattle.style_table.specs.declared.style.Style.{Style}
+use Rattle.format_core.specs.Formats.{Formats}
+
+-- No text has both a layout and a block comment that nothing ends.
+abbrev pub OpenTextsHaveNoLayout : Type 0
+OpenTextsHaveNoLayout = (style : Style) (d : Dialect) (b c : List ℕ) (at : ℕ) → Formats style d b c → IsOpenAt d b at → ⊥

@@ -1,0 +1,29 @@
+-- How an item stands in its text (C11 6.10p2), and what that means for the gap before it.
+use Rattle.std.specs.Prelude.{◌≡◌, ◌==◌, ◌&&◌, ◌<◌, ◌≤◌, not, ℕ, nat_lt, Bool, false, Some, slice_get, List, [], ◌∷◌, drop, if◌then◌else◌}
+use Rattle.c_chars.specs.declared.Dialect.{Dialect}
+use Rattle.c_grammar.specs.Fitting.{is_comment}
+use Rattle.token_arena.specs.Stored.{Stored}
+use Rattle.directives.specs.Directives.{is_hash_token}
+use Rattle.directives.specs.declared.Section.{Section}
+use Rattle.directives.specs.declared.Section.TheVariants.{Text, Dir}
+use Rattle.format_core.specs.declared.standing.Standing.{Standing}
+use Rattle.format_core.specs.declared.standing.Standing.TheVariants.{OfText, Leads, Within}
+
+-- how the item with this number stands, where these sections hold it
+abbrev pub standing_in : List Section → ℕ → Standing
+standing_in [] place = OfText
+standing_in (Text first end ∷ sections) place = if nat_lt place end then OfText else standing_in sections place
+standing_in (Dir dir ∷ sections) place = if nat_lt place dir.end then (if place == dir.first then Leads else Within) else standing_in sections place
+
+-- A `#` stands next in the line, comments aside, and doesn't begin it.
+abbrev pub hash_comes : Dialect → List Stored → Bool
+hash_comes d [] = false
+hash_comes d (token ∷ tokens) = not token.gap.began && (if is_comment token.kind then hash_comes d tokens else is_hash_token d token)
+
+-- Whether a `#` comes is known for each of these items from a place up to another.
+abbrev pub IsKnown : Dialect → List Stored → ℕ → ℕ → Bool → Type 0
+IsKnown d tokens place end hash = (k : ℕ) → place ≤ k → k < end → hash_comes d (drop k tokens) ≡ hash
+
+-- The item with this number is this one.
+abbrev pub IsAt : List Stored → ℕ → Stored → Type 0
+IsAt tokens place token = slice_get tokens place ≡ Some token

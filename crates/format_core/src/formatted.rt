@@ -1,0 +1,102 @@
+//! A text and its formatted text.
+
+ghost use Rattle.std.specs.Prelude.{◌≡◌, ◌≤◌, ◌++◌, not, length, IfOk, IfErr, OnOk};
+ghost use Rattle.std.specs.Io.KnownBytes.{Appends};
+ghost use Rattle.fmt_ports.specs.Causes.{AppendsPart, Counts};
+ghost use Rattle.c_chars.specs.Characters.{mark_len};
+ghost use Rattle.c_chars.specs.declared.Dialect.TheVariants.{C11};
+ghost use Rattle.c_chars.specs.declared.TheConstants.{LIMIT};
+ghost use Rattle.c_grammar.specs.Grammar.{is_same};
+ghost use Rattle.c_grammar.specs.Twin.{IsTwin};
+ghost use Rattle.style_table.specs.Range.{IsInRange};
+ghost use Rattle.format_core.specs.Faults.{IsCause};
+ghost use Rattle.format_core.specs.Formats.{Formats};
+ghost use Rattle.format_core.specs.PlainLayout.{mark_bytes, plain_from};
+ghost use Rattle.format_core.specs.declared.guard.Guard.TheVariants.{Free};
+
+use crate::FormatFault;
+use crate::line_ends::ends_by;
+use crate::plain::write_plain;
+use bumpalo::Bump;
+use c_chars::{Dialect, LIMIT};
+use directives::{Section, sections};
+use fmt_ports::{Failed, Sink, TextSink, write_all};
+use line_tokens::NoMemory;
+use std::alloc::Global;
+use style_table::Style;
+use token_arena::{TokenArena, build};
+
+/// A formatted text.
+#[derive(Drop)]
+pub struct Formatted<'a, 's> {
+    /// The items of the input.
+    pub arena: TokenArena<'a, 's>,
+    /// The formatted text.
+    pub text: Vec<u8>,
+    /// It isn't the input.
+    pub changed: bool,
+}
+
+/// The plain layout of a text, with room for so many bytes before more memory is taken.
+fn plain_layout(
+    alloc: Global,
+    style: &Style,
+    crlf: bool,
+    arena: &TokenArena<'_, '_>,
+    sections: &[Section],
+    room: usize,
+) -> Result<Vec<u8>, NoMemory>
+    requires range { IsInRange style.now }
+    requires fits { length arena.now.text ≤ LIMIT }
+    ensures { IfOk result (λ text. text.items ≡ mark_bytes (mark_len arena.now.text) ++ plain_from style.now crlf arena.now sections.now Free 0 (mark_len arena.now.text) 0 arena.now.tokens) }
+{
+    let mut sink = TextSink::with_room(alloc, room)?;
+    match write_plain(style, crlf, arena, sections, &mut sink) {
+        Ok(()) => Ok(sink.into_text()),
+        Err(Failed) => Err(NoMemory),
+    }
+}
+
+/// Whether two texts are the same.
+fn is_same(a: &[u8], b: &[u8]) -> bool
+    ensures { result ≡ is_same a.now b.now }
+{
+    a == b
+}
+
+/// Formats a text of at most [`LIMIT`] bytes in a style, read as C11.
+pub fn format<'a, 's>(
+    alloc: Global,
+    bump: &'a Bump,
+    text: &'s [u8],
+    style: &Style,
+) -> Result<Formatted<'a, 's>, FormatFault>
+    requires range { IsInRange style.now }
+    ensures formats { IfOk result (λ f. Formats style.now C11 text.now f.text.items) }
+    ensures twins { IfOk result (λ f. IsTwin C11 text.now f.text.items) }
+    ensures changed { IfOk result (λ f. f.changed ≡ not (is_same f.text.items text.now)) }
+    ensures fits { IfOk result (λ _. length text.now ≤ LIMIT) }
+    ensures fault { IfErr result (IsCause text.now) }
+{
+    let arena = build(bump, text, Dialect::C11)?;
+    let sections = sections(&arena, bump)?;
+    let crlf = ends_by(style.line_ending, text);
+    let laid_out = plain_layout(alloc, style, crlf, &arena, sections, text.len())?;
+    let changed = !is_same(&laid_out, text);
+    Ok(Formatted {
+        arena,
+        text: laid_out,
+        changed,
+    })
+}
+
+impl<'a, 's> Formatted<'a, 's> {
+    /// Writes the formatted text. It takes no memory; after `Failed`, the sink took a part of the text.
+    pub fn write<K: Sink>(&self, sink: &mut K) -> Result<(), Failed>
+        ensures ok { OnOk result (Appends (K.taken sink.old) (K.taken sink.new) self.now.text.items) }
+        ensures part { AppendsPart (K.taken sink.old) (K.taken sink.new) self.now.text.items }
+        ensures counts { Counts (K.faults sink.old) (K.faults sink.new) result }
+    {
+        write_all(sink, &self.text)
+    }
+}

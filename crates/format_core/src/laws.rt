@@ -1,0 +1,14 @@
+//! The laws of the layout. Each stands on the contract of a function that does nothing.
+
+ghost use Rattle.format_core.specs.Exact.{OpenTextsHaveNoLayout};
+ghost use Rattle.format_core.specs.Twins.{PlainTextsAreTwins};
+
+/// In every style the plain layout of a text is a twin of it.
+pub fn plain_texts_are_twins()
+    ensures { PlainTextsAreTwins }
+{}
+
+/// No text has both a layout and a block comment that nothing ends: so such a text is always refused.
+pub fn open_texts_have_no_layout()
+    ensures { OpenTextsHaveNoLayout }
+{}
