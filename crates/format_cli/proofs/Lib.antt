@@ -1,1 +1,6 @@
-pub mod Outcomes
+mod Rest
+mod Ends
+mod Counts
+mod Causes
+mod Statuses
+mod Kept

@@ -1,2 +1,6 @@
 pub mod Notes
-pub mod Command
+pub mod Counts
+pub mod InForce
+pub mod Inputs
+pub mod Account
+pub mod Statuses

@@ -1,22 +1,64 @@
--- The row that tells a refusal: README.md, "Exit statuses and notes".
-use Rattle.std.specs.Prelude.{ℕ, List, ◌++◌, codes, decimal}
+-- The rows that the command writes on standard error, and its statuses: README.md, "Use".
+use Rattle.std.specs.Prelude.{ℕ, List, [], ◌++◌, codes, decimal, map}
+use Rattle.std.specs.List.{concat}
+use Rattle.command_words.specs.Notes.{note_of}
+use Rattle.command_words.specs.declared.fault.WordsFault.TheVariants as Words
+use Rattle.style_config.specs.declared.fault.ConfigFault.{ConfigFault}
+use Rattle.style_config.specs.declared.fault.ConfigFault.TheVariants as Config
+use Rattle.style_config.specs.declared.skipped.SkippedKey.{SkippedKey}
 use Rattle.format_cli.specs.declared.refusal.Refusal.{Refusal}
-use Rattle.format_cli.specs.declared.refusal.Refusal.TheVariants.{Usage, ReadFailed, TooLarge, NotBuilt, WriteFailed, NoMemory}
+use Rattle.format_cli.specs.declared.refusal.Refusal.TheVariants.{BadWords, NoInput, UnknownStyle, LongConfiguration, BadConfiguration, TooLarge, OpenComment, SourceFailed, FileFailed, OutFailed, NotesFailed, Missing, NoMemory}
 
--- the row, with the new-line that ends it
-abbrev pub note_of : Refusal → List ℕ
-note_of Usage = codes "usage: clang_format\n"
-note_of ReadFailed = codes "<stdin>: failed\n"
-note_of TooLarge = codes "<stdin>: more than 8388608 bytes\n"
-note_of (NotBuilt at) = codes "<stdin>: not built at byte " ++ (decimal at ++ codes "\n")
-note_of WriteFailed = codes "standard output: failed\n"
-note_of NoMemory = codes "clang_format: no memory\n"
+-- a row with a number in it
+abbrev pub numbered_row : (name before : List ℕ) → ℕ → (end : List ℕ) → List ℕ
+numbered_row name before number end = name ++ before ++ decimal number ++ end
+
+-- the row of a configuration's fault
+abbrev pub fault_row : List ℕ → ConfigFault → List ℕ
+fault_row file (Config.NotUtf8 offset) = numbered_row file (codes ": not UTF-8 at byte ") offset (codes "\n")
+fault_row file (Config.BadLine line) = numbered_row file (codes ":") line (codes ": bad line\n")
+fault_row file (Config.UnknownStyle line) = numbered_row file (codes ":") line (codes ": unknown style\n")
+fault_row file (Config.BadValue line) = numbered_row file (codes ":") line (codes ": bad value\n")
+fault_row file (Config.OutOfRange line) = numbered_row file (codes ":") line (codes ": out of range\n")
+fault_row file (Config.Repeated line) = numbered_row file (codes ":") line (codes ": repeated key\n")
+fault_row file Config.NoMemory = codes "clang_format: no memory\n"
+
+-- The row of a refusal, with the new-line that ends it. Notes that have failed take none.
+abbrev pub row_of : Refusal → List ℕ
+row_of BadWords = note_of Words.Form ++ codes "\n"
+row_of NoInput = note_of Words.NoInput ++ codes "\n"
+row_of (UnknownStyle name) = codes "clang_format: style " ++ name.now ++ codes ": unknown name\n"
+row_of (LongConfiguration file) = file.now ++ codes ": more than 1048576 bytes\n"
+row_of (BadConfiguration file fault) = fault_row file.now fault
+row_of (TooLarge input) = input.now ++ codes ": more than 8388608 bytes\n"
+row_of (OpenComment input at) = numbered_row input.now (codes ": comment without an end at byte ") at (codes "\n")
+row_of SourceFailed = codes "<stdin>" ++ codes ": failed\n"
+row_of (FileFailed file) = file.now ++ codes ": failed\n"
+row_of OutFailed = codes "standard output: failed\n"
+row_of NotesFailed = []
+row_of (Missing file) = file.now ++ codes ": missing\n"
+row_of NoMemory = codes "clang_format: no memory\n"
 
 -- the exit status of a refusal
 abbrev pub status_of : Refusal → ℕ
-status_of Usage = 2
-status_of TooLarge = 4
-status_of (NotBuilt at) = 4
-status_of ReadFailed = 5
-status_of WriteFailed = 5
+status_of BadWords = 2
+status_of NoInput = 2
+status_of (UnknownStyle name) = 3
+status_of (LongConfiguration file) = 3
+status_of (BadConfiguration file fault) = 3
+status_of (TooLarge input) = 4
+status_of (OpenComment input at) = 4
+status_of SourceFailed = 5
+status_of (FileFailed file) = 5
+status_of OutFailed = 5
+status_of NotesFailed = 5
+status_of (Missing file) = 6
 status_of NoMemory = 7
+
+-- the row of a key that no style has
+abbrev pub skipped_row : List ℕ → SkippedKey → List ℕ
+skipped_row file key = numbered_row file (codes ":") key.line (codes ": skipped ") ++ (key.key ++ codes "\n")
+
+-- the rows of the keys that a configuration has and no style
+abbrev pub skipped_rows : List ℕ → List SkippedKey → List ℕ
+skipped_rows file keys = concat (map (skipped_row file) keys)

@@ -1,95 +1,135 @@
 //! The top call.
 
-ghost use Rattle.std.specs.Prelude.{◌≡◌, ◌≢◌, ◌⊎◌, ◌<◌, ◌↔◌, length};
+ghost use Rattle.std.specs.Prelude.{◌≡◌, ◌≢◌, ◌⊎◌, ◌<◌, IfErr, IfOk, map, string_bytes};
 ghost use Rattle.std.specs.Io.KnownBytes.{Keeps};
 ghost use Rattle.fmt_ports.specs.Causes.{Rose};
-ghost use Rattle.format_cli.specs.Command.{Ended, IsAcceptedInput, IsRefused, IsStatus, Tells, WritesAll, WritesPart};
+ghost use Rattle.fmt_ports.specs.Files.{KeepsAll};
+ghost use Rattle.style_table.specs.Range.{IsInRange};
+ghost use Rattle.format_cli.specs.Account.{EndsWell, IsNotPerformed, IsPerformed, IsRefused, IsRefusedWith, place_of, world};
+ghost use Rattle.format_cli.specs.Counts.{Counted, Faults};
+ghost use Rattle.format_cli.specs.Statuses.{AreBadWords, HasNoStyle, HasRefusedInput, IsStatus, LacksName, WritesBack, WritesOut};
 
+use crate::in_force::style_in_force;
+use crate::input::{Place, format_files, format_source};
 use crate::refusal::{Refusal, status_of, tell};
-use bumpalo::Bump;
-use c_chars::LIMIT;
-use fmt_ports::{Failed, InFault, Sink, Source, read_all};
-use format_core::{FormatFault, format_text};
+use command_words::{Words, WordsFault, read_words};
+use fmt_ports::{Failed, Files, Sink, Source};
 use std::alloc::Global;
+use style_table::{Style, dump};
 
-/// Reads all, and writes the formatted text.
-fn run<S: Source, K: Sink>(
-    alloc: Global,
-    words: &[String],
-    source: &mut S,
-    out: &mut K,
-) -> Result<(), Refusal>
-    ensures { Ended (record {
-      words = length words.now;
-      input = S.left source.old;
-      out = K.taken out.old;
-      out' = K.taken out.new;
-      read_faults = S.faults source.old;
-      read_faults' = S.faults source.new;
-      write_faults = K.faults out.old;
-      write_faults' = K.faults out.new;
-    }) result }
+/// Where the texts go.
+fn place_of(in_place: bool) -> Place
+    ensures { result ≡ place_of in_place }
 {
-    if !words.is_empty() {
-        return Err(Refusal::Usage);
-    }
-    let text = match read_all(alloc, source, LIMIT as u64) {
-        Ok(text) => text,
-        Err(InFault::Failed) => return Err(Refusal::ReadFailed),
-        Err(InFault::TooLong) => return Err(Refusal::TooLarge),
-        Err(InFault::NoMemory) => return Err(Refusal::NoMemory),
-    };
-    let bump = Bump::new(alloc);
-    let formatted = match format_text(alloc, &bump, &text) {
-        Ok(formatted) => formatted,
-        Err(FormatFault::NotBuilt { at }) => return Err(Refusal::NotBuilt(at)),
-        Err(FormatFault::TooLarge { .. }) => return Err(Refusal::TooLarge),
-        Err(FormatFault::NoMemory) => return Err(Refusal::NoMemory),
-    };
-    match formatted.write(out) {
-        Ok(()) => Ok(()),
-        Err(Failed) => Err(Refusal::WriteFailed),
+    if in_place {
+        Place::Itself
+    } else {
+        Place::Output
     }
 }
 
-/// Formats what the source has left, writes it to `out` and tells a refusal in `notes`; answers the exit status.
+/// Does what the words ask for: dumps the style, or formats each input.
+fn perform<'w, S: Source, K: Sink, F: Files>(
+    alloc: Global,
+    said: &Words<'w>,
+    style: &Style,
+    source: &mut S,
+    out: &mut K,
+    files: &mut F,
+) -> Result<(), Refusal<'w>>
+    requires range { IsInRange style.now }
+    ensures done { IfOk result (λ _. IsPerformed said.now style.now (world (S.left source.old) (K.taken out.old) (F.holds files.old)) (world (S.left source.new) (K.taken out.new) (F.holds files.new))) }
+    ensures refused { IfErr result (IsNotPerformed said.now style.now (world (S.left source.old) (K.taken out.old) (F.holds files.old)) (world (S.left source.new) (K.taken out.new) (F.holds files.new))) }
+    ensures counts { (f : Faults) → Counted (record f { source = S.faults source.old; out = K.faults out.old; files = F.faults files.old; misses = F.misses files.old }) (record f { source = S.faults source.new; out = K.faults out.new; files = F.faults files.new; misses = F.misses files.new }) result }
+{
+    if said.dump_config {
+        return match dump(style, out) {
+            Ok(()) => Ok(()),
+            Err(Failed) => Err(Refusal::OutFailed),
+        };
+    }
+    if said.files.is_empty() {
+        return format_source(alloc, style, source, out);
+    }
+    let place = place_of(said.in_place);
+    format_files(alloc, style, place, &said.files, out, files)
+}
+
+/// Reads the words and the style, and does what they ask for.
+fn run<'w, S: Source, K: Sink, E: Sink, F: Files>(
+    alloc: Global,
+    words: &'w [String],
+    source: &mut S,
+    out: &mut K,
+    notes: &mut E,
+    files: &mut F,
+) -> Result<(), Refusal<'w>>
+    ensures done { IfOk result (λ _. EndsWell (map string_bytes words.entry.now) (world (S.left source.old) (K.taken out.old) (F.holds files.old)) (world (S.left source.new) (K.taken out.new) (F.holds files.new)) (E.taken notes.old) (E.taken notes.new)) }
+    ensures refused { IfErr result (IsRefused (map string_bytes words.entry.now) (world (S.left source.old) (K.taken out.old) (F.holds files.old)) (world (S.left source.new) (K.taken out.new) (F.holds files.new)) (E.taken notes.old) (E.taken notes.new)) }
+    ensures counts { Counted (record { source = S.faults source.old; out = K.faults out.old; notes = E.faults notes.old; files = F.faults files.old; misses = F.misses files.old }) (record { source = S.faults source.new; out = K.faults out.new; notes = E.faults notes.new; files = F.faults files.new; misses = F.misses files.new }) result }
+{
+    let said = match read_words(alloc, words) {
+        Ok(said) => said,
+        Err(WordsFault::Form) => return Err(Refusal::BadWords),
+        Err(WordsFault::NoInput) => return Err(Refusal::NoInput),
+        Err(WordsFault::NoMemory) => return Err(Refusal::NoMemory),
+    };
+    let style = style_in_force(alloc, said.style, notes, files)?;
+    perform(alloc, &said, &style, source, out, files)
+}
+
+/// Formats the inputs that the words name, in the style that they choose, and answers the exit status.
 ///
-/// 0: `out` took the formatted text, which is a twin of the input. 2: there are words. 4: the input is
-/// past the limit or has a byte that isn't read yet. 5: a read or a write failed. 7: memory ran out.
-/// After every status but 0 and 5 `out` took nothing; after 5 it took a front of the text, or nothing.
-pub fn format_command<S: Source, K: Sink, E: Sink>(
+/// Without a FILE the input is `source`; the texts go to `out`, or with `-i` back into their files where they
+/// change. `--dump-config` writes the style to `out` and reads no input. The first refusal ends the call, in this
+/// order: the words, the style, and then each input. Its row is told last in `notes`, behind the rows of the
+/// keys of the configuration that no style has.
+///
+/// 0: all was done. 2: the words. 3: the style. 4: an input is past the limit or has a comment without an end.
+/// 5: a port failed. 6: a file isn't there. 7: memory ran out. Inputs before a refusal stay done.
+pub fn format_command<S: Source, K: Sink, E: Sink, F: Files>(
     alloc: Global,
     words: &[String],
     source: &mut S,
     out: &mut K,
     notes: &mut E,
+    files: &mut F,
 ) -> u8
-    // Where the input is told, `out` took exactly its formatted text, and the two are twins that preprocess alike
-    // under every setting of macros, conditions and included files.
-    ensures done { result ≡ 0 → WritesAll (S.left source.old) (K.taken out.old) (K.taken out.new) }
+    // All that the words ask for was done, in the style in force: each input has a formatted text, its twin that
+    // preprocesses alike, which stands in its place; and the notes took the rows of the skipped keys.
+    ensures done { result ≡ 0 → EndsWell (map string_bytes words.now) (world (S.left source.old) (K.taken out.old) (F.holds files.old)) (world (S.left source.new) (K.taken out.new) (F.holds files.new)) (E.taken notes.old) (E.taken notes.new) }
 
-    ensures usage { (result ≡ 2) ↔ (0 < length words.now) }
+    // What was done before a refusal, its cause, and what the notes took.
+    ensures refused { result ≢ 0 → IsRefusedWith (map string_bytes words.now) (world (S.left source.old) (K.taken out.old) (F.holds files.old)) (world (S.left source.new) (K.taken out.new) (F.holds files.new)) (E.taken notes.old) (E.taken notes.new) result }
+    ensures known { IsStatus result }
 
-    // Where the input is told, 4 is its size or its first byte that isn't read.
-    ensures refused_input { result ≡ 4 → IsRefused (S.left source.old) }
-    ensures accepted { result ≡ 0 → IsAcceptedInput (S.left source.old) }
+    // 2 exactly where the words aren't of the form or `-i` lacks its FILE, want of memory aside.
+    ensures usage { result ≡ 2 → AreBadWords (map string_bytes words.now) }
+    ensures form { AreBadWords (map string_bytes words.now) → (result ≡ 2) ⊎ (result ≡ 7) }
 
-    // 5 only where a count rose in this call, and always where one is greater than at entry.
-    ensures failed { result ≡ 5 → Rose (S.faults source.old) (S.faults source.new) ⊎ Rose (K.faults out.old) (K.faults out.new) }
-    ensures read_fault { S.faults source.old < S.faults source.new → result ≡ 5 }
-    ensures write_fault { K.faults out.old < K.faults out.new → result ≡ 5 }
+    // 3 only for the style that the words choose: its name, its length or its fault.
+    ensures style { result ≡ 3 → HasNoStyle (map string_bytes words.now) (F.holds files.old) 3 }
+
+    // 4 only for the text of an input: its size or a comment without an end. With `-i` it is the text that stands there at its turn (`refused`).
+    ensures input { result ≡ 4 → WritesOut (map string_bytes words.now) → HasRefusedInput (map string_bytes words.now) (S.left source.old) (F.holds files.old) 4 }
+
+    // 5 only where a count of faults rose, and always where one is greater than at entry, but for the notes' while a refusal is told.
+    ensures failed { result ≡ 5 → Rose (S.faults source.old) (S.faults source.new) ⊎ Rose (K.faults out.old) (K.faults out.new) ⊎ Rose (E.faults notes.old) (E.faults notes.new) ⊎ Rose (F.faults files.old) (F.faults files.new) }
+    ensures source_fault { S.faults source.old < S.faults source.new → result ≡ 5 }
+    ensures out_fault { K.faults out.old < K.faults out.new → result ≡ 5 }
+    ensures file_fault { F.faults files.old < F.faults files.new → result ≡ 5 }
     ensures note_fault { E.faults notes.old < E.faults notes.new → result ≢ 0 }
 
-    // A refusal writes nothing, and a failed write leaves a front of the text.
-    ensures refused { result ≢ 0 → result ≢ 5 → Keeps (K.taken out.old) (K.taken out.new) }
-    ensures part { result ≡ 5 → Keeps (K.taken out.old) (K.taken out.new) ⊎ WritesPart (S.left source.old) (K.taken out.old) (K.taken out.new) }
+    // With `-i` nothing goes to the output, and without it no file is written; `--dump-config` goes before `-i`.
+    ensures out_kept { WritesBack (map string_bytes words.now) → Keeps (K.taken out.old) (K.taken out.new) }
+    ensures files_kept { WritesOut (map string_bytes words.now) → KeepsAll (F.holds files.old) (F.holds files.new) }
 
-    // The notes take the row of a refusal of this status, with its cause, or a front of it where they fail, and nothing otherwise.
-    ensures silent { result ≡ 0 → Keeps (E.taken notes.old) (E.taken notes.new) }
-    ensures told { result ≢ 0 → Tells (length words.now) (S.left source.old) result (E.taken notes.old) (E.taken notes.new) }
-    ensures known { IsStatus result }
+    // 6 only where a named file isn't there, and always where the misses are greater than at entry.
+    ensures missing_name { result ≡ 6 → LacksName (map string_bytes words.now) (F.holds files.old) }
+    ensures missing { result ≡ 6 → Rose (F.misses files.old) (F.misses files.new) }
+    ensures misses { F.misses files.old < F.misses files.new → result ≡ 6 }
 {
-    match run(alloc, words, source, out) {
+    match run(alloc, words, source, out, notes, files) {
         Ok(()) => 0,
         Err(refusal) => {
             // The status stays where the row can't be told.

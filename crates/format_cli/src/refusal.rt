@@ -1,75 +1,155 @@
 //! Refusals, and how they are told.
 
-ghost use Rattle.std.specs.Prelude.{◌≡◌, ◌++◌, OnOk, codes, decimal};
+ghost use Rattle.std.specs.Prelude.{◌≡◌, ◌++◌, OnOk, decimal};
 ghost use Rattle.std.specs.Io.KnownBytes.{Appends};
 ghost use Rattle.fmt_ports.specs.Causes.{AppendsPart, Counts};
-ghost use Rattle.format_cli.specs.Notes.{note_of, status_of};
-ghost use Rattle.format_cli.specs.declared.refusal.Refusal.TheVariants.{NotBuilt};
+ghost use Rattle.format_cli.specs.Notes.{fault_row, row_of, status_of};
 
+use command_words::{USAGE, WordsFault};
 use fmt_ports::{Failed, Sink, write_all};
 use itoa::Buffer;
+use style_config::ConfigFault;
 
-/// Why the command ends early.
-#[derive(Clone, Copy, Debug, PartialEq, Eq)]
-pub enum Refusal {
-    /// There are words.
-    Usage,
-    /// The input can't be read.
-    ReadFailed,
-    /// The input is past the limit.
-    TooLarge,
-    /// The input has a byte that isn't read yet, at this offset.
-    NotBuilt(u32),
-    /// The text can't be written.
-    WriteFailed,
+/// The name of the input where the words give no FILE.
+pub const STANDARD_INPUT: &str = "<stdin>";
+
+/// Why the command ends early. A name is that of an input, a configuration or a style.
+#[derive(Clone, Copy, Debug)]
+pub enum Refusal<'w> {
+    /// The words aren't of the command's form.
+    BadWords,
+    /// `-i` has no FILE.
+    NoInput,
+    /// No style has this name.
+    UnknownStyle(&'w str),
+    /// The configuration has more than [`style_config::LIMIT`] bytes.
+    LongConfiguration(&'w str),
+    /// The configuration is at fault.
+    BadConfiguration { file: &'w str, fault: ConfigFault },
+    /// The input has more than [`c_chars::LIMIT`] bytes.
+    TooLarge(&'w str),
+    /// A block comment begins at this offset of the input, and nothing ends it.
+    OpenComment { input: &'w str, at: u32 },
+    /// Standard input can't be read.
+    SourceFailed,
+    /// A file can't be read or written.
+    FileFailed(&'w str),
+    /// Standard output can't be written.
+    OutFailed,
+    /// The notes can't be written.
+    NotesFailed,
+    /// A file isn't there.
+    Missing(&'w str),
     /// Memory ran out.
     NoMemory,
 }
 
-/// Writes the row that tells a refusal. It takes no memory.
+/// The exit status of a refusal.
+pub fn status_of(refusal: Refusal) -> u8
+    ensures { result ≡ status_of refusal.entry }
+{
+    match refusal {
+        Refusal::BadWords | Refusal::NoInput => 2,
+        Refusal::UnknownStyle(_)
+        | Refusal::LongConfiguration(_)
+        | Refusal::BadConfiguration { .. } => 3,
+        Refusal::TooLarge(_) | Refusal::OpenComment { .. } => 4,
+        Refusal::SourceFailed
+        | Refusal::FileFailed(_)
+        | Refusal::OutFailed
+        | Refusal::NotesFailed => 5,
+        Refusal::Missing(_) => 6,
+        Refusal::NoMemory => 7,
+    }
+}
+
+/// Writes the row that tells a refusal, nothing where the notes have failed. It takes no memory.
 pub fn tell<E: Sink>(refusal: Refusal, notes: &mut E) -> Result<(), Failed>
-    ensures ok { OnOk result (Appends (E.taken notes.old) (E.taken notes.new) (note_of refusal)) }
-    ensures part { AppendsPart (E.taken notes.old) (E.taken notes.new) (note_of refusal) }
+    ensures part { AppendsPart (E.taken notes.old) (E.taken notes.new) (row_of refusal.entry) }
+    ensures ok { OnOk result (Appends (E.taken notes.old) (E.taken notes.new) (row_of refusal.entry)) }
     ensures counts { Counts (E.faults notes.old) (E.faults notes.new) result }
 {
     match refusal {
-        Refusal::Usage => write_all(notes, b"usage: clang_format\n"),
-        Refusal::ReadFailed => write_all(notes, b"<stdin>: failed\n"),
-        Refusal::TooLarge => write_all(notes, b"<stdin>: more than 8388608 bytes\n"),
-        Refusal::NotBuilt(at) => tell_not_built(at, notes),
-        Refusal::WriteFailed => write_all(notes, b"standard output: failed\n"),
+        Refusal::BadWords => write_two(USAGE, "\n", notes),
+        Refusal::NoInput => write_two(WordsFault::NoInput.note(), "\n", notes),
+        Refusal::UnknownStyle(name) => {
+            write_three("clang_format: style ", name, ": unknown name\n", notes)
+        }
+        Refusal::LongConfiguration(file) => write_two(file, ": more than 1048576 bytes\n", notes),
+        Refusal::BadConfiguration { file, fault } => tell_fault(file, fault, notes),
+        Refusal::TooLarge(input) => write_two(input, ": more than 8388608 bytes\n", notes),
+        Refusal::OpenComment { input, at } => {
+            write_number(input, ": comment without an end at byte ", at, "\n", notes)
+        }
+        Refusal::SourceFailed => write_two(STANDARD_INPUT, ": failed\n", notes),
+        Refusal::FileFailed(file) => write_two(file, ": failed\n", notes),
+        Refusal::OutFailed => write_all(notes, b"standard output: failed\n"),
+        Refusal::NotesFailed => write_all(notes, b""),
+        Refusal::Missing(file) => write_two(file, ": missing\n", notes),
         Refusal::NoMemory => write_all(notes, b"clang_format: no memory\n"),
     }
 }
 
-fn tell_not_built<E: Sink>(at: u32, notes: &mut E) -> Result<(), Failed>
-    ensures ok { OnOk result (Appends (E.taken notes.old) (E.taken notes.new) (note_of (NotBuilt at))) }
-    ensures part { AppendsPart (E.taken notes.old) (E.taken notes.new) (note_of (NotBuilt at)) }
+/// Writes the row that tells the fault of a configuration.
+fn tell_fault<E: Sink>(file: &str, fault: ConfigFault, notes: &mut E) -> Result<(), Failed>
+    ensures part { AppendsPart (E.taken notes.old) (E.taken notes.new) (fault_row file.now fault) }
+    ensures ok { OnOk result (Appends (E.taken notes.old) (E.taken notes.new) (fault_row file.now fault)) }
     ensures counts { Counts (E.faults notes.old) (E.faults notes.new) result }
 {
-    write_all(notes, b"<stdin>: not built at byte ")?;
-    write_row_end(at, notes)
+    match fault {
+        ConfigFault::NotUtf8 { offset } => {
+            write_number(file, ": not UTF-8 at byte ", offset, "\n", notes)
+        }
+        ConfigFault::BadLine { line } => write_number(file, ":", line, ": bad line\n", notes),
+        ConfigFault::UnknownStyle { line } => {
+            write_number(file, ":", line, ": unknown style\n", notes)
+        }
+        ConfigFault::BadValue { line } => write_number(file, ":", line, ": bad value\n", notes),
+        ConfigFault::OutOfRange { line } => write_number(
+            file,
+            ":",
+            line,
+            ": out of range\n",
+            notes,
+        ),
+        ConfigFault::Repeated { line } => write_number(file, ":", line, ": repeated key\n", notes),
+        ConfigFault::NoMemory => write_all(notes, b"clang_format: no memory\n"),
+    }
 }
 
-/// Writes a number and the end of its row.
-fn write_row_end<E: Sink>(number: u32, notes: &mut E) -> Result<(), Failed>
-    ensures ok { OnOk result (Appends (E.taken notes.old) (E.taken notes.new) (decimal number ++ codes "\n")) }
-    ensures part { AppendsPart (E.taken notes.old) (E.taken notes.new) (decimal number ++ codes "\n") }
+/// Writes a text, a second text, a number and a third text.
+pub fn write_number<E: Sink>(
+    name: &str,
+    before: &str,
+    number: u32,
+    end: &str,
+    notes: &mut E,
+) -> Result<(), Failed>
+    ensures part { AppendsPart (E.taken notes.old) (E.taken notes.new) (name.now ++ before.now ++ decimal number ++ end.now) }
+    ensures ok { OnOk result (Appends (E.taken notes.old) (E.taken notes.new) (name.now ++ before.now ++ decimal number ++ end.now)) }
     ensures counts { Counts (E.faults notes.old) (E.faults notes.new) result }
 {
     let mut buffer = Buffer::new();
-    write_all(notes, buffer.format(number).as_bytes())?;
-    write_all(notes, b"\n")
+    write_three(name, before, buffer.format(number), notes)?;
+    write_all(notes, end.as_bytes())
 }
 
-/// The exit status of a refusal.
-pub fn status_of(refusal: Refusal) -> u8
-    ensures { result ≡ status_of refusal }
+/// Writes three texts.
+fn write_three<E: Sink>(first: &str, second: &str, third: &str, notes: &mut E) -> Result<(), Failed>
+    ensures part { AppendsPart (E.taken notes.old) (E.taken notes.new) (first.now ++ second.now ++ third.now) }
+    ensures ok { OnOk result (Appends (E.taken notes.old) (E.taken notes.new) (first.now ++ second.now ++ third.now)) }
+    ensures counts { Counts (E.faults notes.old) (E.faults notes.new) result }
 {
-    match refusal {
-        Refusal::Usage => 2,
-        Refusal::TooLarge | Refusal::NotBuilt(_) => 4,
-        Refusal::ReadFailed | Refusal::WriteFailed => 5,
-        Refusal::NoMemory => 7,
-    }
+    write_two(first, second, notes)?;
+    write_all(notes, third.as_bytes())
+}
+
+/// Writes two texts.
+pub fn write_two<E: Sink>(first: &str, second: &str, notes: &mut E) -> Result<(), Failed>
+    ensures part { AppendsPart (E.taken notes.old) (E.taken notes.new) (first.now ++ second.now) }
+    ensures ok { OnOk result (Appends (E.taken notes.old) (E.taken notes.new) (first.now ++ second.now)) }
+    ensures counts { Counts (E.faults notes.old) (E.faults notes.new) result }
+{
+    write_all(notes, first.as_bytes())?;
+    write_all(notes, second.as_bytes())
 }

@@ -1,9 +1,67 @@
 use Rattle.std.proofs.Common.{◌∙◌, sym}
-use Rattle.format_cli.proofs.Outcomes.{refused_input, ended_cause}
+use Rattle.format_cli.proofs.Statuses.{known, not_zero, failed, source_fault, out_fault, files_fault, missing, misses, bad_words, form, no_style}
+use Rattle.format_cli.proofs.Kept.{out_kept_well, out_kept, files_kept_well, files_kept, missing_name, refused_input}
 use Rattle.format_cli.proofs.command.format_command.Goals as goal
 
-pub returns-in-Err-clause-refused_input : goal.returns-in-Err-clause-refused_input
-returns-in-Err-clause-refused_input g c is = refused_input _ c.in-Err.refusal c.in-Err.ensures (sym c.status_of.ensures ∙ is)
+pub returns-in-Err-clause-done : goal.returns-in-Err-clause-done
+returns-in-Err-clause-done g c is = absurd (not_zero c.in-Err.refusal (sym c.status_of.ensures ∙ is))
 
-pub returns-in-Err-clause-told : goal.returns-in-Err-clause-told
-returns-in-Err-clause-told g c is_refused = (c.in-Err.refusal, sym c.status_of.ensures, ended_cause _ c.in-Err.refusal c.in-Err.ensures, c.tell.ensures.part)
+pub returns-in-Err-clause-refused : goal.returns-in-Err-clause-refused
+returns-in-Err-clause-refused g c is = record {
+  refusal = c.in-Err.refusal;
+  is_its = c.status_of.ensures;
+  told = g.E.Sink.taken c.run.new.notes;
+  refused = c.in-Err.ensures.refused;
+  row = c.tell.ensures.part;
+}
+
+pub returns-in-Err-clause-known : goal.returns-in-Err-clause-known
+returns-in-Err-clause-known g c = rw c.status_of.ensures (known c.in-Err.refusal)
+
+pub returns-in-Err-clause-usage : goal.returns-in-Err-clause-usage
+returns-in-Err-clause-usage g c is = bad_words _ _ _ _ _ c.in-Err.refusal (sym c.status_of.ensures ∙ is) c.in-Err.ensures.refused
+
+pub returns-in-Err-clause-form : goal.returns-in-Err-clause-form
+returns-in-Err-clause-form g c bad = rw c.status_of.ensures (form _ _ _ _ _ c.in-Err.refusal bad c.in-Err.ensures.refused)
+
+pub returns-in-Err-clause-style : goal.returns-in-Err-clause-style
+returns-in-Err-clause-style g c is = no_style _ _ _ _ _ c.in-Err.refusal (sym c.status_of.ensures ∙ is) c.in-Err.ensures.refused
+
+pub returns-in-Err-clause-failed : goal.returns-in-Err-clause-failed
+returns-in-Err-clause-failed g c is = failed c.in-Err.refusal _ _ _ c.tell.ensures.counts.later (sym c.status_of.ensures ∙ is) c.in-Err.ensures.counts
+
+pub returns-in-Err-clause-source_fault : goal.returns-in-Err-clause-source_fault
+returns-in-Err-clause-source_fault g c more = c.status_of.ensures ∙ source_fault c.in-Err.refusal _ _ c.in-Err.ensures.counts more
+
+pub returns-in-Err-clause-out_fault : goal.returns-in-Err-clause-out_fault
+returns-in-Err-clause-out_fault g c more = c.status_of.ensures ∙ out_fault c.in-Err.refusal _ _ c.in-Err.ensures.counts more
+
+pub returns-in-Err-clause-file_fault : goal.returns-in-Err-clause-file_fault
+returns-in-Err-clause-file_fault g c more = c.status_of.ensures ∙ files_fault c.in-Err.refusal _ _ c.in-Err.ensures.counts more
+
+pub returns-in-Err-clause-note_fault : goal.returns-in-Err-clause-note_fault
+returns-in-Err-clause-note_fault g c more is = not_zero c.in-Err.refusal (sym c.status_of.ensures ∙ is)
+
+pub returns-in-Err-clause-missing : goal.returns-in-Err-clause-missing
+returns-in-Err-clause-missing g c is = missing c.in-Err.refusal _ _ (sym c.status_of.ensures ∙ is) c.in-Err.ensures.counts
+
+pub returns-in-Err-clause-misses : goal.returns-in-Err-clause-misses
+returns-in-Err-clause-misses g c more = c.status_of.ensures ∙ misses c.in-Err.refusal _ _ c.in-Err.ensures.counts more
+
+pub returns-in-Ok-clause-out_kept : goal.returns-in-Ok-clause-out_kept
+returns-in-Ok-clause-out_kept g c back = out_kept_well _ _ _ _ _ back c.in-Ok.ensures.done
+
+pub returns-in-Err-clause-out_kept : goal.returns-in-Err-clause-out_kept
+returns-in-Err-clause-out_kept g c back = out_kept _ _ _ _ _ c.in-Err.refusal back c.in-Err.ensures.refused
+
+pub returns-in-Ok-clause-files_kept : goal.returns-in-Ok-clause-files_kept
+returns-in-Ok-clause-files_kept g c forth = files_kept_well _ _ _ _ _ forth c.in-Ok.ensures.done
+
+pub returns-in-Err-clause-files_kept : goal.returns-in-Err-clause-files_kept
+returns-in-Err-clause-files_kept g c forth = files_kept _ _ _ _ _ c.in-Err.refusal forth c.in-Err.ensures.refused
+
+pub returns-in-Err-clause-missing_name : goal.returns-in-Err-clause-missing_name
+returns-in-Err-clause-missing_name g c is = missing_name _ _ _ _ _ c.in-Err.refusal (sym c.status_of.ensures ∙ is) c.in-Err.ensures.refused
+
+pub returns-in-Err-clause-input : goal.returns-in-Err-clause-input
+returns-in-Err-clause-input g c is forth = refused_input _ _ _ _ _ c.in-Err.refusal (sym c.status_of.ensures ∙ is) forth c.in-Err.ensures.refused

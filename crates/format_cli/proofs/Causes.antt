@@ -1,0 +1,121 @@
+-- Why an input is refused, from why its text is.
+use Rattle.std.proofs.Common.{◌≡◌, ◌≢◌, ◌<◌, ℕ, List, Some, None, length, inl, inr, subst, sym, codes, IfSome, Bool, true, false, not, ◌∙◌, ap, refl}
+use Rattle.std.proofs.lemmas.Bool.{false≢true}
+use Rattle.std.specs.declared.option.Option.{Option}
+use Rattle.fmt_ports.specs.Files.{Held, KeepsAll, KeepsOthers}
+use Rattle.style_table.specs.declared.style.Style.{Style}
+use Rattle.command_words.specs.declared.read.StyleChoice.{StyleChoice}
+use Rattle.std.specs.Borrow.{Bor}
+use Rattle.c_chars.specs.declared.TheConstants.{LIMIT}
+use Rattle.format_cli.specs.declared.input.Place.TheVariants.{Itself}
+use Rattle.format_cli.specs.declared.refusal.Refusal.{Refusal}
+use Rattle.format_cli.specs.declared.refusal.Refusal.TheVariants.{BadWords, NoInput, UnknownStyle, LongConfiguration, BadConfiguration, TooLarge, OpenComment, SourceFailed, FileFailed, OutFailed, NotesFailed, Missing, NoMemory}
+use Rattle.format_cli.specs.InForce.{IsHeld, IsLonger, IsInForce, IsStyleRefused, IsConfigurationRefused, Configures, configuration_of}
+use Rattle.format_cli.specs.Inputs.{ends, IsDone, IsFormatted, IsTold, IsTextCause, IsFileCause, IsFileRefused, IsSourceRefused, IsWriteRefused}
+use Rattle.c_grammar.specs.Grammar.{is_same}
+use Rattle.c_grammar.proofs.Lists.{same_is, same_refl}
+use Rattle.format_cli.proofs.Ends.{keeps_self, others_after, keeps_all_after}
+
+longer : (held : Held) (name text : List ℕ) → IsHeld held name text → LIMIT < length text → IsLonger held name LIMIT
+longer None name text h k = tt
+longer (Some at) name text h k = rw h k
+
+-- a FILE is refused for its text
+pub file_cause : (held : Held) (name text : List ℕ) (refusal : Refusal) → IsHeld held name text → IsTextCause name text refusal → IsFileCause held name refusal
+file_cause held name text BadWords h k = absurd k
+file_cause held name text NoInput h k = absurd k
+file_cause held name text (UnknownStyle unknown) h k = absurd k
+file_cause held name text (LongConfiguration file) h k = absurd k
+file_cause held name text (BadConfiguration file fault) h k = absurd k
+file_cause held name text (TooLarge its_name) h k = (k.0, longer held name text h k.1)
+file_cause held name text (OpenComment its_name at) h k = (k.0, (text, h, k.1, k.2))
+file_cause held name text SourceFailed h k = absurd k
+file_cause held name text (FileFailed file) h k = absurd k
+file_cause held name text OutFailed h k = absurd k
+file_cause held name text NotesFailed h k = absurd k
+file_cause held name text (Missing file) h k = absurd k
+file_cause held name text NoMemory h k = tt
+
+large : (input : Option (List ℕ)) (text : List ℕ) → IsTold input text → LIMIT < length text → IfSome input (λ b. LIMIT < length b)
+large None text h k = tt
+large (Some b) text h k = subst (λ (x : List ℕ). LIMIT < length x) h k
+
+-- standard input is refused for its text, and nothing was written
+pub source_refused : (style : Style) (input old : Option (List ℕ)) (text : List ℕ) (refusal : Refusal) → IsTold input text →
+    IsTextCause (codes "<stdin>") text refusal → IsSourceRefused style input old old refusal
+source_refused style input old text BadWords h k = absurd k
+source_refused style input old text NoInput h k = absurd k
+source_refused style input old text (UnknownStyle unknown) h k = absurd k
+source_refused style input old text (LongConfiguration file) h k = absurd k
+source_refused style input old text (BadConfiguration file fault) h k = absurd k
+source_refused style input old text (TooLarge its_name) h k = (keeps_self old, (k.0, large input text h k.1))
+source_refused style input old text (OpenComment its_name at) h k = (keeps_self old, (k.0, (text, h, k.1, k.2)))
+source_refused style input old text SourceFailed h k = absurd k
+source_refused style input old text (FileFailed file) h k = absurd k
+source_refused style input old text OutFailed h k = absurd k
+source_refused style input old text NotesFailed h k = absurd k
+source_refused style input old text (Missing file) h k = absurd k
+source_refused style input old text NoMemory h k = (keeps_self old, tt)
+
+-- a FILE is refused for the write of its text, which changed
+pub write_refused : (style : Style) (name b c : List ℕ) (taken : Option (List ℕ)) (old mid new : Held) (refusal : Refusal) → IsHeld old name b →
+    IsFormatted style b c → (c ≢ b) → KeepsAll old mid → IsWriteRefused name mid new refusal →
+    IsFileRefused style Itself name (ends taken old) (ends taken new) refusal
+write_refused style name b c taken old mid new BadWords held formatted changes same k = absurd k
+write_refused style name b c taken old mid new NoInput held formatted changes same k = absurd k
+write_refused style name b c taken old mid new (UnknownStyle unknown) held formatted changes same k = absurd k
+write_refused style name b c taken old mid new (LongConfiguration file) held formatted changes same k = absurd k
+write_refused style name b c taken old mid new (BadConfiguration file fault) held formatted changes same k = absurd k
+write_refused style name b c taken old mid new (TooLarge its_name) held formatted changes same k = absurd k
+write_refused style name b c taken old mid new (OpenComment its_name at) held formatted changes same k = absurd k
+write_refused style name b c taken old mid new SourceFailed held formatted changes same k = absurd k
+write_refused style name b c taken old mid new (FileFailed file) held formatted changes same k = inr (b, c, held, formatted, (k.0, changes, keeps_self taken, others_after name old mid new same k.1))
+write_refused style name b c taken old mid new OutFailed held formatted changes same k = absurd k
+write_refused style name b c taken old mid new NotesFailed held formatted changes same k = absurd k
+write_refused style name b c taken old mid new (Missing file) held formatted changes same k = absurd k
+write_refused style name b c taken old mid new NoMemory held formatted changes same k = inl (record { taken = keeps_self taken; held = keeps_all_after old mid new same k }, tt)
+
+-- no style is in force for what its configuration says
+pub style_refused : (choice : StyleChoice) (held : Held) (file : Bor (List ℕ)) (text : List ℕ) (old new : Option (List ℕ)) (refusal : Refusal) →
+    IsHeld held file.now text → configuration_of choice ≡ Some file.now →
+    ((style : Style) (rows : List ℕ) → Configures file.now text style rows → IsInForce choice held style rows) →
+    IsConfigurationRefused file text old new refusal → IsStyleRefused choice held old new refusal
+style_refused choice held file text old new BadWords h names gives k = absurd k
+style_refused choice held file text old new NoInput h names gives k = absurd k
+style_refused choice held file text old new (UnknownStyle unknown) h names gives k = absurd k
+style_refused choice held file text old new (LongConfiguration at) h names gives k = absurd k
+style_refused choice held file text old new (BadConfiguration at fault) h names gives k = (
+  k.0,
+  (
+    subst (λ (x : Bor (List ℕ)). configuration_of choice ≡ Some x.now) (sym k.1) names,
+    (text, subst (λ (x : Bor (List ℕ)). IsHeld held x.now text) (sym k.1) h, k.2),
+  ),
+)
+style_refused choice held file text old new (TooLarge its_name) h names gives k = absurd k
+style_refused choice held file text old new (OpenComment its_name at) h names gives k = absurd k
+style_refused choice held file text old new SourceFailed h names gives k = absurd k
+style_refused choice held file text old new (FileFailed at) h names gives k = absurd k
+style_refused choice held file text old new OutFailed h names gives k = absurd k
+style_refused choice held file text old new NotesFailed h names gives k = (k.0, k.1, gives k.0 k.1 k.2, k.3)
+style_refused choice held file text old new (Missing at) h names gives k = absurd k
+style_refused choice held file text old new NoMemory h names gives k = (k, tt)
+
+-- what `changed` says
+pub changes : (changed : Bool) (b c : List ℕ) → changed ≡ not (is_same c b) → changed ≡ true → c ≢ b
+changes changed b c is holds same = false≢true (sym unchanged ∙ holds)
+  where
+    unchanged : changed ≡ false
+    unchanged = is ∙ ap not (subst (λ (x : List ℕ). is_same x b ≡ true) (sym same) (same_refl b))
+
+pub stays : (changed : Bool) (b c : List ℕ) → changed ≡ not (is_same c b) → changed ≡ false → c ≡ b
+stays changed b c is fails = same_is c b (from_not (is_same c b) (sym is ∙ fails))
+  where
+    from_not : (x : Bool) → not x ≡ false → x ≡ true
+    from_not true h = refl
+    from_not false h = sym h
+
+-- a file was written back
+pub written_back : (style : Style) (name b c : List ℕ) (taken : Option (List ℕ)) (old mid new : Held) → IsHeld old name b → IsFormatted style b c →
+    (c ≢ b) → KeepsAll old mid → IsHeld new name c × KeepsOthers name mid new → IsDone style Itself name (ends taken old) (ends taken new)
+written_back style name b c taken old mid new held formatted changed same k =
+    (b, c, held, formatted, (keeps_self taken, inr (changed, k.0, others_after name old mid new same k.1)))

@@ -1,0 +1,39 @@
+-- What is kept where nothing is written.
+use Rattle.std.proofs.Common.{◌∙◌, ℕ, List, Some, None, [], refl}
+use Rattle.std.proofs.Common.{arith}
+use Rattle.std.proofs.lemmas.Grind.{common_steps}
+use Rattle.std.specs.declared.option.Option.{Option}
+use Rattle.std.specs.Io.KnownBytes.{Appends, Keeps}
+use Rattle.fmt_ports.specs.Files.{Held, KeepsAll, KeepsOthers}
+
+pub keeps_self : (x : Option (List ℕ)) → Keeps x x
+keeps_self None = tt
+keeps_self (Some x) = refl
+
+pub keeps_all_self : (held : Held) → KeepsAll held held
+keeps_all_self None = tt
+keeps_all_self (Some at) = λ name. refl
+
+pub keeps_all_after : (a b c : Held) → KeepsAll a b → KeepsAll b c → KeepsAll a c
+keeps_all_after None b c h k = tt
+keeps_all_after (Some a) None c h k = absurd h
+keeps_all_after (Some a) (Some b) None h k = absurd k
+keeps_all_after (Some a) (Some b) (Some c) h k = λ name. k name ∙ h name
+
+-- the others stay where all stayed before
+pub others_after : (name : List ℕ) (a b c : Held) → KeepsAll a b → KeepsOthers name b c → KeepsOthers name a c
+others_after name None b c h k = tt
+others_after name (Some a) None c h k = absurd h
+others_after name (Some a) (Some b) None h k = absurd k
+others_after name (Some a) (Some b) (Some c) h k = λ other apart. k other apart ∙ h other
+
+-- all stay, so the others do
+pub others_stay : (name : List ℕ) (a b : Held) → KeepsAll a b → KeepsOthers name a b
+others_stay name None b h = tt
+others_stay name (Some a) None h = absurd h
+others_stay name (Some a) (Some b) h = λ other apart. h other
+
+-- nothing is a text that may always be taken
+pub appends_none : (x : Option (List ℕ)) → Appends x x []
+appends_none None = tt
+appends_none (Some x) = grind (arith, common_steps)

@@ -1,0 +1,318 @@
+-- What follows from a refusal and its status.
+use Rattle.std.proofs.Common.{◌≡◌, ◌<◌, ◌≤◌, ◌⊎◌, ℕ, List, [], ◌∷◌, Ok, refl, sym, subst, inl, inr, le_trans, arith}
+use Rattle.std.specs.Prelude.{⊤}
+use Rattle.std.specs.declared.option.Option.{Option}
+use Rattle.fmt_ports.specs.Causes.{Rose}
+use Rattle.style_table.specs.declared.style.Style.{Style}
+use Rattle.command_words.specs.declared.read.Words.{Words}
+use Rattle.command_words.specs.Said.{Reads}
+use Rattle.fmt_ports.specs.Files.{Held}
+use Rattle.format_cli.specs.declared.input.Place.{Place}
+use Rattle.format_cli.specs.declared.input.Place.TheVariants.{Output, Itself}
+use Rattle.format_cli.specs.declared.refusal.Refusal.{Refusal}
+use Rattle.format_cli.specs.declared.refusal.Refusal.TheVariants.{BadWords, NoInput, UnknownStyle, LongConfiguration, BadConfiguration, TooLarge, OpenComment, SourceFailed, FileFailed, OutFailed, NotesFailed, Missing, NoMemory}
+use Rattle.format_cli.specs.Account.{World, IsRefused, IsNotPerformed, AreWordsRefused}
+use Rattle.format_cli.specs.Counts.{Faults, Raises}
+use Rattle.format_cli.specs.Inputs.{Ends, IsFileRefused, AreRefused, IsSourceRefused, IsFileCause, PutFails}
+use Rattle.format_cli.specs.Notes.{status_of}
+use Rattle.format_cli.specs.Statuses.{IsStatus, AreBadWords, HasNoStyle}
+
+pub known : (refusal : Refusal) → IsStatus (status_of refusal)
+known BadWords = inr (inl refl)
+known NoInput = inr (inl refl)
+known (UnknownStyle unknown) = inr (inr (inl refl))
+known (LongConfiguration file) = inr (inr (inl refl))
+known (BadConfiguration file fault) = inr (inr (inl refl))
+known (TooLarge its_name) = inr (inr (inr (inl refl)))
+known (OpenComment its_name at) = inr (inr (inr (inl refl)))
+known SourceFailed = inr (inr (inr (inr (inl refl))))
+known (FileFailed file) = inr (inr (inr (inr (inl refl))))
+known OutFailed = inr (inr (inr (inr (inl refl))))
+known NotesFailed = inr (inr (inr (inr (inl refl))))
+known (Missing file) = inr (inr (inr (inr (inr (inl refl)))))
+known NoMemory = inr (inr (inr (inr (inr (inr (refl))))))
+
+pub not_zero : (refusal : Refusal) → status_of refusal ≡ 0 → ⊥
+not_zero BadWords is = cc
+not_zero NoInput is = cc
+not_zero (UnknownStyle unknown) is = cc
+not_zero (LongConfiguration file) is = cc
+not_zero (BadConfiguration file fault) is = cc
+not_zero (TooLarge its_name) is = cc
+not_zero (OpenComment its_name at) is = cc
+not_zero SourceFailed is = cc
+not_zero (FileFailed file) is = cc
+not_zero OutFailed is = cc
+not_zero NotesFailed is = cc
+not_zero (Missing file) is = cc
+not_zero NoMemory is = cc
+
+-- ---- counts
+
+-- status 5 comes where a count of faults rose, and the notes' may rise further
+pub failed : (refusal : Refusal) (a b : Faults) (notes : ℕ) → b.notes ≤ notes → status_of refusal ≡ 5 → Raises refusal a b →
+    Rose a.source b.source ⊎ Rose a.out b.out ⊎ Rose a.notes notes ⊎ Rose a.files b.files
+failed BadWords a b notes later is k = absurd (cc)
+failed NoInput a b notes later is k = absurd (cc)
+failed (UnknownStyle unknown) a b notes later is k = absurd (cc)
+failed (LongConfiguration file) a b notes later is k = absurd (cc)
+failed (BadConfiguration file fault) a b notes later is k = absurd (cc)
+failed (TooLarge its_name) a b notes later is k = absurd (cc)
+failed (OpenComment its_name at) a b notes later is k = absurd (cc)
+failed SourceFailed a b notes later is k = inl k.1
+failed (FileFailed file) a b notes later is k = inr (inr (inr k.1))
+failed OutFailed a b notes later is k = inr (inl k.1)
+failed NotesFailed a b notes later is k = inr (inr (inl (le_trans k.1 later)))
+failed (Missing file) a b notes later is k = absurd (cc)
+failed NoMemory a b notes later is k = absurd (cc)
+
+-- a greater count of source gives status 5
+pub source_fault : (refusal : Refusal) (a b : Faults) → Raises refusal a b → a.source < b.source → status_of refusal ≡ 5
+source_fault BadWords a b k more = absurd (omega (arith, k.source))
+source_fault NoInput a b k more = absurd (omega (arith, k.source))
+source_fault (UnknownStyle unknown) a b k more = absurd (omega (arith, k.source))
+source_fault (LongConfiguration file) a b k more = absurd (omega (arith, k.source))
+source_fault (BadConfiguration file fault) a b k more = absurd (omega (arith, k.source))
+source_fault (TooLarge its_name) a b k more = absurd (omega (arith, k.source))
+source_fault (OpenComment its_name at) a b k more = absurd (omega (arith, k.source))
+source_fault SourceFailed a b k more = refl
+source_fault (FileFailed file) a b k more = refl
+source_fault OutFailed a b k more = refl
+source_fault NotesFailed a b k more = refl
+source_fault (Missing file) a b k more = absurd (omega (arith, k.0.source))
+source_fault NoMemory a b k more = absurd (omega (arith, k.source))
+
+-- a greater count of out gives status 5
+pub out_fault : (refusal : Refusal) (a b : Faults) → Raises refusal a b → a.out < b.out → status_of refusal ≡ 5
+out_fault BadWords a b k more = absurd (omega (arith, k.out))
+out_fault NoInput a b k more = absurd (omega (arith, k.out))
+out_fault (UnknownStyle unknown) a b k more = absurd (omega (arith, k.out))
+out_fault (LongConfiguration file) a b k more = absurd (omega (arith, k.out))
+out_fault (BadConfiguration file fault) a b k more = absurd (omega (arith, k.out))
+out_fault (TooLarge its_name) a b k more = absurd (omega (arith, k.out))
+out_fault (OpenComment its_name at) a b k more = absurd (omega (arith, k.out))
+out_fault SourceFailed a b k more = refl
+out_fault (FileFailed file) a b k more = refl
+out_fault OutFailed a b k more = refl
+out_fault NotesFailed a b k more = refl
+out_fault (Missing file) a b k more = absurd (omega (arith, k.0.out))
+out_fault NoMemory a b k more = absurd (omega (arith, k.out))
+
+-- a greater count of files gives status 5
+pub files_fault : (refusal : Refusal) (a b : Faults) → Raises refusal a b → a.files < b.files → status_of refusal ≡ 5
+files_fault BadWords a b k more = absurd (omega (arith, k.files))
+files_fault NoInput a b k more = absurd (omega (arith, k.files))
+files_fault (UnknownStyle unknown) a b k more = absurd (omega (arith, k.files))
+files_fault (LongConfiguration file) a b k more = absurd (omega (arith, k.files))
+files_fault (BadConfiguration file fault) a b k more = absurd (omega (arith, k.files))
+files_fault (TooLarge its_name) a b k more = absurd (omega (arith, k.files))
+files_fault (OpenComment its_name at) a b k more = absurd (omega (arith, k.files))
+files_fault SourceFailed a b k more = refl
+files_fault (FileFailed file) a b k more = refl
+files_fault OutFailed a b k more = refl
+files_fault NotesFailed a b k more = refl
+files_fault (Missing file) a b k more = absurd (omega (arith, k.0.files))
+files_fault NoMemory a b k more = absurd (omega (arith, k.files))
+
+-- a greater count of notes gives status 5
+pub notes_fault : (refusal : Refusal) (a b : Faults) → Raises refusal a b → a.notes < b.notes → status_of refusal ≡ 5
+notes_fault BadWords a b k more = absurd (omega (arith, k.notes))
+notes_fault NoInput a b k more = absurd (omega (arith, k.notes))
+notes_fault (UnknownStyle unknown) a b k more = absurd (omega (arith, k.notes))
+notes_fault (LongConfiguration file) a b k more = absurd (omega (arith, k.notes))
+notes_fault (BadConfiguration file fault) a b k more = absurd (omega (arith, k.notes))
+notes_fault (TooLarge its_name) a b k more = absurd (omega (arith, k.notes))
+notes_fault (OpenComment its_name at) a b k more = absurd (omega (arith, k.notes))
+notes_fault SourceFailed a b k more = refl
+notes_fault (FileFailed file) a b k more = refl
+notes_fault OutFailed a b k more = refl
+notes_fault NotesFailed a b k more = refl
+notes_fault (Missing file) a b k more = absurd (omega (arith, k.0.notes))
+notes_fault NoMemory a b k more = absurd (omega (arith, k.notes))
+
+-- status 6 comes where the misses rose
+pub missing : (refusal : Refusal) (a b : Faults) → status_of refusal ≡ 6 → Raises refusal a b → Rose a.misses b.misses
+missing BadWords a b is k = absurd (cc)
+missing NoInput a b is k = absurd (cc)
+missing (UnknownStyle unknown) a b is k = absurd (cc)
+missing (LongConfiguration file) a b is k = absurd (cc)
+missing (BadConfiguration file fault) a b is k = absurd (cc)
+missing (TooLarge its_name) a b is k = absurd (cc)
+missing (OpenComment its_name at) a b is k = absurd (cc)
+missing SourceFailed a b is k = absurd (cc)
+missing (FileFailed file) a b is k = absurd (cc)
+missing OutFailed a b is k = absurd (cc)
+missing NotesFailed a b is k = absurd (cc)
+missing (Missing file) a b is k = k.1
+missing NoMemory a b is k = absurd (cc)
+
+-- greater misses give status 6
+pub misses : (refusal : Refusal) (a b : Faults) → Raises refusal a b → a.misses < b.misses → status_of refusal ≡ 6
+misses BadWords a b k more = absurd (omega (arith, k.misses))
+misses NoInput a b k more = absurd (omega (arith, k.misses))
+misses (UnknownStyle unknown) a b k more = absurd (omega (arith, k.misses))
+misses (LongConfiguration file) a b k more = absurd (omega (arith, k.misses))
+misses (BadConfiguration file fault) a b k more = absurd (omega (arith, k.misses))
+misses (TooLarge its_name) a b k more = absurd (omega (arith, k.misses))
+misses (OpenComment its_name at) a b k more = absurd (omega (arith, k.misses))
+misses SourceFailed a b k more = absurd (omega (arith, k.0.misses))
+misses (FileFailed file) a b k more = absurd (omega (arith, k.0.misses))
+misses OutFailed a b k more = absurd (omega (arith, k.0.misses))
+misses NotesFailed a b k more = absurd (omega (arith, k.0.misses))
+misses (Missing file) a b k more = refl
+misses NoMemory a b k more = absurd (omega (arith, k.misses))
+
+-- ---- words and style
+
+-- what an input or the output can be refused for
+abbrev OfInputs : Refusal → Type 0
+OfInputs BadWords = ⊥
+OfInputs NoInput = ⊥
+OfInputs (UnknownStyle unknown) = ⊥
+OfInputs (LongConfiguration file) = ⊥
+OfInputs (BadConfiguration file fault) = ⊥
+OfInputs NotesFailed = ⊥
+OfInputs refusal = ⊤
+
+cause_of_inputs : (h : Held) (name : List ℕ) (refusal : Refusal) → IsFileCause h name refusal → OfInputs refusal
+cause_of_inputs h name BadWords k = absurd k
+cause_of_inputs h name NoInput k = absurd k
+cause_of_inputs h name (UnknownStyle unknown) k = absurd k
+cause_of_inputs h name (LongConfiguration file) k = absurd k
+cause_of_inputs h name (BadConfiguration file fault) k = absurd k
+cause_of_inputs h name (TooLarge its_name) k = tt
+cause_of_inputs h name (OpenComment its_name at) k = tt
+cause_of_inputs h name SourceFailed k = absurd k
+cause_of_inputs h name (FileFailed file) k = tt
+cause_of_inputs h name OutFailed k = absurd k
+cause_of_inputs h name NotesFailed k = absurd k
+cause_of_inputs h name (Missing file) k = tt
+cause_of_inputs h name NoMemory k = tt
+
+put_of_inputs : (place : Place) (name b c : List ℕ) (before now : Ends) (refusal : Refusal) → PutFails place name b c before now refusal → OfInputs refusal
+put_of_inputs Output name b c before now BadWords k = absurd k
+put_of_inputs Output name b c before now NoInput k = absurd k
+put_of_inputs Output name b c before now (UnknownStyle unknown) k = absurd k
+put_of_inputs Output name b c before now (LongConfiguration file) k = absurd k
+put_of_inputs Output name b c before now (BadConfiguration file fault) k = absurd k
+put_of_inputs Output name b c before now (TooLarge its_name) k = absurd k
+put_of_inputs Output name b c before now (OpenComment its_name at) k = absurd k
+put_of_inputs Output name b c before now SourceFailed k = absurd k
+put_of_inputs Output name b c before now (FileFailed file) k = absurd k
+put_of_inputs Output name b c before now OutFailed k = tt
+put_of_inputs Output name b c before now NotesFailed k = absurd k
+put_of_inputs Output name b c before now (Missing file) k = absurd k
+put_of_inputs Output name b c before now NoMemory k = absurd k
+put_of_inputs Itself name b c before now BadWords k = absurd k
+put_of_inputs Itself name b c before now NoInput k = absurd k
+put_of_inputs Itself name b c before now (UnknownStyle unknown) k = absurd k
+put_of_inputs Itself name b c before now (LongConfiguration file) k = absurd k
+put_of_inputs Itself name b c before now (BadConfiguration file fault) k = absurd k
+put_of_inputs Itself name b c before now (TooLarge its_name) k = absurd k
+put_of_inputs Itself name b c before now (OpenComment its_name at) k = absurd k
+put_of_inputs Itself name b c before now SourceFailed k = absurd k
+put_of_inputs Itself name b c before now (FileFailed file) k = tt
+put_of_inputs Itself name b c before now OutFailed k = absurd k
+put_of_inputs Itself name b c before now NotesFailed k = absurd k
+put_of_inputs Itself name b c before now (Missing file) k = absurd k
+put_of_inputs Itself name b c before now NoMemory k = absurd k
+
+source_of_inputs : (style : Style) (input old new : Option (List ℕ)) (refusal : Refusal) → IsSourceRefused style input old new refusal → OfInputs refusal
+source_of_inputs style input old new BadWords k = absurd k.1
+source_of_inputs style input old new NoInput k = absurd k.1
+source_of_inputs style input old new (UnknownStyle unknown) k = absurd k.1
+source_of_inputs style input old new (LongConfiguration file) k = absurd k.1
+source_of_inputs style input old new (BadConfiguration file fault) k = absurd k.1
+source_of_inputs style input old new (TooLarge its_name) k = tt
+source_of_inputs style input old new (OpenComment its_name at) k = tt
+source_of_inputs style input old new SourceFailed k = tt
+source_of_inputs style input old new (FileFailed file) k = absurd k.1
+source_of_inputs style input old new OutFailed k = tt
+source_of_inputs style input old new NotesFailed k = absurd k.1
+source_of_inputs style input old new (Missing file) k = absurd k.1
+source_of_inputs style input old new NoMemory k = tt
+
+file_of_inputs : (style : Style) (place : Place) (name : List ℕ) (before now : Ends) (refusal : Refusal) → IsFileRefused style place name before now refusal → OfInputs refusal
+file_of_inputs style place name before now refusal (inl k) = cause_of_inputs before.held name refusal k.1
+file_of_inputs style place name before now refusal (inr k) = put_of_inputs place name k.0 k.1 before now refusal k.4
+
+files_of_inputs : (style : Style) (place : Place) (names : List (List ℕ)) (before now : Ends) (refusal : Refusal) → AreRefused style place names before now refusal → OfInputs refusal
+files_of_inputs style place [] before now refusal k = absurd k
+files_of_inputs style place (name ∷ names) before now refusal (inl k) = file_of_inputs style place name before now refusal k
+files_of_inputs style place (name ∷ names) before now refusal (inr k) = files_of_inputs style place names k.0 now refusal k.2
+
+of_inputs : (said : Words) (style : Style) (before now : World) (refusal : Refusal) → IsNotPerformed said style before now refusal → OfInputs refusal
+of_inputs said style before now refusal (inl k) = subst OfInputs (sym k.1.cause) tt
+of_inputs said style before now refusal (inr (inl k)) = source_of_inputs style before.left before.ends.taken now.ends.taken refusal k.2.refused
+of_inputs said style before now refusal (inr (inr k)) = files_of_inputs style _ _ before.ends now.ends refusal k.1.refused
+
+-- status 2 comes for the words
+pub bad_words : (words : List (List ℕ)) (before now : World) (a b : Option (List ℕ)) (refusal : Refusal) → status_of refusal ≡ 2 →
+    IsRefused words before now a b refusal → AreBadWords words
+bad_words words before now a b BadWords is (inl k) = inl k.cause
+bad_words words before now a b BadWords is (inr (inl k)) = absurd k.refused.1
+bad_words words before now a b BadWords is (inr (inr k)) = absurd (of_inputs k.said k.style k.begun now BadWords k.refused)
+bad_words words before now a b NoInput is (inl k) = inr k.cause
+bad_words words before now a b NoInput is (inr (inl k)) = absurd k.refused.1
+bad_words words before now a b NoInput is (inr (inr k)) = absurd (of_inputs k.said k.style k.begun now NoInput k.refused)
+bad_words words before now a b (UnknownStyle unknown) is k = absurd (cc)
+bad_words words before now a b (LongConfiguration file) is k = absurd (cc)
+bad_words words before now a b (BadConfiguration file fault) is k = absurd (cc)
+bad_words words before now a b (TooLarge its_name) is k = absurd (cc)
+bad_words words before now a b (OpenComment its_name at) is k = absurd (cc)
+bad_words words before now a b SourceFailed is k = absurd (cc)
+bad_words words before now a b (FileFailed file) is k = absurd (cc)
+bad_words words before now a b OutFailed is k = absurd (cc)
+bad_words words before now a b NotesFailed is k = absurd (cc)
+bad_words words before now a b (Missing file) is k = absurd (cc)
+bad_words words before now a b NoMemory is k = absurd (cc)
+
+-- bad words say nothing
+pub not_read : (words : List (List ℕ)) (said : Words) → AreBadWords words → Reads words (Ok said) → ⊥
+not_read words said (inl bad) reads = bad reads.0
+not_read words said (inr bad) reads = reads.1 bad.1
+
+-- bad words give status 2, or memory ran out
+pub form : (words : List (List ℕ)) (before now : World) (a b : Option (List ℕ)) (refusal : Refusal) → AreBadWords words →
+    IsRefused words before now a b refusal → (status_of refusal ≡ 2) ⊎ (status_of refusal ≡ 7)
+form words before now a b refusal bad (inl k) = of_words refusal k.cause
+  where
+    of_words : (r : Refusal) → AreWordsRefused words r → (status_of r ≡ 2) ⊎ (status_of r ≡ 7)
+    of_words BadWords k = inl refl
+    of_words NoInput k = inl refl
+    of_words (UnknownStyle unknown) k = absurd k
+    of_words (LongConfiguration file) k = absurd k
+    of_words (BadConfiguration file fault) k = absurd k
+    of_words (TooLarge its_name) k = absurd k
+    of_words (OpenComment its_name at) k = absurd k
+    of_words SourceFailed k = absurd k
+    of_words (FileFailed file) k = absurd k
+    of_words OutFailed k = absurd k
+    of_words NotesFailed k = absurd k
+    of_words (Missing file) k = absurd k
+    of_words NoMemory k = inr refl
+form words before now a b refusal bad (inr (inl k)) = absurd (not_read words k.said bad k.reads)
+form words before now a b refusal bad (inr (inr k)) = absurd (not_read words k.said bad k.begins.reads)
+
+-- status 3 comes where no style is in force
+pub no_style : (words : List (List ℕ)) (before now : World) (a b : Option (List ℕ)) (refusal : Refusal) → status_of refusal ≡ 3 →
+    IsRefused words before now a b refusal → HasNoStyle words before.ends.held 3
+no_style words before now a b BadWords is k = absurd (cc)
+no_style words before now a b NoInput is k = absurd (cc)
+no_style words before now a b (UnknownStyle unknown) is (inl k) = absurd k.cause
+no_style words before now a b (UnknownStyle unknown) is (inr (inl k)) = record { said = k.said; reads = k.reads; refusal = (UnknownStyle unknown); is_its = refl; cause = k.refused.1 }
+no_style words before now a b (UnknownStyle unknown) is (inr (inr k)) = absurd (of_inputs k.said k.style k.begun now (UnknownStyle unknown) k.refused)
+no_style words before now a b (LongConfiguration file) is (inl k) = absurd k.cause
+no_style words before now a b (LongConfiguration file) is (inr (inl k)) = record { said = k.said; reads = k.reads; refusal = (LongConfiguration file); is_its = refl; cause = k.refused.1 }
+no_style words before now a b (LongConfiguration file) is (inr (inr k)) = absurd (of_inputs k.said k.style k.begun now (LongConfiguration file) k.refused)
+no_style words before now a b (BadConfiguration file fault) is (inl k) = absurd k.cause
+no_style words before now a b (BadConfiguration file fault) is (inr (inl k)) = record { said = k.said; reads = k.reads; refusal = (BadConfiguration file fault); is_its = refl; cause = k.refused.1 }
+no_style words before now a b (BadConfiguration file fault) is (inr (inr k)) = absurd (of_inputs k.said k.style k.begun now (BadConfiguration file fault) k.refused)
+no_style words before now a b (TooLarge its_name) is k = absurd (cc)
+no_style words before now a b (OpenComment its_name at) is k = absurd (cc)
+no_style words before now a b SourceFailed is k = absurd (cc)
+no_style words before now a b (FileFailed file) is k = absurd (cc)
+no_style words before now a b OutFailed is k = absurd (cc)
+no_style words before now a b NotesFailed is k = absurd (cc)
+no_style words before now a b (Missing file) is k = absurd (cc)
+no_style words before now a b NoMemory is k = absurd (cc)

@@ -1,0 +1,17 @@
+use Rattle.std.proofs.Common.{◌≡◌, drop, map}
+use Rattle.format_cli.specs.declared.refusal.Refusal.{Refusal}
+use Rattle.format_cli.specs.Inputs.{Ends, ends, AreDone, AreRefused}
+use Rattle.format_cli.proofs.input.format_files.Given as goal
+
+-- what is done with the other FILEs is, with what was done, what is done with all
+abbrev pub invariant-loop-name : goal.invariant-loop-name
+invariant-loop-name g l = record {
+  done : (end : Ends) → AreDone l.style l.place (map (λ name. name.now) (drop l.name-index l.names)) (ends (g.K.Sink.taken l.out) (g.F.Files.holds l.files)) end
+      → AreDone l.style l.place (map (λ name. name.now) l.names) (ends (g.K.Sink.taken l.initial.out) (g.F.Files.holds l.initial.files)) end;
+  refused : (end : Ends) (refusal : Refusal)
+      → AreRefused l.style l.place (map (λ name. name.now) (drop l.name-index l.names)) (ends (g.K.Sink.taken l.out) (g.F.Files.holds l.files)) end refusal
+      → AreRefused l.style l.place (map (λ name. name.now) l.names) (ends (g.K.Sink.taken l.initial.out) (g.F.Files.holds l.initial.files)) end refusal;
+  out : g.K.Sink.faults l.out ≡ g.K.Sink.faults l.initial.out;
+  files : g.F.Files.faults l.files ≡ g.F.Files.faults l.initial.files;
+  misses : g.F.Files.misses l.files ≡ g.F.Files.misses l.initial.files;
+}

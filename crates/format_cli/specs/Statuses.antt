@@ -1,0 +1,63 @@
+-- What a status says of the words, the style and the inputs: README.md, "Use".
+use Rattle.std.specs.Prelude.{◌≡◌, ◌⊎◌, ℕ, List, [], ◌∷◌, Option, Ok, codes}
+use Rattle.fmt_ports.specs.Files.{Held}
+use Rattle.command_words.specs.declared.read.Words.{Words}
+use Rattle.command_words.specs.declared.read.StyleChoice.{StyleChoice}
+use Rattle.command_words.specs.declared.read.StyleChoice.TheVariants.{FileAt}
+use Rattle.command_words.specs.Command.{Gives, IsOfForm, rows_of_words}
+use Rattle.command_words.specs.Said.{LacksFile, Reads}
+use Rattle.format_cli.specs.declared.refusal.Refusal.{Refusal}
+use Rattle.format_cli.specs.Account.{files_of}
+use Rattle.format_cli.specs.InForce.{IsMissing, IsStyleCause}
+use Rattle.format_cli.specs.Inputs.{IsFileCause, IsSourceCause}
+use Rattle.format_cli.specs.Notes.{status_of}
+
+-- the statuses that there are
+abbrev pub IsStatus : ℕ → Type 0
+IsStatus status = (status ≡ 0) ⊎ (status ≡ 2) ⊎ (status ≡ 3) ⊎ (status ≡ 4) ⊎ (status ≡ 5) ⊎ (status ≡ 6) ⊎ (status ≡ 7)
+
+-- the words aren't of the command's form, or `-i` lacks its FILE
+abbrev pub AreBadWords : List (List ℕ) → Type 0
+AreBadWords words = (¬ IsOfForm words) ⊎ (IsOfForm words × LacksFile (rows_of_words words))
+
+-- The words choose a style, and it isn't in force, for a cause of this status.
+pub record HasNoStyle (words : List (List ℕ)) (held : Held) (status : ℕ) : Type 0 where
+  pub said : Words
+  pub reads : Reads words (Ok said)
+  pub refusal : Refusal
+  pub is_its : status_of refusal ≡ status
+  pub cause : IsStyleCause said.style held refusal
+
+-- a name is one of these
+abbrev pub IsOneOf : List ℕ → List (List ℕ) → Type 0
+IsOneOf name [] = ⊥
+IsOneOf name (other ∷ others) = (name ≡ other) ⊎ IsOneOf name others
+
+-- a choice names the configuration at this path
+abbrev pub IsPath : StyleChoice → List ℕ → Type 0
+IsPath (FileAt path) name = path.now ≡ name
+IsPath choice name = ⊥
+
+-- The words name a file that isn't there: the PATH of `file:PATH`, or a FILE.
+pub record LacksName (words : List (List ℕ)) (held : Held) : Type 0 where
+  pub said : Words
+  pub reads : Reads words (Ok said)
+  pub name : List ℕ
+  pub named : IsPath said.style name ⊎ IsOneOf name (files_of said)
+  pub missing : IsMissing held name
+
+-- An input is refused for its text, at this status: standard input, where the words give no FILE, or one of the FILEs.
+pub record HasRefusedInput (words : List (List ℕ)) (input : Option (List ℕ)) (held : Held) (status : ℕ) : Type 0 where
+  pub said : Words
+  pub reads : Reads words (Ok said)
+  pub refusal : Refusal
+  pub is_its : status_of refusal ≡ status
+  pub cause : ((files_of said ≡ []) × IsSourceCause input refusal) ⊎ ((name : List ℕ) × IsOneOf name (files_of said) × IsFileCause held name refusal)
+
+-- the words have `-i`, and not `--dump-config`
+abbrev pub WritesBack : List (List ℕ) → Type 0
+WritesBack words = Gives (codes "in-place") (rows_of_words words) × (¬ Gives (codes "dump-config") (rows_of_words words))
+
+-- the words don't have `-i`, or have `--dump-config`
+abbrev pub WritesOut : List (List ℕ) → Type 0
+WritesOut words = (¬ Gives (codes "in-place") (rows_of_words words)) ⊎ Gives (codes "dump-config") (rows_of_words words)
