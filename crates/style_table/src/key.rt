@@ -174,6 +174,10 @@ impl Key {
     fn is_spelled(self, outer: &[u8], label: &[u8]) -> bool
         ensures { result ≡ is_spelled outer.now label.now self }
     {
+        // Most keys differ in length already, and so cost no look at their bytes.
+        if self.label().len() != label.len() {
+            return false;
+        }
         self.outer().as_bytes() == outer && self.label().as_bytes() == label
     }
 
