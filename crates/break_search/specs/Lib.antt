@@ -1,6 +1,6 @@
 pub mod Outcome
 pub mod Frontier
-pub mod Levels
+pub mod Buckets
 pub mod Vertices
 pub mod Progress
 pub mod Thrift

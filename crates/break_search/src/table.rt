@@ -1,13 +1,13 @@
 //! The table of a search: the layouts that were met.
 
-ghost use Rattle.std.specs.Prelude.{◌≡◌, ℕ, ◌<◌, ◌≤◌, ◌^◌, List, [], ◌∷◌, ◌++◌, Some, true, length, slice_get, slice_set, IfSome, IfNone, OnOk, Contains, vec_len};
+ghost use Rattle.std.specs.Prelude.{◌≡◌, ℕ, ◌<◌, ◌≤◌, ◌^◌, List, [], ◌∷◌, ◌++◌, Some, true, length, slice_get, slice_set, IfOk, IfSome, IfNone, OnOk, Contains, vec_len};
 ghost use Rattle.std.specs.Bool.{OnTrue, OnFalse};
 ghost use Rattle.least_breaking.proofs.Table.{Vertex};
 ghost use Rattle.line_state.specs.Layout.{Layout, layout_of, cells_of};
-ghost use Rattle.break_search.specs.Levels.{IsListed, HasNode, LacksNode};
+ghost use Rattle.break_search.specs.Buckets.{slot_of, IsListed, AreListed, HasNode, LacksNode};
 ghost use Rattle.break_search.specs.Vertices.{reached, HasLayout, Lacks, IsLink, IsCostOf};
 
-use line_state::{NoMemory, State, cells, has_same_layout};
+use line_state::{NoMemory, State, cells, digest, has_same_layout};
 use std::alloc::Global;
 use std::marker::Model;
 
@@ -24,13 +24,19 @@ pub(crate) struct Node {
     pub settled: bool,
 }
 
-/// The nodes of a search, no two of one layout. Each level lists the nodes that have placed as many tokens, so that the
+/// How many nodes a bucket lists on average, at most.
+const MOST_LISTED: usize = 4;
+
+/// How many buckets there are at first.
+const FEWEST_BUCKETS: usize = 16;
+
+/// The nodes of a search, no two of one layout. Each bucket lists the nodes whose layouts have some digests, so that the
 /// node of a layout is found among few.
 #[derive(Drop)]
 pub(crate) struct Table {
     alloc: Global,
     nodes: Vec<Node>,
-    levels: Vec<Vec<usize>>,
+    buckets: Vec<Vec<usize>>,
 }
 
 impl Model for Table {
@@ -40,12 +46,12 @@ impl Model for Table {
 
     ghost Value = { List (Vertex Layout) };
 
-    ghost use Rattle.break_search.specs.Levels.{AreListed};
+    ghost use Rattle.break_search.specs.Buckets.{AreListed};
     ghost use Rattle.break_search.specs.Vertices.{vertex};
 
     ghost view = { λ t. map vertex t.nodes.items };
 
-    ghost invariant = { λ t. AreListed t.nodes.items t.levels.items };
+    ghost invariant = { λ t. AreListed t.nodes.items t.buckets.items };
 }
 
 /// Whether there is a node, and it has the layout.
@@ -60,12 +66,12 @@ fn has_layout(nodes: &[Node], at: usize, state: &State) -> bool
 }
 
 /// The node among those listed that has the layout.
-fn find_among(nodes: &[Node], level: &[usize], state: &State) -> Option<usize>
+fn find_among(nodes: &[Node], bucket: &[usize], state: &State) -> Option<usize>
     ensures found { IfSome result (λ w. HasNode nodes.now w (layout_of state.now)) }
     ensures none { let layout = layout_of state.now in
-        IfNone result ((u : ℕ) → Contains level.now u → LacksNode nodes.now u layout) }
+        IfNone result ((u : ℕ) → Contains bucket.now u → LacksNode nodes.now u layout) }
 {
-    for at in level {
+    for at in bucket {
         if has_layout(nodes, *at, state) {
             return Some(*at);
         }
@@ -73,30 +79,60 @@ fn find_among(nodes: &[Node], level: &[usize], state: &State) -> Option<usize>
     None
 }
 
-/// Makes empty levels up to an index.
-fn widen(alloc: Global, levels: &mut Vec<Vec<usize>>, index: usize) -> Result<(), NoMemory>
-    ensures kept { (i u : ℕ) → IsListed levels.old.items i u → IsListed levels.new.items i u }
-    ensures wide { OnOk result (index < length levels.new.items) }
+/// The bucket of a layout, among so many.
+fn slot(state: &State, count: usize) -> usize
+    requires { 0 < count }
+    ensures value { result ≡ slot_of count (layout_of state.now) }
+    ensures within { result < count }
 {
-    'widen: while levels.len() <= index {
-        levels.push(Vec::new(alloc))?;
-    }
+    (digest(state) % count as u64) as usize
+}
+
+/// Lists a node in a bucket.
+fn list(buckets: &mut Vec<Vec<usize>>, slot: usize, at: usize) -> Result<(), NoMemory>
+    requires { slot < length buckets.old.items }
+    ensures kept { (i u : ℕ) → IsListed buckets.old.items i u → IsListed buckets.new.items i u }
+    ensures len { length buckets.new.items ≡ length buckets.old.items }
+    ensures added { OnOk result (IsListed buckets.new.items slot at) }
+{
+    let bucket = &mut buckets[slot];
+    bucket.push(at)?;
     Ok(())
 }
 
-/// Lists a node in its level.
-fn list(
-    alloc: Global,
-    levels: &mut Vec<Vec<usize>>,
-    index: usize,
-    at: usize,
-) -> Result<(), NoMemory>
-    ensures kept { (i u : ℕ) → IsListed levels.old.items i u → IsListed levels.new.items i u }
-    ensures added { OnOk result (IsListed levels.new.items index at) }
+/// So many buckets that list nothing.
+fn empty_buckets(alloc: Global, count: usize) -> Result<Vec<Vec<usize>>, NoMemory>
+    ensures { IfOk result (λ buckets. length buckets.items ≡ count) }
 {
-    widen(alloc, levels, index)?;
-    let level = &mut levels[index];
-    level.push(at)?;
+    let mut buckets = Vec::with_capacity(alloc, count)?;
+    'fill: for made in 0..count {
+        buckets.push(Vec::new(alloc))?;
+    }
+    Ok(buckets)
+}
+
+/// Lists nodes in so many buckets.
+fn spread(alloc: Global, nodes: &[Node], count: usize) -> Result<Vec<Vec<usize>>, NoMemory>
+    requires { 0 < count }
+    ensures listed { IfOk result (λ buckets. AreListed nodes.now buckets.items) }
+    ensures len { IfOk result (λ buckets. length buckets.items ≡ count) }
+{
+    let mut buckets = empty_buckets(alloc, count)?;
+    for (at, node) in nodes.iter().enumerate() {
+        list(&mut buckets, slot(&node.state, count), at)?;
+    }
+    Ok(buckets)
+}
+
+/// Makes more buckets where those that there are list many nodes each.
+fn make_room(alloc: Global, nodes: &[Node], buckets: &mut Vec<Vec<usize>>) -> Result<(), NoMemory>
+    requires { AreListed nodes.now buckets.old.items }
+    ensures listed { AreListed nodes.now buckets.new.items }
+    ensures some { OnOk result (0 < length buckets.new.items) }
+{
+    if nodes.len() / MOST_LISTED >= buckets.len() {
+        *buckets = spread(alloc, nodes, nodes.len().saturating_add(FEWEST_BUCKETS))?;
+    }
     Ok(())
 }
 
@@ -108,7 +144,7 @@ impl Table {
         Table {
             alloc,
             nodes: Vec::new(alloc),
-            levels: Vec::new(alloc),
+            buckets: Vec::new(alloc),
         }
     }
 
@@ -190,20 +226,22 @@ impl Table {
         ensures found { IfSome result (λ w. HasLayout self.now (layout_of state.now) w) }
         ensures none { IfNone result (Lacks self.now (layout_of state.now)) }
     {
-        let levels = self.levels.as_slice();
-        let index = state.index as usize;
-        if index >= levels.len() {
+        let buckets = self.buckets.as_slice();
+        if buckets.is_empty() {
             return None;
         }
-        find_among(self.nodes.as_slice(), levels[index].as_slice(), state)
+        let slot = slot(state, buckets.len());
+        find_among(self.nodes.as_slice(), buckets[slot].as_slice(), state)
     }
 
     /// Adds a node that isn't settled.
     pub fn push(&mut self, state: State, parent: usize, brk: bool) -> Result<(), NoMemory>
         ensures { OnOk result (self.new ≡ self.old ++ reached state parent brk ∷ []) }
     {
+        make_room(self.alloc, self.nodes.as_slice(), &mut self.buckets)?;
         let at = self.nodes.as_slice().len();
-        list(self.alloc, &mut self.levels, state.index as usize, at)?;
+        let slot = slot(&state, self.buckets.as_slice().len());
+        list(&mut self.buckets, slot, at)?;
         self.nodes.push(Node {
             state,
             parent,

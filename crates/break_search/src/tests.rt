@@ -122,7 +122,7 @@ fn compare(
     requires some { 0 < length line.now }
     requires even { length fixed.now ≡ length line.now }
 {
-    assert!(rt; line.len() <= 5);
+    assert!(rt; line.len() <= 8);
     let mut least: Option<(u128, u32)> = None;
     for bits in 0..1u32 << (line.len() - 1) {
         if let Some(cost) = cost_of(rt, alloc, style, line, fixed, bits)? {
@@ -146,24 +146,20 @@ fn compare(
     Ok(())
 }
 
-/// The line whose tokens are told by the digits of a number in base 5.
-fn line_of(alloc: Global, code: u32, len: u32) -> Result<Vec<LineTok>, Fail> {
+/// The line whose tokens are told by the digits of a number: each digit is a role and a width of these.
+fn line_of(alloc: Global, shapes: &[(Role, u32)], code: u32, len: u32) -> Result<Vec<LineTok>, Fail>
+    requires { 0 < length shapes.now }
+{
     let mut tokens = Vec::new(alloc);
-    let mut rest = code;
+    let mut rest = code as usize;
     let mut depth: u32 = 0;
     for _ in 0..len {
-        let (role, width) = match rest % 5 {
-            0 => (Role::Word, 3),
-            1 => (Role::Comma, 1),
-            2 => (Role::CallOpen, 1),
-            3 => (Role::CallClose, 1),
-            _ => (Role::Binary, 2),
-        };
-        rest = rest / 5;
+        let (role, width) = shapes[rest % shapes.len()];
+        rest = rest / shapes.len();
         tokens.push(token(role, depth, width))?;
         depth = match role {
-            Role::CallOpen => depth.saturating_add(1),
-            Role::CallClose => depth.saturating_sub(1),
+            Role::CallOpen | Role::ListOpen => depth.saturating_add(1),
+            Role::CallClose | Role::ListClose => depth.saturating_sub(1),
             _ => depth,
         };
     }
@@ -183,38 +179,95 @@ fn narrow(style: Style, align: AlignAfterOpenBracket, pack: bool) -> Style
     }
 }
 
-/// Compares all lines of at most five tokens, with no decision and with one.
-fn compare_short_lines(rt: &impl Abort, alloc: Global, style: &Style) -> Result<(), Fail>
-    requires { IsInRange style.now }
+/// Compares all lines of so many tokens out of these shapes.
+fn compare_lines(
+    rt: &impl Abort,
+    alloc: Global,
+    style: &Style,
+    shapes: &[(Role, u32)],
+    fixed: &[Option<Fixed>],
+    len: u32,
+    lines: u32,
+) -> Result<(), Fail>
+    requires range { IsInRange style.now }
+    requires some { 0 < length shapes.now }
 {
-    let free = [None; 5];
-    let decision = Fixed {
-        column: 5,
-        broken: true,
-    };
-    let decided = [None, None, Some(decision), None, None];
-    for (len, lines) in [(1, 5), (2, 25), (3, 125), (4, 625), (5, 3_125)] {
-        for code in 0..lines {
-            let run = Bump::new(alloc);
-            let tokens = line_of(alloc, code, len)?;
-            let line = tokens.as_slice();
-            assert!(rt; !line.is_empty() && line.len() <= 5);
-            compare(rt, alloc, style, line, &free[..line.len()], &run)?;
-            compare(rt, alloc, style, line, &decided[..line.len()], &run)?;
-        }
+    for code in 0..lines {
+        let run = Bump::new(alloc);
+        let tokens = line_of(alloc, shapes, code, len)?;
+        let line = tokens.as_slice();
+        assert!(rt; !line.is_empty() && line.len() <= 8 && line.len() <= fixed.len());
+        compare(rt, alloc, style, line, &fixed[..line.len()], &run)?;
     }
     Ok(())
 }
 
 #[test]
-fn finds_the_least_of_all_breakings_of_short_lines(rt: HostRuntime) -> Result<(), Fail> {
+fn finds_the_least_of_all_breakings_of_five_tokens(rt: HostRuntime) -> Result<(), Fail> {
+    let llvm = Style::named("LLVM").ok_or("a style")?;
+    let shapes = [
+        (Role::Word, 3),
+        (Role::Comma, 1),
+        (Role::CallOpen, 1),
+        (Role::CallClose, 1),
+        (Role::Binary, 2),
+    ];
+    let decision = Fixed {
+        column: 5,
+        broken: true,
+    };
+    let decided = [None, None, Some(decision), None, None];
+    for (align, pack) in [
+        (AlignAfterOpenBracket::Align, true),
+        (AlignAfterOpenBracket::DontAlign, false),
+        (AlignAfterOpenBracket::AlwaysBreak, false),
+    ] {
+        let style = narrow(llvm, align, pack);
+        for (len, lines) in [(1, 5), (2, 25), (3, 125), (4, 625), (5, 3_125)] {
+            compare_lines(&rt, rt.alloc(), &style, &shapes, &[None; 5], len, lines)?;
+            compare_lines(&rt, rt.alloc(), &style, &shapes, &decided, len, lines)?;
+        }
+    }
+    Ok(())
+}
+
+/// Compares all lines of at most eight tokens out of three shapes, with no decision.
+fn compare_three_shapes(
+    rt: &impl Abort,
+    alloc: Global,
+    style: &Style,
+    shapes: &[(Role, u32)],
+) -> Result<(), Fail>
+    requires range { IsInRange style.now }
+    requires some { length shapes.now ≡ 3 }
+{
+    for (len, lines) in [
+        (1, 3),
+        (2, 9),
+        (3, 27),
+        (4, 81),
+        (5, 243),
+        (6, 729),
+        (7, 2_187),
+        (8, 6_561),
+    ] {
+        compare_lines(rt, alloc, style, shapes, &[None; 8], len, lines)?;
+    }
+    Ok(())
+}
+
+#[test]
+fn finds_the_least_of_all_breakings_of_eight_tokens(rt: HostRuntime) -> Result<(), Fail> {
     let llvm = Style::named("LLVM").ok_or("a style")?;
     let aligned = narrow(llvm, AlignAfterOpenBracket::Align, true);
-    compare_short_lines(&rt, rt.alloc(), &aligned)?;
+    let words = [(Role::Word, 3), (Role::Comma, 1), (Role::CallOpen, 1)];
+    compare_three_shapes(&rt, rt.alloc(), &aligned, &words)?;
     let unaligned = narrow(llvm, AlignAfterOpenBracket::DontAlign, false);
-    compare_short_lines(&rt, rt.alloc(), &unaligned)?;
+    let calls = [(Role::Comma, 1), (Role::CallOpen, 1), (Role::CallClose, 1)];
+    compare_three_shapes(&rt, rt.alloc(), &unaligned, &calls)?;
     let broken = narrow(llvm, AlignAfterOpenBracket::AlwaysBreak, false);
-    compare_short_lines(&rt, rt.alloc(), &broken)
+    let lists = [(Role::Comma, 1), (Role::ListOpen, 1), (Role::Binary, 2)];
+    compare_three_shapes(&rt, rt.alloc(), &broken, &lists)
 }
 
 #[test]

@@ -1,5 +1,5 @@
 -- The layout of a line, one token at a time: docs/PROFILE.md, "Breaking a line".
-use Rattle.std.specs.Prelude.{ℕ, ◌+◌, ◌-◌, ◌*◌, min, nat_lt, Bool, true, false, ◌&&◌, ◌||◌, not, ◌==◌, nat_le, if◌then◌else◌, Option, Some, None, List, [], ◌∷◌, ◌++◌, length, take, slice_index_or, slice_set}
+use Rattle.std.specs.Prelude.{ℕ, ◌+◌, ◌-◌, ◌*◌, min, fold, nat_lt, Bool, true, false, ◌&&◌, ◌||◌, not, ◌==◌, nat_le, if◌then◌else◌, Option, Some, None, List, [], ◌∷◌, ◌++◌, length, take, slice_index_or, slice_set}
 use Rattle.line_tokens.specs.Roles.{is_comma, is_list_close, is_decl_name, is_trailing}
 use Rattle.line_tokens.specs.declared.role.Role.{Role}
 use Rattle.line_tokens.specs.declared.role.Role.TheVariants.{Word}
@@ -11,6 +11,7 @@ use Rattle.penalties.specs.Breaks.{gap_rule}
 use Rattle.line_state.specs.declared.frames.Frame.{Frame}
 use Rattle.line_state.specs.declared.gap.Gap.{Gap}
 use Rattle.line_state.specs.declared.state.State.{State}
+use Rattle.line_state.specs.Digest.{digest_with, frame_digest}
 use Rattle.line_state.specs.Brackets.{opens_frame, binds_commas, binds_opening, is_dont_align}
 
 -- where a line stands after some of its tokens: how many they are, the column behind them, the base frame and the frames
@@ -171,3 +172,7 @@ is_allowed style layout gap brk =
 -- what a layout counts: 1 and its frames; a closed one counts until it is taken off
 abbrev pub cells_of : Layout → ℕ
 cells_of layout = length layout.frames + 1
+
+-- a number that equal layouts share, and that few others have
+unfoldable pub digest_of : Layout → ℕ
+digest_of layout = fold frame_digest (digest_with (digest_with 0 layout.index) layout.column) layout.frames

@@ -1,3 +1,4 @@
 pub mod Brackets
+pub mod Digest
 pub mod Layout
 pub mod Line

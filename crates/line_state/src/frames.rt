@@ -1,7 +1,8 @@
 //! The frames of a line: the columns at which tokens stand inside its brackets.
 
-ghost use Rattle.std.specs.Prelude.{◌≡◌, ℕ, ◌+◌, ◌-◌, ◌<◌, ◌^◌, ◌↔◌, List, [], ◌∷◌, ◌++◌, IsTrue, IfOk, OnOk, length, take, slice_set, slice_index_or};
+ghost use Rattle.std.specs.Prelude.{◌≡◌, ℕ, ◌+◌, ◌-◌, ◌<◌, ◌^◌, ◌↔◌, List, [], ◌∷◌, ◌++◌, IsTrue, IfOk, OnOk, length, take, fold, slice_set, slice_index_or};
 ghost use Rattle.line_state.specs.declared.frames.Frame.{Frame};
+ghost use Rattle.line_state.specs.Digest.{digest_with, frame_digest};
 
 use line_tokens::{NoMemory, Role};
 use std::alloc::Global;
@@ -21,6 +22,23 @@ pub struct Frame {
     pub opening: u8,
     /// The role of the frame's bracket, `Word` for the base frame.
     pub opener: Role,
+}
+
+/// A digest with one number more.
+pub(crate) fn digest_with(digest: u64, x: u64) -> u64
+    ensures { result ≡ digest_with digest x }
+{
+    digest
+        .wrapping_mul(6_364_136_223_846_793_005)
+        .wrapping_add(x)
+}
+
+/// A digest with a frame more.
+fn frame_digest(digest: u64, frame: &Frame) -> u64
+    ensures { result ≡ frame_digest digest frame.now }
+{
+    let choices = 4 * u64::from(frame.comma) + u64::from(frame.opening);
+    digest_with(digest_with(digest, u64::from(frame.indent)), choices)
 }
 
 /// The frames above the base frame, lowest first.
@@ -118,5 +136,15 @@ impl Frames {
         ensures { IsTrue result ↔ (self.now ≡ other.now) }
     {
         self.items.as_slice() == other.items.as_slice()
+    }
+    /// A digest with the frames more.
+    pub(crate) fn digest(&self, digest: u64) -> u64
+        ensures { result ≡ fold frame_digest digest self.now }
+    {
+        let mut digest = digest;
+        for frame in self.items.as_slice() {
+            digest = frame_digest(digest, frame);
+        }
+        digest
     }
 }

@@ -2,9 +2,9 @@
 //! and what that costs.
 //!
 //! A state holds the column behind the line's last placed token and a frame for each bracket that is
-//! open there. `step` places one token more, `allowed` tells whether a choice is admissible, and
-//! `cells` tells what a state counts. The rules are those of `docs/PROFILE.md`, "Breaking a line";
-//! which breaking is best isn't asked here.
+//! open there. `step` places one token more, `allowed` tells whether a choice is admissible, `cells`
+//! tells what a state counts, and `digest` a number by which its layout is looked up. The rules are
+//! those of `docs/PROFILE.md`, "Breaking a line"; which breaking is best isn't asked here.
 #![tactic(auto)]
 
 mod frames;
@@ -20,4 +20,4 @@ pub use gap::Gap;
 pub use line_tokens::NoMemory;
 pub use placing::step;
 pub use rules::allowed;
-pub use state::{State, cells, has_same_layout, start};
+pub use state::{State, cells, digest, has_same_layout, start};

@@ -1,9 +1,9 @@
 //! A line's layout behind some of its tokens.
 
 ghost use Rattle.std.specs.Prelude.{◌≡◌, ◌≤◌, ◌<◌, ◌^◌, ◌↔◌, IsTrue};
-ghost use Rattle.line_state.specs.Layout.{layout_of, start_layout, cells_of};
+ghost use Rattle.line_state.specs.Layout.{layout_of, start_layout, cells_of, digest_of};
 
-use crate::frames::{Frame, Frames};
+use crate::frames::{Frame, Frames, digest_with};
 use line_tokens::Role;
 use std::alloc::Global;
 use style_table::Style;
@@ -64,4 +64,14 @@ pub fn has_same_layout(one: &State, other: &State) -> bool
         && one.column == other.column
         && one.base == other.base
         && one.frames.is_same(&other.frames)
+}
+
+/// A number that equal layouts share, and that few others have. Takes no memory.
+pub fn digest(state: &State) -> u64
+    ensures { result ≡ digest_of (layout_of state.now) }
+{
+    let placed = digest_with(0, u64::from(state.index));
+    state
+        .frames
+        .digest(digest_with(placed, u64::from(state.column)))
 }

@@ -3,10 +3,10 @@ use Rattle.break_search.proofs.table.list.Goals as goal
 use Rattle.break_search.proofs.Listing.{full_kept, grown_kept, grown_lists}
 
 pub returns-in_err-push-clause-kept : goal.returns-in_err-push-clause-kept
-returns-in_err-push-clause-kept c = λ i u listed. full_kept _ _ _ c.index_mut-level.result.now _ c.in_ok-widen.ensures.wide c.index_mut-level.ensures.value refl c.in_err-push.ensures.items i u (c.in_ok-widen.ensures.kept i u listed)
+returns-in_err-push-clause-kept c = full_kept _ _ _ c.index_mut-bucket.result.now _ c.requires c.index_mut-bucket.ensures.value refl c.in_err-push.ensures.items
 
 pub returns-clause-kept : goal.returns-clause-kept
-returns-clause-kept c = λ i u listed. grown_kept _ _ _ c.index_mut-level.result.now _ c.in_ok-widen.ensures.wide c.index_mut-level.ensures.value refl _ c.in_ok-push.ensures.items i u (c.in_ok-widen.ensures.kept i u listed)
+returns-clause-kept c = grown_kept _ _ _ c.index_mut-bucket.result.now _ c.requires c.index_mut-bucket.ensures.value refl _ c.in_ok-push.ensures.items
 
 pub returns-clause-added : goal.returns-clause-added
-returns-clause-added c = grown_lists _ _ _ c.index_mut-level.result.now _ c.in_ok-widen.ensures.wide c.index_mut-level.ensures.value refl _ c.in_ok-push.ensures.items
+returns-clause-added c = grown_lists _ _ _ c.index_mut-bucket.result.now _ c.requires c.index_mut-bucket.ensures.value refl _ c.in_ok-push.ensures.items
