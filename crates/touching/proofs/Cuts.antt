@@ -53,7 +53,7 @@ cut d at s P G Q h =
 -- Trigraphs
 
 -- where one lies over a cut, a question mark stands before it
-over_ends : (a b : List LogicalChar) → trigraph_over a b ≡ true → ends_in (λ c. c.byte == 63) a ≡ true
+pub over_ends : (a b : List LogicalChar) → trigraph_over a b ≡ true → ends_in (λ c. c.byte == 63) a ≡ true
 over_ends [] b h = cc
 over_ends (x ∷ []) b h = (and_parts (x.byte == 63) (starts_inner b) h).0
 over_ends (x ∷ y ∷ []) b h = elim (or_cases ((x.byte == 63) && ((y.byte == 63) && starts_third b)) ((y.byte == 63) && starts_inner b) h) [
@@ -63,7 +63,7 @@ over_ends (x ∷ y ∷ []) b h = elim (or_cases ((x.byte == 63) && ((y.byte == 6
 over_ends (x ∷ y ∷ z ∷ a) b h = over_ends (y ∷ z ∷ a) b h
 
 -- and the end of one behind it
-over_starts : (a b : List LogicalChar) → trigraph_over a b ≡ true → (starts_third b || starts_inner b) ≡ true
+pub over_starts : (a b : List LogicalChar) → trigraph_over a b ≡ true → (starts_third b || starts_inner b) ≡ true
 over_starts [] b h = cc
 over_starts (x ∷ []) b h = let i : starts_inner b ≡ true = (and_parts (x.byte == 63) (starts_inner b) h).1 in rw i (or_true (starts_third b))
   where
@@ -81,7 +81,7 @@ over_starts (x ∷ y ∷ []) b h = elim (or_cases ((x.byte == 63) && ((y.byte ==
 over_starts (x ∷ y ∷ z ∷ a) b h = over_starts (y ∷ z ∷ a) b h
 
 -- a question mark at the end is no part of a trigraph
-query_stays : (s : List LogicalChar) → ends_in (λ c. c.byte == 63) s ≡ true → ends_in (λ c. c.byte == 63) (replaced s) ≡ true
+pub query_stays : (s : List LogicalChar) → ends_in (λ c. c.byte == 63) s ≡ true → ends_in (λ c. c.byte == 63) (replaced s) ≡ true
 unfolding trigraph
 query_stays [] h = h
 query_stays (a ∷ []) h = h
@@ -109,16 +109,16 @@ query_stays (a ∷ b ∷ c ∷ e ∷ s) h = elim (cases_Bool (is_trigraph a b c)
     onto a b c e s h = behind a (replaced (b ∷ c ∷ e ∷ s)) h
 
 -- y and these bytes are the end of a trigraph: its last character, or its second question mark and that
-abbrev ends_trigraph : ℕ → List ℕ → Bool
+abbrev pub ends_trigraph : ℕ → List ℕ → Bool
 ends_trigraph y t = not (trigraph y == 0) || ((y == 63) && third_byte t)
 
-end_cases : (y : ℕ) (t : List ℕ) → ends_trigraph y t ≡ true → (not (trigraph y == 0) ≡ true) ⊎ (y ≡ 63)
+pub end_cases : (y : ℕ) (t : List ℕ) → ends_trigraph y t ≡ true → (not (trigraph y == 0) ≡ true) ⊎ (y ≡ 63)
 end_cases y t h = elim (or_cases (not (trigraph y == 0)) ((y == 63) && third_byte t) h) [
   | inl e ↦ inl e
   | inr e ↦ inr (eqb-true y 63 (and_parts (y == 63) (third_byte t) e).0)
 ]
 
-end_of_table : (y : ℕ) (t : List ℕ) → ends_trigraph y t ≡ true → is_of (codes "?=(/)'<!>-") y ≡ true
+pub end_of_table : (y : ℕ) (t : List ℕ) → ends_trigraph y t ≡ true → is_of (codes "?=(/)'<!>-") y ≡ true
 unfolding trigraph
 end_of_table y t h = elim (end_cases y t h) [
   | inl e ↦ grind (arith, nat_tests)
@@ -133,7 +133,7 @@ third_no_return : (y : ℕ) → not (trigraph y == 0) ≡ true → (y == 13) ≡
 unfolding trigraph
 third_no_return y h = grind (arith, nat_tests)
 
-end_no_trigraph : (y : ℕ) (t : List ℕ) → ends_trigraph y t ≡ true → begins_trigraph (y ∷ t) ≡ false
+pub end_no_trigraph : (y : ℕ) (t : List ℕ) → ends_trigraph y t ≡ true → begins_trigraph (y ∷ t) ≡ false
 end_no_trigraph y [] h = refl
 end_no_trigraph y (z ∷ []) h = refl
 end_no_trigraph y (z ∷ w ∷ u) h = elim (or_cases (not (trigraph y == 0)) ((y == 63) && not (trigraph z == 0)) h) [
@@ -141,7 +141,7 @@ end_no_trigraph y (z ∷ w ∷ u) h = elim (or_cases (not (trigraph y == 0)) ((y
   | inr e ↦ let n = third_no_query z (and_parts (y == 63) (not (trigraph z == 0)) e).1 in and_right (y == 63) ((z == 63) && not (trigraph w == 0)) (rw n refl)
 ]
 
-end_no_return : (y : ℕ) (t : List ℕ) → ends_trigraph y t ≡ true → begins_return (y ∷ t) ≡ false
+pub end_no_return : (y : ℕ) (t : List ℕ) → ends_trigraph y t ≡ true → begins_return (y ∷ t) ≡ false
 end_no_return y [] h = refl
 end_no_return y (z ∷ u) h = elim (end_cases y (z ∷ u) h) [
   | inl e ↦ let n = third_no_return y e in rw n refl
@@ -159,7 +159,7 @@ third_first at (y ∷ t) h =
 abbrev pub ends_chars : ℕ → List LogicalChar → Bool
 ends_chars n s = ends (λ c. c == n) (bytes_of s)
 
-ends_are : (n : ℕ) (s : List LogicalChar) → ends_chars n s ≡ ends_in (λ c. c.byte == n) s
+pub ends_are : (n : ℕ) (s : List LogicalChar) → ends_chars n s ≡ ends_in (λ c. c.byte == n) s
 ends_are n [] = refl
 ends_are n (c ∷ []) = refl
 ends_are n (c ∷ e ∷ s) = ends_are n (e ∷ s)

@@ -1,9 +1,9 @@
 mod Ends
 mod Firsts
-mod Marks
-mod NoMark
-mod Questions
+pub mod Marks
+pub mod NoMark
+pub mod Questions
 mod Words
-mod Cuts
+pub mod Cuts
 mod Nearer
 pub mod TakenAway

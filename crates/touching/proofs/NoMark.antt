@@ -17,7 +17,7 @@ use Rattle.unicode_ident.specs.Ident.{is_xid_start}
 use Rattle.touching.proofs.Marks.{mark, first_of_two, rest_of_two, high_step, only_words}
 
 -- a list begins with the bytes of a mark, or has none
-mark_cases : (s : List ℕ) → (mark_len s ≡ 0) ⊎ ((t : List ℕ) × (s ≡ mark ++ t))
+pub mark_cases : (s : List ℕ) → (mark_len s ≡ 0) ⊎ ((t : List ℕ) × (s ≡ mark ++ t))
 mark_cases [] = inl refl
 mark_cases (a ∷ []) = let n : ((239 == a) && false) ≡ false = and_right (239 == a) false refl in inl (rw n refl)
 mark_cases (a ∷ b ∷ []) = let n : ((239 == a) && ((187 == b) && false)) ≡ false = and_right (239 == a) ((187 == b) && false) (and_right (187 == b) false refl) in inl (rw n refl)
@@ -128,7 +128,7 @@ unfolding is_letter
 letter_187 = refl
 
 -- an item that is no Other has not just the bytes with which a mark begins
-item_not : (d : Dialect) (item : ReadItem) (raw : List ℕ) → ReadAs d item.chars raw → ((item.kind ≡ HeaderName) × IsHeaderName (bytes_of item.chars)) ⊎ Spells d (Whole item.kind) (bytes_of item.chars) → is_other_kind item.kind ≡ false →
+pub item_not : (d : Dialect) (item : ReadItem) (raw : List ℕ) → ReadAs d item.chars raw → ((item.kind ≡ HeaderName) × IsHeaderName (bytes_of item.chars)) ⊎ Spells d (Whole item.kind) (bytes_of item.chars) → is_other_kind item.kind ≡ false →
     ((raw ≡ 239 ∷ []) ⊎ ((raw ≡ 187 ∷ []) ⊎ (raw ≡ 239 ∷ 187 ∷ []))) → ⊥
 item_not d item raw reads spells other (inl e) =
     let s : bytes_of item.chars ≡ 239 ∷ [] = sym reads.spelling ∙ (ap (λ z. bytes_of (chars d 0 z)) e ∙ read_one d 239 refl refl refl) in
