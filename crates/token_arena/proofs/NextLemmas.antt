@@ -52,7 +52,7 @@ next_behind d text old new entries at line lexeme text_is before next =
 pub next_kept : (d : Dialect) (text : List ℕ) (old new : Reading) (entries : List Entry) (at line : ℕ) (lexeme : Lexeme)
     → old.text ≡ text → old.dialect ≡ d → IsKeptUpTo d text old.left entries at line → IsNextLexeme old new lexeme
     → (entry : Entry) → entry ≡ entry_of lexeme (length entries == 0) (take (lexeme.item.start - at) (drop at text)) line
-    → IsKeptUpTo d text new.left (entries ++ entry ∷ []) (lexeme.item.start + length lexeme.item.raw.now) (entry.line + (entry.rows - 1))
+    → IsKeptUpTo d text new.left (entries ++ entry ∷ []) (lexeme.item.start + length lexeme.item.raw.now) (entry.line + count_by is_line_feed lexeme.item.raw.now)
 next_kept d text old new entries at line lexeme text_is dialect_is before next entry entry_is =
     let start : ℕ = lexeme.item.start in
     let raw : List ℕ = lexeme.item.raw.now in
@@ -69,10 +69,10 @@ next_kept d text old new entries at line lexeme text_is dialect_is before next e
     let feeds : count_by is_line_feed raw ≡ count_by is_line_feed (take (length raw) (drop start text)) = ap (count_by is_line_feed) (sym (ap (λ t. t.raw) told ∙ sym raw_is)) in
     let grown : line_at text (start + length raw) ≡ line_at text start + count_by is_line_feed (take (length raw) (drop start text)) = line_at-more text start (length raw) in
     let same_line : line_at text (start_of next.next.read) ≡ line_at text start = ap (line_at text) (sym start_is) in
-    let lines : made.line + (made.rows - 1) ≡ line_at text (start + length raw) = omega (arith, first_line, feeds, grown, same_line) in
-    let all : IsKeptUpTo d text new.left (entries ++ made ∷ []) (start + length raw) (made.line + (made.rows - 1)) =
-    kept_step d text old.left new.left entries made at line (start + length raw) (made.line + (made.rows - 1)) next.next.read before (step_of d old new lexeme dialect_is next) span told room stops lines in
-    subst (λ e. IsKeptUpTo d text new.left (entries ++ e ∷ []) (start + length raw) (e.line + (e.rows - 1))) (sym entry_is) all
+    let lines : made.line + count_by is_line_feed raw ≡ line_at text (start + length raw) = omega (arith, first_line, feeds, grown, same_line) in
+    let all : IsKeptUpTo d text new.left (entries ++ made ∷ []) (start + length raw) (made.line + count_by is_line_feed raw) =
+    kept_step d text old.left new.left entries made at line (start + length raw) (made.line + count_by is_line_feed raw) next.next.read before (step_of d old new lexeme dialect_is next) span told room stops lines in
+    subst (λ e. IsKeptUpTo d text new.left (entries ++ e ∷ []) (start + length raw) (e.line + count_by is_line_feed raw)) (sym entry_is) all
 
 pub kept_line_small : (d : Dialect) (text : List ℕ) (left : Left) (entries : List Entry) (at line : ℕ) → IsKeptUpTo d text left entries at line → line ≤ length text + 1
 kept_line_small d text left entries at line all =

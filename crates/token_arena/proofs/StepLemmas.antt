@@ -84,7 +84,8 @@ entry_told text at line is_first old new lexeme rest text_is next span line_is =
     let here : line + count_by is_line_feed gap ≡ line_at text (start_of read) =
     ap (λ k. k + count_by is_line_feed gap) line_is ∙ (sym (line_at-more text at (start - at)) ∙ ap (line_at text) reach) in
     stored_made lexeme.item.kind read.kind start (start_of read) (take (length raw) (drop start text)) (raw_of text read) (gap_told lexeme is_first (length gap)) (gap_facts is_first at read)
-    (line + count_by is_line_feed gap) (line_at text (start_of read)) (rows_of raw) (rows_of (raw_of text read))
-    (width_of (first_row raw)) (width_of (first_row (raw_of text read))) (width_of (last_row raw)) (width_of (last_row (raw_of text read)))
+    (line + count_by is_line_feed gap) (line_at text (start_of read)) (rows_of (take (length raw) (drop start text))) (rows_of (raw_of text read))
+    (width_of (first_row (take (length raw) (drop start text)))) (width_of (first_row (raw_of text read)))
+    (width_of (last_row (take (length raw) (drop start text)))) (width_of (last_row (raw_of text read)))
     lexeme.back (ends_in_backslash read.chars)
-    next.next.kind_is start_is taken (told_gap old new lexeme is_first at (length gap) next wide) here (ap rows_of raw_is) (ap (λ r. width_of (first_row r)) raw_is) (ap (λ r. width_of (last_row r)) raw_is) next.back_is
+    next.next.kind_is start_is taken (told_gap old new lexeme is_first at (length gap) next wide) here (ap rows_of taken) (ap (λ r. width_of (first_row r)) taken) (ap (λ r. width_of (last_row r)) taken) next.back_is

@@ -9,7 +9,7 @@ use Rattle.token_arena.specs.Stored.{Stored, is_line_feed, rows_of, first_row, l
 use Rattle.token_arena.specs.declared.arena.Entry.{Entry}
 use Rattle.token_arena.specs.declared.arena.Token.{Token}
 
--- what an entry says of an item of this text
+-- what an entry says of an item of this text: its rows are those of its bytes
 abbrev pub kept_by : List ℕ → Entry → Stored
 kept_by text entry = record {
   kind = entry.kind;
@@ -17,9 +17,9 @@ kept_by text entry = record {
   raw = take entry.len (drop entry.start text);
   gap = entry.gap;
   line = entry.line;
-  rows = entry.rows;
-  first_width = entry.first_width;
-  last_width = entry.last_width;
+  rows = rows_of (take entry.len (drop entry.start text));
+  first_width = width_of (first_row (take entry.len (drop entry.start text)));
+  last_width = width_of (last_row (take entry.len (drop entry.start text)));
   back = entry.back;
 }
 
@@ -35,9 +35,9 @@ told_by token = record {
   raw = token.item.raw.now;
   gap = token.gap;
   line = token.line;
-  rows = token.rows;
-  first_width = token.first_width;
-  last_width = token.last_width;
+  rows = rows_of token.item.raw.now;
+  first_width = width_of (first_row token.item.raw.now);
+  last_width = width_of (last_row token.item.raw.now);
   back = token.back;
 }
 
@@ -71,9 +71,6 @@ entry_of lexeme is_first gap line = record {
   len = length lexeme.item.raw.now;
   gap = gap_told lexeme is_first (length gap);
   line = line + count_by is_line_feed gap;
-  rows = rows_of lexeme.item.raw.now;
-  first_width = width_of (first_row lexeme.item.raw.now);
-  last_width = width_of (last_row lexeme.item.raw.now);
   kind = lexeme.item.kind;
   back = lexeme.back;
 }

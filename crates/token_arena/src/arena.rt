@@ -1,12 +1,13 @@
 //! The store of items, and what it answers.
 
-ghost use Rattle.std.specs.Prelude.{◌≡◌, ◌==◌, ◌<◌, ◌≤◌, length, drop, Some, slice_get, if◌then◌else◌};
+ghost use Rattle.std.specs.Prelude.{◌≡◌, ◌==◌, ◌<◌, ◌≤◌, ◌+◌, ◌^◌, length, take, drop, Some, slice_get, if◌then◌else◌};
 ghost use Rattle.c_chars.specs.Characters.{mark_len};
 ghost use Rattle.c_chars.specs.declared.TheConstants.{LIMIT};
-ghost use Rattle.token_arena.specs.Gaps.{gap_of, gap_start, gap_end, joined};
+ghost use Rattle.token_arena.specs.Gaps.{gap_of, gap_start, gap_end, joined, StandFrom};
 ghost use Rattle.token_arena.specs.Holds.{HoldsItems};
 ghost use Rattle.token_arena.specs.Entries.{told_by, AreEntries, contents_of};
 
+use crate::facts::{Rows, rows_of};
 use c_lexer::{Dialect, Item, ItemKind};
 use line_tokens::{GapFacts, TokenId};
 use std::marker::Model;
@@ -23,14 +24,20 @@ pub struct Token<'s> {
     pub gap: GapFacts,
     /// The physical line on which it begins, from 1.
     pub line: u32,
-    /// How many physical lines it has, from 1.
-    pub rows: u32,
-    /// The width of its first row, in columns.
-    pub first_width: u32,
-    /// The width of its last row, in columns.
-    pub last_width: u32,
     /// Its last character is a backslash.
     pub back: bool,
+}
+
+impl Token<'_> {
+    /// Its rows. They are read from its bytes at each call, so that nobody pays for them who doesn't ask.
+    pub fn rows(&self) -> Rows
+        requires { length self.now.item.raw.now < 2 ^ 31 }
+        ensures count { result.count ≡ (told_by self.now).rows }
+        ensures first { result.first_width ≡ (told_by self.now).first_width }
+        ensures last { result.last_width ≡ (told_by self.now).last_width }
+    {
+        rows_of(self.item.raw)
+    }
 }
 
 /// An item as it lies in memory; its bytes are those of the text from `start` on.
@@ -40,14 +47,21 @@ pub(crate) struct Entry {
     pub len: u32,
     pub gap: GapFacts,
     pub line: u32,
-    pub rows: u32,
-    pub first_width: u32,
-    pub last_width: u32,
     pub kind: ItemKind,
     pub back: bool,
 }
 
-const _: () = prove!(size_of::<Entry>() <= 48);
+const _: () = prove!(size_of::<Entry>() <= 24);
+
+/// So many bytes of a text, from an offset on.
+#[inline(always)]
+fn bytes_of(text: &[u8], start: u32, len: u32) -> &[u8]
+    requires { start + len ≤ length text.now }
+    ensures { result.now ≡ take len (drop start text.now) }
+{
+    let from = start as usize;
+    &text[from..from + len as usize]
+}
 
 /// The items of a text in its order. A contract sees the text, its dialect and what is kept of each item.
 #[derive(Drop)]
@@ -86,6 +100,8 @@ impl<'a, 's> TokenArena<'a, 's> {
         ensures count { result ≡ length self.now.tokens }
         ensures most { result ≤ LIMIT }
         ensures whole { joined self.now ≡ drop (mark_len self.now.text) self.now.text }
+        ensures fits { length self.now.text ≤ LIMIT }
+        ensures stand { StandFrom self.now.text (mark_len self.now.text) self.now.tokens }
         ensures holds { HoldsItems self.now }
     {
         self.entries.len() as u32
@@ -104,19 +120,15 @@ impl<'a, 's> TokenArena<'a, 's> {
         ensures { slice_get self.now.tokens id.0 ≡ Some (told_by result) }
     {
         let entry = self.entries[id.0 as usize];
-        let from = entry.start as usize;
-        let to = from + entry.len as usize;
+        let raw = bytes_of(self.text, entry.start, entry.len);
         Token {
             item: Item {
                 kind: entry.kind,
-                raw: &self.text[from..to],
+                raw,
                 start: entry.start,
             },
             gap: entry.gap,
             line: entry.line,
-            rows: entry.rows,
-            first_width: entry.first_width,
-            last_width: entry.last_width,
             back: entry.back,
         }
     }
@@ -136,6 +148,13 @@ impl<'a, 's> TokenArena<'a, 's> {
         ensures { mark_len self.now.text ≡ (if result then 3 else 0) }
     {
         self.text.starts_with(&MARK)
+    }
+
+    /// The text.
+    pub fn text(&self) -> &'s [u8]
+        ensures { result.now ≡ self.now.text }
+    {
+        self.text
     }
 
     /// The dialect that the text was read in.

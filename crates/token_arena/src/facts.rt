@@ -107,16 +107,19 @@ fn width(row: &[u8]) -> u32
     }
 }
 
-/// How many rows an item has, and the widths of the first and of the last, in columns.
-#[derive(Clone, Copy)]
-struct Rows {
-    count: u32,
-    first_width: u32,
-    last_width: u32,
+/// The rows of an item: its physical lines.
+#[derive(Clone, Copy, Debug, PartialEq, Eq)]
+pub struct Rows {
+    /// How many there are, from 1.
+    pub count: u32,
+    /// The width of the first, in columns.
+    pub first_width: u32,
+    /// The width of the last, in columns.
+    pub last_width: u32,
 }
 
 /// The rows of an item. Most items have one, whose width is then measured once.
-fn rows_of(raw: &[u8]) -> Rows
+pub(crate) fn rows_of(raw: &[u8]) -> Rows
     requires { length raw.now < 2 ^ 31 }
     ensures count { result.count ≡ rows_of raw.now }
     ensures first { result.first_width ≡ width_of (first_row raw.now) }
@@ -145,15 +148,11 @@ pub(crate) fn entry_of(lexeme: &Lexeme<'_>, is_first: bool, gap: &[u8], line: u3
     ensures { result ≡ entry_of lexeme.now is_first gap.now line }
 {
     let item = &lexeme.item;
-    let rows = rows_of(item.raw);
     Entry {
         start: item.start,
         len: item.raw.len() as u32,
         gap: gap_facts(lexeme, is_first, gap.len() as u32),
         line: line + line_feeds(gap),
-        rows: rows.count,
-        first_width: rows.first_width,
-        last_width: rows.last_width,
         kind: item.kind,
         back: lexeme.back,
     }

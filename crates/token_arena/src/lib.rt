@@ -12,6 +12,7 @@ mod reading;
 
 pub use arena::{Token, TokenArena};
 pub use c_lexer::{Dialect, Item, ItemKind, LIMIT};
+pub use facts::Rows;
 pub use fault::ArenaFault;
-pub use line_tokens::{GapFacts, TokenId};
+pub use line_tokens::{Fixed, GapFacts, LineTok, Role, TokenId};
 pub use reading::build;

@@ -47,7 +47,7 @@ overflow_add-line c =
     let kept =
     next_kept _ _ _ _ _ _ _ c.in-Ok-Some.lexeme c.loop-lexeme.invariant.text_stays c.loop-lexeme.invariant.dialect_stays c.loop-lexeme.invariant.kept next c.entry_of-entry.result made in
     let small = kept_line_small _ _ _ _ _ _ kept in
-    omega (arith, small, c.requires.fits)
+    omega (arith, small, c.line_feeds.ensures, c.requires.fits)
 
 pub loop-lexeme-smaller : goal.loop-lexeme-smaller
 loop-lexeme-smaller c =
@@ -65,7 +65,7 @@ loop-lexeme-preserved c =
       text_stays = c.in-Ok-Some.ensures.text ∙ c.loop-lexeme.invariant.text_stays;
       dialect_stays = c.in-Ok-Some.ensures.dialect ∙ c.loop-lexeme.invariant.dialect_stays;
       kept =
-          rw c.in_ok-push-in-Ok-Some.ensures.items
+          rw (c.in_ok-push-in-Ok-Some.ensures.items, c.line_feeds.ensures)
           (next_kept _ _ _ _ _ _ _ c.in-Ok-Some.lexeme c.loop-lexeme.invariant.text_stays c.loop-lexeme.invariant.dialect_stays c.loop-lexeme.invariant.kept next _ made);
     }
 

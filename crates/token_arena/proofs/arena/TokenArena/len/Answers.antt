@@ -17,6 +17,12 @@ returns-clause-whole c =
     let text = c.self.inside.text.now in
     rw (← c.self.view_is) (joined-stand text (mark_len text) (kept_by_all text c.self.inside.entries.now) c.self.invariant.sound.stand)
 
+pub returns-clause-fits : goal.returns-clause-fits
+returns-clause-fits c = rw (← c.self.view_is) c.self.invariant.sound.fits
+
+pub returns-clause-stand : goal.returns-clause-stand
+returns-clause-stand c = rw (← c.self.view_is) c.self.invariant.sound.stand
+
 pub returns-clause-most : goal.returns-clause-most
 returns-clause-most c =
     let text = c.self.inside.text.now in
