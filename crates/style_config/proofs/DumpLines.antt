@@ -19,7 +19,7 @@ use Rattle.style_config.proofs.DumpText.{key_text, with_heading, texts_of, word_
 
 -- the line of a key, as it is read
 abbrev pub line_by : Option Outer → List ℕ → List ℕ → Line
-line_by None label value = Entry (record { key = label; value = value })
+line_by None label value = Entry (record { key = label; value = value; is_quoted = false })
 line_by (Some outer) label value = Nested 2 (label ++ (58 ∷ 32 ∷ value))
 
 abbrev pub key_line : Style → Key → Line
@@ -97,7 +97,7 @@ key_line_is style range key =
 
 -- the own line of an outer key
 abbrev pub outer_line : List ℕ → Line
-outer_line name = Entry (record { key = name; value = [] })
+outer_line name = Entry (record { key = name; value = []; is_quoted = false })
 
 heading_is : (outer : Outer) → line_of (outer_name outer ++ 58 ∷ []) ≡ Some (outer_line (outer_name outer))
 unfolding comment_start
@@ -169,9 +169,9 @@ body_is style range number (key ∷ keys) =
 
 -- the document that is written of a style
 abbrev pub language_line : NumberedLine
-language_line = record { number = 1 + 1; line = Entry (record { key = codes "Language"; value = codes "Cpp" }) }
+language_line = record { number = 1 + 1; line = Entry (record { key = codes "Language"; value = codes "Cpp"; is_quoted = false }) }
 
-language_is : line_of (codes "Language: Cpp") ≡ Some (Entry (record { key = codes "Language"; value = codes "Cpp" }))
+language_is : line_of (codes "Language: Cpp") ≡ Some (Entry (record { key = codes "Language"; value = codes "Cpp"; is_quoted = false }))
 unfolding comment_start
 language_is = refl
 

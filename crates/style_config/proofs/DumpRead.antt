@@ -44,7 +44,7 @@ read_one before effect next setting items new reads =
 
 entry_item : (owner : Owner) (number : ℕ) (pair : Pair) (rest : List NumberedLine)
     → items_from owner (record { number = number; line = Entry pair } ∷ rest)
-    ≡ Given (record { line = number; outer = None; label = pair.key; value = pair.value; has_lines = begins_nested rest }) ∷ items_from (owner_of (outer_of pair.key)) rest
+    ≡ Given (record { line = number; outer = None; label = pair.key; value = pair.value; is_quoted = pair.is_quoted; has_lines = begins_nested rest }) ∷ items_from (owner_of (outer_of pair.key)) rest
 unfolding items_from
 entry_item owner number pair rest = refl
 
@@ -58,7 +58,7 @@ next_item : (outer : Outer) (number : ℕ) (text : List ℕ) (rest : List Number
 unfolding items_from
 next_item outer number text rest = refl
 
-pair_is : (label value : List ℕ) → is_word label ≡ true → is_word value ≡ true → pair_of (label ++ (58 ∷ 32 ∷ value)) ≡ Some (record { key = label; value = value })
+pair_is : (label value : List ℕ) → is_word label ≡ true → is_word value ≡ true → pair_of (label ++ (58 ∷ 32 ∷ value)) ≡ Some (record { key = label; value = value; is_quoted = false })
 pair_is [] value word shows = let never : ⊥ = cc in absurd never
 pair_is (a ∷ label) [] word shows = let never : ⊥ = cc in absurd never
 pair_is (a ∷ label) (c ∷ value) word shows = pair_of_word a c label value (word_bytes (a ∷ label) word) (word_bytes (c ∷ value) shows)
@@ -119,7 +119,7 @@ not_true true is = sym is
 not_true false is = refl
 
 outer_means : (outer : Outer) (line : ℕ) (effect : Effect)
-    → read_setting effect (record { line = line; outer = None; label = outer_name outer; value = []; has_lines = true }) ≡ Ok effect
+    → read_setting effect (record { line = line; outer = None; label = outer_name outer; value = []; is_quoted = false; has_lines = true }) ≡ Ok effect
 outer_means BraceWrapping line effect = refl
 outer_means AlignTrailingComments line effect = refl
 
@@ -130,11 +130,11 @@ outer_owns AlignTrailingComments = refl
 -- the items of what an outer key's line and the first line under it give
 heading_items : (owner : Owner) (outer : Outer) (number : ℕ) (text : List ℕ) (pair : Pair) (rest : List NumberedLine) → pair_of text ≡ Some pair
     → items_from owner (record { number = number; line = outer_line (outer_name outer) } ∷ record { number = number + 1; line = Nested 2 text } ∷ rest)
-    ≡ Given (record { line = number; outer = None; label = outer_name outer; value = []; has_lines = true })
-    ∷ Given (record { line = number + 1; outer = Some outer; label = pair.key; value = pair.value; has_lines = false }) ∷ items_from (OuterKey outer (Some 2)) rest
+    ≡ Given (record { line = number; outer = None; label = outer_name outer; value = []; is_quoted = false; has_lines = true })
+    ∷ Given (record { line = number + 1; outer = Some outer; label = pair.key; value = pair.value; is_quoted = pair.is_quoted; has_lines = false }) ∷ items_from (OuterKey outer (Some 2)) rest
 heading_items owner outer number text pair rest is =
-    entry_item owner number (record { key = outer_name outer; value = [] }) (record { number = number + 1; line = Nested 2 text } ∷ rest)
-    ∙ ap (λ items. Given (record { line = number; outer = None; label = outer_name outer; value = []; has_lines = true }) ∷ items)
+    entry_item owner number (record { key = outer_name outer; value = []; is_quoted = false }) (record { number = number + 1; line = Nested 2 text } ∷ rest)
+    ∙ ap (λ items. Given (record { line = number; outer = None; label = outer_name outer; value = []; is_quoted = false; has_lines = true }) ∷ items)
     (ap (λ o. items_from o (record { number = number + 1; line = Nested 2 text } ∷ rest)) (outer_owns outer)
     ∙ (first_item outer (number + 1) text rest ∙ ap (λ p. inner_item (number + 1) outer p ∷ items_from (OuterKey outer (Some 2)) rest) is))
 
@@ -146,18 +146,18 @@ key_read : (style base : Style) (key : Key) (before : List (List ℕ)) (last out
 key_read style base key before last None true number name label value rest range named no_first word shows no_outer means led new =
     let clash : false ≡ true = sym (no_first refl) in let never : ⊥ = cc in absurd never
 key_read style base key before last None false number name label value rest range named no_first word shows no_outer means led new =
-    let setting : Setting = record { line = number; outer = None; label = label; value = value; has_lines = begins_nested rest } in
-    ap (read_items before (with_style base)) (entry_item (owner_behind last) number (record { key = label; value = value }) rest)
+    let setting : Setting = record { line = number; outer = None; label = label; value = value; is_quoted = false; has_lines = begins_nested rest } in
+    ap (read_items before (with_style base)) (entry_item (owner_behind last) number (record { key = label; value = value; is_quoted = false }) rest)
     ∙ (read_one before (with_style base) (with_style (copied style base key)) setting (items_from (owner_of (outer_of label)) rest) (not_true (is_among label before) new) (known_setting style base key setting range means shows)
     ∙ ap (λ o. read_items (before ++ label ∷ []) (with_style (copied style base key)) (items_from (owner_of o) rest)) no_outer)
 key_read style base key before last (Some outer) true number name label value rest range named no_first word shows no_outer means led new =
     let text : List ℕ = label ++ (58 ∷ 32 ∷ value) in
     let pair = pair_is label value word (ap is_word shows ∙ shown-word style range key) in
     let news = both (not (is_among name before)) (not (is_among (path (Some outer) label) (before ++ name ∷ []))) new in
-    let heading : Setting = record { line = number; outer = None; label = outer_name outer; value = []; has_lines = true } in
-    let inner : Setting = record { line = number + 1; outer = Some outer; label = label; value = value; has_lines = false } in
+    let heading : Setting = record { line = number; outer = None; label = outer_name outer; value = []; is_quoted = false; has_lines = true } in
+    let inner : Setting = record { line = number + 1; outer = Some outer; label = label; value = value; is_quoted = false; has_lines = false } in
     ap (λ n. read_items before (with_style base) (items_from (owner_behind last) (with_key true number n (Nested 2 text) rest))) named
-    ∙ (ap (read_items before (with_style base)) (heading_items (owner_behind last) outer number text (record { key = label; value = value }) rest pair)
+    ∙ (ap (read_items before (with_style base)) (heading_items (owner_behind last) outer number text (record { key = label; value = value; is_quoted = false }) rest pair)
     ∙ (read_one before (with_style base) (with_style base) heading (Given inner ∷ items_from (OuterKey outer (Some 2)) rest)
     (ap (λ n. is_among n before) (sym named) ∙ not_true (is_among name before) news.0) (outer_means outer number (with_style base))
     ∙ (read_one (before ++ outer_name outer ∷ []) (with_style base) (with_style (copied style base key)) inner (items_from (OuterKey outer (Some 2)) rest)
@@ -168,7 +168,7 @@ key_read style base key before None (Some outer) false number name label value r
 key_read style base key before (Some other) (Some outer) false number name label value rest range named no_first word shows no_outer means led new =
     let text : List ℕ = label ++ (58 ∷ 32 ∷ value) in
     let pair = pair_is label value word (ap is_word shows ∙ shown-word style range key) in
-    let inner : Setting = record { line = number; outer = Some outer; label = label; value = value; has_lines = false } in
+    let inner : Setting = record { line = number; outer = Some outer; label = label; value = value; is_quoted = false; has_lines = false } in
     ap (λ o. read_items before (with_style base) (items_from (OuterKey o (Some 2)) (record { number = number; line = Nested 2 text } ∷ rest))) (same_outer other outer led)
     ∙ (ap (read_items before (with_style base)) (next_item outer number text rest ∙ ap (λ p. inner_item number outer p ∷ items_from (OuterKey outer (Some 2)) rest) pair)
     ∙ read_one before (with_style base) (with_style (copied style base key)) inner (items_from (OuterKey outer (Some 2)) rest)

@@ -3,7 +3,7 @@ use Rattle.std.proofs.Common.{◌≡◌, ◌+◌, ◌-◌, ◌==◌, ℕ, suc, B
 use Rattle.std.specs.Prelude.{slice_index}
 use Rattle.std.specs.List.{list_all, prefix_len, suffix_len}
 use Rattle.std.proofs.lemmas.List.Sums.{suffix_len_is}
-use Rattle.style_config.specs.Texts.{is_blank, is_key_byte, begins_with_hash, comment_start, without_comment, without_last_blanks, without_first_blanks, without_quotes, value_of, is_pair, pair_from, pair_of}
+use Rattle.style_config.specs.Texts.{is_blank, is_key_byte, begins_with_hash, comment_start, without_comment, without_last_blanks, without_first_blanks, without_quotes, is_quoted, written_of, pair_with, Pair, is_pair, pair_from, pair_of}
 
 -- each byte may stand in a key
 abbrev pub AreKeyBytes : List ℕ → Type 0
@@ -54,9 +54,9 @@ and_false : (a b e : Bool) → b ≡ false → ((a && b) && e) ≡ false
 and_false true b e is = ap (λ x. x && e) is
 and_false false b e is = refl
 
--- a blank and a word behind it are the word's value
-pub value_of_word : (c : ℕ) (text : List ℕ) → AreKeyBytes (c ∷ text) → value_of (32 ∷ c ∷ text) ≡ c ∷ text
-value_of_word c text all =
+-- behind a blank a word is written
+written_word : (c : ℕ) (text : List ℕ) → AreKeyBytes (c ∷ text) → written_of (32 ∷ c ∷ text) ≡ c ∷ text
+written_word c text all =
     let word : List ℕ = c ∷ text in
     let whole : without_comment (32 ∷ word) ≡ 32 ∷ word =
     ap (λ n. take n (32 ∷ word)) (no_comment_behind word all) ∙ ap (λ rest. 32 ∷ rest) (take_whole word) in
@@ -66,10 +66,14 @@ value_of_word c text all =
     ap (λ n. take n (32 ∷ word)) (let n : length (32 ∷ word) - suffix_len is_blank (32 ∷ word) ≡ length (32 ∷ word) = omega (arith, none) in n) ∙ take_whole (32 ∷ word) in
     let first : without_first_blanks (32 ∷ word) ≡ word =
     ap (λ b. drop (1 + cond b (1 + prefix_len is_blank text) 0) (32 ∷ word)) (not_blank c all.0) in
-    let quotes : without_quotes word ≡ word =
-    ap (λ b. if b then take (length word - 2) (drop 1 word) else word) (and_false (nat_le 2 (length word)) ((c == 39) || (c == 34)) (c == slice_index word (length word - 1)) (not_quote c all.0)) in
-    ap (λ t. without_quotes (without_first_blanks (without_last_blanks t))) whole
-    ∙ (ap (λ t. without_quotes (without_first_blanks t)) last ∙ (ap without_quotes first ∙ quotes))
+    ap (λ t. without_first_blanks (without_last_blanks t)) whole ∙ (ap without_first_blanks last ∙ first)
+
+-- a word stands in no quotes
+word_with : (key : List ℕ) (c : ℕ) (text : List ℕ) → AreKeyBytes (c ∷ text) → pair_with key (c ∷ text) ≡ record { key = key; value = c ∷ text; is_quoted = false }
+word_with key c text all =
+    let word : List ℕ = c ∷ text in
+    let pair : Bool → Pair = λ b. record { key = key; value = if b then take (length word - 2) (drop 1 word) else word; is_quoted = b } in
+    ap pair (and_false (nat_le 2 (length word)) ((c == 39) || (c == 34)) (c == slice_index word (length word - 1)) (not_quote c all.0))
 
 key_len_is : (label rest : List ℕ) → AreKeyBytes label → prefix_len is_key_byte (label ++ 58 ∷ rest) ≡ length label
 key_len_is [] rest all = refl
@@ -105,7 +109,7 @@ all_four p q r s = ap₂ (λ x y. x && y) (ap₂ (λ x y. x && y) (ap₂ (λ x y
 
 -- a key with a word behind it is read as the two
 pub pair_of_word : (a c : ℕ) (label text : List ℕ) → AreKeyBytes (a ∷ label) → AreKeyBytes (c ∷ text)
-    → pair_of ((a ∷ label) ++ 58 ∷ 32 ∷ c ∷ text) ≡ Some (record { key = a ∷ label; value = c ∷ text })
+    → pair_of ((a ∷ label) ++ 58 ∷ 32 ∷ c ∷ text) ≡ Some (record { key = a ∷ label; value = c ∷ text; is_quoted = false })
 pair_of_word a c label text key word =
     let line : List ℕ = (a ∷ label) ++ 58 ∷ 32 ∷ c ∷ text in
     let n : ℕ = length (a ∷ label) in
@@ -118,6 +122,7 @@ pair_of_word a c label text key word =
     let is : is_pair n line ≡ true =
     all_four some within (ap (λ c. c == 58) colon) (or_true (nat_le (length line) (n + 1)) (is_blank (slice_index line (n + 1))) (ap is_blank blank)) in
     ap (λ k. pair_from k line) (key_len_is (a ∷ label) (32 ∷ c ∷ text) key)
-    ∙ (ap (λ b. if b then Some (record { key = take n line; value = value_of (drop (n + 1) line) }) else None) is
-    ∙ (ap (λ k. Some (record { key = k; value = value_of (drop (n + 1) line) })) (take_front (a ∷ label) (58 ∷ 32 ∷ c ∷ text))
-    ∙ ap (λ v. Some (record { key = a ∷ label; value = v })) (ap value_of (ap (λ k. drop k line) next ∙ drop_behind (a ∷ label) (32 ∷ c ∷ text) 58) ∙ value_of_word c text word)))
+    ∙ (ap (λ b. if b then Some (pair_with (take n line) (written_of (drop (n + 1) line))) else None) is
+    ∙ (ap (λ k. Some (pair_with k (written_of (drop (n + 1) line)))) (take_front (a ∷ label) (58 ∷ 32 ∷ c ∷ text))
+    ∙ (ap (λ v. Some (pair_with (a ∷ label) v)) (ap written_of (ap (λ k. drop k line) next ∙ drop_behind (a ∷ label) (32 ∷ c ∷ text) 58) ∙ written_word c text word)
+    ∙ ap Some (word_with (a ∷ label) c text word))))

@@ -37,12 +37,14 @@ owner_after AnyKey (Nested width text) = AnyKey
 owner_after (OuterKey outer None) (Nested width text) = OuterKey outer (Some width)
 owner_after (OuterKey outer (Some first)) (Nested width text) = OuterKey outer (Some first)
 
--- a key with its value, its line, the outer key that it stands under, and whether lines belong to it
+-- a key with its value, its line, the outer key that it stands under, whether quotes stood around the value, and whether
+-- lines belong to the key
 pub record Setting : Type 0 where
   pub line : ℕ
   pub outer : Option Outer
   pub label : List ℕ
   pub value : List ℕ
+  pub is_quoted : Bool
   pub has_lines : Bool
 
 -- what a line gives: a bad line of this number, or a key that is set
@@ -58,7 +60,7 @@ has_width (Some first) width = width == first
 -- what a line under an outer key gives
 abbrev pub inner_item : ℕ → Outer → Option Pair → Item
 inner_item number outer (Some pair) =
-    Given (record { line = number; outer = Some outer; label = pair.key; value = pair.value; has_lines = false })
+    Given (record { line = number; outer = Some outer; label = pair.key; value = pair.value; is_quoted = pair.is_quoted; has_lines = false })
 inner_item number outer None = Wrong number
 
 -- what a line gives, if anything; `next` says whether the next line belongs to the same key
@@ -66,7 +68,7 @@ abbrev pub item_of : Owner → ℕ → Line → Bool → Option Item
 item_of owner number Marker next = None
 item_of owner number Malformed next = Some (Wrong number)
 item_of owner number (Entry pair) next =
-    Some (Given (record { line = number; outer = None; label = pair.key; value = pair.value; has_lines = next }))
+    Some (Given (record { line = number; outer = None; label = pair.key; value = pair.value; is_quoted = pair.is_quoted; has_lines = next }))
 item_of NoKey number (Nested width text) next = Some (Wrong number)
 item_of AnyKey number (Nested width text) next = None
 item_of (OuterKey outer first) number (Nested width text) next =
@@ -101,7 +103,7 @@ items_of document = items_from NoKey document
 -- the texts of what was read
 abbrev pub setting_text : ReadSetting → Setting
 setting_text setting =
-    record { line = setting.line; outer = setting.outer; label = setting.label.now; value = setting.value.now; has_lines = setting.has_lines }
+    record { line = setting.line; outer = setting.outer; label = setting.label.now; value = setting.value.now; is_quoted = setting.is_quoted; has_lines = setting.has_lines }
 
 abbrev pub item_text : ReadItem → Item
 item_text (Read.Wrong line) = Wrong line

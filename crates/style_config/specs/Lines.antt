@@ -109,7 +109,7 @@ base_after style (line ∷ rest) = base_after (based_on style (value_at (codes "
 
 -- the texts of lines that were read
 abbrev pub pair_text : ReadPair → Pair
-pair_text pair = record { key = pair.key.now; value = pair.value.now }
+pair_text pair = record { key = pair.key.now; value = pair.value.now; is_quoted = pair.is_quoted }
 
 abbrev pub line_text : ReadLine → Line
 line_text Read.Marker = Marker

@@ -1,6 +1,6 @@
 -- What a configuration makes of a style: its first fault, or the style in force and the keys that were skipped.
 -- docs/PROFILE.md states the rules under "Configuration".
-use Rattle.std.specs.Prelude.{◌≡◌, ⊤, ℕ, Bool, true, false, ◌==◌, ◌&&◌, Option, Some, None, Result, Ok, Err, if◌then◌else◌, List, [], ◌∷◌, ◌++◌, length, map, bytes_eq, codes, is_some, IsUtf8, String, string_bytes}
+use Rattle.std.specs.Prelude.{◌≡◌, ⊤, ℕ, Bool, true, false, ◌==◌, ◌&&◌, ◌||◌, Option, Some, None, Result, Ok, Err, if◌then◌else◌, List, [], ◌∷◌, ◌++◌, length, map, bytes_eq, codes, is_some, IsUtf8, String, string_bytes}
 use Rattle.std.specs.List.{list_any}
 use Rattle.std.specs.declared.alloc.Global.{Global}
 use Rattle.indexmap.specs.IndexSet.{IndexSet}
@@ -67,10 +67,14 @@ aligned effect line (Ok true) = Ok (record effect { style = record effect.style 
 aligned effect line (Ok false) = Ok (record effect { style = record effect.style { align_trailing_comments_kind = Kind.Never } })
 aligned effect line (Err fault) = Err (BadValue line)
 
+-- what `BasedOnStyle` may have: the name of a style, or quotes with nothing in them, which name no base
+abbrev pub is_base : Setting → Bool
+is_base setting = is_some (named setting.value) || (setting.is_quoted && (length setting.value == 0))
+
 -- what a key with its value makes of the style and of the keys skipped
 abbrev pub read_as : Meaning → Effect → Setting → Result Effect ConfigFault
 read_as Language effect setting = Ok effect
-read_as BasedOnStyle effect setting = if is_some (named setting.value) then Ok effect else Err (UnknownStyle setting.line)
+read_as BasedOnStyle effect setting = if is_base setting then Ok effect else Err (UnknownStyle setting.line)
 read_as (OuterKey BraceWrapping) effect setting =
     if setting.has_lines && (length setting.value == 0) then Ok effect else Err (BadValue setting.line)
 read_as (OuterKey AlignTrailingComments) effect setting =

@@ -53,14 +53,19 @@ is_quoted text =
 abbrev pub without_quotes : List ℕ → List ℕ
 without_quotes text = if is_quoted text then take (length text - 2) (drop 1 text) else text
 
--- the value that is written behind a key's `:`
-abbrev pub value_of : List ℕ → List ℕ
-value_of text = without_quotes (without_first_blanks (without_last_blanks (without_comment text)))
+-- what is written behind a key's `:`, without its comment and the blanks around it
+abbrev pub written_of : List ℕ → List ℕ
+written_of text = without_first_blanks (without_last_blanks (without_comment text))
 
--- a key and its value
+-- a key, its value, and whether quotes stood around the value
 pub record Pair : Type 0 where
   pub key : List ℕ
   pub value : List ℕ
+  pub is_quoted : Bool
+
+-- a key with what is written as its value
+abbrev pub pair_with : List ℕ → List ℕ → Pair
+pair_with key written = record { key = key; value = without_quotes written; is_quoted = is_quoted written }
 
 -- behind a key of so many bytes stands `:`, and behind that a blank or nothing
 abbrev pub is_pair : ℕ → List ℕ → Bool
@@ -71,7 +76,7 @@ is_pair n text =
 -- the key and the value of a text of the form `Key:` or `Key: value`
 abbrev pub pair_from : ℕ → List ℕ → Option Pair
 pair_from n text =
-    if is_pair n text then Some (record { key = take n text; value = value_of (drop (n + 1) text) }) else None
+    if is_pair n text then Some (pair_with (take n text) (written_of (drop (n + 1) text))) else None
 
 abbrev pub pair_of : List ℕ → Option Pair
 pair_of text = pair_from (prefix_len is_key_byte text) text

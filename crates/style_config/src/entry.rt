@@ -34,6 +34,8 @@ pub(crate) struct Setting<'t> {
     pub(crate) outer: Option<Outer>,
     pub(crate) label: &'t str,
     pub(crate) value: &'t [u8],
+    /// Whether quotes stood around the value.
+    pub(crate) is_quoted: bool,
     /// Whether lines belong to it.
     pub(crate) has_lines: bool,
 }
@@ -138,6 +140,7 @@ fn inner_item(number: u32, outer: Outer, text: &[u8]) -> Item<'_>
             outer: Some(outer),
             label: pair.key,
             value: pair.value,
+            is_quoted: pair.is_quoted,
             has_lines: false,
         }),
         None => Item::Wrong(number),
@@ -157,6 +160,7 @@ pub(crate) fn item_of<'t>(owner: Owner, line: &NumberedLine<'t>, next: bool) -> 
             outer: None,
             label: pair.key,
             value: pair.value,
+            is_quoted: pair.is_quoted,
             has_lines: next,
         })),
         Line::Nested(width, text) => match owner {

@@ -1,16 +1,18 @@
-// A key and its value.
+// A key with its value.
 ghost use Rattle.std.specs.Prelude.{◌≡◌, ◌≤◌, length};
 ghost use Rattle.std.specs.Option.{option_map};
 ghost use Rattle.style_config.specs.Texts.{is_pair, pair_of};
 ghost use Rattle.style_config.specs.Lines.{pair_text};
 
-use crate::text::{is_blank, key_len, value_of};
+use crate::text::{is_blank, is_quoted, key_len, without_quotes, written_of};
 
 /// A key and its value.
 #[derive(Clone, Copy)]
 pub(crate) struct Pair<'t> {
     pub(crate) key: &'t str,
     pub(crate) value: &'t [u8],
+    /// Whether quotes stood around the value.
+    pub(crate) is_quoted: bool,
 }
 
 // Behind a key of so many bytes stands `:`, and behind that a blank or nothing.
@@ -35,8 +37,10 @@ pub(crate) fn pair_of(text: &[u8]) -> Option<Pair<'_>>
     let Ok(key) = std::str::from_utf8(&text[..end]) else {
         unreachable!()
     };
+    let written = written_of(&text[end + 1..]);
     Some(Pair {
         key,
-        value: value_of(&text[end + 1..]),
+        value: without_quotes(written),
+        is_quoted: is_quoted(written),
     })
 }

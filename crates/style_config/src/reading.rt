@@ -2,7 +2,7 @@
 ghost use Rattle.std.specs.Prelude.{◌≡◌, IfOk, List, is_some, string_bytes};
 ghost use Rattle.style_table.specs.Range.{IsInRange};
 ghost use Rattle.style_config.specs.Entries.{setting_text};
-ghost use Rattle.style_config.specs.Reading.{Gives, aligned, known, meaning_of, path, read_setting, with_read};
+ghost use Rattle.style_config.specs.Reading.{Gives, aligned, is_base, known, meaning_of, path, read_setting, with_read};
 ghost use Rattle.style_table.specs.Words.{bool_words};
 ghost use Rattle.style_table.specs.Words.{value_in};
 ghost use Rattle.style_table.specs.Keys.{with_value};
@@ -83,6 +83,13 @@ fn names_style(value: &[u8]) -> bool
     }
 }
 
+// Whether `BasedOnStyle` may have this value: the name of a style, or quotes with nothing in them.
+fn is_base(setting: &Setting<'_>) -> bool
+    ensures { result ≡ is_base (setting_text setting.now) }
+{
+    names_style(setting.value) || setting.is_quoted && setting.value.is_empty()
+}
+
 // The style by the own value of the key `AlignTrailingComments`.
 fn aligned(mut style: Style, setting: &Setting<'_>) -> Result<Style, ConfigFault>
     ensures read { (skipped : List SkippedKey) →
@@ -129,7 +136,7 @@ pub(crate) fn read_setting(
     match meaning_of(setting.outer, setting.label) {
         Meaning::Language => Ok(style),
         Meaning::BasedOnStyle => {
-            if names_style(setting.value) {
+            if is_base(setting) {
                 Ok(style)
             } else {
                 Err(ConfigFault::UnknownStyle { line })

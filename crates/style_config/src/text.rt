@@ -1,7 +1,7 @@
 // The parts of a line: blanks, comments, quotes, keys and values.
 ghost use Rattle.std.specs.Prelude.{◌≡◌, ◌≤◌, ◌<◌, drop, length};
 ghost use Rattle.std.specs.List.{prefix_len};
-ghost use Rattle.style_config.specs.Texts.{begins_comment, blanks_of, is_blank, is_key_byte, value_of, without_comment, without_first_blanks, without_last_blanks, without_quotes};
+ghost use Rattle.style_config.specs.Texts.{begins_comment, blanks_of, is_blank, is_key_byte, is_quoted, without_comment, without_first_blanks, without_last_blanks, without_quotes, written_of};
 
 /// A blank or a tab.
 pub(crate) fn is_blank(byte: u8) -> bool
@@ -60,13 +60,20 @@ fn without_comment(text: &[u8]) -> &[u8]
     &text[..at]
 }
 
-// A text without one pair of quotes around it.
-fn without_quotes(text: &[u8]) -> &[u8]
-    ensures { result.now ≡ without_quotes text.now }
+/// A text of two bytes and more begins and ends with the same quote.
+pub(crate) fn is_quoted(text: &[u8]) -> bool
+    ensures { result ≡ is_quoted text.now }
 {
     let len = text.len();
-    if len >= 2 && (text[0] == b'\'' || text[0] == b'"') && text[0] == text[len - 1] {
-        return &text[1..len - 1];
+    len >= 2 && (text[0] == b'\'' || text[0] == b'"') && text[0] == text[len - 1]
+}
+
+/// A text without one pair of quotes around it.
+pub(crate) fn without_quotes(text: &[u8]) -> &[u8]
+    ensures { result.now ≡ without_quotes text.now }
+{
+    if is_quoted(text) {
+        return &text[1..text.len() - 1];
     }
     text
 }
@@ -79,11 +86,11 @@ fn begins_comment(text: &[u8], at: usize) -> bool
     is_blank(text[at]) && at + 1 < text.len() && text[at + 1] == b'#'
 }
 
-/// The value that is written behind a key's `:`.
-pub(crate) fn value_of(text: &[u8]) -> &[u8]
-    ensures { result.now ≡ value_of text.now }
+/// What is written behind a key's `:`, without its comment and the blanks around it.
+pub(crate) fn written_of(text: &[u8]) -> &[u8]
+    ensures { result.now ≡ written_of text.now }
 {
-    without_quotes(without_first_blanks(without_last_blanks(without_comment(text))))
+    without_first_blanks(without_last_blanks(without_comment(text)))
 }
 
 /// How many bytes a key at the start of a text has.
