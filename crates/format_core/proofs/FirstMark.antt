@@ -19,7 +19,7 @@ use Rattle.c_grammar.proofs.AllGaps.{first_place}
 use Rattle.c_grammar.proofs.ItemBytes.{ReadAs, AreParted}
 use Rattle.c_grammar.proofs.Unique.{is_blank}
 use Rattle.c_grammar.proofs.White.{white_reads_so}
-use Rattle.format_core.proofs.Spelled.{plain_alone, has_mark, no_mark, marked}
+use Rattle.replacements.proofs.Spelled.{plain_alone, has_mark, no_mark, marked}
 
 -- A byte that is read as itself and isn't blank.
 record IsThrough (b : ℕ) : Type 0 where

@@ -2,9 +2,7 @@ pub mod Braces
 pub mod Spelled
 pub mod Counts
 pub mod Places
-pub mod TextLines
-pub mod Broken
-pub mod Leaving
+pub mod Held
 pub mod TwinGaps
 pub mod FirstMark
 pub mod PlainTwin

@@ -16,119 +16,30 @@ use Rattle.token_arena.specs.Holds.{HoldsItems}
 use Rattle.directives.specs.Directives.{is_hash_token}
 use Rattle.directives.specs.declared.Section.{Section}
 use Rattle.style_table.specs.declared.style.Style.{Style}
-use Rattle.format_core.specs.Standing.{hash_comes, standing_in, IsKnown}
-use Rattle.format_core.specs.PlainLayout.{plain_from, first_gap, gap_before, guard_of, depth_behind, text_gap, lines_text, kept_lines, last_gap, mark_bytes, plain_text}
+use Rattle.replacements.specs.Stances.{hash_comes, stance_in, IsKnown}
+use Rattle.format_core.specs.PlainLayout.{plain_from, gap_before, depth_behind, text_gap, lines_text, kept_lines, last_gap, plain_text}
+use Rattle.replacements.specs.Guards.{guard_of}
+use Rattle.replacements.specs.Written.{first_gap, mark_bytes}
 use Rattle.format_core.specs.LineEnds.{ends_by}
 use Rattle.directives.specs.Sections.{sections_of}
 use Rattle.c_grammar.specs.Twin.{IsTwin}
-use Rattle.format_core.specs.declared.guard.Guard.{Guard}
-use Rattle.format_core.specs.declared.guard.Guard.TheVariants as guard
-
--- the token at this place comes next
-pub drop_next : (tokens : List Stored) (place : ℕ) (token : Stored) → slice_get tokens place ≡ Some token → drop place tokens ≡ token ∷ drop (place + 1) tokens
-drop_next tokens place token is =
-    let within : place < length tokens = slice_get_within tokens place token is in
-    let same : get_or tokens place token ≡ token = get_or_from_slice_get tokens place token token is in
-    let next : drop place tokens ≡ get_or tokens place token ∷ drop (suc place) tokens = drop-cons tokens place token within in
-    next ∙ (ap (λ (t : Stored). t ∷ drop (suc place) tokens) same ∙ ap (λ (n : ℕ). token ∷ drop n tokens) (sym (add-one place)))
-
--- whether a `#` comes, from an item on
-pub hash_at : (d : Dialect) (tokens : List Stored) (place : ℕ) (t : Stored) → slice_get tokens place ≡ Some t →
-    hash_comes d (drop place tokens) ≡ (not t.gap.began && (if is_comment t.kind then hash_comes d (drop (place + 1) tokens) else is_hash_token d t))
-hash_at d tokens place t is = ap (hash_comes d) (drop_next tokens place t is)
-
-pub hash_began : (d : Dialect) (tokens : List Stored) (place : ℕ) (t : Stored) → slice_get tokens place ≡ Some t → t.gap.began ≡ true → hash_comes d (drop place tokens) ≡ false
-hash_began d tokens place t is began = hash_at d tokens place t is ∙ ap (λ b. not b && (if is_comment t.kind then hash_comes d (drop (place + 1) tokens) else is_hash_token d t)) began
-
-pub hash_here : (d : Dialect) (tokens : List Stored) (place : ℕ) (t : Stored) → slice_get tokens place ≡ Some t → t.gap.began ≡ false → is_comment t.kind ≡ false → hash_comes d (drop place tokens) ≡ is_hash_token d t
-hash_here d tokens place t is began other =
-    hash_at d tokens place t is
-    ∙ (ap (λ b. not b && (if is_comment t.kind then hash_comes d (drop (place + 1) tokens) else is_hash_token d t)) began
-    ∙ ap (λ b. if b then hash_comes d (drop (place + 1) tokens) else is_hash_token d t) other)
-
-pub hash_on : (d : Dialect) (tokens : List Stored) (place : ℕ) (t : Stored) → slice_get tokens place ≡ Some t → t.gap.began ≡ false → is_comment t.kind ≡ true → hash_comes d (drop place tokens) ≡ hash_comes d (drop (place + 1) tokens)
-hash_on d tokens place t is began comment =
-    hash_at d tokens place t is
-    ∙ (ap (λ b. not b && (if is_comment t.kind then hash_comes d (drop (place + 1) tokens) else is_hash_token d t)) began
-    ∙ ap (λ b. if b then hash_comes d (drop (place + 1) tokens) else is_hash_token d t) comment)
-
--- the answer is one for all items up to this one
-pub IsOne : Dialect → List Stored → ℕ → ℕ → Type 0
-IsOne d tokens place at = (k : ℕ) → place ≤ k → k < at → hash_comes d (drop k tokens) ≡ hash_comes d (drop at tokens)
-
-pub one_begun : (d : Dialect) (tokens : List Stored) (place : ℕ) → IsOne d tokens place place
-unfolding IsOne
-one_begun d tokens place k a b = absurd (omega arith)
-
-pub one_more : (d : Dialect) (tokens : List Stored) (place at : ℕ) (t : Stored) → IsOne d tokens place at → slice_get tokens at ≡ Some t → t.gap.began ≡ false → is_comment t.kind ≡ true → IsOne d tokens place (at + 1)
-unfolding IsOne
-one_more d tokens place at t one is began comment =
-    let on = hash_on d tokens at t is began comment in
-    λ k a b. below_more (λ k. place ≤ k → hash_comes d (drop k tokens) ≡ hash_comes d (drop (at + 1) tokens)) at (λ k b a. one k a b ∙ on) (λ a. on) k b a
-
-pub known_at : (d : Dialect) (tokens : List Stored) (place at : ℕ) (hash : Bool) → IsOne d tokens place at → hash_comes d (drop at tokens) ≡ hash → IsKnown d tokens place (at + 1) hash
-unfolding IsOne
-known_at d tokens place at hash one is = λ k a b. below_more (λ k. place ≤ k → hash_comes d (drop k tokens) ≡ hash) at (λ k b a. one k a b ∙ is) (λ a. is) k b a
-
-drop_all_at : (tokens : List Stored) (at : ℕ) → length tokens ≤ at → drop at tokens ≡ []
-drop_all_at tokens at past = drop_all at tokens past
-
-pub known_end : (d : Dialect) (tokens : List Stored) (place at count : ℕ) → IsOne d tokens place at → length tokens ≤ at → count ≤ at → IsKnown d tokens place count false
-unfolding IsOne
-known_end d tokens place at count one past few = λ k a b. one k a (omega arith) ∙ ap (hash_comes d) (drop_all_at tokens at past)
+use Rattle.replacements.specs.declared.guard.Guard.{Guard}
+use Rattle.replacements.specs.declared.guard.Guard.TheVariants as guard
+use Rattle.replacements.proofs.Items.{drop_next, hash_at, hash_began, hash_here, hash_on, IsOne, one_begun, one_more, known_at, drop_all_at, known_end, raw_fits, gap_start-next, gap_there, gap_last, gap_fits}
 
 -- an item's bytes are no more than its text's
 
-piece_fits : (n m : ℕ) (text : List ℕ) → length (take n (drop m text)) ≤ length text
-piece_fits n m text =
-    let front = ap length (take-append-drop n (drop m text)) in
-    omega (arith, front, length-append (take n (drop m text)) (drop n (drop m text)), length-drop m text)
-
-none_there : (k : ℕ) (t : Stored) → slice_get [] k ≡ Some t → ⊥
-none_there k t is = let within : k < length {A = Stored} [] = slice_get_within [] k t is in omega (arith, within)
-
-stored_fits : (text : List ℕ) (first : Bool) (from : ℕ) (items : List ReadItem) (k : ℕ) (t : Stored) → slice_get (stored_from text first from items) k ≡ Some t → length t.raw ≤ length text
-stored_fits text first from [] k t is = absurd (none_there k t is)
-stored_fits text first from (i ∷ items) zero t is =
-    let same : stored_of text first from i ≡ t = cc in
-    subst (λ (x : Stored). length x.raw ≤ length text) same (piece_fits (end_of i - start_of i) (start_of i) text)
-stored_fits text first from (i ∷ items) (suc k) t is = stored_fits text false (end_of i) items k t is
-
-pub raw_fits : (arena : Contents) (k : ℕ) (t : Stored) → HoldsItems arena → length arena.text ≤ LIMIT → slice_get arena.tokens k ≡ Some t → length t.raw ≤ LIMIT
-raw_fits arena k t holds fits is =
-    let few : length t.raw ≤ length arena.text = stored_fits arena.text true (mark_len arena.text) holds.items k t (ap (λ z. slice_get z k) (sym holds.tokens) ∙ is) in
-    omega (arith, few, fits)
-
 -- the gaps
-
-start_next : (at : ℕ) (tokens : List Stored) (place : ℕ) (t : Stored) → slice_get tokens place ≡ Some t → gap_start at tokens (suc place) ≡ behind t
-start_next at [] place t is = absurd (none_there place t is)
-start_next at (x ∷ xs) zero t is = let same : x ≡ t = cc in ap behind same
-start_next at (x ∷ xs) (suc place) t is = start_next (behind x) xs place t is
-
-pub gap_start-next : (at : ℕ) (tokens : List Stored) (place : ℕ) (t : Stored) → slice_get tokens place ≡ Some t → gap_start at tokens (place + 1) ≡ behind t
-gap_start-next at tokens place t is = ap (λ n. gap_start at tokens n) (add-one place) ∙ start_next at tokens place t is
-
-pub gap_there : (text : List ℕ) (at : ℕ) (tokens : List Stored) (place : ℕ) (t : Stored) → slice_get tokens place ≡ Some t → gap_from text at tokens place ≡ take (t.start - gap_start at tokens place) (drop (gap_start at tokens place) text)
-gap_there text at [] place t is = absurd (none_there place t is)
-gap_there text at (x ∷ xs) zero t is = let same : x ≡ t = cc in ap (λ (z : Stored). take (z.start - at) (drop at text)) same
-gap_there text at (x ∷ xs) (suc place) t is = gap_there text (behind x) xs place t is
-
-pub gap_last : (text : List ℕ) (at : ℕ) (tokens : List Stored) (place : ℕ) → place ≡ length tokens → gap_from text at tokens place ≡ drop (gap_start at tokens place) text
-gap_last text at [] zero is = refl
-gap_last text at [] (suc place) is = absurd (omega (arith, is))
-gap_last text at (x ∷ xs) zero is = absurd (omega (arith, is))
-gap_last text at (x ∷ xs) (suc place) is = gap_last text (behind x) xs place (omega (arith, is))
 
 -- a token and the gap before it, and what comes then
 pub token_next : (style : Style) (crlf : Bool) (arena : Contents) (sections : List Section) (g : Guard) (depth place : ℕ) (t : Stored) → slice_get arena.tokens place ≡ Some t →
     plain_from style crlf arena sections g depth (gap_start (mark_len arena.text) arena.tokens place) place (drop place arena.tokens)
-    ≡ ((if place == 0 then first_gap arena.text t else gap_before style crlf arena g depth (gap_start (mark_len arena.text) arena.tokens place) (standing_in sections place) t (drop (place + 1) arena.tokens)) ++ t.raw)
-    ++ plain_from style crlf arena sections (guard_of t) (depth_behind arena.dialect depth (standing_in sections place) t) (gap_start (mark_len arena.text) arena.tokens (place + 1)) (place + 1) (drop (place + 1) arena.tokens)
+    ≡ ((if place == 0 then first_gap arena.text t else gap_before style crlf arena g depth (gap_start (mark_len arena.text) arena.tokens place) (stance_in sections place) t (drop (place + 1) arena.tokens)) ++ t.raw)
+    ++ plain_from style crlf arena sections (guard_of t) (depth_behind arena.dialect depth (stance_in sections place) t) (gap_start (mark_len arena.text) arena.tokens (place + 1)) (place + 1) (drop (place + 1) arena.tokens)
 token_next style crlf arena sections g depth place t is =
     let at = gap_start (mark_len arena.text) arena.tokens place in
-    let gap = if place == 0 then first_gap arena.text t else gap_before style crlf arena g depth at (standing_in sections place) t (drop (place + 1) arena.tokens) in
-    let deep = depth_behind arena.dialect depth (standing_in sections place) t in
+    let gap = if place == 0 then first_gap arena.text t else gap_before style crlf arena g depth at (stance_in sections place) t (drop (place + 1) arena.tokens) in
+    let deep = depth_behind arena.dialect depth (stance_in sections place) t in
     let rest = λ (n : ℕ). plain_from style crlf arena sections (guard_of t) deep n (place + 1) (drop (place + 1) arena.tokens) in
     ap (λ z. plain_from style crlf arena sections g depth at place z) (drop_next arena.tokens place t is)
     ∙ (sym (append_assoc gap t.raw (rest (behind t))) ∙ ap (λ n. (gap ++ t.raw) ++ rest n) (sym (gap_start-next (mark_len arena.text) arena.tokens place t is)))
@@ -155,13 +66,6 @@ no_gap style crlf d g level t ts lines none hash =
     let text = lines_text style crlf g (kept_lines style t.gap) level in
     ap (λ b. if b then text else (if hash_comes d (t ∷ ts) || not t.gap.empty then 32 ∷ [] else [])) (no_lines t.gap.lines lines)
     ∙ (ap (λ b. if b || not t.gap.empty then 32 ∷ [] else []) hash ∙ ap (λ b. if not b then 32 ∷ [] else []) none)
-
--- the last gap is no more than its text
-pub gap_fits : (arena : Contents) (place : ℕ) → place ≡ length arena.tokens → length arena.text ≤ LIMIT → length (gap_of arena place) ≤ LIMIT
-gap_fits arena place is fits =
-    let start = gap_start (mark_len arena.text) arena.tokens place in
-    let long = ap length (gap_last arena.text (mark_len arena.text) arena.tokens place is) in
-    omega (arith, long, fits, length-drop start arena.text)
 
 -- behind the last item the last gap is left
 pub tokens_end : (style : Style) (crlf : Bool) (arena : Contents) (sections : List Section) (g : Guard) (depth place count : ℕ) (gap : List ℕ) (d : Dialect) → place ≡ length arena.tokens → count ≡ place → gap ≡ gap_of arena count → d ≡ arena.dialect →

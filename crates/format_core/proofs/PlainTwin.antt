@@ -31,15 +31,19 @@ use Rattle.directives.specs.Sections.{sections_of, sections_from, lines_of}
 use Rattle.directives.specs.declared.Section.{Section}
 use Rattle.style_table.specs.declared.style.Style.{Style}
 use Rattle.format_core.specs.LineEnds.{ends_by}
-use Rattle.format_core.specs.Standing.{standing_in}
-use Rattle.format_core.specs.PlainLayout.{guard_of, first_gap, gap_before, last_gap, depth_behind, mark_bytes, plain_from, plain_text}
-use Rattle.format_core.specs.declared.guard.Guard.{Guard}
-use Rattle.format_core.specs.declared.guard.Guard.TheVariants as guard
-use Rattle.format_core.proofs.Broken.{Leaves}
-use Rattle.format_core.proofs.Leaving.{leaves_guard, keeps_line, OutPlace, out_place, from_start, from_line, new_lines-any}
-use Rattle.format_core.proofs.TextLines.{StandSo, standing_as, inside_at, leads_hash, items_stand}
-use Rattle.format_core.proofs.TwinGaps.{plain_gaps, plain_end, Here, next_here, FitsLast, last_fits, gap_fits}
-use Rattle.format_core.proofs.Spelled.{has_mark, no_mark, marked}
+use Rattle.replacements.specs.Stances.{stance_in}
+use Rattle.format_core.specs.PlainLayout.{gap_before, last_gap, depth_behind, plain_from, plain_text}
+use Rattle.replacements.specs.Guards.{guard_of}
+use Rattle.replacements.specs.Written.{first_gap, mark_bytes}
+use Rattle.replacements.specs.declared.guard.Guard.{Guard}
+use Rattle.replacements.specs.declared.guard.Guard.TheVariants as guard
+use Rattle.replacements.proofs.Broken.{Leaves}
+use Rattle.replacements.proofs.Leaving.{leaves_guard, keeps_line, OutPlace, out_place, from_start, from_line, new_lines-any}
+use Rattle.replacements.proofs.TextLines.{StandSo, stance_as, inside_at, leads_hash, items_stand}
+use Rattle.format_core.proofs.TwinGaps.{plain_gaps, plain_end, last_fits, gap_fits}
+use Rattle.replacements.proofs.Following.{Here, next_here, FitsLast}
+use Rattle.replacements.proofs.Spelled.{has_mark, no_mark, marked}
+use Rattle.replacements.proofs.OutPlaces.{next_out, gap_out, not_first, text_parts, first_white, first_marked, marks}
 
 -- plain layout puts these gaps before the items
 plain_regapped : (style : Style) (crlf : Bool) (arena : Contents) (sections : List Section) (g : Guard) (depth at place from : ℕ) (first : Bool) (items : List ReadItem) →
@@ -49,39 +53,8 @@ plain_regapped style crlf arena sections g depth at place from first [] = refl
 plain_regapped style crlf arena sections g depth at place from first (i ∷ items) =
     let t = stored_of arena.text first from i in
     let ts = stored_from arena.text false (end_of i) items in
-    ap (λ (x : List ℕ). (if place == 0 then first_gap arena.text t else gap_before style crlf arena g depth at (standing_in sections place) t ts) ++ (raw_of arena.text i ++ x))
-    (plain_regapped style crlf arena sections (guard_of t) (depth_behind arena.dialect depth (standing_in sections place) t) (behind t) (place + 1) (end_of i) false items)
-
--- The place behind an item of a line that is no directive.
-next_out : (d : Dialect) (text : List ℕ) (place : Place) (inside : Bool) (left i : ReadItem) (ts : List Stored) → spelling d (stored_of text false (end_of left) i) ≡ bytes_of i.chars →
-    (inside ≡ false → OutPlace d place (stored_of text false (end_of left) i ∷ ts)) → inside_at d inside (stored_of text false (end_of left) i) ts ≡ false →
-    OutPlace d (past_item d (past_gap place (bytes_of i.gap)) i.kind (bytes_of i.chars)) ts
-next_out d text place inside left i ts spelled out now = by (list_any is_new_line (bytes_of i.gap)) (new_lines-any i.gap) refl
-  where
-    t : Stored
-    t = stored_of text false (end_of left) i
-
-    by : (b : Bool) → not (new_lines i.gap == 0) ≡ b → list_any is_new_line (bytes_of i.gap) ≡ b → OutPlace d (past_item d (past_gap place (bytes_of i.gap)) i.kind (bytes_of i.chars)) ts
-    by true began lines =
-        let no : leads_hash d t ts ≡ false = ap (λ b. if b then leads_hash d t ts else inside) (sym began) ∙ now in
-        subst (λ b. OutPlace d (past_item d (if b then LineStart else place) i.kind (bytes_of i.chars)) ts) (sym lines)
-        (subst (λ z. OutPlace d (past_item d LineStart i.kind z) ts) spelled (from_start d t ts no))
-    by false began lines =
-        let same : inside ≡ false = ap (λ b. if b then leads_hash d t ts else inside) (sym began) ∙ now in
-        subst (λ b. OutPlace d (past_item d (if b then LineStart else place) i.kind (bytes_of i.chars)) ts) (sym lines)
-        (subst (λ z. OutPlace d (past_item d place i.kind z) ts) spelled (from_line d place t ts began (out same)))
-
--- in a line that is no directive a gap without a new-line stands at no place of a directive
-gap_out : (d : Dialect) (text : List ℕ) (place : Place) (inside : Bool) (left i : ReadItem) (ts : List Stored) → (inside ≡ false → OutPlace d place (stored_of text false (end_of left) i ∷ ts)) →
-    inside_at d inside (stored_of text false (end_of left) i) ts ≡ false → list_any is_new_line (bytes_of i.gap) ≡ false → in_directive place ≡ false
-gap_out d text place inside left i ts out now lines =
-    let t = stored_of text false (end_of left) i in
-    let began : t.gap.began ≡ false = new_lines-any i.gap ∙ lines in
-    let same : inside ≡ false = ap (λ b. if b then leads_hash d t ts else inside) (sym began) ∙ now in
-    out_place d place (t ∷ ts) (out same)
-
-not_first : (n : ℕ) → (n + 1 == 0) ≡ false
-not_first n = grind (arith, nat_tests)
+    ap (λ (x : List ℕ). (if place == 0 then first_gap arena.text t else gap_before style crlf arena g depth at (stance_in sections place) t ts) ++ (raw_of arena.text i ++ x))
+    (plain_regapped style crlf arena sections (guard_of t) (depth_behind arena.dialect depth (stance_in sections place) t) (behind t) (place + 1) (end_of i) false items)
 
 -- what is shown of the gaps behind an item
 record FitsBehind (d : Dialect) (place : Place) (left : ReadItem) (gaps : List (List ℕ)) (items : List ReadItem) (last : List LogicalChar) (end : List ℕ) : Type 0 where
@@ -92,7 +65,7 @@ behind_fits : (style : Style) (crlf : Bool) (arena : Contents) (sections : List 
     LexesText arena.dialect arena.text all last → all ≡ before ++ left ∷ items → Here arena.dialect arena.text left old items last →
     IsNext arena.dialect left_place left.kind (bytes_of left.chars) (written (map piece_of items) (bytes_of last)) → Reads arena.dialect place (map piece_of items) (bytes_of last) →
     Leaves left g → at ≡ end_of left → (n == 0) ≡ false →
-    StandSo arena.dialect (standing_in sections) n inside (stored_from arena.text false (end_of left) items) →
+    StandSo arena.dialect (stance_in sections) n inside (stored_from arena.text false (end_of left) items) →
     (inside ≡ false → OutPlace arena.dialect place (stored_from arena.text false (end_of left) items)) →
     FitsBehind arena.dialect place left (plain_gaps style crlf arena sections g depth at n (stored_from arena.text false (end_of left) items)) items last (plain_end style crlf arena g at n (stored_from arena.text false (end_of left) items))
 behind_fits style crlf arena sections place left_place n inside g depth at all before left [] last old lexes whole here next reads leaves at_is later stand out =
@@ -109,36 +82,18 @@ behind_fits style crlf arena sections place left_place n inside g depth at all b
     let kept : AreFitBytes d place left i (kept_bytes text left i) = kept_bytes_fit d text before items left i last place (subst (λ z. LexesText d text z last) whole lexes) in
     let line : list_any is_new_line (bytes_of i.gap) ≡ false → takes_line left.kind ≡ false =
     λ none. keeps_line d left_place (past_gap place (bytes_of i.gap)) left.kind i.kind (bytes_of left.chars) (bytes_of i.chars) (bytes_of i.gap) _ (written (map piece_of items) (bytes_of last)) refl next reads.1 none in
-    let as_it_stands : AreFitBytes d place left i (gap_before style crlf arena g depth at (standing_as now t) t ts) =
+    let as_it_stands : AreFitBytes d place left i (gap_before style crlf arena g depth at (stance_as now t) t ts) =
     gap_fits style crlf arena place left i ts g depth at now leaves at_is kept line (λ no lines. gap_out d text place inside left i ts out no lines) in
-    let one : AreFitBytes d place left i (if n == 0 then first_gap text t else gap_before style crlf arena g depth at (standing_in sections n) t ts) =
-    subst (λ b. AreFitBytes d place left i (if b then first_gap text t else gap_before style crlf arena g depth at (standing_in sections n) t ts)) (sym later)
+    let one : AreFitBytes d place left i (if n == 0 then first_gap text t else gap_before style crlf arena g depth at (stance_in sections n) t ts) =
+    subst (λ b. AreFitBytes d place left i (if b then first_gap text t else gap_before style crlf arena g depth at (stance_in sections n) t ts)) (sym later)
     (subst (λ s. AreFitBytes d place left i (gap_before style crlf arena g depth at s t ts)) (sym stand.0) as_it_stands) in
     let here_next = next_here d text (end_of left) old i items last here.there here.chars_are here.parts reads.0 in
     let rest = behind_fits style crlf arena sections (past_item d (past_gap place (bytes_of i.gap)) i.kind (bytes_of i.chars)) (past_gap place (bytes_of i.gap)) (n + 1) now (guard_of t)
-    (depth_behind d depth (standing_in sections n) t) (behind t) all (before ++ left ∷ []) i items last here.parts.1
+    (depth_behind d depth (stance_in sections n) t) (behind t) all (before ++ left ∷ []) i items last here.parts.1
     lexes (whole ∙ sym (append_assoc before (left ∷ []) (i ∷ items))) here_next reads.1 reads.2
     (leaves_guard d text false (end_of left) i here_next.reads) (sym here.parts.8) (not_first n) stand.1
     (next_out d text place inside left i ts here_next.reads.spelling out) in
     record { gaps_fit = (one, rest.gaps_fit); end_fits = record { white = rest.end_fits.white; line = rest.end_fits.line } }
-
--- the items of a text in its bytes
-text_parts : (d : Dialect) (text : List ℕ) (items : List ReadItem) (last : List LogicalChar) → LexesText d text items last → AreParted d text (mark_len text) (drop (mark_len text) text) items
-text_parts d text items last lexes =
-    let mark : HasMark text = mark_of text in
-    let front = take (mark_len text) text in
-    let old = drop (mark_len text) text in
-    let at_front : chars d (length front) old ≡ characters_of items last = ap (λ z. chars d z old) mark.long ∙ lexes.whole in
-    subst (λ z. AreParted d text z old items) mark.long (parted d text front old LineStart items last mark.whole at_front lexes.reads)
-
--- the first gap is none, or a blank
-first_white : (d : Dialect) (text : List ℕ) (t : Stored) → is_gap (read_alone d (first_gap text t)) ≡ true
-unfolding is_white is_new_line
-first_white d text t = by (nat_lt 0 (mark_len text) || not (nat_lt 0 (mark_len t.raw)))
-  where
-    by : (b : Bool) → is_gap (read_alone d (if b then [] else 32 ∷ [])) ≡ true
-    by true = ap is_gap (white_reads_so d [])
-    by false = ap is_gap (white_reads_so d (Blank ∷ []))
 
 -- a text without items
 none_fits : (style : Style) (crlf : Bool) (d : Dialect) (gap : List ℕ) → is_gap (read_alone d (last_gap style crlf d true guard.Free gap)) ≡ true
@@ -166,26 +121,14 @@ text_fits style crlf arena (i ∷ items) last lexes sections is =
     let ts = stored_from text false (end_of i) items in
     let parts : AreParted d text n old (i ∷ items) = text_parts d text (i ∷ items) last lexes in
     let here = next_here d text n old i items last refl lexes.whole parts lexes.reads.0 in
-    let stand : StandSo d (standing_in sections) 0 false (t ∷ ts) = subst (λ z. StandSo d (standing_in z) 0 false (t ∷ ts)) (sym is) (items_stand d t ts refl) in
+    let stand : StandSo d (stance_in sections) 0 false (t ∷ ts) = subst (λ z. StandSo d (stance_in z) 0 false (t ∷ ts)) (sym is) (items_stand d t ts refl) in
     let start : past_gap LineStart (bytes_of i.gap) ≡ LineStart = first_place (bytes_of i.gap) in
     let reads : Reads d (past_item d LineStart i.kind (bytes_of i.chars)) (map piece_of items) (bytes_of last) = subst (λ z. Reads d (past_item d z i.kind (bytes_of i.chars)) (map piece_of items) (bytes_of last)) start lexes.reads.2 in
     let rest = behind_fits style crlf arena sections (past_item d LineStart i.kind (bytes_of i.chars)) (past_gap LineStart (bytes_of i.gap)) (0 + 1) (leads_hash d t ts) (guard_of t)
-    (depth_behind d 0 (standing_in sections 0) t) (behind t) (i ∷ items) [] i items last parts.1
+    (depth_behind d 0 (stance_in sections 0) t) (behind t) (i ∷ items) [] i items last parts.1
     lexes refl here lexes.reads.1 reads (leaves_guard d text true n i here.reads) (sym parts.8) (not_first 0) stand.1
     (λ no. subst (λ z. OutPlace d (past_item d LineStart i.kind z) ts) here.reads.spelling (from_start d t ts no)) in
     ((first_white d text t, rest.gaps_fit), rest.end_fits)
-
--- no byte order mark comes
-no_blank : ◌≡◌ {A = List ℕ} [] (32 ∷ []) → ⊥
-no_blank e = cc
-
-first_marked : (text : List ℕ) (t : Stored) → mark_len text ≡ 0 → first_gap text t ≡ [] → mark_len t.raw ≡ 0
-first_marked text t none e = elim (marked t.raw) [
-  | no_mark is ↦ is
-  | has_mark rest is ↦
-      let blank : first_gap text t ≡ 32 ∷ [] = ap (λ n. if nat_lt 0 n || not (nat_lt 0 (mark_len t.raw)) then [] else 32 ∷ []) none ∙ ap (λ z. if false || not (nat_lt 0 (mark_len z)) then [] else 32 ∷ []) is in
-      absurd (no_blank (sym e ∙ blank))
-]
 
 no_new_mark : (style : Style) (crlf : Bool) (arena : Contents) (items : List ReadItem) (last : List LogicalChar) (sections : List Section) → LexesText arena.dialect arena.text items last →
     FitText arena.dialect (plain_gaps style crlf arena sections guard.Free 0 (mark_len arena.text) 0 (stored_items arena.text items)) items (plain_end style crlf arena guard.Free (mark_len arena.text) 0 (stored_items arena.text items)) →
@@ -199,12 +142,6 @@ no_new_mark style crlf arena (i ∷ items) last sections lexes fits white none =
     let parts = text_parts arena.dialect text (i ∷ items) last lexes in
     let ts = stored_from text false (end_of i) items in
     no_mark_comes arena.dialect text (first_gap text t) _ i items _ parts.1 (bytes_of last) parts.9 parts.4 lexes.reads.1 fits.1 white fits.0 (first_marked text t none)
-
-marks : (text : List ℕ) → mark_bytes (mark_len text) ≡ take (mark_len text) text
-marks text = elim (marked text) [
-  | has_mark rest is ↦ rw is refl
-  | no_mark none ↦ rw none refl
-]
 
 -- The plain layout of a text is a twin of it.
 pub plain_twin : (style : Style) (arena : Contents) → HoldsItems arena → IsTwin arena.dialect arena.text (plain_text style arena)

@@ -1,6 +1,6 @@
 -- What bytes read as by themselves, and as a text.
-use Rattle.std.proofs.Common.{◌≡◌, ◌==◌, ◌||◌, ◌&&◌, ◌∙◌, ℕ, ◌+◌, Bool, true, false, List, [], ◌∷◌, refl, sym, ap, arith, ◌<◌, length, get_or}
-use Rattle.std.proofs.lemmas.Bool.{ne_eqb, eqb-true}
+use Rattle.std.proofs.Common.{◌≡◌, ◌==◌, ◌||◌, ◌&&◌, not, ◌∙◌, ℕ, ◌+◌, Bool, true, false, List, [], ◌∷◌, refl, sym, ap, arith, ◌<◌, length, get_or}
+use Rattle.std.proofs.lemmas.Bool.{ne_eqb, eqb-true, and_parts}
 use Rattle.std.specs.Prelude.{if◌then◌else◌}
 use Rattle.std.specs.List.{list_any}
 use Rattle.c_chars.specs.Characters.{bytes_of, chars, logical, mark_len, placed}
@@ -13,7 +13,7 @@ use Rattle.c_grammar.specs.Rewritten.{read_alone}
 use Rattle.c_grammar.proofs.Own.{is_own, own_logical, own_no_mark}
 use Rattle.c_grammar.proofs.White.{unit_plain}
 use Rattle.c_grammar.proofs.ItemBytes.{bytes_at}
-use Rattle.format_core.specs.Spelling.{reads_as_itself}
+use Rattle.format_core.specs.Spelling.{reads_as_itself, is_other, ReadsAsNeither}
 
 -- a byte that begins no trigraph, line end or splice is read as itself
 pub plain_first : (d : Dialect) (at b : ℕ) (s : List ℕ) → (b == 63) ≡ false → (b == 13) ≡ false → (b == 92) ≡ false → bytes_of (chars d at (b ∷ s)) ≡ b ∷ bytes_of (chars d (at + 1) s)
@@ -21,6 +21,24 @@ plain_first d at b s question return back = ap bytes_of (step_plain d (b ∷ s) 
 
 pub plain_alone : (d : Dialect) (b : ℕ) (s : List ℕ) → (b == 63) ≡ false → (b == 13) ≡ false → (b == 92) ≡ false → read_alone d (b ∷ s) ≡ b ∷ read_alone d s
 plain_alone d b s question return back = plain_first d 0 b s question return back ∙ ap (λ z. b ∷ z) (bytes_at d 1 s)
+
+-- bytes whose first one is read as itself and is another
+
+untrue : (x : Bool) → not x ≡ true → x ≡ false
+untrue true e = sym e
+untrue false e = refl
+
+pub reads_as_neither : (raw : List ℕ) (one first : ℕ) → 0 < length raw → is_other (get_or raw 0 0) one first ≡ true → ReadsAsNeither raw one first
+reads_as_neither [] one first some other = absurd (omega (arith, some))
+reads_as_neither (b ∷ s) one first some other = λ d second.
+    let question = and_parts (not (b == 63)) (not (b == 13) && (not (b == 92) && (not (b == one) && not (b == first)))) other in
+    let return = and_parts (not (b == 13)) (not (b == 92) && (not (b == one) && not (b == first))) question.1 in
+    let back = and_parts (not (b == 92)) (not (b == one) && not (b == first)) return.1 in
+    let apart = and_parts (not (b == one)) (not (b == first)) back.1 in
+    let reads : read_alone d (b ∷ s) ≡ b ∷ read_alone d s = plain_alone d b s (untrue (b == 63) question.0) (untrue (b == 13) return.0) (untrue (b == 92) back.0) in
+    let a : (b == one) ≡ false = untrue (b == one) apart.0 in
+    let e : (b == first) ≡ false = untrue (b == first) apart.1 in
+    rw (reads, a, e) refl
 
 -- no byte order mark: the bytes read as the text's
 pub no_mark_reads : (d : Dialect) (s : List ℕ) → mark_len s ≡ 0 → read_alone d s ≡ bytes_of (logical d s)

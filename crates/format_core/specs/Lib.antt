@@ -1,8 +1,8 @@
 pub mod Faults
 pub mod LineEnds
-pub mod Standing
 pub mod Spelling
 pub mod PlainLayout
+pub mod Held
 pub mod Twins
 pub mod Formats
 pub mod Exact

@@ -16,11 +16,13 @@ use Rattle.style_table.specs.declared.style.Style.{Style}
 use Rattle.gap_text.specs.GapText.{gap_text, line_end}
 use Rattle.gap_text.specs.declared.Decision.TheVariants.{Lines}
 use Rattle.format_core.specs.LineEnds.{ends_by}
-use Rattle.format_core.specs.Standing.{standing_in, hash_comes}
-use Rattle.format_core.specs.declared.standing.Standing.{Standing}
-use Rattle.format_core.specs.declared.standing.Standing.TheVariants.{OfText, Leads, Within}
-use Rattle.format_core.specs.declared.guard.Guard.{Guard}
-use Rattle.format_core.specs.declared.guard.Guard.TheVariants.{Free, Blank, Splice, Return}
+use Rattle.replacements.specs.Guards.{guard_of, guard_text, guarded_ends, guarded_lines, is_behind_backslash}
+use Rattle.replacements.specs.Stances.{stance_in, hash_comes}
+use Rattle.replacements.specs.Written.{first_gap, mark_bytes}
+use Rattle.replacements.specs.declared.stance.Stance.{Stance}
+use Rattle.replacements.specs.declared.stance.Stance.TheVariants.{OfText, Leads, Within}
+use Rattle.replacements.specs.declared.guard.Guard.{Guard}
+use Rattle.replacements.specs.declared.guard.Guard.TheVariants.{Free}
 
 -- Braces.
 
@@ -41,51 +43,22 @@ abbrev pub depth_after : Dialect → ℕ → Stored → ℕ
 depth_after d depth token = if opens_brace d token then depth + 1 else depth_at d depth token
 
 -- how many are open after an item that stands so: braces of directives don't count
-abbrev pub depth_behind : Dialect → ℕ → Standing → Stored → ℕ
+abbrev pub depth_behind : Dialect → ℕ → Stance → Stored → ℕ
 depth_behind d depth OfText token = depth_after d depth token
 depth_behind d depth Leads token = depth
 depth_behind d depth Within token = depth
 
 -- Line ends.
 
--- What a line end behind an item needs: behind a last backslash a blank, or a splice where the blank would be the item's own; `\r\n` behind a last `\r`.
-abbrev pub guard_of : Stored → Guard
-guard_of token = if token.back then (if takes_line token.kind then Splice else Blank) else (if ends (λ b. b == 13) token.raw then Return else Free)
-
--- it stands behind a last backslash
-abbrev pub is_behind_backslash : Guard → Bool
-is_behind_backslash Free = false
-is_behind_backslash Blank = true
-is_behind_backslash Splice = true
-is_behind_backslash Return = false
-
--- what stands before the line end
-abbrev pub guard_text : Bool → Guard → List ℕ
-guard_text crlf Free = []
-guard_text crlf Blank = 32 ∷ []
-guard_text crlf Splice = 92 ∷ line_end crlf
-guard_text crlf Return = []
-
--- its lines end in `\r\n`
-abbrev pub guarded_ends : Bool → Guard → Bool
-guarded_ends crlf Free = crlf
-guarded_ends crlf Blank = crlf
-guarded_ends crlf Splice = crlf
-guarded_ends crlf Return = true
-
 -- so many line ends, and indentation to a level
 abbrev pub lines_text : Style → Bool → Guard → ℕ → ℕ → List ℕ
-lines_text style crlf guard count level = guard_text crlf guard ++ gap_text style (guarded_ends crlf guard) (Lines count (level * style.indent_width) level) []
+lines_text style crlf guard count level = guarded_lines style crlf guard count (level * style.indent_width) level
 
 -- how many line ends of a gap stay
 abbrev pub kept_lines : Style → GapFacts → ℕ
 kept_lines style gap = min gap.lines (style.max_empty_lines_to_keep + 1)
 
 -- Gaps.
-
--- Before the first item stands nothing; a blank where it would read as a byte order mark otherwise.
-abbrev pub first_gap : List ℕ → Stored → List ℕ
-first_gap text token = if nat_lt 0 (mark_len text) || not (nat_lt 0 (mark_len token.raw)) then [] else 32 ∷ []
 
 -- Before an item of a text at this level, in front of these, its line ends stay; otherwise there is one blank where there was something, or where a `#` comes that begins no directive.
 abbrev pub text_gap : Style → Bool → Dialect → Guard → ℕ → Stored → List Stored → List ℕ
@@ -94,7 +67,7 @@ text_gap style crlf d guard level token tokens =
     else (if hash_comes d (token ∷ tokens) || not token.gap.empty then 32 ∷ [] else [])
 
 -- Before an item that stands so, behind the offset where the one before it ends: a directive begins its line without indentation, and its other gaps stay.
-abbrev pub gap_before : Style → Bool → Contents → Guard → ℕ → ℕ → Standing → Stored → List Stored → List ℕ
+abbrev pub gap_before : Style → Bool → Contents → Guard → ℕ → ℕ → Stance → Stored → List Stored → List ℕ
 gap_before style crlf arena guard depth at OfText token tokens = text_gap style crlf arena.dialect guard (depth_at arena.dialect depth token) token tokens
 gap_before style crlf arena guard depth at Leads token tokens = lines_text style crlf guard (kept_lines style token.gap) 0
 gap_before style crlf arena guard depth at Within token tokens = take (token.start - at) (drop at arena.text)
@@ -110,12 +83,8 @@ last_gap style crlf d is_empty guard gap =
 abbrev pub plain_from : Style → Bool → Contents → List Section → Guard → ℕ → ℕ → ℕ → List Stored → List ℕ
 plain_from style crlf arena sections guard depth at place [] = last_gap style crlf arena.dialect (place == 0) guard (drop at arena.text)
 plain_from style crlf arena sections guard depth at place (token ∷ tokens) =
-    (if place == 0 then first_gap arena.text token else gap_before style crlf arena guard depth at (standing_in sections place) token tokens)
-    ++ (token.raw ++ plain_from style crlf arena sections (guard_of token) (depth_behind arena.dialect depth (standing_in sections place) token) (behind token) (place + 1) tokens)
-
--- a byte order mark of this length
-abbrev pub mark_bytes : ℕ → List ℕ
-mark_bytes len = if nat_lt 0 len then 239 ∷ 187 ∷ 191 ∷ [] else []
+    (if place == 0 then first_gap arena.text token else gap_before style crlf arena guard depth at (stance_in sections place) token tokens)
+    ++ (token.raw ++ plain_from style crlf arena sections (guard_of token) (depth_behind arena.dialect depth (stance_in sections place) token) (behind token) (place + 1) tokens)
 
 -- the plain layout of a text
 unfoldable pub plain_text : Style → Contents → List ℕ

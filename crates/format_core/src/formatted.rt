@@ -11,8 +11,9 @@ ghost use Rattle.c_grammar.specs.Twin.{IsTwin};
 ghost use Rattle.style_table.specs.Range.{IsInRange};
 ghost use Rattle.format_core.specs.Faults.{IsCause};
 ghost use Rattle.format_core.specs.Formats.{Formats};
-ghost use Rattle.format_core.specs.PlainLayout.{mark_bytes, plain_from};
-ghost use Rattle.format_core.specs.declared.guard.Guard.TheVariants.{Free};
+ghost use Rattle.format_core.specs.PlainLayout.{plain_from};
+ghost use Rattle.replacements.specs.Written.{mark_bytes};
+ghost use Rattle.replacements.specs.declared.guard.Guard.TheVariants.{Free};
 
 use crate::FormatFault;
 use crate::line_ends::ends_by;

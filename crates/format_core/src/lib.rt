@@ -6,12 +6,10 @@
 
 mod fault;
 mod formatted;
-mod guard;
 mod laws;
 mod line_ends;
 mod plain;
 mod spelling;
-mod standing;
 #[cfg(test)]
 mod tests;
 

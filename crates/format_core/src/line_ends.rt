@@ -1,6 +1,6 @@
 //! How the lines of a formatted text end.
 
-ghost use Rattle.std.specs.Prelude.{◌≡◌, false};
+ghost use Rattle.std.specs.Prelude.{◌≡◌, ◌==◌, false, count_by};
 ghost use Rattle.format_core.specs.LineEnds.{ends_by, feed_lines, return_lines};
 
 use style_table::LineEnding;
@@ -34,12 +34,23 @@ fn line_counts(text: &[u8]) -> LineCounts
     counts
 }
 
+/// How many `\r` there are.
+fn returns(text: &[u8]) -> usize
+    ensures { result ≡ count_by (λ b. b == 13) text.now }
+{
+    text.iter().filter(|b| **b == b'\r').count()
+}
+
 /// Whether the lines of a formatted text end in `\r\n`, where this is the input.
 pub(crate) fn ends_by(ending: LineEnding, text: &[u8]) -> bool
     ensures { result ≡ ends_by ending text.now }
 {
     match ending {
         LineEnding::DeriveLF => {
+            // Most texts have no `\r`, and then need no count of lines.
+            if returns(text) == 0 {
+                return false;
+            }
             let counts = line_counts(text);
             counts.feeds < counts.returns
         }

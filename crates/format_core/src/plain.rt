@@ -1,51 +1,37 @@
 //! Plain layout: items keep their lines, and each line of text is indented by the braces around it.
 
-ghost use Rattle.std.specs.Prelude.{◌≡◌, ◌==◌, ◌<◌, ◌≤◌, ◌+◌, ◌++◌, ◌∷◌, List, [], ℕ, length, drop, OnOk, if◌then◌else◌};
+ghost use Rattle.std.specs.Prelude.{◌≡◌, ◌==◌, ◌<◌, ◌≤◌, ◌+◌, ◌++◌, ◌∷◌, List, [], ℕ, length, drop, OnOk, IsTrue, if◌then◌else◌};
 ghost use Rattle.std.specs.Io.KnownBytes.{Appends};
 ghost use Rattle.c_chars.specs.Characters.{mark_len};
 ghost use Rattle.c_chars.specs.declared.TheConstants.{LIMIT};
-ghost use Rattle.c_grammar.specs.Fitting.{is_comment};
 ghost use Rattle.style_table.specs.Range.{IsInRange};
 ghost use Rattle.token_arena.specs.Entries.{told_by};
-ghost use Rattle.token_arena.specs.Gaps.{gap_start};
+ghost use Rattle.token_arena.specs.Gaps.{gap_start, Stands, StandFrom};
 ghost use Rattle.token_arena.specs.Holds.{HoldsItems};
-ghost use Rattle.directives.specs.Directives.{is_hash_token};
-ghost use Rattle.format_core.specs.Standing.{standing_in, hash_comes, IsAt, IsKnown};
-ghost use Rattle.format_core.specs.PlainLayout.{opens_brace, closes_brace, depth_at, depth_after, depth_behind, first_gap, gap_before, kept_lines, last_gap, lines_text, mark_bytes, plain_from, text_gap};
-ghost use Rattle.format_core.specs.declared.guard.Guard.TheVariants.{Free};
+ghost use Rattle.replacements.specs.Stances.{stance_in, hash_comes, IsAt, IsKnown};
+ghost use Rattle.format_core.specs.Held.{Stays};
+ghost use Rattle.replacements.specs.Written.{bytes_between};
+ghost use Rattle.replacements.specs.declared.stance.Stance.TheVariants.{OfText};
+ghost use Rattle.format_core.specs.PlainLayout.{opens_brace, closes_brace, depth_at, depth_after, depth_behind, gap_before, kept_lines, last_gap, lines_text, plain_from, text_gap};
+ghost use Rattle.replacements.specs.Written.{first_gap, mark_bytes};
+ghost use Rattle.replacements.specs.declared.guard.Guard.TheVariants.{Free};
 
-use crate::guard::{
-    Guard, guard_of, guard_text, guarded_ends, is_behind_backslash, line_end, write_line_end,
-};
 use crate::spelling::{has_new_line, is_spelled};
-use crate::standing::{Standing, standing_at};
 use c_chars::Dialect;
 use c_grammar::ItemKind;
 use directives::Section;
 use fmt_ports::{Failed, Sink, write_all};
 use gap_text::{Decision, write_gap};
 use line_tokens::{GapFacts, TokenId};
+use replacements::{
+    Guard, HashRun, Stance, guard_of, guard_text, guarded_ends, hash_comes, is_behind_backslash,
+    line_end, stance_at, write_line_end,
+};
 use style_table::Style;
 use token_arena::{Token, TokenArena};
 
 /// The bytes of a byte order mark.
 const MARK: [u8; 3] = [0xEF, 0xBB, 0xBF];
-
-fn is_comment(kind: ItemKind) -> bool
-    ensures { result ≡ is_comment kind }
-{
-    matches!(kind, ItemKind::BlockComment | ItemKind::LineComment)
-}
-
-/// Whether a token is a `#`, or the digraph that spells it.
-#[inline(always)]
-fn is_hash(dialect: Dialect, token: &Token<'_>) -> bool
-    requires { length token.now.item.raw.now ≤ LIMIT }
-    ensures { result ≡ is_hash_token dialect (told_by token.now) }
-{
-    matches!(token.item.kind, ItemKind::Punct)
-        && is_spelled(dialect, token.item.raw, b'#', b'%', b':')
-}
 
 #[inline(always)]
 fn opens_brace(dialect: Dialect, token: &Token<'_>) -> bool
@@ -96,24 +82,17 @@ fn depth_after(dialect: Dialect, depth: u32, token: &Token<'_>) -> u32
 
 /// How many braces of texts are open after it.
 #[inline(always)]
-fn depth_behind(dialect: Dialect, depth: u32, standing: Standing, token: &Token<'_>) -> u32
+fn depth_behind(dialect: Dialect, depth: u32, standing: Stance, token: &Token<'_>) -> u32
     requires fits { length token.now.item.raw.now ≤ LIMIT }
     requires shallow { depth < LIMIT }
     ensures is { result ≡ depth_behind dialect depth standing (told_by token.now) }
     ensures within { result ≤ depth + 1 }
 {
     match standing {
-        Standing::OfText => depth_after(dialect, depth, token),
-        Standing::Leads => depth,
-        Standing::Within => depth,
+        Stance::OfText => depth_after(dialect, depth, token),
+        Stance::Leads => depth,
+        Stance::Within => depth,
     }
-}
-
-/// Whether a `#` comes behind comments; known for the items before `end`.
-#[derive(Clone, Copy)]
-struct Run {
-    end: u32,
-    hash: bool,
 }
 
 /// Where the layout stands: what the token written last leaves behind it.
@@ -126,58 +105,11 @@ struct Walk {
     /// The section in which the next token stands, or one before it.
     section: usize,
     /// Whether a `#` comes.
-    run: Run,
-}
-
-/// Whether a `#` comes from this item on in its line, comments aside; known for all comments up to it.
-fn run_of(arena: &TokenArena<'_, '_>, place: u32) -> Run
-    requires fits { length arena.now.text ≤ LIMIT }
-    requires here { place < length arena.now.tokens }
-    ensures known { IsKnown arena.now.dialect arena.now.tokens place result.end result.hash }
-    ensures later { place < result.end }
-{
-    let count = arena.len();
-    for at in place..count {
-        let token = arena.get(TokenId(at));
-        if token.gap.began {
-            return Run {
-                end: at + 1,
-                hash: false,
-            };
-        }
-        if !is_comment(token.item.kind) {
-            return Run {
-                end: at + 1,
-                hash: is_hash(arena.dialect(), &token),
-            };
-        }
-    }
-    Run {
-        end: count,
-        hash: false,
-    }
-}
-
-/// Whether a `#` comes from this token on in its line, comments aside.
-#[inline(always)]
-fn hash_comes(arena: &TokenArena<'_, '_>, place: u32, token: &Token<'_>, run: &mut Run) -> bool
-    requires fits { length arena.now.text ≤ LIMIT }
-    requires short { length token.now.item.raw.now ≤ LIMIT }
-    requires here { IsAt arena.now.tokens place (told_by token.now) }
-    requires known { IsKnown arena.now.dialect arena.now.tokens place run.old.end run.old.hash }
-    ensures known { IsKnown arena.now.dialect arena.now.tokens place run.new.end run.new.hash }
-    ensures is { result ≡ hash_comes arena.now.dialect (drop place arena.now.tokens) }
-{
-    if token.gap.began {
-        return false;
-    }
-    if !is_comment(token.item.kind) {
-        return is_hash(arena.dialect(), token);
-    }
-    if place >= run.end {
-        *run = run_of(arena, place);
-    }
-    run.hash
+    run: HashRun,
+    /// Where the gap before the next token begins.
+    at: usize,
+    /// The input's bytes from here on up to `at` are laid out as they are, and still to be written.
+    held: usize,
 }
 
 /// How many line ends of a gap stay.
@@ -249,7 +181,7 @@ fn write_text_gap<K: Sink>(
     requires shallow { walk.old.depth ≤ LIMIT }
     requires known { IsKnown arena.now.dialect arena.now.tokens place walk.old.run.end walk.old.run.hash }
     ensures known { IsKnown arena.now.dialect arena.now.tokens place walk.new.run.end walk.new.run.hash }
-    ensures kept { (walk.new.depth ≡ walk.old.depth) × (walk.new.guard ≡ walk.old.guard) × (walk.new.section ≡ walk.old.section) }
+    ensures kept { (walk.new.depth ≡ walk.old.depth) × (walk.new.guard ≡ walk.old.guard) × (walk.new.section ≡ walk.old.section) × (walk.new.at ≡ walk.old.at) × (walk.new.held ≡ walk.old.held) }
     ensures ok { OnOk result (Appends (K.taken sink.old) (K.taken sink.new) (text_gap style.now crlf arena.now.dialect walk.old.guard (depth_at arena.now.dialect walk.old.depth (told_by token.now)) (told_by token.now) (drop (place + 1) arena.now.tokens))) }
 {
     if token.gap.lines > 0 {
@@ -273,7 +205,7 @@ fn write_before<K: Sink>(
     crlf: bool,
     arena: &TokenArena<'_, '_>,
     walk: &mut Walk,
-    standing: Standing,
+    standing: Stance,
     place: u32,
     token: &Token<'_>,
     sink: &mut K,
@@ -285,16 +217,16 @@ fn write_before<K: Sink>(
     requires shallow { walk.old.depth ≤ LIMIT }
     requires known { IsKnown arena.now.dialect arena.now.tokens place walk.old.run.end walk.old.run.hash }
     ensures known { IsKnown arena.now.dialect arena.now.tokens place walk.new.run.end walk.new.run.hash }
-    ensures kept { (walk.new.depth ≡ walk.old.depth) × (walk.new.guard ≡ walk.old.guard) × (walk.new.section ≡ walk.old.section) }
+    ensures kept { (walk.new.depth ≡ walk.old.depth) × (walk.new.guard ≡ walk.old.guard) × (walk.new.section ≡ walk.old.section) × (walk.new.at ≡ walk.old.at) × (walk.new.held ≡ walk.old.held) }
     ensures ok { OnOk result (Appends (K.taken sink.old) (K.taken sink.new) (gap_before style.now crlf arena.now walk.old.guard walk.old.depth (gap_start (mark_len arena.now.text) arena.now.tokens place) standing (told_by token.now) (drop (place + 1) arena.now.tokens))) }
 {
     match standing {
-        Standing::OfText => write_text_gap(style, crlf, arena, walk, place, token, sink),
-        Standing::Leads => {
+        Stance::OfText => write_text_gap(style, crlf, arena, walk, place, token, sink),
+        Stance::Leads => {
             let count = kept_lines(style, token.gap);
             write_lines(style, crlf, walk.guard, count, 0, sink)
         }
-        Standing::Within => write_all(sink, arena.gap(place)),
+        Stance::Within => write_all(sink, arena.gap(place)),
     }
 }
 
@@ -305,7 +237,7 @@ fn write_any_gap<K: Sink>(
     crlf: bool,
     arena: &TokenArena<'_, '_>,
     walk: &mut Walk,
-    standing: Standing,
+    standing: Stance,
     place: u32,
     token: &Token<'_>,
     sink: &mut K,
@@ -317,7 +249,7 @@ fn write_any_gap<K: Sink>(
     requires shallow { walk.old.depth ≤ LIMIT }
     requires known { IsKnown arena.now.dialect arena.now.tokens place walk.old.run.end walk.old.run.hash }
     ensures known { IsKnown arena.now.dialect arena.now.tokens place walk.new.run.end walk.new.run.hash }
-    ensures kept { (walk.new.depth ≡ walk.old.depth) × (walk.new.guard ≡ walk.old.guard) × (walk.new.section ≡ walk.old.section) }
+    ensures kept { (walk.new.depth ≡ walk.old.depth) × (walk.new.guard ≡ walk.old.guard) × (walk.new.section ≡ walk.old.section) × (walk.new.at ≡ walk.old.at) × (walk.new.held ≡ walk.old.held) }
     ensures ok { OnOk result (Appends (K.taken sink.old) (K.taken sink.new)
         (if place == 0 then first_gap arena.now.text (told_by token.now)
         else gap_before style.now crlf arena.now walk.old.guard walk.old.depth (gap_start (mark_len arena.now.text) arena.now.tokens place) standing (told_by token.now) (drop (place + 1) arena.now.tokens))) }
@@ -326,6 +258,110 @@ fn write_any_gap<K: Sink>(
         return write_first(arena, token, sink);
     }
     write_before(style, crlf, arena, walk, standing, place, token, sink)
+}
+
+/// The bytes of a text from one offset up to another.
+#[inline(always)]
+fn between(text: &[u8], from: usize, to: usize) -> &[u8]
+    requires order { from ≤ to }
+    requires within { to ≤ length text.now }
+    ensures { result.now ≡ bytes_between text.now from to }
+{
+    &text[from..to]
+}
+
+/// Whether the gap before a token of a text that isn't the first is laid out as it is.
+#[inline(always)]
+fn text_gap_stays(
+    arena: &TokenArena<'_, '_>,
+    walk: &mut Walk,
+    place: u32,
+    token: &Token<'_>,
+) -> bool
+    requires fits { length arena.now.text ≤ LIMIT }
+    requires short { length token.now.item.raw.now ≤ LIMIT }
+    requires here { IsAt arena.now.tokens place (told_by token.now) }
+    requires known { IsKnown arena.now.dialect arena.now.tokens place walk.old.run.end walk.old.run.hash }
+    requires stands { Stands arena.now.text walk.old.at (told_by token.now) }
+    ensures known { IsKnown arena.now.dialect arena.now.tokens place walk.new.run.end walk.new.run.hash }
+    ensures kept { (walk.new.depth ≡ walk.old.depth) × (walk.new.guard ≡ walk.old.guard) × (walk.new.section ≡ walk.old.section) × (walk.new.at ≡ walk.old.at) × (walk.new.held ≡ walk.old.held) }
+    ensures stays { IsTrue result → Stays arena.now walk.old.at OfText (told_by token.now) (drop (place + 1) arena.now.tokens) }
+{
+    if token.gap.lines > 0 {
+        return false;
+    }
+    match between(arena.text(), walk.at, token.item.start as usize) {
+        [] => token.gap.empty && !hash_comes(arena, place, token, &mut walk.run),
+        [b] => *b == b' ' && !token.gap.empty,
+        _ => false,
+    }
+}
+
+/// Whether a token isn't the first, and the gap before it is laid out as it is.
+#[inline(always)]
+fn gap_stays(
+    arena: &TokenArena<'_, '_>,
+    walk: &mut Walk,
+    standing: Stance,
+    place: u32,
+    token: &Token<'_>,
+) -> bool
+    requires fits { length arena.now.text ≤ LIMIT }
+    requires short { length token.now.item.raw.now ≤ LIMIT }
+    requires here { IsAt arena.now.tokens place (told_by token.now) }
+    requires known { IsKnown arena.now.dialect arena.now.tokens place walk.old.run.end walk.old.run.hash }
+    requires stands { Stands arena.now.text walk.old.at (told_by token.now) }
+    ensures known { IsKnown arena.now.dialect arena.now.tokens place walk.new.run.end walk.new.run.hash }
+    ensures kept { (walk.new.depth ≡ walk.old.depth) × (walk.new.guard ≡ walk.old.guard) × (walk.new.section ≡ walk.old.section) × (walk.new.at ≡ walk.old.at) × (walk.new.held ≡ walk.old.held) }
+    ensures stays { IsTrue result → (0 < place) × Stays arena.now walk.old.at standing (told_by token.now) (drop (place + 1) arena.now.tokens) }
+{
+    if place == 0 {
+        return false;
+    }
+    match standing {
+        Stance::OfText => text_gap_stays(arena, walk, place, token),
+        Stance::Leads => false,
+        Stance::Within => true,
+    }
+}
+
+/// Writes what is held and what stands before a token, or holds that too where it stays as it is.
+#[inline(always)]
+fn write_or_hold<K: Sink>(
+    style: &Style,
+    crlf: bool,
+    arena: &TokenArena<'_, '_>,
+    walk: &mut Walk,
+    standing: Stance,
+    place: u32,
+    token: &Token<'_>,
+    sink: &mut K,
+) -> Result<(), Failed>
+    requires range { IsInRange style.now }
+    requires fits { length arena.now.text ≤ LIMIT }
+    requires short { length token.now.item.raw.now ≤ LIMIT }
+    requires here { IsAt arena.now.tokens place (told_by token.now) }
+    requires shallow { walk.old.depth ≤ LIMIT }
+    requires known { IsKnown arena.now.dialect arena.now.tokens place walk.old.run.end walk.old.run.hash }
+    requires at { walk.old.at ≡ gap_start (mark_len arena.now.text) arena.now.tokens place }
+    requires stands { Stands arena.now.text walk.old.at (told_by token.now) }
+    requires held { walk.old.held ≤ walk.old.at }
+    ensures known { IsKnown arena.now.dialect arena.now.tokens place walk.new.run.end walk.new.run.hash }
+    ensures kept { (walk.new.depth ≡ walk.old.depth) × (walk.new.guard ≡ walk.old.guard) × (walk.new.section ≡ walk.old.section) × (walk.new.at ≡ walk.old.at) }
+    ensures held { walk.new.held ≤ token.now.item.start }
+    ensures ok { OnOk result ((piece : List ℕ) × Appends (K.taken sink.old) (K.taken sink.new) piece
+        × (bytes_between arena.now.text walk.old.held walk.old.at
+        ++ (if place == 0 then first_gap arena.now.text (told_by token.now)
+        else gap_before style.now crlf arena.now walk.old.guard walk.old.depth (gap_start (mark_len arena.now.text) arena.now.tokens place) standing (told_by token.now) (drop (place + 1) arena.now.tokens))
+        ≡ piece ++ bytes_between arena.now.text walk.new.held token.now.item.start)) }
+{
+    if gap_stays(arena, walk, standing, place, token) {
+        return Ok(());
+    }
+    write_all(sink, between(arena.text(), walk.held, walk.at))?;
+    write_any_gap(style, crlf, arena, walk, standing, place, token, sink)?;
+    walk.held = token.item.start as usize;
+    Ok(())
 }
 
 /// Writes what stands after the last item.
@@ -353,7 +389,8 @@ fn write_last<K: Sink>(
     Ok(())
 }
 
-/// Writes a token and what stands before it.
+/// Writes what stands before a token, and holds the token. What stays as it is, is held too: so a line that changes
+/// nowhere is written at once.
 #[inline(always)]
 fn write_token<K: Sink>(
     style: &Style,
@@ -371,22 +408,35 @@ fn write_token<K: Sink>(
     requires within { walk.old.section ≤ length sections.now }
     requires shallow { walk.old.depth < LIMIT }
     requires known { IsKnown arena.now.dialect arena.now.tokens place walk.old.run.end walk.old.run.hash }
-    requires later { (k : ℕ) → place ≤ k → standing_in (drop walk.old.section sections.now) k ≡ standing_in sections.now k }
+    requires later { (k : ℕ) → place ≤ k → stance_in (drop walk.old.section sections.now) k ≡ stance_in sections.now k }
+    requires stand { StandFrom arena.now.text (mark_len arena.now.text) arena.now.tokens }
+    requires at { walk.old.at ≡ gap_start (mark_len arena.now.text) arena.now.tokens place }
+    requires held { walk.old.held ≤ walk.old.at }
     ensures within { walk.new.section ≤ length sections.now }
     ensures depth { walk.new.depth ≤ walk.old.depth + 1 }
     ensures known { IsKnown arena.now.dialect arena.now.tokens place walk.new.run.end walk.new.run.hash }
-    ensures later { (k : ℕ) → place ≤ k → standing_in (drop walk.new.section sections.now) k ≡ standing_in sections.now k }
+    ensures later { (k : ℕ) → place ≤ k → stance_in (drop walk.new.section sections.now) k ≡ stance_in sections.now k }
+    ensures at { OnOk result ((walk.new.at ≡ gap_start (mark_len arena.now.text) arena.now.tokens (place + 1)) × (walk.new.held ≤ walk.new.at)) }
     ensures ok { OnOk result ((piece : List ℕ) × Appends (K.taken sink.old) (K.taken sink.new) piece
-        × (plain_from style.now crlf arena.now sections.now walk.old.guard walk.old.depth (gap_start (mark_len arena.now.text) arena.now.tokens place) place (drop place arena.now.tokens)
-        ≡ piece ++ plain_from style.now crlf arena.now sections.now walk.new.guard walk.new.depth (gap_start (mark_len arena.now.text) arena.now.tokens (place + 1)) (place + 1) (drop (place + 1) arena.now.tokens))) }
+        × (bytes_between arena.now.text walk.old.held walk.old.at
+        ++ plain_from style.now crlf arena.now sections.now walk.old.guard walk.old.depth (gap_start (mark_len arena.now.text) arena.now.tokens place) place (drop place arena.now.tokens)
+        ≡ piece ++ (bytes_between arena.now.text walk.new.held walk.new.at
+        ++ plain_from style.now crlf arena.now sections.now walk.new.guard walk.new.depth (gap_start (mark_len arena.now.text) arena.now.tokens (place + 1)) (place + 1) (drop (place + 1) arena.now.tokens)))) }
 {
     let token = arena.get(TokenId(place));
-    let standing = standing_at(sections, &mut walk.section, place);
-    write_any_gap(style, crlf, arena, walk, standing, place, &token, sink)?;
-    write_all(sink, token.item.raw)?;
+    let standing = stance_at(sections, &mut walk.section, place);
+    write_or_hold(style, crlf, arena, walk, standing, place, &token, sink)?;
+    walk.at = token.item.start as usize + token.item.raw.len();
     walk.depth = depth_behind(arena.dialect(), walk.depth, standing, &token);
     walk.guard = guard_of(&token);
     Ok(())
+}
+
+/// Where the first gap begins: behind a byte order mark.
+fn first_offset(arena: &TokenArena<'_, '_>) -> usize
+    ensures { result ≡ mark_len arena.now.text }
+{
+    if arena.mark() { MARK.len() } else { 0 }
 }
 
 /// Writes all items, and the gaps before and behind them.
@@ -402,18 +452,19 @@ fn write_tokens<K: Sink>(
     ensures { OnOk result (Appends (K.taken sink.old) (K.taken sink.new) (plain_from style.now crlf arena.now sections.now Free 0 (mark_len arena.now.text) 0 arena.now.tokens)) }
 {
     let count = arena.len();
+    let begin = first_offset(arena);
     let mut walk = Walk {
         depth: 0,
         guard: Guard::Free,
         section: 0,
-        run: Run {
-            end: 0,
-            hash: false,
-        },
+        run: HashRun::none(),
+        at: begin,
+        held: begin,
     };
     for place in 0..count {
         write_token(style, crlf, arena, sections, &mut walk, place, sink)?;
     }
+    write_all(sink, between(arena.text(), walk.held, walk.at))?;
     let gap = arena.gap(count);
     write_last(
         style,

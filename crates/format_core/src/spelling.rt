@@ -1,12 +1,12 @@
 //! How items are spelled, splices taken out and trigraphs replaced.
 
-ghost use Rattle.std.specs.Prelude.{◌≡◌, ◌≢◌, ◌||◌, ◌≤◌, ◌∷◌, [], length};
+ghost use Rattle.std.specs.Prelude.{◌≡◌, ◌≢◌, ◌||◌, ◌≤◌, ◌∷◌, [], length, IsTrue};
 ghost use Rattle.std.specs.List.{list_any, list_all};
 ghost use Rattle.c_chars.specs.Characters.{mark_len};
 ghost use Rattle.c_chars.specs.declared.TheConstants.{LIMIT};
 ghost use Rattle.c_grammar.specs.Grammar.{is_same, is_new_line};
 ghost use Rattle.c_grammar.specs.Rewritten.{read_alone};
-ghost use Rattle.format_core.specs.Spelling.{reads_as_itself};
+ghost use Rattle.format_core.specs.Spelling.{reads_as_itself, is_other, ReadsAsNeither};
 
 use c_chars::{Chars, Dialect};
 
@@ -17,6 +17,26 @@ fn reads_as_itself(raw: &[u8]) -> bool
 {
     raw.iter()
         .all(|b| *b != b'?' && *b != b'\r' && *b != b'\\' && *b != 0xEF)
+}
+
+/// Whether a byte is read as itself and is neither of these.
+#[inline(always)]
+fn is_other(b: u8, one: u8, first: u8) -> bool
+    ensures { result ≡ is_other b one first }
+{
+    b != b'?' && (b != b'\r' && (b != b'\\' && (b != one && b != first)))
+}
+
+/// Whether the first byte tells that bytes are read neither as `one` nor as two bytes of which `first` is the first. It
+/// does for most items, and then no other byte is looked at.
+#[inline(always)]
+fn begins_neither(raw: &[u8], one: u8, first: u8) -> bool
+    ensures { IsTrue result → ReadsAsNeither raw.now one first }
+{
+    match raw {
+        [a, ..] => is_other(*a, one, first),
+        [] => false,
+    }
 }
 
 /// Whether bytes are this one, or these two.
@@ -66,6 +86,9 @@ pub(crate) fn is_spelled(dialect: Dialect, raw: &[u8], one: u8, first: u8, secon
     requires first { first ≢ 239 }
     ensures { result ≡ (is_same (read_alone dialect raw.now) (one ∷ []) || is_same (read_alone dialect raw.now) (first ∷ second ∷ [])) }
 {
+    if begins_neither(raw, one, first) {
+        return false;
+    }
     if reads_as_itself(raw) {
         is_either(raw, one, first, second)
     } else {

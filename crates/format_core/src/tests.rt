@@ -17,7 +17,7 @@ struct Row {
     output: &'static [u8],
 }
 
-const ROWS: [Row; 32] = [
+const ROWS: [Row; 34] = [
     Row {
         name: "a function",
         input: b"int f(void){\n   return   1;\n}\n",
@@ -47,6 +47,16 @@ const ROWS: [Row; 32] = [
         name: "no last line end",
         input: b"a;  ",
         output: b"a;",
+    },
+    Row {
+        name: "gaps of one blank, a tab, two blanks and none",
+        input: b"\xEF\xBB\xBFa b\tc  d(e)f g;h i\t\n",
+        output: b"\xEF\xBB\xBFa b c d(e)f g;h i\n",
+    },
+    Row {
+        name: "splices behind semicolons",
+        input: b"a b;\\\nc d \\\n e;\n",
+        output: b"a b; c d e;\n",
     },
     Row {
         name: "empty lines",

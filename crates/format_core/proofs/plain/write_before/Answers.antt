@@ -1,7 +1,7 @@
 use Rattle.std.proofs.Common.{◌∙◌}
 use Rattle.c_chars.specs.Characters.{mark_len}
 use Rattle.token_arena.specs.Entries.{told_by}
-use Rattle.format_core.proofs.Places.{gap_there}
+use Rattle.replacements.proofs.Items.{gap_there}
 use Rattle.format_core.proofs.plain.write_before.Goals as goal
 
 pub returns-in-Within-clause-ok : goal.returns-in-Within-clause-ok

@@ -1,9 +1,10 @@
 use Rattle.std.proofs.Common.{◌≡◌, ◌∙◌, ◌+◌, ◌≤◌, ◌∷◌, true, false, sym, ap, drop, arith}
 use Rattle.token_arena.specs.Entries.{told_by}
-use Rattle.format_core.specs.Standing.{hash_comes}
+use Rattle.replacements.specs.Stances.{hash_comes}
 use Rattle.format_core.specs.PlainLayout.{depth_at}
 use Rattle.std.proofs.KnownBytes.{Appends-nil}
-use Rattle.format_core.proofs.Places.{drop_next, blank_gap, hash_gap, no_gap}
+use Rattle.format_core.proofs.Places.{blank_gap, hash_gap, no_gap}
+use Rattle.replacements.proofs.Items.{drop_next}
 use Rattle.format_core.proofs.plain.write_text_gap.Goals as goal
 
 pub returns-then-not-token-clause-ok : goal.returns-then-not-token-clause-ok

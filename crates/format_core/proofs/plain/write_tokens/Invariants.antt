@@ -2,9 +2,10 @@ use Rattle.std.proofs.Common.{◌≡◌, ◌≤◌, ℕ, List, ◌++◌, length,
 use Rattle.std.specs.Io.KnownBytes.{Appends}
 use Rattle.c_chars.specs.Characters.{mark_len}
 use Rattle.token_arena.specs.Gaps.{gap_start}
+use Rattle.replacements.specs.Written.{bytes_between}
 use Rattle.format_core.specs.PlainLayout.{plain_from}
-use Rattle.format_core.specs.Standing.{standing_in, IsKnown}
-use Rattle.format_core.specs.declared.guard.Guard.TheVariants.{Free}
+use Rattle.replacements.specs.Stances.{stance_in, IsKnown}
+use Rattle.replacements.specs.declared.guard.Guard.TheVariants.{Free}
 use Rattle.format_core.proofs.plain.write_tokens.Given as goal
 
 abbrev pub invariant-loop-place : goal.invariant-loop-place
@@ -12,9 +13,12 @@ invariant-loop-place g l = record {
   within : l.place ≤ length l.arena.tokens;
   shallow : l.walk.depth ≤ l.place;
   section : l.walk.section ≤ length l.sections;
+  at : l.walk.at ≡ gap_start (mark_len l.arena.text) l.arena.tokens l.place;
+  held : l.walk.held ≤ l.walk.at;
   known : IsKnown l.arena.dialect l.arena.tokens l.place l.walk.run.end l.walk.run.hash;
-  later : (k : ℕ) → l.place ≤ k → standing_in (drop l.walk.section l.sections) k ≡ standing_in l.sections k;
+  later : (k : ℕ) → l.place ≤ k → stance_in (drop l.walk.section l.sections) k ≡ stance_in l.sections k;
   taken : (done : List ℕ) × Appends (g.K.Sink.taken l.initial.sink) (g.K.Sink.taken l.sink) done
       × (plain_from l.style l.crlf l.arena l.sections Free 0 (mark_len l.arena.text) 0 l.arena.tokens
-      ≡ done ++ plain_from l.style l.crlf l.arena l.sections l.walk.guard l.walk.depth (gap_start (mark_len l.arena.text) l.arena.tokens l.place) l.place (drop l.place l.arena.tokens));
+      ≡ done ++ (bytes_between l.arena.text l.walk.held l.walk.at
+      ++ plain_from l.style l.crlf l.arena l.sections l.walk.guard l.walk.depth (gap_start (mark_len l.arena.text) l.arena.tokens l.place) l.place (drop l.place l.arena.tokens)));
 }

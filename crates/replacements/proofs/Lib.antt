@@ -1,0 +1,15 @@
+pub mod Spelled
+pub mod Gaps
+pub mod Firsts
+pub mod Ends
+pub mod Items
+pub mod Held
+pub mod TextLines
+pub mod Broken
+pub mod Leaving
+pub mod Following
+pub mod OutPlaces
+pub mod Writing
+pub mod SoundGaps
+pub mod SoundTwin
+pub mod Hashes

@@ -1,0 +1,123 @@
+//! What a line end needs from the item before it.
+
+ghost use Rattle.std.specs.Prelude.{◌≡◌, ◌==◌, ◌++◌, OnOk};
+ghost use Rattle.std.specs.Io.KnownBytes.{Appends};
+ghost use Rattle.c_grammar.specs.Touch.{ends, takes_line};
+ghost use Rattle.gap_text.specs.GapText.{line_end};
+ghost use Rattle.token_arena.specs.Entries.{told_by};
+ghost use Rattle.replacements.specs.Guards.{guard_for, guard_of, guard_text, guarded_ends, is_behind_backslash};
+
+use c_grammar::ItemKind;
+use fmt_ports::{Failed, Sink, write_all};
+use gap_text::Decision;
+use token_arena::Token;
+
+/// What stands before a line end behind an item, so that the two don't read as something else.
+#[derive(Clone, Copy, Debug, PartialEq, Eq)]
+pub enum Guard {
+    /// Nothing.
+    Free,
+    /// A blank: the item's last character is a backslash.
+    Blank,
+    /// A splice: the item's last character is a backslash, and it takes the rest of its line.
+    Splice,
+    /// Nothing, but the line end is `\r\n`: the item's last byte is `\r`.
+    Return,
+}
+
+/// Whether an item takes the rest of its line.
+fn takes_line(kind: ItemKind) -> bool
+    ensures { result ≡ takes_line kind }
+{
+    matches!(kind, ItemKind::LineComment | ItemKind::StrayQuote)
+}
+
+/// Whether the last byte is `\r`.
+#[inline(always)]
+fn ends_in_return(raw: &[u8]) -> bool
+    ensures { result ≡ ends (λ b. b == 13) raw.now }
+{
+    match raw {
+        [] => false,
+        [.., last] => *last == b'\r',
+    }
+}
+
+/// What a line end behind an item needs.
+#[inline(always)]
+pub fn guard_of(token: &Token<'_>) -> Guard
+    ensures { result ≡ guard_of (told_by token.now) }
+{
+    if token.back {
+        if takes_line(token.item.kind) {
+            Guard::Splice
+        } else {
+            Guard::Blank
+        }
+    } else if ends_in_return(token.item.raw) {
+        Guard::Return
+    } else {
+        Guard::Free
+    }
+}
+
+/// Whether the item before it ends in a backslash.
+pub fn is_behind_backslash(guard: Guard) -> bool
+    ensures { result ≡ is_behind_backslash guard }
+{
+    matches!(guard, Guard::Blank | Guard::Splice)
+}
+
+/// Whether line ends behind it are `\r\n`, where those of the text are or aren't.
+#[inline(always)]
+pub fn guarded_ends(crlf: bool, guard: Guard) -> bool
+    ensures { result ≡ guarded_ends crlf guard }
+{
+    match guard {
+        Guard::Free => crlf,
+        Guard::Blank => crlf,
+        Guard::Splice => crlf,
+        Guard::Return => true,
+    }
+}
+
+/// What stands before the line end.
+#[inline(always)]
+pub fn guard_text(crlf: bool, guard: Guard) -> &'static [u8]
+    ensures { result.now ≡ guard_text crlf guard }
+{
+    match guard {
+        Guard::Free => b"",
+        Guard::Blank => b" ",
+        Guard::Splice => { if crlf { b"\\\r\n" } else { b"\\\n" } }
+        Guard::Return => b"",
+    }
+}
+
+/// Writes a line end behind an item.
+pub fn write_line_end<K: Sink>(crlf: bool, guard: Guard, sink: &mut K) -> Result<(), Failed>
+    ensures { OnOk result (Appends (K.taken sink.old) (K.taken sink.new) (guard_text crlf guard ++ line_end (guarded_ends crlf guard))) }
+{
+    write_all(sink, guard_text(crlf, guard))?;
+    write_all(sink, line_end(guarded_ends(crlf, guard)))
+}
+
+/// The end of a line.
+pub fn line_end(crlf: bool) -> &'static [u8]
+    ensures { result.now ≡ line_end crlf }
+{
+    if crlf { b"\r\n" } else { b"\n" }
+}
+
+/// The guard that a decision needs: only line ends that are decided need one.
+#[inline(always)]
+pub(crate) fn guard_for(guard: Guard, decision: Decision) -> Guard
+    ensures { result ≡ guard_for guard decision }
+{
+    match decision {
+        Decision::Old => Guard::Free,
+        Decision::Spaces(_) => Guard::Free,
+        Decision::Lines { .. } => guard,
+        Decision::Splice { .. } => Guard::Free,
+    }
+}

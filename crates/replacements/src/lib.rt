@@ -1,0 +1,34 @@
+//! What is decided for each gap of a text, once for all runs, and the text that is written of it.
+//!
+//! A text is laid out run by run over one store of items, and several runs see the same gap. The first
+//! that decides it has the word: a later decision for it changes nothing and is told so.
+//! [`sound_plans_are_twins`] carries the law of the text: where each decision may stand, it is a twin of
+//! the input.
+#![tactic(auto)]
+
+mod guard;
+mod hash;
+mod laws;
+mod plan;
+mod reading;
+mod slot;
+mod sound;
+mod stance;
+#[cfg(test)]
+mod tests;
+mod written;
+#[cfg(test)]
+mod written_tests;
+
+pub use gap_text::Decision;
+pub use guard::{
+    Guard, guard_of, guard_text, guarded_ends, is_behind_backslash, line_end, write_line_end,
+};
+pub use hash::{HashRun, hash_comes};
+pub use laws::{decisions_stay, first_decision_stands};
+pub use line_tokens::{Fixed, NoMemory};
+pub use plan::Plan;
+pub use slot::{Decided, Slot};
+pub use sound::sound_plans_are_twins;
+pub use stance::{Stance, stance_at};
+pub use written::write_out;

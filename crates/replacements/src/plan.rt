@@ -1,0 +1,93 @@
+//! The decisions for the gaps of a text.
+
+ghost use Rattle.std.specs.Prelude.{◌≡◌, ◌<◌, ◌≤◌, ◌+◌, ◌↔◌, None, length, replicate, IfOk, IsSome, IsTrue};
+ghost use Rattle.c_chars.specs.declared.TheConstants.{LIMIT};
+ghost use Rattle.replacements.specs.declared.slot.Decided.TheVariants as Decided;
+ghost use Rattle.replacements.specs.Decisions.{decided, slot_of};
+ghost use Rattle.replacements.specs.Breaks.{fixed_by};
+
+use crate::reading::has_new_line_at;
+use crate::slot::{Decided, Slot, has_line_end};
+use bumpalo::Bump;
+use bumpalo::collections::into_bump_slice_mut;
+use gap_text::Decision;
+use line_tokens::{Fixed, NoMemory};
+use std::marker::Model;
+use token_arena::TokenArena;
+
+/// What is decided for the gaps of a text, and so far nothing for some. A contract sees the list of what is
+/// decided: one place for the gap before each item, and one for the last gap.
+#[derive(Drop)]
+pub struct Plan<'a> {
+    slots: &'a mut [Option<Slot>],
+}
+
+impl<'a> Model for Plan<'a> {
+    ghost use Rattle.std.specs.Prelude.{List, Option};
+    ghost use Rattle.replacements.specs.declared.slot.Slot.{Slot};
+
+    ghost Value = { List (Option Slot) };
+
+    ghost view = { λ p. p.slots.now };
+}
+
+impl<'a> Plan<'a> {
+    /// A plan for the gaps of a text in which nothing is decided. No other call takes memory.
+    pub fn make(arena: &TokenArena<'_, '_>, bump: &'a Bump) -> Result<Plan<'a>, NoMemory>
+        ensures { IfOk result (λ plan. plan ≡ replicate (length arena.now.tokens + 1) None) }
+    {
+        let places = arena.len() + 1;
+        let mut slots = Vec::with_capacity(bump, places as usize)?;
+        for _place in 0..places {
+            slots.push(None)?;
+        }
+        Ok(Plan {
+            slots: into_bump_slice_mut(slots),
+        })
+    }
+
+    /// Decides a gap where it is open; `end` is the column at which the item behind it starts.
+    pub fn decide(&mut self, place: u32, decision: Decision, end: u32) -> Decided
+        requires { place < length self.old }
+        ensures kept { (result ≡ Decided.Kept) ↔ IsSome (slot_of self.old place) }
+        ensures plan { self.new ≡ decided self.old place (record { decision = decision; end = end }) }
+        ensures len { length self.new ≡ length self.old }
+    {
+        if self.is_decided(place) {
+            return Decided::Kept;
+        }
+        self.slots[place as usize] = Some(Slot { decision, end });
+        Decided::New
+    }
+
+    /// Whether a gap is decided.
+    pub fn is_decided(&self, place: u32) -> bool
+        requires { place < length self.now }
+        ensures { IsTrue result ↔ IsSome (slot_of self.now place) }
+    {
+        self.slot(place).is_some()
+    }
+
+    /// What is decided for a gap.
+    pub fn slot(&self, place: u32) -> Option<Slot>
+        requires { place < length self.now }
+        ensures { result ≡ slot_of self.now place }
+    {
+        let slots = &*self.slots;
+        slots[place as usize]
+    }
+
+    /// Where the item behind a decided gap starts, and whether a line ends in the gap. The plan is of this arena's text.
+    pub fn fixed_of(&self, arena: &TokenArena<'_, '_>, place: u32) -> Option<Fixed>
+        requires fits { length arena.now.text ≤ LIMIT }
+        requires whole { length self.now ≡ length arena.now.tokens + 1 }
+        requires within { place < length self.now }
+        ensures { result ≡ fixed_by arena.now place (slot_of self.now place) }
+    {
+        let slot = self.slot(place)?;
+        Some(Fixed {
+            column: slot.end,
+            broken: has_line_end(slot.decision, has_new_line_at(arena, place)),
+        })
+    }
+}

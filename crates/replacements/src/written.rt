@@ -1,0 +1,308 @@
+//! The text of a plan.
+
+ghost use Rattle.std.specs.Prelude.{◌≡◌, ◌==◌, ◌&&◌, ◌<◌, ◌≤◌, ◌+◌, ◌++◌, List, ℕ, length, drop, OnOk, false, if◌then◌else◌};
+ghost use Rattle.std.specs.Io.KnownBytes.{Appends};
+ghost use Rattle.c_chars.specs.Characters.{mark_len};
+ghost use Rattle.directives.specs.declared.Section.{Section};
+ghost use Rattle.fmt_ports.specs.Causes.{AppendsPart, Counts};
+ghost use Rattle.token_arena.specs.Entries.{told_by};
+ghost use Rattle.token_arena.specs.Gaps.{gap_start, Stands, StandFrom};
+ghost use Rattle.replacements.specs.Guards.{guarded_text};
+ghost use Rattle.replacements.specs.Stances.{stance_in, hash_comes, IsAt, IsKnown};
+ghost use Rattle.replacements.specs.Written.{bytes_between, decision_at, first_gap, is_of_text, is_old, laid_gap, mark_bytes, planned_gap, written, written_from};
+ghost use Rattle.replacements.specs.declared.guard.Guard.TheVariants.{Free};
+
+use crate::guard::{Guard, guard_for, guard_of, guard_text, guarded_ends};
+use crate::hash::{HashRun, hash_comes};
+use crate::plan::Plan;
+use crate::stance::{Stance, stance_at};
+use directives::Section;
+use fmt_ports::{Failed, Sink, write_all};
+use gap_text::{Decision, write_gap};
+use line_tokens::TokenId;
+use style_table::Style;
+use token_arena::{Token, TokenArena};
+
+/// The bytes of a byte order mark.
+const MARK: [u8; 3] = [0xEF, 0xBB, 0xBF];
+
+/// Where the writing stands: what the item before leaves behind it.
+#[derive(Clone, Copy)]
+struct Walk {
+    /// What a line end needs.
+    guard: Guard,
+    /// The section in which the next item stands, or one before it.
+    section: usize,
+    /// Whether a `#` comes.
+    run: HashRun,
+    /// Where the gap before the next item begins.
+    at: usize,
+    /// The input's bytes from here on up to `at` are written as they are, and still to be written.
+    held: usize,
+}
+
+/// Whether the input's bytes stay.
+fn is_old(decision: Decision) -> bool
+    ensures { result ≡ is_old decision }
+{
+    matches!(decision, Decision::Old)
+}
+
+/// What a plan decides for a gap: that it stays, where nothing else is decided.
+fn decision_at(plan: &Plan<'_>, place: u32) -> Decision
+    requires { place < length plan.now }
+    ensures { result ≡ decision_at plan.now place }
+{
+    match plan.slot(place) {
+        Some(slot) => slot.decision,
+        None => Decision::Old,
+    }
+}
+
+/// The bytes of a text from one offset up to another.
+#[inline(always)]
+fn between(text: &[u8], from: usize, to: usize) -> &[u8]
+    requires order { from ≤ to }
+    requires within { to ≤ length text.now }
+    ensures { result.now ≡ bytes_between text.now from to }
+{
+    &text[from..to]
+}
+
+/// What stands before the first item where its gap doesn't stay.
+fn first_gap(arena: &TokenArena<'_, '_>, token: &Token<'_>) -> &'static [u8]
+    ensures { result.now ≡ first_gap arena.now.text (told_by token.now) }
+{
+    if arena.mark() {
+        return b"";
+    }
+    if !token.item.raw.starts_with(&MARK) {
+        return b"";
+    }
+    b" "
+}
+
+/// Whether a blank must stand before an item of a text, since a `#` comes that begins no directive.
+#[inline(always)]
+fn blank_comes(
+    arena: &TokenArena<'_, '_>,
+    run: &mut HashRun,
+    stance: Stance,
+    place: u32,
+    token: &Token<'_>,
+) -> bool
+    requires here { IsAt arena.now.tokens place (told_by token.now) }
+    requires known { IsKnown arena.now.dialect arena.now.tokens place run.old.end run.old.hash }
+    ensures known { IsKnown arena.now.dialect arena.now.tokens place run.new.end run.new.hash }
+    ensures is { result ≡ (is_of_text stance && hash_comes arena.now.dialect (drop place arena.now.tokens)) }
+{
+    match stance {
+        Stance::OfText => hash_comes(arena, place, token, run),
+        Stance::Leads => false,
+        Stance::Within => false,
+    }
+}
+
+/// Writes the bytes of a decision behind an item that leaves a guard.
+#[inline(always)]
+fn write_guarded<K: Sink>(
+    style: &Style,
+    crlf: bool,
+    guard: Guard,
+    decision: Decision,
+    old: &[u8],
+    sink: &mut K,
+) -> Result<(), Failed>
+    requires { 1 ≤ style.now.tab_width }
+    ensures ok { OnOk result (Appends (K.taken sink.old) (K.taken sink.new) (guarded_text style.now crlf guard decision old.now)) }
+    ensures part { AppendsPart (K.taken sink.old) (K.taken sink.new) (guarded_text style.now crlf guard decision old.now) }
+    ensures counts { Counts (K.faults sink.old) (K.faults sink.new) result }
+{
+    let needed = guard_for(guard, decision);
+    write_all(sink, guard_text(crlf, needed))?;
+    write_gap(style, guarded_ends(crlf, needed), decision, old, sink)
+}
+
+/// Writes what is decided before an item, where its gap doesn't stay.
+#[inline(always)]
+fn write_laid<K: Sink>(
+    style: &Style,
+    crlf: bool,
+    arena: &TokenArena<'_, '_>,
+    walk: &mut Walk,
+    stance: Stance,
+    place: u32,
+    token: &Token<'_>,
+    decision: Decision,
+    sink: &mut K,
+) -> Result<(), Failed>
+    requires tab { 1 ≤ style.now.tab_width }
+    requires here { IsAt arena.now.tokens place (told_by token.now) }
+    requires known { IsKnown arena.now.dialect arena.now.tokens place walk.old.run.end walk.old.run.hash }
+    ensures known { IsKnown arena.now.dialect arena.now.tokens place walk.new.run.end walk.new.run.hash }
+    ensures kept { (walk.new.guard ≡ walk.old.guard) × (walk.new.section ≡ walk.old.section) × (walk.new.at ≡ walk.old.at) × (walk.new.held ≡ walk.old.held) }
+    ensures ok { OnOk result (Appends (K.taken sink.old) (K.taken sink.new) (laid_gap style.now crlf arena.now walk.old.guard place stance decision (told_by token.now) (drop (place + 1) arena.now.tokens))) }
+    ensures part { AppendsPart (K.taken sink.old) (K.taken sink.new) (laid_gap style.now crlf arena.now walk.old.guard place stance decision (told_by token.now) (drop (place + 1) arena.now.tokens)) }
+    ensures counts { Counts (K.faults sink.old) (K.faults sink.new) result }
+{
+    if place == 0 {
+        return write_all(sink, first_gap(arena, token));
+    }
+    if blank_comes(arena, &mut walk.run, stance, place, token) {
+        return write_all(sink, b" ");
+    }
+    write_guarded(style, crlf, walk.guard, decision, b"", sink)
+}
+
+/// Writes what is held and what is decided before an item, or holds the gap too where it stays.
+#[inline(always)]
+fn write_or_hold<K: Sink>(
+    style: &Style,
+    crlf: bool,
+    arena: &TokenArena<'_, '_>,
+    walk: &mut Walk,
+    stance: Stance,
+    place: u32,
+    token: &Token<'_>,
+    decision: Decision,
+    sink: &mut K,
+) -> Result<(), Failed>
+    requires tab { 1 ≤ style.now.tab_width }
+    requires here { IsAt arena.now.tokens place (told_by token.now) }
+    requires known { IsKnown arena.now.dialect arena.now.tokens place walk.old.run.end walk.old.run.hash }
+    requires stands { Stands arena.now.text walk.old.at (told_by token.now) }
+    requires held { walk.old.held ≤ walk.old.at }
+    ensures known { IsKnown arena.now.dialect arena.now.tokens place walk.new.run.end walk.new.run.hash }
+    ensures kept { (walk.new.guard ≡ walk.old.guard) × (walk.new.section ≡ walk.old.section) × (walk.new.at ≡ walk.old.at) }
+    ensures held { walk.new.held ≤ token.now.item.start }
+    ensures ok { OnOk result ((piece : List ℕ) × Appends (K.taken sink.old) (K.taken sink.new) piece
+        × (bytes_between arena.now.text walk.old.held walk.old.at
+        ++ planned_gap style.now crlf arena.now walk.old.guard walk.old.at place stance decision (told_by token.now) (drop (place + 1) arena.now.tokens)
+        ≡ piece ++ bytes_between arena.now.text walk.new.held token.now.item.start)) }
+    ensures part { AppendsPart (K.taken sink.old) (K.taken sink.new) (bytes_between arena.now.text walk.old.held walk.old.at
+        ++ planned_gap style.now crlf arena.now walk.old.guard walk.old.at place stance decision (told_by token.now) (drop (place + 1) arena.now.tokens)) }
+    ensures counts { Counts (K.faults sink.old) (K.faults sink.new) result }
+{
+    if is_old(decision) {
+        return Ok(());
+    }
+    write_all(sink, between(arena.text(), walk.held, walk.at))?;
+    write_laid(
+        style, crlf, arena, walk, stance, place, token, decision, sink,
+    )?;
+    walk.held = token.item.start as usize;
+    Ok(())
+}
+
+/// Writes what stands before an item, and holds the item. So a stretch that stays as it is, is written at once.
+#[inline(always)]
+fn write_token<K: Sink>(
+    style: &Style,
+    crlf: bool,
+    arena: &TokenArena<'_, '_>,
+    sections: &[Section],
+    plan: &Plan<'_>,
+    walk: &mut Walk,
+    place: u32,
+    sink: &mut K,
+) -> Result<(), Failed>
+    requires tab { 1 ≤ style.now.tab_width }
+    requires whole { length plan.now ≡ length arena.now.tokens + 1 }
+    requires here { place < length arena.now.tokens }
+    requires within { walk.old.section ≤ length sections.now }
+    requires known { IsKnown arena.now.dialect arena.now.tokens place walk.old.run.end walk.old.run.hash }
+    requires later { (k : ℕ) → place ≤ k → stance_in (drop walk.old.section sections.now) k ≡ stance_in sections.now k }
+    requires stand { StandFrom arena.now.text (mark_len arena.now.text) arena.now.tokens }
+    requires at { walk.old.at ≡ gap_start (mark_len arena.now.text) arena.now.tokens place }
+    requires held { walk.old.held ≤ walk.old.at }
+    ensures within { walk.new.section ≤ length sections.now }
+    ensures known { IsKnown arena.now.dialect arena.now.tokens place walk.new.run.end walk.new.run.hash }
+    ensures later { (k : ℕ) → place ≤ k → stance_in (drop walk.new.section sections.now) k ≡ stance_in sections.now k }
+    ensures at { OnOk result ((walk.new.at ≡ gap_start (mark_len arena.now.text) arena.now.tokens (place + 1)) × (walk.new.held ≤ walk.new.at)) }
+    ensures ok { OnOk result ((piece : List ℕ) × Appends (K.taken sink.old) (K.taken sink.new) piece
+        × (bytes_between arena.now.text walk.old.held walk.old.at
+        ++ written_from style.now crlf arena.now sections.now plan.now walk.old.guard walk.old.at place (drop place arena.now.tokens)
+        ≡ piece ++ (bytes_between arena.now.text walk.new.held walk.new.at
+        ++ written_from style.now crlf arena.now sections.now plan.now walk.new.guard walk.new.at (place + 1) (drop (place + 1) arena.now.tokens)))) }
+    ensures part { AppendsPart (K.taken sink.old) (K.taken sink.new) (bytes_between arena.now.text walk.old.held walk.old.at
+        ++ written_from style.now crlf arena.now sections.now plan.now walk.old.guard walk.old.at place (drop place arena.now.tokens)) }
+    ensures counts { Counts (K.faults sink.old) (K.faults sink.new) result }
+{
+    let token = arena.get(TokenId(place));
+    let stance = stance_at(sections, &mut walk.section, place);
+    let decision = decision_at(plan, place);
+    write_or_hold(
+        style, crlf, arena, walk, stance, place, &token, decision, sink,
+    )?;
+    walk.at = token.item.start as usize + token.item.raw.len();
+    walk.guard = guard_of(&token);
+    Ok(())
+}
+
+/// The byte order mark of a text; nothing where it has none.
+fn mark_of(arena: &TokenArena<'_, '_>) -> &'static [u8]
+    ensures { result.now ≡ mark_bytes (mark_len arena.now.text) }
+{
+    if arena.mark() { &MARK } else { b"" }
+}
+
+/// Where the first gap begins: behind a byte order mark.
+fn first_offset(arena: &TokenArena<'_, '_>) -> usize
+    ensures { result ≡ mark_len arena.now.text }
+{
+    if arena.mark() { MARK.len() } else { 0 }
+}
+
+/// Writes all items, and the gaps before and behind them.
+fn write_tokens<K: Sink>(
+    style: &Style,
+    crlf: bool,
+    arena: &TokenArena<'_, '_>,
+    sections: &[Section],
+    plan: &Plan<'_>,
+    sink: &mut K,
+) -> Result<(), Failed>
+    requires tab { 1 ≤ style.now.tab_width }
+    requires whole { length plan.now ≡ length arena.now.tokens + 1 }
+    ensures ok { OnOk result (Appends (K.taken sink.old) (K.taken sink.new) (written_from style.now crlf arena.now sections.now plan.now Free (mark_len arena.now.text) 0 arena.now.tokens)) }
+    ensures part { AppendsPart (K.taken sink.old) (K.taken sink.new) (written_from style.now crlf arena.now sections.now plan.now Free (mark_len arena.now.text) 0 arena.now.tokens) }
+    ensures counts { Counts (K.faults sink.old) (K.faults sink.new) result }
+{
+    let count = arena.len();
+    let begin = first_offset(arena);
+    let mut walk = Walk {
+        guard: Guard::Free,
+        section: 0,
+        run: HashRun::none(),
+        at: begin,
+        held: begin,
+    };
+    for place in 0..count {
+        write_token(style, crlf, arena, sections, plan, &mut walk, place, sink)?;
+    }
+    write_all(sink, between(arena.text(), walk.held, walk.at))?;
+    let decision = decision_at(plan, count);
+    write_guarded(style, crlf, walk.guard, decision, arena.gap(count), sink)
+}
+
+/// Writes the text of a plan in a style: the byte order mark, then each item behind the text of its gap, and the
+/// last gap's text. `crlf` says that lines end in `\r\n`.
+///
+/// It takes no memory; after `Failed`, the sink took a part of the text.
+pub fn write_out<K: Sink>(
+    style: &Style,
+    crlf: bool,
+    arena: &TokenArena<'_, '_>,
+    sections: &[Section],
+    plan: &Plan<'_>,
+    sink: &mut K,
+) -> Result<(), Failed>
+    requires tab { 1 ≤ style.now.tab_width }
+    requires whole { length plan.now ≡ length arena.now.tokens + 1 }
+    ensures ok { OnOk result (Appends (K.taken sink.old) (K.taken sink.new) (written style.now crlf arena.now sections.now plan.now)) }
+    ensures part { AppendsPart (K.taken sink.old) (K.taken sink.new) (written style.now crlf arena.now sections.now plan.now) }
+    ensures counts { Counts (K.faults sink.old) (K.faults sink.new) result }
+{
+    write_all(sink, mark_of(arena))?;
+    write_tokens(style, crlf, arena, sections, plan, sink)
+}
