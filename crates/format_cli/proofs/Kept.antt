@@ -215,7 +215,7 @@ missing_name words before now a b (Missing file) is (inr (inr k)) = of_inputs k.
     of_inputs (inr (inl p)) = absurd p.2.refused.1
     of_inputs (inr (inr p)) =
         let found = missing_file k.style _ (files_of k.said) k.begun.ends now.ends file p.1.refused in
-        record { said = k.said; reads = k.begins.reads; name = file.now; named = inr found.0; missing = missing_before _ _ file.now k.begins.untouched.ends.held found.1 }
+        record { said = k.said; reads = k.begins.reads; name = file.now; named = inr (p.0, found.0); missing = missing_before _ _ file.now k.begins.untouched.ends.held found.1 }
 missing_name words before now a b NoMemory is k = absurd (cc)
 
 -- ---- an input that is refused for its text

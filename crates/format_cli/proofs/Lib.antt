@@ -4,3 +4,8 @@ mod Counts
 mod Causes
 mod Statuses
 mod Kept
+mod Choice
+mod StyleOrder
+mod InputOrder
+mod Order
+mod Joined

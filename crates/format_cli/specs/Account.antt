@@ -1,7 +1,7 @@
 -- What a call did, from the words to its last input.
 use Rattle.std.specs.Prelude.{◌≡◌, ◌≢◌, ◌⊎◌, ℕ, Bool, true, false, List, [], Option, Ok, Err, IsTrue, IsFalse, map}
 use Rattle.std.specs.Io.KnownBytes.{Appends, Keeps}
-use Rattle.fmt_ports.specs.Causes.{AppendsPart}
+use Rattle.fmt_ports.specs.Causes.{AppendsPart, Rose}
 use Rattle.fmt_ports.specs.Files.{Held, KeepsAll}
 use Rattle.style_table.specs.declared.style.Style.{Style}
 use Rattle.style_table.specs.Dump.{dump_text}
@@ -140,10 +140,10 @@ IsRefused words before now notes notes' refusal =
     ⊎ EndsAtStyle words before now notes notes' refusal
     ⊎ EndsAtInputs words before now notes notes' refusal
 
--- A call was refused with this status, and the notes took the row of the refusal last, or a front of it.
-pub record IsRefusedWith (words : List (List ℕ)) (before now : World) (notes notes' : Option (List ℕ)) (status : ℕ) : Type 0 where
+-- A call was refused with this status, and the notes took the row of the refusal last; or a front of it, where their faults rose.
+pub record IsRefusedWith (words : List (List ℕ)) (before now : World) (notes notes' : Option (List ℕ)) (faults faults' : ℕ) (status : ℕ) : Type 0 where
   pub refusal : Refusal
   pub is_its : status ≡ status_of refusal
   pub told : Option (List ℕ)
   pub refused : IsRefused words before now notes told refusal
-  pub row : AppendsPart told notes' (row_of refusal)
+  pub row : Appends told notes' (row_of refusal) ⊎ (Rose faults faults' × AppendsPart told notes' (row_of refusal))

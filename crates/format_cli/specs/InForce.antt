@@ -1,5 +1,5 @@
 -- Which style is in force: docs/PROFILE.md, "Words of the command".
-use Rattle.std.specs.Prelude.{◌≡◌, ◌≢◌, ◌<◌, ◌⊎◌, ⊤, ℕ, List, [], Option, Some, None, Ok, Err, IsSomeAnd, codes, length}
+use Rattle.std.specs.Prelude.{◌≡◌, ◌≢◌, ◌≤◌, ◌<◌, ◌⊎◌, ⊤, ℕ, List, [], Option, Some, None, Ok, Err, IsSomeAnd, codes, length}
 use Rattle.std.specs.Io.KnownBytes.{Keeps}
 use Rattle.fmt_ports.specs.Causes.{AppendsPart}
 use Rattle.fmt_ports.specs.Files.{Held, HeldAt}
@@ -39,10 +39,10 @@ IsBase style = named (codes "LLVM") ≡ Some style
 abbrev pub default_file : List ℕ
 default_file = codes ".clang-format"
 
--- a configuration makes this style of the base, and these rows tell its skipped keys
+-- a configuration within the limit makes this style of the base, and these rows tell its skipped keys
 abbrev pub Configures : List ℕ → List ℕ → Style → List ℕ → Type 0
 Configures file text style rows =
-    (base : Style) × (skipped : List SkippedKey) × IsBase base × Reads text base (Ok (style, skipped)) × (rows ≡ skipped_rows file skipped)
+    (length text ≤ LIMIT) × ((base : Style) × (skipped : List SkippedKey) × IsBase base × Reads text base (Ok (style, skipped)) × (rows ≡ skipped_rows file skipped))
 
 -- a configuration is at fault
 abbrev pub IsAtFault : List ℕ → ConfigFault → Type 0

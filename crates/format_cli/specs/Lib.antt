@@ -4,3 +4,5 @@ pub mod InForce
 pub mod Inputs
 pub mod Account
 pub mod Statuses
+pub mod Order
+pub mod Joined

@@ -1,5 +1,5 @@
 -- What a status says of the words, the style and the inputs: README.md, "Use".
-use Rattle.std.specs.Prelude.{◌≡◌, ◌⊎◌, ℕ, List, [], ◌∷◌, Option, Ok, codes}
+use Rattle.std.specs.Prelude.{◌≡◌, ◌⊎◌, ℕ, List, [], ◌∷◌, Option, Ok, IsFalse, codes}
 use Rattle.fmt_ports.specs.Files.{Held}
 use Rattle.command_words.specs.declared.read.Words.{Words}
 use Rattle.command_words.specs.declared.read.StyleChoice.{StyleChoice}
@@ -38,12 +38,12 @@ abbrev pub IsPath : StyleChoice → List ℕ → Type 0
 IsPath (FileAt path) name = path.now ≡ name
 IsPath choice name = ⊥
 
--- The words name a file that isn't there: the PATH of `file:PATH`, or a FILE.
+-- The words name a file that isn't there: the PATH of `file:PATH`, or a FILE, which counts only without `--dump-config`.
 pub record LacksName (words : List (List ℕ)) (held : Held) : Type 0 where
   pub said : Words
   pub reads : Reads words (Ok said)
   pub name : List ℕ
-  pub named : IsPath said.style name ⊎ IsOneOf name (files_of said)
+  pub named : IsPath said.style name ⊎ (IsFalse said.dump_config × IsOneOf name (files_of said))
   pub missing : IsMissing held name
 
 -- An input is refused for its text, at this status: standard input, where the words give no FILE, or one of the FILEs.

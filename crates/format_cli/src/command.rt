@@ -1,6 +1,6 @@
 //! The top call.
 
-ghost use Rattle.std.specs.Prelude.{◌≡◌, ◌≢◌, ◌⊎◌, ◌<◌, IfErr, IfOk, map, string_bytes};
+ghost use Rattle.std.specs.Prelude.{◌≡◌, ◌≢◌, ◌⊎◌, ◌<◌, ℕ, IfErr, IfOk, map, string_bytes};
 ghost use Rattle.std.specs.Io.KnownBytes.{Keeps};
 ghost use Rattle.fmt_ports.specs.Causes.{Rose};
 ghost use Rattle.fmt_ports.specs.Files.{KeepsAll};
@@ -8,6 +8,7 @@ ghost use Rattle.style_table.specs.Range.{IsInRange};
 ghost use Rattle.format_cli.specs.Account.{EndsWell, IsNotPerformed, IsPerformed, IsRefused, IsRefusedWith, place_of, world};
 ghost use Rattle.format_cli.specs.Counts.{Counted, Faults};
 ghost use Rattle.format_cli.specs.Statuses.{AreBadWords, HasNoStyle, HasRefusedInput, IsStatus, LacksName, WritesBack, WritesOut};
+ghost use Rattle.format_cli.specs.Order.{LacksRows, StopsWith};
 
 use crate::in_force::style_in_force;
 use crate::input::{Place, format_files, format_source};
@@ -100,7 +101,7 @@ pub fn format_command<S: Source, K: Sink, E: Sink, F: Files>(
     ensures done { result ≡ 0 → EndsWell (map string_bytes words.now) (world (S.left source.old) (K.taken out.old) (F.holds files.old)) (world (S.left source.new) (K.taken out.new) (F.holds files.new)) (E.taken notes.old) (E.taken notes.new) }
 
     // What was done before a refusal, its cause, and what the notes took.
-    ensures refused { result ≢ 0 → IsRefusedWith (map string_bytes words.now) (world (S.left source.old) (K.taken out.old) (F.holds files.old)) (world (S.left source.new) (K.taken out.new) (F.holds files.new)) (E.taken notes.old) (E.taken notes.new) result }
+    ensures refused { result ≢ 0 → IsRefusedWith (map string_bytes words.now) (world (S.left source.old) (K.taken out.old) (F.holds files.old)) (world (S.left source.new) (K.taken out.new) (F.holds files.new)) (E.taken notes.old) (E.taken notes.new) (E.faults notes.old) (E.faults notes.new) result }
     ensures known { IsStatus result }
 
     // 2 exactly where the words aren't of the form or `-i` lacks its FILE, want of memory aside.
@@ -109,6 +110,9 @@ pub fn format_command<S: Source, K: Sink, E: Sink, F: Files>(
 
     // 3 only for the style that the words choose: its name, its length or its fault.
     ensures style { result ≡ 3 → HasNoStyle (map string_bytes words.now) (F.holds files.old) 3 }
+
+    // 3, 4 and 6 always where names and bytes tell a first refusal of that status, a fault of a port and want of memory aside.
+    ensures first { (status : ℕ) → StopsWith (map string_bytes words.now) (S.left source.old) (F.holds files.old) status → (result ≡ status) ⊎ (result ≡ 5) ⊎ (result ≡ 7) }
 
     // 4 only for the text of an input: its size or a comment without an end. With `-i` it is the text that stands there at its turn (`refused`).
     ensures input { result ≡ 4 → WritesOut (map string_bytes words.now) → HasRefusedInput (map string_bytes words.now) (S.left source.old) (F.holds files.old) 4 }
@@ -119,6 +123,9 @@ pub fn format_command<S: Source, K: Sink, E: Sink, F: Files>(
     ensures out_fault { K.faults out.old < K.faults out.new → result ≡ 5 }
     ensures file_fault { F.faults files.old < F.faults files.new → result ≡ 5 }
     ensures note_fault { E.faults notes.old < E.faults notes.new → result ≢ 0 }
+
+    // 5 where the notes don't take the rows of all skipped keys, want of memory aside.
+    ensures skipped { LacksRows (map string_bytes words.now) (F.holds files.old) (E.taken notes.old) (E.taken notes.new) → (result ≡ 5) ⊎ (result ≡ 7) }
 
     // With `-i` nothing goes to the output, and without it no file is written; `--dump-config` goes before `-i`.
     ensures out_kept { WritesBack (map string_bytes words.now) → Keeps (K.taken out.old) (K.taken out.new) }

@@ -6,6 +6,7 @@
 mod command;
 mod in_force;
 mod input;
+mod laws;
 mod refusal;
 #[cfg(test)]
 mod tests;

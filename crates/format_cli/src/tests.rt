@@ -139,7 +139,15 @@ PenaltyReturnTypeOnItsOwnLine: 60
 ";
 
 /// Words and styles that are refused.
-const WORDS_AND_STYLES: [Row; 12] = [
+const WORDS_AND_STYLES: [Row; 13] = [
+    Row {
+        name: "no word for help",
+        words: &["--help"],
+        input: b"a",
+        status: 2,
+        notes: b"usage: clang_format [--style S] [-i] [--dump-config] [FILE ..]\n",
+        ..QUIET
+    },
     Row {
         name: "an unknown word",
         words: &["--lines", "1:2"],
@@ -234,7 +242,18 @@ const WORDS_AND_STYLES: [Row; 12] = [
 ];
 
 /// Ports that fail before a text is written, and dumps.
-const PORTS_AND_DUMPS: [Row; 9] = [
+const PORTS_AND_DUMPS: [Row; 10] = [
+    Row {
+        name: "the dump of another tool's configuration",
+        words: &["--dump-config"],
+        files: &[(
+            ".clang-format",
+            b"---\nLanguage:        Cpp\n# BasedOnStyle:  LLVM\nBasedOnStyle:    ''\nColumnLimit:     80\nMacroBlockBegin: ''\n...\n",
+        )],
+        out: LLVM,
+        notes: b".clang-format:6: skipped MacroBlockBegin\n",
+        ..QUIET
+    },
     Row {
         name: "a file that isn't there",
         words: &["b.c"],

@@ -1,6 +1,7 @@
 use Rattle.std.proofs.Common.{◌∙◌, sym}
 use Rattle.format_cli.proofs.Statuses.{known, not_zero, failed, source_fault, out_fault, files_fault, missing, misses, bad_words, form, no_style}
 use Rattle.format_cli.proofs.Kept.{out_kept_well, out_kept, files_kept_well, files_kept, missing_name, refused_input}
+use Rattle.format_cli.proofs.Order.{ends_not_well, ends_so, lacks_not_well, lacks_so, row_told}
 use Rattle.format_cli.proofs.command.format_command.Goals as goal
 
 pub returns-in-Err-clause-done : goal.returns-in-Err-clause-done
@@ -12,7 +13,7 @@ returns-in-Err-clause-refused g c is = record {
   is_its = c.status_of.ensures;
   told = g.E.Sink.taken c.run.new.notes;
   refused = c.in-Err.ensures.refused;
-  row = c.tell.ensures.part;
+  row = row_told c.in-Err.refusal _ _ _ _ _ c.tell.result c.in-Err.ensures.counts c.tell.ensures.counts c.tell.ensures.ok c.tell.ensures.part;
 }
 
 pub returns-in-Err-clause-known : goal.returns-in-Err-clause-known
@@ -26,6 +27,20 @@ returns-in-Err-clause-form g c bad = rw c.status_of.ensures (form _ _ _ _ _ c.in
 
 pub returns-in-Err-clause-style : goal.returns-in-Err-clause-style
 returns-in-Err-clause-style g c is = no_style _ _ _ _ _ c.in-Err.refusal (sym c.status_of.ensures ∙ is) c.in-Err.ensures.refused
+
+pub returns-in-Ok-clause-first : goal.returns-in-Ok-clause-first
+returns-in-Ok-clause-first g c = λ status stops. absurd (ends_not_well _ _ _ _ _ status c.in-Ok.ensures.done stops)
+
+pub returns-in-Err-clause-first : goal.returns-in-Err-clause-first
+returns-in-Err-clause-first g c = λ status stops. rw c.status_of.ensures (ends_so _ _ _ _ _ c.in-Err.refusal status c.in-Err.ensures.refused stops)
+
+pub returns-in-Ok-clause-skipped : goal.returns-in-Ok-clause-skipped
+returns-in-Ok-clause-skipped g c lacks = absurd (lacks_not_well _ _ _ _ _ c.in-Ok.ensures.done lacks)
+
+pub returns-in-Err-clause-skipped : goal.returns-in-Err-clause-skipped
+returns-in-Err-clause-skipped g c lacks =
+    rw c.status_of.ensures (lacks_so _ _ _ _ _ _ _ _ c.in-Err.refusal c.in-Err.ensures.refused
+    (row_told c.in-Err.refusal _ _ _ _ _ c.tell.result c.in-Err.ensures.counts c.tell.ensures.counts c.tell.ensures.ok c.tell.ensures.part) lacks)
 
 pub returns-in-Err-clause-failed : goal.returns-in-Err-clause-failed
 returns-in-Err-clause-failed g c is = failed c.in-Err.refusal _ _ _ c.tell.ensures.counts.later (sym c.status_of.ensures ∙ is) c.in-Err.ensures.counts
