@@ -11,13 +11,18 @@ mod call;
 mod copy;
 mod machine;
 mod replace;
+mod same;
 mod state;
 #[cfg(test)]
 mod tests;
 mod token;
 
 pub use c_grammar::ItemKind;
-pub use machine::expand;
+pub use call::{is_identifier_kind, is_spelled};
+pub use copy::{copy_bytes, copy_names, copy_tok, copy_token, copy_toks};
+pub use machine::{expand, look_up, spelling_of};
+pub use replace::contains_name;
+pub use same::is_same_token;
 pub use token::{Macro, Part, PpToken, PpTokens, Spaced, SpacedList, Tok, What};
 
 /// What tells the kind of a spelling.

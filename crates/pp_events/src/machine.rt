@@ -20,7 +20,7 @@ use std::alloc::{AllocError, Global};
 use std::collections::VecDeque;
 
 /// The spelling of a plain token.
-fn spelling_of(token: &PpToken) -> &[u8]
+pub fn spelling_of(token: &PpToken) -> &[u8]
     ensures { result.now ≡ text_of (shown token.now) }
 {
     match token {
@@ -32,7 +32,7 @@ fn spelling_of(token: &PpToken) -> &[u8]
 }
 
 /// The macro of a name: the first entry decides.
-fn look_up<'t>(table: &'t [Macro], name: &[u8]) -> Option<&'t Macro>
+pub fn look_up<'t>(table: &'t [Macro], name: &[u8]) -> Option<&'t Macro>
     ensures { option_map (λ m. macro_shown m.now) result ≡ lookup (map macro_shown table.now) name.now }
 {
     for m in table {

@@ -29,14 +29,14 @@ pub struct Spaced {
 #[derive(Drop)]
 #[cycle(ast)]
 pub struct SpacedList {
-    pub(crate) items: Vec<Spaced>,
+    pub items: Vec<Spaced>,
 }
 
 /// A list of tokens.
 #[derive(Drop)]
 #[cycle(ast)]
 pub struct PpTokens {
-    pub(crate) items: Vec<PpToken>,
+    pub items: Vec<PpToken>,
 }
 
 /// A token while it is expanded.

@@ -1,0 +1,4 @@
+pub mod Words
+pub mod WideUnits
+pub mod Sequences
+pub mod Spelled

@@ -1,0 +1,243 @@
+//! Classes of characters (C11 6.4), and spellings of one unit.
+
+ghost use Rattle.std.specs.Prelude.{◌≡◌, ◌==◌, ◌||◌, ◌&&◌, not, nat_le, codes, [], ◌∷◌, IsTrue, IsFalse, MatchOption};
+ghost use Rattle.std.specs.List.{list_all};
+ghost use Rattle.unicode_ident.specs.Ident.{is_xid_start, is_xid_continue};
+ghost use Rattle.c_grammar.specs.Grammar.{is_white, is_new_line, is_digit, is_letter, is_hex, is_sign, is_exponent, is_of, is_wide, is_universal_name, is_letter_unit, is_word_unit, is_number_head, is_number_unit, is_quoted_unit, is_separated, is_one, is_two};
+ghost use Rattle.c_lexer.specs.Unit.{any_char, only};
+
+use c_lexer::Dialect;
+
+#[tactic(auto, unfolding(c_grammar::specs::Grammar::is_white))]
+pub(crate) fn is_white(b: u8) -> bool
+    ensures { result ≡ is_white b }
+{
+    matches!(b, 9 | 11 | 12 | 13 | b' ')
+}
+
+#[tactic(auto, unfolding(c_grammar::specs::Grammar::is_new_line))]
+pub(crate) fn is_new_line(b: u8) -> bool
+    ensures { result ≡ is_new_line b }
+{
+    b == b'\n'
+}
+
+#[tactic(auto, unfolding(c_grammar::specs::Grammar::is_digit))]
+pub(crate) fn is_digit(b: u8) -> bool
+    ensures { result ≡ is_digit b }
+{
+    b.is_ascii_digit()
+}
+
+/// A letter, `_` or `$`.
+#[tactic(auto, unfolding(c_grammar::specs::Grammar::is_letter))]
+pub(crate) fn is_letter(b: u8) -> bool
+    ensures { result ≡ is_letter b }
+{
+    b.is_ascii_alphabetic() || b == b'_' || b == b'$'
+}
+
+/// A hexadecimal digit.
+#[tactic(auto, unfolding(c_grammar::specs::Grammar::is_hex))]
+fn is_hex(b: u8) -> bool
+    ensures { result ≡ is_hex b }
+{
+    is_digit(b) || matches!(b, b'A'..=b'F' | b'a'..=b'f')
+}
+
+#[tactic(auto, unfolding(c_grammar::specs::Grammar::is_sign))]
+pub(crate) fn is_sign(b: u8) -> bool
+    ensures { result ≡ is_sign b }
+{
+    b == b'+' || b == b'-'
+}
+
+#[tactic(auto, unfolding(c_grammar::specs::Grammar::is_exponent))]
+pub(crate) fn is_exponent(b: u8) -> bool
+    ensures { result ≡ is_exponent b }
+{
+    matches!(b, b'e' | b'E' | b'p' | b'P')
+}
+
+/// Hexadecimal digits.
+fn are_hex(bytes: &[u8]) -> bool
+    ensures { result ≡ list_all is_hex bytes.now }
+{
+    bytes.iter().all(|b| is_hex(*b))
+}
+
+/// A universal character name (6.4.3).
+#[tactic(auto, unfolding(c_grammar::specs::Grammar::is_universal_name))]
+fn is_universal_name(unit: &[u8]) -> bool
+    ensures { result ≡ is_universal_name unit.now }
+{
+    match unit {
+        [b, k, digits @ ..] => {
+            *b == b'\\'
+                && ((*k == b'u' && digits.len() == 4) || (*k == b'U' && digits.len() == 8))
+                && are_hex(digits)
+        }
+        _ => false,
+    }
+}
+
+/// The one character past ASCII that the bytes are, in UTF-8; none where they are none.
+fn wide_char(bytes: &[u8]) -> Option<char>
+    ensures { MatchOption result
+        (IsFalse (is_wide any_char bytes.now))
+        (λ c. IsTrue (is_wide (only c) bytes.now)) }
+{
+    let Ok(text) = std::str::from_utf8(bytes) else {
+        return None;
+    };
+    let mut chars = text.chars();
+    let Some(c) = chars.next() else {
+        return None;
+    };
+    if (c as u32) < 128 {
+        return None;
+    }
+    match chars.next() {
+        Some(_) => None,
+        None => Some(c),
+    }
+}
+
+/// A character past ASCII that starts an identifier.
+fn starts_word(unit: &[u8]) -> bool
+    ensures { result ≡ is_wide is_xid_start unit.now }
+{
+    match wide_char(unit) {
+        Some(c) => unicode_ident::is_xid_start(c),
+        None => false,
+    }
+}
+
+/// A character past ASCII that starts no identifier.
+pub(crate) fn starts_no_word(unit: &[u8]) -> bool
+    ensures { result ≡ is_wide (λ c. not (is_xid_start c)) unit.now }
+{
+    match wide_char(unit) {
+        Some(c) => !unicode_ident::is_xid_start(c),
+        None => false,
+    }
+}
+
+/// A character past ASCII that continues an identifier.
+fn continues_word(unit: &[u8]) -> bool
+    ensures { result ≡ is_wide is_xid_continue unit.now }
+{
+    match wide_char(unit) {
+        Some(c) => unicode_ident::is_xid_continue(c),
+        None => false,
+    }
+}
+
+/// One letter.
+fn is_one_letter(unit: &[u8]) -> bool
+    ensures { result ≡ is_one is_letter unit.now }
+{
+    match unit {
+        [b] => is_letter(*b),
+        _ => false,
+    }
+}
+
+/// One digit.
+fn is_one_digit(unit: &[u8]) -> bool
+    ensures { result ≡ is_one is_digit unit.now }
+{
+    match unit {
+        [b] => is_digit(*b),
+        _ => false,
+    }
+}
+
+/// What may begin an identifier (6.4.2.1).
+#[tactic(auto, unfolding(c_grammar::specs::Grammar::is_letter_unit))]
+pub(crate) fn is_letter_unit(unit: &[u8]) -> bool
+    ensures { result ≡ is_letter_unit unit.now }
+{
+    is_one_letter(unit) || (is_universal_name(unit) || starts_word(unit))
+}
+
+/// What an identifier may go on with.
+#[tactic(auto, unfolding(c_grammar::specs::Grammar::is_word_unit))]
+pub(crate) fn is_word_unit(unit: &[u8]) -> bool
+    ensures { result ≡ is_word_unit unit.now }
+{
+    is_one_digit(unit) || (is_letter_unit(unit) || continues_word(unit))
+}
+
+/// What begins a number: a digit, or a point and a digit (6.4.8).
+#[tactic(auto, unfolding(c_grammar::specs::Grammar::is_number_head))]
+pub(crate) fn is_number_head(unit: &[u8]) -> bool
+    ensures { result ≡ is_number_head unit.now }
+{
+    match unit {
+        [b] => is_digit(*b),
+        [b, c] => *b == b'.' && is_digit(*c),
+        _ => false,
+    }
+}
+
+/// A point.
+fn is_point(unit: &[u8]) -> bool
+    ensures { result ≡ is_one (λ c. c == 46) unit.now }
+{
+    match unit {
+        [b] => *b == b'.',
+        _ => false,
+    }
+}
+
+/// An exponent with its sign.
+fn is_signed(unit: &[u8]) -> bool
+    ensures { result ≡ is_two is_exponent is_sign unit.now }
+{
+    match unit {
+        [b, c] => is_exponent(*b) && is_sign(*c),
+        _ => false,
+    }
+}
+
+/// What may stand behind a digit separator.
+#[tactic(auto, unfolding(c_grammar::specs::Grammar::is_digit))]
+fn is_separable(e: u8) -> bool
+    ensures { result ≡ (is_digit e || ((nat_le 65 e && nat_le e 90) || (nat_le 97 e && nat_le e 122) || e == 95)) }
+{
+    e.is_ascii_digit() || (e.is_ascii_alphabetic() || e == b'_')
+}
+
+/// A digit separator with what it separates (C23 6.4.4.1).
+fn is_separated(dialect: Dialect, unit: &[u8]) -> bool
+    ensures { result ≡ is_separated dialect unit.now }
+{
+    match dialect {
+        Dialect::C11 => false,
+        Dialect::C23 => match unit {
+            [b, c] => *b == b'\'' && is_separable(*c),
+            _ => false,
+        },
+    }
+}
+
+/// What a number may go on with.
+#[tactic(auto, unfolding(c_grammar::specs::Grammar::is_number_unit))]
+pub(crate) fn is_number_unit(dialect: Dialect, unit: &[u8]) -> bool
+    ensures { result ≡ is_number_unit dialect unit.now }
+{
+    is_word_unit(unit) || is_point(unit) || is_signed(unit) || is_separated(dialect, unit)
+}
+
+/// What stands for one character between quotes (6.4.4.4, 6.4.5).
+#[tactic(auto, unfolding(c_grammar::specs::Grammar::is_quoted_unit))]
+pub(crate) fn is_quoted_unit(quote: u8, unit: &[u8]) -> bool
+    ensures { result ≡ is_quoted_unit quote unit.now }
+{
+    match unit {
+        [b] => *b != quote && *b != b'\\' && !is_new_line(*b),
+        [b, c] => *b == b'\\' && !is_new_line(*c),
+        _ => false,
+    }
+}

@@ -1,0 +1,6 @@
+pub mod Counts
+pub mod Words
+pub mod Walks
+pub mod ItemReads
+pub mod Opens
+pub mod Follows
