@@ -1,0 +1,9 @@
+pub mod Indices
+pub mod BodyParts
+pub mod Nests
+pub mod LineNumbers
+pub mod Answered
+pub mod OnlyItems
+pub mod Ends
+pub mod Branches
+pub mod Kept

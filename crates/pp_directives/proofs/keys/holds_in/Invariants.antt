@@ -1,0 +1,10 @@
+use Rattle.std.proofs.Common.{◌≡◌, map, drop}
+use Rattle.pp_model.specs.Preprocess.{key_of}
+use Rattle.pp_model.specs.Setting.{holds_in}
+use Rattle.pp_events.specs.View.{tok_shown}
+use Rattle.pp_directives.specs.SettingView.{condition_shown}
+use Rattle.pp_directives.proofs.keys.holds_in.Given as goal
+
+abbrev pub invariant-loop-c : goal.invariant-loop-c
+invariant-loop-c l =
+    holds_in (map condition_shown (drop l.c-index l.conditions)) (key_of (map tok_shown l.tokens)) ≡ holds_in (map condition_shown l.conditions) (key_of (map tok_shown l.tokens))

@@ -1,0 +1,10 @@
+use Rattle.std.proofs.Common.{◌≡◌, ◌++◌, map, length}
+use Rattle.pp_model.specs.Preprocess.{spelled}
+use Rattle.pp_events.specs.View.{shown, tok_shown}
+use Rattle.pp_directives.proofs.state.spelled.Given as goal
+
+abbrev pub invariant-loop-t : goal.invariant-loop-t
+invariant-loop-t l = map shown l.out.items ++ spelled (map tok_shown l.rest.items) ≡ spelled (map tok_shown l.fn.tokens.items)
+
+abbrev pub decreases-loop-t : goal.decreases-loop-t
+decreases-loop-t l = length l.rest.items

@@ -1,0 +1,66 @@
+-- What the values of a preprocessing stand for in the model.
+use Rattle.std.specs.Prelude.{ℕ, Bool, true, false, List, map, Option, Some, None}
+use Rattle.pp_model.specs.Token.{PpToken}
+use Rattle.pp_model.specs.Condition.{Cond}
+use Rattle.pp_model.specs.Expand.{Expanded, Done, Spent}
+use Rattle.pp_model.specs.Preprocess.{Event, World, Shift, key_of, unless_over}
+use Rattle.pp_events.specs.View.{shown, tok_shown, macro_shown}
+use Rattle.pp_directives.specs.CondView.{cond_shown}
+use Rattle.pp_directives.specs.declared.conditionals.Conditionals.{Conditionals}
+use Rattle.pp_directives.specs.declared.events.Event.{Event as EventValue}
+use Rattle.pp_directives.specs.declared.state.World.{World as WorldValue}
+use Rattle.pp_directives.specs.declared.lines.Shift.{Shift as ShiftValue}
+
+-- the open conditionals, the innermost first
+abbrev pub conds_shown : Conditionals → List Cond
+conds_shown cs = map cond_shown cs.open.items
+
+-- what comes out
+abbrev pub event_shown : EventValue → Event
+event_shown (EventValue.Token t) = Event.TokenEvent (shown t)
+event_shown (EventValue.Pragma ts) = Event.PragmaEvent (map shown ts.items)
+event_shown (EventValue.Line ts) = Event.LineEvent (map shown ts.items)
+event_shown (EventValue.Error ts) = Event.ErrorEvent (map shown ts.items)
+event_shown (EventValue.Warning ts) = Event.WarningEvent (map shown ts.items)
+event_shown (EventValue.Embed ts) = Event.EmbedEvent (map shown ts.items)
+event_shown EventValue.IncludeNotFound = Event.IncludeNotFound
+event_shown (EventValue.Malformed ts) = Event.Malformed (map shown ts.items)
+event_shown EventValue.Unlexed = Event.Unlexed
+event_shown EventValue.TurnsSpent = Event.TurnsSpent
+
+-- the state
+abbrev pub world_shown : WorldValue → World
+world_shown w =
+    record {
+      table = map macro_shown w.table.items;
+      turns = w.turns;
+      events = map event_shown w.events.items;
+      over = w.over;
+      pending = map tok_shown w.pending.items;
+      conds = conds_shown w.conds;
+      jump = w.jump;
+    }
+
+-- presumed lines
+abbrev pub shift_shown : ShiftValue → Shift
+shift_shown s = record { from = s.from; to = s.to }
+
+-- the answer to an expanded condition, and the turns that are left; none where they didn't suffice
+abbrev pub answered : (List PpToken → Bool) → Expanded → Option (Bool × ℕ)
+answered holds (Done ts n) = Some (holds (key_of ts), n)
+answered holds Spent = None
+
+-- goes on with an answer, or ends where there is none
+abbrev pub goes_with : Option Bool → (Bool → World → World) → World → World
+goes_with None go w = w
+goes_with (Some b) go w = go b w
+
+-- a directive in an active group, behind the text before it, unless no turn is left; and otherwise nothing
+abbrev pub acted_on : (active : Bool) → (World → World) → (flushed w : World) → World
+acted_on true go v w = unless_over go v
+acted_on false go v w = w
+
+-- goes on, or has ended
+abbrev pub goes_on : Bool → (World → World) → World → World
+goes_on true go w = go w
+goes_on false go w = w

@@ -1,0 +1,323 @@
+//! What the directives of conditionals do (C11 6.10.1).
+
+ghost use Rattle.std.specs.Prelude.{◌≡◌, ℕ, Bool, true, false, not, List, [], ◌∷◌, ◌++◌, map, drop, IfOk, Option, Some, None, option_map};
+ghost use Rattle.pp_model.specs.Token.{PpToken as Token};
+ghost use Rattle.pp_model.specs.Condition.{Free, resolve, is_active};
+ghost use Rattle.pp_model.specs.Expand.{expand};
+ghost use Rattle.pp_model.specs.Setting.{holds_in};
+ghost use Rattle.pp_model.specs.Preprocess.{World as Worlds, test, asked, begin_if, if_active, branch, entered, otherwise, endif, blame, left, with_conds, left_open, emit, finish};
+ghost use Rattle.pp_events.specs.View.{tok_shown, macro_shown};
+ghost use Rattle.pp_directives.specs.CondView.{cond_shown};
+ghost use Rattle.pp_directives.specs.SettingView.{condition_shown};
+ghost use Rattle.pp_directives.specs.WorldView.{world_shown, conds_shown, event_shown, answered, goes_with};
+
+use crate::cond::Cond;
+use crate::conditionals::Conditionals;
+use crate::events::Event;
+use crate::keys::holds_in;
+use crate::resolve::{is_defined, resolve};
+use crate::settings::Condition;
+use crate::state::World;
+use crate::words::is_name;
+use pp_events::{Macro, Spellings, Tok, expand};
+use std::alloc::{AllocError, Global};
+use std::collections::VecDeque;
+
+/// What a condition holds once it is expanded, and the turns that are left; none where they don't
+/// suffice. `defined` is answered first, then the rest is expanded, and the setting answers.
+fn answer_of<R: Spellings>(
+    alloc: Global,
+    reader: &R,
+    conditions: &[Condition],
+    table: &[Macro],
+    turns: u64,
+    tokens: VecDeque<Tok>,
+) -> Result<Option<(bool, u64)>, AllocError>
+    ensures { IfOk result (λ r. r ≡ answered (holds_in (map condition_shown conditions.now)) (expand (R.kinds reader.now) (map macro_shown table.now) turns (resolve (map macro_shown table.now) Free (map tok_shown tokens.items)))) }
+{
+    let resolved = resolve(alloc, table, tokens)?;
+    match expand(alloc, reader, table, turns, resolved)? {
+        None => Ok(None),
+        Some((made, left)) => Ok(Some((holds_in(conditions, made.as_slice()), left))),
+    }
+}
+
+impl World {
+    /// Whether a condition holds (6.10.1p1 to p4); none where the turns don't suffice, and then it is over.
+    #[tactic(auto, using(crate::proofs::Answered::tested_by_answer, crate::proofs::Answered::tested_by_none))]
+    fn test<R: Spellings>(
+        &mut self,
+        alloc: Global,
+        reader: &R,
+        conditions: &[Condition],
+        tokens: VecDeque<Tok>,
+    ) -> Result<Option<bool>, AllocError>
+        ensures shown { IfOk result (λ r. (go : Bool → Worlds → Worlds) → test (R.kinds reader.now) (holds_in (map condition_shown conditions.now)) go (map tok_shown tokens.items) (world_shown self.old) ≡ goes_with r go (world_shown self.new)) }
+        ensures conds { self.new.conds ≡ self.old.conds }
+    {
+        match answer_of(
+            alloc,
+            reader,
+            conditions,
+            self.table.as_slice(),
+            self.turns,
+            tokens,
+        )? {
+            None => {
+                self.spend(alloc)?;
+                Ok(None)
+            }
+            Some((holds, left)) => {
+                self.turns = left;
+                Ok(Some(holds))
+            }
+        }
+    }
+
+    /// Whether a name is defined, or isn't where `sense` is false (6.10.1p5): without a name it is
+    /// malformed, and false.
+    fn asked(
+        &mut self,
+        alloc: Global,
+        sense: bool,
+        tokens: VecDeque<Tok>,
+    ) -> Result<bool, AllocError>
+        ensures shown { IfOk result (λ r. (go : Bool → Worlds → Worlds) → asked sense go (map tok_shown tokens.items) (world_shown self.old) ≡ go r (world_shown self.new)) }
+        ensures conds { self.new.conds ≡ self.old.conds }
+    {
+        let mut tokens = tokens;
+        match tokens.pop_front() {
+            None => {
+                self.malformed(alloc)?;
+                Ok(false)
+            }
+            Some(t) => {
+                if is_name(&t) {
+                    Ok(sense == is_defined(self.table.as_slice(), &t))
+                } else {
+                    self.malformed(alloc)?;
+                    Ok(false)
+                }
+            }
+        }
+    }
+
+    /// An `#if`.
+    #[tactic(auto, using(crate::proofs::Branches::active_if))]
+    pub fn begin_if<R: Spellings>(
+        &mut self,
+        alloc: Global,
+        reader: &R,
+        conditions: &[Condition],
+        tokens: VecDeque<Tok>,
+    ) -> Result<(), AllocError>
+        ensures { IfOk result (λ _. world_shown self.new ≡ if_active (test (R.kinds reader.now) (holds_in (map condition_shown conditions.now)) begin_if (map tok_shown tokens.items)) (world_shown self.old)) }
+    {
+        if self.conds.is_active() {
+            match self.test(alloc, reader, conditions, tokens)? {
+                None => Ok(()),
+                Some(holds) => {
+                    self.conds.begin(holds)?;
+                    Ok(())
+                }
+            }
+        } else {
+            self.conds.skip()
+        }
+    }
+
+    /// An `#ifdef`, or an `#ifndef` where `sense` is false.
+    pub fn begin_ifdef(
+        &mut self,
+        alloc: Global,
+        sense: bool,
+        tokens: VecDeque<Tok>,
+    ) -> Result<(), AllocError>
+        ensures { IfOk result (λ _. world_shown self.new ≡ if_active (asked sense begin_if (map tok_shown tokens.items)) (world_shown self.old)) }
+    {
+        if self.conds.is_active() {
+            let holds = self.asked(alloc, sense, tokens)?;
+            self.conds.begin(holds)
+        } else {
+            self.conds.skip()
+        }
+    }
+
+    /// Malformed, but in a skipped group.
+    #[tactic(auto, using(crate::proofs::Branches::blame_skipped, crate::proofs::Branches::blame_taken))]
+    fn blame(&mut self, alloc: Global, skipped: bool) -> Result<(), AllocError>
+        ensures { IfOk result (λ _. world_shown self.new ≡ blame (record { taken = true; active = false; had_else = true; skipped = skipped }) (world_shown self.old)) }
+    {
+        if skipped {
+            Ok(())
+        } else {
+            self.malformed(alloc)
+        }
+    }
+
+    /// The next group of a conditional of which none was taken, with this answer.
+    #[tactic(auto, using(crate::proofs::Nests::entered_nests))]
+    fn enter(&mut self, c: Cond, holds: bool) -> Result<(), AllocError>
+        requires innermost { conds_shown self.old.conds ≡ cond_shown c ∷ drop 1 (conds_shown self.old.conds) }
+        requires open { c.taken ≡ false }
+        ensures { IfOk result (λ _. world_shown self.new ≡ entered (cond_shown c) (drop 1 (conds_shown self.old.conds)) holds (world_shown self.old)) }
+    {
+        self.conds.replace(Cond {
+            taken: holds,
+            active: holds,
+            had_else: false,
+            skipped: c.skipped,
+        })
+    }
+
+    /// The next group of a conditional of which one was taken.
+    #[tactic(auto, using(crate::proofs::Nests::done_nests))]
+    fn leave(&mut self, c: Cond) -> Result<(), AllocError>
+        requires { conds_shown self.old.conds ≡ cond_shown c ∷ drop 1 (conds_shown self.old.conds) }
+        ensures { IfOk result (λ _. world_shown self.new ≡ left (cond_shown c) (drop 1 (conds_shown self.old.conds)) (world_shown self.old)) }
+    {
+        self.conds.replace(Cond {
+            taken: true,
+            active: false,
+            had_else: c.had_else,
+            skipped: c.skipped,
+        })
+    }
+
+    /// An `#elif` (6.10.1p6): its condition is asked where no group before it was taken.
+    #[tactic(auto, using(crate::proofs::Branches::had_else_branch, crate::proofs::Branches::asking_branch))]
+    pub fn elif<R: Spellings>(
+        &mut self,
+        alloc: Global,
+        reader: &R,
+        conditions: &[Condition],
+        tokens: VecDeque<Tok>,
+    ) -> Result<(), AllocError>
+        ensures { IfOk result (λ _. world_shown self.new ≡ branch (λ c cs. test (R.kinds reader.now) (holds_in (map condition_shown conditions.now)) (entered c cs) (map tok_shown tokens.items)) (conds_shown self.old.conds) (world_shown self.old)) }
+    {
+        match self.conds.innermost() {
+            None => self.malformed(alloc),
+            Some(c) => {
+                if c.had_else {
+                    self.blame(alloc, c.skipped)?;
+                    Ok(())
+                } else if c.taken {
+                    self.leave(c)
+                } else {
+                    match self.test(alloc, reader, conditions, tokens)? {
+                        None => Ok(()),
+                        Some(holds) => {
+                            self.enter(c, holds)?;
+                            Ok(())
+                        }
+                    }
+                }
+            }
+        }
+    }
+
+    /// An `#elifdef`, or an `#elifndef` where `sense` is false.
+    #[tactic(auto, using(crate::proofs::Branches::had_else_branch))]
+    pub fn elifdef(
+        &mut self,
+        alloc: Global,
+        sense: bool,
+        tokens: VecDeque<Tok>,
+    ) -> Result<(), AllocError>
+        ensures { IfOk result (λ _. world_shown self.new ≡ branch (λ c cs. asked sense (entered c cs) (map tok_shown tokens.items)) (conds_shown self.old.conds) (world_shown self.old)) }
+    {
+        match self.conds.innermost() {
+            None => self.malformed(alloc),
+            Some(innermost) => {
+                if innermost.had_else {
+                    self.blame(alloc, innermost.skipped)?;
+                    Ok(())
+                } else if innermost.taken {
+                    self.leave(innermost)
+                } else {
+                    let holds = self.asked(alloc, sense, tokens)?;
+                    self.enter(innermost, holds)
+                }
+            }
+        }
+    }
+
+    /// The last group of a conditional, taken where none before it was.
+    fn last(&mut self, c: Cond) -> Result<(), AllocError>
+        requires { conds_shown self.old.conds ≡ cond_shown c ∷ drop 1 (conds_shown self.old.conds) }
+        ensures { IfOk result (λ _. world_shown self.new ≡ with_conds (record { taken = true; active = not c.taken; had_else = true; skipped = c.skipped } ∷ drop 1 (conds_shown self.old.conds)) (world_shown self.old)) }
+    {
+        self.conds.replace(Cond {
+            taken: true,
+            active: !c.taken,
+            had_else: true,
+            skipped: c.skipped,
+        })
+    }
+
+    /// An `#else`.
+    #[tactic(auto, using(crate::proofs::Branches::had_else_last))]
+    pub fn otherwise(&mut self, alloc: Global) -> Result<(), AllocError>
+        ensures { IfOk result (λ _. world_shown self.new ≡ otherwise (conds_shown self.old.conds) (world_shown self.old)) }
+    {
+        match self.conds.innermost() {
+            None => self.malformed(alloc),
+            Some(c) => {
+                if c.had_else {
+                    self.blame(alloc, c.skipped)?;
+                    Ok(())
+                } else {
+                    self.last(c)
+                }
+            }
+        }
+    }
+
+    /// An `#endif`.
+    pub fn endif(&mut self, alloc: Global) -> Result<(), AllocError>
+        ensures { IfOk result (λ _. world_shown self.new ≡ endif (conds_shown self.old.conds) (world_shown self.old)) }
+    {
+        match self.conds.innermost() {
+            None => self.malformed(alloc),
+            Some(_) => {
+                self.conds.end();
+                Ok(())
+            }
+        }
+    }
+    /// A malformed for each conditional that is open, but for those in skipped groups.
+    fn leave_open(&mut self, alloc: Global) -> Result<(), AllocError>
+        ensures { IfOk result (λ _. world_shown self.new ≡ emit (left_open (conds_shown self.old.conds)) (world_shown self.old)) }
+    {
+        let mut made = open_events(alloc, &self.conds)?;
+        self.events.append(&mut made)?;
+        Ok(())
+    }
+
+    /// The end of a text: the text that waits is expanded, and each conditional that is open is
+    /// malformed.
+    pub fn finish<R: Spellings>(&mut self, alloc: Global, reader: &R) -> Result<(), AllocError>
+        ensures { IfOk result (λ _. world_shown self.new ≡ finish (R.kinds reader.now) (world_shown self.old)) }
+    {
+        self.flush(alloc, reader)?;
+        if self.over {
+            Ok(())
+        } else {
+            self.leave_open(alloc)
+        }
+    }
+}
+
+/// A malformed for each open conditional that isn't in a skipped group.
+fn open_events(alloc: Global, conds: &Conditionals) -> Result<Vec<Event>, AllocError>
+    ensures { IfOk result (λ r. map event_shown r.items ≡ left_open (conds_shown conds.now)) }
+{
+    let open = &conds.open;
+    let mut events = Vec::new(alloc);
+    for i in 0..open.len() {
+        if !open[i].skipped {
+            events.push(Event::Malformed(Vec::new(alloc)))?;
+        }
+    }
+    Ok(events)
+}

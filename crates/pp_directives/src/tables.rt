@@ -1,0 +1,155 @@
+//! The macros that are defined from the start.
+
+ghost use Rattle.std.specs.Prelude.{◌≡◌, ℕ, List, [], ◌∷◌, ◌++◌, map, filter_map, codes, true, IfOk, Option, option_map};
+ghost use Rattle.pp_model.specs.Setting.{kind_by, tok_by, are_different, is_allowed, parameters, macro_by, table_by};
+ghost use Rattle.pp_events.specs.View.{shown, tok_shown, macro_shown};
+ghost use Rattle.pp_directives.specs.SettingView.{body_token_shown, definition_shown};
+ghost use Rattle.pp_directives.specs.DefineView.{some_macro};
+
+use crate::bodies::parts_of_body;
+use crate::parameters::all_names;
+use crate::settings::{BodyToken, MacroDefinition};
+use crate::words::is_kept_name;
+use pp_events::{ItemKind, Macro, PpToken, Spellings, Tok, contains_name, copy_bytes, copy_token};
+use std::alloc::{AllocError, Global};
+use std::collections::VecDeque;
+
+/// The kind of a setting's token.
+fn kind_by<R: Spellings>(reader: &R, token: &PpToken) -> ItemKind
+    ensures { result ≡ kind_by (R.kinds reader.now) (shown token.now) }
+{
+    match token {
+        PpToken::Plain { text } => match reader.kind_of(text.as_slice()) {
+            Some(kind) => kind,
+            None => ItemKind::Other,
+        },
+        PpToken::Line { .. } => ItemKind::Other,
+        PpToken::Str { .. } => ItemKind::Other,
+        PpToken::Pasted { .. } => ItemKind::Other,
+    }
+}
+
+/// A body's token before any expansion.
+fn tok_by<R: Spellings>(alloc: Global, reader: &R, t: &BodyToken) -> Result<Tok, AllocError>
+    ensures { IfOk result (λ r. tok_shown r ≡ tok_by (R.kinds reader.now) (body_token_shown t.now)) }
+{
+    let token = copy_token(alloc, &t.token)?;
+    let kind = kind_by(reader, &t.token);
+    Ok(Tok {
+        token,
+        kind,
+        hide: Vec::new(alloc),
+        white: t.white,
+        line: 0,
+    })
+}
+
+/// A body's tokens before any expansion.
+fn toks_by<R: Spellings>(
+    alloc: Global,
+    reader: &R,
+    body: &[BodyToken],
+) -> Result<VecDeque<Tok>, AllocError>
+    ensures { IfOk result (λ r. map tok_shown r.items ≡ map (tok_by (R.kinds reader.now)) (map body_token_shown body.now)) }
+{
+    let mut out = VecDeque::new(alloc);
+    for t in body {
+        out.push_back(tok_by(alloc, reader, t)?)?;
+    }
+    Ok(out)
+}
+
+/// Whether no name stands twice.
+fn are_different(names: &[Vec<u8>]) -> bool
+    ensures { result ≡ are_different (map (λ n. n.items) names.now) }
+{
+    let mut rest = names;
+    while let [first, others @ ..] = rest {
+        if contains_name(others, first.as_slice()) {
+            return false;
+        }
+        rest = others;
+    }
+    true
+}
+
+/// Whether the parameters may stand in a list.
+fn are_parameters(names: &[Vec<u8>]) -> bool
+    ensures { result ≡ are_different (codes "__VA_ARGS__" ∷ map (λ n. n.items) names.now) }
+{
+    !contains_name(names, b"__VA_ARGS__") && are_different(names)
+}
+
+/// Whether the name may be defined, and the parameters may stand in a list (C11 6.10.3p5 and p6,
+/// 6.10.8p4).
+fn is_allowed(d: &MacroDefinition) -> bool
+    ensures { result ≡ is_allowed (definition_shown d.now) }
+{
+    !is_kept_name(d.name.as_slice()) && (!d.function_like || are_parameters(d.params.as_slice()))
+}
+
+/// The names that stand for arguments in the body.
+fn parameters(alloc: Global, d: &MacroDefinition) -> Result<Vec<Vec<u8>>, AllocError>
+    ensures { IfOk result (λ r. map (λ n. n.items) r.items ≡ parameters (definition_shown d.now)) }
+{
+    if d.function_like {
+        all_names(alloc, d.params.as_slice(), d.variadic)
+    } else {
+        Ok(Vec::new(alloc))
+    }
+}
+
+/// The macro of a definition that is allowed.
+fn allowed_macro<R: Spellings>(
+    alloc: Global,
+    reader: &R,
+    d: &MacroDefinition,
+) -> Result<Option<Macro>, AllocError>
+    requires { is_allowed (definition_shown d.now) ≡ true }
+    ensures { IfOk result (λ r. some_macro r ≡ macro_by (R.kinds reader.now) (definition_shown d.now)) }
+{
+    let names = parameters(alloc, d)?;
+    let body = toks_by(alloc, reader, d.body.as_slice())?;
+    match parts_of_body(alloc, names.as_slice(), d.function_like, body)? {
+        None => Ok(None),
+        Some(body) => Ok(Some(Macro {
+            name: copy_bytes(alloc, d.name.as_slice())?,
+            function_like: d.function_like,
+            arity: d.params.len(),
+            variadic: d.function_like && d.variadic,
+            body,
+        })),
+    }
+}
+
+/// The macro of a definition; none where 6.10.3 doesn't allow it.
+fn macro_by<R: Spellings>(
+    alloc: Global,
+    reader: &R,
+    d: &MacroDefinition,
+) -> Result<Option<Macro>, AllocError>
+    ensures { IfOk result (λ r. some_macro r ≡ macro_by (R.kinds reader.now) (definition_shown d.now)) }
+{
+    if is_allowed(d) {
+        allowed_macro(alloc, reader, d)
+    } else {
+        Ok(None)
+    }
+}
+
+/// The table at the start.
+pub fn table_by<R: Spellings>(
+    alloc: Global,
+    reader: &R,
+    definitions: &[MacroDefinition],
+) -> Result<Vec<Macro>, AllocError>
+    ensures { IfOk result (λ r. map macro_shown r.items ≡ table_by (R.kinds reader.now) (map definition_shown definitions.now)) }
+{
+    let mut table = Vec::new(alloc);
+    for d in definitions {
+        if let Some(m) = macro_by(alloc, reader, d)? {
+            table.push(m)?;
+        }
+    }
+    Ok(table)
+}

@@ -1,0 +1,52 @@
+//! Tests of single tokens.
+
+ghost use Rattle.std.specs.Prelude.{◌≡◌, ℕ, List, [], ◌∷◌, map, not, codes};
+ghost use Rattle.pp_model.specs.Token.{is_in};
+ghost use Rattle.pp_model.specs.Define.{is_hash, is_paste, is_dots, is_name, is_kept_name};
+ghost use Rattle.pp_events.specs.View.{tok_shown};
+
+use pp_events::{Tok, contains_name, is_identifier_kind, is_spelled};
+
+/// Whether the token is an identifier.
+pub fn is_name(token: &Tok) -> bool
+    ensures { result ≡ is_name (tok_shown token.now) }
+{
+    is_identifier_kind(token.kind)
+}
+
+/// Whether the token is `#` or its digraph.
+pub fn is_hash(token: &Tok) -> bool
+    ensures { result ≡ is_hash (tok_shown token.now) }
+{
+    is_spelled(token, b"#") || is_spelled(token, b"%:")
+}
+
+/// Whether the token is `##` or its digraph.
+pub fn is_paste(token: &Tok) -> bool
+    ensures { result ≡ is_paste (tok_shown token.now) }
+{
+    is_spelled(token, b"##") || is_spelled(token, b"%:%:")
+}
+
+/// Whether the token is `...`.
+pub fn is_dots(token: &Tok) -> bool
+    ensures { result ≡ is_dots (tok_shown token.now) }
+{
+    is_spelled(token, b"...")
+}
+
+/// Whether a name is never defined nor undefined (C11 6.10.8p4, 6.10.3p5).
+pub fn is_kept_name(name: &[u8]) -> bool
+    ensures { result ≡ is_kept_name name.now }
+{
+    name == b"defined".as_slice()
+        || name == b"__LINE__".as_slice()
+        || name == b"__VA_ARGS__".as_slice()
+}
+
+/// Whether a name may be the next parameter: it is another one than these, and not `__VA_ARGS__`.
+pub fn is_new_parameter(names: &[Vec<u8>], name: &[u8]) -> bool
+    ensures { result ≡ not (is_in name.now (codes "__VA_ARGS__" ∷ map (λ n. n.items) names.now)) }
+{
+    name != b"__VA_ARGS__".as_slice() && !contains_name(names, name)
+}
