@@ -1,0 +1,4 @@
+pub mod Acts
+pub mod Walks
+pub mod Works
+pub mod Results

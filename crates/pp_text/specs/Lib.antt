@@ -1,0 +1,4 @@
+pub mod Unread
+pub mod ReadingView
+pub mod Work
+pub mod Fits
