@@ -6,6 +6,7 @@ pub mod Examples
 pub mod Zeros
 pub mod Linked
 pub mod Walked
+pub mod Jumped
 pub mod Kept
 pub mod Order
 pub mod Places

@@ -9,4 +9,5 @@ pub mod Laws
 pub mod Links
 pub mod Fits
 pub mod Walk
+pub mod Jumps
 pub mod Front

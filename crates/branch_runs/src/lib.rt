@@ -6,6 +6,7 @@
 #![tactic(auto)]
 
 mod effect;
+mod jump;
 mod link;
 mod mark;
 mod node;

@@ -186,3 +186,26 @@ fn reads_a_hundred_thousand_branches_in_a_row(rt: HostRuntime) -> Result<(), Fai
     }
     Ok(())
 }
+
+/// Each run of a conditional of so many branches sees its own branch alone: all views together take no more steps than there are
+/// branches, times the steps of a search among them.
+#[test]
+fn takes_each_of_a_hundred_thousand_branches(rt: HostRuntime) -> Result<(), Fail> {
+    let mut kinds = Vec::new(rt.alloc());
+    kinds.push(IF)?;
+    for _ in 0..100_000 {
+        kinds.push(TEXT)?;
+        kinds.push(ELIF)?;
+    }
+    kinds.push(TEXT)?;
+    kinds.push(END)?;
+    let bump = Bump::new(rt.alloc());
+    assert!(rt; kinds.len() < 1_000_000);
+    let marks = marks(&kinds, &bump)?;
+    let tree = CondTree::of_marks(marks, marks.len() as u32, &bump)?;
+    assert_eq!(rt; tree.runs(), 100_001);
+    for r in 0..100_001 {
+        sees(&rt, rt.alloc(), &tree, r, &[2 * r + 1])?;
+    }
+    Ok(())
+}

@@ -11,6 +11,7 @@ ghost use Rattle.branch_runs.specs.Laws.{IsCovered, NeverParted};
 ghost use Rattle.branch_runs.specs.Cut.{IsCutFrom, end_of};
 
 use crate::effect::effects;
+use crate::jump::{Jump, jumps_of};
 use crate::link::nodes_of;
 use crate::mark::marks_of;
 use crate::node::Node;
@@ -26,6 +27,7 @@ use token_views::{TokenId, View};
 #[derive(Drop)]
 pub struct CondTree<'a> {
     nodes: &'a [Node],
+    jumps: &'a [Jump],
     dead: &'a [bool],
     count: u32,
 }
@@ -36,6 +38,7 @@ impl<'a> Model for CondTree<'a> {
     ghost use Rattle.branch_runs.specs.Reading.{read};
     ghost use Rattle.branch_runs.specs.Links.{node_mark};
     ghost use Rattle.branch_runs.specs.Fits.{FitNodes};
+    ghost use Rattle.branch_runs.specs.Jumps.{FitJumps};
     ghost use Rattle.branch_runs.specs.Cut.{IsCutFrom};
     ghost use Rattle.branch_runs.specs.Dead.{flags_in};
     ghost use Rattle.branch_runs.specs.Runs.{need};
@@ -44,7 +47,7 @@ impl<'a> Model for CondTree<'a> {
 
     ghost view = { λ t. map node_mark t.nodes.now };
 
-    ghost invariant = { λ t. record { fit : FitNodes (map node_mark t.nodes.now) 0 t.nodes.now; need_is : t.count ≡ need (read (map node_mark t.nodes.now)); small : length t.nodes.now < 2 ^ 24; cut : IsCutFrom 0 (map node_mark t.nodes.now); flags : t.dead.now ≡ flags_in [] (map node_mark t.nodes.now) } };
+    ghost invariant = { λ t. record { fit : FitNodes (map node_mark t.nodes.now) 0 t.nodes.now; jumps : FitJumps (map node_mark t.nodes.now) t.jumps.now; need_is : t.count ≡ need (read (map node_mark t.nodes.now)); small : length t.nodes.now < 2 ^ 24; cut : IsCutFrom 0 (map node_mark t.nodes.now); flags : t.dead.now ≡ flags_in [] (map node_mark t.nodes.now) } };
 }
 
 impl<'a> CondTree<'a> {
@@ -81,7 +84,13 @@ impl<'a> CondTree<'a> {
     {
         let (marks, dead) = effects(marks, items, bump)?;
         let (nodes, count) = nodes_of(marks, bump)?;
-        Ok(CondTree { nodes, dead, count })
+        let jumps = jumps_of(nodes, bump)?;
+        Ok(CondTree {
+            nodes,
+            jumps,
+            dead,
+            count,
+        })
     }
 
     /// How many runs there are.
@@ -100,7 +109,7 @@ impl<'a> CondTree<'a> {
         ensures increase { IfOk result (λ view. Increase view) }
         ensures within { IfOk result (λ view. All (λ id. id < end_of 0 self.now) view) }
     {
-        let stretches = stretches_of(self.nodes, r, run)?;
+        let stretches = stretches_of(self.nodes, self.jumps, r, run)?;
         let view = View::of_stretches(stretches, run)?;
         Ok(view)
     }

@@ -1,6 +1,7 @@
 -- The ids of stretches that ascend increase.
-use Rattle.std.proofs.Common.{◌≡◌, ℕ, zero, suc, ◌+◌, ◌-◌, ◌≤◌, List, [], ◌∷◌, ◌++◌, subst, arith}
+use Rattle.std.proofs.Common.{◌≡◌, ℕ, zero, suc, ◌+◌, ◌-◌, ◌<◌, ◌≤◌, List, [], ◌∷◌, ◌++◌, length, get_or, subst, arith}
 use Rattle.std.specs.List.{range_with_len}
+use Rattle.std.proofs.lemmas.List.FromFn.{length-range_with_len, get_or-range_with_len}
 use Rattle.token_views.specs.Ids.{IncreaseFrom}
 use Rattle.token_views.specs.Segments.{AscendFrom, ids_of}
 
@@ -21,3 +22,11 @@ ids_increase low [] ascend = tt
 ids_increase low (stretch ∷ stretches) ascend =
     row_increases low stretch.0 (stretch.1 - stretch.0) (ids_of stretches) ascend.0
     (increase_lower (stretch.0 + (stretch.1 - stretch.0)) (stretch.1 + 1) (ids_of stretches) (omega (arith, ascend.1)) (ids_increase (stretch.1 + 1) stretches ascend.2))
+
+-- the numbers in a row are below its end
+pub row_within : (first end : ℕ) (ids : List ℕ) → ids ≡ range_with_len first (end - first) → (k d : ℕ) → k < length ids → get_or ids k d < end
+row_within first end ids is k d h =
+    let len : length ids ≡ end - first = rw is (length-range_with_len first (end - first)) in
+    let short : k < end - first = omega (arith, len, h) in
+    let here : get_or ids k d ≡ first + k = rw is (get_or-range_with_len first (end - first) k d short) in
+    omega (arith, here, short)

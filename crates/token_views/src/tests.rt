@@ -54,3 +54,26 @@ fn has_no_place_without_items(rt: HostRuntime) -> Result<(), Fail> {
     assert!(rt; view.segments().is_empty());
     Ok(())
 }
+
+#[test]
+fn sees_all_items_in_a_row(rt: HostRuntime) -> Result<(), Fail> {
+    let run = Bump::new(rt.alloc());
+    let rows: [(u32, u32, &[u32]); 4] = [
+        (0, 3, &[0, 1, 2]),
+        (5, 7, &[5, 6]),
+        (4, 4, &[]),
+        (9, 2, &[]),
+    ];
+    for (first, end, ids) in rows {
+        let view = View::of(first, end, &run)?;
+        assert_eq!(rt; view.len() as usize, ids.len(), "from {first} to {end}");
+        let mut k = 0;
+        for id in ids {
+            assert!(rt; k < view.len());
+            assert_eq!(rt; view.at(k).0, *id, "from {first} to {end}");
+            assert!(rt; !view.directive_before(k));
+            k += 1;
+        }
+    }
+    Ok(())
+}

@@ -1,6 +1,7 @@
 //! Views and their segments.
 
-ghost use Rattle.std.specs.Prelude.{◌≡◌, ◌≢◌, ◌<◌, ◌≤◌, ◌+◌, ◌-◌, ◌↔◌, ℕ, map, length, get_or, IsTrue, IfOk};
+ghost use Rattle.std.specs.Prelude.{◌≡◌, ◌≢◌, ◌<◌, ◌≤◌, ◌+◌, ◌-◌, ◌↔◌, ℕ, All, map, length, get_or, IsTrue, IfOk};
+ghost use Rattle.std.specs.List.{range_with_len};
 ghost use Rattle.token_views.specs.Segments.{segment_bounds, ids_of, AreSegments, HasPlace, AscendFrom, bounds_of};
 ghost use Rattle.token_views.specs.Ids.{Increase};
 
@@ -54,6 +55,23 @@ impl<'r> View<'r> {
         ensures increase { Increase result }
     {
         View { segments }
+    }
+
+    /// The view of all items from one to before another: none where the first isn't before the other.
+    pub fn of(first: u32, end: u32, run: &'r Bump) -> Result<View<'r>, NoMemory>
+        ensures items { IfOk result (λ view. view ≡ range_with_len first (end - first)) }
+        ensures increase { IfOk result (λ view. Increase view) }
+        ensures within { IfOk result (λ view. All (λ id. id < end) view) }
+    {
+        let mut segments = Vec::new(run);
+        if first < end {
+            segments.push(Segment {
+                first,
+                end,
+                before: 0,
+            })?;
+        }
+        Ok(View::from_segments(into_bump_slice(segments)))
     }
 
     /// The view of these stretches, with their places counted.

@@ -12,6 +12,7 @@ invariant_of-result c =
     let k = keeps c.in_ok-nodes.nodes.now c.in_ok-nodes.count c.in_ok-marks.marks.now c.in_ok-nodes.ensures.marks c.in_ok-nodes.ensures.fit c.in_ok-nodes.ensures.need in
     record {
       fit = k.fit;
+      jumps = c.in_ok-jumps.ensures;
       need_is = k.need_is;
       small = small_nodes c.in_ok-nodes.nodes.now c.in_ok-marks.marks.now _ c.in_ok-nodes.ensures.marks (rw c.in_ok-marks.ensures.marks (small_effects c.args.marks.now _ (omega (arith, c.requires.small, c.requires.limit))));
       cut = rw (c.in_ok-nodes.ensures.marks, c.in_ok-marks.ensures.marks) (effects_cut c.args.marks.now 0 [] c.requires.cut);
@@ -20,3 +21,7 @@ invariant_of-result c =
 
 pub returns-clause-end : goal.returns-clause-end
 returns-clause-end c = rw (c.in_ok-nodes.ensures.marks, c.in_ok-marks.ensures.marks) (effects_end c.args.marks.now 0 [])
+
+pub jumps_of-requires-clause-small : goal.jumps_of-requires-clause-small
+jumps_of-requires-clause-small c =
+    small_nodes c.in_ok-nodes.nodes.now c.in_ok-marks.marks.now _ c.in_ok-nodes.ensures.marks (rw c.in_ok-marks.ensures.marks (small_effects c.args.marks.now _ (omega (arith, c.requires.small, c.requires.limit))))
