@@ -15,6 +15,8 @@ mod part;
 mod scans;
 #[cfg(test)]
 mod tests;
+#[cfg(test)]
+mod text_tests;
 mod token;
 mod tree;
 mod viewed;
