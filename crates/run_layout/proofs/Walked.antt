@@ -1,0 +1,95 @@
+-- Decisions, one after another.
+use Rattle.std.proofs.Common.{◌≡◌, ◌∙◌, ℕ, zero, suc, ◌+◌, ◌<◌, ◌≤◌, Option, Some, List, [], ◌∷◌, ◌++◌, length, get_or, drop, refl, sym, ap, arith, subst}
+use Rattle.std.proofs.Math.Seq.{drop-cons}
+use Rattle.style_table.specs.declared.style.Style.{Style}
+use Rattle.token_arena.specs.Gaps.{Contents}
+use Rattle.gap_text.specs.declared.Decision.{Decision}
+use Rattle.brackets.specs.Viewed.{AreWithin}
+use Rattle.unwrapped_lines.specs.declared.line.ULine.{ULine}
+use Rattle.unwrapped_lines.specs.Lines.{CutPlaces}
+use Rattle.replacements.specs.declared.slot.Slot.{Slot}
+use Rattle.replacements.specs.Decisions.{slot_of, decided, decided_all}
+use Rattle.run_layout.specs.Rows.{item_before, item_at, decision_at, start_behind, column_behind}
+use Rattle.run_layout.specs.Run.{start_of, slot_at, column_after, decisions_from, line_decisions, run_decisions}
+
+-- decisions behind others
+pub decided_all-append : (plan : List (Option Slot)) (made later : List (ℕ × Slot)) → decided_all plan (made ++ later) ≡ decided_all (decided_all plan made) later
+decided_all-append plan [] later = refl
+decided_all-append plan (m ∷ made) later = decided_all-append (decided plan m.0 m.1) made later
+
+-- ## The lines of a cut
+
+cut_before : (at count : ℕ) (lines : List ULine) → CutPlaces at count lines → at ≤ count
+cut_before at count [] cut = omega (arith, cut)
+cut_before at count (line ∷ lines) cut =
+    let rest : line.last + 1 ≤ count = cut_before (line.last + 1) count lines cut.1.1 in
+    let from : line.first ≡ at = cut.0 in
+    let some : line.first ≤ line.last = cut.1.0 in
+    omega arith
+
+-- each line ends before the end
+pub cut_within : (at count : ℕ) (lines : List ULine) → CutPlaces at count lines → (i : ℕ) (d : ULine) → i < length lines → (get_or lines i d).last < count
+cut_within at count [] cut i d within = omega (arith, within)
+cut_within at count (line ∷ lines) cut zero d within =
+    let rest : line.last + 1 ≤ count = cut_before (line.last + 1) count lines cut.1.1 in
+    omega arith
+cut_within at count (line ∷ lines) cut (suc i) d within = cut_within (line.last + 1) count lines cut.1.1 i d (omega arith)
+
+-- no line of a cut is empty
+pub cut_some : (at count : ℕ) (lines : List ULine) → CutPlaces at count lines → (i : ℕ) (d : ULine) → i < length lines → (get_or lines i d).first ≤ (get_or lines i d).last
+cut_some at count [] cut i d within = omega (arith, within)
+cut_some at count (line ∷ lines) cut zero d within = cut.1.0
+cut_some at count (line ∷ lines) cut (suc i) d within = cut_some (line.last + 1) count lines cut.1.1 i d (omega arith)
+
+-- ## One place of a line
+
+-- the first of so many decisions, and the others
+pub first_and_rest : (style : Style) (arena : Contents) (ids : List ℕ) (line : ULine) (plan : List (Option Slot)) (column k left more : ℕ) → more ≡ suc left
+    → decided_all plan (decisions_from style arena ids line plan column k more)
+    ≡ decided_all (decided plan (get_or ids k 0) (slot_at style arena ids line column k))
+    (decisions_from style arena ids line (decided plan (get_or ids k 0) (slot_at style arena ids line column k))
+    (column_after arena (decided plan (get_or ids k 0) (slot_at style arena ids line column k)) (get_or ids k 0)) (k + 1) left)
+first_and_rest style arena ids line plan column k left more e = rw e refl
+
+-- the place at k is decided, and those from the next on are left
+pub one_place : (style : Style) (arena : Contents) (ids : List ℕ) (line : ULine) (plan after : List (Option Slot)) (column next k id start end : ℕ) (decision : Decision) (left more : ℕ)
+    → more ≡ suc left → get_or ids k 0 ≡ id → decision ≡ decision_at style arena ids line k → end ≡ start_behind column decision
+    → after ≡ decided plan id (record { decision = decision; end = end }) → start ≡ start_of (slot_of after id) → next ≡ column_behind start (item_at arena id)
+    → decided_all after (decisions_from style arena ids line after next (k + 1) left) ≡ decided_all plan (decisions_from style arena ids line plan column k more)
+one_place style arena ids line plan after column next k id start end decision left more m at d e a s n =
+    let slot = slot_at style arena ids line column k in
+    let made : List (Option Slot) = decided plan (get_or ids k 0) slot in
+    let ends : end ≡ start_behind column (decision_at style arena ids line k) = e ∙ ap (start_behind column) d in
+    let same : record { decision = decision; end = end } ≡ slot = cc in
+    let plans : after ≡ made = a ∙ ap (λ x. decided plan x (record { decision = decision; end = end })) (sym at) ∙ ap (decided plan (get_or ids k 0)) same in
+    let columns : next ≡ column_after arena made (get_or ids k 0) =
+    n ∙ ap (λ x. column_behind x (item_at arena id)) s ∙ ap (λ x. column_after arena x id) plans ∙ ap (column_after arena made) (sym at) in
+    rw (plans, columns) (sym (first_and_rest style arena ids line plan column k left more m))
+
+-- ## Items of places and before them
+
+pub item_within : (arena : Contents) (ids : List ℕ) (k id : ℕ) → AreWithin arena ids → k < length ids → get_or ids k 0 ≡ id → id < length arena.tokens
+item_within arena ids k id items within at = rw (← at) (items k 0 within)
+
+pub next_before : (ids : List ℕ) (k id : ℕ) → get_or ids k 0 ≡ id → Some id ≡ item_before ids (k + 1)
+next_before ids k id at = let e : k + 1 ≡ suc k = omega arith in rw e (ap Some (sym at))
+
+pub before_within : (arena : Contents) (ids : List ℕ) (k : ℕ) (before : Option ℕ) → AreWithin arena ids → k < length ids → before ≡ item_before ids k
+    → (id : ℕ) → before ≡ Some id → id < length arena.tokens
+before_within arena ids zero before items within is id e = cc
+before_within arena ids (suc k) before items within is id e =
+    let same : get_or ids k 0 ≡ id = cc in
+    let P : ℕ → Type 0 = λ x. x < length arena.tokens in
+    subst P same (items k 0 (omega arith))
+
+-- ## One line of a run
+
+pub one_line : (style : Style) (arena : Contents) (ids : List ℕ) (lines : List ULine) (plan after : List (Option Slot)) (i : ℕ) (d : ULine)
+    → i < length lines → after ≡ decided_all plan (line_decisions style arena ids plan (get_or lines i d))
+    → decided_all after (run_decisions style arena ids after (drop (i + 1) lines)) ≡ decided_all plan (run_decisions style arena ids plan (drop i lines))
+one_line style arena ids lines plan after i d within a =
+    let e : suc i ≡ i + 1 = omega arith in
+    let line : ULine = get_or lines i d in
+    let at : drop i lines ≡ line ∷ drop (i + 1) lines = drop-cons lines i d within ∙ ap (λ j. line ∷ drop j lines) e in
+    let made = line_decisions style arena ids plan line in
+    rw (at, decided_all-append plan made (run_decisions style arena ids (decided_all plan made) (drop (i + 1) lines)), a) refl

@@ -1,0 +1,143 @@
+-- What stands before the items of a line that isn't searched for breaks: docs/PROFILE.md, "Layout of lines".
+use Rattle.std.specs.Prelude.{◌==◌, ◌&&◌, ◌||◌, not, min, ℕ, zero, suc, ◌+◌, Bool, false, Option, Some, None, List, [], get_or, if◌then◌else◌}
+use Rattle.c_grammar.specs.Touch.{takes_line}
+use Rattle.c_grammar.specs.Fitting.{is_comment}
+use Rattle.c_grammar.specs.declared.ItemKind.TheVariants.{Other}
+use Rattle.style_table.specs.declared.style.Style.{Style}
+use Rattle.line_tokens.specs.declared.LineTok.{LineTok}
+use Rattle.line_tokens.specs.declared.role.Role.{Role}
+use Rattle.line_tokens.specs.declared.role.Role.TheVariants.{BlockClose, Word}
+use Rattle.token_arena.specs.Stored.{Stored}
+use Rattle.token_arena.specs.Gaps.{Contents}
+use Rattle.brackets.specs.declared.class.TokenClass.{TokenClass}
+use Rattle.brackets.specs.Classes.{is_open_brace, is_close_brace}
+use Rattle.brackets.specs.Viewed.{item_class}
+use Rattle.unwrapped_lines.specs.declared.line.ULine.{ULine}
+use Rattle.indenter.specs.Rows.{most_column, start_column, empty_lines}
+use Rattle.gap_text.specs.declared.Decision.{Decision}
+use Rattle.gap_text.specs.declared.Decision.TheVariants.{Old, Spaces, Lines, Splice}
+
+-- ## Items
+
+-- what a list of items has past its end
+abbrev pub no_item : Stored
+no_item = record {
+  kind = Other;
+  start = 0;
+  raw = [];
+  line = 0;
+  rows = 0;
+  first_width = 0;
+  last_width = 0;
+  back = false;
+  gap = record { lines = 0; empty = false; white = false; splice = false; began = false };
+}
+
+-- the item with this number
+abbrev pub item_at : Contents → ℕ → Stored
+item_at arena id = get_or arena.tokens id no_item
+
+-- the item before a place of a view
+abbrev pub item_before : List ℕ → ℕ → Option ℕ
+item_before ids zero = None
+item_before ids (suc k) = Some (get_or ids k 0)
+
+-- An item comes next in the text behind the one before it in the view: no directive stands between them.
+abbrev pub follows : Option ℕ → ℕ → Bool
+follows None id = false
+follows (Some before) id = id == before + 1
+
+-- ## Where lines end
+
+-- the item before takes the rest of its line
+abbrev pub takes_row : Contents → Option ℕ → Bool
+takes_row arena None = false
+takes_row arena (Some id) = takes_line (item_at arena id).kind
+
+-- a comment that began its line
+abbrev pub is_begun_comment : Stored → Bool
+is_begun_comment token = is_comment token.kind && token.gap.began
+
+-- Inside a line a row ends behind what takes its line, before a comment that began its line, and where a directive stands between.
+abbrev pub row_ends : Contents → Option ℕ → ℕ → Bool
+row_ends arena before id = not (follows before id) || (takes_row arena before || is_begun_comment (item_at arena id))
+
+-- ## Empty lines
+
+-- an item as the rule on empty lines sees it: its number, its role and its gap
+abbrev pub row_token : Contents → ℕ → Role → LineTok
+row_token arena id role = record {
+  id = record { 0 = id };
+  role = role;
+  power = 0;
+  depth = 0;
+  trailing_list = false;
+  held = false;
+  touch = false;
+  directive = false;
+  gap = (item_at arena id).gap;
+  kind = (item_at arena id).kind;
+  rows = 1;
+  first_width = 0;
+  last_width = 0;
+}
+
+-- the role of an item that begins a line: only the `}` of a block counts
+abbrev pub first_role : TokenClass → Role
+first_role class = if is_close_brace class then BlockClose else Word
+
+-- the item before is a `{`
+abbrev pub is_behind_brace : Contents → Option ℕ → Bool
+is_behind_brace arena None = false
+is_behind_brace arena (Some id) = is_open_brace (item_class arena id)
+
+-- the empty lines before an item, where the `{` of a block stands directly before it or doesn't
+abbrev pub empty_rows : Style → ULine → Bool → LineTok → ℕ
+empty_rows style line opened token = if opened && not style.keep_empty_lines_at_the_start_of_blocks then 0 else empty_lines style None line token
+
+-- ## Decisions
+
+-- the column of a further row of a line
+abbrev pub continuation_column : Style → ULine → ℕ
+continuation_column style line = min (start_column style line + style.continuation_indent_width) most_column
+
+-- before the first item of a line stand its empty lines; before the file's first item nothing
+abbrev pub first_decision : Style → Contents → ULine → Option ℕ → ℕ → Decision
+first_decision style arena line before id =
+    if id == 0 then Spaces 0
+    else Lines (1 + empty_rows style line (is_behind_brace arena before) (row_token arena id (first_role (item_class arena id)))) (start_column style line) line.level
+
+-- the empty lines before a further row: only behind a directive are there any
+abbrev pub empty_further : Style → Contents → ULine → Option ℕ → ℕ → ℕ
+empty_further style arena line before id = if follows before id then 0 else empty_rows style line false (row_token arena id Word)
+
+-- no blank where nothing stood, otherwise one
+abbrev pub blanks : Stored → ℕ
+blanks token = if token.gap.empty then 0 else 1
+
+-- before any other item of a line
+abbrev pub inner_decision : Style → Contents → ULine → Option ℕ → ℕ → Decision
+inner_decision style arena line before id =
+    if row_ends arena before id then Lines (1 + empty_further style arena line before id) (continuation_column style line) line.level
+    else Spaces (blanks (item_at arena id))
+
+-- before an item that begins its line or doesn't
+abbrev pub item_decision : Style → Contents → ULine → Bool → Option ℕ → ℕ → Decision
+item_decision style arena line begins before id = if begins then first_decision style arena line before id else inner_decision style arena line before id
+
+-- What stands before the item at a place of a line.
+abbrev pub decision_at : Style → Contents → List ℕ → ULine → ℕ → Decision
+decision_at style arena ids line k = item_decision style arena line (k == line.first) (item_before ids k) (get_or ids k 0)
+
+-- ## Columns
+
+-- the column at which an item starts behind a decision, where what stands before the gap ends at this column
+abbrev pub start_behind : ℕ → Decision → ℕ
+start_behind column Old = column
+start_behind column (Spaces count) = min (column + count) most_column
+start_behind column (Lines count to level) = to
+start_behind column (Splice pad to) = to
+
+-- the column behind an item that starts at this one: only its last row counts
+abbrev pub column_behind : ℕ → Stored → ℕ
+column_behind start token = if token.rows == 1 then min (start + token.first_width) most_column else token.last_width

@@ -1,0 +1,44 @@
+-- What a run decides, in its order: docs/PROFILE.md, "Layout of lines".
+use Rattle.std.specs.Prelude.{ℕ, zero, suc, ◌+◌, ◌-◌, Option, Some, None, List, [], ◌∷◌, ◌++◌, get_or}
+use Rattle.style_table.specs.declared.style.Style.{Style}
+use Rattle.token_arena.specs.Gaps.{Contents}
+use Rattle.unwrapped_lines.specs.declared.line.ULine.{ULine}
+use Rattle.replacements.specs.declared.slot.Slot.{Slot}
+use Rattle.replacements.specs.Decisions.{slot_of, decided, decided_all}
+use Rattle.run_layout.specs.Rows.{item_at, decision_at, start_behind, column_behind}
+
+-- where the item behind a gap starts: as was decided first
+abbrev pub start_of : Option Slot → ℕ
+start_of None = 0
+start_of (Some slot) = slot.end
+
+-- the decision for the gap at a place, where what stands before it ends at this column
+abbrev pub slot_at : Style → Contents → List ℕ → ULine → ℕ → ℕ → Slot
+slot_at style arena ids line column k = record {
+  decision = decision_at style arena ids line k;
+  end = start_behind column (decision_at style arena ids line k);
+}
+
+-- the column behind the item with this number, by a plan that has decided its gap
+abbrev pub column_after : Contents → List (Option Slot) → ℕ → ℕ
+column_after arena plan id = column_behind (start_of (slot_of plan id)) (item_at arena id)
+
+-- the decisions for so many places of a line from this one on: each column goes on from what stands decided before it
+abbrev pub decisions_from : Style → Contents → List ℕ → ULine → List (Option Slot) → ℕ → ℕ → ℕ → List (ℕ × Slot)
+decisions_from style arena ids line plan column k zero = []
+decisions_from style arena ids line plan column k (suc count) =
+    let id = get_or ids k 0 in
+    let slot = slot_at style arena ids line column k in
+    let after = decided plan id slot in
+    (id, slot) ∷ decisions_from style arena ids line after (column_after arena after id) (k + 1) count
+
+-- the decisions for a line
+abbrev pub line_decisions : Style → Contents → List ℕ → List (Option Slot) → ULine → List (ℕ × Slot)
+line_decisions style arena ids plan line = decisions_from style arena ids line plan 0 line.first (line.last + 1 - line.first)
+
+-- the decisions of a run: line by line
+abbrev pub run_decisions : Style → Contents → List ℕ → List (Option Slot) → List ULine → List (ℕ × Slot)
+run_decisions style arena ids plan [] = []
+run_decisions style arena ids plan (line ∷ lines) =
+    let made = line_decisions style arena ids plan line in
+    made ++ run_decisions style arena ids (decided_all plan made) lines

@@ -1,0 +1,42 @@
+//! Columns of rows.
+
+ghost use Rattle.std.specs.Prelude.{◌≡◌, ◌<◌, length};
+ghost use Rattle.run_layout.specs.Rows.{item_at, continuation_column, start_behind, column_behind};
+
+use crate::item::item;
+use gap_text::Decision;
+use indenter::start_column;
+use style_table::Style;
+use token_arena::TokenArena;
+use unwrapped_lines::ULine;
+
+/// The column of a further row of a line.
+pub(crate) fn continuation_column(style: &Style, line: &ULine) -> u32
+    ensures { result ≡ continuation_column style.now line.now }
+{
+    start_column(style, line).saturating_add(style.continuation_indent_width)
+}
+
+/// Where an item starts behind a decision, where what stands before the gap ends at `column`.
+pub(crate) fn start_behind(column: u32, decision: Decision) -> u32
+    ensures { result ≡ start_behind column decision }
+{
+    match decision {
+        Decision::Old => column,
+        Decision::Spaces(count) => column.saturating_add(count),
+        Decision::Lines { column: to, .. } | Decision::Splice { column: to, .. } => to,
+    }
+}
+
+/// The column behind an item that starts at a column: only its last row counts.
+pub(crate) fn column_behind(arena: &TokenArena<'_, '_>, start: u32, id: u32) -> u32
+    requires { id < length arena.now.tokens }
+    ensures { result ≡ column_behind start (item_at arena.now id) }
+{
+    let rows = item(arena, id).rows();
+    if rows.count == 1 {
+        start.saturating_add(rows.first_width)
+    } else {
+        rows.last_width
+    }
+}

@@ -1,0 +1,18 @@
+//! What a run decides for the gaps of the items that it sees.
+//!
+//! A run sees the items of its view, cut into unwrapped lines. [`lay_out_run`] decides the gap before each of
+//! them as `docs/PROFILE.md` says under "Layout of lines"; what was decided before stays.
+//! [`runs_stay_sound`] carries the law that each of its decisions may stand.
+#![tactic(auto)]
+
+mod columns;
+mod item;
+mod laws;
+mod rows;
+mod run;
+#[cfg(test)]
+mod tests;
+
+pub use laws::runs_stay_sound;
+pub use line_tokens::NoMemory;
+pub use run::lay_out_run;
