@@ -2,8 +2,11 @@ mod Forks
 mod Orders
 mod Heaps
 mod Edits
+mod Chaining
 mod Nodes
-mod Listing
+mod Jumping
+mod Striding
+mod Grouping
 mod WayBack
 mod Relaxing
 mod LineFacts

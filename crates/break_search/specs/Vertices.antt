@@ -64,6 +64,13 @@ pub record AreLevel (table : List (Vertex Layout)) (v w : ℕ) : Type 0 where
   pub in_one : v < length table
   pub in_other : w < length table
 
+-- two walks back, from a and b, stand at x and y: which of these comes first decides which of the first two does
+pub record IsFork (table : List (Vertex Layout)) (a b x y : ℕ) : Type 0 where
+  pub level : AreLevel table x y
+  pub up : rank_at table x < rank_at table y → rank_at table a < rank_at table b
+  pub down : rank_at table y < rank_at table x → rank_at table b < rank_at table a
+  pub back : depth_at table x ≤ depth_at table a
+
 -- the parent and the choice of the vertex at v
 abbrev pub IsLink : List (Vertex Layout) → ℕ → ℕ × Bool → Type 0
 IsLink table v link = (x : Vertex Layout) → slice_get table v ≡ Some x → (link.0 ≡ x.parent) × (link.1 ≡ x.brk)

@@ -1,12 +1,15 @@
 //! The table of a search: the layouts that were met.
 
-ghost use Rattle.std.specs.Prelude.{◌≡◌, ℕ, ◌<◌, ◌≤◌, ◌^◌, List, [], ◌∷◌, ◌++◌, Some, true, length, slice_get, slice_set, IfOk, IfSome, IfNone, OnOk, Contains, vec_len};
+ghost use Rattle.std.specs.Prelude.{◌≡◌, ℕ, ◌<◌, ◌≤◌, ◌^◌, List, [], ◌∷◌, ◌++◌, Some, None, true, length, slice_get, slice_set, IfOk, IfSome, IfNone, OnOk};
 ghost use Rattle.std.specs.Bool.{OnTrue, OnFalse};
-ghost use Rattle.least_breaking.proofs.Table.{Vertex};
+ghost use Rattle.least_breaking.proofs.Table.{Vertex, HaveParents, IsOpen};
 ghost use Rattle.line_state.specs.Layout.{Layout, layout_of, cells_of};
-ghost use Rattle.break_search.specs.Buckets.{slot_of, IsListed, AreListed, HasNode, LacksNode};
-ghost use Rattle.break_search.specs.Vertices.{reached, HasLayout, Lacks, IsLink, IsCostOf};
+ghost use Rattle.break_search.specs.Chains.{IsOnChain};
+ghost use Rattle.break_search.specs.Groups.{IsGrouped, HasNode, LacksNode};
+ghost use Rattle.break_search.specs.Jumps.{IsJump, IsTaken};
+ghost use Rattle.break_search.specs.Vertices.{HaveLevels, reached, HasLayout, Lacks, IsLink, IsCostOf};
 
+use crate::chains::{Group, Link};
 use line_state::{NoMemory, State, cells, digest, has_same_layout};
 use std::alloc::Global;
 use std::marker::Model;
@@ -22,21 +25,19 @@ pub(crate) struct Node {
     pub brk: bool,
     /// No better way to it is left.
     pub settled: bool,
+    /// A node further back on its way, once it is settled.
+    pub jump: usize,
+    /// How many choices further back that is.
+    pub leap: u32,
 }
 
-/// How many nodes a bucket lists on average, at most.
-const MOST_LISTED: usize = 4;
-
-/// How many buckets there are at first.
-const FEWEST_BUCKETS: usize = 16;
-
-/// The nodes of a search, no two of one layout. Each bucket lists the nodes whose layouts have some digests, so that the
-/// node of a layout is found among few.
+/// The nodes of a search, no two of one layout. A group lists the nodes that stand behind as many tokens, by the digests
+/// of their layouts: so a node is found among few, and what is looked at lies close to what was looked at just before.
 #[derive(Drop)]
 pub(crate) struct Table {
     alloc: Global,
     nodes: Vec<Node>,
-    buckets: Vec<Vec<usize>>,
+    groups: Vec<Group>,
 }
 
 impl Model for Table {
@@ -46,12 +47,12 @@ impl Model for Table {
 
     ghost Value = { List (Vertex Layout) };
 
-    ghost use Rattle.break_search.specs.Buckets.{AreListed};
+    ghost use Rattle.break_search.specs.Jumps.{AreKept};
     ghost use Rattle.break_search.specs.Vertices.{vertex};
 
     ghost view = { λ t. map vertex t.nodes.items };
 
-    ghost invariant = { λ t. AreListed t.nodes.items t.buckets.items };
+    ghost invariant = { λ t. AreKept t.nodes.items t.groups.items };
 }
 
 /// Whether there is a node, and it has the layout.
@@ -65,73 +66,77 @@ fn has_layout(nodes: &[Node], at: usize, state: &State) -> bool
     }
 }
 
-/// The node among those listed that has the layout.
-fn find_among(nodes: &[Node], bucket: &[usize], state: &State) -> Option<usize>
+/// The link at a place, if there is one.
+fn link_at(links: &[Link], at: usize) -> Option<&Link>
+    ensures some { IfSome result (λ link. slice_get links.now at ≡ Some link.now) }
+    ensures none { IfNone result (slice_get links.now at ≡ None) }
+{
+    links.get(at)
+}
+
+/// The group at an index, if there is one.
+fn group_at(groups: &[Group], index: usize) -> Option<&Group>
+    ensures some { IfSome result (λ group. slice_get groups.now index ≡ Some group.now) }
+    ensures none { IfNone result (slice_get groups.now index ≡ None) }
+{
+    groups.get(index)
+}
+
+/// Whether the link is of the digest, and its node has the layout.
+fn tells(nodes: &[Node], link: &Link, digest: u64, state: &State) -> bool
+    ensures yes { OnTrue result (HasNode nodes.now link.now.node (layout_of state.now)) }
+    ensures no { OnFalse result (link.now.digest ≡ digest → LacksNode nodes.now link.now.node (layout_of state.now)) }
+{
+    if link.digest != digest {
+        return false;
+    }
+    has_layout(nodes, link.node, state)
+}
+
+/// The node that has the layout, among those of its digest on a chain.
+fn find_on_chain(
+    nodes: &[Node],
+    links: &[Link],
+    end: usize,
+    state: &State,
+    digest: u64,
+) -> Option<usize>
     ensures found { IfSome result (λ w. HasNode nodes.now w (layout_of state.now)) }
     ensures none { let layout = layout_of state.now in
-        IfNone result ((u : ℕ) → Contains bucket.now u → LacksNode nodes.now u layout) }
+        IfNone result ((u : ℕ) → IsOnChain links.now end digest u → LacksNode nodes.now u layout) }
 {
-    for at in bucket {
-        if has_layout(nodes, *at, state) {
-            return Some(*at);
+    let mut end = end;
+    'back: while end > 0 {
+        let at = end - 1;
+        let Some(link) = link_at(links, at) else {
+            return None;
+        };
+        if tells(nodes, link, digest, state) {
+            return Some(link.node);
         }
+        end = link.before.min(at);
     }
     None
 }
 
-/// The bucket of a layout, among so many.
-fn slot(state: &State, count: usize) -> usize
-    requires { 0 < count }
-    ensures value { result ≡ slot_of count (layout_of state.now) }
-    ensures within { result < count }
+/// Lists a node in the group at an index.
+fn list(groups: &mut Vec<Group>, index: usize, digest: u64, at: usize) -> Result<(), NoMemory>
+    requires { index < length groups.old.items }
+    ensures kept { (i d u : ℕ) → IsGrouped groups.old.items i d u → IsGrouped groups.new.items i d u }
+    ensures added { OnOk result (IsGrouped groups.new.items index digest at) }
 {
-    (digest(state) % count as u64) as usize
-}
-
-/// Lists a node in a bucket.
-fn list(buckets: &mut Vec<Vec<usize>>, slot: usize, at: usize) -> Result<(), NoMemory>
-    requires { slot < length buckets.old.items }
-    ensures kept { (i u : ℕ) → IsListed buckets.old.items i u → IsListed buckets.new.items i u }
-    ensures len { length buckets.new.items ≡ length buckets.old.items }
-    ensures added { OnOk result (IsListed buckets.new.items slot at) }
-{
-    let bucket = &mut buckets[slot];
-    bucket.push(at)?;
+    let group = &mut groups[index];
+    group.add(digest, at)?;
     Ok(())
 }
 
-/// So many buckets that list nothing.
-fn empty_buckets(alloc: Global, count: usize) -> Result<Vec<Vec<usize>>, NoMemory>
-    ensures { IfOk result (λ buckets. length buckets.items ≡ count) }
+/// Adds groups up to an index.
+fn reach(alloc: Global, groups: &mut Vec<Group>, index: usize) -> Result<(), NoMemory>
+    ensures kept { (i d u : ℕ) → IsGrouped groups.old.items i d u → IsGrouped groups.new.items i d u }
+    ensures there { OnOk result (index < length groups.new.items) }
 {
-    let mut buckets = Vec::with_capacity(alloc, count)?;
-    'fill: for made in 0..count {
-        buckets.push(Vec::new(alloc))?;
-    }
-    Ok(buckets)
-}
-
-/// Lists nodes in so many buckets.
-fn spread(alloc: Global, nodes: &[Node], count: usize) -> Result<Vec<Vec<usize>>, NoMemory>
-    requires { 0 < count }
-    ensures listed { IfOk result (λ buckets. AreListed nodes.now buckets.items) }
-    ensures len { IfOk result (λ buckets. length buckets.items ≡ count) }
-{
-    let mut buckets = empty_buckets(alloc, count)?;
-    for (at, node) in nodes.iter().enumerate() {
-        list(&mut buckets, slot(&node.state, count), at)?;
-    }
-    Ok(buckets)
-}
-
-/// Makes more buckets where those that there are list many nodes each.
-fn make_room(alloc: Global, nodes: &[Node], buckets: &mut Vec<Vec<usize>>) -> Result<(), NoMemory>
-    requires { AreListed nodes.now buckets.old.items }
-    ensures listed { AreListed nodes.now buckets.new.items }
-    ensures some { OnOk result (0 < length buckets.new.items) }
-{
-    if nodes.len() / MOST_LISTED >= buckets.len() {
-        *buckets = spread(alloc, nodes, nodes.len().saturating_add(FEWEST_BUCKETS))?;
+    'more: while groups.len() <= index {
+        groups.push(Group::new(alloc))?;
     }
     Ok(())
 }
@@ -144,7 +149,7 @@ impl Table {
         Table {
             alloc,
             nodes: Vec::new(alloc),
-            buckets: Vec::new(alloc),
+            groups: Vec::new(alloc),
         }
     }
 
@@ -162,6 +167,15 @@ impl Table {
     {
         let node = &self.nodes[at];
         (node.parent, node.brk)
+    }
+
+    /// The node to which a settled node's jump leads, and over how many choices.
+    pub fn jump(&self, at: usize) -> (usize, u32)
+        requires { at < length self.now }
+        ensures { IsTaken self.now at → IsJump self.now at result.0 result.1 }
+    {
+        let node = &self.nodes[at];
+        (node.jump, node.leap)
     }
 
     /// A node's layout, with its cost.
@@ -199,19 +213,47 @@ impl Table {
         self.nodes[at].settled
     }
 
-    /// Settles a node.
+    /// The jump to be laid from a node: over the jump of its parent and the one that follows, where these are of one length,
+    /// and otherwise to the parent. So a jump's length depends on the depth alone, and few jumps lead far back.
+    fn jump_from(&self, at: usize) -> (usize, u32)
+        requires at { at < length self.now }
+        requires parents { HaveParents self.now }
+        requires levels { HaveLevels self.now }
+        ensures { IsJump self.now at result.0 result.1 }
+    {
+        let state = self.state(at);
+        if state.index <= 1 {
+            return (at, 0);
+        }
+        let link = self.link(at);
+        let near = self.jump(link.0);
+        let far = self.jump(near.0);
+        if near.1 != far.1 {
+            return (link.0, 1);
+        }
+        (far.0, near.1 + far.1 + 1)
+    }
+
+    /// Settles a node, and lays its jump.
     pub fn settle(&mut self, at: usize)
-        requires { at < length self.old }
+        requires at { at < length self.old }
+        requires free { IsOpen self.old at }
+        requires parents { HaveParents self.old }
+        requires levels { HaveLevels self.old }
         ensures { (x : Vertex Layout) → slice_get self.old at ≡ Some x →
             self.new ≡ slice_set self.old at (record x { settled = true }) }
     {
+        let jump = self.jump_from(at);
         let node = &mut self.nodes[at];
         node.settled = true;
+        node.jump = jump.0;
+        node.leap = jump.1;
     }
 
-    /// Gives a node another way.
+    /// Gives a node that isn't settled another way.
     pub fn reroute(&mut self, at: usize, cost: u128, parent: usize, brk: bool)
-        requires { at < length self.old }
+        requires at { at < length self.old }
+        requires free { IsOpen self.old at }
         ensures { (x : Vertex Layout) → slice_get self.old at ≡ Some x →
             self.new ≡ slice_set self.old at (record x { cost = cost; parent = parent; brk = brk }) }
     {
@@ -226,27 +268,34 @@ impl Table {
         ensures found { IfSome result (λ w. HasLayout self.now (layout_of state.now) w) }
         ensures none { IfNone result (Lacks self.now (layout_of state.now)) }
     {
-        let buckets = self.buckets.as_slice();
-        if buckets.is_empty() {
+        let digest = digest(state);
+        let Some(group) = group_at(self.groups.as_slice(), state.index as usize) else {
             return None;
-        }
-        let slot = slot(state, buckets.len());
-        find_among(self.nodes.as_slice(), buckets[slot].as_slice(), state)
+        };
+        find_on_chain(
+            self.nodes.as_slice(),
+            group.links.as_slice(),
+            group.end(digest),
+            state,
+            digest,
+        )
     }
 
     /// Adds a node that isn't settled.
     pub fn push(&mut self, state: State, parent: usize, brk: bool) -> Result<(), NoMemory>
         ensures { OnOk result (self.new ≡ self.old ++ reached state parent brk ∷ []) }
     {
-        make_room(self.alloc, self.nodes.as_slice(), &mut self.buckets)?;
+        let index = state.index as usize;
+        reach(self.alloc, &mut self.groups, index)?;
         let at = self.nodes.as_slice().len();
-        let slot = slot(&state, self.buckets.as_slice().len());
-        list(&mut self.buckets, slot, at)?;
+        list(&mut self.groups, index, digest(&state), at)?;
         self.nodes.push(Node {
             state,
             parent,
             brk,
             settled: false,
+            jump: at,
+            leap: 0,
         })?;
         Ok(())
     }

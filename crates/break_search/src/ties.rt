@@ -4,10 +4,38 @@ ghost use Rattle.std.specs.Prelude.{◌≡◌, ◌≢◌, ℕ, ◌+◌, ◌*◌,
 ghost use Rattle.std.specs.Bool.{OnTrue, OnFalse};
 ghost use Rattle.least_breaking.proofs.Ways.{bit};
 ghost use Rattle.least_breaking.proofs.Table.{HaveParents};
-ghost use Rattle.break_search.specs.Vertices.{HavePaths, AreLevel, IsBelow, IsNoWorse, IsNoBetter, rank_at};
+ghost use Rattle.break_search.specs.Jumps.{IsTaken};
+ghost use Rattle.break_search.specs.Vertices.{HavePaths, AreLevel, IsFork, IsBelow, IsNoWorse, IsNoBetter, rank_at};
 ghost use Rattle.break_search.specs.Progress.{AreLevelWith, Chooses};
 
 use crate::table::Table;
+
+/// Two nodes further back, whose order is that of the first two: where the jumps from both lead, as long as they lead to
+/// different nodes.
+fn jump_back(table: &Table, first: usize, second: usize) -> (usize, usize)
+    requires parents { HaveParents table.now }
+    requires apart { HavePaths table.now }
+    requires level { AreLevel table.now first second }
+    requires first { IsTaken table.now first }
+    requires second { IsTaken table.now second }
+    ensures { IsFork table.now first second result.0 result.1 }
+{
+    let mut x = first;
+    let mut y = second;
+    'back: loop {
+        let from_x = table.jump(x);
+        let from_y = table.jump(y);
+        // This is never so, since a jump's length depends on the depth alone; the test spares the proof of that.
+        if from_x.1 != from_y.1 {
+            return (x, y);
+        }
+        if from_x.0 == from_y.0 {
+            return (x, y);
+        }
+        x = from_x.0;
+        y = from_y.0;
+    }
+}
 
 /// Whether the choices to the first node come first, from the left. Both are walked back to where they part.
 pub(crate) fn is_before(table: &Table, first: usize, second: usize) -> bool
@@ -25,8 +53,9 @@ pub(crate) fn is_before(table: &Table, first: usize, second: usize) -> bool
         if one.0 == other.0 {
             return !one.1 && other.1;
         }
-        x = one.0;
-        y = other.0;
+        let further = jump_back(table, one.0, other.0);
+        x = further.0;
+        y = further.1;
     }
 }
 

@@ -1,4 +1,4 @@
-use Rattle.std.proofs.Common.{◌≡◌, true, false, rules}
+use Rattle.std.proofs.Common.{◌≡◌, ◌∙◌, sym, true, false, rules}
 use Rattle.break_search.proofs.Relaxing.{offered_settled, below, offered_worse, within, offered_better}
 use Rattle.break_search.proofs.relax.relax.Goals as goal
 
@@ -13,8 +13,11 @@ returns-then-not-improves-clause-offered c =
     let no : c.improves.result ≡ false = search rules in
     offered_worse _ _ _ _ c.requires c.in-Some.ensures.found _ _ _ c.improves.ensures.no no
 
-pub reroute-requires : goal.reroute-requires
-reroute-requires c = within _ _ c.args.state _ c.requires c.in-Some.ensures.found
+pub reroute-requires-clause-at : goal.reroute-requires-clause-at
+reroute-requires-clause-at c = within _ _ c.args.state _ c.requires c.in-Some.ensures.found
+
+pub reroute-requires-clause-free : goal.reroute-requires-clause-free
+reroute-requires-clause-free c = λ x at. sym (c.is_settled.ensures x at) ∙ c.if-is_settled.false
 
 pub returns-in_ok-push-in-Some-clause-offered : goal.returns-in_ok-push-in-Some-clause-offered
 returns-in_ok-push-in-Some-clause-offered c =
