@@ -326,8 +326,8 @@ const PORTS_AND_DUMPS: [Row; 10] = [
     },
 ];
 
-/// Rows in which texts are laid out plainly, as docs/PROFILE.md says.
-const FORMATTED: [Row; 14] = [
+/// Rows in which texts are laid out, as docs/PROFILE.md says.
+const FORMATTED: [Row; 15] = [
     Row {
         name: "the empty input",
         ..QUIET
@@ -348,6 +348,13 @@ const FORMATTED: [Row; 14] = [
         ..QUIET
     },
     Row {
+        name: "wrapped braces",
+        words: &["--style", "Microsoft"],
+        input: b"void f(void){if(x){g();}else h();}\n",
+        out: b"void f(void)\n{\n    if(x)\n    {\n        g();\n    }\n    else\n        h();\n}\n",
+        ..QUIET
+    },
+    Row {
         name: "first and last gaps",
         input: b" \n\t a\tb \n\n ",
         out: b"a b\n",
@@ -356,7 +363,7 @@ const FORMATTED: [Row; 14] = [
     Row {
         name: "braces as digraphs, and one too many",
         input: b"}\n<% a+  +b\n\n%>\nc",
-        out: b"}\n<% a+ +b\n\n%>\nc",
+        out: b"}\n<%\n  a+ +b\n%>\nc",
         ..QUIET
     },
     Row {
@@ -377,7 +384,7 @@ const FORMATTED: [Row; 14] = [
         words: &["a.c", "b.c"],
         files: &[("a.c", b"a;  b;\n"), ("b.c", b"/*")],
         status: 4,
-        out: b"a; b;\n",
+        out: b"a;\nb;\n",
         notes: b"b.c: comment without an end at byte 0\n",
         ..QUIET
     },
@@ -434,7 +441,7 @@ const FORMATTED: [Row; 14] = [
 ];
 
 /// Texts, each with its name and its layout.
-const TEXTS: [(&str, &[u8], &[u8]); 12] = [
+const TEXTS: [(&str, &[u8], &[u8]); 14] = [
     (
         "a `#` behind a comment of two rows begins no directive",
         b"int x;  /*\n*/ #define Y\n",
@@ -481,6 +488,16 @@ const TEXTS: [(&str, &[u8], &[u8]); 12] = [
         "operands that are no header name",
         b"#if  __has_include( <sys/x.h> )\n#include DIR/x.h\n#endif\n",
         b"#if  __has_include( <sys/x.h> )\n#include DIR/x.h\n#endif\n",
+    ),
+    (
+        "statements on one row",
+        b"void f(void){if(x){g();}else h();}\n",
+        b"void f(void){\n  if(x){\n    g();\n  }else\n    h();\n}\n",
+    ),
+    (
+        "two heads and one body",
+        b"void g(void){\n#ifdef A\nif(x){\n#else\n  if (y){\n#endif\nf( );\n}\n}\n",
+        b"void g(void){\n#ifdef A\n  if(x){\n#else\n  if (y){\n#endif\n    f( );\n  }\n}\n",
     ),
     (
         "directives in a block",

@@ -1,9 +1,5 @@
-pub mod Braces
-pub mod Spelled
 pub mod Counts
-pub mod Places
-pub mod Held
-pub mod TwinGaps
-pub mod FirstMark
-pub mod PlainTwin
 pub mod Opens
+pub mod SoundStart
+pub mod Planned
+pub mod Stays

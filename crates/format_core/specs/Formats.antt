@@ -3,13 +3,16 @@ use Rattle.std.specs.Prelude.{◌≡◌, ℕ, List}
 use Rattle.c_chars.specs.declared.Dialect.{Dialect}
 use Rattle.token_arena.specs.Gaps.{Contents}
 use Rattle.token_arena.specs.Holds.{HoldsItems}
+use Rattle.directives.specs.Sections.{sections_of}
 use Rattle.style_table.specs.declared.style.Style.{Style}
-use Rattle.format_core.specs.PlainLayout.{plain_text}
+use Rattle.replacements.specs.Written.{written}
+use Rattle.format_core.specs.LineEnds.{ends_by}
+use Rattle.format_core.specs.Runs.{plan_of}
 
--- The second text is the plain layout of the items of the first under this style, read in this dialect.
+-- The second text is that of the plan for the items of the first under this style, read in this dialect.
 pub record Formats (style : Style) (d : Dialect) (b c : List ℕ) : Type 0 where
   pub contents : Contents
   pub text : contents.text ≡ b
   pub dialect : contents.dialect ≡ d
   pub holds : HoldsItems contents
-  pub plain : c ≡ plain_text style contents
+  pub planned : c ≡ written style (ends_by style.line_ending contents.text) contents (sections_of contents) (plan_of style contents)

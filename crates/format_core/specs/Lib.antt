@@ -1,8 +1,7 @@
 pub mod Faults
 pub mod LineEnds
-pub mod Spelling
-pub mod PlainLayout
-pub mod Held
-pub mod Twins
+pub mod BeforeRuns
+pub mod Runs
 pub mod Formats
 pub mod Exact
+pub mod Laws

@@ -1,9 +1,8 @@
 //! A text and its formatted text.
 
-ghost use Rattle.std.specs.Prelude.{◌≡◌, ◌≤◌, ◌++◌, not, length, IfOk, IfErr, OnOk};
+ghost use Rattle.std.specs.Prelude.{◌≡◌, ◌≤◌, ◌+◌, not, length, IfOk, IfErr, OnOk};
 ghost use Rattle.std.specs.Io.KnownBytes.{Appends};
 ghost use Rattle.fmt_ports.specs.Causes.{AppendsPart, Counts};
-ghost use Rattle.c_chars.specs.Characters.{mark_len};
 ghost use Rattle.c_chars.specs.declared.Dialect.TheVariants.{C11};
 ghost use Rattle.c_chars.specs.declared.TheConstants.{LIMIT};
 ghost use Rattle.c_grammar.specs.Grammar.{is_same};
@@ -11,18 +10,18 @@ ghost use Rattle.c_grammar.specs.Twin.{IsTwin};
 ghost use Rattle.style_table.specs.Range.{IsInRange};
 ghost use Rattle.format_core.specs.Faults.{IsCause};
 ghost use Rattle.format_core.specs.Formats.{Formats};
-ghost use Rattle.format_core.specs.PlainLayout.{plain_from};
-ghost use Rattle.replacements.specs.Written.{mark_bytes};
-ghost use Rattle.replacements.specs.declared.guard.Guard.TheVariants.{Free};
+ghost use Rattle.format_core.specs.Runs.{plan_of};
+ghost use Rattle.replacements.specs.Written.{written};
 
 use crate::FormatFault;
 use crate::line_ends::ends_by;
-use crate::plain::write_plain;
+use crate::runs::plan_of;
 use bumpalo::Bump;
 use c_chars::{Dialect, LIMIT};
 use directives::{Section, sections};
 use fmt_ports::{Failed, Sink, TextSink, write_all};
 use line_tokens::NoMemory;
+use replacements::{Plan, write_out};
 use std::alloc::Global;
 use style_table::Style;
 use token_arena::{TokenArena, build};
@@ -38,21 +37,22 @@ pub struct Formatted<'a, 's> {
     pub changed: bool,
 }
 
-/// The plain layout of a text, with room for so many bytes before more memory is taken.
-fn plain_layout(
+/// The text of a plan, with room for so many bytes before more memory is taken.
+fn text_of(
     alloc: Global,
     style: &Style,
     crlf: bool,
     arena: &TokenArena<'_, '_>,
     sections: &[Section],
+    plan: &Plan<'_>,
     room: usize,
 ) -> Result<Vec<u8>, NoMemory>
-    requires range { IsInRange style.now }
-    requires fits { length arena.now.text ≤ LIMIT }
-    ensures { IfOk result (λ text. text.items ≡ mark_bytes (mark_len arena.now.text) ++ plain_from style.now crlf arena.now sections.now Free 0 (mark_len arena.now.text) 0 arena.now.tokens) }
+    requires tab { 1 ≤ style.now.tab_width }
+    requires whole { length plan.now ≡ length arena.now.tokens + 1 }
+    ensures { IfOk result (λ text. text.items ≡ written style.now crlf arena.now sections.now plan.now) }
 {
     let mut sink = TextSink::with_room(alloc, room)?;
-    match write_plain(style, crlf, arena, sections, &mut sink) {
+    match write_out(style, crlf, arena, sections, plan, &mut sink) {
         Ok(()) => Ok(sink.into_text()),
         Err(Failed) => Err(NoMemory),
     }
@@ -81,8 +81,9 @@ pub fn format<'a, 's>(
 {
     let arena = build(bump, text, Dialect::C11)?;
     let sections = sections(&arena, bump)?;
+    let plan = plan_of(alloc, bump, style, &arena, sections)?;
     let crlf = ends_by(style.line_ending, text);
-    let laid_out = plain_layout(alloc, style, crlf, &arena, sections, text.len())?;
+    let laid_out = text_of(alloc, style, crlf, &arena, sections, &plan, text.len())?;
     let changed = !is_same(&laid_out, text);
     Ok(Formatted {
         arena,

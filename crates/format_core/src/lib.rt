@@ -1,18 +1,19 @@
 //! The formatted text of a text.
 //!
-//! [`format`] reads a text into an arena and lays it out; it takes all the memory that is needed, so that
-//! [`Formatted::write`] takes none. The text that it writes has the same items as its input.
+//! [`format`] reads a text into an arena and decides its gaps: first those that no run decides, and then run by run, so
+//! that every branch of `#if` is laid out. It takes all the memory that is needed, so that [`Formatted::write`] takes
+//! none. The text that it writes has the same items as its input.
 #![tactic(auto)]
 
+mod early;
 mod fault;
 mod formatted;
 mod laws;
 mod line_ends;
-mod plain;
-mod spelling;
+mod runs;
 #[cfg(test)]
 mod tests;
 
 pub use fault::FormatFault;
 pub use formatted::{Formatted, format};
-pub use laws::{open_texts_have_no_layout, plain_texts_are_twins};
+pub use laws::{early_decisions_stay, open_texts_have_no_layout};

@@ -1,4 +1,4 @@
-//! Worked texts and their plain layout.
+//! Worked texts and their layout.
 
 ghost use Rattle.std.specs.Prelude.{IfSome};
 ghost use Rattle.style_table.specs.Range.{IsInRange};
@@ -10,14 +10,14 @@ use std::alloc::Global;
 use std::test::Fail;
 use style_table::{LineEnding, Style, UseTab};
 
-/// A text, and its plain layout in the LLVM style.
+/// A text, and its layout in the LLVM style.
 struct Row {
     name: &'static str,
     input: &'static [u8],
     output: &'static [u8],
 }
 
-const ROWS: [Row; 34] = [
+const ROWS: [Row; 44] = [
     Row {
         name: "a function",
         input: b"int f(void){\n   return   1;\n}\n",
@@ -51,12 +51,12 @@ const ROWS: [Row; 34] = [
     Row {
         name: "gaps of one blank, a tab, two blanks and none",
         input: b"\xEF\xBB\xBFa b\tc  d(e)f g;h i\t\n",
-        output: b"\xEF\xBB\xBFa b c d(e)f g;h i\n",
+        output: b"\xEF\xBB\xBFa b c d(e)f g;\nh i\n",
     },
     Row {
         name: "splices behind semicolons",
         input: b"a b;\\\nc d \\\n e;\n",
-        output: b"a b; c d e;\n",
+        output: b"a b;\nc d e;\n",
     },
     Row {
         name: "empty lines",
@@ -101,7 +101,7 @@ const ROWS: [Row; 34] = [
     Row {
         name: "a comment that begins the line of a directive",
         input: b"{\n  /* c */   #  define X   1\n  /* c */  x\n}\n",
-        output: b"{\n/* c */   #  define X   1\n  /* c */ x\n}\n",
+        output: b"{\n/* c */   #  define X   1\n  /* c */\n  x\n}\n",
     },
     Row {
         name: "a blank behind a comment's last backslash",
@@ -126,7 +126,12 @@ const ROWS: [Row; 34] = [
     Row {
         name: "a backslash by itself",
         input: b"a \\  \n\tb\n",
-        output: b"a \\ \nb\n",
+        output: b"a \\ b\n",
+    },
+    Row {
+        name: "a backslash before a directive",
+        input: b"a \\  \n\t#define X\n",
+        output: b"a \\ \n#define X\n",
     },
     Row {
         name: "a comment over a trigraph's splice",
@@ -182,6 +187,51 @@ const ROWS: [Row; 34] = [
         name: "braces as trigraphs, and spliced",
         input: b"??<\na;\n<\\\n%\nb;\n%\\\n>\n??>\n",
         output: b"??<\n  a;\n  <\\\n%\n    b;\n  %\\\n>\n??>\n",
+    },
+    Row {
+        name: "two heads of a statement and one body",
+        input: b"void g(void){\n#ifdef A\nif(x){\n#else\n  if (y){\n#endif\nf( );\n}\n}\n",
+        output: b"void g(void){\n#ifdef A\n  if(x){\n#else\n  if (y){\n#endif\n    f( );\n  }\n}\n",
+    },
+    Row {
+        name: "two heads of a function and one body",
+        input: b"#ifdef A\nint f(int a){\n#else\nint f(void){\n#endif\nreturn 0;}\n",
+        output: b"#ifdef A\nint f(int a){\n#else\nint f(void){\n#endif\n  return 0;\n}\n",
+    },
+    Row {
+        name: "branches inside a line",
+        input: b"f(a,\n#ifdef X\nb ,\n#else\nc ,\n#endif\nd);\n",
+        output: b"f(a,\n#ifdef X\n    b ,\n#else\n    c ,\n#endif\n    d);\n",
+    },
+    Row {
+        name: "an `else` in a branch of its own",
+        input: b"void f(void){if(x)g();\n#ifdef E\nelse h();\n#endif\n}\n",
+        output: b"void f(void){\n  if(x)\n    g();\n#ifdef E\n  else\n    h();\n#endif\n}\n",
+    },
+    Row {
+        name: "a dead group and one that lives",
+        input: b"if(a){\n#if 0\n  b ( ;\n\n\n#else\nc();\n#endif\n}\n",
+        output: b"if(a){\n#if 0\n  b ( ;\n\n\n#else\n  c();\n#endif\n}\n",
+    },
+    Row {
+        name: "a group that stays dead to the end",
+        input: b"a;  b;\n#if 0\n  c  ;\n\n\n",
+        output: b"a;\nb;\n#if 0\n  c  ;\n\n\n",
+    },
+    Row {
+        name: "statements on one row",
+        input: b"void f(void){if(x){g();}else h();}\n",
+        output: b"void f(void){\n  if(x){\n    g();\n  }else\n    h();\n}\n",
+    },
+    Row {
+        name: "labels",
+        input: b"void f(int x){switch(x){case 1:a();break;default:b();}out:c();}\n",
+        output: b"void f(int x){\n  switch(x){\n  case 1:\n    a();\n    break;\n  default:\n    b();\n  }\nout:\n  c();\n}\n",
+    },
+    Row {
+        name: "a closing brace without partner",
+        input: b"}\nint  a;\n",
+        output: b"}\nint a;\n",
     },
     Row {
         name: "splices between items",
@@ -271,7 +321,7 @@ fn lays_out_as_the_style_says(rt: HostRuntime) -> Result<(), Fail> {
             false,
             UseTab::Always,
             b"{{{{{\na;\n}}}}}",
-            b"{{{{{\n\t  a;\n\t}}}}}",
+            b"{\n  {\n    {\n      {\n\t{\n\t  a;\n\t}\n      }\n    }\n  }\n}",
         ),
     ];
     for (line_ending, insert, use_tab, input, output) in rows {

@@ -1,4 +1,4 @@
--- The gaps of plain layout may stand for the text's own.
+-- Bytes that follow an item may stand for the text's own.
 use Rattle.std.proofs.Common.{◌≡◌, ◌==◌, ◌∙◌, ◌&&◌, ℕ, ◌+◌, ◌-◌, Bool, true, false, List, [], ◌∷◌, ◌++◌, refl, sym, ap, subst, arith, length, take, drop, append_assoc, length-append}
 use Rattle.std.proofs.lemmas.List.{length-map, drop-drop}
 use Rattle.std.proofs.lemmas.Bool.{and_parts, and_from, eqb-true}

@@ -1,14 +1,11 @@
 //! What a line end needs from the item before it.
 
-ghost use Rattle.std.specs.Prelude.{◌≡◌, ◌==◌, ◌++◌, OnOk};
-ghost use Rattle.std.specs.Io.KnownBytes.{Appends};
+ghost use Rattle.std.specs.Prelude.{◌≡◌, ◌==◌};
 ghost use Rattle.c_grammar.specs.Touch.{ends, takes_line};
-ghost use Rattle.gap_text.specs.GapText.{line_end};
 ghost use Rattle.token_arena.specs.Entries.{told_by};
 ghost use Rattle.replacements.specs.Guards.{guard_for, guard_of, guard_text, guarded_ends, is_behind_backslash};
 
 use c_grammar::ItemKind;
-use fmt_ports::{Failed, Sink, write_all};
 use gap_text::Decision;
 use token_arena::Token;
 
@@ -70,7 +67,7 @@ pub fn is_behind_backslash(guard: Guard) -> bool
 
 /// Whether line ends behind it are `\r\n`, where those of the text are or aren't.
 #[inline(always)]
-pub fn guarded_ends(crlf: bool, guard: Guard) -> bool
+pub(crate) fn guarded_ends(crlf: bool, guard: Guard) -> bool
     ensures { result ≡ guarded_ends crlf guard }
 {
     match guard {
@@ -83,7 +80,7 @@ pub fn guarded_ends(crlf: bool, guard: Guard) -> bool
 
 /// What stands before the line end.
 #[inline(always)]
-pub fn guard_text(crlf: bool, guard: Guard) -> &'static [u8]
+pub(crate) fn guard_text(crlf: bool, guard: Guard) -> &'static [u8]
     ensures { result.now ≡ guard_text crlf guard }
 {
     match guard {
@@ -92,21 +89,6 @@ pub fn guard_text(crlf: bool, guard: Guard) -> &'static [u8]
         Guard::Splice => { if crlf { b"\\\r\n" } else { b"\\\n" } }
         Guard::Return => b"",
     }
-}
-
-/// Writes a line end behind an item.
-pub fn write_line_end<K: Sink>(crlf: bool, guard: Guard, sink: &mut K) -> Result<(), Failed>
-    ensures { OnOk result (Appends (K.taken sink.old) (K.taken sink.new) (guard_text crlf guard ++ line_end (guarded_ends crlf guard))) }
-{
-    write_all(sink, guard_text(crlf, guard))?;
-    write_all(sink, line_end(guarded_ends(crlf, guard)))
-}
-
-/// The end of a line.
-pub fn line_end(crlf: bool) -> &'static [u8]
-    ensures { result.now ≡ line_end crlf }
-{
-    if crlf { b"\r\n" } else { b"\n" }
 }
 
 /// The guard that a decision needs: only line ends that are decided need one.

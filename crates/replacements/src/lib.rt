@@ -21,13 +21,11 @@ mod written;
 mod written_tests;
 
 pub use gap_text::Decision;
-pub use guard::{
-    Guard, guard_of, guard_text, guarded_ends, is_behind_backslash, line_end, write_line_end,
-};
-pub use hash::{HashRun, hash_comes};
+pub use guard::{Guard, guard_of, is_behind_backslash};
 pub use laws::{decisions_stay, first_decision_stands};
 pub use line_tokens::{Fixed, NoMemory};
 pub use plan::Plan;
+pub use reading::has_new_line_at;
 pub use slot::{Decided, Slot};
 pub use sound::sound_plans_are_twins;
 pub use stance::{Stance, stance_at};

@@ -26,7 +26,7 @@ fn has_new_line(dialect: Dialect, gap: &[u8]) -> bool
 }
 
 /// Whether a text's gap at a place has a new-line.
-pub(crate) fn has_new_line_at(arena: &TokenArena<'_, '_>, place: u32) -> bool
+pub fn has_new_line_at(arena: &TokenArena<'_, '_>, place: u32) -> bool
     requires fits { length arena.now.text ≤ LIMIT }
     requires within { place ≤ length arena.now.tokens }
     ensures { result ≡ has_new_line_at arena.now place }

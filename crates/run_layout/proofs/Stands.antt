@@ -51,7 +51,7 @@ first_between d here None = refl
 first_between d here (Some token) = tt
 
 -- nothing before the first item
-nothing_stands : (arena : Contents) (id : ℕ) → id ≡ 0 → MayStand arena id (Spaces 0)
+pub nothing_stands : (arena : Contents) (id : ℕ) → id ≡ 0 → MayStand arena id (Spaces 0)
 nothing_stands arena zero e = first_between arena.dialect (stance arena 0) (slice_get arena.tokens 0)
 nothing_stands arena (suc id) e = absurd (omega (arith, e))
 
@@ -139,11 +139,11 @@ place_stands style arena ids line k items texts within =
 -- ## Many decisions
 
 -- each of these decisions may stand
-abbrev MadeStand : Contents → List (ℕ × Slot) → Type 0
+abbrev pub MadeStand : Contents → List (ℕ × Slot) → Type 0
 MadeStand arena [] = Unit {0}
 MadeStand arena (m ∷ made) = MayStand arena m.0 m.1.decision × MadeStand arena made
 
-made_append : (arena : Contents) (made later : List (ℕ × Slot)) → MadeStand arena made → MadeStand arena later → MadeStand arena (made ++ later)
+pub made_append : (arena : Contents) (made later : List (ℕ × Slot)) → MadeStand arena made → MadeStand arena later → MadeStand arena (made ++ later)
 made_append arena [] later h k = k
 made_append arena (m ∷ made) later h k = (h.0, made_append arena made later h.1 k)
 
@@ -176,7 +176,7 @@ one_sound arena plan at made sound stands = elim (cases (slot_of plan at)) [
   | inr (first, is) ↦ rw (kept plan at made first is) sound
 ]
 
-all_sound : (arena : Contents) (plan : List (Option Slot)) (made : List (ℕ × Slot)) → IsSound arena plan → MadeStand arena made → IsSound arena (decided_all plan made)
+pub all_sound : (arena : Contents) (plan : List (Option Slot)) (made : List (ℕ × Slot)) → IsSound arena plan → MadeStand arena made → IsSound arena (decided_all plan made)
 all_sound arena plan [] sound stand = sound
 all_sound arena plan (m ∷ made) sound stand = all_sound arena (decided plan m.0 m.1) made (one_sound arena plan m.0 m.1 sound stand.0) stand.1
 

@@ -1,0 +1,125 @@
+-- What is decided before the runs may stand.
+use Rattle.std.proofs.Common.{◌≡◌, ◌==◌, ◌∙◌, not, ◌&&◌, ℕ, zero, suc, ◌+◌, ◌-◌, ◌<◌, min, Bool, true, false, Option, Some, None, List, [], ◌∷◌, ◌++◌, length, replicate, refl, sym, ap, arith, subst}
+use Rattle.std.specs.Prelude.{if◌then◌else◌, slice_get}
+use Rattle.std.proofs.lemmas.Bool.{eqb-true}
+use Rattle.c_chars.specs.declared.Dialect.{Dialect}
+use Rattle.style_table.specs.declared.style.Style.{Style}
+use Rattle.line_tokens.specs.declared.GapFacts.{GapFacts}
+use Rattle.token_arena.specs.Stored.{Stored}
+use Rattle.token_arena.specs.Gaps.{Contents}
+use Rattle.directives.specs.Sections.{sections_of}
+use Rattle.gap_text.specs.declared.Decision.{Decision}
+use Rattle.gap_text.specs.declared.Decision.TheVariants.{Old, Spaces, Lines}
+use Rattle.replacements.specs.Breaks.{has_new_line_before}
+use Rattle.replacements.specs.Decisions.{slot_of, decided_all}
+use Rattle.replacements.specs.Sound.{MayEnd, MayStandBetween, MayStand, IsSound, item_before, stance_before}
+use Rattle.replacements.specs.Stances.{stance_in}
+use Rattle.replacements.specs.declared.slot.Slot.{Slot}
+use Rattle.replacements.specs.declared.stance.Stance.{Stance}
+use Rattle.replacements.specs.declared.stance.Stance.TheVariants.{OfText, Leads, Within}
+use Rattle.run_layout.proofs.Stands.{MadeStand, made_append, all_sound, nothing_stands}
+use Rattle.run_layout.proofs.Walked.{decided_all-append}
+use Rattle.format_core.specs.BeforeRuns.{is_beside_dead, lead_decision, item_decision, ends_in_backslash, last_decision, decision_before, early_decision, early_slot, made_at, early_from, early_decisions}
+use Rattle.format_core.specs.Runs.{early_plan}
+
+-- ## One gap
+
+old_between : (d : Dialect) (before : Stance) (left : Option Stored) (here : Stance) (token : Option Stored) → MayStandBetween d before left here token Old
+old_between d before left here None = tt
+old_between d before None here (Some token) = tt
+old_between d before (Some l) here (Some token) = tt
+
+-- the input's bytes may stand anywhere
+pub old_stands : (arena : Contents) (place : ℕ) → MayStand arena place Old
+old_stands arena place =
+    old_between arena.dialect (stance_before (stance_in (sections_of arena)) place) (item_before arena.tokens place) (stance_in (sections_of arena) place) (slice_get arena.tokens place)
+
+lines_between : (d : Dialect) (before : Stance) (left : Option Stored) (here : Stance) (token : Option Stored) (count : ℕ) → here ≡ Leads → 0 < count → MayStandBetween d before left here token (Lines count 0 0)
+lines_between d before left here None count e h = h
+lines_between d before None here (Some token) count e h = tt
+lines_between d before (Some l) here (Some token) count e h = (h, λ w. cc)
+
+lead_cases : (arena : Contents) (place count : ℕ) (x : Bool) → (x ≡ true → place ≡ 0) → stance_in (sections_of arena) place ≡ Leads → 0 < count → MayStand arena place (if x then Spaces 0 else Lines count 0 0)
+lead_cases arena place count true z e h = nothing_stands arena place (z refl)
+lead_cases arena place count false z e h =
+    lines_between arena.dialect (stance_before (stance_in (sections_of arena)) place) (item_before arena.tokens place) (stance_in (sections_of arena) place) (slice_get arena.tokens place) count e h
+
+-- before the first item of a directive
+lead_stands : (style : Style) (arena : Contents) (place : ℕ) (gap : GapFacts) → stance_in (sections_of arena) place ≡ Leads → MayStand arena place (lead_decision style place gap)
+lead_stands style arena place gap e = lead_cases arena place (1 + min style.max_empty_lines_to_keep (gap.lines - 1)) (place == 0) (eqb-true place 0) e (omega arith)
+
+-- before an item that stands so
+item_stands : (style : Style) (arena : Contents) (place : ℕ) (stance : Stance) (gap : GapFacts) (decision : Decision) → stance_in (sections_of arena) place ≡ stance → item_decision style place stance gap ≡ Some decision
+    → MayStand arena place decision
+item_stands style arena place OfText gap decision e is = cc
+item_stands style arena place Leads gap decision e is =
+    let same : lead_decision style place gap ≡ decision = cc in
+    subst (λ (x : Decision). MayStand arena place x) same (lead_stands style arena place gap e)
+item_stands style arena place Within gap decision e is =
+    let same : Old ≡ decision = cc in
+    subst (λ (x : Decision). MayStand arena place x) same (old_stands arena place)
+
+end_cases : (a b c : Bool) → MayEnd (if a then Lines 1 0 0 else (if b then Old else (if c then Lines 1 0 0 else Spaces 0)))
+end_cases true b c = omega arith
+end_cases false true c = tt
+end_cases false false true = omega arith
+end_cases false false false = refl
+
+-- behind the last item
+last_stands : (style : Style) (arena : Contents) → MayEnd (last_decision style arena)
+last_stands style arena =
+    let place = length arena.tokens in
+    end_cases (has_new_line_before arena place None) (ends_in_backslash (item_before arena.tokens place)) (style.insert_newline_at_eof && not (place == 0))
+
+before_stands : (style : Style) (arena : Contents) (place : ℕ) (token : Option Stored) (decision : Decision) → slice_get arena.tokens place ≡ token → decision_before style arena place token ≡ Some decision
+    → MayStand arena place decision
+before_stands style arena place None decision at is =
+    let same : last_decision style arena ≡ decision = cc in
+    let P : Option Stored → Type 0 = λ x. MayStandBetween arena.dialect (stance_before (stance_in (sections_of arena)) place) (item_before arena.tokens place) (stance_in (sections_of arena) place) x decision in
+    subst P (sym at) (subst MayEnd same (last_stands style arena))
+before_stands style arena place (Some token) decision at is = item_stands style arena place (stance_in (sections_of arena) place) token.gap decision refl is
+
+early_cases : (style : Style) (arena : Contents) (place : ℕ) (dead : Bool) (decision : Decision)
+    → (if dead then Some Old else decision_before style arena place (slice_get arena.tokens place)) ≡ Some decision → MayStand arena place decision
+early_cases style arena place true decision is =
+    let same : Old ≡ decision = cc in
+    subst (λ (x : Decision). MayStand arena place x) same (old_stands arena place)
+early_cases style arena place false decision is = before_stands style arena place (slice_get arena.tokens place) decision refl is
+
+-- ## All gaps
+
+made_stands : (arena : Contents) (place : ℕ) (made : Option Decision) → ((decision : Decision) → made ≡ Some decision → MayStand arena place decision) → MadeStand arena (made_at place made)
+made_stands arena place None stands = tt
+made_stands arena place (Some decision) stands = (stands decision refl, tt)
+
+from_stand : (style : Style) (arena : Contents) (place count : ℕ) → MadeStand arena (early_from style arena place count)
+from_stand style arena place zero = tt
+from_stand style arena place (suc count) =
+    made_append arena (made_at place (early_decision style arena place)) (early_from style arena (place + 1) count)
+    (made_stands arena place (early_decision style arena place) (early_cases style arena place (is_beside_dead arena place)))
+    (from_stand style arena (place + 1) count)
+
+-- a plan in which nothing is decided
+pub fresh : (count place : ℕ) → slot_of (replicate count None) place ≡ None
+fresh zero place = refl
+fresh (suc count) zero = refl
+fresh (suc count) (suc place) = fresh count place
+
+fresh_sound : (arena : Contents) (count : ℕ) → IsSound arena (replicate count None)
+fresh_sound arena count place slot is = absurd (none_is_some (sym (fresh count place) ∙ is))
+  where
+    none_is_some : None ≡ Some slot → ⊥
+    none_is_some e = cc
+
+-- The plan before the runs decides only what may stand.
+pub early_sound : (style : Style) (arena : Contents) → IsSound arena (early_plan style arena)
+early_sound style arena =
+    all_sound arena (replicate (length arena.tokens + 1) None) (early_decisions style arena) (fresh_sound arena (length arena.tokens + 1)) (from_stand style arena 0 (length arena.tokens + 1))
+
+-- ## One place after another
+
+-- the decision for a place, and those for the others behind it
+pub one_more : (style : Style) (arena : Contents) (plan : List (Option Slot)) (place rest count : ℕ) (made : Option Decision) → count ≡ suc rest → made ≡ early_decision style arena place
+    → decided_all (decided_all plan (made_at place made)) (early_from style arena (place + 1) rest) ≡ decided_all plan (early_from style arena place count)
+one_more style arena plan place rest count made more is =
+    rw (more, is) (sym (decided_all-append plan (made_at place (early_decision style arena place)) (early_from style arena (place + 1) rest)))

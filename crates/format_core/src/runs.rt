@@ -1,0 +1,110 @@
+//! The plan of a text, run by run over one store of items.
+
+ghost use Rattle.std.specs.Prelude.{◌≡◌, ◌<◌, ◌≤◌, ◌+◌, IfOk, OnOk, length};
+ghost use Rattle.c_chars.specs.declared.TheConstants.{LIMIT};
+ghost use Rattle.brackets.specs.Viewed.{AreWithin};
+ghost use Rattle.directives.specs.Sections.{sections_of, IsCut};
+ghost use Rattle.replacements.specs.Sound.{IsSound};
+ghost use Rattle.run_layout.specs.Laws.{AreOfTexts};
+ghost use Rattle.format_core.specs.Runs.{IsTreeOf, runs_of, seen_by, after_items, after_runs, plan_of};
+
+use crate::early::decide_early;
+use brackets::partners;
+use branch_runs::CondTree;
+use bumpalo::Bump;
+use directives::Section;
+use line_tokens::NoMemory;
+use replacements::Plan;
+use run_layout::lay_out_run;
+use std::alloc::Global;
+use style_table::Style;
+use token_arena::TokenArena;
+use token_views::View;
+use unwrapped_lines::lines;
+
+/// Decides the gaps of the items that a run sees, where they are open.
+fn lay_out_items(
+    style: &Style,
+    arena: &TokenArena<'_, '_>,
+    view: &View<'_>,
+    plan: &mut Plan<'_>,
+    run: &Bump,
+) -> Result<(), NoMemory>
+    requires within { AreWithin arena.now view.now }
+    requires texts { AreOfTexts arena.now view.now }
+    requires whole { length plan.old ≡ length arena.now.tokens + 1 }
+    ensures plan { OnOk result (plan.new ≡ after_items style.now arena.now plan.old view.now) }
+    ensures len { OnOk result (length plan.new ≡ length plan.old) }
+    ensures sound { OnOk result (IsSound arena.now plan.old → IsSound arena.now plan.new) }
+{
+    let partners = partners(arena, view, run)?;
+    let lines = lines(style, arena, view, partners, run)?;
+    lay_out_run(style, arena, view, lines, plan, run)
+}
+
+/// Decides the gaps of the items that the run with this number sees, where they are open.
+fn lay_out_seen(
+    style: &Style,
+    arena: &TokenArena<'_, '_>,
+    tree: &CondTree<'_>,
+    number: u32,
+    plan: &mut Plan<'_>,
+    run: &Bump,
+) -> Result<(), NoMemory>
+    requires tree { IsTreeOf arena.now tree.now }
+    requires number { number < runs_of arena.now }
+    requires whole { length plan.old ≡ length arena.now.tokens + 1 }
+    ensures plan { OnOk result (plan.new ≡ after_items style.now arena.now plan.old (seen_by arena.now number)) }
+    ensures len { OnOk result (length plan.new ≡ length plan.old) }
+    ensures sound { OnOk result (IsSound arena.now plan.old → IsSound arena.now plan.new) }
+{
+    let view = tree.view(number, run)?;
+    lay_out_items(style, arena, &view, plan, run)
+}
+
+/// Decides the gaps of all items of texts, run by run. What a run takes of memory serves the next one too.
+fn lay_out_runs(
+    alloc: Global,
+    style: &Style,
+    arena: &TokenArena<'_, '_>,
+    tree: &CondTree<'_>,
+    plan: &mut Plan<'_>,
+) -> Result<(), NoMemory>
+    requires tree { IsTreeOf arena.now tree.now }
+    requires whole { length plan.old ≡ length arena.now.tokens + 1 }
+    ensures plan { OnOk result (plan.new ≡ after_runs style.now arena.now plan.old 0 (runs_of arena.now)) }
+    ensures len { OnOk result (length plan.new ≡ length plan.old) }
+    ensures sound { OnOk result (IsSound arena.now plan.old → IsSound arena.now plan.new) }
+{
+    let mut run = Bump::new(alloc);
+    let count = tree.runs();
+    for number in 0..count {
+        lay_out_seen(style, arena, tree, number, plan, &run)?;
+        if run.reset().is_err() {
+            run = Bump::new(alloc);
+        }
+    }
+    Ok(())
+}
+
+/// The plan of a text, of which these are the sections.
+pub(crate) fn plan_of<'a>(
+    alloc: Global,
+    bump: &'a Bump,
+    style: &Style,
+    arena: &TokenArena<'_, '_>,
+    sections: &[Section],
+) -> Result<Plan<'a>, NoMemory>
+    requires fits { length arena.now.text ≤ LIMIT }
+    requires sections { sections.now ≡ sections_of arena.now }
+    requires cut { IsCut 0 (length arena.now.tokens) sections.now }
+    ensures plan { IfOk result (λ plan. plan ≡ plan_of style.now arena.now) }
+    ensures len { IfOk result (λ plan. length plan ≡ length arena.now.tokens + 1) }
+    ensures sound { IfOk result (λ plan. IsSound arena.now plan) }
+{
+    let tree = CondTree::build(arena, sections, bump)?;
+    let mut plan = Plan::make(arena, bump)?;
+    decide_early(style, arena, sections, &tree, &mut plan);
+    lay_out_runs(alloc, style, arena, &tree, &mut plan)?;
+    Ok(plan)
+}
