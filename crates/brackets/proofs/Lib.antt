@@ -1,3 +1,6 @@
 pub mod Lists
 pub mod Spellings
 pub mod BracketLemmas
+pub mod KeptLemmas
+pub mod KeptPlaces
+pub mod KeptSteps

@@ -1,4 +1,5 @@
 pub mod Classes
+pub mod Kept
 pub mod Partners
 pub mod Viewed
 pub mod Words

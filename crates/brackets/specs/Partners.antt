@@ -1,5 +1,5 @@
 -- Partners of brackets.
-use Rattle.std.specs.Prelude.{ℕ, suc, ◌+◌, Bool, true, false, List, [], ◌∷◌, Option, Some, None, slice_set, replicate, length, reverse, ◌<◌}
+use Rattle.std.specs.Prelude.{◌≡◌, ℕ, suc, ◌+◌, Bool, true, false, List, [], ◌∷◌, Option, Some, None, slice_set, replicate, length, reverse, ◌<◌}
 use Rattle.brackets.specs.declared.class.TokenClass.{TokenClass}
 use Rattle.brackets.specs.declared.class.TokenClass.TheVariants.{OpenRound, CloseRound, OpenSquare, CloseSquare, OpenBrace, CloseBrace}
 use Rattle.brackets.specs.declared.pairing.Opener.{Opener}
@@ -54,6 +54,16 @@ bracket_step CloseRound i m = closed i (topmost is_round m.open_brackets) m
 bracket_step CloseSquare i m = closed i (topmost is_square m.open_brackets) m
 bracket_step CloseBrace i m = closed i (nearest_brace m.open_brackets) m
 bracket_step _ i m = m
+
+-- the partners with those of a closer and of the opener that it takes off, where it takes one off
+abbrev pub paired : List (Option ℕ) → Option ℕ → ℕ → List (Option ℕ)
+paired partners None i = partners
+paired partners (Some o) i = slice_set (slice_set partners o (Some i)) i (Some o)
+
+-- one token takes off this opener, and leaves these openers in place of those, whatever partners were found so far
+abbrev pub TakesStep : TokenClass → ℕ → List Opener → Option ℕ → List Opener → Type 0
+TakesStep c i old taken new =
+    (partners : List (Option ℕ)) → record { open_brackets = new; partners = paired partners taken i } ≡ bracket_step c i (record { open_brackets = old; partners = partners })
 
 -- the tokens from place `i` on
 abbrev pub matching_from : ℕ → Matching → List TokenClass → Matching

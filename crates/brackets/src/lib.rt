@@ -5,6 +5,7 @@
 mod characters;
 mod class;
 mod class_sets;
+mod kept;
 mod pairing;
 mod spelling;
 #[cfg(test)]
@@ -13,6 +14,7 @@ mod viewed;
 mod words;
 
 pub use class::TokenClass;
+pub use kept::kept_gaps;
 pub use line_tokens::NoMemory;
 pub use pairing::partners_of_classes;
 pub use viewed::{classes, item_class, partners};

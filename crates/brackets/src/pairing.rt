@@ -2,7 +2,7 @@
 
 ghost use Rattle.std.specs.Prelude.{◌≡◌, ◌∷◌, [], ◌++◌, ◌<◌, ◌≤◌, ◌+◌, ◌^◌, reverse, IfOk, Option, Some, None, IfSome, IfNone, MatchOption, length, ℕ, All, OnOk, slice_set};
 ghost use Rattle.std.specs.Option.{ForSome, ForNone};
-ghost use Rattle.brackets.specs.Partners.{partners_of, count_braces, nearest_brace, topmost, is_round, is_square, bracket_step, matching_of, StandBefore};
+ghost use Rattle.brackets.specs.Partners.{partners_of, count_braces, nearest_brace, topmost, is_round, is_square, bracket_step, matching_of, paired, TakesStep, StandBefore};
 
 use crate::TokenClass;
 use bumpalo::Bump;
@@ -94,11 +94,43 @@ fn match_up(partners: &mut [Option<u32>], o: u32, i: u32)
 fn close(partners: &mut [Option<u32>], o: Option<u32>, i: u32)
     requires opener { ForSome o (λ p. p < length partners.old) }
     requires closer { i < length partners.old }
-    ensures some { ForSome o (λ p. partners.new ≡ slice_set (slice_set partners.old p (Some i)) i (Some p)) }
-    ensures none { ForNone o (partners.new ≡ partners.old) }
+    ensures { partners.new ≡ paired partners.old o i }
 {
     if let Some(p) = o {
         match_up(partners, p, i);
+    }
+}
+
+/// One token, as far as the openers that wait go: the place of the opener that it takes off.
+pub(crate) fn waiting_step(
+    stack: &mut Vec<Opener, &Bump>,
+    braces: &mut usize,
+    i: u32,
+    c: TokenClass,
+) -> Result<Option<u32>, NoMemory>
+    requires count { braces.old ≡ count_braces (reverse stack.old.items) }
+    requires small { braces.old ≤ i }
+    requires before { StandBefore i (reverse stack.old.items) }
+    ensures step { IfOk result (λ o. TakesStep c i (reverse stack.old.items) o (reverse stack.new.items)) }
+    ensures opener { IfOk result (λ o. ForSome o (λ p. p < i)) }
+    ensures count { OnOk result (braces.new ≡ count_braces (reverse stack.new.items)) }
+    ensures small { OnOk result (braces.new ≤ i + 1) }
+    ensures before { OnOk result (StandBefore (i + 1) (reverse stack.new.items)) }
+{
+    match c {
+        TokenClass::OpenRound | TokenClass::OpenSquare => {
+            stack.push(Opener { place: i, kind: c })?;
+            Ok(None)
+        }
+        TokenClass::OpenBrace => {
+            *braces += 1;
+            stack.push(Opener { place: i, kind: c })?;
+            Ok(None)
+        }
+        TokenClass::CloseRound => Ok(take_round(stack)),
+        TokenClass::CloseSquare => Ok(take_square(stack)),
+        TokenClass::CloseBrace => Ok(take_brace(stack, braces)),
+        _ => Ok(None),
     }
 }
 
@@ -119,33 +151,9 @@ fn bracket_step(
     ensures small { OnOk result (braces.new ≤ i + 1) }
     ensures before { OnOk result (StandBefore (i + 1) (reverse stack.new.items)) }
 {
-    match c {
-        TokenClass::OpenRound | TokenClass::OpenSquare => {
-            stack.push(Opener { place: i, kind: c })?;
-            Ok(())
-        }
-        TokenClass::OpenBrace => {
-            *braces += 1;
-            stack.push(Opener { place: i, kind: c })?;
-            Ok(())
-        }
-        TokenClass::CloseRound => {
-            let o = take_round(stack);
-            close(partners, o, i);
-            Ok(())
-        }
-        TokenClass::CloseSquare => {
-            let o = take_square(stack);
-            close(partners, o, i);
-            Ok(())
-        }
-        TokenClass::CloseBrace => {
-            let o = take_brace(stack, braces);
-            close(partners, o, i);
-            Ok(())
-        }
-        _ => Ok(()),
-    }
+    let o = waiting_step(stack, braces, i, c)?;
+    close(partners, o, i);
+    Ok(())
 }
 
 /// The partner of each place of a view, by the classes of its tokens.

@@ -1,9 +1,9 @@
-//! Pairs of brackets, and the classes of words.
+//! Pairs of brackets, gaps that are kept, and the classes of words.
 
 use crate::TokenClass::{
     self, CloseBrace, CloseRound, CloseSquare, OpenBrace, OpenRound, OpenSquare,
 };
-use crate::{partners_of_classes, spelling, words};
+use crate::{kept_gaps, partners_of_classes, spelling, words};
 use bumpalo::Bump;
 use c_chars::Dialect;
 use std::test::Fail;
@@ -32,6 +32,82 @@ fn pairs_brackets(rt: HostRuntime) -> Result<(), Fail> {
         let found = partners_of_classes(&classes, &run)?;
         assert_eq!(rt; found, want.as_slice());
     }
+    Ok(())
+}
+
+/// The class of a token of one letter.
+fn letter_class(letter: u8) -> TokenClass {
+    match letter {
+        b'(' => OpenRound,
+        b')' => CloseRound,
+        b'[' => OpenSquare,
+        b']' => CloseSquare,
+        b'{' => OpenBrace,
+        b'}' => CloseBrace,
+        b';' => TokenClass::Semicolon,
+        b',' => TokenClass::Comma,
+        b'=' => TokenClass::Equals,
+        _ => TokenClass::PlainWord,
+    }
+}
+
+#[test]
+fn keeps_the_gaps_of_statement_braces(rt: HostRuntime) -> Result<(), Fail> {
+    let run = Bump::new(rt.alloc());
+    // A token is a letter; below it stands whether the gap before it is kept.
+    let rows: [(&str, &[u8], &[u8]); 14] = [
+        ("an initializer", b"x=({iy=1;y;});", b"....^^^^^^^^.."),
+        ("a list of values", b"({1,2})", b"......."),
+        ("one in another", b"({a;({b;})})", b"..^^^^^^^^^."),
+        ("one in a list", b"({({b;})})", b"....^^^..."),
+        ("`;` behind another", b"({({b;});})", b"..^^^^^^^^."),
+        ("one behind another", b"({a;}{b})", b"..^^^...."),
+        ("square brackets", b"[{a;}]", b"..^^^."),
+        ("no brackets", b"{a;}", b"...."),
+        ("behind brackets", b"(){a;}", b"......"),
+        ("behind brackets that a brace ended", b"{(}{a;}", b"......."),
+        ("`;` in inner brackets", b"({(;}", b"....."),
+        ("`;` in brackets", b"a(;;){}", b"......."),
+        ("a bracket without partner", b"({a;}", b"..^^^"),
+        ("a brace without partner", b"({a;)", b"....."),
+    ];
+    for (name, tokens, want) in rows {
+        let classes: Vec<TokenClass, _> = tokens
+            .iter()
+            .map(|letter| letter_class(*letter))
+            .collect(rt.alloc())?;
+        assert!(rt; classes.len() < 100);
+        let partners = partners_of_classes(&classes, &run)?;
+        let kept = kept_gaps(&classes, partners, &run)?;
+        let found: Vec<u8, _> = kept
+            .iter()
+            .map(|kept| if *kept { b'^' } else { b'.' })
+            .collect(rt.alloc())?;
+        assert_eq!(rt; found.as_slice(), want, "{name}");
+    }
+    Ok(())
+}
+
+#[test]
+fn keeps_the_gaps_of_many_statement_braces(rt: HostRuntime) -> Result<(), Fail> {
+    let depth = 100_000;
+    let run = Bump::new(rt.alloc());
+    let mut classes = Vec::new(rt.alloc());
+    classes.push(OpenRound)?;
+    for _ in 0..depth {
+        classes.push(OpenBrace)?;
+        classes.push(TokenClass::Semicolon)?;
+    }
+    for _ in 0..depth {
+        classes.push(CloseBrace)?;
+    }
+    classes.push(CloseRound)?;
+    assert!(rt; classes.len() < 1_000_000);
+    let partners = partners_of_classes(&classes, &run)?;
+    let kept = kept_gaps(&classes, partners, &run)?;
+    // All are, but those before the brackets outside and before the first brace.
+    assert_eq!(rt; kept.len(), 300_002);
+    assert_eq!(rt; kept.iter().filter(|kept| **kept).count(), 299_999);
     Ok(())
 }
 
