@@ -7,3 +7,5 @@ pub mod TwinGaps
 pub mod FirstMark
 pub mod PlainTwin
 pub mod Opens
+pub mod OfTexts
+pub mod Decided
