@@ -18,12 +18,12 @@ abbrev pub IsMadeFor : ℕ → List (ℕ × Slot) → Type 0
 IsMadeFor place [] = ⊥
 IsMadeFor place (made ∷ later) = (made.0 ≡ place) ⊎ IsMadeFor place later
 
-made-left : (place : ℕ) (made later : List (ℕ × Slot)) → IsMadeFor place made → IsMadeFor place (made ++ later)
+pub made-left : (place : ℕ) (made later : List (ℕ × Slot)) → IsMadeFor place made → IsMadeFor place (made ++ later)
 made-left place [] later h = absurd h
 made-left place (m ∷ made) later (inl h) = inl h
 made-left place (m ∷ made) later (inr h) = inr (made-left place made later h)
 
-made-right : (place : ℕ) (made later : List (ℕ × Slot)) → IsMadeFor place later → IsMadeFor place (made ++ later)
+pub made-right : (place : ℕ) (made later : List (ℕ × Slot)) → IsMadeFor place later → IsMadeFor place (made ++ later)
 made-right place [] later h = h
 made-right place (m ∷ made) later h = inr (made-right place made later h)
 
@@ -68,7 +68,7 @@ made_decided plan (m ∷ made) place within (inr h) = made_decided (decided plan
 
 -- ## The decisions of a run
 
-here_or_later : (k place : ℕ) → k ≤ place → (k ≡ place) ⊎ (k + 1 ≤ place)
+pub here_or_later : (k place : ℕ) → k ≤ place → (k ≡ place) ⊎ (k + 1 ≤ place)
 here_or_later k place low = grind arith
 
 up_to_or_past : (place last : ℕ) → (place ≤ last) ⊎ (last + 1 ≤ place)

@@ -9,3 +9,4 @@ pub mod PlainTwin
 pub mod Opens
 pub mod OfTexts
 pub mod Decided
+pub mod EveryGap

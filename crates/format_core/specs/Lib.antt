@@ -6,3 +6,6 @@ pub mod Held
 pub mod Twins
 pub mod Formats
 pub mod Exact
+pub mod BeforeRuns
+pub mod Runs
+pub mod Decided

@@ -1,5 +1,6 @@
 //! The laws of the layout. Each stands on the contract of a function that does nothing.
 
+ghost use Rattle.format_core.specs.Decided.{EveryGapIsDecided};
 ghost use Rattle.format_core.specs.Exact.{OpenTextsHaveNoLayout};
 ghost use Rattle.format_core.specs.Twins.{PlainTextsAreTwins};
 
@@ -11,4 +12,10 @@ pub fn plain_texts_are_twins()
 /// No text has both a layout and a block comment that nothing ends: so such a text is always refused.
 pub fn open_texts_have_no_layout()
     ensures { OpenTextsHaveNoLayout }
+{}
+
+/// Each gap of a text is decided in its plan, before the runs or by one of them: no gap keeps its bytes for want of
+/// a decision.
+pub fn every_gap_is_decided()
+    ensures { EveryGapIsDecided }
 {}

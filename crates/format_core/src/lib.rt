@@ -15,4 +15,4 @@ mod tests;
 
 pub use fault::FormatFault;
 pub use formatted::{Formatted, format};
-pub use laws::{open_texts_have_no_layout, plain_texts_are_twins};
+pub use laws::{every_gap_is_decided, open_texts_have_no_layout, plain_texts_are_twins};

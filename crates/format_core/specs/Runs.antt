@@ -1,0 +1,53 @@
+-- The plan of a text: what is decided before the runs, and then run by run. docs/PROFILE.md, "Runs", says what a run sees.
+use Rattle.std.specs.Prelude.{◌≡◌, ℕ, zero, suc, ◌+◌, Option, None, List, length, replicate}
+use Rattle.style_table.specs.declared.style.Style.{Style}
+use Rattle.token_arena.specs.Gaps.{Contents}
+use Rattle.directives.specs.Sections.{sections_of, IsCut}
+use Rattle.branch_runs.specs.Marks.{marks_of}
+use Rattle.branch_runs.specs.declared.mark.Mark.{Mark}
+use Rattle.branch_runs.specs.Cut.{end_of}
+use Rattle.branch_runs.specs.Reading.{effects, tree_of}
+use Rattle.branch_runs.specs.Runs.{need, view_of}
+use Rattle.brackets.specs.Partners.{partners_of}
+use Rattle.brackets.specs.Viewed.{classes_of}
+use Rattle.unwrapped_lines.specs.declared.line.ULine.{ULine}
+use Rattle.unwrapped_lines.specs.Lines.{unwrapped_lines_of}
+use Rattle.replacements.specs.Decisions.{decided_all}
+use Rattle.replacements.specs.declared.slot.Slot.{Slot}
+use Rattle.run_layout.specs.Run.{run_decisions}
+use Rattle.format_core.specs.BeforeRuns.{early_decisions}
+
+-- These are the marks of the conditionals of a text, whose sections cut its items.
+pub record IsTreeOf (arena : Contents) (tree : List Mark) : Type 0 where
+  pub marks : tree ≡ effects (marks_of arena)
+  pub end : end_of 0 tree ≡ length arena.tokens
+  pub cut : IsCut 0 (length arena.tokens) (sections_of arena)
+
+-- how many runs a text has
+abbrev pub runs_of : Contents → ℕ
+runs_of arena = need (tree_of (marks_of arena))
+
+-- the items that a run sees
+abbrev pub seen_by : Contents → ℕ → List ℕ
+seen_by arena run = view_of (tree_of (marks_of arena)) run
+
+-- the unwrapped lines of these items
+abbrev pub lines_of_items : Style → Contents → List ℕ → List ULine
+lines_of_items style arena ids = unwrapped_lines_of style arena ids (partners_of (classes_of arena ids))
+
+-- the plan after these items are laid out
+abbrev pub after_items : Style → Contents → List (Option Slot) → List ℕ → List (Option Slot)
+after_items style arena plan ids = decided_all plan (run_decisions style arena ids plan (lines_of_items style arena ids))
+
+-- the plan after so many runs from this one on
+abbrev pub after_runs : Style → Contents → List (Option Slot) → ℕ → ℕ → List (Option Slot)
+after_runs style arena plan run zero = plan
+after_runs style arena plan run (suc count) = after_runs style arena (after_items style arena plan (seen_by arena run)) (run + 1) count
+
+-- the plan before the runs
+abbrev pub early_plan : Style → Contents → List (Option Slot)
+early_plan style arena = decided_all (replicate (length arena.tokens + 1) None) (early_decisions style arena)
+
+-- The plan of a text: what is decided before the runs, and then by each of its runs in order. A gap keeps what is decided for it first.
+unfoldable pub plan_of : Style → Contents → List (Option Slot)
+plan_of style arena = after_runs style arena (early_plan style arena) 0 (runs_of arena)
