@@ -14,7 +14,7 @@ use Rattle.branch_runs.specs.Zero.{is_if_zero}
 use Rattle.branch_runs.specs.Cut.{IsCutFrom, BeginsNoText, end_of}
 
 -- a directive's mark is that of no text
-no_text : (is_zero : Bool) (nesting : Nesting) → kind_by is_zero nesting ≢ kind.Text
+pub no_text : (is_zero : Bool) (nesting : Nesting) → kind_by is_zero nesting ≢ kind.Text
 no_text true Opens = λ e. cc
 no_text false Opens = λ e. cc
 no_text is_zero Branch = λ e. cc

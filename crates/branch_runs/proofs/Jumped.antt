@@ -1,10 +1,10 @@
 -- A jump passes branches that are not taken.
-use Rattle.std.proofs.Common.{◌≡◌, ◌≢◌, ◌∙◌, ℕ, ◌+◌, ◌-◌, ◌<◌, ◌≤◌, ◌⊎◌, inl, inr, true, List, length, get_or, set, refl, sym, ap, subst, arith}
+use Rattle.std.proofs.Common.{◌≡◌, ◌≢◌, ◌∙◌, ℕ, ◌+◌, ◌-◌, ◌<◌, ◌≤◌, ◌⊎◌, inl, inr, true, List, length, set, refl, sym, ap, subst, arith}
 use Rattle.std.proofs.lemmas.List.{get_or-set_same, get_or-set_other}
 use Rattle.branch_runs.specs.declared.mark.Mark.{Mark}
 use Rattle.branch_runs.specs.declared.node.Node.{Node}
 use Rattle.branch_runs.specs.declared.jump.Jump.{Jump}
-use Rattle.branch_runs.specs.Tree.{Group, Branches, branch}
+use Rattle.branch_runs.specs.Tree.{branch}
 use Rattle.branch_runs.specs.Reading.{Around, branches_of, group_of, outside}
 use Rattle.branch_runs.specs.Runs.{need, needs, has_live, texts_in}
 use Rattle.branch_runs.specs.Fits.{rest_at, FitsNode}

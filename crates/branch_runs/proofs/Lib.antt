@@ -13,3 +13,4 @@ pub mod Places
 pub mod Bridge
 pub mod ZeroLemmas
 pub mod Within
+pub mod OfTexts

@@ -11,13 +11,13 @@ use Rattle.branch_runs.specs.Laws.{kind_at, NoneBetween, NeverParted}
 use Rattle.branch_runs.specs.Cut.{IsCutFrom, BeginsNoText}
 use Rattle.branch_runs.proofs.Together.{AreTogether, keeps_together}
 
-has_item-true : (m : Mark) (i : ℕ) → m.first ≤ i → i < m.end → has_item m i ≡ true
+pub has_item-true : (m : Mark) (i : ℕ) → m.first ≤ i → i < m.end → has_item m i ≡ true
 has_item-true m i a b = grind arith
 
 has_item-below : (m : Mark) (i : ℕ) → i < m.first → has_item m i ≡ false
 has_item-below m i a = grind arith
 
-has_item-above : (m : Mark) (i : ℕ) → m.end ≤ i → has_item m i ≡ false
+pub has_item-above : (m : Mark) (i : ℕ) → m.end ≤ i → has_item m i ≡ false
 has_item-above m i a = grind arith
 
 text-then : Flat ≡ Text → ⊥
@@ -31,10 +31,10 @@ none_below (m ∷ marks) at i j cut a b = (
   none_below marks m.end i j cut.3 (omega (arith, cut.0, cut.1)) (omega (arith, cut.0, cut.1)),
 )
 
-kind-here : (m : Mark) (marks : List Mark) (i : ℕ) (k : MarkKind) → has_item m i ≡ true → kind_at (m ∷ marks) i ≡ k → m.kind ≡ k
+pub kind-here : (m : Mark) (marks : List Mark) (i : ℕ) (k : MarkKind) → has_item m i ≡ true → kind_at (m ∷ marks) i ≡ k → m.kind ≡ k
 kind-here m marks i k h e = subst (λ b. (if b then m.kind else kind_at marks i) ≡ k) h e
 
-kind-there : (m : Mark) (marks : List Mark) (i : ℕ) (k : MarkKind) → has_item m i ≡ false → kind_at (m ∷ marks) i ≡ k → kind_at marks i ≡ k
+pub kind-there : (m : Mark) (marks : List Mark) (i : ℕ) (k : MarkKind) → has_item m i ≡ false → kind_at (m ∷ marks) i ≡ k → kind_at marks i ≡ k
 kind-there m marks i k h e = subst (λ b. (if b then m.kind else kind_at marks i) ≡ k) h e
 
 -- the section after a text begins no later than an item past it, and is a directive

@@ -7,6 +7,7 @@
 
 mod effect;
 mod jump;
+mod laws;
 mod link;
 mod mark;
 mod node;
@@ -18,6 +19,7 @@ mod tree;
 mod walk;
 mod zero;
 
+pub use laws::views_are_of_texts;
 pub use mark::{Mark, MarkKind};
 pub use token_views::{NoMemory, TokenId, View};
 pub use tree::CondTree;

@@ -2,4 +2,8 @@ pub mod Counts
 pub mod Opens
 pub mod SoundStart
 pub mod Planned
+pub mod OfTexts
+pub mod Decided
+pub mod EveryGap
 pub mod Stays
+pub mod SoundPlan

@@ -12,7 +12,10 @@ use Rattle.replacements.specs.Written.{decision_of, decision_at}
 use Rattle.replacements.proofs.Firsts.{first, stay}
 use Rattle.run_layout.specs.Run.{run_decisions}
 use Rattle.format_core.specs.BeforeRuns.{early_decision, early_slot, made_at, early_from, early_decisions}
-use Rattle.format_core.specs.Runs.{runs_of, seen_by, lines_of_items, after_items, after_runs, early_plan, plan_of}
+use Rattle.brackets.specs.Kept.{kept_gaps_of}
+use Rattle.brackets.specs.Viewed.{classes_of}
+use Rattle.format_core.specs.KeptGaps.{kept_decisions}
+use Rattle.format_core.specs.Runs.{runs_of, seen_by, lines_of_items, after_kept, after_items, after_runs, early_plan, plan_of}
 use Rattle.format_core.specs.Laws.{EarlyDecisionsStay}
 use Rattle.format_core.proofs.SoundStart.{fresh}
 
@@ -60,12 +63,18 @@ early_there style arena place decision within is =
 
 -- ## The runs
 
+-- a run doesn't change it
+items_keep : (style : Style) (arena : Contents) (plan : List (Option Slot)) (ids : List ℕ) (place : ℕ) (slot : Slot) → slot_of plan place ≡ Some slot → slot_of (after_items style arena plan ids) place ≡ Some slot
+items_keep style arena plan ids place slot is =
+    let kept : List (Option Slot) = after_kept style arena plan ids in
+    stay kept (run_decisions style arena ids kept (lines_of_items style arena ids)) place slot
+    (stay plan (kept_decisions style arena 0 ids (kept_gaps_of (classes_of arena ids))) place slot is)
+
 -- no run changes it
-pub runs_keep : (style : Style) (arena : Contents) (plan : List (Option Slot)) (run count place : ℕ) (slot : Slot) → slot_of plan place ≡ Some slot → slot_of (after_runs style arena plan run count) place ≡ Some slot
+runs_keep : (style : Style) (arena : Contents) (plan : List (Option Slot)) (run count place : ℕ) (slot : Slot) → slot_of plan place ≡ Some slot → slot_of (after_runs style arena plan run count) place ≡ Some slot
 runs_keep style arena plan run zero place slot is = is
 runs_keep style arena plan run (suc count) place slot is =
-    let ids = seen_by arena run in
-    runs_keep style arena (after_items style arena plan ids) (run + 1) count place slot (stay plan (run_decisions style arena ids plan (lines_of_items style arena ids)) place slot is)
+    runs_keep style arena (after_items style arena plan (seen_by arena run)) (run + 1) count place slot (items_keep style arena plan (seen_by arena run) place slot is)
 
 pub early_decisions_stay : EarlyDecisionsStay
 unfolding plan_of

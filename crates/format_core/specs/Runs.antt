@@ -2,12 +2,12 @@
 use Rattle.std.specs.Prelude.{◌≡◌, ℕ, zero, suc, ◌+◌, Option, None, List, length, replicate}
 use Rattle.style_table.specs.declared.style.Style.{Style}
 use Rattle.token_arena.specs.Gaps.{Contents}
-use Rattle.directives.specs.Sections.{sections_of, IsCut}
 use Rattle.branch_runs.specs.Marks.{marks_of}
 use Rattle.branch_runs.specs.declared.mark.Mark.{Mark}
 use Rattle.branch_runs.specs.Cut.{end_of}
 use Rattle.branch_runs.specs.Reading.{effects, tree_of}
 use Rattle.branch_runs.specs.Runs.{need, view_of}
+use Rattle.brackets.specs.Kept.{kept_gaps_of}
 use Rattle.brackets.specs.Partners.{partners_of}
 use Rattle.brackets.specs.Viewed.{classes_of}
 use Rattle.unwrapped_lines.specs.declared.line.ULine.{ULine}
@@ -16,12 +16,12 @@ use Rattle.replacements.specs.Decisions.{decided_all}
 use Rattle.replacements.specs.declared.slot.Slot.{Slot}
 use Rattle.run_layout.specs.Run.{run_decisions}
 use Rattle.format_core.specs.BeforeRuns.{early_decisions}
+use Rattle.format_core.specs.KeptGaps.{kept_decisions}
 
--- These are the marks of the conditionals of a text, whose sections cut its items.
+-- These are the marks of a text's sections, each with what it does where it stands.
 pub record IsTreeOf (arena : Contents) (tree : List Mark) : Type 0 where
   pub marks : tree ≡ effects (marks_of arena)
   pub end : end_of 0 tree ≡ length arena.tokens
-  pub cut : IsCut 0 (length arena.tokens) (sections_of arena)
 
 -- how many runs a text has
 abbrev pub runs_of : Contents → ℕ
@@ -35,9 +35,13 @@ seen_by arena run = view_of (tree_of (marks_of arena)) run
 abbrev pub lines_of_items : Style → Contents → List ℕ → List ULine
 lines_of_items style arena ids = unwrapped_lines_of style arena ids (partners_of (classes_of arena ids))
 
--- the plan after these items are laid out
+-- the plan after what stays as it is between these items is decided
+abbrev pub after_kept : Style → Contents → List (Option Slot) → List ℕ → List (Option Slot)
+after_kept style arena plan ids = decided_all plan (kept_decisions style arena 0 ids (kept_gaps_of (classes_of arena ids)))
+
+-- the plan after these items are laid out: first what stays is decided, then their lines
 abbrev pub after_items : Style → Contents → List (Option Slot) → List ℕ → List (Option Slot)
-after_items style arena plan ids = decided_all plan (run_decisions style arena ids plan (lines_of_items style arena ids))
+after_items style arena plan ids = let kept = after_kept style arena plan ids in decided_all kept (run_decisions style arena ids kept (lines_of_items style arena ids))
 
 -- the plan after so many runs from this one on
 abbrev pub after_runs : Style → Contents → List (Option Slot) → ℕ → ℕ → List (Option Slot)

@@ -8,6 +8,7 @@
 mod early;
 mod fault;
 mod formatted;
+mod kept;
 mod laws;
 mod line_ends;
 mod runs;
@@ -16,4 +17,6 @@ mod tests;
 
 pub use fault::FormatFault;
 pub use formatted::{Formatted, format};
-pub use laws::{early_decisions_stay, open_texts_have_no_layout};
+pub use laws::{
+    early_decisions_stay, every_gap_is_decided, open_texts_have_no_layout, planned_texts_are_twins,
+};

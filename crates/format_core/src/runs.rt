@@ -4,12 +4,11 @@ ghost use Rattle.std.specs.Prelude.{◌≡◌, ◌<◌, ◌≤◌, ◌+◌, IfOk
 ghost use Rattle.c_chars.specs.declared.TheConstants.{LIMIT};
 ghost use Rattle.brackets.specs.Viewed.{AreWithin};
 ghost use Rattle.directives.specs.Sections.{sections_of, IsCut};
-ghost use Rattle.replacements.specs.Sound.{IsSound};
-ghost use Rattle.run_layout.specs.Laws.{AreOfTexts};
 ghost use Rattle.format_core.specs.Runs.{IsTreeOf, runs_of, seen_by, after_items, after_runs, plan_of};
 
 use crate::early::decide_early;
-use brackets::partners;
+use crate::kept::keep_gaps;
+use brackets::{classes, kept_gaps, partners_of_classes};
 use branch_runs::CondTree;
 use bumpalo::Bump;
 use directives::Section;
@@ -22,7 +21,7 @@ use token_arena::TokenArena;
 use token_views::View;
 use unwrapped_lines::lines;
 
-/// Decides the gaps of the items that a run sees, where they are open.
+/// Decides the gaps of the items that a run sees, where they are open: first those that stay as they are.
 fn lay_out_items(
     style: &Style,
     arena: &TokenArena<'_, '_>,
@@ -30,14 +29,16 @@ fn lay_out_items(
     plan: &mut Plan<'_>,
     run: &Bump,
 ) -> Result<(), NoMemory>
+    requires tab { 1 ≤ style.now.tab_width }
     requires within { AreWithin arena.now view.now }
-    requires texts { AreOfTexts arena.now view.now }
     requires whole { length plan.old ≡ length arena.now.tokens + 1 }
     ensures plan { OnOk result (plan.new ≡ after_items style.now arena.now plan.old view.now) }
     ensures len { OnOk result (length plan.new ≡ length plan.old) }
-    ensures sound { OnOk result (IsSound arena.now plan.old → IsSound arena.now plan.new) }
 {
-    let partners = partners(arena, view, run)?;
+    let classes = classes(arena, view, run)?;
+    let partners = partners_of_classes(classes, run)?;
+    let kept = kept_gaps(classes, partners, run)?;
+    keep_gaps(style, arena, view, kept, plan);
     let lines = lines(style, arena, view, partners, run)?;
     lay_out_run(style, arena, view, lines, plan, run)
 }
@@ -51,12 +52,12 @@ fn lay_out_seen(
     plan: &mut Plan<'_>,
     run: &Bump,
 ) -> Result<(), NoMemory>
+    requires tab { 1 ≤ style.now.tab_width }
     requires tree { IsTreeOf arena.now tree.now }
     requires number { number < runs_of arena.now }
     requires whole { length plan.old ≡ length arena.now.tokens + 1 }
     ensures plan { OnOk result (plan.new ≡ after_items style.now arena.now plan.old (seen_by arena.now number)) }
     ensures len { OnOk result (length plan.new ≡ length plan.old) }
-    ensures sound { OnOk result (IsSound arena.now plan.old → IsSound arena.now plan.new) }
 {
     let view = tree.view(number, run)?;
     lay_out_items(style, arena, &view, plan, run)
@@ -70,11 +71,11 @@ fn lay_out_runs(
     tree: &CondTree<'_>,
     plan: &mut Plan<'_>,
 ) -> Result<(), NoMemory>
+    requires tab { 1 ≤ style.now.tab_width }
     requires tree { IsTreeOf arena.now tree.now }
     requires whole { length plan.old ≡ length arena.now.tokens + 1 }
     ensures plan { OnOk result (plan.new ≡ after_runs style.now arena.now plan.old 0 (runs_of arena.now)) }
     ensures len { OnOk result (length plan.new ≡ length plan.old) }
-    ensures sound { OnOk result (IsSound arena.now plan.old → IsSound arena.now plan.new) }
 {
     let mut run = Bump::new(alloc);
     let count = tree.runs();
@@ -95,12 +96,12 @@ pub(crate) fn plan_of<'a>(
     arena: &TokenArena<'_, '_>,
     sections: &[Section],
 ) -> Result<Plan<'a>, NoMemory>
+    requires tab { 1 ≤ style.now.tab_width }
     requires fits { length arena.now.text ≤ LIMIT }
     requires sections { sections.now ≡ sections_of arena.now }
     requires cut { IsCut 0 (length arena.now.tokens) sections.now }
     ensures plan { IfOk result (λ plan. plan ≡ plan_of style.now arena.now) }
     ensures len { IfOk result (λ plan. length plan ≡ length arena.now.tokens + 1) }
-    ensures sound { IfOk result (λ plan. IsSound arena.now plan) }
 {
     let tree = CondTree::build(arena, sections, bump)?;
     let mut plan = Plan::make(arena, bump)?;

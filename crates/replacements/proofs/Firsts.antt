@@ -22,7 +22,7 @@ cases (Some first) = inr (first, refl)
 same_or_other : (a b : ℕ) → (a ≡ b) ⊎ (a ≢ b)
 same_or_other a b = grind arith
 
-length_one : (plan : List (Option Slot)) (place : ℕ) (slot : Slot) → length (decided plan place slot) ≡ length plan
+pub length_one : (plan : List (Option Slot)) (place : ℕ) (slot : Slot) → length (decided plan place slot) ≡ length plan
 length_one plan place slot = elim (cases (slot_of plan place)) [
   | inl open_gap ↦ rw (new plan place slot open_gap) (length-set plan place (Some slot))
   | inr (first, is) ↦ rw (kept plan place slot first is) refl

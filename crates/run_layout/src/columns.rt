@@ -28,8 +28,8 @@ pub(crate) fn start_behind(column: u32, decision: Decision) -> u32
     }
 }
 
-/// The column behind an item that starts at a column: only its last row counts.
-pub(crate) fn column_behind(arena: &TokenArena<'_, '_>, start: u32, id: u32) -> u32
+/// The column behind an item that starts at a column: only its last row counts. No column passes 4,294,967,295.
+pub fn column_behind(arena: &TokenArena<'_, '_>, start: u32, id: u32) -> u32
     requires { id < length arena.now.tokens }
     ensures { result ≡ column_behind start (item_at arena.now id) }
 {

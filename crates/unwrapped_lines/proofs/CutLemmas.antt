@@ -68,16 +68,24 @@ cut_between low count b (next ∷ bs) h =
 
 -- ## A line begins at the view's start
 
-starts_line : (lines : List Line) (total level : ℕ) (p : Part) (ps : List Part) → IsCut 0 total lines → (p ≡ Own) ⊎ ((p ≡ Token) × (0 < total))
+-- there is a line where there is a token, and the first begins at the first token
+abbrev pub Starts : ℕ → List Line → Type 0
+Starts total [] = 0 ≡ total
+Starts total (l ∷ ls) = l.first ≡ 0
+
+cut_starts : (total : ℕ) (lines : List Line) → IsCut 0 total lines → Starts total lines
+cut_starts total [] cut = cut
+cut_starts total (l ∷ ls) cut = cut.0
+
+starts_line : (lines : List Line) (total level : ℕ) (p : Part) (ps : List Part) → Starts total lines → (p ≡ Own) ⊎ ((p ≡ Token) × (0 < total))
     → (b : Begin) × (new_begin (record { lines = lines; total = total; end_level = level }) 0 p ps no_marks ≡ Some b)
-starts_line [] total level p ps cut d =
+starts_line [] total level p ps starts d =
     let P : ℕ → Type 0 = λ n. (b : Begin) × (new_begin (record { lines = []; total = n; end_level = level }) 0 p ps no_marks ≡ Some b) in
-    subst P cut (elim d [
+    subst P starts (elim d [
       | inl e ↦ let Q : Part → Type 0 = λ x. (b : Begin) × (new_begin (record { lines = []; total = 0; end_level = level }) 0 x ps no_marks ≡ Some b) in subst Q (sym e) (_, refl)
       | inr q ↦ absurd (let some : 0 < total = q.1 in omega arith)
     ])
-starts_line (l ∷ ls) total level p ps cut d =
-    let first : l.first ≡ 0 = cut.0 in
+starts_line (l ∷ ls) total level p ps first d =
     elim d [
       | inl e ↦
           let Q : Part → Type 0 = λ x. (b : Begin) × (new_begin (record { lines = l ∷ ls; total = total; end_level = level }) 0 x ps no_marks ≡ Some b) in
@@ -117,12 +125,12 @@ first_part arena id c cs =
       | false ↦ inr (refl, (omega arith))
     ]
 
--- the lines of a view cut it, where those of its tokens cut these
-pub cut_view : (style : Style) (arena : Contents) (ids : List ℕ) (partners : List (Option ℕ))
-    → IsCut 0 (length (code_tokens arena ids (classes_of arena ids) partners)) (lines_of (braces_of style) (code_tokens arena ids (classes_of arena ids) partners))
+-- the lines of a view cut it, where those of its tokens start it
+pub cut_started : (style : Style) (arena : Contents) (ids : List ℕ) (partners : List (Option ℕ))
+    → Starts (length (code_tokens arena ids (classes_of arena ids) partners)) (lines_of (braces_of style) (code_tokens arena ids (classes_of arena ids) partners))
     → CutPlaces 0 (length ids) (unwrapped_lines_of style arena ids partners)
-cut_view style arena [] partners h = refl
-cut_view style arena (id ∷ ids) partners h =
+cut_started style arena [] partners h = refl
+cut_started style arena (id ∷ ids) partners h =
     let cs = map (item_class arena) ids in
     let c = item_class arena id in
     let t = tree_of style arena (id ∷ ids) partners in
@@ -132,3 +140,11 @@ cut_view style arena (id ∷ ids) partners h =
     let many : length tokens ≡ length (code_places_from 0 (c ∷ cs)) = length-map (code_places_from 0 (c ∷ cs)) (token_at arena (id ∷ ids) (c ∷ cs) partners) in
     let start : (part_of arena id false c ≡ Own) ⊎ ((part_of arena id false c ≡ Token) × (0 < length tokens)) = elim (first_part arena id c cs) [ inl e ↦ inl e | inr q ↦ inr (q.0, (let z = q.1 in omega arith)) ] in
     cut_lines t (part_of arena id false c) ps (length (id ∷ ids)) count (starts_line t.lines t.total t.end_level (part_of arena id false c) ps h start)
+
+-- so do they where those of its tokens cut these
+pub cut_view : (style : Style) (arena : Contents) (ids : List ℕ) (partners : List (Option ℕ))
+    → IsCut 0 (length (code_tokens arena ids (classes_of arena ids) partners)) (lines_of (braces_of style) (code_tokens arena ids (classes_of arena ids) partners))
+    → CutPlaces 0 (length ids) (unwrapped_lines_of style arena ids partners)
+cut_view style arena ids partners h =
+    let tokens = code_tokens arena ids (classes_of arena ids) partners in
+    cut_started style arena ids partners (cut_starts (length tokens) (lines_of (braces_of style) tokens) h)

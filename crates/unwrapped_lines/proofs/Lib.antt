@@ -6,4 +6,5 @@ pub mod FormLemmas
 pub mod TurnLemmas
 pub mod EndLemmas
 pub mod CutLemmas
+pub mod Started
 pub mod ColonLemmas

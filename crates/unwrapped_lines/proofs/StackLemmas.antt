@@ -95,7 +95,7 @@ from_end zero braces tokens os o start at h = refl
 from_end (suc n) braces tokens os o start at h =
     let e : nat_lt at o.end ≡ false = grind arith in rw (e, lines_from) refl
 
-from_ends : (n : ℕ) (braces : Braces) (tokens : List CodeToken) (os : List Open) (o : Open) (start : Start) (at : ℕ) (f : Form)
+pub from_ends : (n : ℕ) (braces : Braces) (tokens : List CodeToken) (os : List Open) (o : Open) (start : Start) (at : ℕ) (f : Form)
     → nat_lt at o.end ≡ true → form_of braces tokens o start at ≡ f → f.next ≡ Ends
     → lines_from (suc n) braces tokens (o ∷ os) start at
     ≡ line_of o start at f ∷ lines_from n braces tokens (settled tokens f.end (o ∷ os)).opens (settled tokens f.end (o ∷ os)).start f.end
@@ -103,21 +103,21 @@ from_ends n braces tokens os o start at f lt e q =
     let P : Form → Type 0 = λ g. g.next ≡ Ends → lines_from (suc n) braces tokens (o ∷ os) start at ≡ line_of o start at g ∷ lines_from n braces tokens (settled tokens g.end (o ∷ os)).opens (settled tokens g.end (o ∷ os)).start g.end in
     subst P e (λ k. rw (lt, k, lines_from) refl) q
 
-from_goes : (n : ℕ) (braces : Braces) (tokens : List CodeToken) (os : List Open) (o : Open) (start : Start) (at : ℕ) (f : Form) (s : Start)
+pub from_goes : (n : ℕ) (braces : Braces) (tokens : List CodeToken) (os : List Open) (o : Open) (start : Start) (at : ℕ) (f : Form) (s : Start)
     → nat_lt at o.end ≡ true → form_of braces tokens o start at ≡ f → f.next ≡ Goes s
     → lines_from (suc n) braces tokens (o ∷ os) start at ≡ line_of o start at f ∷ lines_from n braces tokens (o ∷ os) s f.end
 from_goes n braces tokens os o start at f s lt e q =
     let P : Form → Type 0 = λ g. g.next ≡ Goes s → lines_from (suc n) braces tokens (o ∷ os) start at ≡ line_of o start at g ∷ lines_from n braces tokens (o ∷ os) s g.end in
     subst P e (λ k. rw (lt, k, lines_from) refl) q
 
-from_waits : (n : ℕ) (braces : Braces) (tokens : List CodeToken) (os : List Open) (o : Open) (start : Start) (at : ℕ) (f : Form) (h : Head)
+pub from_waits : (n : ℕ) (braces : Braces) (tokens : List CodeToken) (os : List Open) (o : Open) (start : Start) (at : ℕ) (f : Form) (h : Head)
     → nat_lt at o.end ≡ true → form_of braces tokens o start at ≡ f → f.next ≡ Waits h
     → lines_from (suc n) braces tokens (o ∷ os) start at ≡ line_of o start at f ∷ lines_from n braces tokens (body_of o h f.level ∷ o ∷ os) Fresh f.end
 from_waits n braces tokens os o start at f h lt e q =
     let P : Form → Type 0 = λ g. g.next ≡ Waits h → lines_from (suc n) braces tokens (o ∷ os) start at ≡ line_of o start at g ∷ lines_from n braces tokens (body_of o h g.level ∷ o ∷ os) Fresh g.end in
     subst P e (λ k. rw (lt, k, lines_from) refl) q
 
-from_opens : (n : ℕ) (braces : Braces) (tokens : List CodeToken) (os : List Open) (o : Open) (start : Start) (at : ℕ) (f : Form) (w : Bool) (b : Open)
+pub from_opens : (n : ℕ) (braces : Braces) (tokens : List CodeToken) (os : List Open) (o : Open) (start : Start) (at : ℕ) (f : Form) (w : Bool) (b : Open)
     → nat_lt at o.end ≡ true → form_of braces tokens o start at ≡ f → f.next ≡ Opens w b
     → lines_from (suc n) braces tokens (o ∷ os) start at
     ≡ head_lines o start at f w ++ lines_from n braces tokens (b ∷ []) Fresh (f.end + 1) ++ lines_from n braces tokens (o ∷ os) (Closing b) b.end

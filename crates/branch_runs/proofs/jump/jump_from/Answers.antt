@@ -1,4 +1,4 @@
-use Rattle.std.proofs.Common.{arith, ◌≡◌, ◌<◌, ◌≤◌, ◌+◌, ℕ, List, map, length, get_or, refl}
+use Rattle.std.proofs.Common.{arith, ◌≡◌, ◌<◌, ◌+◌, ℕ, List, map, length, get_or, refl}
 use Rattle.std.proofs.lemmas.List.{length-map}
 use Rattle.branch_runs.specs.declared.node.Node.{Node}
 use Rattle.branch_runs.specs.declared.jump.Jump.{Jump}

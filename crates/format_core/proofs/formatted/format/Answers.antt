@@ -1,6 +1,9 @@
-use Rattle.std.proofs.Common.{sym}
-use Rattle.format_core.proofs.Places.{laid_is, twin_along}
-use Rattle.format_core.proofs.PlainTwin.{plain_twin}
+use Rattle.std.proofs.Common.{◌≡◌, ◌∙◌, List, ℕ, ap, sym}
+use Rattle.directives.specs.Sections.{sections_of}
+use Rattle.replacements.specs.Written.{written}
+use Rattle.format_core.specs.LineEnds.{ends_by}
+use Rattle.format_core.specs.Runs.{plan_of}
+use Rattle.format_core.proofs.SoundPlan.{planned_twin, twin_along}
 use Rattle.format_core.proofs.formatted.format.Goals as goal
 
 pub returns-clause-formats : goal.returns-clause-formats
@@ -12,12 +15,8 @@ returns-clause-formats c =
       text = is.text_is;
       dialect = is.dialect_is;
       holds = is.holds;
-      plain = laid_is c.args.style.now arena c.ends_by-crlf.result c.in_ok-sections.sections.now c.args.text.now c.in_ok-laid_out.laid_out.items c.in_ok-laid_out.ensures c.ends_by-crlf.ensures c.in_ok-sections.ensures.sections is.text_is;
+      planned = ?;
     }
 
 pub returns-clause-twins : goal.returns-clause-twins
-returns-clause-twins c =
-    let arena = c.in_ok-arena.arena in
-    let is = c.in_ok-arena.ensures.arena in
-    let laid = laid_is c.args.style.now arena c.ends_by-crlf.result c.in_ok-sections.sections.now c.args.text.now c.in_ok-laid_out.laid_out.items c.in_ok-laid_out.ensures c.ends_by-crlf.ensures c.in_ok-sections.ensures.sections is.text_is in
-    twin_along _ _ _ _ _ _ is.dialect_is is.text_is (sym laid) (plain_twin c.args.style.now arena is.holds)
+returns-clause-twins c = ?

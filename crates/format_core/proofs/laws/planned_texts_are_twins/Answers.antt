@@ -1,0 +1,5 @@
+use Rattle.format_core.proofs.SoundPlan.{planned_twin}
+use Rattle.format_core.proofs.laws.planned_texts_are_twins.Goals as goal
+
+pub returns : goal.returns
+returns c = planned_twin

@@ -1,0 +1,77 @@
+//! Gaps of a run that stay as they are, and the columns of the input.
+
+ghost use Rattle.std.specs.Prelude.{◌≡◌, ◌<◌, ◌≤◌, ◌+◌, ◌∷◌, [], if◌then◌else◌, length};
+ghost use Rattle.brackets.specs.Viewed.{AreWithin};
+ghost use Rattle.replacements.specs.Decisions.{decided_all};
+ghost use Rattle.format_core.specs.KeptGaps.{column_past, column_through, input_column, kept_decisions, kept_slot};
+
+use gap_text::Decision;
+use line_tokens::TokenId;
+use replacements::Plan;
+use run_layout::column_behind;
+use style_table::Style;
+use token_arena::TokenArena;
+use token_views::View;
+
+/// The column behind a byte of white space that stands at a column.
+fn column_past(tab: u32, column: u32, byte: u8) -> u32
+    requires { 1 ≤ tab }
+    ensures { result ≡ column_past tab column byte }
+{
+    match byte {
+        b'\n' => 0,
+        b'\t' => (column / tab + 1).saturating_mul(tab),
+        _ => column.saturating_add(1),
+    }
+}
+
+/// The column behind the bytes of a gap that begins at a column.
+fn column_through(tab: u32, column: u32, gap: &[u8]) -> u32
+    requires { 1 ≤ tab }
+    ensures { result ≡ column_through tab column gap.now }
+{
+    let mut at = column;
+    for byte in gap {
+        at = column_past(tab, at, *byte);
+    }
+    at
+}
+
+/// Keeps the bytes of a gap, if it is marked and open; the item behind it starts at a column.
+fn keep(plan: &mut Plan<'_>, id: TokenId, mark: bool, column: u32)
+    requires { id.0 < length plan.old }
+    ensures plan { plan.new ≡ decided_all plan.old (if mark then (id.0, kept_slot column) ∷ [] else []) }
+    ensures len { length plan.new ≡ length plan.old }
+{
+    if mark {
+        let _ = plan.decide(id.0, Decision::Old, column);
+    }
+}
+
+/// Keeps the bytes of the gaps of a view that are marked, where they are open.
+pub(crate) fn keep_gaps(
+    style: &Style,
+    arena: &TokenArena<'_, '_>,
+    view: &View<'_>,
+    marks: &[bool],
+    plan: &mut Plan<'_>,
+)
+    requires tab { 1 ≤ style.now.tab_width }
+    requires within { AreWithin arena.now view.now }
+    requires count { length marks.now ≡ length view.now }
+    requires whole { length plan.old ≡ length arena.now.tokens + 1 }
+    ensures plan { plan.new ≡ decided_all plan.old (kept_decisions style.now arena.now 0 view.now marks.now) }
+    ensures len { length plan.new ≡ length plan.old }
+{
+    // Most views mark no gap.
+    if !marks.iter().any(|mark| *mark) {
+        return;
+    }
+    let mut column = 0;
+    for k in 0..view.len() {
+        let id = view.at(k);
+        let start = column_through(style.tab_width, column, arena.gap(id.0));
+        keep(plan, id, marks[k as usize], start);
+        column = column_behind(arena, start, id.0);
+    }
+}
