@@ -11,7 +11,11 @@ use Rattle.replacements.specs.Decisions.{decided_all}
 use Rattle.run_layout.specs.Rows.{item_at, column_behind}
 use Rattle.run_layout.proofs.Walked.{decided_all-append}
 use Rattle.format_core.specs.KeptGaps.{input_column, kept_slot, kept_decisions}
-use Rattle.format_core.specs.Runs.{seen_by, after_items, after_runs}
+use Rattle.directives.specs.declared.Section.{Section}
+use Rattle.directives.specs.Sections.{sections_of}
+use Rattle.replacements.specs.Written.{written}
+use Rattle.format_core.specs.LineEnds.{ends_by}
+use Rattle.format_core.specs.Runs.{seen_by, after_items, after_runs, plan_of}
 
 -- ## Runs
 
@@ -50,3 +54,15 @@ next_kept style arena plan after column start next k id ids mark marks within lo
     let items : drop k ids ≡ id ∷ drop (k + 1) ids = drop-cons ids k 0 within ∙ (ap (λ j. get_or ids k 0 ∷ drop j ids) one ∙ ap (λ (x : ℕ). x ∷ drop (k + 1) ids) at) in
     let flags : drop k marks ≡ mark ∷ drop (k + 1) marks = drop-cons marks k false (omega arith) ∙ (ap (λ j. get_or marks k false ∷ drop j marks) one ∙ ap (λ (x : Bool). x ∷ drop (k + 1) marks) is) in
     rw (items, flags, made, ends, begins) (one_kept style arena plan column id (drop (k + 1) ids) mark (drop (k + 1) marks))
+
+-- ## The text
+
+-- what was written is the text of the plan
+pub laid_is : (style : Style) (arena : Contents) (crlf : Bool) (sections : List Section) (plan : List (Option Slot)) (text laid : List ℕ) →
+    laid ≡ written style crlf arena sections plan → crlf ≡ ends_by style.line_ending text → sections ≡ sections_of arena → plan ≡ plan_of style arena → arena.text ≡ text →
+    laid ≡ written style (ends_by style.line_ending arena.text) arena (sections_of arena) (plan_of style arena)
+laid_is style arena crlf sections plan text laid is ends cut planned same =
+    is
+    ∙ (ap (λ (b : Bool). written style b arena sections plan) (ends ∙ ap (λ (z : List ℕ). ends_by style.line_ending z) (sym same))
+    ∙ (ap (λ (s : List Section). written style (ends_by style.line_ending arena.text) arena s plan) cut
+    ∙ ap (λ (p : List (Option Slot)). written style (ends_by style.line_ending arena.text) arena (sections_of arena) p) planned))

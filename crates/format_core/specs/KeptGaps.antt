@@ -1,5 +1,5 @@
 -- The gaps of a run that stay as they are: docs/PROFILE.md, "Kept gaps".
-use Rattle.std.specs.Prelude.{◌==◌, min, ℕ, ◌+◌, ◌*◌, ◌/◌, Bool, List, [], ◌∷◌, if◌then◌else◌}
+use Rattle.std.specs.Prelude.{◌==◌, min, ℕ, ◌+◌, ◌-◌, ◌%◌, Bool, List, [], ◌∷◌, if◌then◌else◌}
 use Rattle.style_table.specs.declared.style.Style.{Style}
 use Rattle.token_arena.specs.Gaps.{Contents, gap_of}
 use Rattle.indenter.specs.Rows.{most_column}
@@ -11,7 +11,7 @@ use Rattle.run_layout.specs.Rows.{item_at, column_behind}
 
 -- the column behind a byte of white space that stands at a column: a row begins behind a line end, a tab goes to the next multiple of its width
 abbrev pub column_past : ℕ → ℕ → ℕ → ℕ
-column_past tab column byte = if byte == 10 then 0 else (if byte == 9 then min ((column / tab + 1) * tab) most_column else min (column + 1) most_column)
+column_past tab column byte = if byte == 10 then 0 else (if byte == 9 then min (column + (tab - column % tab)) most_column else min (column + 1) most_column)
 
 -- the column behind the bytes of a gap that begins at a column
 abbrev pub column_through : ℕ → ℕ → List ℕ → ℕ

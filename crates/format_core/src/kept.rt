@@ -1,6 +1,7 @@
 //! Gaps of a run that stay as they are, and the columns of the input.
 
 ghost use Rattle.std.specs.Prelude.{◌≡◌, ◌<◌, ◌≤◌, ◌+◌, ◌∷◌, [], if◌then◌else◌, length};
+ghost use Rattle.std.specs.List.{list_any};
 ghost use Rattle.brackets.specs.Viewed.{AreWithin};
 ghost use Rattle.replacements.specs.Decisions.{decided_all};
 ghost use Rattle.format_core.specs.KeptGaps.{column_past, column_through, input_column, kept_decisions, kept_slot};
@@ -20,7 +21,7 @@ fn column_past(tab: u32, column: u32, byte: u8) -> u32
 {
     match byte {
         b'\n' => 0,
-        b'\t' => (column / tab + 1).saturating_mul(tab),
+        b'\t' => column.saturating_add(tab - column % tab),
         _ => column.saturating_add(1),
     }
 }
@@ -48,6 +49,13 @@ fn keep(plan: &mut Plan<'_>, id: TokenId, mark: bool, column: u32)
     }
 }
 
+/// Whether some gap is marked.
+fn some_marked(marks: &[bool]) -> bool
+    ensures { result ≡ list_any (λ mark. mark) marks.now }
+{
+    marks.iter().any(|mark| *mark)
+}
+
 /// Keeps the bytes of the gaps of a view that are marked, where they are open.
 pub(crate) fn keep_gaps(
     style: &Style,
@@ -64,7 +72,7 @@ pub(crate) fn keep_gaps(
     ensures len { length plan.new ≡ length plan.old }
 {
     // Most views mark no gap.
-    if !marks.iter().any(|mark| *mark) {
+    if !some_marked(marks) {
         return;
     }
     let mut column = 0;

@@ -1,9 +1,7 @@
-use Rattle.std.proofs.Common.{◌≡◌, ◌∙◌, List, ℕ, ap, sym}
-use Rattle.directives.specs.Sections.{sections_of}
-use Rattle.replacements.specs.Written.{written}
-use Rattle.format_core.specs.LineEnds.{ends_by}
-use Rattle.format_core.specs.Runs.{plan_of}
+use Rattle.std.proofs.Common.{sym}
+use Rattle.format_core.proofs.Planned.{laid_is}
 use Rattle.format_core.proofs.SoundPlan.{planned_twin, twin_along}
+use Rattle.format_core.specs.LineEnds.{ends_by}
 use Rattle.format_core.proofs.formatted.format.Goals as goal
 
 pub returns-clause-formats : goal.returns-clause-formats
@@ -15,8 +13,15 @@ returns-clause-formats c =
       text = is.text_is;
       dialect = is.dialect_is;
       holds = is.holds;
-      planned = ?;
+      planned = laid_is c.args.style.now arena c.ends_by-crlf.result c.in_ok-sections.sections.now c.in_ok-plan.plan c.args.text.now c.in_ok-laid_out.laid_out.items c.in_ok-laid_out.ensures c.ends_by-crlf.ensures
+          c.in_ok-sections.ensures.sections c.in_ok-plan.ensures.plan is.text_is;
     }
 
 pub returns-clause-twins : goal.returns-clause-twins
-returns-clause-twins c = ?
+returns-clause-twins c =
+    let style = c.args.style.now in
+    let arena = c.in_ok-arena.arena in
+    let is = c.in_ok-arena.ensures.arena in
+    let laid = laid_is style arena c.ends_by-crlf.result c.in_ok-sections.sections.now c.in_ok-plan.plan c.args.text.now c.in_ok-laid_out.laid_out.items c.in_ok-laid_out.ensures c.ends_by-crlf.ensures
+    c.in_ok-sections.ensures.sections c.in_ok-plan.ensures.plan is.text_is in
+    twin_along _ _ _ _ _ _ is.dialect_is is.text_is (sym laid) (planned_twin style (ends_by style.line_ending arena.text) arena is.holds)
