@@ -14,5 +14,4 @@ mod run;
 mod tests;
 
 pub use laws::runs_stay_sound;
-pub use line_tokens::NoMemory;
 pub use run::lay_out_run;
