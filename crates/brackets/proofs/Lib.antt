@@ -1,3 +1,4 @@
 pub mod Lists
 pub mod Spellings
 pub mod BracketLemmas
+pub mod WordLemmas
