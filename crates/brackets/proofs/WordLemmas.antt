@@ -1,16 +1,15 @@
 -- A word is looked for among the words with its first character alone.
-use Rattle.std.proofs.Common.{◌≡◌, ◌≢◌, ◌∙◌, ◌==◌, ◌||◌, ◌&&◌, ℕ, zero, suc, ◌<◌, Bool, true, false, cond, List, [], ◌∷◌, ◌++◌, length, get_or, filter, refl, sym, ap, subst, arith, eq-eqb, bytes_eq}
+use Rattle.std.proofs.Common.{◌≡◌, ◌≢◌, ◌∙◌, ◌==◌, ◌||◌, ℕ, zero, suc, ◌<◌, Bool, true, false, cond, List, [], ◌∷◌, ◌++◌, length, get_or, filter, refl, sym, ap, arith, eq-eqb, bytes_eq}
 use Rattle.std.specs.List.{list_all, list_any}
 use Rattle.std.proofs.lemmas.Bool.{and_parts, eqb-true, ne_eqb, false_from_ne_true, false≢true}
 use Rattle.std.proofs.lemmas.Slice.Eq.{bytes_eq-Decides}
 use Rattle.brackets.specs.declared.class.TokenClass.{TokenClass}
-use Rattle.brackets.specs.Words.{class_in, statement_words, call_words, type_words, words, begins, named_class, word_class}
+use Rattle.brackets.specs.Words.{class_in, statement_words, call_words, type_words, words, begins, named_class, word_class, punctuators}
 
 -- a character is none of these
 abbrev pub Outside : ℕ → List ℕ → Type 0
 Outside b [] = Unit {0}
 Outside b (l ∷ ls) = (b ≢ l) × Outside b ls
-
 
 not_among : (b x : ℕ) (ls : List ℕ) → Outside b ls → list_any (λ l. l == x) ls ≡ true → b ≢ x
 not_among b x [] o h = absurd (false≢true h)
@@ -61,7 +60,20 @@ word_class_begins b (x ∷ s) some first =
     ∙ class_in-append statement_words (call_words ++ type_words) (x ∷ s) other
     ∙ ap (λ (class : TokenClass). class_in statement_words (x ∷ s) class) (class_in-append call_words type_words (x ∷ s) other)
 
--- where there is no character, there is no word of the language
-pub word_class_empty : (s : List ℕ) → length s ≡ 0 → named_class s ≡ word_class s
-word_class_empty [] none = refl
-word_class_empty (x ∷ s) none = absurd (omega arith)
+-- the characters that punctuators with a class of their own begin with
+abbrev pub first_marks : List ℕ
+first_marks = 37 ∷ 40 ∷ 41 ∷ 44 ∷ 58 ∷ 59 ∷ 60 ∷ 61 ∷ 63 ∷ 91 ∷ 93 ∷ 123 ∷ 125 ∷ []
+
+-- no punctuator with a class of its own begins with another character
+pub no_other_mark : (b : ℕ) → Outside b first_marks → filter (begins b) punctuators ≡ []
+no_other_mark b o = none_begins b first_marks punctuators o refl
+
+-- a punctuator's class is told by the punctuators with its first character
+pub mark_class_begins : (b : ℕ) (s : List ℕ) (named : TokenClass) → 0 < length s → b ≡ get_or s 0 0 → class_in (filter (begins b) punctuators) s named ≡ class_in punctuators s named
+mark_class_begins b [] named some first = absurd (omega arith)
+mark_class_begins b (x ∷ s) named some first = ap (λ (y : ℕ). class_in (filter (begins y) punctuators) (x ∷ s) named) first ∙ class_in-begins x s punctuators named
+
+-- a text that isn't empty has a first character
+pub some_first : (n : ℕ) (none : Bool) → none ≡ (n == 0) → none ≡ false → 0 < n
+some_first zero none e f = absurd (false≢true (sym f ∙ e))
+some_first (suc n) none e f = omega arith

@@ -194,26 +194,46 @@ pub(crate) fn word_class(spelled: &[u8]) -> TokenClass
     listed_class(spelled[0], spelled, other)
 }
 
-/// The class of a punctuator.
+/// The class of a punctuator that begins with this byte and has a class of its own, and `other` where it has none.
+#[tactic(none)]
+fn listed_mark(first: u8, spelled: &[u8], other: TokenClass) -> TokenClass
+    ensures { result ≡ class_in (filter (begins first) punctuators) spelled.now other }
+{
+    match first {
+        b'%' => class_in(&[(b"%>", TokenClass::CloseBrace)], spelled, other),
+        b'(' => class_in(&[(b"(", TokenClass::OpenRound)], spelled, other),
+        b')' => class_in(&[(b")", TokenClass::CloseRound)], spelled, other),
+        b',' => class_in(&[(b",", TokenClass::Comma)], spelled, other),
+        b':' => class_in(
+            &[(b":>", TokenClass::CloseSquare), (b":", TokenClass::Colon)],
+            spelled,
+            other,
+        ),
+        b';' => class_in(&[(b";", TokenClass::Semicolon)], spelled, other),
+        b'<' => class_in(
+            &[
+                (b"<:", TokenClass::OpenSquare),
+                (b"<%", TokenClass::OpenBrace),
+            ],
+            spelled,
+            other,
+        ),
+        b'=' => class_in(&[(b"=", TokenClass::Equals)], spelled, other),
+        b'?' => class_in(&[(b"?", TokenClass::Question)], spelled, other),
+        b'[' => class_in(&[(b"[", TokenClass::OpenSquare)], spelled, other),
+        b']' => class_in(&[(b"]", TokenClass::CloseSquare)], spelled, other),
+        b'{' => class_in(&[(b"{", TokenClass::OpenBrace)], spelled, other),
+        b'}' => class_in(&[(b"}", TokenClass::CloseBrace)], spelled, other),
+        _ => other,
+    }
+}
+
+/// The class of a punctuator, which is looked for among those with its first byte.
 pub(crate) fn punctuator_class(spelled: &[u8]) -> TokenClass
     ensures { result ≡ class_in punctuators spelled.now Other }
 {
-    let rows: [(&[u8], TokenClass); 15] = [
-        (b"(", TokenClass::OpenRound),
-        (b")", TokenClass::CloseRound),
-        (b"[", TokenClass::OpenSquare),
-        (b"<:", TokenClass::OpenSquare),
-        (b"]", TokenClass::CloseSquare),
-        (b":>", TokenClass::CloseSquare),
-        (b"{", TokenClass::OpenBrace),
-        (b"<%", TokenClass::OpenBrace),
-        (b"}", TokenClass::CloseBrace),
-        (b"%>", TokenClass::CloseBrace),
-        (b":", TokenClass::Colon),
-        (b";", TokenClass::Semicolon),
-        (b",", TokenClass::Comma),
-        (b"?", TokenClass::Question),
-        (b"=", TokenClass::Equals),
-    ];
-    class_in(&rows, spelled, TokenClass::Other)
+    if spelled.is_empty() {
+        return TokenClass::Other;
+    }
+    listed_mark(spelled[0], spelled, TokenClass::Other)
 }
