@@ -29,7 +29,7 @@ fn lines_between<'r>(
 ) -> Result<Vec<ULine, &'r Bump>, NoMemory>
     ensures { IfOk result (λ lines. lines.items ≡ lines_between count begins.now) }
 {
-    let mut lines = Vec::new(run);
+    let mut lines = Vec::with_capacity(run, begins.len())?;
     for (j, begin) in begins.iter().enumerate() {
         let end = match begins.get(j + 1) {
             Some(next) => next.first,

@@ -48,11 +48,12 @@ fn colon_touches(arena: &TokenArena<'_, '_>, id: u32, run: &Bump) -> Result<bool
 }
 
 /// How many tokens that are no comments stand before each place.
-fn numbers<'r>(classes: &[TokenClass], run: &'r Bump) -> Result<Vec<usize, &'r Bump>, NoMemory>
+fn numbers<'r>(classes: &[TokenClass], run: &'r Bump) -> Result<Vec<u32, &'r Bump>, NoMemory>
+    requires { length classes.now ≤ LIMIT }
     ensures { IfOk result (λ numbers. numbers.items ≡ numbers_of classes.now) }
 {
     let mut numbers = Vec::with_capacity(run, classes.len())?;
-    let mut number: usize = 0;
+    let mut number: u32 = 0;
     for class in classes {
         numbers.push(number)?;
         if !class.is_comment() {
@@ -63,7 +64,7 @@ fn numbers<'r>(classes: &[TokenClass], run: &'r Bump) -> Result<Vec<usize, &'r B
 }
 
 /// A partner, counted over the tokens that are no comments.
-fn partner_number(numbers: &[usize], partners: &[Option<u32>], k: usize) -> Option<usize>
+fn partner_number(numbers: &[u32], partners: &[Option<u32>], k: usize) -> Option<u32>
     ensures { result ≡ partner_number numbers.now (slice_get partners.now k) }
 {
     match partners.get(k) {
