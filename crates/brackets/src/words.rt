@@ -9,6 +9,7 @@ ghost use Rattle.brackets.specs.declared.class.TokenClass.TheVariants.{Other};
 use crate::class::TokenClass;
 
 /// The class in the first row with this spelling, and `other` where none has it.
+#[inline(always)]
 fn class_in(rows: &[(&[u8], TokenClass)], spelled: &[u8], other: TokenClass) -> TokenClass
     ensures { result ≡ class_in (map (λ row. (row.0.now, row.1)) rows.now) spelled.now other }
 {
@@ -55,8 +56,8 @@ fn named_class(spelled: &[u8]) -> TokenClass
     }
 }
 
-#[tactic(none)]
 /// The class of a word of the language that begins with this byte, and `other` where it is none.
+#[tactic(none)]
 fn listed_class(first: u8, spelled: &[u8], other: TokenClass) -> TokenClass
     ensures { result ≡ class_in (filter (begins first) words) spelled.now other }
 {
