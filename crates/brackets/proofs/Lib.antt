@@ -4,3 +4,4 @@ pub mod BracketLemmas
 pub mod KeptLemmas
 pub mod KeptPlaces
 pub mod KeptSteps
+pub mod WordLemmas

@@ -1,5 +1,5 @@
 -- The class of a token by its spelling. docs/PROFILE.md has the words under "Statements and lines".
-use Rattle.std.specs.Prelude.{◌==◌, ◌&&◌, not, ℕ, nat_le, nat_eq, Bool, List, [], ◌∷◌, length, codes, bytes_eq, if◌then◌else◌}
+use Rattle.std.specs.Prelude.{◌==◌, ◌&&◌, not, ℕ, nat_le, nat_eq, Bool, List, [], ◌∷◌, ◌++◌, length, get_or, codes, bytes_eq, if◌then◌else◌}
 use Rattle.std.specs.Char.{is_ascii_lowercase}
 use Rattle.std.specs.List.{list_any, ends_with}
 use Rattle.c_chars.specs.declared.Dialect.{Dialect}
@@ -37,6 +37,14 @@ type_words =
     ∷ (codes "restrict", OtherWord) ∷ (codes "static", OtherWord) ∷ (codes "typedef", OtherWord) ∷ (codes "register", OtherWord)
     ∷ (codes "inline", OtherWord) ∷ (codes "auto", OtherWord) ∷ (codes "_Atomic", OtherWord) ∷ (codes "_Noreturn", OtherWord)
     ∷ (codes "_Thread_local", OtherWord) ∷ []
+
+-- all of these words
+abbrev pub words : List (List ℕ × TokenClass)
+words = statement_words ++ (call_words ++ type_words)
+
+-- a row whose word begins with this character
+abbrev pub begins : ℕ → List ℕ × TokenClass → Bool
+begins b row = b == get_or row.0 0 0
 
 -- at least two characters, and none of `a` to `z`
 abbrev pub is_in_capitals : List ℕ → Bool

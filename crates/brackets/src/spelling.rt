@@ -19,6 +19,7 @@ fn is_itself(byte: u8) -> bool
 }
 
 /// Whether each byte is a character by itself.
+#[inline(always)]
 fn are_themselves(raw: &[u8]) -> bool
     ensures { result ≡ list_all is_itself raw.now }
 {

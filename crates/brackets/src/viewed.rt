@@ -57,9 +57,11 @@ pub fn classes<'r>(
     let count = view.len();
     let items = arena.len();
     prove!(count <= items);
-    let mut classes = Vec::new(run);
+    let mut classes = Vec::with_capacity(run, count as usize)?;
+    let mut segment = 0;
     for k in 0..count {
-        classes.push(item_class(arena, view.at(k), run)?)?;
+        let id = view.at_near(k, &mut segment);
+        classes.push(item_class(arena, id, run)?)?;
     }
     Ok(into_bump_slice(classes))
 }

@@ -19,7 +19,7 @@ use std::alloc::Global;
 use style_table::Style;
 use token_arena::TokenArena;
 use token_views::View;
-use unwrapped_lines::lines;
+use unwrapped_lines::lines_of_classes;
 
 /// Decides the gaps of the items that a run sees, where they are open: first those that stay as they are.
 fn lay_out_items(
@@ -39,8 +39,9 @@ fn lay_out_items(
     let partners = partners_of_classes(classes, run)?;
     let kept = kept_gaps(classes, partners, run)?;
     keep_gaps(style, arena, view, kept, plan);
-    let lines = lines(style, arena, view, partners, run)?;
-    lay_out_run(style, arena, view, lines, plan, run)
+    let lines = lines_of_classes(style, arena, view, classes, partners, run)?;
+    lay_out_run(style, arena, view, classes, lines, plan);
+    Ok(())
 }
 
 /// Decides the gaps of the items that the run with this number sees, where they are open.

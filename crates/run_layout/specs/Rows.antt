@@ -10,6 +10,7 @@ use Rattle.line_tokens.specs.declared.role.Role.TheVariants.{BlockClose, Word}
 use Rattle.token_arena.specs.Stored.{Stored}
 use Rattle.token_arena.specs.Gaps.{Contents}
 use Rattle.brackets.specs.declared.class.TokenClass.{TokenClass}
+use Rattle.brackets.specs.declared.class.TokenClass.TheVariants.{Nothing}
 use Rattle.brackets.specs.Classes.{is_open_brace, is_close_brace}
 use Rattle.brackets.specs.Viewed.{item_class}
 use Rattle.unwrapped_lines.specs.declared.line.ULine.{ULine}
@@ -91,6 +92,11 @@ abbrev pub is_behind_brace : Contents → Option ℕ → Bool
 is_behind_brace arena None = false
 is_behind_brace arena (Some id) = is_open_brace (item_class arena id)
 
+-- a `{` stands before a place, where the places have these classes
+abbrev pub opens_before : List TokenClass → ℕ → Bool
+opens_before classes zero = false
+opens_before classes (suc k) = is_open_brace (get_or classes k Nothing)
+
 -- the empty lines before an item, where the `{` of a block stands directly before it or doesn't
 abbrev pub empty_rows : Style → ULine → Bool → LineTok → ℕ
 empty_rows style line opened token = if opened && not style.keep_empty_lines_at_the_start_of_blocks then 0 else empty_lines style None line token
@@ -101,11 +107,15 @@ empty_rows style line opened token = if opened && not style.keep_empty_lines_at_
 abbrev pub continuation_column : Style → ULine → ℕ
 continuation_column style line = min (start_column style line + style.continuation_indent_width) most_column
 
--- before the first item of a line stand its empty lines; before the file's first item nothing
-abbrev pub first_decision : Style → Contents → ULine → Option ℕ → ℕ → Decision
-first_decision style arena line before id =
+-- before the first item of a line, of this class and behind a `{` or not, stand its empty lines; before the file's first item nothing
+abbrev pub first_of_line : Style → Contents → ULine → Bool → TokenClass → ℕ → Decision
+first_of_line style arena line opened class id =
     if id == 0 then Spaces 0
-    else Lines (1 + empty_rows style line (is_behind_brace arena before) (row_token arena id (first_role (item_class arena id)))) (start_column style line) line.level
+    else Lines (1 + empty_rows style line opened (row_token arena id (first_role class))) (start_column style line) line.level
+
+-- before the first item of a line
+abbrev pub first_decision : Style → Contents → ULine → Option ℕ → ℕ → Decision
+first_decision style arena line before id = first_of_line style arena line (is_behind_brace arena before) (item_class arena id) id
 
 -- the empty lines before a further row: only behind a directive are there any
 abbrev pub empty_further : Style → Contents → ULine → Option ℕ → ℕ → ℕ

@@ -15,5 +15,4 @@ mod tests;
 
 pub use columns::column_behind;
 pub use laws::runs_stay_sound;
-pub use line_tokens::NoMemory;
 pub use run::lay_out_run;

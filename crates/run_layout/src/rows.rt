@@ -1,18 +1,18 @@
 //! What stands before the items of a line.
 
-ghost use Rattle.std.specs.Prelude.{◌≡◌, ◌<◌, ◌+◌, ◌^◌, IfOk, length};
+ghost use Rattle.std.specs.Prelude.{◌≡◌, ◌<◌, ◌+◌, ◌^◌, length, get_or};
 ghost use Rattle.std.specs.Option.{ForSome};
 ghost use Rattle.c_grammar.specs.Fitting.{is_comment};
 ghost use Rattle.c_grammar.specs.Touch.{takes_line};
-ghost use Rattle.run_layout.specs.Rows.{item_before, follows, takes_row, is_begun_comment, item_at, row_ends, row_token, first_role, is_behind_brace, empty_rows, first_decision, empty_further, blanks, inner_decision, item_decision};
+ghost use Rattle.brackets.specs.Viewed.{AreWithin, classes_of};
+ghost use Rattle.run_layout.specs.Rows.{item_before, follows, takes_row, is_begun_comment, item_at, row_ends, row_token, first_role, opens_before, empty_rows, first_of_line, empty_further, blanks, inner_decision, decision_at};
 
 use crate::columns::continuation_column;
 use crate::item::item;
-use brackets::{TokenClass, item_class};
-use bumpalo::Bump;
+use brackets::TokenClass;
 use gap_text::Decision;
 use indenter::{empty_lines, start_column};
-use line_tokens::{ItemKind, LineTok, NoMemory, Role, TokenId};
+use line_tokens::{ItemKind, LineTok, Role, TokenId};
 use style_table::Style;
 use token_arena::TokenArena;
 use token_views::View;
@@ -33,14 +33,14 @@ fn takes_line(kind: ItemKind) -> bool
 }
 
 /// The item before a place of a view.
-pub(crate) fn item_before(view: &View<'_>, k: u32) -> Option<u32>
+pub(crate) fn item_before(view: &View<'_>, k: u32, segment: &mut usize) -> Option<u32>
     requires { k < length view.now }
     ensures { result ≡ item_before view.now k }
 {
     if k == 0 {
         return None;
     }
-    Some(view.at(k - 1).0)
+    Some(view.at_near(k - 1, segment).0)
 }
 
 /// Whether an item comes next in the text behind the one before it in the view.
@@ -119,22 +119,12 @@ fn first_role(class: TokenClass) -> Role
     }
 }
 
-/// Whether the item before is a `{`.
-fn is_behind_brace(
-    arena: &TokenArena<'_, '_>,
-    before: Option<u32>,
-    run: &Bump,
-) -> Result<bool, NoMemory>
-    requires { ForSome before (λ id. id < length arena.now.tokens) }
-    ensures { IfOk result (λ opened. opened ≡ is_behind_brace arena.now before) }
+/// Whether a `{` stands before a place, where the places have these classes.
+fn opens_before(classes: &[TokenClass], k: u32) -> bool
+    requires { k < length classes.now }
+    ensures { result ≡ opens_before classes.now k }
 {
-    match before {
-        None => Ok(false),
-        Some(id) => {
-            let class = item_class(arena, TokenId(id), run)?;
-            Ok(class.is_open_brace())
-        }
-    }
+    k > 0 && classes[k as usize - 1].is_open_brace()
 }
 
 /// The empty lines before an item, where the `{` of a block stands directly before it or doesn't.
@@ -149,30 +139,27 @@ fn empty_rows(style: &Style, line: &ULine, opened: bool, token: &LineTok) -> u32
     empty_lines(style, None, line, token)
 }
 
-/// What stands before the first item of a line.
-fn first_decision(
+/// What stands before the first item of a line, behind a `{` or not.
+fn first_of_line(
     style: &Style,
     arena: &TokenArena<'_, '_>,
     line: &ULine,
-    before: Option<u32>,
+    opened: bool,
+    class: TokenClass,
     id: u32,
-    run: &Bump,
-) -> Result<Decision, NoMemory>
-    requires before { ForSome before (λ id. id < length arena.now.tokens) }
-    requires within { id < length arena.now.tokens }
-    ensures { IfOk result (λ decision. decision ≡ first_decision style.now arena.now line.now before id) }
+) -> Decision
+    requires { id < length arena.now.tokens }
+    ensures { result ≡ first_of_line style.now arena.now line.now opened class id }
 {
     if id == 0 {
-        return Ok(Decision::Spaces(0));
+        return Decision::Spaces(0);
     }
-    let opened = is_behind_brace(arena, before, run)?;
-    let class = item_class(arena, TokenId(id), run)?;
     let token = row_token(arena, id, first_role(class));
-    Ok(Decision::Lines {
+    Decision::Lines {
         count: 1 + empty_rows(style, line, opened, &token),
         column: start_column(style, line),
         level: line.level,
-    })
+    }
 }
 
 /// The empty lines before a further row of a line.
@@ -225,22 +212,29 @@ fn inner_decision(
     }
 }
 
-/// What stands before an item that begins its line or doesn't.
-pub(crate) fn item_decision(
+/// What stands before the item at a place of a line, which is this one behind that one.
+pub(crate) fn decision_at(
     style: &Style,
     arena: &TokenArena<'_, '_>,
+    view: &View<'_>,
+    classes: &[TokenClass],
     line: &ULine,
-    begins: bool,
+    k: u32,
     before: Option<u32>,
     id: u32,
-    run: &Bump,
-) -> Result<Decision, NoMemory>
-    requires before { ForSome before (λ id. id < length arena.now.tokens) }
-    requires within { id < length arena.now.tokens }
-    ensures { IfOk result (λ decision. decision ≡ item_decision style.now arena.now line.now begins before id) }
+) -> Decision
+    requires classes { classes.now ≡ classes_of arena.now view.now }
+    requires place { k < length view.now }
+    requires items { AreWithin arena.now view.now }
+    requires before { before ≡ item_before view.now k }
+    requires id { get_or view.now k 0 ≡ id }
+    ensures { result ≡ decision_at style.now arena.now view.now line.now k }
 {
-    if begins {
-        return first_decision(style, arena, line, before, id, run);
+    let count = classes.len();
+    prove!((k as usize) < count);
+    if k == line.first {
+        let opened = opens_before(classes, k);
+        return first_of_line(style, arena, line, opened, classes[k as usize], id);
     }
-    Ok(inner_decision(style, arena, line, before, id))
+    inner_decision(style, arena, line, before, id)
 }

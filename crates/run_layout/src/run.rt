@@ -1,16 +1,16 @@
 //! The decisions of a run.
 
-ghost use Rattle.std.specs.Prelude.{◌≡◌, ◌<◌, ◌≤◌, ◌+◌, OnOk, length};
-ghost use Rattle.brackets.specs.Viewed.{AreWithin};
+ghost use Rattle.std.specs.Prelude.{◌≡◌, ◌<◌, ◌≤◌, ◌+◌, length};
+ghost use Rattle.brackets.specs.Viewed.{AreWithin, classes_of};
 ghost use Rattle.unwrapped_lines.specs.Lines.{CutPlaces};
 ghost use Rattle.replacements.specs.Decisions.{decided, decided_all, slot_of};
 ghost use Rattle.run_layout.specs.Run.{start_of, line_decisions, run_decisions};
 
 use crate::columns::{column_behind, start_behind};
-use crate::rows::{item_before, item_decision};
-use bumpalo::Bump;
+use crate::rows::{decision_at, item_before};
+use brackets::TokenClass;
 use gap_text::Decision;
-use line_tokens::{NoMemory, TokenId};
+use line_tokens::TokenId;
 use replacements::Plan;
 use style_table::Style;
 use token_arena::TokenArena;
@@ -31,56 +31,57 @@ fn decide(plan: &mut Plan<'_>, id: TokenId, decision: Decision, end: u32) -> u32
     }
 }
 
-/// Decides the gaps of a line.
+/// Decides the gaps of a line. `segment` is the number of the view's segment that was looked into last.
 fn lay_out_line(
     style: &Style,
     arena: &TokenArena<'_, '_>,
     view: &View<'_>,
+    classes: &[TokenClass],
     line: &ULine,
     plan: &mut Plan<'_>,
-    run: &Bump,
-) -> Result<(), NoMemory>
+    segment: &mut usize,
+)
     requires within { AreWithin arena.now view.now }
+    requires classes { classes.now ≡ classes_of arena.now view.now }
     requires some { line.now.first ≤ line.now.last }
     requires places { line.now.last < length view.now }
     requires whole { length plan.old ≡ length arena.now.tokens + 1 }
-    ensures plan { OnOk result (plan.new ≡ decided_all plan.old (line_decisions style.now arena.now view.now plan.old line.now)) }
-    ensures len { OnOk result (length plan.new ≡ length plan.old) }
+    ensures plan { plan.new ≡ decided_all plan.old (line_decisions style.now arena.now view.now plan.old line.now) }
+    ensures len { length plan.new ≡ length plan.old }
 {
     let count = view.len();
     prove!(line.last < count);
     let mut column = 0;
-    let mut before = item_before(view, line.first);
+    let mut before = item_before(view, line.first, segment);
     for k in line.first..line.last + 1 {
-        let id = view.at(k);
-        let begins = k == line.first;
-        let decision = item_decision(style, arena, line, begins, before, id.0, run)?;
+        let id = view.at_near(k, segment);
+        let decision = decision_at(style, arena, view, classes, line, k, before, id.0);
         let start = decide(plan, id, decision, start_behind(column, decision));
         column = column_behind(arena, start, id.0);
         before = Some(id.0);
     }
-    Ok(())
 }
 
 /// Decides the gap before each item of a view, which these lines cut, where it is open.
 ///
-/// `docs/PROFILE.md` says under "Layout of lines" what stands there. Want of memory is the only error.
+/// `classes` are those of the view's places. `docs/PROFILE.md` says under "Layout of lines" what stands there.
 pub fn lay_out_run(
     style: &Style,
     arena: &TokenArena<'_, '_>,
     view: &View<'_>,
+    classes: &[TokenClass],
     lines: &[ULine],
     plan: &mut Plan<'_>,
-    run: &Bump,
-) -> Result<(), NoMemory>
+)
     requires within { AreWithin arena.now view.now }
+    requires classes { classes.now ≡ classes_of arena.now view.now }
     requires cut { CutPlaces 0 (length view.now) lines.now }
     requires whole { length plan.old ≡ length arena.now.tokens + 1 }
-    ensures plan { OnOk result (plan.new ≡ decided_all plan.old (run_decisions style.now arena.now view.now plan.old lines.now)) }
-    ensures len { OnOk result (length plan.new ≡ length plan.old) }
+    ensures plan { plan.new ≡ decided_all plan.old (run_decisions style.now arena.now view.now plan.old lines.now) }
+    ensures len { length plan.new ≡ length plan.old }
 {
+    let mut segment = 0;
     for line in lines {
-        lay_out_line(style, arena, view, line, plan, run)?;
+        lay_out_line(style, arena, view, classes, line, plan, &mut segment);
     }
-    Ok(())
 }

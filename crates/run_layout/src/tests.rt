@@ -4,7 +4,7 @@ ghost use Rattle.std.specs.Prelude.{◌≡◌, ◌+◌, length};
 ghost use Rattle.brackets.specs.Viewed.{AreWithin};
 
 use crate::lay_out_run;
-use brackets::partners;
+use brackets::{classes, partners_of_classes};
 use bumpalo::Bump;
 use gap_text::Decision;
 use replacements::{Decided, Plan};
@@ -14,7 +14,7 @@ use std::test::Fail;
 use style_table::Style;
 use token_arena::{Dialect, TokenArena, build};
 use token_views::{Stretch, View};
-use unwrapped_lines::lines;
+use unwrapped_lines::lines_of_classes;
 
 /// A text with the text of its items and decisions in a style.
 type Case = (&'static str, &'static str, &'static str, &'static str);
@@ -161,10 +161,11 @@ fn is_laid_out(
 {
     let (name, style, _, want) = *case;
     let style = Style::named(style).ok_or("a style")?;
-    let partners = partners(arena, view, run)?;
-    let lines = lines(&style, arena, view, partners, run)?;
+    let classes = classes(arena, view, run)?;
+    let partners = partners_of_classes(classes, run)?;
+    let lines = lines_of_classes(&style, arena, view, classes, partners, run)?;
     let mut plan = Plan::make(arena, run)?;
-    lay_out_run(&style, arena, view, lines, &mut plan, run)?;
+    lay_out_run(&style, arena, view, classes, lines, &mut plan);
     let text = drawn(rt, alloc, arena, view, &plan)?;
     assert!(rt; text.as_slice() == want.as_bytes(), "{name}");
     Ok(())
@@ -204,11 +205,12 @@ fn goes_on_from_what_is_decided(rt: HostRuntime) -> Result<(), Fail> {
     let arena = build(&run, b"a b c", Dialect::C11)?;
     assert_eq!(rt; arena.len(), 3);
     let view = View::of(0, 3, &run)?;
-    let partners = partners(&arena, &view, &run)?;
-    let lines = lines(&style, &arena, &view, partners, &run)?;
+    let classes = classes(&arena, &view, &run)?;
+    let partners = partners_of_classes(classes, &run)?;
+    let lines = lines_of_classes(&style, &arena, &view, classes, partners, &run)?;
     let mut plan = Plan::make(&arena, &run)?;
     assert_eq!(rt; plan.decide(1, Decision::Old, 9), Decided::New);
-    lay_out_run(&style, &arena, &view, lines, &mut plan, &run)?;
+    lay_out_run(&style, &arena, &view, classes, lines, &mut plan);
     let kept = plan.slot(1).ok_or("a decision")?;
     assert_eq!(rt; kept.decision, Decision::Old);
     assert_eq!(rt; kept.end, 9);

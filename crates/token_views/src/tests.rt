@@ -32,9 +32,11 @@ fn finds_each_place(rt: HostRuntime) -> Result<(), Fail> {
         (17, false),
     ];
     let mut k = 0;
+    let mut number = 0;
     for (id, behind_directive) in places {
         assert!(rt; k < view.len());
         assert_eq!(rt; view.at(k).0, id, "place {k}");
+        assert_eq!(rt; view.at_near(k, &mut number).0, id, "place {k}");
         assert_eq!(rt; view.directive_before(k), behind_directive, "place {k}");
         k += 1;
     }

@@ -1,6 +1,7 @@
 //! Views and their segments.
 
 ghost use Rattle.std.specs.Prelude.{◌≡◌, ◌≢◌, ◌<◌, ◌≤◌, ◌+◌, ◌-◌, ◌↔◌, ℕ, All, map, length, get_or, IsTrue, IfOk};
+ghost use Rattle.std.specs.Bool.{OnTrue};
 ghost use Rattle.std.specs.List.{range_with_len};
 ghost use Rattle.token_views.specs.Segments.{segment_bounds, ids_of, AreSegments, HasPlace, AscendFrom, bounds_of};
 ghost use Rattle.token_views.specs.Ids.{Increase};
@@ -126,7 +127,21 @@ impl<'r> View<'r> {
         requires { k < length self.now }
         ensures { (d : ℕ) → get_or self.now k d ≡ result.0 }
     {
-        let segment = self.segments[segment_at(self.segments, k)];
+        let mut segment = 0;
+        self.at_near(k, &mut segment)
+    }
+
+    /// The item at a place. It is looked for in the segment with this number first, which then becomes the number
+    /// of its segment: who asks for one place after another starts at 0 and searches once for each segment.
+    #[inline(always)]
+    pub fn at_near(&self, k: u32, number: &mut usize) -> TokenId
+        requires { k < length self.now }
+        ensures { (d : ℕ) → get_or self.now k d ≡ result.0 }
+    {
+        if !has_place(self.segments, *number, k) {
+            *number = segment_at(self.segments, k);
+        }
+        let segment = self.segments[*number];
         TokenId(segment.first + (k - segment.before))
     }
 
@@ -140,7 +155,22 @@ impl<'r> View<'r> {
     }
 }
 
+// Whether the segment with this number has a place.
+#[inline(always)]
+fn has_place(segments: &[Segment], number: usize, k: u32) -> bool
+    requires { AreSegments segments.now }
+    ensures within { OnTrue result (number < length segments.now) }
+    ensures has { OnTrue result (HasPlace segments.now k number) }
+{
+    if number >= segments.len() {
+        return false;
+    }
+    let segment = segments[number];
+    segment.before <= k && k - segment.before < segment.end - segment.first
+}
+
 // The number of the segment that has a place.
+#[inline(never)]
 fn segment_at(segments: &[Segment], k: u32) -> usize
     requires rule { AreSegments segments.now }
     requires within { k < length (ids_of (map segment_bounds segments.now)) }

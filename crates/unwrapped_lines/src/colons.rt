@@ -13,7 +13,7 @@ use bumpalo::Bump;
 use line_tokens::NoMemory;
 
 /// The first colon at a place or behind it that answers no question mark, by those of the places behind it.
-fn colon_from(tokens: &[CodeToken], colons: &[usize], place: usize) -> usize
+fn colon_from(tokens: &[CodeToken], colons: &[u32], place: usize) -> usize
     requires here { place < length tokens.now }
     requires few { length tokens.now < 2 ^ 30 }
     requires behind { AreColonsFrom (place + 1) colons.now tokens.now }
@@ -21,16 +21,16 @@ fn colon_from(tokens: &[CodeToken], colons: &[usize], place: usize) -> usize
 {
     let class = class_at(tokens, place);
     if class.is_question() {
-        let answer = colons[place + 1];
+        let answer = colons[place + 1] as usize;
         if answer < tokens.len() {
-            colons[answer + 1]
+            colons[answer + 1] as usize
         } else {
             tokens.len()
         }
     } else if class.is_colon() {
         place
     } else {
-        colons[step_over(tokens, tokens.len(), place)]
+        colons[step_over(tokens, tokens.len(), place)] as usize
     }
 }
 
@@ -38,23 +38,23 @@ fn colon_from(tokens: &[CodeToken], colons: &[usize], place: usize) -> usize
 pub(crate) fn colons<'r>(
     tokens: &[CodeToken],
     run: &'r Bump,
-) -> Result<Vec<usize, &'r Bump>, NoMemory>
+) -> Result<Vec<u32, &'r Bump>, NoMemory>
     requires few { length tokens.now < 2 ^ 30 }
     ensures { IfOk result (λ colons. AreColonsFrom 0 colons.items tokens.now) }
 {
     let count = tokens.len();
-    let mut colons = vec![in run; count; count + 1]?;
+    let mut colons = vec![in run; count as u32; count + 1]?;
     let mut place = count;
     while place > 0 {
         place -= 1;
         let colon = colon_from(tokens, &colons, place);
-        colons[place] = colon;
+        colons[place] = colon as u32;
     }
     Ok(colons)
 }
 
 /// The colon of the `case` at a place, or the end of its list where it has none.
-pub(crate) fn label_colon(tokens: &[CodeToken], colons: &[usize], end: usize, at: usize) -> usize
+pub(crate) fn label_colon(tokens: &[CodeToken], colons: &[u32], end: usize, at: usize) -> usize
     requires here { at < end }
     requires list { end ≤ length tokens.now }
     requires colons { AreColonsFrom 0 colons.now tokens.now }
@@ -62,6 +62,6 @@ pub(crate) fn label_colon(tokens: &[CodeToken], colons: &[usize], end: usize, at
     ensures least { at < result }
     ensures most { result ≤ end }
 {
-    let colon = colons[at + 1];
+    let colon = colons[at + 1] as usize;
     if colon < end { colon } else { end }
 }

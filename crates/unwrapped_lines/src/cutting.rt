@@ -1,7 +1,7 @@
 //! The unwrapped lines of a view.
 
 ghost use Rattle.std.specs.Prelude.{◌≡◌, ◌<◌, ◌≤◌, ◌^◌, length, IfOk};
-ghost use Rattle.brackets.specs.Viewed.{AreWithin};
+ghost use Rattle.brackets.specs.Viewed.{AreWithin, classes_of};
 ghost use Rattle.unwrapped_lines.specs.Lines.{lines_between, line_up_to, tree_of, unwrapped_lines_of, CutPlaces};
 ghost use Rattle.unwrapped_lines.specs.Stack.{IsCut};
 
@@ -13,7 +13,7 @@ use crate::line::ULine;
 use crate::part::Begin;
 use crate::tree::tree_lines;
 use crate::viewed::{code_tokens, parts};
-use brackets::classes;
+use brackets::{TokenClass, classes};
 use bumpalo::Bump;
 use bumpalo::collections::into_bump_slice;
 use line_tokens::NoMemory;
@@ -29,7 +29,7 @@ fn lines_between<'r>(
 ) -> Result<Vec<ULine, &'r Bump>, NoMemory>
     ensures { IfOk result (λ lines. lines.items ≡ lines_between count begins.now) }
 {
-    let mut lines = Vec::new(run);
+    let mut lines = Vec::with_capacity(run, begins.len())?;
     for (j, begin) in begins.iter().enumerate() {
         let end = match begins.get(j + 1) {
             Some(next) => next.first,
@@ -50,28 +50,50 @@ fn read_lines<'r>(
     style: &Style,
     arena: &TokenArena<'_, '_>,
     view: &View<'_>,
+    classes: &[TokenClass],
     partners: &[Option<u32>],
     run: &'r Bump,
 ) -> Result<Vec<ULine, &'r Bump>, NoMemory>
-    requires { AreWithin arena.now view.now }
+    requires within { AreWithin arena.now view.now }
+    requires classes { classes.now ≡ classes_of arena.now view.now }
     ensures lines { IfOk result (λ lines. lines.items ≡ unwrapped_lines_of style.now arena.now view.now partners.now) }
     ensures tree { IfOk result (λ lines. IsCut 0 (tree_of style.now arena.now view.now partners.now).total (tree_of style.now arena.now view.now partners.now).lines) }
 {
+    let count = view.len();
+    let items = arena.len();
+    prove!(count <= items);
     let braces = braces_of(style);
-    let classes = classes(arena, view, run)?;
     let tokens = code_tokens(arena, view, classes, partners, run)?;
     let parts = parts(arena, view, classes, run)?;
     let colons = colons(&tokens, run)?;
     let tree = tree_lines(&braces, &tokens, &colons, run)?;
     let level = end_level(&braces, &tokens, &colons, run)?;
     let begins = begins(&tree, tokens.len(), level, &parts, run)?;
-    lines_between(view.len(), &begins, run)
+    lines_between(count, &begins, run)
 }
 
-/// The unwrapped lines of a view, whose brackets have these partners.
+/// The unwrapped lines of a view, whose tokens have these classes and whose brackets these partners.
 ///
 /// `docs/PROFILE.md` says under "Statements and lines" which lines there are, and what their levels and kinds
 /// are. The lines cut the view whole and in order. Want of memory is the only error.
+pub fn lines_of_classes<'r>(
+    style: &Style,
+    arena: &TokenArena<'_, '_>,
+    view: &View<'_>,
+    classes: &[TokenClass],
+    partners: &[Option<u32>],
+    run: &'r Bump,
+) -> Result<&'r [ULine], NoMemory>
+    requires within { AreWithin arena.now view.now }
+    requires classes { classes.now ≡ classes_of arena.now view.now }
+    ensures lines { IfOk result (λ lines. lines.now ≡ unwrapped_lines_of style.now arena.now view.now partners.now) }
+    ensures cut { IfOk result (λ lines. CutPlaces 0 (length view.now) lines.now) }
+{
+    let lines = read_lines(style, arena, view, classes, partners, run)?;
+    Ok(into_bump_slice(lines))
+}
+
+/// The lines of a view as [`lines_of_classes`] gives them, for a caller who has no classes.
 pub fn lines<'r>(
     style: &Style,
     arena: &TokenArena<'_, '_>,
@@ -83,6 +105,6 @@ pub fn lines<'r>(
     ensures lines { IfOk result (λ lines. lines.now ≡ unwrapped_lines_of style.now arena.now view.now partners.now) }
     ensures cut { IfOk result (λ lines. CutPlaces 0 (length view.now) lines.now) }
 {
-    let lines = read_lines(style, arena, view, partners, run)?;
-    Ok(into_bump_slice(lines))
+    let classes = classes(arena, view, run)?;
+    lines_of_classes(style, arena, view, classes, partners, run)
 }

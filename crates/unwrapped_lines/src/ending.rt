@@ -74,7 +74,7 @@ fn skip_line(
 pub fn end_level(
     braces: &Braces,
     tokens: &[CodeToken],
-    colons: &[usize],
+    colons: &[u32],
     run: &Bump,
 ) -> Result<u32, NoMemory>
     requires few { length tokens.now < 2 ^ 30 }

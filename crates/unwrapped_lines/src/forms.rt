@@ -100,13 +100,7 @@ fn goto_level(braces: &Braces, o: Open) -> u32
 }
 
 /// A label.
-fn label(
-    braces: &Braces,
-    tokens: &[CodeToken],
-    colons: &[usize],
-    o: Open,
-    at: usize,
-) -> Option<Form>
+fn label(braces: &Braces, tokens: &[CodeToken], colons: &[u32], o: Open, at: usize) -> Option<Form>
     requires colons { AreColonsFrom 0 colons.now tokens.now }
     requires here { at < o.end }
     requires list { o.end ≤ length tokens.now }
@@ -529,13 +523,7 @@ fn unlabelled(braces: &Braces, tokens: &[CodeToken], o: Open, at: usize) -> Form
 }
 
 /// The cases, the first that fits.
-pub fn statement(
-    braces: &Braces,
-    tokens: &[CodeToken],
-    colons: &[usize],
-    o: Open,
-    at: usize,
-) -> Form
+pub fn statement(braces: &Braces, tokens: &[CodeToken], colons: &[u32], o: Open, at: usize) -> Form
     requires colons { AreColonsFrom 0 colons.now tokens.now }
     requires here { at < o.end }
     requires list { o.end ≤ length tokens.now }
@@ -613,7 +601,7 @@ pub fn close_form(braces: &Braces, tokens: &[CodeToken], o: Open, b: Open, at: u
 pub fn form_of(
     braces: &Braces,
     tokens: &[CodeToken],
-    colons: &[usize],
+    colons: &[u32],
     o: Open,
     start: Start,
     at: usize,

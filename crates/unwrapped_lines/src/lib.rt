@@ -21,6 +21,6 @@ mod token;
 mod tree;
 mod viewed;
 
-pub use cutting::lines;
+pub use cutting::{lines, lines_of_classes};
 pub use line::{LineKind, ULine};
 pub use line_tokens::NoMemory;

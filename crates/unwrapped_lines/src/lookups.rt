@@ -59,7 +59,10 @@ pub fn partner_in(tokens: &[CodeToken], end: usize, i: usize) -> Option<usize>
 {
     match tokens.get(i) {
         Some(t) => match t.partner {
-            Some(p) => if i < p && p < end { Some(p) } else { None },
+            Some(place) => {
+                let p = place as usize;
+                if i < p && p < end { Some(p) } else { None }
+            }
             None => None,
         },
         None => None,

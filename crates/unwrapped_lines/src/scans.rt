@@ -117,7 +117,10 @@ fn behind(tokens: &[CodeToken], first: usize, i: usize) -> usize
 {
     match tokens.get(i) {
         Some(t) => match t.partner {
-            Some(p) => if first < p && p < i { p } else { 0 },
+            Some(place) => {
+                let p = place as usize;
+                if first < p && p < i { p } else { 0 }
+            }
             None => 0,
         },
         None => 0,

@@ -50,7 +50,7 @@ fn tokens_of<'r>(
             class: *class,
             began: false,
             touched: false,
-            partner: partner.map(|place| place as usize),
+            partner: *partner,
         })?;
     }
     assert!(rt; tokens.len() < 1000);

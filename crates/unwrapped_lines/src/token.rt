@@ -12,5 +12,5 @@ pub struct CodeToken {
     /// A colon directly behind it touches it.
     pub touched: bool,
     /// Its partner, counted over the tokens that are no comments.
-    pub partner: Option<usize>,
+    pub partner: Option<u32>,
 }

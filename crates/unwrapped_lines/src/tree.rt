@@ -256,7 +256,7 @@ fn take_line(
 pub fn tree_lines<'r>(
     braces: &Braces,
     tokens: &[CodeToken],
-    colons: &[usize],
+    colons: &[u32],
     run: &'r Bump,
 ) -> Result<Vec<Line, &'r Bump>, NoMemory>
     requires few { length tokens.now < 2 ^ 30 }
@@ -281,7 +281,7 @@ pub fn tree_lines<'r>(
 fn turn(
     braces: &Braces,
     tokens: &[CodeToken],
-    colons: &[usize],
+    colons: &[u32],
     out: &mut Vec<Line, &Bump>,
     stack: &mut Vec<Open, &Bump>,
     o: Open,

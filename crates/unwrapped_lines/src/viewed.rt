@@ -48,11 +48,12 @@ fn colon_touches(arena: &TokenArena<'_, '_>, id: u32, run: &Bump) -> Result<bool
 }
 
 /// How many tokens that are no comments stand before each place.
-fn numbers<'r>(classes: &[TokenClass], run: &'r Bump) -> Result<Vec<usize, &'r Bump>, NoMemory>
+fn numbers<'r>(classes: &[TokenClass], run: &'r Bump) -> Result<Vec<u32, &'r Bump>, NoMemory>
+    requires { length classes.now ≤ LIMIT }
     ensures { IfOk result (λ numbers. numbers.items ≡ numbers_of classes.now) }
 {
-    let mut numbers = Vec::new(run);
-    let mut number: usize = 0;
+    let mut numbers = Vec::with_capacity(run, classes.len())?;
+    let mut number: u32 = 0;
     for class in classes {
         numbers.push(number)?;
         if !class.is_comment() {
@@ -63,7 +64,7 @@ fn numbers<'r>(classes: &[TokenClass], run: &'r Bump) -> Result<Vec<usize, &'r B
 }
 
 /// A partner, counted over the tokens that are no comments.
-fn partner_number(numbers: &[usize], partners: &[Option<u32>], k: usize) -> Option<usize>
+fn partner_number(numbers: &[u32], partners: &[Option<u32>], k: usize) -> Option<u32>
     ensures { result ≡ partner_number numbers.now (slice_get partners.now k) }
 {
     match partners.get(k) {
@@ -88,10 +89,11 @@ pub(crate) fn code_tokens<'r>(
     ensures few { IfOk result (λ tokens. length tokens.items ≤ LIMIT) }
 {
     let numbers = numbers(classes, run)?;
-    let mut tokens = Vec::new(run);
+    let mut tokens = Vec::with_capacity(run, classes.len())?;
+    let mut segment = 0;
     for (k, class) in classes.iter().enumerate() {
         if !class.is_comment() {
-            let id = view.at(k as u32);
+            let id = view.at_near(k as u32, &mut segment);
             tokens.push(CodeToken {
                 class: *class,
                 began: item_began(arena, id.0),
@@ -133,10 +135,11 @@ pub(crate) fn parts<'r>(
     ensures parts { IfOk result (λ parts. parts.items ≡ parts_of arena.now view.now classes.now) }
     ensures few { IfOk result (λ parts. length parts.items ≤ LIMIT) }
 {
-    let mut parts = Vec::new(run);
+    let mut parts = Vec::with_capacity(run, classes.len())?;
+    let mut segment = 0;
     let mut started = false;
     for (k, class) in classes.iter().enumerate() {
-        let id = view.at(k as u32);
+        let id = view.at_near(k as u32, &mut segment);
         parts.push(part_of(arena, id.0, started, *class))?;
         started = started || !class.is_comment();
     }

@@ -11,7 +11,7 @@ loop-k-preserved c =
     let within : k < length view = omega (arith, c.loop-k-test.true, c.len-count.ensures.count) in
     c.in_ok-push.ensures.items
     ∙ ap (λ classes. classes ++ c.in_ok-item_class.field-0 ∷ []) c.loop-k.invariant
-    ∙ ap (λ found. map class (take k view) ++ found ∷ []) (c.in_ok-item_class.ensures ∙ ap class (sym (c.at.ensures 0)))
+    ∙ ap (λ found. map class (take k view) ++ found ∷ []) (c.in_ok-item_class.ensures ∙ ap class (sym (c.at_near-id.ensures 0)))
     ∙ sym (map_more class view k 0 within)
 
 pub prove-unreachable-requires : goal.prove-unreachable-requires

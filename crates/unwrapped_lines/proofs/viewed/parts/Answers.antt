@@ -8,4 +8,4 @@ part_of-requires c =
     let count = length c.args.arena.now.tokens in
     let within : c.loop-k.k < length ids = omega (arith, c.loop-k-test.true, c.requires.places) in
     let P : ℕ → Type 0 = λ id. id < count in
-    subst P (c.at-id.ensures 0) (All-get_or P ids c.loop-k.k 0 within c.requires.within)
+    subst P (c.at_near-id.ensures 0) (All-get_or P ids c.loop-k.k 0 within c.requires.within)

@@ -2,7 +2,7 @@ use Rattle.std.proofs.Common.{◌∙◌, List, length, sym, subst}
 use Rattle.unwrapped_lines.specs.declared.line.ULine.{ULine}
 use Rattle.unwrapped_lines.specs.Lines.{CutPlaces}
 use Rattle.unwrapped_lines.proofs.CutLemmas.{cut_view}
-use Rattle.unwrapped_lines.proofs.cutting.lines.Goals as goal
+use Rattle.unwrapped_lines.proofs.cutting.lines_of_classes.Goals as goal
 
 pub returns-clause-cut : goal.returns-clause-cut
 returns-clause-cut c =

@@ -1,6 +1,0 @@
-use Rattle.std.proofs.Common.{◌∙◌, ap}
-use Rattle.brackets.specs.Words.{class_in, call_words}
-use Rattle.brackets.proofs.words.call_class.Goals as goal
-
-pub returns : goal.returns
-returns c = c.class_in.ensures ∙ ap (λ other. class_in call_words c.args.spelled.now other) c.type_class.ensures
