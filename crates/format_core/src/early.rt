@@ -44,9 +44,10 @@ fn lead_decision(style: &Style, place: u32, gap: GapFacts) -> Decision
         return Decision::Spaces(0);
     }
     Decision::Lines {
-        count: 1 + style
-            .max_empty_lines_to_keep
-            .min(gap.lines.saturating_sub(1)),
+        count: 1
+            + style
+                .max_empty_lines_to_keep
+                .min(gap.lines.saturating_sub(1)),
         column: 0,
         level: 0,
     }
