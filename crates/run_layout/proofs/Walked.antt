@@ -1,5 +1,6 @@
 -- Decisions, one after another.
-use Rattle.std.proofs.Common.{◌≡◌, ◌∙◌, ℕ, zero, suc, ◌+◌, ◌<◌, ◌≤◌, Option, Some, List, [], ◌∷◌, ◌++◌, length, get_or, drop, refl, sym, ap, arith, subst}
+use Rattle.std.proofs.Common.{◌≡◌, ◌∙◌, ℕ, zero, suc, ◌+◌, ◌-◌, ◌<◌, ◌≤◌, Option, Some, None, List, [], ◌∷◌, ◌++◌, length, get_or, drop, refl, sym, ap, arith, subst}
+use Rattle.std.specs.Prelude.{IsSome, is_some, slice_set, if◌then◌else◌}
 use Rattle.std.proofs.Math.Seq.{drop-cons}
 use Rattle.style_table.specs.declared.style.Style.{Style}
 use Rattle.token_arena.specs.Gaps.{Contents}
@@ -10,7 +11,7 @@ use Rattle.unwrapped_lines.specs.Lines.{CutPlaces}
 use Rattle.replacements.specs.declared.slot.Slot.{Slot}
 use Rattle.replacements.specs.Decisions.{slot_of, decided, decided_all}
 use Rattle.run_layout.specs.Rows.{item_before, item_at, decision_at, start_behind, column_behind}
-use Rattle.run_layout.specs.Run.{start_of, slot_at, column_after, decisions_from, line_decisions, run_decisions}
+use Rattle.run_layout.specs.Run.{AreDecided, start_of, slot_at, column_after, decisions_from, line_decisions, run_decisions}
 
 -- decisions behind others
 pub decided_all-append : (plan : List (Option Slot)) (made later : List (ℕ × Slot)) → decided_all plan (made ++ later) ≡ decided_all (decided_all plan made) later
@@ -65,6 +66,31 @@ one_place style arena ids line plan after column next k id start end decision le
     let columns : next ≡ column_after arena made (get_or ids k 0) =
     n ∙ ap (λ x. column_behind x (item_at arena id)) s ∙ ap (λ x. column_after arena x id) plans ∙ ap (column_after arena made) (sym at) in
     rw (plans, columns) (sym (first_and_rest style arena ids line plan column k left more m))
+
+-- ## Lines that are decided
+
+decided_again : (plan : List (Option Slot)) (id : ℕ) (slot : Slot) → IsSome (slot_of plan id) → decided plan id slot ≡ plan
+decided_again plan id slot some = elim (slot_of plan id) as (λ o. IsSome o → (if is_some o then plan else slice_set plan id (Some slot)) ≡ plan) [
+  | None ↦ λ h. absurd (none_is_none h)
+  | Some first ↦ λ h. refl
+] some
+  where
+    none_is_none : IsSome {T = Slot} None → ⊥
+    none_is_none h = cc
+
+nothing_from : (style : Style) (arena : Contents) (ids : List ℕ) (line : ULine) (plan : List (Option Slot)) (column k count : ℕ)
+    → ((j : ℕ) → k ≤ j → j < k + count → IsSome (slot_of plan (get_or ids j 0))) → decided_all plan (decisions_from style arena ids line plan column k count) ≡ plan
+nothing_from style arena ids line plan column k zero some = refl
+nothing_from style arena ids line plan column k (suc count) some =
+    let id = get_or ids k 0 in
+    let same : decided plan id (slot_at style arena ids line column k) ≡ plan = decided_again plan id (slot_at style arena ids line column k) (some k (omega arith) (omega arith)) in
+    first_and_rest style arena ids line plan column k count (suc count) refl
+    ∙ (ap (λ (p : List (Option Slot)). decided_all p (decisions_from style arena ids line p (column_after arena p id) (k + 1) count)) same
+    ∙ nothing_from style arena ids line plan (column_after arena plan id) (k + 1) count (λ j low high. some j (omega (arith, low)) (omega (arith, high))))
+
+-- a line whose gaps are decided changes nothing
+pub nothing_new : (style : Style) (arena : Contents) (ids : List ℕ) (line : ULine) (plan : List (Option Slot)) → AreDecided plan ids line → plan ≡ decided_all plan (line_decisions style arena ids plan line)
+nothing_new style arena ids line plan some = sym (nothing_from style arena ids line plan 0 line.first (line.last + 1 - line.first) (λ j low high. some j low (omega (arith, low, high))))
 
 -- ## Items of places and before them
 

@@ -1,5 +1,5 @@
 -- What a run decides, in its order: docs/PROFILE.md, "Layout of lines".
-use Rattle.std.specs.Prelude.{ℕ, zero, suc, ◌+◌, ◌-◌, Option, Some, None, List, [], ◌∷◌, ◌++◌, get_or}
+use Rattle.std.specs.Prelude.{◌<◌, ◌≤◌, ℕ, zero, suc, ◌+◌, ◌-◌, Option, Some, None, IsSome, List, [], ◌∷◌, ◌++◌, get_or}
 use Rattle.style_table.specs.declared.style.Style.{Style}
 use Rattle.token_arena.specs.Gaps.{Contents}
 use Rattle.unwrapped_lines.specs.declared.line.ULine.{ULine}
@@ -35,6 +35,10 @@ decisions_from style arena ids line plan column k (suc count) =
 -- the decisions for a line
 abbrev pub line_decisions : Style → Contents → List ℕ → List (Option Slot) → ULine → List (ℕ × Slot)
 line_decisions style arena ids plan line = decisions_from style arena ids line plan 0 line.first (line.last + 1 - line.first)
+
+-- each gap of a line is decided
+abbrev pub AreDecided : List (Option Slot) → List ℕ → ULine → Type 0
+AreDecided plan ids line = (k : ℕ) → line.first ≤ k → k < line.last + 1 → IsSome (slot_of plan (get_or ids k 0))
 
 -- the decisions of a run: line by line
 abbrev pub run_decisions : Style → Contents → List ℕ → List (Option Slot) → List ULine → List (ℕ × Slot)

@@ -1,10 +1,10 @@
 //! The decisions of a run.
 
-ghost use Rattle.std.specs.Prelude.{◌≡◌, ◌<◌, ◌≤◌, ◌+◌, length};
+ghost use Rattle.std.specs.Prelude.{◌≡◌, ◌<◌, ◌≤◌, ◌+◌, All, IsTrue, length};
 ghost use Rattle.brackets.specs.Viewed.{AreWithin, classes_of};
 ghost use Rattle.unwrapped_lines.specs.Lines.{CutPlaces};
 ghost use Rattle.replacements.specs.Decisions.{decided, decided_all, slot_of};
-ghost use Rattle.run_layout.specs.Run.{start_of, line_decisions, run_decisions};
+ghost use Rattle.run_layout.specs.Run.{AreDecided, start_of, line_decisions, run_decisions};
 
 use crate::columns::{column_behind, start_behind};
 use crate::rows::{decision_at, item_before};
@@ -31,6 +31,23 @@ fn decide(plan: &mut Plan<'_>, id: TokenId, decision: Decision, end: u32) -> u32
     }
 }
 
+/// Whether each gap of a line is decided, as in most lines that an earlier run saw.
+fn is_decided(view: &View<'_>, line: &ULine, plan: &Plan<'_>, segment: &mut usize) -> bool
+    requires places { line.now.last < length view.now }
+    requires whole { All (λ id. id < length plan.now) view.now }
+    ensures { IsTrue result → AreDecided plan.now view.now line.now }
+{
+    let count = view.len();
+    prove!(line.last < count);
+    for place in line.first..line.last + 1 {
+        let id = view.at_near(place, segment);
+        if !plan.is_decided(id.0) {
+            return false;
+        }
+    }
+    true
+}
+
 /// Decides the gaps of a line. `segment` is the number of the view's segment that was looked into last.
 fn lay_out_line(
     style: &Style,
@@ -51,6 +68,9 @@ fn lay_out_line(
 {
     let count = view.len();
     prove!(line.last < count);
+    if is_decided(view, line, plan, segment) {
+        return;
+    }
     let mut column = 0;
     let mut before = item_before(view, line.first, segment);
     for k in line.first..line.last + 1 {

@@ -1,5 +1,5 @@
 use Rattle.std.proofs.Common.{◌≡◌, ◌∙◌, suc, ◌+◌, ◌-◌, ◌<◌, length, arith}
-use Rattle.run_layout.proofs.Walked.{one_place, item_within, next_before}
+use Rattle.run_layout.proofs.Walked.{nothing_new, one_place, item_within, next_before}
 use Rattle.run_layout.proofs.run.lay_out_line.Goals as goal
 
 pub decide-start-requires : goal.decide-start-requires
@@ -30,3 +30,6 @@ loop-k-preserved c =
           c.start_behind.ensures c.decide-start.ensures.plan c.decide-start.ensures.start c.column_behind-column.ensures
           ∙ c.loop-k.invariant.rest;
     }
+
+pub returns-then-is_decided-clause-plan : goal.returns-then-is_decided-clause-plan
+returns-then-is_decided-clause-plan c = nothing_new c.args.style.now c.args.arena.now c.args.view.now c.args.line.now c.args.plan.now (c.is_decided.ensures c.if-is_decided.true)
