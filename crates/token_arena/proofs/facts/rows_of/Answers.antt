@@ -1,7 +1,7 @@
-use Rattle.std.proofs.Common.{◌≡◌, ◌∙◌, ◌+◌, ℕ, true, count_by, sym, ap}
+use Rattle.std.proofs.Common.{◌≡◌, ◌∙◌, ◌+◌, ℕ, true, sym, ap}
 use Rattle.std.specs.List.{list_all}
 use Rattle.std.specs.Int.{is_in_range}
-use Rattle.token_arena.specs.Stored.{is_line_feed, width_of}
+use Rattle.token_arena.specs.Stored.{width_of}
 use Rattle.token_arena.specs.declared.facts.Rows.{Rows}
 use Rattle.token_arena.proofs.RowLemmas.{first_row-one, last_row-one, width_of-printable, no_feed-printable}
 use Rattle.token_arena.proofs.facts.rows_of.Goals as goal
