@@ -5,7 +5,7 @@ use Rattle.std.proofs.lemmas.List.Sums.{position_or_len_is, suffix_len_is, sum_b
 use Rattle.token_arena.specs.Stored.{is_line_feed, first_row, last_row, width_of}
 use Rattle.std.specs.Str.{IsAscii, IsUtf8, chars}
 use Rattle.std.specs.Int.{is_in_range}
-use Rattle.std.proofs.lemmas.Bool.{and_parts}
+use Rattle.std.proofs.lemmas.Bool.{and_parts, ne_eqb}
 use Rattle.std.proofs.lemmas.Bool.Decides.{nat_tests}
 use Rattle.unicode_width.proofs.Rules.{str_width-printable}
 use Rattle.std.specs.Str.Lossy.{utf8_valid_len}
@@ -75,3 +75,14 @@ pub width_of-printable : (row : List ℕ) → list_all (is_in_range 0x20 0x7E) r
 width_of-printable row h =
     let same : str_width false (chars row) ≡ length row = ap (str_width false) (chars-IsAscii row (ascii row h)) ∙ str_width-printable false row h in
     either (utf8_valid_len row == length row) (str_width false (chars row)) (length row) same
+
+-- a row of printable ASCII has no new-line
+pub no_feed-printable : (row : List ℕ) → list_all (is_in_range 0x20 0x7E) row ≡ true → count_by is_line_feed row ≡ 0
+no_feed-printable [] h = refl
+no_feed-printable (b ∷ row) h =
+    let parts = and_parts (is_in_range 0x20 0x7E b) (list_all (is_in_range 0x20 0x7E) row) h in
+    let later : count_by is_line_feed row ≡ 0 = no_feed-printable row parts.1 in
+    sum_by-cons (λ (c : ℕ). if is_line_feed c then 1 else 0) b row ∙ rw (other b parts.0) (omega (arith, later))
+  where
+    other : (b : ℕ) → is_in_range 0x20 0x7E b ≡ true → is_line_feed b ≡ false
+    other b h = ne_eqb b 10 (λ e. grind (arith, nat_tests))

@@ -118,21 +118,30 @@ pub struct Rows {
     pub last_width: u32,
 }
 
-/// The rows of an item. Most items have one, whose width is then measured once.
+/// The only row of an item, of this width.
+fn one_row(width: u32) -> Rows
+    ensures { result ≡ record { count = 1; first_width = width; last_width = width } }
+{
+    Rows {
+        count: 1,
+        first_width: width,
+        last_width: width,
+    }
+}
+
+/// The rows of an item. Most items are one row of printable ASCII, which one pass shows.
 pub(crate) fn rows_of(raw: &[u8]) -> Rows
     requires { length raw.now < 2 ^ 31 }
     ensures count { result.count ≡ rows_of raw.now }
     ensures first { result.first_width ≡ width_of (first_row raw.now) }
     ensures last { result.last_width ≡ width_of (last_row raw.now) }
 {
+    if is_printable(raw) {
+        return one_row(raw.len() as u32);
+    }
     let feeds = line_feeds(raw);
     if feeds == 0 {
-        let width = width(raw);
-        return Rows {
-            count: 1,
-            first_width: width,
-            last_width: width,
-        };
+        return one_row(width(raw));
     }
     Rows {
         count: feeds + 1,
