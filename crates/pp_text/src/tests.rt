@@ -335,7 +335,7 @@ fn reads_included_texts(rt: HostRuntime) -> Result<(), Fail> {
 
 #[test]
 fn counts_lines_and_tells_of_the_rest(rt: HostRuntime) -> Result<(), Fail> {
-    let cases: [(&str, &[u8], &str); 7] = [
+    let cases: [(&str, &[u8], &str); 9] = [
         ("no text", b"", ""),
         (
             "physical lines, 6.10.8.1",
@@ -346,6 +346,16 @@ fn counts_lines_and_tells_of_the_rest(rt: HostRuntime) -> Result<(), Fail> {
             "lines behind a line directive, 6.10.4p3",
             b"\n#line 40\n__LINE__\n\n__LINE__",
             "LINE[ 40 ] line 40 line 42 ",
+        ),
+        (
+            "lines behind the greatest number, 6.10.4p3",
+            b"#line 2147483647\n__LINE__\n__LINE__",
+            "LINE[ 2147483647 ] line 2147483647 line 2147483648 ",
+        ),
+        (
+            "a number that no line may have, 6.10.4p3",
+            b"#line 2147483648\n__LINE__",
+            "LINE[ 2147483648 ] line 2 ",
         ),
         (
             "an operand is expanded, 6.10.4p5",
@@ -383,8 +393,7 @@ fn spends_turns(rt: HostRuntime) -> Result<(), Fail> {
 #[test]
 fn tells_the_items_outside_of_skipped_groups(rt: HostRuntime) -> Result<(), Fail> {
     // 29 items are 17 tokens and the items of a skipped group and of three directives. A turn for each suffices.
-    let text: &[u8] =
-        b"void g(void){\n#ifdef A\nif(x){\n#else\n  if (y){\n#endif\nf( );\n}\n}\n";
+    let text: &[u8] = b"void g(void){\n#ifdef A\nif(x){\n#else\n  if (y){\n#endif\nf( );\n}\n}\n";
     let formatted: &[u8] =
         b"void g(void) {\n#ifdef A\n  if (x) {\n#else\n  if (y) {\n#endif\n    f();\n  }\n}\n";
     let tokens = "void g ( void ) { if ( y ) { f ( ) ; } } ";

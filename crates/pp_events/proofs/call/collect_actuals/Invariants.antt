@@ -1,4 +1,4 @@
-use Rattle.std.proofs.Common.{◌≡◌, ◌≤◌, [], map, length, drop}
+use Rattle.std.proofs.Common.{◌≡◌, ◌≤◌, [], map, drop}
 use Rattle.pp_model.specs.Call.{collect}
 use Rattle.pp_events.specs.View.{tok_shown, toks_shown}
 use Rattle.pp_events.proofs.call.collect_actuals.Given as goal
