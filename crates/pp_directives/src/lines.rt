@@ -1,6 +1,6 @@
 //! Presumed lines (C11 6.10.4).
 
-ghost use Rattle.std.specs.Prelude.{◌≡◌, ◌<◌, ◌^◌, ℕ, Bool, true, false, List, [], ◌∷◌, map, Option, Some, None, SomeIff};
+ghost use Rattle.std.specs.Prelude.{◌≡◌, ℕ, Bool, true, false, List, [], ◌∷◌, map, Option, Some, None};
 ghost use Rattle.pp_model.specs.Preprocess.{presumed, moved, jump_of, is_line_number, number_of};
 ghost use Rattle.pp_events.specs.View.{tok_shown};
 ghost use Rattle.pp_directives.specs.WorldView.{shift_shown};
@@ -11,7 +11,7 @@ use pp_events::{Tok, spelling_of};
 /// Presumed lines: the physical line `from` has the number `to`, and each line behind it one more.
 #[derive(Clone, Copy)]
 pub struct Shift {
-    pub from: u64,
+    pub from: u32,
     pub to: u32,
 }
 
@@ -19,15 +19,15 @@ impl Shift {
     /// Physical lines.
     pub const UNMOVED: Shift = Shift { from: 0, to: 0 };
 
-    /// The presumed number of a physical line, where it has 64 bits.
-    pub fn presumed(self, line: u64) -> Option<u64>
-        ensures { SomeIff result (presumed (shift_shown self) line < 2 ^ 64) (presumed (shift_shown self) line) }
+    /// The presumed number of a physical line.
+    pub fn presumed(self, line: u32) -> u64
+        ensures { result ≡ presumed (shift_shown self) line }
     {
-        u64::from(self.to).checked_add(line.saturating_sub(self.from))
+        u64::from(self.to) + u64::from(line.saturating_sub(self.from))
     }
 
     /// With the number that a line directive gives to the line `next`, which is behind it.
-    pub fn moved(self, next: u64, jump: Option<u32>) -> Shift
+    pub fn moved(self, next: u32, jump: Option<u32>) -> Shift
         ensures { shift_shown result ≡ moved (shift_shown self) next jump }
     {
         match jump {

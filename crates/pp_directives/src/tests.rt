@@ -305,6 +305,6 @@ fn reads_numbers_of_lines(rt: HostRuntime) -> Result<(), Fail> {
         let operand = [token(alloc, text)?];
         assert_eq!(rt; jump_of(&operand), *number);
     }
-    assert_eq!(rt; Shift { from: 7, to: 100 }.presumed(9), Some(102u64));
+    assert_eq!(rt; Shift { from: 7, to: 100 }.presumed(9), 102u64);
     Ok(())
 }

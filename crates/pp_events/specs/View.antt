@@ -1,5 +1,5 @@
 -- What the values of tokens and macros stand for in the model.
-use Rattle.std.specs.Prelude.{Bool, false, List, [], ◌∷◌, map, Option, Some, None, option_map, Vec}
+use Rattle.std.specs.Prelude.{Bool, false, List, [], ◌∷◌, map, drop, Option, Some, None, option_map, Vec}
 use Rattle.std.specs.declared.alloc.Global.{Global}
 use Rattle.pp_model.specs.Token.{PpToken, Plain, Line, Str, Pasted, Spaceds, no_part, part, PpTokens, no_token, one_more, Tok}
 use Rattle.pp_model.specs.Call.{Actuals}
@@ -59,14 +59,14 @@ tok_shown t = record { token = shown t.token; kind = t.kind; hide = map (λ n. n
 abbrev pub toks_shown : Vec TokValue Global → List Tok
 toks_shown v = map tok_shown v.items
 
--- the arguments of a call
-abbrev pub actuals_shown : ActualsValue → Actuals
-actuals_shown a = record { args = map toks_shown a.args.items; close = map (λ n. n.items) a.close.items; after = map tok_shown a.after.items }
+-- the arguments of a call, which these tokens begin with
+abbrev pub actuals_shown : List TokValue → ActualsValue → Actuals
+actuals_shown rest a = record { args = map toks_shown a.args.items; close = map (λ n. n.items) a.close.items; after = map tok_shown (drop a.taken rest) }
 
 -- the arguments of a call, or none
-abbrev pub some_actuals : Option ActualsValue → Option Actuals
-some_actuals None = None
-some_actuals (Some a) = Some (actuals_shown a)
+abbrev pub some_actuals : List TokValue → Option ActualsValue → Option Actuals
+some_actuals rest None = None
+some_actuals rest (Some a) = Some (actuals_shown rest a)
 
 -- the list of tokens that a value is
 abbrev pub shown_tokens : TokensValue → PpTokens

@@ -1,11 +1,12 @@
 //! The collection of a call's arguments.
 
-ghost use Rattle.std.specs.Prelude.{◌≡◌, ℕ, ◌<◌, List, [], ◌∷◌, map, length, ◌^◌, bytes_eq, Option, option_map, IfOk, Some, None};
+ghost use Rattle.std.specs.Prelude.{◌≡◌, ◌<◌, ◌≤◌, [], map, length, drop, IfOk, IfSome};
 ghost use Rattle.pp_model.specs.Token.{text_of, is_text};
 ghost use Rattle.c_grammar.specs.Touch.{is_identifier};
 ghost use Rattle.pp_model.specs.Call.{collect};
 ghost use Rattle.pp_events.specs.View.{shown, tok_shown, actuals_shown, some_actuals};
 
+use crate::copy::{copy_names, copy_tok};
 use crate::token::{Actuals, PpToken, Tok};
 use c_grammar::ItemKind;
 use std::alloc::{AllocError, Global};
@@ -42,35 +43,35 @@ pub fn is_identifier_kind(kind: ItemKind) -> bool
     }
 }
 
-/// Reads up to the `)` of a call, at most `limit` commas parting its arguments.
+/// Reads the arguments of a call, which these tokens begin with, from its `(` up to its `)`, at most
+/// `limit` commas parting them.
 pub fn collect_actuals(
     alloc: Global,
     limit: Option<usize>,
-    rest: VecDeque<Tok>,
+    rest: &VecDeque<Tok>,
 ) -> Result<Option<Actuals>, AllocError>
-    ensures { IfOk result (λ r. some_actuals r ≡ collect limit 0 [] [] (map tok_shown rest.items)) }
+    ensures read { IfOk result (λ r. some_actuals rest.now.items r ≡ collect limit 0 [] [] (map tok_shown (drop 1 rest.now.items))) }
+    ensures taken { IfOk result (λ r. IfSome r (λ a. a.taken ≤ length rest.now.items)) }
 {
-    let mut rest = rest;
     let mut limit = limit;
-    let mut depth: u64 = 0;
+    let mut depth: usize = 0;
     let mut arg: Vec<Tok> = Vec::new(alloc);
     let mut args: Vec<Vec<Tok>> = Vec::new(alloc);
-    while let Some(t) = rest.pop_front() {
-        if is_spelled(&t, b"(") {
+    for i in 1..rest.len() {
+        let t = &rest[i];
+        if is_spelled(t, b"(") {
             depth += 1;
-            arg.push(t)?;
-        } else if is_spelled(&t, b")") {
+            arg.push(copy_tok(alloc, t)?)?;
+        } else if is_spelled(t, b")") {
             if depth == 0 {
                 args.push(arg)?;
-                return Ok(Some(Actuals {
-                    args,
-                    close: t.hide,
-                    after: rest,
-                }));
+                let close = copy_names(alloc, t.hide.as_slice())?;
+                let taken = i + 1;
+                return Ok(Some(Actuals { args, close, taken }));
             }
             depth -= 1;
-            arg.push(t)?;
-        } else if is_spelled(&t, b",") && depth == 0 && limit != Some(0) {
+            arg.push(copy_tok(alloc, t)?)?;
+        } else if is_spelled(t, b",") && depth == 0 && limit != Some(0) {
             args.push(arg)?;
             arg = Vec::new(alloc);
             limit = match limit {
@@ -78,7 +79,7 @@ pub fn collect_actuals(
                 Some(n) => Some(n - 1),
             };
         } else {
-            arg.push(t)?;
+            arg.push(copy_tok(alloc, t)?)?;
         }
     }
     Ok(None)

@@ -103,17 +103,6 @@ pub fn copy_toks(alloc: Global, ts: &[Tok]) -> Result<Vec<Tok>, AllocError>
     Ok(out)
 }
 
-/// A copy of what is left.
-pub fn copy_rest(alloc: Global, ts: &VecDeque<Tok>) -> Result<VecDeque<Tok>, AllocError>
-    ensures { IfOk result (λ r. map tok_shown r.items ≡ map tok_shown ts.now.items) }
-{
-    let mut out = VecDeque::new(alloc);
-    for i in 0..ts.len() {
-        out.push_back(copy_tok(alloc, &ts[i])?)?;
-    }
-    Ok(out)
-}
-
 /// A copy of some arguments.
 pub fn copy_args(alloc: Global, args: &[Vec<Tok>]) -> Result<VecDeque<Vec<Tok>>, AllocError>
     ensures { IfOk result (λ r. map toks_shown r.items ≡ map toks_shown args.now) }

@@ -1,6 +1,6 @@
 //! The expansion of a text, one step after another.
 
-ghost use Rattle.std.specs.Prelude.{◌≡◌, ℕ, ◌<◌, ◌^◌, List, [], ◌∷◌, ◌++◌, length, map, IfOk, IfSome, Option, Some, None, option_map, reverse};
+ghost use Rattle.std.specs.Prelude.{◌≡◌, ℕ, ◌<◌, ◌≤◌, ◌^◌, List, [], ◌∷◌, ◌++◌, length, drop, map, IfOk, IfSome, IfNone, Option, Some, None, option_map, reverse};
 ghost use Rattle.pp_model.specs.Token.{Tok, text_of};
 ghost use Rattle.pp_model.specs.Macro.{lookup};
 ghost use Rattle.pp_model.specs.Call.{begin, begin_macro, begin_call, with_actuals, named, fits, no_tokens};
@@ -11,13 +11,14 @@ ghost use Rattle.pp_events.specs.MachineView.{call_shown, calls_shown, state_sho
 
 use crate::Spellings;
 use crate::call::{collect_actuals, is_identifier_kind, is_spelled};
-use crate::copy::{copy_args, copy_bytes, copy_rest};
+use crate::copy::{copy_args, copy_bytes};
 use crate::replace::{common_names, contains_name, replacement_of};
 use crate::state::{Begun, Call, State};
 use crate::token::{Actuals, Macro, Part, PpToken, Tok};
 use c_grammar::ItemKind;
 use std::alloc::{AllocError, Global};
 use std::collections::VecDeque;
+use std::mem;
 
 /// The spelling of a plain token.
 pub fn spelling_of(token: &PpToken) -> &[u8]
@@ -86,26 +87,40 @@ fn with_name(alloc: Global, name: &[u8], names: &[Vec<u8>]) -> Result<Vec<Vec<u8
     Ok(out)
 }
 
-/// A call whose arguments were read, where their number is right.
+/// The tokens without so many of the first.
+fn pass(rest: &mut VecDeque<Tok>, count: usize)
+    requires { count ≤ length rest.old.items }
+    ensures { rest.new.items ≡ drop count rest.old.items }
+{
+    for _ in 0..count {
+        let _passed = rest.pop_front();
+    }
+}
+
+/// A call whose arguments were read, where their number is right; it takes what is left.
 fn with_arguments<'t>(
     alloc: Global,
     m: &'t Macro,
     token: &Tok,
     a: Actuals,
+    rest: &mut VecDeque<Tok>,
 ) -> Result<Option<Begun<'t>>, AllocError>
-    ensures begun { IfOk result (λ r. option_map begun_shown r ≡ with_actuals (macro_shown m.now) (tok_shown token.now) (actuals_shown a)) }
+    requires { a.taken ≤ length rest.old.items }
+    ensures begun { IfOk result (λ r. option_map begun_shown r ≡ with_actuals (macro_shown m.now) (tok_shown token.now) (actuals_shown rest.old.items a)) }
     ensures waiting { IfOk result (λ r. IfSome r (λ b. map toks_shown b.waiting.items ≡ map toks_shown b.args.items)) }
+    ensures kept { IfOk result (λ r. IfNone r (rest.new.items ≡ rest.old.items)) }
 {
     if has_right_number(m, a.args.as_slice()) {
         let both = common_names(alloc, token.hide.as_slice(), a.close.as_slice())?;
         let hide = with_name(alloc, m.name.as_slice(), both.as_slice())?;
         let waiting = copy_args(alloc, a.args.as_slice())?;
+        pass(rest, a.taken);
         Ok(Some(Begun {
             named: m,
             hide,
             args: a.args,
             waiting,
-            after: a.after,
+            after: mem::replace(rest, VecDeque::new(alloc)),
         }))
     } else {
         Ok(None)
@@ -117,20 +132,20 @@ fn begin_function<'t>(
     alloc: Global,
     m: &'t Macro,
     token: &Tok,
-    rest: &VecDeque<Tok>,
+    rest: &mut VecDeque<Tok>,
 ) -> Result<Option<Begun<'t>>, AllocError>
-    ensures begun { IfOk result (λ r. option_map begun_shown r ≡ begin_call (macro_shown m.now) (tok_shown token.now) (map tok_shown rest.now.items)) }
+    ensures begun { IfOk result (λ r. option_map begun_shown r ≡ begin_call (macro_shown m.now) (tok_shown token.now) (map tok_shown rest.old.items)) }
     ensures waiting { IfOk result (λ r. IfSome r (λ b. map toks_shown b.waiting.items ≡ map toks_shown b.args.items)) }
+    ensures kept { IfOk result (λ r. IfNone r (rest.new.items ≡ rest.old.items)) }
 {
-    let mut copy = copy_rest(alloc, rest)?;
-    match copy.pop_front() {
+    match rest.front() {
         None => Ok(None),
         Some(open) => {
-            if is_spelled(&open, b"(") {
+            if is_spelled(open, b"(") {
                 let limit = if m.variadic { Some(m.arity) } else { None };
-                match collect_actuals(alloc, limit, copy)? {
+                match collect_actuals(alloc, limit, rest)? {
                     None => Ok(None),
-                    Some(a) => with_arguments(alloc, m, token, a),
+                    Some(a) => with_arguments(alloc, m, token, a, rest),
                 }
             } else {
                 Ok(None)
@@ -139,40 +154,41 @@ fn begin_function<'t>(
     }
 }
 
-/// The replacement that a name of a macro begins.
+/// The replacement that a name of a macro begins; it takes what is left.
 fn begin_named<'t>(
     alloc: Global,
     m: &'t Macro,
     token: &Tok,
-    rest: &VecDeque<Tok>,
+    rest: &mut VecDeque<Tok>,
 ) -> Result<Option<Begun<'t>>, AllocError>
-    ensures begun { IfOk result (λ r. option_map begun_shown r ≡ begin_macro (tok_shown token.now) (map tok_shown rest.now.items) (macro_shown m.now)) }
+    ensures begun { IfOk result (λ r. option_map begun_shown r ≡ begin_macro (tok_shown token.now) (map tok_shown rest.old.items) (macro_shown m.now)) }
     ensures waiting { IfOk result (λ r. IfSome r (λ b. map toks_shown b.waiting.items ≡ map toks_shown b.args.items)) }
+    ensures kept { IfOk result (λ r. IfNone r (rest.new.items ≡ rest.old.items)) }
 {
     if m.function_like {
         begin_function(alloc, m, token, rest)
     } else {
         let hide = with_name(alloc, m.name.as_slice(), token.hide.as_slice())?;
-        let after = copy_rest(alloc, rest)?;
         Ok(Some(Begun {
             named: m,
             hide,
             args: Vec::new(alloc),
             waiting: VecDeque::new(alloc),
-            after,
+            after: mem::replace(rest, VecDeque::new(alloc)),
         }))
     }
 }
 
-/// The replacement that a token begins, with what follows it.
+/// The replacement that a token begins, which then takes what follows it.
 fn begin_at<'t>(
     alloc: Global,
     table: &'t [Macro],
     token: &Tok,
-    rest: &VecDeque<Tok>,
+    rest: &mut VecDeque<Tok>,
 ) -> Result<Option<Begun<'t>>, AllocError>
-    ensures begun { IfOk result (λ r. option_map begun_shown r ≡ begin (map macro_shown table.now) (tok_shown token.now) (map tok_shown rest.now.items)) }
+    ensures begun { IfOk result (λ r. option_map begun_shown r ≡ begin (map macro_shown table.now) (tok_shown token.now) (map tok_shown rest.old.items)) }
     ensures waiting { IfOk result (λ r. IfSome r (λ b. map toks_shown b.waiting.items ≡ map toks_shown b.args.items)) }
+    ensures kept { IfOk result (λ r. IfNone r (rest.new.items ≡ rest.old.items)) }
 {
     match named_macro(table, token) {
         None => Ok(None),
@@ -310,7 +326,7 @@ fn step_once<'t, R: Spellings>(
     } = state;
     match rest.pop_front() {
         None => close_call(alloc, reader, rest, out, calls),
-        Some(token) => match begin_at(alloc, table, &token, &rest)? {
+        Some(token) => match begin_at(alloc, table, &token, &mut rest)? {
             None => {
                 out.push(settled(token))?;
                 Ok(State { rest, out, calls })

@@ -1,7 +1,6 @@
 //! Tokens, macros, and what stands for them while a macro is replaced.
 
 use c_grammar::ItemKind;
-use std::collections::VecDeque;
 
 /// A preprocessing token of an event.
 #[derive(Drop)]
@@ -53,12 +52,12 @@ pub struct Tok {
     pub line: u64,
 }
 
-/// The arguments of a call, what hides its `)`, and what follows.
+/// The arguments of a call, what hides its `)`, and how many tokens they take with their brackets.
 #[derive(Drop)]
 pub struct Actuals {
     pub args: Vec<Vec<Tok>>,
     pub close: Vec<Vec<u8>>,
-    pub after: VecDeque<Tok>,
+    pub taken: usize,
 }
 
 /// What comes in the place of a part of a macro's body.

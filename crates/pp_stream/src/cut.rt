@@ -25,7 +25,7 @@ pub(crate) enum Within {
 }
 
 /// The directive that has these items behind its `#`, before a line of this number.
-fn directive(dialect: Dialect, function_like: bool, next: u64, items: Vec<PpItem>) -> PpSection
+fn directive(dialect: Dialect, function_like: bool, next: u32, items: Vec<PpItem>) -> PpSection
     ensures { section_shown result ≡ directive dialect function_like next (items_shown items) }
 {
     let mut items = items;
@@ -74,7 +74,7 @@ impl Cutter {
     }
 
     /// Ends the section that is read, before a line of this number, and begins another.
-    fn end_section(&mut self, next: u64, within: Within) -> Result<(), AllocError>
+    fn end_section(&mut self, next: u32, within: Within) -> Result<(), AllocError>
         ensures done { OnOk result (map section_shown self.new.done.items ≡ map section_shown self.old.done.items ++ ended self.old.dialect (within_shown self.old.within (items_shown self.old.items)) next ∷ []) }
         ensures within { OnOk result (self.new.within ≡ within) }
         ensures items { OnOk result (self.new.items.items ≡ []) }
@@ -112,7 +112,7 @@ impl Cutter {
     }
 
     /// Ends a directive, before a line of this number. A text goes on.
-    fn end_directive(&mut self, next: u64) -> Result<(), AllocError>
+    fn end_directive(&mut self, next: u32) -> Result<(), AllocError>
         ensures sections { OnOk result ((s : ReadStreamed) (rest : List ReadStreamed) → s.part ≡ OfText → s.begun ≡ next → sections_with self.old (s ∷ rest) ≡ map section_shown self.new.done.items ++ cut_from self.new.dialect (InText (add_item (items_shown self.new.items) s)) rest) }
         ensures text { OnOk result (self.new.within ≡ Within.Text) }
         ensures dialect { self.new.dialect ≡ self.old.dialect }

@@ -11,8 +11,8 @@ pub struct PpItem {
     pub text: Vec<u8>,
     /// Whether white space or a comment stands before it.
     pub white: bool,
-    /// The physical line on which it begins, from 1.
-    pub line: u64,
+    /// The physical line on which it begins, from 1. A text within [`LIMIT`](crate::LIMIT) has no line past 32 bits.
+    pub line: u32,
 }
 
 /// What a section is: a text between directives, or a directive by its name (C11 6.10p1).
@@ -68,7 +68,7 @@ pub struct PpSection {
     /// The items of a text; those behind the name of a directive, and behind the `#` of an unknown one.
     pub items: Vec<PpItem>,
     /// The physical line behind a directive; 0 of a text, and where the text ends.
-    pub next: u64,
+    pub next: u32,
 }
 
 /// What an item is to a directive (6.10p2).
@@ -92,5 +92,5 @@ pub(crate) struct Streamed {
     /// What it is to a directive.
     pub part: Part,
     /// The physical line that the first new-line before it begins; 0 where there is none.
-    pub begun: u64,
+    pub begun: u32,
 }

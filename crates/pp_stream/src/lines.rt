@@ -8,10 +8,11 @@ ghost use Rattle.pp_model.specs.Stream.{line_at};
 use c_lexer::LIMIT;
 
 /// How many of the bytes end a line.
-fn line_feeds(bytes: &[u8]) -> u64
+fn line_feeds(bytes: &[u8]) -> u32
+    requires fits { length bytes.now ≤ LIMIT }
     ensures { result ≡ count_by (λ c. c == 10) bytes.now }
 {
-    bytes.iter().filter(|b| **b == b'\n').count() as u64
+    bytes.iter().filter(|b| **b == b'\n').count() as u32
 }
 
 /// A text, and the physical line of an offset in it. It goes onwards, so that no byte is looked at twice.
@@ -19,7 +20,7 @@ fn line_feeds(bytes: &[u8]) -> u64
 pub(crate) struct Lines<'s> {
     text: &'s [u8],
     at: usize,
-    line: u64,
+    line: u32,
     ghost fits: { length text.now ≤ LIMIT },
     ghost within: { at ≤ length text.now },
     ghost counted: { line ≡ line_at text.now at },
@@ -41,7 +42,7 @@ impl<'s> Lines<'s> {
 
     /// The line of an offset (C11 6.10.4p2), no nearer to the start than those asked for before.
     #[tactic(auto, using(crate::proofs::Counts::lines_further, crate::proofs::Counts::line_small))]
-    pub fn line_of(&mut self, offset: usize) -> u64
+    pub fn line_of(&mut self, offset: usize) -> u32
         requires onwards { self.old.at ≤ offset }
         requires within { offset ≤ length self.old.text.now }
         ensures line { result ≡ line_at self.old.text.now offset }
@@ -55,7 +56,7 @@ impl<'s> Lines<'s> {
     }
 
     /// The line that begins at an offset, no nearer to the start than those asked for before; 0 where none is given.
-    pub fn line_begun(&mut self, offset: Option<usize>) -> u64
+    pub fn line_begun(&mut self, offset: Option<usize>) -> u32
         requires onwards { ForSome offset (λ to. (self.old.at ≤ to) × (to ≤ length self.old.text.now)) }
         ensures line { result ≡ option_map_or (line_at self.old.text.now) offset 0 }
         ensures text { self.new.text.now ≡ self.old.text.now }

@@ -1,10 +1,10 @@
 -- One step of a walk.
 use Rattle.std.proofs.Common.{◌≡◌, ℕ, zero, suc, ◌-◌, ◌<◌, Bool, true, false, List, [], ◌∷◌, map, Option, Some, None, refl, ap, sym, ◌∙◌, arith}
 use Rattle.pp_model.specs.Token.{Tok, PpToken}
-use Rattle.pp_model.specs.Expand.{Expanded, expand}
+use Rattle.pp_model.specs.Expand.{expand}
 use Rattle.pp_model.specs.Replace.{Reader}
-use Rattle.pp_model.specs.Preprocess.{World, Section, SectionKind, Source, Shift, Includer, Lexed, walk, includer, included, include_by, keyed, names_file, key_of, is_include, one_section, moved, tok_of, plain, found, read_source, finish, with_jump, unmoved}
-use Rattle.pp_text.specs.Unread.{Rules, Unread, Waiting, Reading, includes_of, read_rest, resumed, unwound, whole, behind_section, entered, begun_text}
+use Rattle.pp_model.specs.Preprocess.{World, Section, Source, Shift, Includer, Lexed, walk, includer, included, include_by, keyed, names_file, key_of, is_include, one_section, moved, tok_of, plain, found, read_source, finish, with_jump, unmoved}
+use Rattle.pp_text.specs.Unread.{Rules, Unread, Waiting, Reading, includes_of, resumed, unwound, whole, behind_section, entered, begun_text}
 
 walk_over : (read : Reader) (holds : List PpToken → Bool) (include : Includer) (shift : Shift) (w : World) (xs : List Section) → w.over ≡ true → walk read holds include shift w xs ≡ w
 walk_over read holds include shift w [] e = ap (λ b. let r : World = elim b [ true ↦ w | false ↦ finish read w ] in r) e

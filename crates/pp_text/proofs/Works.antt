@@ -1,5 +1,5 @@
 -- How the work that is left falls.
-use Rattle.std.proofs.Common.{◌≡◌, ℕ, zero, suc, ◌+◌, ◌*◌, ◌-◌, ◌<◌, ◌≤◌, Bool, true, false, List, [], ◌∷◌, length, map, Option, Some, None, refl, ap, sym, ◌∙◌, arith, subst}
+use Rattle.std.proofs.Common.{◌≡◌, ℕ, zero, suc, ◌+◌, ◌*◌, ◌-◌, ◌<◌, ◌≤◌, Bool, true, false, List, [], ◌∷◌, length, map, Option, Some, sym, arith, subst}
 use Rattle.std.proofs.lemmas.Nat.{mul-le}
 use Rattle.c_chars.specs.declared.Dialect.{Dialect}
 use Rattle.pp_model.specs.Token.{PpToken, erase, list_eq}

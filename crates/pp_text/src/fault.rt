@@ -13,9 +13,6 @@ pub enum EventsFault {
     /// The text, or one that it includes, has more than [`LIMIT`] bytes.
     #[error("more than {LIMIT} bytes")]
     TooLarge,
-    /// A line has a number past 64 bits. No text within [`LIMIT`] has so many lines.
-    #[error("a line number past 64 bits")]
-    LinePastEnd,
     /// Memory ran out.
     #[error("no memory")]
     NoMemory,

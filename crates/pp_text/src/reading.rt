@@ -97,7 +97,7 @@ impl Reading {
     fn read_include(
         &mut self,
         rules: &Rules,
-        next: u64,
+        next: u32,
         tokens: VecDeque<Tok>,
     ) -> Result<(), EventsFault>
         ensures shown { IfOk result (λ _. whole (rules_shown rules.now) (reading_shown self.new) ≡ behind_section (rules_shown rules.now) (unread_shown self.old.text) next (map waiting_shown self.old.waiting.items) (included (rules_shown rules.now).kinds (includes_of (rules_shown rules.now) self.old.text.depth) (map tok_shown tokens.items) (world_shown self.old.world))) }
@@ -118,7 +118,7 @@ impl Reading {
         rules: &Rules,
         kind: SectionKind,
         function_like: bool,
-        next: u64,
+        next: u32,
         tokens: VecDeque<Tok>,
     ) -> Result<(), EventsFault>
         ensures shown { IfOk result (λ _. whole (rules_shown rules.now) (reading_shown self.new) ≡ behind_section (rules_shown rules.now) (unread_shown self.old.text) next (map waiting_shown self.old.waiting.items) (plain (rules_shown rules.now).kinds (rules_shown rules.now).holds (kind_shown kind) function_like (map tok_shown tokens.items) (world_shown self.old.world))) }

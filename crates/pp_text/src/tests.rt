@@ -335,7 +335,7 @@ fn reads_included_texts(rt: HostRuntime) -> Result<(), Fail> {
 
 #[test]
 fn counts_lines_and_tells_of_the_rest(rt: HostRuntime) -> Result<(), Fail> {
-    let cases: [(&str, &[u8], &str); 7] = [
+    let cases: [(&str, &[u8], &str); 9] = [
         ("no text", b"", ""),
         (
             "physical lines, 6.10.8.1",
@@ -346,6 +346,16 @@ fn counts_lines_and_tells_of_the_rest(rt: HostRuntime) -> Result<(), Fail> {
             "lines behind a line directive, 6.10.4p3",
             b"\n#line 40\n__LINE__\n\n__LINE__",
             "LINE[ 40 ] line 40 line 42 ",
+        ),
+        (
+            "lines behind the greatest number, 6.10.4p3",
+            b"#line 2147483647\n__LINE__\n__LINE__",
+            "LINE[ 2147483647 ] line 2147483647 line 2147483648 ",
+        ),
+        (
+            "a number that no line may have, 6.10.4p3",
+            b"#line 2147483648\n__LINE__",
+            "LINE[ 2147483648 ] line 2 ",
         ),
         (
             "an operand is expanded, 6.10.4p5",
@@ -377,5 +387,87 @@ fn spends_turns(rt: HostRuntime) -> Result<(), Fail> {
     assert_eq!(rt; told.as_str(), "SPENT ");
     let told = shown(rt.alloc(), b"", 0, 3, b"a b c")?;
     assert_eq!(rt; told.as_str(), "a b c ");
+    Ok(())
+}
+
+#[test]
+fn tells_the_items_outside_of_skipped_groups(rt: HostRuntime) -> Result<(), Fail> {
+    // 29 items are 17 tokens and the items of a skipped group and of three directives. A turn for each suffices.
+    let text: &[u8] = b"void g(void){\n#ifdef A\nif(x){\n#else\n  if (y){\n#endif\nf( );\n}\n}\n";
+    let formatted: &[u8] =
+        b"void g(void) {\n#ifdef A\n  if (x) {\n#else\n  if (y) {\n#endif\n    f();\n  }\n}\n";
+    let tokens = "void g ( void ) { if ( y ) { f ( ) ; } } ";
+    let told = shown(rt.alloc(), b"", 0, 29, text)?;
+    assert_eq!(rt; told.as_str(), tokens);
+    let told = shown(rt.alloc(), b"", 0, 29, formatted)?;
+    assert_eq!(rt; told.as_str(), tokens);
+    Ok(())
+}
+
+#[test]
+fn tells_the_same_of_a_formatted_text(rt: HostRuntime) -> Result<(), Fail> {
+    // A text, and one of other white space; 6.10.3p10 looks at the white space before a `(`.
+    let cases: [(&str, &[u8], &[u8], &str); 9] = [
+        (
+            "a parameter list behind a splice, 6.10.3p10",
+            b"#define F\\\n(x) x\nF(a)\n",
+            b"#define F(x) x\nF(a)\n",
+            "a ",
+        ),
+        (
+            "a body that begins with a bracket, 6.10.3p9",
+            b"#define F (x)\n#define G(x) x\nF  G( b )\nF(a) G (c)\n",
+            b"#define F (x)\n#define G(x) x\nF G(b) F(a) G(c)\n",
+            "( x ) b ( x ) ( a ) c ",
+        ),
+        (
+            "conditionals in a call, X not defined",
+            b"f(a,\n#ifdef X\nb ,\n#else\nc ,\n#endif\nd);\n",
+            b"f(a,\n#ifdef X\n  b,\n#else\n  c,\n#endif\n  d);\n",
+            "f ( a , c , d ) ; ",
+        ),
+        (
+            "conditionals in a call, X defined",
+            b"#define X\nf(a,\n#ifdef X\nb ,\n#else\nc ,\n#endif\nd);\n",
+            b"#define X\nf(a,\n#ifdef X\n  b,\n#else\n  c,\n#endif\n  d);\n",
+            "f ( a , b , d ) ; ",
+        ),
+        (
+            "conditionals among a macro's arguments, X not defined",
+            b"#define f(p,q,r) r q p\nf(a,\n#ifdef X\nb ,\n#else\nc ,\n#endif\nd);\n",
+            b"#define f(p, q, r) r q p\nf(a,\n#ifdef X\n  b,\n#else\n  c,\n#endif\n  d);\n",
+            "d c a ; ",
+        ),
+        (
+            "conditionals among a macro's arguments, X defined",
+            b"#define X\n#define f(p,q,r) r q p\nf(a,\n#ifdef X\nb ,\n#else\nc ,\n#endif\nd);\n",
+            b"#define X\n#define f(p, q, r) r q p\nf(a,\n#ifdef X\n  b,\n#else\n  c,\n#endif\n  d);\n",
+            "d b a ; ",
+        ),
+        (
+            "a call that isn't closed, and one of too few arguments, 6.10.3p4",
+            b"#define f(p,q) q p\nf(a) f( a,b ) f (c",
+            b"#define f(p, q) q p\nf(a) f(a, b) f(c",
+            "f ( a ) b a f ( c ",
+        ),
+        (
+            "operands of ## stay as written, 6.10.3.3p2, and others are expanded",
+            b"#define X 1\n#define join(a,b) a##b b\njoin( X , X )\n",
+            b"#define X 1\n#define join(a, b) a##b b\njoin(X, X)\n",
+            "XX 1 ",
+        ),
+        (
+            "white space in a string, 6.10.3.2p2",
+            b"#define s(x) #x\ns(  a+b  - c )\n",
+            b"#define s(x) #x\ns(a+b - c)\n",
+            "str<a+b - c> ",
+        ),
+    ];
+    for (name, text, formatted, expected) in cases {
+        let told = shown(rt.alloc(), b"", 0, 100, text)?;
+        assert_eq!(rt; told.as_str(), expected, "{name}");
+        let told = shown(rt.alloc(), b"", 0, 100, formatted)?;
+        assert_eq!(rt; told.as_str(), expected, "{name}, formatted");
+    }
     Ok(())
 }

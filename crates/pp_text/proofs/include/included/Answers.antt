@@ -1,6 +1,6 @@
-use Rattle.std.proofs.Common.{◌≡◌, ◌∙◌, ap, map, sym}
+use Rattle.std.proofs.Common.{◌∙◌, ap, map, sym}
 use Rattle.pp_model.specs.Finding.{kind_of}
-use Rattle.pp_model.specs.Preprocess.{World, included, include_by, key_of}
+use Rattle.pp_model.specs.Preprocess.{included, key_of}
 use Rattle.pp_events.specs.View.{tok_shown}
 use Rattle.pp_directives.specs.WorldView.{world_shown}
 use Rattle.pp_text.specs.Unread.{includes_of, entered}

@@ -1,4 +1,4 @@
-use Rattle.std.proofs.Common.{◌≡◌, ◌∙◌, ap, map, sym}
+use Rattle.std.proofs.Common.{◌∙◌, ap, map, sym}
 use Rattle.std.specs.Prelude.{option_map}
 use Rattle.pp_model.specs.Finding.{kind_of}
 use Rattle.pp_model.specs.Preprocess.{starting, Lexed}

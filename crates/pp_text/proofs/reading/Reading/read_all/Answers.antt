@@ -1,4 +1,4 @@
-use Rattle.std.proofs.Common.{◌≡◌, ◌∙◌, ap, sym}
+use Rattle.std.proofs.Common.{◌∙◌, ap, sym}
 use Rattle.pp_text.specs.ReadingView.{rules_shown, reading_shown}
 use Rattle.pp_text.proofs.Walks.{whole_over}
 use Rattle.pp_text.proofs.reading.Reading.read_all.Goals as goal

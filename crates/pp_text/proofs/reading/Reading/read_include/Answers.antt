@@ -1,4 +1,4 @@
-use Rattle.std.proofs.Common.{◌≡◌, ◌∙◌, ap, map}
+use Rattle.std.proofs.Common.{◌∙◌, ap, map}
 use Rattle.pp_stream.specs.View.{section_shown}
 use Rattle.pp_directives.specs.WorldView.{world_shown}
 use Rattle.pp_text.specs.Unread.{whole, entered}
