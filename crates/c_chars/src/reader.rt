@@ -32,6 +32,18 @@ impl<'s> Cursor<'s> {
         if is_plain(*byte) {
             return Some(self.take_unit(*byte, self.at, 1, behind));
         }
+        self.step_any()
+    }
+
+    /// The next character, whatever it is written as. Apart from `next`, so that the room for what
+    /// `next_any` gives is made only where it is called.
+    #[inline(always)]
+    fn step_any(&mut self) -> Option<LogicalChar>
+        ensures dialect { self.new.dialect ≡ self.old.dialect }
+        ensures next { MatchOption result
+            ((chars self.old.dialect self.old.at self.old.rest.now ≡ []) × (self.new.at ≡ self.old.at) × (self.new.rest.now ≡ self.old.rest.now))
+            (λ c. (chars self.old.dialect self.old.at self.old.rest.now ≡ c ∷ chars self.new.dialect self.new.at self.new.rest.now) × (self.new.at ≡ c.to)) }
+    {
         let (next, left) = self.next_any();
         *self = left;
         next
