@@ -1,5 +1,7 @@
 -- What is left to read.
-use Rattle.std.specs.Prelude.{ℕ, zero, suc, ◌≤◌, ◌<◌, List, [], ◌∷◌}
+use Rattle.std.specs.Prelude.{◌≡◌, ℕ, zero, suc, ◌≤◌, ◌<◌, Bool, List, [], ◌∷◌, length, take, IsTrue}
+use Rattle.std.specs.List.{list_all}
+use Rattle.c_chars.specs.Characters.{bytes_of}
 use Rattle.c_chars.specs.declared.Dialect.{Dialect}
 use Rattle.c_chars.specs.declared.LogicalChar.{LogicalChar}
 
@@ -23,3 +25,10 @@ passed d at (c ∷ s) (suc n) = passed d c.to s n
 -- what is to come behind the next n characters
 abbrev pub behind : Coming → ℕ → Coming
 behind x n = passed x.dialect x.at x.chars n
+
+-- Some of the next characters of `old` were passed, each of these holds, and `new` is what is to come behind them.
+pub record ArePassed (p : ℕ → Bool) (old new : Coming) : Type 0 where
+  pub n : ℕ
+  pub within : n ≤ length old.chars
+  pub all : IsTrue (list_all p (take n (bytes_of old.chars)))
+  pub new_is : new ≡ behind old n

@@ -1,10 +1,10 @@
 //! Reads the characters of a text one after another.
 
 ghost use Rattle.std.specs.Prelude.{◌≡◌, ◌+◌, ◌<◌, ◌≤◌, ◌^◌, length, drop, MatchOption, IfSome, IfNone, ◌∷◌, [], slice_get};
-ghost use Rattle.c_chars.specs.Characters.{chars, logical, mark_len};
-ghost use Rattle.c_chars.specs.Coming.{AreBetween};
+ghost use Rattle.c_chars.specs.Characters.{chars, logical, mark_len, is_word_byte};
+ghost use Rattle.c_chars.specs.Coming.{AreBetween, ArePassed};
 
-use crate::units::{is_plain, unit};
+use crate::units::{is_plain, unit, word_len};
 use crate::{Dialect, LIMIT, LogicalChar};
 use std::marker::Model;
 
@@ -110,6 +110,18 @@ impl<'s> Cursor<'s> {
         }
     }
 
+    /// Steps behind the next n bytes.
+    #[inline(always)]
+    fn pass(&mut self, n: usize)
+        requires { n ≤ length self.old.rest.now }
+        ensures dialect { self.new.dialect ≡ self.old.dialect }
+        ensures rest { self.new.rest.now ≡ drop n self.old.rest.now }
+        ensures at { self.new.at ≡ self.old.at + n }
+    {
+        self.rest = &self.rest[n..];
+        self.at += n;
+    }
+
     /// The character that k others stand before.
     #[inline(always)]
     fn peek(&self, k: usize) -> Option<LogicalChar>
@@ -178,6 +190,17 @@ impl<'s> Chars<'s> {
         self.cursor.next()
     }
 
+    /// Steps behind the letters, digits, `_` and `$` that come next, in one pass over their bytes.
+    ///
+    /// It may stop before a further one, where lines are spliced between the two.
+    #[inline(always)]
+    pub fn pass_word(&mut self)
+        ensures { ArePassed is_word_byte self.old self.new }
+    {
+        let len = word_len(self.cursor.rest);
+        self.cursor.pass(len);
+    }
+
     /// The character that stands behind the next k characters, 0 for the next one.
     ///
     /// It reads on from the next character each time, so k is to be small.
@@ -230,6 +253,19 @@ mod tests {
             assert_eq!(rt; chars.next(), Some(LogicalChar { byte, from, to }));
         }
         assert_eq!(rt; chars.next(), None);
+        Ok(())
+    }
+
+    /// The bytes of a word up to a splice, behind which it goes on, and up to what is no part of it.
+    #[test]
+    fn passes_words(rt: HostRuntime) -> Result<(), Fail> {
+        let mut chars = Chars::new(b"aZ_$9\\\nb1+", Dialect::C11);
+        chars.pass_word();
+        assert_eq!(rt; chars.at(), 5);
+        let (byte, from, to) = (b'b', 7, 8);
+        assert_eq!(rt; chars.next(), Some(LogicalChar { byte, from, to }));
+        chars.pass_word();
+        assert_eq!(rt; chars.at(), 9);
         Ok(())
     }
 }

@@ -105,6 +105,7 @@ pub(crate) fn behind_word<'s>(text: &Chars<'s>) -> Chars<'s>
     ensures { result ≡ behind text.now (prefix_len (λ c. is_letter c || is_digit c) (bytes_of text.now.chars)) }
 {
     let mut rest = text.ahead();
+    rest.pass_word();
     while let Some(_) = next_of_word(&mut rest) {}
     rest
 }
