@@ -126,7 +126,7 @@ impl<'s> Lexer<'s> {
             return Ok(None);
         };
         let standing = place::past_gap(self.standing, gap.lines != 0);
-        match next::cut_next(self.dialect, standing, &gap.rest) {
+        match next::cut_next(self.dialect, standing, &gap.rest, first.byte) {
             Ok((kind, left)) => {
                 let raw = between(self.text, first.from as usize, left.at());
                 let back = is_backslash_last(self.text, &gap.rest, &left);
