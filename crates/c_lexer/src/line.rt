@@ -37,13 +37,15 @@ fn next_blank(chars: &mut Chars) -> Option<LogicalChar>
     ensures some { IfSome result (λ c. (chars.old.chars ≡ c ∷ chars.new.chars) × (chars.new.at ≡ c.to) × IsTrue (is_white c.byte || is_new_line c.byte)) }
     ensures none { IfNone result (IsFalse (starts (λ c. is_white c || is_new_line c) (bytes_of chars.old.chars)) × (chars.new ≡ chars.old)) }
 {
-    let mut ahead = chars.ahead();
-    let c = ahead.next()?;
-    if !class::is_blank(c.byte) {
-        return None;
+    match chars.peek(0) {
+        Some(c) => {
+            if !class::is_blank(c.byte) {
+                return None;
+            }
+            chars.next()
+        }
+        None => None,
     }
-    *chars = ahead;
-    Some(c)
 }
 
 /// The next letter or digit; none behind the word, where it stays.
