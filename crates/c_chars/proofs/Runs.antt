@@ -1,10 +1,11 @@
 -- Runs of bytes that are characters by themselves.
-use Rattle.std.proofs.Common.{◌≡◌, ◌==◌, ◌&&◌, not, ℕ, suc, ◌+◌, arith, Bool, true, false, List, [], ◌∷◌, drop, refl, sym, ◌∙◌, ap, subst, inl, inr}
-use Rattle.std.specs.List.{prefix_len}
+use Rattle.std.proofs.Common.{◌≡◌, ◌==◌, ◌&&◌, not, ℕ, suc, ◌+◌, arith, Bool, true, false, List, [], ◌∷◌, ◌++◌, take, drop, refl, sym, ◌∙◌, ap, subst, inl, inr}
+use Rattle.std.specs.List.{list_all, prefix_len}
+use Rattle.std.proofs.lemmas.List.Folds.{length-prefix_len}
 use Rattle.std.proofs.lemmas.Bool.{and_parts, and_from, and_right, cases_Bool, not-true}
 use Rattle.std.proofs.lemmas.Bool.Decides.{nat_tests}
-use Rattle.c_chars.specs.Characters.{chars, IsUnit, begins_trigraph, begins_return, has_trigraphs, is_plain, is_word_byte}
-use Rattle.c_chars.specs.Coming.{Coming, ArePassed}
+use Rattle.c_chars.specs.Characters.{chars, placed, IsUnit, begins_trigraph, begins_return, has_trigraphs, is_plain, is_space_byte, is_word_byte}
+use Rattle.c_chars.specs.Coming.{Coming, ArePassed, AreSpacesPassed}
 use Rattle.c_chars.specs.declared.Dialect.{Dialect}
 use Rattle.c_chars.specs.declared.LogicalChar.{LogicalChar}
 use Rattle.c_chars.proofs.FirstUnits.{at_plain, step_plain}
@@ -68,3 +69,48 @@ word_passed d d2 at at2 n s rest e dd aa rr =
     let far : at2 ≡ at + prefix_len is_word_byte s = aa ∙ ap (λ k. at + k) e in
     let left : rest ≡ drop (prefix_len is_word_byte s) s = rr ∙ ap (λ k. drop k s) e in
     rw (dd, far, left) (run is_word_byte d at s word_plain)
+
+-- The characters of a run are its bytes, one by one.
+
+run_passes : (p : ℕ → Bool) (s : List ℕ) → list_all p (take (prefix_len p s) s) ≡ true
+run_passes p [] = refl
+run_passes p (c ∷ s) = elim (cases_Bool (p c)) [
+  | inl e ↦ let one : 1 + prefix_len p s ≡ suc (prefix_len p s) = omega arith in rw (e, one) (and_from (p c) (list_all p (take (prefix_len p s) s)) e (run_passes p s))
+  | inr e ↦ rw e refl
+]
+
+run_chars : (p : ℕ → Bool) (d : Dialect) (at : ℕ) (s : List ℕ) → ((b : ℕ) → p b ≡ true → is_plain b ≡ true) →
+    chars d at s ≡ placed at (take (prefix_len p s) s) ++ chars d (at + prefix_len p s) (drop (prefix_len p s) s)
+run_chars p d at [] plain = let z : at + 0 ≡ at = omega arith in sym (ap (λ k. chars d k []) z)
+run_chars p d at (b ∷ s) plain = elim (cases_Bool (p b)) [
+  | inl y ↦
+      let len : prefix_len p (b ∷ s) ≡ suc (prefix_len p s) = rw y (omega arith) in
+      let far : (at + 1) + prefix_len p s ≡ at + suc (prefix_len p s) = omega arith in
+      plain_first d at b s (plain b y)
+      ∙ (ap (λ z. record { byte = b; from = at; to = at + 1 } ∷ z) (run_chars p d (at + 1) s plain ∙ ap (λ k. placed (at + 1) (take (prefix_len p s) s) ++ chars d k (drop (prefix_len p s) s)) far)
+      ∙ ap (λ k. placed at (take k (b ∷ s)) ++ chars d (at + k) (drop k (b ∷ s))) (sym len))
+  | inr n ↦
+      let len : prefix_len p (b ∷ s) ≡ 0 = rw n refl in
+      let z : at + 0 ≡ at = omega arith in
+      sym (ap (λ k. placed at (take k (b ∷ s)) ++ chars d (at + k) (drop k (b ∷ s))) len ∙ ap (λ k. chars d k (b ∷ s)) z)
+]
+
+space_plain : (b : ℕ) → is_space_byte b ≡ true → is_plain b ≡ true
+unfolding is_space_byte
+space_plain b h = grind (arith, nat_tests)
+
+-- a reader that passed spaces and tabs
+pub spaces_passed : (d d2 : Dialect) (at at2 n : ℕ) (s rest : List ℕ) → n ≡ prefix_len is_space_byte s → d2 ≡ d → at2 ≡ at + n → rest ≡ drop n s →
+    AreSpacesPassed (record { dialect = d; at = at; chars = chars d at s }) (record { dialect = d2; at = at2; chars = chars d2 at2 rest }) n
+spaces_passed d d2 at at2 n s rest e dd aa rr =
+    let far : at2 ≡ at + prefix_len is_space_byte s = aa ∙ ap (λ k. at + k) e in
+    let left : rest ≡ drop (prefix_len is_space_byte s) s = rr ∙ ap (λ k. drop k s) e in
+    let same : chars d2 at2 rest ≡ chars d (at + prefix_len is_space_byte s) (drop (prefix_len is_space_byte s) s) = rw (dd, far, left) refl in
+    record {
+      bytes = take (prefix_len is_space_byte s) s;
+      count = e ∙ sym (length-prefix_len is_space_byte s);
+      all = run_passes is_space_byte s;
+      chars_are = run_chars is_space_byte d at s space_plain ∙ ap (λ z. placed at (take (prefix_len is_space_byte s) s) ++ z) (sym same);
+      at_is = aa;
+      dialect_is = dd;
+    }

@@ -2,9 +2,9 @@
 
 ghost use Rattle.std.specs.Prelude.{◌≡◌, ◌+◌, ◌<◌, ◌≤◌, ◌^◌, length, drop, MatchOption, IfSome, IfNone, ◌∷◌, [], slice_get};
 ghost use Rattle.c_chars.specs.Characters.{chars, logical, mark_len, is_word_byte};
-ghost use Rattle.c_chars.specs.Coming.{AreBetween, ArePassed};
+ghost use Rattle.c_chars.specs.Coming.{AreBetween, ArePassed, AreSpacesPassed};
 
-use crate::units::{is_plain, unit, word_len};
+use crate::units::{is_plain, space_len, unit, word_len};
 use crate::{Dialect, LIMIT, LogicalChar};
 use std::marker::Model;
 
@@ -201,6 +201,19 @@ impl<'s> Chars<'s> {
         self.cursor.pass(len);
     }
 
+    /// Steps behind the spaces and tabs that come next, in one pass over their bytes. How many they are.
+    ///
+    /// It may stop before a further one, where lines are spliced between the two.
+    #[inline(always)]
+    pub fn pass_spaces(&mut self) -> u32
+        ensures passed { AreSpacesPassed self.old self.new result }
+        ensures fits { self.new.at < 2 ^ 32 }
+    {
+        let len = space_len(self.cursor.rest);
+        self.cursor.pass(len);
+        len as u32
+    }
+
     /// The character that stands behind the next k characters, 0 for the next one.
     ///
     /// It reads on from the next character each time, so k is to be small.
@@ -266,6 +279,19 @@ mod tests {
         assert_eq!(rt; chars.next(), Some(LogicalChar { byte, from, to }));
         chars.pass_word();
         assert_eq!(rt; chars.at(), 9);
+        Ok(())
+    }
+
+    /// Spaces and tabs up to a line's end, none behind it, and one before a word.
+    #[test]
+    fn passes_spaces(rt: HostRuntime) -> Result<(), Fail> {
+        let mut chars = Chars::new(b" \t \r\n\ta", Dialect::C23);
+        assert_eq!(rt; chars.pass_spaces(), 3);
+        assert_eq!(rt; chars.pass_spaces(), 0);
+        let (byte, from, to) = (b'\n', 3, 5);
+        assert_eq!(rt; chars.next(), Some(LogicalChar { byte, from, to }));
+        assert_eq!(rt; chars.pass_spaces(), 1);
+        assert_eq!(rt; chars.at(), 6);
         Ok(())
     }
 }

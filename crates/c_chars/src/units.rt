@@ -2,7 +2,7 @@
 
 ghost use Rattle.std.specs.Prelude.{◌≡◌, ◌&&◌, ◌<◌, ◌≤◌, length};
 ghost use Rattle.std.specs.List.{prefix_len};
-ghost use Rattle.c_chars.specs.Characters.{trigraph, IsUnit, begins_trigraph, begins_return, has_trigraphs, is_plain, is_word_byte};
+ghost use Rattle.c_chars.specs.Characters.{trigraph, IsUnit, begins_trigraph, begins_return, has_trigraphs, is_plain, is_space_byte, is_word_byte};
 
 use crate::Dialect;
 
@@ -81,6 +81,28 @@ pub(crate) fn word_len(s: &[u8]) -> usize
 {
     for i in 0..s.len() {
         if !is_word_byte(s[i]) {
+            return i;
+        }
+    }
+    s.len()
+}
+
+/// A space or a tab.
+#[tactic(auto, unfolding(crate::specs::Characters::is_space_byte))]
+#[inline(always)]
+fn is_space_byte(b: u8) -> bool
+    ensures { result ≡ is_space_byte b }
+{
+    b == b' ' || b == b'\t'
+}
+
+/// How many spaces and tabs the bytes begin with.
+#[inline(always)]
+pub(crate) fn space_len(s: &[u8]) -> usize
+    ensures { result ≡ prefix_len is_space_byte s.now }
+{
+    for i in 0..s.len() {
+        if !is_space_byte(s[i]) {
             return i;
         }
     }

@@ -93,10 +93,11 @@ pub(crate) fn behind_gap<'s>(text: &Chars<'s>) -> Gap<'s>
 {
     let mut rest = text.ahead();
     let mut lines = 0;
-    let mut bytes = 0;
+    let mut bytes = rest.pass_spaces();
     while let Some(c) = next_blank(&mut rest) {
         lines += lines_of(c.byte);
         bytes += c.to - c.from;
+        bytes += rest.pass_spaces();
     }
     Gap { lines, bytes, rest }
 }
