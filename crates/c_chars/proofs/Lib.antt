@@ -3,3 +3,4 @@ pub mod FirstUnits
 pub mod Spans
 pub mod Splits
 pub mod Ends
+pub mod Runs

@@ -1,5 +1,7 @@
 -- What is left to read.
-use Rattle.std.specs.Prelude.{ℕ, zero, suc, ◌≤◌, ◌<◌, List, [], ◌∷◌}
+use Rattle.std.specs.Prelude.{◌≡◌, ℕ, zero, suc, ◌+◌, ◌≤◌, ◌<◌, Bool, List, [], ◌∷◌, ◌++◌, length, take, IsTrue}
+use Rattle.std.specs.List.{list_all}
+use Rattle.c_chars.specs.Characters.{bytes_of, placed, is_space_byte}
 use Rattle.c_chars.specs.declared.Dialect.{Dialect}
 use Rattle.c_chars.specs.declared.LogicalChar.{LogicalChar}
 
@@ -23,3 +25,19 @@ passed d at (c ∷ s) (suc n) = passed d c.to s n
 -- what is to come behind the next n characters
 abbrev pub behind : Coming → ℕ → Coming
 behind x n = passed x.dialect x.at x.chars n
+
+-- Some of the next characters of `old` were passed, each of these holds, and `new` is what is to come behind them.
+pub record ArePassed (p : ℕ → Bool) (old new : Coming) : Type 0 where
+  pub n : ℕ
+  pub within : n ≤ length old.chars
+  pub all : IsTrue (list_all p (take n (bytes_of old.chars)))
+  pub new_is : new ≡ behind old n
+
+-- Spaces and tabs were passed: `old` begins with n of them, each one byte of the text, and `new` is what is to come behind them.
+pub record AreSpacesPassed (old new : Coming) (n : ℕ) : Type 0 where
+  pub bytes : List ℕ
+  pub count : n ≡ length bytes
+  pub all : IsTrue (list_all is_space_byte bytes)
+  pub chars_are : old.chars ≡ placed old.at bytes ++ new.chars
+  pub at_is : new.at ≡ old.at + n
+  pub dialect_is : new.dialect ≡ old.dialect

@@ -1,10 +1,10 @@
 //! Reads the characters of a text one after another.
 
 ghost use Rattle.std.specs.Prelude.{◌≡◌, ◌+◌, ◌<◌, ◌≤◌, ◌^◌, length, drop, MatchOption, IfSome, IfNone, ◌∷◌, [], slice_get};
-ghost use Rattle.c_chars.specs.Characters.{chars, logical, mark_len};
-ghost use Rattle.c_chars.specs.Coming.{AreBetween};
+ghost use Rattle.c_chars.specs.Characters.{chars, logical, mark_len, is_word_byte};
+ghost use Rattle.c_chars.specs.Coming.{AreBetween, ArePassed, AreSpacesPassed};
 
-use crate::units::{is_plain, unit};
+use crate::units::{is_plain, space_len, unit, word_len};
 use crate::{Dialect, LIMIT, LogicalChar};
 use std::marker::Model;
 
@@ -32,6 +32,18 @@ impl<'s> Cursor<'s> {
         if is_plain(*byte) {
             return Some(self.take_unit(*byte, self.at, 1, behind));
         }
+        self.step_any()
+    }
+
+    /// The next character, whatever it is written as. Apart from `next`, so that the room for what
+    /// `next_any` gives is made only where it is called.
+    #[inline(always)]
+    fn step_any(&mut self) -> Option<LogicalChar>
+        ensures dialect { self.new.dialect ≡ self.old.dialect }
+        ensures next { MatchOption result
+            ((chars self.old.dialect self.old.at self.old.rest.now ≡ []) × (self.new.at ≡ self.old.at) × (self.new.rest.now ≡ self.old.rest.now))
+            (λ c. (chars self.old.dialect self.old.at self.old.rest.now ≡ c ∷ chars self.new.dialect self.new.at self.new.rest.now) × (self.new.at ≡ c.to)) }
+    {
         let (next, left) = self.next_any();
         *self = left;
         next
@@ -96,6 +108,18 @@ impl<'s> Cursor<'s> {
             from: at as u32,
             to: (at + len) as u32,
         }
+    }
+
+    /// Steps behind the next n bytes.
+    #[inline(always)]
+    fn pass(&mut self, n: usize)
+        requires { n ≤ length self.old.rest.now }
+        ensures dialect { self.new.dialect ≡ self.old.dialect }
+        ensures rest { self.new.rest.now ≡ drop n self.old.rest.now }
+        ensures at { self.new.at ≡ self.old.at + n }
+    {
+        self.rest = &self.rest[n..];
+        self.at += n;
     }
 
     /// The character that k others stand before.
@@ -166,6 +190,30 @@ impl<'s> Chars<'s> {
         self.cursor.next()
     }
 
+    /// Steps behind the letters, digits, `_` and `$` that come next, in one pass over their bytes.
+    ///
+    /// It may stop before a further one, where lines are spliced between the two.
+    #[inline(always)]
+    pub fn pass_word(&mut self)
+        ensures { ArePassed is_word_byte self.old self.new }
+    {
+        let len = word_len(self.cursor.rest);
+        self.cursor.pass(len);
+    }
+
+    /// Steps behind the spaces and tabs that come next, in one pass over their bytes. How many they are.
+    ///
+    /// It may stop before a further one, where lines are spliced between the two.
+    #[inline(always)]
+    pub fn pass_spaces(&mut self) -> u32
+        ensures passed { AreSpacesPassed self.old self.new result }
+        ensures fits { self.new.at < 2 ^ 32 }
+    {
+        let len = space_len(self.cursor.rest);
+        self.cursor.pass(len);
+        len as u32
+    }
+
     /// The character that stands behind the next k characters, 0 for the next one.
     ///
     /// It reads on from the next character each time, so k is to be small.
@@ -218,6 +266,32 @@ mod tests {
             assert_eq!(rt; chars.next(), Some(LogicalChar { byte, from, to }));
         }
         assert_eq!(rt; chars.next(), None);
+        Ok(())
+    }
+
+    /// The bytes of a word up to a splice, behind which it goes on, and up to what is no part of it.
+    #[test]
+    fn passes_words(rt: HostRuntime) -> Result<(), Fail> {
+        let mut chars = Chars::new(b"aZ_$9\\\nb1+", Dialect::C11);
+        chars.pass_word();
+        assert_eq!(rt; chars.at(), 5);
+        let (byte, from, to) = (b'b', 7, 8);
+        assert_eq!(rt; chars.next(), Some(LogicalChar { byte, from, to }));
+        chars.pass_word();
+        assert_eq!(rt; chars.at(), 9);
+        Ok(())
+    }
+
+    /// Spaces and tabs up to a line's end, none behind it, and one before a word.
+    #[test]
+    fn passes_spaces(rt: HostRuntime) -> Result<(), Fail> {
+        let mut chars = Chars::new(b" \t \r\n\ta", Dialect::C23);
+        assert_eq!(rt; chars.pass_spaces(), 3);
+        assert_eq!(rt; chars.pass_spaces(), 0);
+        let (byte, from, to) = (b'\n', 3, 5);
+        assert_eq!(rt; chars.next(), Some(LogicalChar { byte, from, to }));
+        assert_eq!(rt; chars.pass_spaces(), 1);
+        assert_eq!(rt; chars.at(), 6);
         Ok(())
     }
 }

@@ -1,7 +1,8 @@
 //! The first character of a text, before splices are taken out.
 
 ghost use Rattle.std.specs.Prelude.{◌≡◌, ◌&&◌, ◌<◌, ◌≤◌, length};
-ghost use Rattle.c_chars.specs.Characters.{trigraph, IsUnit, begins_trigraph, begins_return, has_trigraphs, is_plain};
+ghost use Rattle.std.specs.List.{prefix_len};
+ghost use Rattle.c_chars.specs.Characters.{trigraph, IsUnit, begins_trigraph, begins_return, has_trigraphs, is_plain, is_space_byte, is_word_byte};
 
 use crate::Dialect;
 
@@ -62,6 +63,50 @@ pub(crate) fn is_plain(b: u8) -> bool
     ensures { result ≡ is_plain b }
 {
     b != b'?' && (b != b'\r' && b != b'\\')
+}
+
+/// A letter, a digit, `_` or `$`.
+#[tactic(auto, unfolding(crate::specs::Characters::is_word_byte))]
+#[inline(always)]
+fn is_word_byte(b: u8) -> bool
+    ensures { result ≡ is_word_byte b }
+{
+    b.is_ascii_alphabetic() || (b.is_ascii_digit() || (b == b'_' || b == b'$'))
+}
+
+/// How many letters, digits, `_` and `$` the bytes begin with.
+#[inline(always)]
+pub(crate) fn word_len(s: &[u8]) -> usize
+    ensures { result ≡ prefix_len is_word_byte s.now }
+{
+    for i in 0..s.len() {
+        if !is_word_byte(s[i]) {
+            return i;
+        }
+    }
+    s.len()
+}
+
+/// A space or a tab.
+#[tactic(auto, unfolding(crate::specs::Characters::is_space_byte))]
+#[inline(always)]
+fn is_space_byte(b: u8) -> bool
+    ensures { result ≡ is_space_byte b }
+{
+    b == b' ' || b == b'\t'
+}
+
+/// How many spaces and tabs the bytes begin with.
+#[inline(always)]
+pub(crate) fn space_len(s: &[u8]) -> usize
+    ensures { result ≡ prefix_len is_space_byte s.now }
+{
+    for i in 0..s.len() {
+        if !is_space_byte(s[i]) {
+            return i;
+        }
+    }
+    s.len()
 }
 
 /// The first character before splices are taken out, and how many bytes it has.

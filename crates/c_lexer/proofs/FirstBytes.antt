@@ -1,5 +1,5 @@
 -- What the first byte of a text tells.
-use Rattle.std.proofs.Common.{◌≡◌, ◌==◌, ◌&&◌, ◌<◌, ℕ, Bool, true, false, List, [], ◌∷◌, length, drop, nat_eq, refl, sym, ◌∙◌, ap, subst, arith, inl, inr}
+use Rattle.std.proofs.Common.{◌≡◌, ◌==◌, ◌&&◌, ℕ, Bool, true, false, List, [], ◌∷◌, drop, nat_eq, refl, sym, ◌∙◌, ap, subst, inl, inr}
 use Rattle.std.specs.Prelude.{Some, None, slice_get}
 use Rattle.std.specs.List.{starts_with}
 use Rattle.std.proofs.lemmas.Bool.{and_right, eq-eqb, ne_eqb, cases_Bool}
@@ -7,14 +7,11 @@ use Rattle.c_chars.specs.Characters.{bytes_of}
 use Rattle.c_chars.specs.declared.LogicalChar.{LogicalChar}
 use Rattle.c_grammar.specs.Touch.{starts}
 use Rattle.c_lexer.specs.Class.{IsFirst}
+use Rattle.c_lexer.specs.Run.{begins_long, may_be_long}
 
 pub first_there : (s : List LogicalChar) (c : LogicalChar) → slice_get s 0 ≡ Some c → IsFirst c.byte (bytes_of s)
 first_there [] c h = cc
 first_there (e ∷ s) c h = let same : e ≡ c = cc in record { rest = bytes_of s; whole = ap (λ z. z.byte ∷ bytes_of s) same }
-
-pub first_missing : (s : List LogicalChar) → 0 < length s → slice_get s 0 ≡ None → IsFirst 0 (bytes_of s)
-first_missing [] l h = absurd (omega arith)
-first_missing (e ∷ s) l h = cc
 
 pub starts_so : (p : ℕ → Bool) (c : ℕ) (s : List ℕ) (b : Bool) → IsFirst c s → p c ≡ b → starts p s ≡ b
 starts_so p c s b f h = ap (λ z. starts p z) f.whole ∙ h
@@ -48,3 +45,11 @@ two_there a b c s e f h g =
 pub two_missing : (a b c : ℕ) (s : List LogicalChar) → IsFirst c (bytes_of s) → slice_get s 1 ≡ None → false ≡ starts_with nat_eq (bytes_of s) (a ∷ b ∷ [])
 two_missing a b c s f g =
     sym (two_so a b c (bytes_of s) f ∙ (ap (λ z. (a == c) && z) (second_missing (λ k. b == k) s g) ∙ and_right (a == c) false refl))
+
+-- one that begins no punctuator of two characters and more
+pub stands_alone : (c : ℕ) (s : List ℕ) → IsFirst c s → begins_long c ≡ false → may_be_long s ≡ false
+stands_alone c s f n = ap may_be_long f.whole ∙ at f.rest
+  where
+    at : (t : List ℕ) → may_be_long (c ∷ t) ≡ false
+    at [] = refl
+    at (e ∷ t) = rw n refl

@@ -1,15 +1,17 @@
 -- Steps over characters.
-use Rattle.std.specs.List.{list_any, prefix_len}
+use Rattle.std.specs.List.{list_all, list_any, prefix_len}
 use Rattle.c_lexer.specs.Quote.{closes_quote, quote_len}
 use Rattle.c_lexer.specs.Header.{ends_name, name_len, begins_header, header_len}
 use Rattle.c_lexer.specs.Comment.{closes_block, block_len, line_len, over_white}
 use Rattle.std.specs.Prelude.{if◌then◌else◌, not, slice_get, Option, Some, None, MatchOption}
 use Rattle.std.proofs.lemmas.Bool.{cases_Bool, eqb-true, eq-eqb, ne_eqb, and_parts, not-false}
-use Rattle.c_grammar.specs.Grammar.{is_white, is_new_line}
+use Rattle.std.proofs.lemmas.Bool.Decides.{nat_tests}
+use Rattle.c_grammar.specs.Grammar.{is_white, is_new_line, is_letter, is_digit}
 use Rattle.c_grammar.specs.Touch.{starts}
-use Rattle.std.proofs.Common.{true, inl, inr, ◌≡◌, ◌==◌, ◌&&◌, Bool, false, ℕ, suc, ◌+◌, ◌||◌, List, [], ◌∷◌, take, refl, sym, ◌∙◌, ap, arith}
-use Rattle.c_chars.specs.Coming.{Coming, behind}
-use Rattle.c_chars.specs.Characters.{bytes_of}
+use Rattle.std.proofs.Common.{true, inl, inr, ◌≡◌, ◌≤◌, ◌==◌, ◌&&◌, Bool, false, ℕ, zero, suc, length, ◌+◌, ◌||◌, List, [], ◌∷◌, take, refl, sym, ◌∙◌, ap, arith}
+use Rattle.c_chars.specs.Coming.{Coming, ArePassed, behind, passed}
+use Rattle.c_chars.specs.Characters.{bytes_of, is_word_byte}
+use Rattle.c_chars.specs.declared.Dialect.{Dialect}
 use Rattle.c_chars.specs.declared.LogicalChar.{LogicalChar}
 
 -- one character, and then n more
@@ -160,3 +162,23 @@ line_next p x y c chars h = ap (λ s. has_line p (bytes_of s)) chars ∙ at c.by
 pub or_assoc : (a b c : Bool) → ((a || b) || c) ≡ (a || (b || c))
 or_assoc true b c = refl
 or_assoc false b c = refl
+
+-- letters, digits, `_` and `$`
+pub word_byte : (b : ℕ) → is_word_byte b ≡ true → (is_letter b || is_digit b) ≡ true
+unfolding is_word_byte is_letter is_digit
+word_byte b h = grind (arith, nat_tests)
+
+-- what passed is in front of the run
+pub passed_run : (p q : ℕ → Bool) (x y : Coming) → ((b : ℕ) → q b ≡ true → p b ≡ true) → ArePassed q x y → behind y (prefix_len p (bytes_of y.chars)) ≡ behind x (prefix_len p (bytes_of x.chars))
+passed_run p q x y more r =
+    ap (λ z. behind z (prefix_len p (bytes_of z.chars))) r.new_is ∙ go x.dialect x.at x.chars r.n r.within r.all
+  where
+    go : (d : Dialect) (at : ℕ) (s : List LogicalChar) (n : ℕ) → n ≤ length s → list_all q (take n (bytes_of s)) ≡ true →
+        behind (passed d at s n) (prefix_len p (bytes_of (passed d at s n).chars)) ≡ passed d at s (prefix_len p (bytes_of s))
+    go d at s zero within all = refl
+    go d at [] (suc n) within all = absurd (omega arith)
+    go d at (c ∷ s) (suc n) within all =
+        let parts = and_parts (q c.byte) (list_all q (take n (bytes_of s))) all in
+        let one : 1 + prefix_len p (bytes_of s) ≡ suc (prefix_len p (bytes_of s)) = omega arith in
+        let yes : p c.byte ≡ true = more c.byte parts.0 in
+        go d c.to s n (omega (arith, within)) parts.1 ∙ sym (rw (yes, one) refl)

@@ -10,7 +10,7 @@ ghost use Rattle.c_lexer.specs.Quote.{closes_quote};
 ghost use Rattle.c_grammar.specs.Items.{IsLongest};
 ghost use Rattle.c_grammar.specs.declared.ItemKind.TheVariants.{Identifier, Number, Punct, Other, CharConst, StringLit, StrayQuote, LineComment, BlockComment};
 ghost use Rattle.c_lexer.specs.Cut.{IsCutOff, IsStop};
-ghost use Rattle.c_lexer.specs.Class.{begins_punctuator, is_quote_mark};
+ghost use Rattle.c_lexer.specs.Class.{IsFirst, begins_punctuator, is_quote_mark};
 ghost use Rattle.c_lexer.specs.Run.{begins_number, head_len};
 ghost use Rattle.c_lexer.specs.Unit.{BeginsUnit, is_rare_unit};
 ghost use Rattle.unicode_ident.specs.Ident.{is_xid_start};
@@ -126,15 +126,19 @@ pub(crate) fn cut_other<'s>(text: &Chars<'s>) -> Chars<'s>
     }
 }
 
-/// What stands behind the punctuator that the text begins with.
-pub(crate) fn cut_mark<'s>(dialect: Dialect, text: &Chars<'s>) -> Chars<'s>
+/// What stands behind the punctuator that the text begins with, whose first byte is this one.
+pub(crate) fn cut_mark<'s>(dialect: Dialect, text: &Chars<'s>, first: u8) -> Chars<'s>
     requires dialect { dialect ≡ text.now.dialect }
     requires mark { IsTrue (starts begins_punctuator (bytes_of text.now.chars)) }
+    requires first { IsFirst first (bytes_of text.now.chars) }
     requires number { IsFalse (begins_number (bytes_of text.now.chars)) }
     requires block { IsFalse (starts_with nat_eq (bytes_of text.now.chars) (47 ∷ 42 ∷ [])) }
     requires line { IsFalse (starts_with nat_eq (bytes_of text.now.chars) (47 ∷ 47 ∷ [])) }
     ensures { IsCutOff text.now result Punct }
 {
+    if !punctuator::begins_long(first) {
+        return front::behind(text, 1);
+    }
     front::behind(text, punctuator::text_len(dialect, text))
 }
 
@@ -159,16 +163,18 @@ pub(crate) fn cut_quoted<'s>(text: &Chars<'s>) -> (ItemKind, Chars<'s>)
 }
 
 /// The item that the text begins with, wherever no header name is read, and what stands behind it.
+/// `first` is the text's first byte.
 pub(crate) fn cut_item<'s>(
     dialect: Dialect,
     text: &Chars<'s>,
+    first: u8,
 ) -> Result<(ItemKind, Chars<'s>), Stop>
     requires dialect { dialect ≡ text.now.dialect }
     requires some { 0 < length text.now.chars }
+    requires first { IsFirst first (bytes_of text.now.chars) }
     requires begins { IsFalse (starts (λ c. is_white c || is_new_line c) (bytes_of text.now.chars)) }
     ensures { MatchResult result (λ r. IsCutOff text.now r.1 r.0) (λ stop. IsStop text.now stop) }
 {
-    let first = front::first_byte(text);
     if class::is_letter(first) {
         return Ok(word::cut_word(dialect, text));
     }
@@ -185,7 +191,7 @@ pub(crate) fn cut_item<'s>(
         return Ok((ItemKind::LineComment, cut_line(text)));
     }
     if class::begins_punctuator(first) {
-        return Ok((ItemKind::Punct, cut_mark(dialect, text)));
+        return Ok((ItemKind::Punct, cut_mark(dialect, text, first)));
     }
     if class::is_quote_mark(first) {
         return Ok(cut_quoted(text));

@@ -31,13 +31,18 @@ fn ends_backslash(before: u8, last: u8) -> bool
     last == b'\\' || (before == b'?' && last == b'/')
 }
 
-/// Whether a backslash may end at this offset.
+/// Whether a backslash may end at this offset. Most items end in neither of the last bytes that it has.
+#[tactic(auto, unfolding(crate::specs::Reading::ends_backslash))]
 fn may_end_backslash(text: &[u8], at: usize) -> bool
     requires some { 0 < at }
     requires within { at ≤ length text.now }
     ensures { result ≡ ends_backslash (get_or text.now (at - 2) 0) (get_or text.now (at - 1) 0) }
 {
-    ends_backslash(text[at.saturating_sub(2)], text[at - 1])
+    let last = text[at - 1];
+    if last != b'\\' && last != b'/' {
+        return false;
+    }
+    ends_backslash(text[at.saturating_sub(2)], last)
 }
 
 /// Whether a backslash is the last of the characters up to what is left of them.
@@ -121,7 +126,7 @@ impl<'s> Lexer<'s> {
             return Ok(None);
         };
         let standing = place::past_gap(self.standing, gap.lines != 0);
-        match next::cut_next(self.dialect, standing, &gap.rest) {
+        match next::cut_next(self.dialect, standing, &gap.rest, first.byte) {
             Ok((kind, left)) => {
                 let raw = between(self.text, first.from as usize, left.at());
                 let back = is_backslash_last(self.text, &gap.rest, &left);

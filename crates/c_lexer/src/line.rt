@@ -37,13 +37,15 @@ fn next_blank(chars: &mut Chars) -> Option<LogicalChar>
     ensures some { IfSome result (λ c. (chars.old.chars ≡ c ∷ chars.new.chars) × (chars.new.at ≡ c.to) × IsTrue (is_white c.byte || is_new_line c.byte)) }
     ensures none { IfNone result (IsFalse (starts (λ c. is_white c || is_new_line c) (bytes_of chars.old.chars)) × (chars.new ≡ chars.old)) }
 {
-    let mut ahead = chars.ahead();
-    let c = ahead.next()?;
-    if !class::is_blank(c.byte) {
-        return None;
+    match chars.peek(0) {
+        Some(c) => {
+            if !class::is_blank(c.byte) {
+                return None;
+            }
+            chars.next()
+        }
+        None => None,
     }
-    *chars = ahead;
-    Some(c)
 }
 
 /// The next letter or digit; none behind the word, where it stays.
@@ -91,10 +93,11 @@ pub(crate) fn behind_gap<'s>(text: &Chars<'s>) -> Gap<'s>
 {
     let mut rest = text.ahead();
     let mut lines = 0;
-    let mut bytes = 0;
+    let mut bytes = rest.pass_spaces();
     while let Some(c) = next_blank(&mut rest) {
         lines += lines_of(c.byte);
         bytes += c.to - c.from;
+        bytes += rest.pass_spaces();
     }
     Gap { lines, bytes, rest }
 }
@@ -105,6 +108,7 @@ pub(crate) fn behind_word<'s>(text: &Chars<'s>) -> Chars<'s>
     ensures { result ≡ behind text.now (prefix_len (λ c. is_letter c || is_digit c) (bytes_of text.now.chars)) }
 {
     let mut rest = text.ahead();
+    rest.pass_word();
     while let Some(_) = next_of_word(&mut rest) {}
     rest
 }

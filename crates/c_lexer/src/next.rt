@@ -6,6 +6,7 @@ ghost use Rattle.c_grammar.specs.Grammar.{is_white, is_new_line};
 ghost use Rattle.c_grammar.specs.Items.{AfterInclude, BeginsHeader};
 ghost use Rattle.c_grammar.specs.Touch.{starts};
 ghost use Rattle.c_grammar.specs.declared.ItemKind.TheVariants.{HeaderName};
+ghost use Rattle.c_lexer.specs.Class.{IsFirst};
 ghost use Rattle.c_lexer.specs.Cut.{IsStop};
 ghost use Rattle.c_lexer.specs.Next.{IsCutNext};
 ghost use Rattle.c_lexer.specs.Place.{place_of};
@@ -34,19 +35,21 @@ fn cut_header<'s>(standing: Standing, text: &Chars<'s>) -> Option<Chars<'s>>
     }
 }
 
-/// The item that stands next in the text, and what stands behind it.
+/// The item that stands next in the text, which begins with this byte, and what stands behind it.
 pub(crate) fn cut_next<'s>(
     dialect: Dialect,
     standing: Standing,
     text: &Chars<'s>,
+    first: u8,
 ) -> Result<(ItemKind, Chars<'s>), Stop>
     requires dialect { dialect ≡ text.now.dialect }
     requires some { 0 < length text.now.chars }
+    requires first { IsFirst first (bytes_of text.now.chars) }
     requires begins { IsFalse (starts (λ c. is_white c || is_new_line c) (bytes_of text.now.chars)) }
     ensures { MatchResult result (λ r. IsCutNext (place_of standing) text.now r.1 r.0) (λ stop. IsStop text.now stop) }
 {
     match cut_header(standing, text) {
         Some(left) => Ok((ItemKind::HeaderName, left)),
-        None => cut::cut_item(dialect, text),
+        None => cut::cut_item(dialect, text, first),
     }
 }

@@ -11,7 +11,7 @@ ghost use Rattle.c_lexer.specs.Cut.{IsCutOff};
 ghost use Rattle.c_lexer.specs.Literal.{is_string_at, is_constant_at, is_literal, begins_literal};
 ghost use Rattle.c_lexer.specs.Unit.{BeginsUnit, IsRunOff};
 
-use crate::{cut, front, unit};
+use crate::{cut, front, line, unit};
 use c_chars::{Chars, Dialect};
 use c_grammar::ItemKind;
 
@@ -141,9 +141,9 @@ fn cut_before_quote<'s>(
     }
 }
 
-/// The item that the text begins with a word of, and what stands behind it.
-#[inline(always)]
-pub(crate) fn cut_word<'s>(dialect: Dialect, text: &Chars<'s>) -> (ItemKind, Chars<'s>)
+/// The item that the text begins with a word of, and what stands behind it, whatever the word has.
+#[inline(never)]
+fn cut_any_word<'s>(dialect: Dialect, text: &Chars<'s>) -> (ItemKind, Chars<'s>)
     requires dialect { dialect ≡ text.now.dialect }
     requires letter { BeginsUnit is_letter_unit (bytes_of text.now.chars) }
     ensures { IsCutOff text.now result.1 result.0 }
@@ -153,4 +153,19 @@ pub(crate) fn cut_word<'s>(dialect: Dialect, text: &Chars<'s>) -> (ItemKind, Cha
         return cut_before_quote(dialect, text, left);
     }
     (ItemKind::Identifier, left)
+}
+
+/// The item that the text begins with a word of, and what stands behind it. Most words are of letters
+/// and digits alone, and stand before no quote.
+#[inline(always)]
+pub(crate) fn cut_word<'s>(dialect: Dialect, text: &Chars<'s>) -> (ItemKind, Chars<'s>)
+    requires dialect { dialect ≡ text.now.dialect }
+    requires letter { BeginsUnit is_letter_unit (bytes_of text.now.chars) }
+    ensures { IsCutOff text.now result.1 result.0 }
+{
+    let left = line::behind_word(text);
+    if front::ends_word(&left) {
+        return (ItemKind::Identifier, left);
+    }
+    cut_any_word(dialect, text)
 }

@@ -7,7 +7,7 @@ use Rattle.c_lexer.proofs.cut.cut_item.Goals as goal
 
 pub cut_word-requires-clause-letter : goal.cut_word-requires-clause-letter
 cut_word-requires-clause-letter c =
-    letter_first (bytes_of c.args.text.now.chars) (starts_so is_letter c.first_byte-first.result (bytes_of c.args.text.now.chars) true c.first_byte-first.ensures (sym c.is_letter.ensures ∙ c.if-is_letter.true))
+    letter_first (bytes_of c.args.text.now.chars) (starts_so is_letter c.args.first (bytes_of c.args.text.now.chars) true c.requires.first (sym c.is_letter.ensures ∙ c.if-is_letter.true))
 
 pub cut_word-requires-then-begins_rare_word-clause-letter : goal.cut_word-requires-then-begins_rare_word-clause-letter
 cut_word-requires-then-begins_rare_word-clause-letter c = rare_word (bytes_of c.args.text.now.chars) (c.begins_rare_word.ensures.yes c.if-begins_rare_word.true)

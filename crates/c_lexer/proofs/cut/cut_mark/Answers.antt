@@ -1,5 +1,14 @@
+use Rattle.std.proofs.Common.{◌∙◌, sym}
+use Rattle.c_chars.specs.Characters.{bytes_of}
+use Rattle.c_lexer.proofs.FirstBytes.{stands_alone}
+use Rattle.c_lexer.proofs.Puncts.{not_long}
 use Rattle.c_lexer.proofs.MarksOff.{mark_off}
 use Rattle.c_lexer.proofs.cut.cut_mark.Goals as goal
 
 pub returns : goal.returns
-returns c = mark_off c.args.text.now c.behind.result c.args.dialect c.text_len.result c.requires.dialect c.requires.mark c.requires.number c.requires.block c.requires.line c.text_len.ensures c.behind.ensures
+returns c = mark_off c.args.text.now c.behind-2.result c.args.dialect c.text_len.result c.requires.dialect c.requires.mark c.requires.number c.requires.block c.requires.line c.text_len.ensures c.behind-2.ensures
+
+pub returns-then-not-begins_long : goal.returns-then-not-begins_long
+returns-then-not-begins_long c =
+    mark_off c.args.text.now c.behind.result c.args.dialect 1 c.requires.dialect c.requires.mark c.requires.number c.requires.block c.requires.line
+    (sym (not_long c.args.dialect (bytes_of c.args.text.now.chars) (stands_alone c.args.first (bytes_of c.args.text.now.chars) c.requires.first (sym c.begins_long.ensures ∙ c.if-not-begins_long.true)))) c.behind.ensures

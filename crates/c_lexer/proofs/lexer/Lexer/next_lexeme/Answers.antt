@@ -7,6 +7,7 @@ use Rattle.c_lexer.specs.Place.{place_of}
 use Rattle.c_lexer.specs.Reading.{Reading, IsNextItem, IsNextLexeme}
 use Rattle.c_lexer.specs.declared.item.Lexeme.{Lexeme}
 use Rattle.c_lexer.proofs.Backslashes.{slashed_rest}
+use Rattle.c_lexer.proofs.FirstBytes.{first_there}
 use Rattle.c_lexer.proofs.Gaps.{gap_lines}
 use Rattle.c_lexer.proofs.Lexemes.{lexeme_there, some_before}
 use Rattle.c_lexer.proofs.NextItems.{gap_of, at_rest, spanned, begins_item, only_gap, bounds, fault_there, next_there}
@@ -20,6 +21,9 @@ returns-in_default-clause-some c =
 pub cut_next-requires-clause-dialect : goal.cut_next-requires-clause-dialect
 cut_next-requires-clause-dialect c =
     sym (at_rest c.self.inside.text.now c.self.inside.dialect c.self.inside.chars c.behind_gap-gap.result.rest (gap_of c.self.inside.chars) c.self.invariant.0 c.behind_gap-gap.ensures.rest).dialect_is
+
+pub cut_next-requires-clause-first : goal.cut_next-requires-clause-first
+cut_next-requires-clause-first c = first_there c.behind_gap-gap.result.rest.chars c.in-Some.first (sym c.peek.ensures ∙ c.in-Some.is)
 
 pub cut_next-requires-clause-begins : goal.cut_next-requires-clause-begins
 cut_next-requires-clause-begins c = begins_item c.self.inside.chars c.behind_gap-gap.result.rest c.behind_gap-gap.ensures.rest
