@@ -17,6 +17,9 @@ use crate::token::CodeToken;
 use bumpalo::Bump;
 use line_tokens::NoMemory;
 
+/// So many tokens or more stand in a line of most texts.
+const TOKENS_IN_A_LINE: usize = 4;
+
 /// What begins at a place.
 #[derive(Clone, Copy, Debug, Drop)]
 pub struct Place {
@@ -92,11 +95,13 @@ fn comment_level(o: Open, start: Start, f: Form) -> u32
 
 /// The line at a place.
 fn line_of(o: Open, start: Start, at: usize, f: Form) -> Line
+    requires begins { at < 2 ^ 32 }
+    requires ends { f.end < 2 ^ 32 }
     ensures { result ≡ line_of o start at f }
 {
     Line {
-        first: at,
-        end: f.end,
+        first: at as u32,
+        end: f.end as u32,
         level: f.level,
         kind: f.kind,
         list_level: comment_level(o, start, f),
@@ -112,22 +117,23 @@ fn push_head(
     f: Form,
     wrapped: bool,
 ) -> Result<(), NoMemory>
-    requires { f.end < 2 ^ 33 }
+    requires begins { at < 2 ^ 32 }
+    requires ends { f.end + 1 < 2 ^ 32 }
     ensures { IfOk result (λ u. out.new.items ≡ out.old.items ++ head_lines o start at f wrapped) }
 {
     if wrapped {
         out.push(line_of(o, start, at, f))?;
         out.push(Line {
-            first: f.end,
-            end: f.end + 1,
+            first: f.end as u32,
+            end: f.end as u32 + 1,
             level: f.level,
             kind: LineKind::Brace,
             list_level: o.level,
         })?;
     } else {
         out.push(Line {
-            first: at,
-            end: f.end + 1,
+            first: at as u32,
+            end: f.end as u32 + 1,
             level: f.level,
             kind: f.kind,
             list_level: comment_level(o, start, f),
@@ -264,7 +270,7 @@ pub fn tree_lines<'r>(
     ensures same { IfOk result (λ r. r.items ≡ lines_of braces.now tokens.now) }
     ensures cut { IfOk result (λ r. IsCut 0 (length tokens.now) r.items) }
 {
-    let mut out = Vec::new(run);
+    let mut out = Vec::with_capacity(run, tokens.len() / TOKENS_IN_A_LINE)?;
     let mut stack = Vec::new(run);
     stack.push(whole_file(tokens))?;
     let mut place = Place {
