@@ -4,7 +4,7 @@ ghost use Rattle.std.specs.Prelude.{◌≡◌, ◌<◌, ◌≤◌, ◌+◌, ◌-
 ghost use Rattle.unwrapped_lines.specs.declared.open.Start.TheVariants.{Fresh};
 ghost use Rattle.unwrapped_lines.specs.Forms.{StaysIn, IsLow, form_of};
 ghost use Rattle.unwrapped_lines.specs.Tree.{settled, lines_of, whole_file, body_of, line_of, head_lines, comment_level, answers_else, answers_tail};
-ghost use Rattle.unwrapped_lines.specs.Colons.{AreColonsFrom};
+ghost use Rattle.unwrapped_lines.specs.Colons.{AreCaseColons};
 ghost use Rattle.unwrapped_lines.specs.Stack.{Stands, IsCut, left};
 
 use crate::braces::Braces;
@@ -266,7 +266,7 @@ pub fn tree_lines<'r>(
     run: &'r Bump,
 ) -> Result<Vec<Line, &'r Bump>, NoMemory>
     requires few { length tokens.now < 2 ^ 30 }
-    requires colons { AreColonsFrom 0 colons.now tokens.now }
+    requires colons { AreCaseColons colons.now tokens.now }
     ensures same { IfOk result (λ r. r.items ≡ lines_of braces.now tokens.now) }
     ensures cut { IfOk result (λ r. IsCut 0 (length tokens.now) r.items) }
 {
@@ -293,7 +293,7 @@ fn turn(
     o: Open,
     place: Place,
 ) -> Result<Place, NoMemory>
-    requires colons { AreColonsFrom 0 colons.now tokens.now }
+    requires colons { AreCaseColons colons.now tokens.now }
     requires small { length tokens.now < 2 ^ 30 }
     requires stands { Stands braces.now tokens.now out.old.items (o ∷ reverse stack.old.items) place.start place.at }
     ensures stands { IfOk result (λ p. Stands braces.now tokens.now out.new.items (reverse stack.new.items) p.start p.at) }
