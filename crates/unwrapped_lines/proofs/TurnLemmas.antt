@@ -12,10 +12,10 @@ use Rattle.unwrapped_lines.specs.declared.tree.Place.{Place}
 use Rattle.unwrapped_lines.specs.declared.form.Next.{Next}
 use Rattle.unwrapped_lines.specs.declared.form.Next.TheVariants.{Ends, Goes, Waits, Opens}
 use Rattle.unwrapped_lines.specs.Forms.{IsLow, StaysIn, form_of}
-use Rattle.unwrapped_lines.specs.Tree.{settled, Reading, line_of, head_lines, body_of}
+use Rattle.unwrapped_lines.specs.Tree.{settled, Reading, line_of, head_lines, body_of, whole_file}
 use Rattle.unwrapped_lines.specs.Stack.{left, Stands}
 use Rattle.unwrapped_lines.proofs.Lists.{reverse_snoc}
-use Rattle.unwrapped_lines.proofs.StackLemmas.{stands_ends, stands_goes, stands_waits, stands_opens, stands_leaves, leaves, left_some, fits_within}
+use Rattle.unwrapped_lines.proofs.StackLemmas.{begins, stands_ends, stands_goes, stands_waits, stands_opens, stands_leaves, leaves, left_some, fits_within}
 
 put : (braces : Braces) (tokens : List CodeToken) (out out' : List Line) (os os' : List Open) (start : Start) (at : ℕ)
     → out ≡ out' → os ≡ os' → Stands braces tokens out os start at → Stands braces tokens out' os' start at
@@ -129,3 +129,11 @@ pub turned : {E : Type 0} (r : Result Place E) (whole end at new old : ℕ) → 
     → IfOk r (λ p. 2 * (whole - p.at) + new < 2 * (whole - at) + old + 1)
 turned (Ok p) whole end at new old lt within h = let a = h.0 in let b = h.1 in omega arith
 turned (Err e) whole end at new old lt within h = tt
+
+-- ## The start
+
+pub at_start : (braces : Braces) (tokens : List CodeToken) (out : List Line) (stack0 stack1 : List Open) (o : Open)
+    → out ≡ [] → stack0 ≡ [] → o ≡ whole_file tokens → stack1 ≡ stack0 ++ o ∷ [] → Stands braces tokens out (reverse stack1) Fresh 0
+at_start braces tokens out stack0 stack1 o none empty whole pushed =
+    let one : whole_file tokens ∷ [] ≡ reverse stack1 = cc in
+    put braces tokens [] out (whole_file tokens ∷ []) (reverse stack1) Fresh 0 (sym none) one (begins braces tokens)

@@ -1,11 +1,13 @@
 //! The colons of case labels, found for all places in one pass from the right.
 //!
 //! A `case` without a colon looks to the end of its list. So that many of them take no longer than one,
-//! each place has its answer before the lines are read.
+//! each place has its answer before the lines are read. Tokens without a `case` need no answers.
 
-ghost use Rattle.std.specs.Prelude.{◌≡◌, ◌<◌, ◌≤◌, ◌+◌, ◌-◌, ◌^◌, length, IfOk};
-ghost use Rattle.unwrapped_lines.specs.Forms.{case_colon};
-ghost use Rattle.unwrapped_lines.specs.Colons.{AreColonsFrom};
+ghost use Rattle.std.specs.Prelude.{◌≡◌, ◌<◌, ◌≤◌, ◌+◌, ◌-◌, ◌^◌, length, IfOk, ℕ, false};
+ghost use Rattle.unwrapped_lines.specs.Forms.{case_colon, class_at};
+ghost use Rattle.unwrapped_lines.specs.Colons.{AreColonsFrom, AreCaseColons};
+ghost use Rattle.brackets.specs.Classes.{is_case};
+ghost use Rattle.std.specs.Bool.{OnFalse};
 
 use crate::lookups::{class_at, step_over};
 use crate::token::CodeToken;
@@ -34,11 +36,22 @@ fn colon_from(tokens: &[CodeToken], colons: &[u32], place: usize) -> usize
     }
 }
 
+/// Whether a `case` stands among the tokens.
+fn has_case(tokens: &[CodeToken]) -> bool
+    ensures { OnFalse result ((k : ℕ) → is_case (class_at tokens.now k) ≡ false) }
+{
+    let mut i = 0;
+    while i < tokens.len() {
+        if class_at(tokens, i).is_case() {
+            return true;
+        }
+        i += 1;
+    }
+    false
+}
+
 /// The colon of each place.
-pub(crate) fn colons<'r>(
-    tokens: &[CodeToken],
-    run: &'r Bump,
-) -> Result<Vec<u32, &'r Bump>, NoMemory>
+fn all_colons<'r>(tokens: &[CodeToken], run: &'r Bump) -> Result<Vec<u32, &'r Bump>, NoMemory>
     requires few { length tokens.now < 2 ^ 30 }
     ensures { IfOk result (λ colons. AreColonsFrom 0 colons.items tokens.now) }
 {
@@ -51,6 +64,21 @@ pub(crate) fn colons<'r>(
         colons[place] = colon as u32;
     }
     Ok(colons)
+}
+
+/// The colon of each place, or nothing where no `case` asks for one.
+pub(crate) fn colons<'r>(
+    tokens: &[CodeToken],
+    run: &'r Bump,
+) -> Result<Vec<u32, &'r Bump>, NoMemory>
+    requires few { length tokens.now < 2 ^ 30 }
+    ensures { IfOk result (λ colons. AreCaseColons colons.items tokens.now) }
+{
+    if has_case(tokens) {
+        all_colons(tokens, run)
+    } else {
+        Ok(Vec::new(run))
+    }
 }
 
 /// The colon of the `case` at a place, or the end of its list where it has none.

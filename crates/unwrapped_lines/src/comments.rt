@@ -30,7 +30,7 @@ fn is_between(lines: &[Line], total: usize, end_level: u32, m: Marks) -> bool
     ensures { result ≡ is_between (record { lines = lines.now; total = total; end_level = end_level }) m }
 {
     match lines.get(m.begun) {
-        Some(l) => l.first == m.seen,
+        Some(l) => l.first as usize == m.seen,
         None => total <= m.seen,
     }
 }
@@ -155,7 +155,7 @@ pub fn begins<'r>(
     requires { length parts.now < 2 ^ 32 }
     ensures { IfOk result (λ r. r.items ≡ begins_from (record { lines = lines.now; total = total; end_level = end_level }) parts.now 0 no_marks) }
 {
-    let mut out = Vec::new(run);
+    let mut out = Vec::with_capacity(run, lines.len())?;
     let mut m = Marks {
         seen: 0,
         begun: 0,

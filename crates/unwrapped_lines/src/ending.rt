@@ -3,7 +3,7 @@
 ghost use Rattle.std.specs.Prelude.{◌≡◌, ◌<◌, ◌≤◌, ◌-◌, ◌*◌, ◌^◌, ◌∷◌, [], reverse, length, IfOk};
 ghost use Rattle.unwrapped_lines.specs.Forms.{StaysIn, form_of};
 ghost use Rattle.unwrapped_lines.specs.Tree.{end_level};
-ghost use Rattle.unwrapped_lines.specs.Colons.{AreColonsFrom};
+ghost use Rattle.unwrapped_lines.specs.Colons.{AreCaseColons};
 ghost use Rattle.unwrapped_lines.specs.Stack.{LeadsToEnd};
 
 use crate::braces::Braces;
@@ -78,7 +78,7 @@ pub fn end_level(
     run: &Bump,
 ) -> Result<u32, NoMemory>
     requires few { length tokens.now < 2 ^ 30 }
-    requires colons { AreColonsFrom 0 colons.now tokens.now }
+    requires colons { AreCaseColons colons.now tokens.now }
     ensures { IfOk result (λ level. level ≡ end_level braces.now tokens.now) }
 {
     let mut stack = Vec::new(run);

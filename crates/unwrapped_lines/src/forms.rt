@@ -7,7 +7,7 @@ ghost use Rattle.unwrapped_lines.specs.declared.line.LineKind.TheVariants.{Exter
 ghost use Rattle.unwrapped_lines.specs.declared.open.Head.TheVariants.{Plain};
 ghost use Rattle.std.specs.Bool.{OnTrue, OnFalse};
 ghost use Rattle.brackets.specs.Classes.{is_open_brace};
-ghost use Rattle.unwrapped_lines.specs.Colons.{AreColonsFrom};
+ghost use Rattle.unwrapped_lines.specs.Colons.{AreCaseColons};
 ghost use Rattle.unwrapped_lines.specs.Forms.{class_at, seen, partner_in, after_group, step_over, block_end, began_at, touched_at, has_no_partner, case_colon, enumerator_end, class_before, opens_list, statement_stop, call_opener, tag_before, block_at, label_form, goto_level, label, header_end, head_of, label_level, control_block, control_form, tail_end, ends_macro, macro_end, tagged_kind, wraps_tagged, tagged_context, tagged_head, behind_close, kind_or_close, is_member_word, other_form, unlabelled, statement, close_form, form_of, StaysIn, IsLow};
 
 use crate::braces::Braces;
@@ -101,7 +101,7 @@ fn goto_level(braces: &Braces, o: Open) -> u32
 
 /// A label.
 fn label(braces: &Braces, tokens: &[CodeToken], colons: &[u32], o: Open, at: usize) -> Option<Form>
-    requires colons { AreColonsFrom 0 colons.now tokens.now }
+    requires colons { AreCaseColons colons.now tokens.now }
     requires here { at < o.end }
     requires list { o.end ≤ length tokens.now }
     requires small { length tokens.now < 2 ^ 30 }
@@ -524,7 +524,7 @@ fn unlabelled(braces: &Braces, tokens: &[CodeToken], o: Open, at: usize) -> Form
 
 /// The cases, the first that fits.
 pub fn statement(braces: &Braces, tokens: &[CodeToken], colons: &[u32], o: Open, at: usize) -> Form
-    requires colons { AreColonsFrom 0 colons.now tokens.now }
+    requires colons { AreCaseColons colons.now tokens.now }
     requires here { at < o.end }
     requires list { o.end ≤ length tokens.now }
     requires small { length tokens.now < 2 ^ 30 }
@@ -606,7 +606,7 @@ pub fn form_of(
     start: Start,
     at: usize,
 ) -> Form
-    requires colons { AreColonsFrom 0 colons.now tokens.now }
+    requires colons { AreCaseColons colons.now tokens.now }
     requires here { at < o.end }
     requires list { o.end ≤ length tokens.now }
     requires small { length tokens.now < 2 ^ 30 }

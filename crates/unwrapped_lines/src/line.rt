@@ -47,9 +47,9 @@ impl LineKind {
 #[derive(Clone, Copy, Debug, Drop)]
 pub struct Line {
     /// Its first token.
-    pub first: usize,
+    pub first: u32,
     /// The first token behind it.
-    pub end: usize,
+    pub end: u32,
     /// Its level.
     pub level: u32,
     /// What it is.

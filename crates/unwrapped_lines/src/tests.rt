@@ -73,7 +73,7 @@ fn reads_as(
     let mut same = lines.len() == want.len();
     for (line, row) in lines.iter().zip(want) {
         let (end, level, kind) = *row;
-        same = same && line.end == end && line.level == level && line.kind == kind;
+        same = same && line.end as usize == end && line.level == level && line.kind == kind;
     }
     Ok(same)
 }

@@ -4,7 +4,7 @@ ghost use Rattle.std.specs.Prelude.{◌≡◌, ◌<◌, ◌≤◌, ◌+◌, ◌-
 ghost use Rattle.unwrapped_lines.specs.declared.open.Start.TheVariants.{Fresh};
 ghost use Rattle.unwrapped_lines.specs.Forms.{StaysIn, IsLow, form_of};
 ghost use Rattle.unwrapped_lines.specs.Tree.{settled, lines_of, whole_file, body_of, line_of, head_lines, comment_level, answers_else, answers_tail};
-ghost use Rattle.unwrapped_lines.specs.Colons.{AreColonsFrom};
+ghost use Rattle.unwrapped_lines.specs.Colons.{AreCaseColons};
 ghost use Rattle.unwrapped_lines.specs.Stack.{Stands, IsCut, left};
 
 use crate::braces::Braces;
@@ -16,6 +16,9 @@ use crate::open::{Context, Head, Open, Start};
 use crate::token::CodeToken;
 use bumpalo::Bump;
 use line_tokens::NoMemory;
+
+/// So many tokens or more stand in a line of most texts.
+const TOKENS_IN_A_LINE: usize = 4;
 
 /// What begins at a place.
 #[derive(Clone, Copy, Debug, Drop)]
@@ -92,11 +95,13 @@ fn comment_level(o: Open, start: Start, f: Form) -> u32
 
 /// The line at a place.
 fn line_of(o: Open, start: Start, at: usize, f: Form) -> Line
+    requires begins { at < 2 ^ 32 }
+    requires ends { f.end < 2 ^ 32 }
     ensures { result ≡ line_of o start at f }
 {
     Line {
-        first: at,
-        end: f.end,
+        first: at as u32,
+        end: f.end as u32,
         level: f.level,
         kind: f.kind,
         list_level: comment_level(o, start, f),
@@ -112,22 +117,23 @@ fn push_head(
     f: Form,
     wrapped: bool,
 ) -> Result<(), NoMemory>
-    requires { f.end < 2 ^ 33 }
+    requires begins { at < 2 ^ 32 }
+    requires ends { f.end + 1 < 2 ^ 32 }
     ensures { IfOk result (λ u. out.new.items ≡ out.old.items ++ head_lines o start at f wrapped) }
 {
     if wrapped {
         out.push(line_of(o, start, at, f))?;
         out.push(Line {
-            first: f.end,
-            end: f.end + 1,
+            first: f.end as u32,
+            end: f.end as u32 + 1,
             level: f.level,
             kind: LineKind::Brace,
             list_level: o.level,
         })?;
     } else {
         out.push(Line {
-            first: at,
-            end: f.end + 1,
+            first: at as u32,
+            end: f.end as u32 + 1,
             level: f.level,
             kind: f.kind,
             list_level: comment_level(o, start, f),
@@ -260,11 +266,11 @@ pub fn tree_lines<'r>(
     run: &'r Bump,
 ) -> Result<Vec<Line, &'r Bump>, NoMemory>
     requires few { length tokens.now < 2 ^ 30 }
-    requires colons { AreColonsFrom 0 colons.now tokens.now }
+    requires colons { AreCaseColons colons.now tokens.now }
     ensures same { IfOk result (λ r. r.items ≡ lines_of braces.now tokens.now) }
     ensures cut { IfOk result (λ r. IsCut 0 (length tokens.now) r.items) }
 {
-    let mut out = Vec::new(run);
+    let mut out = Vec::with_capacity(run, tokens.len() / TOKENS_IN_A_LINE)?;
     let mut stack = Vec::new(run);
     stack.push(whole_file(tokens))?;
     let mut place = Place {
@@ -287,7 +293,7 @@ fn turn(
     o: Open,
     place: Place,
 ) -> Result<Place, NoMemory>
-    requires colons { AreColonsFrom 0 colons.now tokens.now }
+    requires colons { AreCaseColons colons.now tokens.now }
     requires small { length tokens.now < 2 ^ 30 }
     requires stands { Stands braces.now tokens.now out.old.items (o ∷ reverse stack.old.items) place.start place.at }
     ensures stands { IfOk result (λ p. Stands braces.now tokens.now out.new.items (reverse stack.new.items) p.start p.at) }

@@ -1,7 +1,8 @@
 //! A view as a list of tokens and comments.
 
-ghost use Rattle.std.specs.Prelude.{◌≡◌, ◌<◌, ◌≤◌, ◌+◌, ◌^◌, length, map, get_or, slice_get, IfOk, Some};
+ghost use Rattle.std.specs.Prelude.{◌≡◌, ◌<◌, ◌≤◌, ◌+◌, ◌^◌, length, map, get_or, slice_get, IfOk, Some, true};
 ghost use Rattle.brackets.specs.Viewed.{AreWithin, classes_of};
+ghost use Rattle.brackets.specs.Classes.{is_comment};
 ghost use Rattle.brackets.specs.declared.class.TokenClass.TheVariants.{Nothing};
 ghost use Rattle.unwrapped_lines.specs.Viewed.{item_began, line_ends_behind, colon_touches, numbers_of, partner_number, token_at, code_tokens, part_of, parts_of};
 ghost use Rattle.c_chars.specs.declared.TheConstants.{LIMIT};
@@ -105,14 +106,12 @@ pub(crate) fn code_tokens<'r>(
     Ok(tokens)
 }
 
-/// What an item is: a token, or a comment of one of three kinds.
-fn part_of(arena: &TokenArena<'_, '_>, id: u32, started: bool, class: TokenClass) -> Part
-    requires { id < length arena.now.tokens }
+/// Which of three kinds a comment is.
+fn comment_part(arena: &TokenArena<'_, '_>, id: u32, started: bool, class: TokenClass) -> Part
+    requires item { id < length arena.now.tokens }
+    requires comment { is_comment class ≡ true }
     ensures { result ≡ part_of arena.now id started class }
 {
-    if !class.is_comment() {
-        return Part::Token;
-    }
     if !started || item_began(arena, id) {
         return Part::Own;
     }
@@ -139,9 +138,13 @@ pub(crate) fn parts<'r>(
     let mut segment = 0;
     let mut started = false;
     for (k, class) in classes.iter().enumerate() {
-        let id = view.at_near(k as u32, &mut segment);
-        parts.push(part_of(arena, id.0, started, *class))?;
-        started = started || !class.is_comment();
+        if class.is_comment() {
+            let id = view.at_near(k as u32, &mut segment);
+            parts.push(comment_part(arena, id.0, started, *class))?;
+        } else {
+            parts.push(Part::Token)?;
+            started = true;
+        }
     }
     Ok(parts)
 }

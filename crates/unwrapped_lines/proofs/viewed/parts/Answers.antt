@@ -2,8 +2,8 @@ use Rattle.std.proofs.Common.{◌<◌, ℕ, arith, length, subst}
 use Rattle.std.proofs.lemmas.List.Elements.{All-get_or}
 use Rattle.unwrapped_lines.proofs.viewed.parts.Goals as goal
 
-pub part_of-requires : goal.part_of-requires
-part_of-requires c =
+pub comment_part-requires-clause-item : goal.comment_part-requires-clause-item
+comment_part-requires-clause-item c =
     let ids = c.args.view.now in
     let count = length c.args.arena.now.tokens in
     let within : c.loop-k.k < length ids = omega (arith, c.loop-k-test.true, c.requires.places) in

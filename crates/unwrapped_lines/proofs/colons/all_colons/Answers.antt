@@ -1,7 +1,7 @@
 use Rattle.std.proofs.Common.{◌-◌, ℕ, length, arith}
 use Rattle.unwrapped_lines.specs.Forms.{case_colon}
 use Rattle.unwrapped_lines.proofs.ColonLemmas.{Found, found}
-use Rattle.unwrapped_lines.proofs.colons.colons.Goals as goal
+use Rattle.unwrapped_lines.proofs.colons.all_colons.Goals as goal
 
 pub overflow_cast-colon : goal.overflow_cast-colon
 overflow_cast-colon c =

@@ -1,6 +1,6 @@
 use Rattle.std.proofs.Common.{◌≤◌, length}
 use Rattle.unwrapped_lines.specs.Colons.{AreColonsFrom}
-use Rattle.unwrapped_lines.proofs.colons.colons.Given as goal
+use Rattle.unwrapped_lines.proofs.colons.all_colons.Given as goal
 
 abbrev pub invariant-loop-place : goal.invariant-loop-place
 invariant-loop-place l = record {
