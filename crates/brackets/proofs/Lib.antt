@@ -5,3 +5,4 @@ pub mod KeptLemmas
 pub mod KeptPlaces
 pub mod KeptSteps
 pub mod WordLemmas
+pub mod ItemClasses

@@ -19,6 +19,10 @@ class_or_nothing d (Some token) = class_of d token
 abbrev pub item_class : Contents → ℕ → TokenClass
 item_class arena id = class_or_nothing arena.dialect (slice_get arena.tokens id)
 
+-- the class of each item of a text, in its order
+abbrev pub item_classes : Contents → List TokenClass
+item_classes arena = map (class_of arena.dialect) arena.tokens
+
 -- the classes of the items with these numbers
 abbrev pub classes_of : Contents → List ℕ → List TokenClass
 classes_of arena ids = map (item_class arena) ids

@@ -17,4 +17,4 @@ pub use class::TokenClass;
 pub use kept::kept_gaps;
 pub use line_tokens::NoMemory;
 pub use pairing::partners_of_classes;
-pub use viewed::{classes, item_class, partners};
+pub use viewed::{classes, classes_among, item_class, item_classes, partners};

@@ -1,12 +1,14 @@
-//! Pairs of brackets, gaps that are kept, and the classes of words.
+//! Pairs of brackets, gaps that are kept, the classes of words, and the classes of items and views.
 
 use crate::TokenClass::{
     self, CloseBrace, CloseRound, CloseSquare, OpenBrace, OpenRound, OpenSquare,
 };
-use crate::{kept_gaps, partners_of_classes, spelling, words};
+use crate::{classes_among, item_classes, kept_gaps, partners_of_classes, spelling, words};
 use bumpalo::Bump;
 use c_chars::Dialect;
 use std::test::Fail;
+use token_arena::build;
+use token_views::View;
 
 #[test]
 fn pairs_brackets(rt: HostRuntime) -> Result<(), Fail> {
@@ -139,6 +141,49 @@ fn tells_words_apart(rt: HostRuntime) -> Result<(), Fail> {
     for (raw, class) in marks {
         let spelled = spelling::spelling(Dialect::C11, raw, &run)?;
         assert!(rt; words::punctuator_class(spelled) == class);
+    }
+    Ok(())
+}
+
+#[test]
+fn takes_the_classes_of_views(rt: HostRuntime) -> Result<(), Fail> {
+    let run = Bump::new(rt.alloc());
+    let arena = build(&run, b"if (x) y[0];", Dialect::C11)?;
+    let all = item_classes(&arena, &run)?;
+    // From one item of the text to its last.
+    let rows: [(&str, u32, &[TokenClass]); 4] = [
+        (
+            "all",
+            0,
+            &[
+                TokenClass::If,
+                OpenRound,
+                TokenClass::PlainWord,
+                CloseRound,
+                TokenClass::PlainWord,
+                OpenSquare,
+                TokenClass::Other,
+                CloseSquare,
+                TokenClass::Semicolon,
+            ],
+        ),
+        (
+            "behind the group",
+            5,
+            &[
+                OpenSquare,
+                TokenClass::Other,
+                CloseSquare,
+                TokenClass::Semicolon,
+            ],
+        ),
+        ("the last", 8, &[TokenClass::Semicolon]),
+        ("none", 9, &[]),
+    ];
+    for (name, first, want) in rows {
+        let view = View::of(first, arena.len(), &run)?;
+        let found = classes_among(all, &arena, &view, &run)?;
+        assert_eq!(rt; found, want, "{name}");
     }
     Ok(())
 }

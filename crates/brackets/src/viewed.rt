@@ -3,7 +3,7 @@
 ghost use Rattle.std.specs.Prelude.{◌≡◌, ◌<◌, ◌≤◌, length, IfOk};
 ghost use Rattle.c_chars.specs.declared.TheConstants.{LIMIT};
 ghost use Rattle.brackets.specs.Partners.{partners_of};
-ghost use Rattle.brackets.specs.Viewed.{AreWithin, item_class, classes_of};
+ghost use Rattle.brackets.specs.Viewed.{AreWithin, item_class, item_classes, classes_of};
 
 use crate::class::TokenClass;
 use crate::pairing::partners_of_classes;
@@ -42,6 +42,48 @@ pub fn item_class(
         | ItemKind::StrayQuote
         | ItemKind::Other => Ok(TokenClass::Other),
     }
+}
+
+/// The class of each item of a text, in its order. Want of memory is the only error.
+///
+/// Where several views of a text are asked for, [`classes_among`] takes theirs from it, so no item is read twice.
+pub fn item_classes<'a>(
+    arena: &TokenArena<'_, '_>,
+    bump: &'a Bump,
+) -> Result<&'a [TokenClass], NoMemory>
+    ensures { IfOk result (λ all. all.now ≡ item_classes arena.now) }
+{
+    let count = arena.len();
+    let mut classes = Vec::with_capacity(bump, count as usize)?;
+    for number in 0..count {
+        classes.push(item_class(arena, TokenId(number), bump)?)?;
+    }
+    Ok(into_bump_slice(classes))
+}
+
+/// The class of each place of a view, taken from the classes of all items of its text. Want of memory is the only
+/// error.
+pub fn classes_among<'r>(
+    all: &[TokenClass],
+    arena: &TokenArena<'_, '_>,
+    view: &View<'_>,
+    run: &'r Bump,
+) -> Result<&'r [TokenClass], NoMemory>
+    requires all { all.now ≡ item_classes arena.now }
+    requires within { AreWithin arena.now view.now }
+    ensures classes { IfOk result (λ classes. classes.now ≡ classes_of arena.now view.now) }
+    ensures few { IfOk result (λ classes. length classes.now ≤ LIMIT) }
+{
+    let count = view.len();
+    let items = arena.len();
+    prove!(count <= items);
+    let mut classes = Vec::with_capacity(run, count as usize)?;
+    let mut segment = 0;
+    for k in 0..count {
+        let id = view.at_near(k, &mut segment);
+        classes.push(all[id.0 as usize])?;
+    }
+    Ok(into_bump_slice(classes))
 }
 
 /// The class of each place of a view.

@@ -2,13 +2,13 @@
 
 ghost use Rattle.std.specs.Prelude.{◌≡◌, ◌<◌, ◌≤◌, ◌+◌, IfOk, OnOk, length};
 ghost use Rattle.c_chars.specs.declared.TheConstants.{LIMIT};
-ghost use Rattle.brackets.specs.Viewed.{AreWithin};
+ghost use Rattle.brackets.specs.Viewed.{AreWithin, item_classes};
 ghost use Rattle.directives.specs.Sections.{sections_of, IsCut};
 ghost use Rattle.format_core.specs.Runs.{IsTreeOf, runs_of, seen_by, after_items, after_runs, plan_of};
 
 use crate::early::decide_early;
 use crate::kept::keep_gaps;
-use brackets::{classes, kept_gaps, partners_of_classes};
+use brackets::{TokenClass, classes_among, item_classes, kept_gaps, partners_of_classes};
 use branch_runs::CondTree;
 use bumpalo::Bump;
 use directives::Section;
@@ -21,21 +21,24 @@ use token_arena::TokenArena;
 use token_views::View;
 use unwrapped_lines::lines_of_classes;
 
-/// Decides the gaps of the items that a run sees, where they are open: first those that stay as they are.
+/// Decides the gaps of the items that a run sees, where they are open: first those that stay as they are. `all` are
+/// the classes of all items of the text.
 fn lay_out_items(
     style: &Style,
     arena: &TokenArena<'_, '_>,
+    all: &[TokenClass],
     view: &View<'_>,
     plan: &mut Plan<'_>,
     run: &Bump,
 ) -> Result<(), NoMemory>
     requires tab { 1 ≤ style.now.tab_width }
+    requires all { all.now ≡ item_classes arena.now }
     requires within { AreWithin arena.now view.now }
     requires whole { length plan.old ≡ length arena.now.tokens + 1 }
     ensures plan { OnOk result (plan.new ≡ after_items style.now arena.now plan.old view.now) }
     ensures len { OnOk result (length plan.new ≡ length plan.old) }
 {
-    let classes = classes(arena, view, run)?;
+    let classes = classes_among(all, arena, view, run)?;
     let partners = partners_of_classes(classes, run)?;
     let kept = kept_gaps(classes, partners, run)?;
     keep_gaps(style, arena, view, kept, plan);
@@ -48,12 +51,14 @@ fn lay_out_items(
 fn lay_out_seen(
     style: &Style,
     arena: &TokenArena<'_, '_>,
+    all: &[TokenClass],
     tree: &CondTree<'_>,
     number: u32,
     plan: &mut Plan<'_>,
     run: &Bump,
 ) -> Result<(), NoMemory>
     requires tab { 1 ≤ style.now.tab_width }
+    requires all { all.now ≡ item_classes arena.now }
     requires tree { IsTreeOf arena.now tree.now }
     requires number { number < runs_of arena.now }
     requires whole { length plan.old ≡ length arena.now.tokens + 1 }
@@ -61,7 +66,7 @@ fn lay_out_seen(
     ensures len { OnOk result (length plan.new ≡ length plan.old) }
 {
     let view = tree.view(number, run)?;
-    lay_out_items(style, arena, &view, plan, run)
+    lay_out_items(style, arena, all, &view, plan, run)
 }
 
 /// Decides the gaps of all items of texts, run by run. What a run takes of memory serves the next one too.
@@ -69,10 +74,12 @@ fn lay_out_runs(
     alloc: Global,
     style: &Style,
     arena: &TokenArena<'_, '_>,
+    all: &[TokenClass],
     tree: &CondTree<'_>,
     plan: &mut Plan<'_>,
 ) -> Result<(), NoMemory>
     requires tab { 1 ≤ style.now.tab_width }
+    requires all { all.now ≡ item_classes arena.now }
     requires tree { IsTreeOf arena.now tree.now }
     requires whole { length plan.old ≡ length arena.now.tokens + 1 }
     ensures plan { OnOk result (plan.new ≡ after_runs style.now arena.now plan.old 0 (runs_of arena.now)) }
@@ -81,7 +88,7 @@ fn lay_out_runs(
     let mut run = Bump::new(alloc);
     let count = tree.runs();
     for number in 0..count {
-        lay_out_seen(style, arena, tree, number, plan, &run)?;
+        lay_out_seen(style, arena, all, tree, number, plan, &run)?;
         if run.reset().is_err() {
             run = Bump::new(alloc);
         }
@@ -107,6 +114,7 @@ pub(crate) fn plan_of<'a>(
     let tree = CondTree::build(arena, sections, bump)?;
     let mut plan = Plan::make(arena, bump)?;
     decide_early(style, arena, sections, &tree, &mut plan);
-    lay_out_runs(alloc, style, arena, &tree, &mut plan)?;
+    let all = item_classes(arena, bump)?;
+    lay_out_runs(alloc, style, arena, all, &tree, &mut plan)?;
     Ok(plan)
 }
