@@ -1,5 +1,5 @@
 -- Counts over a text, byte by byte.
-use Rattle.std.proofs.Common.{◌≡◌, ◌==◌, ◌<◌, not, ℕ, suc, ◌-◌, Bool, true, false, List, [], ◌∷◌, length, refl, ap, sym, ◌∙◌, arith, get_or, count_by, eq-eqb, zero-add}
+use Rattle.std.proofs.Common.{◌≡◌, ◌==◌, not, ℕ, ◌-◌, true, false, List, [], ◌∷◌, refl, sym, ◌∙◌, arith, count_by, eq-eqb, zero-add}
 use Rattle.std.specs.List.{list_any}
 use Rattle.std.proofs.lemmas.Bool.{or_parts}
 use Rattle.std.proofs.lemmas.Bool.Decides.{nat_tests}

@@ -1,5 +1,5 @@
 -- The plan of a text, run by run.
-use Rattle.std.proofs.Common.{◌≡◌, ◌==◌, ◌∙◌, ℕ, suc, ◌+◌, Bool, true, false, Option, List, [], ◌∷◌, ◌++◌, drop, get_or, length, ◌<◌, refl, sym, ap, arith}
+use Rattle.std.proofs.Common.{◌≡◌, ◌∙◌, ℕ, suc, ◌+◌, Bool, true, false, Option, List, [], ◌∷◌, drop, get_or, length, ◌<◌, refl, sym, ap, arith}
 use Rattle.std.specs.Prelude.{if◌then◌else◌}
 use Rattle.std.specs.List.{list_any}
 use Rattle.std.proofs.Math.Seq.{drop-cons}
@@ -9,7 +9,6 @@ use Rattle.token_arena.specs.Gaps.{Contents}
 use Rattle.replacements.specs.declared.slot.Slot.{Slot}
 use Rattle.replacements.specs.Decisions.{decided_all}
 use Rattle.run_layout.specs.Rows.{item_at, column_behind}
-use Rattle.run_layout.proofs.Walked.{decided_all-append}
 use Rattle.format_core.specs.KeptGaps.{input_column, kept_slot, kept_decisions}
 use Rattle.directives.specs.declared.Section.{Section}
 use Rattle.directives.specs.Sections.{sections_of}

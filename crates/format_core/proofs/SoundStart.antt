@@ -1,5 +1,5 @@
 -- What is decided before the runs may stand.
-use Rattle.std.proofs.Common.{◌≡◌, ◌==◌, ◌∙◌, not, ◌&&◌, ℕ, zero, suc, ◌+◌, ◌-◌, ◌<◌, min, Bool, true, false, Option, Some, None, List, [], ◌∷◌, ◌++◌, length, replicate, refl, sym, ap, arith, subst}
+use Rattle.std.proofs.Common.{◌≡◌, ◌==◌, ◌∙◌, not, ◌&&◌, ℕ, zero, suc, ◌+◌, ◌-◌, ◌<◌, min, Bool, true, false, Option, Some, None, List, length, replicate, refl, sym, arith, subst}
 use Rattle.std.specs.Prelude.{if◌then◌else◌, slice_get}
 use Rattle.std.proofs.lemmas.Bool.{eqb-true}
 use Rattle.c_chars.specs.declared.Dialect.{Dialect}
@@ -19,7 +19,7 @@ use Rattle.replacements.specs.declared.stance.Stance.{Stance}
 use Rattle.replacements.specs.declared.stance.Stance.TheVariants.{OfText, Leads, Within}
 use Rattle.run_layout.proofs.Stands.{MadeStand, made_append, all_sound, nothing_stands}
 use Rattle.run_layout.proofs.Walked.{decided_all-append}
-use Rattle.format_core.specs.BeforeRuns.{is_beside_dead, lead_decision, item_decision, ends_in_backslash, last_decision, decision_before, early_decision, early_slot, made_at, early_from, early_decisions}
+use Rattle.format_core.specs.BeforeRuns.{is_beside_dead, lead_decision, item_decision, ends_in_backslash, last_decision, decision_before, early_decision, made_at, early_from, early_decisions}
 use Rattle.format_core.specs.Runs.{early_plan}
 
 -- ## One gap

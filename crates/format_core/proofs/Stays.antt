@@ -1,5 +1,5 @@
 -- What is decided before the runs stays.
-use Rattle.std.proofs.Common.{◌≡◌, ◌≢◌, ◌==◌, ◌∙◌, ◌⊎◌, inl, inr, ℕ, zero, suc, ◌+◌, ◌<◌, ◌≤◌, Bool, true, false, Option, Some, None, List, [], ◌∷◌, ◌++◌, length, replicate, refl, sym, ap, arith, eq-eqb}
+use Rattle.std.proofs.Common.{◌≡◌, ◌≢◌, ◌∙◌, ◌⊎◌, inl, inr, ℕ, zero, suc, ◌+◌, ◌<◌, ◌≤◌, Bool, Option, Some, None, List, ◌++◌, length, replicate, refl, ap, arith, eq-eqb}
 use Rattle.std.specs.Prelude.{if◌then◌else◌, option_map}
 use Rattle.std.proofs.lemmas.Bool.{ne_eqb}
 use Rattle.std.proofs.lemmas.List.{length-replicate}
@@ -7,8 +7,8 @@ use Rattle.style_table.specs.declared.style.Style.{Style}
 use Rattle.token_arena.specs.Gaps.{Contents}
 use Rattle.gap_text.specs.declared.Decision.{Decision}
 use Rattle.replacements.specs.declared.slot.Slot.{Slot}
-use Rattle.replacements.specs.Decisions.{slot_of, decided_all, first_for}
-use Rattle.replacements.specs.Written.{decision_of, decision_at}
+use Rattle.replacements.specs.Decisions.{slot_of, first_for}
+use Rattle.replacements.specs.Written.{decision_of}
 use Rattle.replacements.proofs.Firsts.{first, stay}
 use Rattle.run_layout.specs.Run.{run_decisions}
 use Rattle.format_core.specs.BeforeRuns.{early_decision, early_slot, made_at, early_from, early_decisions}

@@ -24,7 +24,7 @@ use Rattle.replacements.specs.Decisions.{slot_of, decided, decided_all}
 use Rattle.replacements.specs.Sound.{MayJoin, MayStandBetween, MayStand, IsSound, item_before, stance_before}
 use Rattle.replacements.specs.Stances.{stance_in}
 use Rattle.replacements.proofs.Firsts.{kept, new, other_gap}
-use Rattle.run_layout.specs.Rows.{no_item, item_at, follows, takes_row, is_begun_comment, row_ends, row_token, first_role, is_behind_brace, empty_rows, continuation_column, first_decision, empty_further, blanks, inner_decision, decision_at}
+use Rattle.run_layout.specs.Rows.{no_item, item_at, follows, takes_row, is_begun_comment, row_token, first_role, is_behind_brace, empty_rows, continuation_column, first_decision, empty_further, blanks, inner_decision, decision_at}
 use Rattle.run_layout.specs.Rows as rows
 use Rattle.run_layout.specs.Run.{slot_at, column_after, decisions_from, line_decisions, run_decisions}
 use Rattle.run_layout.specs.Laws.{AreOfTexts, RunsStaySound}

@@ -1,7 +1,6 @@
-use Rattle.std.proofs.Common.{◌≡◌, ◌∙◌, ◌<◌, ℕ, List, false, length, get_or, refl, sym, ap, arith}
+use Rattle.std.proofs.Common.{◌∙◌, ◌<◌, ℕ, List, false, length, get_or, refl, sym, ap, arith}
 use Rattle.replacements.specs.declared.slot.Slot.{Slot}
 use Rattle.replacements.specs.Decisions.{decided_all}
-use Rattle.run_layout.specs.Rows.{item_at, column_behind}
 use Rattle.format_core.specs.KeptGaps.{column_through}
 use Rattle.format_core.proofs.Planned.{none_kept, next_kept}
 use Rattle.format_core.proofs.kept.keep_gaps.Goals as goal
