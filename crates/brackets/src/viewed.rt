@@ -78,10 +78,8 @@ pub fn classes_among<'r>(
     let items = arena.len();
     prove!(count <= items);
     let mut classes = Vec::with_capacity(run, count as usize)?;
-    let mut segment = 0;
-    for k in 0..count {
-        let id = view.at_near(k, &mut segment);
-        classes.push(all[id.0 as usize])?;
+    for segment in view.segments() {
+        classes.extend_from_slice(&all[segment.first as usize..segment.end as usize])?;
     }
     Ok(into_bump_slice(classes))
 }
