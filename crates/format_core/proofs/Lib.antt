@@ -7,3 +7,4 @@ pub mod Decided
 pub mod EveryGap
 pub mod Stays
 pub mod SoundPlan
+pub mod NothingNew

@@ -1,5 +1,5 @@
 -- The plan of a text: what is decided before the runs, and then run by run. docs/PROFILE.md, "Runs", says what a run sees.
-use Rattle.std.specs.Prelude.{◌≡◌, ℕ, zero, suc, ◌+◌, Option, None, List, length, replicate}
+use Rattle.std.specs.Prelude.{◌≡◌, ◌<◌, ℕ, zero, suc, ◌+◌, Option, None, IsSome, List, get_or, length, replicate}
 use Rattle.style_table.specs.declared.style.Style.{Style}
 use Rattle.token_arena.specs.Gaps.{Contents}
 use Rattle.branch_runs.specs.Marks.{marks_of}
@@ -12,7 +12,7 @@ use Rattle.brackets.specs.Partners.{partners_of}
 use Rattle.brackets.specs.Viewed.{classes_of}
 use Rattle.unwrapped_lines.specs.declared.line.ULine.{ULine}
 use Rattle.unwrapped_lines.specs.Lines.{unwrapped_lines_of}
-use Rattle.replacements.specs.Decisions.{decided_all}
+use Rattle.replacements.specs.Decisions.{slot_of, decided_all}
 use Rattle.replacements.specs.declared.slot.Slot.{Slot}
 use Rattle.run_layout.specs.Run.{run_decisions}
 use Rattle.format_core.specs.BeforeRuns.{early_decisions}
@@ -42,6 +42,10 @@ after_kept style arena plan ids = decided_all plan (kept_decisions style arena 0
 -- the plan after these items are laid out: first what stays is decided, then their lines
 abbrev pub after_items : Style → Contents → List (Option Slot) → List ℕ → List (Option Slot)
 after_items style arena plan ids = let kept = after_kept style arena plan ids in decided_all kept (run_decisions style arena ids kept (lines_of_items style arena ids))
+
+-- the gap before each of these items is decided
+abbrev pub AreDecided : List (Option Slot) → List ℕ → Type 0
+AreDecided plan ids = (place : ℕ) → place < length ids → IsSome (slot_of plan (get_or ids place 0))
 
 -- the plan after so many runs from this one on
 abbrev pub after_runs : Style → Contents → List (Option Slot) → ℕ → ℕ → List (Option Slot)

@@ -1,10 +1,10 @@
 //! The plan of a text, run by run over one store of items.
 
-ghost use Rattle.std.specs.Prelude.{◌≡◌, ◌<◌, ◌≤◌, ◌+◌, IfOk, OnOk, length};
+ghost use Rattle.std.specs.Prelude.{◌≡◌, ◌<◌, ◌≤◌, ◌+◌, All, IfOk, IsTrue, OnOk, length};
 ghost use Rattle.c_chars.specs.declared.TheConstants.{LIMIT};
 ghost use Rattle.brackets.specs.Viewed.{AreWithin, item_classes};
 ghost use Rattle.directives.specs.Sections.{sections_of, IsCut};
-ghost use Rattle.format_core.specs.Runs.{IsTreeOf, runs_of, seen_by, after_items, after_runs, plan_of};
+ghost use Rattle.format_core.specs.Runs.{AreDecided, IsTreeOf, runs_of, seen_by, after_items, after_runs, plan_of};
 
 use crate::early::decide_early;
 use crate::kept::keep_gaps;
@@ -47,7 +47,23 @@ fn lay_out_items(
     Ok(())
 }
 
-/// Decides the gaps of the items that the run with this number sees, where they are open.
+/// Whether the gap before each item of a view is decided.
+fn are_decided(view: &View<'_>, plan: &Plan<'_>) -> bool
+    requires { All (λ id. id < length plan.now) view.now }
+    ensures { IsTrue result → AreDecided plan.now view.now }
+{
+    let mut segment = 0;
+    for place in 0..view.len() {
+        let id = view.at_near(place, &mut segment);
+        if !plan.is_decided(id.0) {
+            return false;
+        }
+    }
+    true
+}
+
+/// Decides the gaps of the items that the run with this number sees, where they are open. A run of branches without
+/// text sees nothing new, and its lines aren't asked for.
 fn lay_out_seen(
     style: &Style,
     arena: &TokenArena<'_, '_>,
@@ -66,6 +82,9 @@ fn lay_out_seen(
     ensures len { OnOk result (length plan.new ≡ length plan.old) }
 {
     let view = tree.view(number, run)?;
+    if are_decided(&view, plan) {
+        return Ok(());
+    }
     lay_out_items(style, arena, all, &view, plan, run)
 }
 
