@@ -24,15 +24,16 @@ no_bytes : (s : List LogicalChar) → length s ≡ 0 → bytes_in s ≡ 0
 no_bytes [] h = refl
 no_bytes (c ∷ s) h = absurd (omega arith)
 
-not_not : (t : Bool) → not (not t) ≡ t
-not_not true = refl
-not_not false = refl
+neither : (s t : Bool) → not (not s || not t) ≡ (s && t)
+neither true true = refl
+neither true false = refl
+neither false t = refl
 
 -- a gap is empty where it has no character and no byte beside its characters
 empty_told : (at : ℕ) (s : List LogicalChar) (start : ℕ) → at + length s ≤ start
-    → (not (not (length s == 0)) && not (not (bytes_in s == start - at))) ≡ (start == at)
+    → not (not (length s == 0) || not (bytes_in s == start - at)) ≡ (start == at)
 empty_told at s start wide =
-    rw (not_not (length s == 0), not_not (bytes_in s == start - at))
+    rw (neither (length s == 0) (bytes_in s == start - at))
     (both_ways ((length s == 0) && (bytes_in s == start - at)) (start == at) there back)
   where
     there : ((length s == 0) && (bytes_in s == start - at)) ≡ true → (start == at) ≡ true
@@ -63,10 +64,10 @@ told_gap old new lexeme is_first at next wide =
     let white : lexeme.white ≡ not (length gap == 0) = next.white_is in
     let splice : not (lexeme.bytes == lexeme.item.start - at) ≡ not (bytes_in gap == start - at) =
     ap (λ k. not (k == lexeme.item.start - at)) next.bytes_are ∙ ap (λ k. not (bytes_in gap == k - at)) next.next.start_is in
-    gap_made lexeme.lines (new_lines gap) (not lexeme.white && not (not (lexeme.bytes == lexeme.item.start - at))) (start == at) lexeme.white (not (length gap == 0))
+    gap_made lexeme.lines (new_lines gap) (not (lexeme.white || not (lexeme.bytes == lexeme.item.start - at))) (start == at) lexeme.white (not (length gap == 0))
     (not (lexeme.bytes == lexeme.item.start - at)) (not (bytes_in gap == start - at)) (is_first || not (lexeme.lines == 0)) (is_first || not (new_lines gap == 0))
     lines
-    (ap (λ t. not t && not (not (lexeme.bytes == lexeme.item.start - at))) white ∙ (ap (λ t. not (not (length gap == 0)) && not t) splice ∙ empty_told at gap start wide))
+    (ap (λ t. not (t || not (lexeme.bytes == lexeme.item.start - at))) white ∙ (ap (λ t. not (not (length gap == 0) || t)) splice ∙ empty_told at gap start wide))
     white
     splice
     (ap (λ k. is_first || not (k == 0)) lines)

@@ -1,5 +1,5 @@
 -- How the items lie in memory.
-use Rattle.std.specs.Prelude.{◌==◌, ◌||◌, ◌&&◌, ◌≤◌, ◌+◌, ◌-◌, not, ℕ, Bool, true, false, List, [], ◌∷◌, All, length, take, drop, count_by}
+use Rattle.std.specs.Prelude.{◌==◌, ◌||◌, ◌≤◌, ◌+◌, ◌-◌, not, ℕ, Bool, true, false, List, [], ◌∷◌, All, length, take, drop, count_by}
 use Rattle.token_arena.specs.Gaps.{Contents}
 use Rattle.token_arena.specs.Holds.{IsSound}
 use Rattle.c_chars.specs.declared.Dialect.{Dialect}
@@ -13,7 +13,7 @@ use Rattle.token_arena.specs.declared.arena.Token.{Token}
 abbrev pub gap_kept : Bool → Entry → GapFacts
 gap_kept is_first entry = record {
   lines = entry.lines;
-  empty = not entry.white && not entry.splice;
+  empty = not (entry.white || entry.splice);
   white = entry.white;
   splice = entry.splice;
   began = is_first || not (entry.lines == 0);

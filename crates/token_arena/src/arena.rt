@@ -30,6 +30,7 @@ pub struct Token<'s> {
 
 impl Token<'_> {
     /// Its rows. They are read from its bytes at each call, so that nobody pays for them who doesn't ask.
+    #[inline(always)]
     pub fn rows(&self) -> Rows
         requires { length self.now.item.raw.now < 2 ^ 31 }
         ensures count { result.count ≡ (told_by self.now).rows }
@@ -69,7 +70,7 @@ fn gap_kept(entry: &Entry, is_first: bool) -> GapFacts
 {
     GapFacts {
         lines: entry.lines,
-        empty: !entry.white && !entry.splice,
+        empty: !(entry.white | entry.splice),
         white: entry.white,
         splice: entry.splice,
         began: is_first || entry.lines != 0,

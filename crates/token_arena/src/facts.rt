@@ -114,16 +114,14 @@ fn one_row(width: u32) -> Rows
     }
 }
 
-/// The rows of an item. Most items are one row of printable ASCII, which one pass shows.
-pub(crate) fn rows_of(raw: &[u8]) -> Rows
+/// The rows of an item of any bytes.
+#[inline(never)]
+fn rows_of_any(raw: &[u8]) -> Rows
     requires { length raw.now < 2 ^ 31 }
     ensures count { result.count ≡ rows_of raw.now }
     ensures first { result.first_width ≡ width_of (first_row raw.now) }
     ensures last { result.last_width ≡ width_of (last_row raw.now) }
 {
-    if is_printable(raw) {
-        return one_row(raw.len() as u32);
-    }
     let feeds = line_feeds(raw);
     if feeds == 0 {
         return one_row(width(raw));
@@ -133,6 +131,20 @@ pub(crate) fn rows_of(raw: &[u8]) -> Rows
         first_width: width(first_row(raw)),
         last_width: width(last_row(raw)),
     }
+}
+
+/// The rows of an item. Most items are one row of printable ASCII, which one pass shows.
+#[inline(always)]
+pub(crate) fn rows_of(raw: &[u8]) -> Rows
+    requires { length raw.now < 2 ^ 31 }
+    ensures count { result.count ≡ rows_of raw.now }
+    ensures first { result.first_width ≡ width_of (first_row raw.now) }
+    ensures last { result.last_width ≡ width_of (last_row raw.now) }
+{
+    if is_printable(raw) {
+        return one_row(raw.len() as u32);
+    }
+    rows_of_any(raw)
 }
 
 /// The entry of an item behind a gap that begins at this offset. Spliced line ends are bytes of no character.
