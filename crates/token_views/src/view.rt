@@ -103,7 +103,6 @@ impl<'r> View<'r> {
     }
 
     /// How many places there are.
-    #[inline(always)]
     pub fn len(&self) -> u32
         ensures count { result ≡ length self.now }
         ensures increase { Increase self.now }
@@ -139,12 +138,11 @@ impl<'r> View<'r> {
         requires { k < length self.now }
         ensures { (d : ℕ) → get_or self.now k d ≡ result.0 }
     {
-        if has_place(self.segments, *number, k) {
-            return item_in(self.segments, *number, k);
+        if !has_place(self.segments, *number, k) {
+            *number = segment_at(self.segments, k);
         }
-        let (segment, id) = found(self.segments, k);
-        *number = segment;
-        id
+        let segment = self.segments[*number];
+        TokenId(segment.first + (k - segment.before))
     }
 
     /// Whether items of the text are left out directly before a place that isn't the first.
@@ -171,30 +169,8 @@ fn has_place(segments: &[Segment], number: usize, k: u32) -> bool
     segment.before <= k && k - segment.before < segment.end - segment.first
 }
 
-// The item at a place that the segment with this number has.
-#[inline(always)]
-fn item_in(segments: &[Segment], number: usize, k: u32) -> TokenId
-    requires rule { AreSegments segments.now }
-    requires within { number < length segments.now }
-    requires has { HasPlace segments.now k number }
-    ensures { (d : ℕ) → get_or (ids_of (map segment_bounds segments.now)) k d ≡ result.0 }
-{
-    let segment = segments[number];
-    TokenId(segment.first + (k - segment.before))
-}
-
-// The number of the segment that has a place, and the item there. It is no part of its callers, so that what they ask most stays short.
-#[inline(never)]
-fn found(segments: &[Segment], k: u32) -> (usize, TokenId)
-    requires rule { AreSegments segments.now }
-    requires within { k < length (ids_of (map segment_bounds segments.now)) }
-    ensures { (d : ℕ) → get_or (ids_of (map segment_bounds segments.now)) k d ≡ result.1.0 }
-{
-    let number = segment_at(segments, k);
-    (number, item_in(segments, number, k))
-}
-
 // The number of the segment that has a place.
+#[inline(never)]
 fn segment_at(segments: &[Segment], k: u32) -> usize
     requires rule { AreSegments segments.now }
     requires within { k < length (ids_of (map segment_bounds segments.now)) }
