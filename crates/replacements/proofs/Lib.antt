@@ -13,3 +13,4 @@ pub mod Writing
 pub mod SoundGaps
 pub mod SoundTwin
 pub mod Hashes
+pub mod SameGaps

@@ -11,6 +11,7 @@ mod hash;
 mod laws;
 mod plan;
 mod reading;
+mod same;
 mod slot;
 mod sound;
 mod stance;

@@ -15,6 +15,7 @@ ghost use Rattle.replacements.specs.declared.guard.Guard.TheVariants.{Free};
 use crate::guard::{Guard, guard_for, guard_of, guard_text, guarded_ends};
 use crate::hash::{HashRun, hash_comes};
 use crate::plan::Plan;
+use crate::same::{between, is_same};
 use crate::stance::{Stance, stance_at};
 use directives::Section;
 use fmt_ports::{Failed, Sink, write_all};
@@ -57,16 +58,6 @@ fn decision_at(plan: &Plan<'_>, place: u32) -> Decision
         Some(slot) => slot.decision,
         None => Decision::Old,
     }
-}
-
-/// The bytes of a text from one offset up to another.
-#[inline(always)]
-fn between(text: &[u8], from: usize, to: usize) -> &[u8]
-    requires order { from ≤ to }
-    requires within { to ≤ length text.now }
-    ensures { result.now ≡ bytes_between text.now from to }
-{
-    &text[from..to]
 }
 
 /// What stands before the first item where its gap doesn't stay.
@@ -154,7 +145,7 @@ fn write_laid<K: Sink>(
     write_guarded(style, crlf, walk.guard, decision, b"", sink)
 }
 
-/// Writes what is held and what is decided before an item, or holds the gap too where it stays.
+/// Writes what is held and what is decided before an item, or holds the gap too where it is as in the input.
 #[inline(always)]
 fn write_or_hold<K: Sink>(
     style: &Style,
@@ -184,6 +175,9 @@ fn write_or_hold<K: Sink>(
     ensures counts { Counts (K.faults sink.old) (K.faults sink.new) result }
 {
     if is_old(decision) {
+        return Ok(());
+    }
+    if is_same(arena, walk.at, place, token, decision) {
         return Ok(());
     }
     write_all(sink, between(arena.text(), walk.held, walk.at))?;

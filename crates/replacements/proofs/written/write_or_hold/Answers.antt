@@ -3,6 +3,7 @@ use Rattle.std.proofs.KnownBytes.{Appends-nil, Appends-trans}
 use Rattle.fmt_ports.proofs.Parts.{part_of_front, part_of_rest}
 use Rattle.token_arena.specs.Entries.{told_by}
 use Rattle.replacements.specs.Written.{bytes_between, planned_gap}
+use Rattle.replacements.proofs.SameGaps.{held_same}
 use Rattle.replacements.proofs.Writing.{planned_anew, held_on, held_none}
 use Rattle.replacements.proofs.written.write_or_hold.Goals as goal
 
@@ -14,6 +15,16 @@ returns-then-is_old-clause-ok g c =
       Appends-nil _,
       held_on c.args.style.now c.args.crlf arena walk.guard walk.at c.args.place walk.held c.args.stance c.args.decision (told_by c.args.token.now) (drop (c.args.place + 1) arena.tokens)
           (sym c.is_old.ensures ∙ c.if-is_old.true) c.requires.held c.requires.stands.later,
+    )
+
+pub returns-then-is_same-clause-ok : goal.returns-then-is_same-clause-ok
+returns-then-is_same-clause-ok g c =
+    let arena = c.args.arena.now in
+    let walk = c.args.walk.now in (
+      [],
+      Appends-nil _,
+      held_same c.args.style.now c.args.crlf arena walk.guard walk.at c.args.place walk.held c.args.stance c.args.decision (told_by c.args.token.now) (drop (c.args.place + 1) arena.tokens)
+          (c.is_same.ensures c.if-is_same.true) c.requires.held c.requires.stands.later,
     )
 
 pub returns-in_err-write_all-clause-part : goal.returns-in_err-write_all-clause-part

@@ -1,0 +1,96 @@
+//! Gaps that the input has as they are decided.
+
+ghost use Rattle.std.specs.Prelude.{◌≡◌, ◌≤◌, length, IsTrue};
+ghost use Rattle.gap_text.specs.GapText.{blanks};
+ghost use Rattle.gap_text.specs.declared.Decision.TheVariants.{Spaces};
+ghost use Rattle.token_arena.specs.Entries.{told_by};
+ghost use Rattle.replacements.specs.Same.{ComesNoHash, IsSame};
+ghost use Rattle.replacements.specs.Written.{bytes_between};
+
+use crate::hash::begins_no_hash;
+use c_grammar::ItemKind;
+use gap_text::Decision;
+use token_arena::{Token, TokenArena};
+
+/// The bytes of a text from one offset up to another.
+#[inline(always)]
+pub(crate) fn between(text: &[u8], from: usize, to: usize) -> &[u8]
+    requires order { from ≤ to }
+    requires within { to ≤ length text.now }
+    ensures { result.now ≡ bytes_between text.now from to }
+{
+    &text[from..to]
+}
+
+/// Whether a gap is so many blanks; told for up to one, as most are decided.
+#[inline(always)]
+fn is_blank(gap: &[u8], count: u32) -> bool
+    ensures { IsTrue result → gap.now ≡ blanks count }
+{
+    match gap {
+        [] => count == 0,
+        [blank] => count == 1 && *blank == b' ',
+        _ => false,
+    }
+}
+
+/// Whether its kind and its first byte tell that no `#` comes from a token on. They do for most tokens.
+#[inline(always)]
+fn comes_no_hash(token: &Token<'_>) -> bool
+    ensures { IsTrue result → ComesNoHash (told_by token.now) }
+{
+    match token.item.kind {
+        ItemKind::BlockComment => false,
+        ItemKind::LineComment => false,
+        ItemKind::Punct => begins_no_hash(token.item.raw),
+        _ => true,
+    }
+}
+
+/// Whether so many blanks that are decided before an item stand there in the input.
+///
+/// Before a `#` stands one blank, whatever is decided, and before the first item of a text no decision counts.
+#[inline(always)]
+fn are_same_blanks(
+    arena: &TokenArena<'_, '_>,
+    at: usize,
+    place: u32,
+    token: &Token<'_>,
+    count: u32,
+) -> bool
+    requires later { at ≤ token.now.item.start }
+    requires within { token.now.item.start ≤ length arena.now.text }
+    ensures { IsTrue result → IsSame arena.now at place (Spaces count) (told_by token.now) }
+{
+    if !is_blank(between(arena.text(), at, token.item.start as usize), count) {
+        return false;
+    }
+    if place == 0 {
+        return false;
+    }
+    if count == 1 {
+        return true;
+    }
+    comes_no_hash(token)
+}
+
+/// Whether what is decided before an item stands there in the input, so that nothing has to be written.
+#[inline(always)]
+pub(crate) fn is_same(
+    arena: &TokenArena<'_, '_>,
+    at: usize,
+    place: u32,
+    token: &Token<'_>,
+    decision: Decision,
+) -> bool
+    requires later { at ≤ token.now.item.start }
+    requires within { token.now.item.start ≤ length arena.now.text }
+    ensures { IsTrue result → IsSame arena.now at place decision (told_by token.now) }
+{
+    match decision {
+        Decision::Old => false,
+        Decision::Spaces(count) => are_same_blanks(arena, at, place, token, count),
+        Decision::Lines { .. } => false,
+        Decision::Splice { .. } => false,
+    }
+}
