@@ -36,7 +36,7 @@ fn is_blank(gap: &[u8], count: u32) -> bool
 
 /// Whether its kind and its first byte tell that no `#` comes from a token on. They do for most tokens.
 #[inline(always)]
-fn comes_no_hash(token: &Token<'_>) -> bool
+pub(crate) fn comes_no_hash(token: &Token<'_>) -> bool
     ensures { IsTrue result → ComesNoHash (told_by token.now) }
 {
     match token.item.kind {

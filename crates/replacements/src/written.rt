@@ -7,15 +7,15 @@ ghost use Rattle.directives.specs.declared.Section.{Section};
 ghost use Rattle.fmt_ports.specs.Causes.{AppendsPart, Counts};
 ghost use Rattle.token_arena.specs.Entries.{told_by};
 ghost use Rattle.token_arena.specs.Gaps.{gap_start, Stands, StandFrom};
-ghost use Rattle.replacements.specs.Guards.{guarded_text};
+ghost use Rattle.replacements.specs.Guards.{guard_before, guarded_text};
 ghost use Rattle.replacements.specs.Stances.{stance_in, hash_comes, IsAt, IsKnown};
 ghost use Rattle.replacements.specs.Written.{bytes_between, decision_at, first_gap, is_of_text, is_old, laid_gap, mark_bytes, planned_gap, written, written_from};
 ghost use Rattle.replacements.specs.declared.guard.Guard.TheVariants.{Free};
 
-use crate::guard::{Guard, guard_for, guard_of, guard_text, guarded_ends};
+use crate::guard::{Guard, guard_before, guard_for, guard_text, guarded_ends};
 use crate::hash::{HashRun, hash_comes};
 use crate::plan::Plan;
-use crate::same::{between, is_same};
+use crate::same::{between, comes_no_hash, is_same};
 use crate::stance::{Stance, stance_at};
 use directives::Section;
 use fmt_ports::{Failed, Sink, write_all};
@@ -27,11 +27,9 @@ use token_arena::{Token, TokenArena};
 /// The bytes of a byte order mark.
 const MARK: [u8; 3] = [0xEF, 0xBB, 0xBF];
 
-/// Where the writing stands: what the item before leaves behind it.
+/// Where the writing stands.
 #[derive(Clone, Copy)]
 struct Walk {
-    /// What a line end needs.
-    guard: Guard,
     /// The section in which the next item stands, or one before it.
     section: usize,
     /// Whether a `#` comes.
@@ -50,6 +48,7 @@ fn is_old(decision: Decision) -> bool
 }
 
 /// What a plan decides for a gap: that it stays, where nothing else is decided.
+#[inline(always)]
 fn decision_at(plan: &Plan<'_>, place: u32) -> Decision
     requires { place < length plan.now }
     ensures { result ≡ decision_at plan.now place }
@@ -77,18 +76,26 @@ fn first_gap(arena: &TokenArena<'_, '_>, token: &Token<'_>) -> &'static [u8]
 #[inline(always)]
 fn blank_comes(
     arena: &TokenArena<'_, '_>,
-    run: &mut HashRun,
-    stance: Stance,
+    sections: &[Section],
+    walk: &mut Walk,
     place: u32,
     token: &Token<'_>,
 ) -> bool
     requires here { IsAt arena.now.tokens place (told_by token.now) }
-    requires known { IsKnown arena.now.dialect arena.now.tokens place run.old.end run.old.hash }
-    ensures known { IsKnown arena.now.dialect arena.now.tokens place run.new.end run.new.hash }
-    ensures is { result ≡ (is_of_text stance && hash_comes arena.now.dialect (drop place arena.now.tokens)) }
+    requires within { walk.old.section ≤ length sections.now }
+    requires later { (k : ℕ) → place ≤ k → stance_in (drop walk.old.section sections.now) k ≡ stance_in sections.now k }
+    requires known { IsKnown arena.now.dialect arena.now.tokens place walk.old.run.end walk.old.run.hash }
+    ensures within { walk.new.section ≤ length sections.now }
+    ensures later { (k : ℕ) → place ≤ k → stance_in (drop walk.new.section sections.now) k ≡ stance_in sections.now k }
+    ensures known { IsKnown arena.now.dialect arena.now.tokens place walk.new.run.end walk.new.run.hash }
+    ensures kept { (walk.new.at ≡ walk.old.at) × (walk.new.held ≡ walk.old.held) }
+    ensures is { result ≡ (is_of_text (stance_in sections.now place) && hash_comes arena.now.dialect (drop place arena.now.tokens)) }
 {
-    match stance {
-        Stance::OfText => hash_comes(arena, place, token, run),
+    if comes_no_hash(token) {
+        return false;
+    }
+    match stance_at(sections, &mut walk.section, place) {
+        Stance::OfText => hash_comes(arena, place, token, &mut walk.run),
         Stance::Leads => false,
         Stance::Within => false,
     }
@@ -120,8 +127,8 @@ fn write_laid<K: Sink>(
     style: &Style,
     crlf: bool,
     arena: &TokenArena<'_, '_>,
+    sections: &[Section],
     walk: &mut Walk,
-    stance: Stance,
     place: u32,
     token: &Token<'_>,
     decision: Decision,
@@ -129,20 +136,24 @@ fn write_laid<K: Sink>(
 ) -> Result<(), Failed>
     requires tab { 1 ≤ style.now.tab_width }
     requires here { IsAt arena.now.tokens place (told_by token.now) }
+    requires within { walk.old.section ≤ length sections.now }
+    requires later { (k : ℕ) → place ≤ k → stance_in (drop walk.old.section sections.now) k ≡ stance_in sections.now k }
     requires known { IsKnown arena.now.dialect arena.now.tokens place walk.old.run.end walk.old.run.hash }
+    ensures within { walk.new.section ≤ length sections.now }
+    ensures later { (k : ℕ) → place ≤ k → stance_in (drop walk.new.section sections.now) k ≡ stance_in sections.now k }
     ensures known { IsKnown arena.now.dialect arena.now.tokens place walk.new.run.end walk.new.run.hash }
-    ensures kept { (walk.new.guard ≡ walk.old.guard) × (walk.new.section ≡ walk.old.section) × (walk.new.at ≡ walk.old.at) × (walk.new.held ≡ walk.old.held) }
-    ensures ok { OnOk result (Appends (K.taken sink.old) (K.taken sink.new) (laid_gap style.now crlf arena.now walk.old.guard place stance decision (told_by token.now) (drop (place + 1) arena.now.tokens))) }
-    ensures part { AppendsPart (K.taken sink.old) (K.taken sink.new) (laid_gap style.now crlf arena.now walk.old.guard place stance decision (told_by token.now) (drop (place + 1) arena.now.tokens)) }
+    ensures kept { (walk.new.at ≡ walk.old.at) × (walk.new.held ≡ walk.old.held) }
+    ensures ok { OnOk result (Appends (K.taken sink.old) (K.taken sink.new) (laid_gap style.now crlf arena.now (guard_before arena.now.tokens place) place (stance_in sections.now place) decision (told_by token.now) (drop (place + 1) arena.now.tokens))) }
+    ensures part { AppendsPart (K.taken sink.old) (K.taken sink.new) (laid_gap style.now crlf arena.now (guard_before arena.now.tokens place) place (stance_in sections.now place) decision (told_by token.now) (drop (place + 1) arena.now.tokens)) }
     ensures counts { Counts (K.faults sink.old) (K.faults sink.new) result }
 {
     if place == 0 {
         return write_all(sink, first_gap(arena, token));
     }
-    if blank_comes(arena, &mut walk.run, stance, place, token) {
+    if blank_comes(arena, sections, walk, place, token) {
         return write_all(sink, b" ");
     }
-    write_guarded(style, crlf, walk.guard, decision, b"", sink)
+    write_guarded(style, crlf, guard_before(arena, place), decision, b"", sink)
 }
 
 /// Writes what is held and what is decided before an item, or holds the gap too where it is as in the input.
@@ -151,8 +162,8 @@ fn write_or_hold<K: Sink>(
     style: &Style,
     crlf: bool,
     arena: &TokenArena<'_, '_>,
+    sections: &[Section],
     walk: &mut Walk,
-    stance: Stance,
     place: u32,
     token: &Token<'_>,
     decision: Decision,
@@ -160,18 +171,22 @@ fn write_or_hold<K: Sink>(
 ) -> Result<(), Failed>
     requires tab { 1 ≤ style.now.tab_width }
     requires here { IsAt arena.now.tokens place (told_by token.now) }
+    requires within { walk.old.section ≤ length sections.now }
+    requires later { (k : ℕ) → place ≤ k → stance_in (drop walk.old.section sections.now) k ≡ stance_in sections.now k }
     requires known { IsKnown arena.now.dialect arena.now.tokens place walk.old.run.end walk.old.run.hash }
     requires stands { Stands arena.now.text walk.old.at (told_by token.now) }
     requires held { walk.old.held ≤ walk.old.at }
+    ensures within { walk.new.section ≤ length sections.now }
+    ensures later { (k : ℕ) → place ≤ k → stance_in (drop walk.new.section sections.now) k ≡ stance_in sections.now k }
     ensures known { IsKnown arena.now.dialect arena.now.tokens place walk.new.run.end walk.new.run.hash }
-    ensures kept { (walk.new.guard ≡ walk.old.guard) × (walk.new.section ≡ walk.old.section) × (walk.new.at ≡ walk.old.at) }
+    ensures kept { walk.new.at ≡ walk.old.at }
     ensures held { walk.new.held ≤ token.now.item.start }
     ensures ok { OnOk result ((piece : List ℕ) × Appends (K.taken sink.old) (K.taken sink.new) piece
         × (bytes_between arena.now.text walk.old.held walk.old.at
-        ++ planned_gap style.now crlf arena.now walk.old.guard walk.old.at place stance decision (told_by token.now) (drop (place + 1) arena.now.tokens)
+        ++ planned_gap style.now crlf arena.now (guard_before arena.now.tokens place) walk.old.at place (stance_in sections.now place) decision (told_by token.now) (drop (place + 1) arena.now.tokens)
         ≡ piece ++ bytes_between arena.now.text walk.new.held token.now.item.start)) }
     ensures part { AppendsPart (K.taken sink.old) (K.taken sink.new) (bytes_between arena.now.text walk.old.held walk.old.at
-        ++ planned_gap style.now crlf arena.now walk.old.guard walk.old.at place stance decision (told_by token.now) (drop (place + 1) arena.now.tokens)) }
+        ++ planned_gap style.now crlf arena.now (guard_before arena.now.tokens place) walk.old.at place (stance_in sections.now place) decision (told_by token.now) (drop (place + 1) arena.now.tokens)) }
     ensures counts { Counts (K.faults sink.old) (K.faults sink.new) result }
 {
     if is_old(decision) {
@@ -182,7 +197,7 @@ fn write_or_hold<K: Sink>(
     }
     write_all(sink, between(arena.text(), walk.held, walk.at))?;
     write_laid(
-        style, crlf, arena, walk, stance, place, token, decision, sink,
+        style, crlf, arena, sections, walk, place, token, decision, sink,
     )?;
     walk.held = token.item.start as usize;
     Ok(())
@@ -215,21 +230,19 @@ fn write_token<K: Sink>(
     ensures at { OnOk result ((walk.new.at ≡ gap_start (mark_len arena.now.text) arena.now.tokens (place + 1)) × (walk.new.held ≤ walk.new.at)) }
     ensures ok { OnOk result ((piece : List ℕ) × Appends (K.taken sink.old) (K.taken sink.new) piece
         × (bytes_between arena.now.text walk.old.held walk.old.at
-        ++ written_from style.now crlf arena.now sections.now plan.now walk.old.guard walk.old.at place (drop place arena.now.tokens)
+        ++ written_from style.now crlf arena.now sections.now plan.now (guard_before arena.now.tokens place) walk.old.at place (drop place arena.now.tokens)
         ≡ piece ++ (bytes_between arena.now.text walk.new.held walk.new.at
-        ++ written_from style.now crlf arena.now sections.now plan.now walk.new.guard walk.new.at (place + 1) (drop (place + 1) arena.now.tokens)))) }
+        ++ written_from style.now crlf arena.now sections.now plan.now (guard_before arena.now.tokens (place + 1)) walk.new.at (place + 1) (drop (place + 1) arena.now.tokens)))) }
     ensures part { AppendsPart (K.taken sink.old) (K.taken sink.new) (bytes_between arena.now.text walk.old.held walk.old.at
-        ++ written_from style.now crlf arena.now sections.now plan.now walk.old.guard walk.old.at place (drop place arena.now.tokens)) }
+        ++ written_from style.now crlf arena.now sections.now plan.now (guard_before arena.now.tokens place) walk.old.at place (drop place arena.now.tokens)) }
     ensures counts { Counts (K.faults sink.old) (K.faults sink.new) result }
 {
     let token = arena.get(TokenId(place));
-    let stance = stance_at(sections, &mut walk.section, place);
     let decision = decision_at(plan, place);
     write_or_hold(
-        style, crlf, arena, walk, stance, place, &token, decision, sink,
+        style, crlf, arena, sections, walk, place, &token, decision, sink,
     )?;
     walk.at = token.item.start as usize + token.item.raw.len();
-    walk.guard = guard_of(&token);
     Ok(())
 }
 
@@ -265,7 +278,6 @@ fn write_tokens<K: Sink>(
     let count = arena.len();
     let begin = first_offset(arena);
     let mut walk = Walk {
-        guard: Guard::Free,
         section: 0,
         run: HashRun::none(),
         at: begin,
@@ -276,7 +288,8 @@ fn write_tokens<K: Sink>(
     }
     write_all(sink, between(arena.text(), walk.held, walk.at))?;
     let decision = decision_at(plan, count);
-    write_guarded(style, crlf, walk.guard, decision, arena.gap(count), sink)
+    let guard = guard_before(arena, count);
+    write_guarded(style, crlf, guard, decision, arena.gap(count), sink)
 }
 
 /// Writes the text of a plan in a style: the byte order mark, then each item behind the text of its gap, and the

@@ -3,6 +3,7 @@ use Rattle.std.specs.Io.KnownBytes.{Appends}
 use Rattle.c_chars.specs.Characters.{mark_len}
 use Rattle.token_arena.specs.Gaps.{gap_start}
 use Rattle.replacements.specs.Written.{bytes_between, written_from}
+use Rattle.replacements.specs.Guards.{guard_before}
 use Rattle.replacements.specs.Stances.{stance_in, IsKnown}
 use Rattle.replacements.specs.declared.guard.Guard.TheVariants.{Free}
 use Rattle.replacements.proofs.written.write_tokens.Given as goal
@@ -19,5 +20,5 @@ invariant-loop-place g l = record {
   taken : (done : List ℕ) × Appends (g.K.Sink.taken l.initial.sink) (g.K.Sink.taken l.sink) done
       × (written_from l.style l.crlf l.arena l.sections l.plan Free (mark_len l.arena.text) 0 l.arena.tokens
       ≡ done ++ (bytes_between l.arena.text l.walk.held l.walk.at
-      ++ written_from l.style l.crlf l.arena l.sections l.plan l.walk.guard l.walk.at l.place (drop l.place l.arena.tokens)));
+      ++ written_from l.style l.crlf l.arena l.sections l.plan (guard_before l.arena.tokens l.place) l.walk.at l.place (drop l.place l.arena.tokens)));
 }
