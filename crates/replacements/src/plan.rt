@@ -37,16 +37,14 @@ impl<'a> Plan<'a> {
         ensures { IfOk result (λ plan. plan ≡ replicate (length arena.now.tokens + 1) None) }
     {
         let places = arena.len() + 1;
-        let mut slots = Vec::with_capacity(bump, places as usize)?;
-        for _place in 0..places {
-            slots.push(None)?;
-        }
+        let slots = vec![in bump; None; places as usize]?;
         Ok(Plan {
             slots: into_bump_slice_mut(slots),
         })
     }
 
     /// Decides a gap where it is open; `end` is the column at which the item behind it starts.
+    #[inline(always)]
     pub fn decide(&mut self, place: u32, decision: Decision, end: u32) -> Decided
         requires { place < length self.old }
         ensures kept { (result ≡ Decided.Kept) ↔ IsSome (slot_of self.old place) }
@@ -61,14 +59,17 @@ impl<'a> Plan<'a> {
     }
 
     /// Whether a gap is decided.
+    #[inline(always)]
     pub fn is_decided(&self, place: u32) -> bool
         requires { place < length self.now }
         ensures { IsTrue result ↔ IsSome (slot_of self.now place) }
     {
-        self.slot(place).is_some()
+        let slots = &*self.slots;
+        slots[place as usize].is_some()
     }
 
     /// What is decided for a gap.
+    #[inline(always)]
     pub fn slot(&self, place: u32) -> Option<Slot>
         requires { place < length self.now }
         ensures { result ≡ slot_of self.now place }
