@@ -14,3 +14,4 @@ pub mod SoundGaps
 pub mod SoundTwin
 pub mod Hashes
 pub mod SameGaps
+pub mod PlanEntries

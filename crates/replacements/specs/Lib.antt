@@ -6,3 +6,4 @@ pub mod Guards
 pub mod Written
 pub mod Sound
 pub mod Same
+pub mod Entries

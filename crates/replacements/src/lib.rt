@@ -6,6 +6,7 @@
 //! the input.
 #![tactic(auto)]
 
+mod entry;
 mod guard;
 mod hash;
 mod laws;
