@@ -8,9 +8,9 @@ use Rattle.replacements.specs.declared.entry.Entry.TheVariants.{Old, Spaces, Lin
 -- what an entry has for its gap: nothing where it is open
 abbrev pub slot_in : Entry → Option Slot
 slot_in (Old end) = Some (record { decision = decision.Old; end = end })
-slot_in (Spaces count end) = Some (record { decision = decision.Spaces count; end = end })
-slot_in (Lines count column level end) = Some (record { decision = decision.Lines count column level; end = end })
-slot_in (Splice pad column end) = Some (record { decision = decision.Splice pad column; end = end })
+slot_in (Spaces end count) = Some (record { decision = decision.Spaces count; end = end })
+slot_in (Lines end count column level) = Some (record { decision = decision.Lines count column level; end = end })
+slot_in (Splice end pad column) = Some (record { decision = decision.Splice pad column; end = end })
 slot_in Open = None
 
 -- what entries have for their gaps

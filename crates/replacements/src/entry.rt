@@ -12,35 +12,35 @@ use gap_text::Decision;
 pub(crate) enum Entry {
     /// The input's bytes stay.
     Old {
-        /// The column of the next item.
+        /// The column of the next item. It comes first in each variant, so that all have it at one place.
         end: u32,
     },
     /// Blanks.
     Spaces {
-        /// How many.
-        count: u32,
         /// The column of the next item.
         end: u32,
+        /// How many.
+        count: u32,
     },
     /// Line ends and indentation.
     Lines {
+        /// The column of the next item.
+        end: u32,
         /// How many line ends.
         count: u32,
         /// The column up to which the indentation goes.
         column: u32,
         /// The level of the line that begins there.
         level: u32,
-        /// The column of the next item.
-        end: u32,
     },
     /// A backslash at the end of a line, and the next line's indentation.
     Splice {
+        /// The column of the next item.
+        end: u32,
         /// How many blanks stand before the backslash.
         pad: u32,
         /// The column up to which the indentation goes.
         column: u32,
-        /// The column of the next item.
-        end: u32,
     },
     /// Nothing is decided.
     Open,
@@ -57,18 +57,18 @@ impl Entry {
         let end = slot.end;
         match slot.decision {
             Decision::Old => Entry::Old { end },
-            Decision::Spaces(count) => Entry::Spaces { count, end },
+            Decision::Spaces(count) => Entry::Spaces { end, count },
             Decision::Lines {
                 count,
                 column,
                 level,
             } => Entry::Lines {
+                end,
                 count,
                 column,
                 level,
-                end,
             },
-            Decision::Splice { pad, column } => Entry::Splice { pad, column, end },
+            Decision::Splice { pad, column } => Entry::Splice { end, pad, column },
         }
     }
 
@@ -79,12 +79,12 @@ impl Entry {
     {
         let (decision, end) = match self {
             Entry::Old { end } => (Decision::Old, end),
-            Entry::Spaces { count, end } => (Decision::Spaces(count), end),
+            Entry::Spaces { end, count } => (Decision::Spaces(count), end),
             Entry::Lines {
+                end,
                 count,
                 column,
                 level,
-                end,
             } => (
                 Decision::Lines {
                     count,
@@ -93,7 +93,7 @@ impl Entry {
                 },
                 end,
             ),
-            Entry::Splice { pad, column, end } => (Decision::Splice { pad, column }, end),
+            Entry::Splice { end, pad, column } => (Decision::Splice { pad, column }, end),
             Entry::Open => return None,
         };
         Some(Slot { decision, end })
