@@ -1,6 +1,7 @@
 //! What a line end needs from the item before it.
 
-ghost use Rattle.std.specs.Prelude.{◌≡◌, ◌==◌, ◌≤◌, length};
+ghost use Rattle.std.specs.Prelude.{◌≡◌, ◌==◌, ◌≤◌, length, IsTrue};
+ghost use Rattle.replacements.specs.declared.guard.Guard.TheVariants.{Free};
 ghost use Rattle.c_grammar.specs.Touch.{ends, takes_line};
 ghost use Rattle.token_arena.specs.Entries.{told_by};
 ghost use Rattle.replacements.specs.Guards.{guard_before, guard_for, guard_of, guard_text, guarded_ends, is_behind_backslash};
@@ -69,6 +70,19 @@ pub(crate) fn guard_before(arena: &TokenArena<'_, '_>, place: u32) -> Guard
         return Guard::Free;
     }
     guard_of(&arena.get(TokenId(place - 1)))
+}
+
+/// Whether a line end needs nothing.
+#[inline(always)]
+pub(crate) fn is_free(guard: Guard) -> bool
+    ensures { IsTrue result → guard ≡ Free }
+{
+    match guard {
+        Guard::Free => true,
+        Guard::Blank => false,
+        Guard::Splice => false,
+        Guard::Return => false,
+    }
 }
 
 /// Whether the item before it ends in a backslash.

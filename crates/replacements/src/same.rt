@@ -1,15 +1,18 @@
 //! Gaps that the input has as they are decided.
 
-ghost use Rattle.std.specs.Prelude.{◌≡◌, ◌≤◌, length, IsTrue};
+ghost use Rattle.std.specs.Prelude.{◌≡◌, ◌≤◌, ℕ, Bool, true, length, IsTrue};
 ghost use Rattle.gap_text.specs.GapText.{blanks};
-ghost use Rattle.gap_text.specs.declared.Decision.TheVariants.{Spaces};
+ghost use Rattle.gap_text.specs.declared.Decision.TheVariants.{Lines, Spaces};
+ghost use Rattle.style_table.specs.declared.style.Style.{Style};
 ghost use Rattle.token_arena.specs.Entries.{told_by};
 ghost use Rattle.replacements.specs.Same.{ComesNoHash, IsSame};
-ghost use Rattle.replacements.specs.Written.{bytes_between};
+ghost use Rattle.replacements.specs.Written.{bytes_between, is_old};
 
+use crate::guard::{guard_before, is_free};
 use crate::hash::begins_no_hash;
 use c_grammar::ItemKind;
-use gap_text::Decision;
+use gap_text::{Decision, short_lines};
+use style_table::Style;
 use token_arena::{Token, TokenArena};
 
 /// The bytes of a text from one offset up to another.
@@ -60,7 +63,7 @@ fn are_same_blanks(
 ) -> bool
     requires later { at ≤ token.now.item.start }
     requires within { token.now.item.start ≤ length arena.now.text }
-    ensures { IsTrue result → IsSame arena.now at place (Spaces count) (told_by token.now) }
+    ensures { IsTrue result → (style : Style) (crlf : Bool) → IsSame style crlf arena.now at place (Spaces count) (told_by token.now) }
 {
     if !is_blank(between(arena.text(), at, token.item.start as usize), count) {
         return false;
@@ -74,9 +77,55 @@ fn are_same_blanks(
     comes_no_hash(token)
 }
 
-/// Whether what is decided before an item stands there in the input, so that nothing has to be written.
+/// Whether bytes are the same.
+#[inline(always)]
+fn are_equal(a: &[u8], b: &[u8]) -> bool
+    ensures { IsTrue result → a.now ≡ b.now }
+{
+    a == b
+}
+
+/// Whether lines that are decided before an item stand there in the input. No `#` comes where the item begins its line.
+#[inline(always)]
+fn are_same_lines(
+    style: &Style,
+    crlf: bool,
+    arena: &TokenArena<'_, '_>,
+    at: usize,
+    place: u32,
+    token: &Token<'_>,
+    count: u32,
+    column: u32,
+) -> bool
+    requires later { at ≤ token.now.item.start }
+    requires within { token.now.item.start ≤ length arena.now.text }
+    requires here { place ≤ length arena.now.tokens }
+    ensures { IsTrue result → (level : ℕ) → IsSame style.now crlf arena.now at place (Lines count column level) (told_by token.now) }
+{
+    if place == 0 {
+        return false;
+    }
+    if token.gap.began {
+        return match short_lines(style, crlf, count, column) {
+            None => false,
+            Some(piece) => {
+                if are_equal(between(arena.text(), at, token.item.start as usize), piece) {
+                    is_free(guard_before(arena, place))
+                } else {
+                    false
+                }
+            }
+        };
+    }
+    false
+}
+
+/// Whether what is decided before an item stands there in the input, so that nothing has to be written. It does where
+/// the input's bytes stay.
 #[inline(always)]
 pub(crate) fn is_same(
+    style: &Style,
+    crlf: bool,
     arena: &TokenArena<'_, '_>,
     at: usize,
     place: u32,
@@ -85,12 +134,16 @@ pub(crate) fn is_same(
 ) -> bool
     requires later { at ≤ token.now.item.start }
     requires within { token.now.item.start ≤ length arena.now.text }
-    ensures { IsTrue result → IsSame arena.now at place decision (told_by token.now) }
+    requires here { place ≤ length arena.now.tokens }
+    ensures same { IsTrue result → IsSame style.now crlf arena.now at place decision (told_by token.now) }
+    ensures old { is_old decision ≡ true → IsTrue result }
 {
     match decision {
-        Decision::Old => false,
+        Decision::Old => true,
         Decision::Spaces(count) => are_same_blanks(arena, at, place, token, count),
-        Decision::Lines { .. } => false,
+        Decision::Lines { count, column, .. } => {
+            are_same_lines(style, crlf, arena, at, place, token, count, column)
+        }
         Decision::Splice { .. } => false,
     }
 }

@@ -40,13 +40,6 @@ struct Walk {
     held: usize,
 }
 
-/// Whether the input's bytes stay.
-fn is_old(decision: Decision) -> bool
-    ensures { result ≡ is_old decision }
-{
-    matches!(decision, Decision::Old)
-}
-
 /// What a plan decides for a gap: that it stays, where nothing else is decided.
 #[inline(always)]
 fn decision_at(plan: &Plan<'_>, place: u32) -> Decision
@@ -156,9 +149,9 @@ fn write_laid<K: Sink>(
     write_guarded(style, crlf, guard_before(arena, place), decision, b"", sink)
 }
 
-/// Writes what is held and what is decided before an item, or holds the gap too where it is as in the input.
+/// Writes what is held and what is decided before an item whose gap doesn't stay, and holds nothing then.
 #[inline(always)]
-fn write_or_hold<K: Sink>(
+fn write_anew<K: Sink>(
     style: &Style,
     crlf: bool,
     arena: &TokenArena<'_, '_>,
@@ -176,6 +169,7 @@ fn write_or_hold<K: Sink>(
     requires known { IsKnown arena.now.dialect arena.now.tokens place walk.old.run.end walk.old.run.hash }
     requires stands { Stands arena.now.text walk.old.at (told_by token.now) }
     requires held { walk.old.held ≤ walk.old.at }
+    requires anew { is_old decision ≡ false }
     ensures within { walk.new.section ≤ length sections.now }
     ensures later { (k : ℕ) → place ≤ k → stance_in (drop walk.new.section sections.now) k ≡ stance_in sections.now k }
     ensures known { IsKnown arena.now.dialect arena.now.tokens place walk.new.run.end walk.new.run.hash }
@@ -189,12 +183,6 @@ fn write_or_hold<K: Sink>(
         ++ planned_gap style.now crlf arena.now (guard_before arena.now.tokens place) walk.old.at place (stance_in sections.now place) decision (told_by token.now) (drop (place + 1) arena.now.tokens)) }
     ensures counts { Counts (K.faults sink.old) (K.faults sink.new) result }
 {
-    if is_old(decision) {
-        return Ok(());
-    }
-    if is_same(arena, walk.at, place, token, decision) {
-        return Ok(());
-    }
     write_all(sink, between(arena.text(), walk.held, walk.at))?;
     write_laid(
         style, crlf, arena, sections, walk, place, token, decision, sink,
@@ -203,7 +191,7 @@ fn write_or_hold<K: Sink>(
     Ok(())
 }
 
-/// Writes what stands before an item, and holds the item. So a stretch that stays as it is, is written at once.
+/// Writes what stands before an item whose gap doesn't stay, and holds the item.
 #[inline(always)]
 fn write_token<K: Sink>(
     style: &Style,
@@ -224,6 +212,7 @@ fn write_token<K: Sink>(
     requires stand { StandFrom arena.now.text (mark_len arena.now.text) arena.now.tokens }
     requires at { walk.old.at ≡ gap_start (mark_len arena.now.text) arena.now.tokens place }
     requires held { walk.old.held ≤ walk.old.at }
+    requires anew { is_old (decision_at plan.now place) ≡ false }
     ensures within { walk.new.section ≤ length sections.now }
     ensures known { IsKnown arena.now.dialect arena.now.tokens place walk.new.run.end walk.new.run.hash }
     ensures later { (k : ℕ) → place ≤ k → stance_in (drop walk.new.section sections.now) k ≡ stance_in sections.now k }
@@ -239,7 +228,7 @@ fn write_token<K: Sink>(
 {
     let token = arena.get(TokenId(place));
     let decision = decision_at(plan, place);
-    write_or_hold(
+    write_anew(
         style, crlf, arena, sections, walk, place, &token, decision, sink,
     )?;
     walk.at = token.item.start as usize + token.item.raw.len();
@@ -258,6 +247,47 @@ fn first_offset(arena: &TokenArena<'_, '_>) -> usize
     ensures { result ≡ mark_len arena.now.text }
 {
     if arena.mark() { MARK.len() } else { 0 }
+}
+
+/// Passes items from a place on as long as the gap before each is in the input as it is to be written, so that they
+/// are copied in one stretch. The place of the first other item, or behind the last one; `at` is moved to its gap.
+fn pass_same(
+    style: &Style,
+    crlf: bool,
+    arena: &TokenArena<'_, '_>,
+    plan: &Plan<'_>,
+    place: u32,
+    at: &mut usize,
+) -> u32
+    requires whole { length plan.now ≡ length arena.now.tokens + 1 }
+    requires here { place ≤ length arena.now.tokens }
+    requires at { at.old ≡ gap_start (mark_len arena.now.text) arena.now.tokens place }
+    ensures within { result ≤ length arena.now.tokens }
+    ensures later { place ≤ result }
+    ensures at { at.new ≡ gap_start (mark_len arena.now.text) arena.now.tokens result }
+    ensures on { at.old ≤ at.new }
+    ensures anew { result < length arena.now.tokens → is_old (decision_at plan.now result) ≡ false }
+    ensures same { (sections : List Section) → written_from style.now crlf arena.now sections plan.now (guard_before arena.now.tokens place) at.old place (drop place arena.now.tokens)
+        ≡ bytes_between arena.now.text at.old at.new
+        ++ written_from style.now crlf arena.now sections plan.now (guard_before arena.now.tokens result) at.new result (drop result arena.now.tokens) }
+{
+    let count = arena.len();
+    for next in place..count {
+        let token = arena.get(TokenId(next));
+        if !is_same(
+            style,
+            crlf,
+            arena,
+            *at,
+            next,
+            &token,
+            decision_at(plan, next),
+        ) {
+            return next;
+        }
+        *at = token.item.start as usize + token.item.raw.len();
+    }
+    count
 }
 
 /// Writes all items, and the gaps before and behind them.
@@ -283,8 +313,10 @@ fn write_tokens<K: Sink>(
         at: begin,
         held: begin,
     };
-    for place in 0..count {
+    let mut place = pass_same(style, crlf, arena, plan, 0, &mut walk.at);
+    while place < count {
         write_token(style, crlf, arena, sections, plan, &mut walk, place, sink)?;
+        place = pass_same(style, crlf, arena, plan, place + 1, &mut walk.at);
     }
     write_all(sink, between(arena.text(), walk.held, walk.at))?;
     let decision = decision_at(plan, count);

@@ -7,17 +7,17 @@ use Rattle.replacements.proofs.SameGaps.{same_blank, same_blanks}
 use Rattle.replacements.proofs.same.are_same_blanks.Goals as goal
 
 pub returns-then-count-eq1 : goal.returns-then-count-eq1
-returns-then-count-eq1 c = λ h.
+returns-then-count-eq1 c = λ h style crlf.
     let arena = c.args.arena.now in
     let token = told_by c.args.token.now in
     let gap : bytes_between arena.text c.args.at token.start ≡ blanks c.args.count =
     sym (c.between.ensures ∙ ap (λ z. bytes_between z c.args.at token.start) c.text.ensures) ∙ c.is_blank.ensures (search rules) in
-    same_blank arena c.args.at c.args.place (Spaces c.args.count) token c.if-place-eq0.false (ap Spaces c.if-count-eq1.true) (gap ∙ ap blanks c.if-count-eq1.true)
+    same_blank style crlf arena c.args.at c.args.place (Spaces c.args.count) token c.if-place-eq0.false (ap Spaces c.if-count-eq1.true) (gap ∙ ap blanks c.if-count-eq1.true)
 
 pub returns : goal.returns
-returns c = λ h.
+returns c = λ h style crlf.
     let arena = c.args.arena.now in
     let token = told_by c.args.token.now in
     let gap : bytes_between arena.text c.args.at token.start ≡ blanks c.args.count =
     sym (c.between.ensures ∙ ap (λ z. bytes_between z c.args.at token.start) c.text.ensures) ∙ c.is_blank.ensures (search rules) in
-    same_blanks arena c.args.at c.args.place c.args.count (Spaces c.args.count) token c.if-place-eq0.false refl (c.comes_no_hash.ensures h) gap
+    same_blanks style crlf arena c.args.at c.args.place c.args.count (Spaces c.args.count) token c.if-place-eq0.false refl (c.comes_no_hash.ensures h) gap
