@@ -272,21 +272,17 @@ fn pass_same(
         ++ written_from style.now crlf arena.now sections plan.now (guard_before arena.now.tokens result) at.new result (drop result arena.now.tokens) }
 {
     let count = arena.len();
+    let mut here = *at;
     for next in place..count {
         let token = arena.get(TokenId(next));
-        if !is_same(
-            style,
-            crlf,
-            arena,
-            *at,
-            next,
-            &token,
-            decision_at(plan, next),
-        ) {
+        let decision = decision_at(plan, next);
+        if !is_same(style, crlf, arena, here, next, &token, decision) {
+            *at = here;
             return next;
         }
-        *at = token.item.start as usize + token.item.raw.len();
+        here = token.item.start as usize + token.item.raw.len();
     }
+    *at = here;
     count
 }
 

@@ -22,7 +22,7 @@ pub is_same-requires : goal.is_same-requires
 is_same-requires c =
     let arena = c.args.arena.now in
     let token = told_by c.get-token.result in
-    let stands : Stands arena.text c.loop-next.at token = rw c.loop-next.invariant.at (stands_at arena.text (mark_len arena.text) arena.tokens c.loop-next.next token c.len-count.ensures.stand c.get-token.ensures) in
+    let stands : Stands arena.text c.loop-next.here token = rw c.loop-next.invariant.at (stands_at arena.text (mark_len arena.text) arena.tokens c.loop-next.next token c.len-count.ensures.stand c.get-token.ensures) in
     record {
       later = stands.later;
       within = omega (arith, stands.within);
@@ -33,12 +33,12 @@ pub loop-next-preserved : goal.loop-next-preserved
 loop-next-preserved c =
     let arena = c.args.arena.now in
     let token = told_by c.get-token.result in
-    let at = c.loop-next.at in
+    let at = c.loop-next.here in
     let stands : Stands arena.text at token = rw c.loop-next.invariant.at (stands_at arena.text (mark_len arena.text) arena.tokens c.loop-next.next token c.len-count.ensures.stand c.get-token.ensures) in
     let start : gap_start (mark_len arena.text) arena.tokens (c.loop-next.next + 1) ≡ behind token = gap_start-next (mark_len arena.text) arena.tokens c.loop-next.next token c.get-token.ensures in
     record {
       at = sym start;
       on = omega (arith, c.loop-next.invariant.on, stands.later);
       same = λ sections. passed_more c.args.style.now c.args.crlf arena sections c.args.plan.now at c.loop-next.next c.args.at.now token _ stands c.loop-next.invariant.on c.get-token.ensures
-          (rw c.decision_at.ensures at c.is_same.ensures.same (search rules)) (c.loop-next.invariant.same sections);
+          (rw c.decision_at-decision.ensures at c.is_same.ensures.same (search rules)) (c.loop-next.invariant.same sections);
     }

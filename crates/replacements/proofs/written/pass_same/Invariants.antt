@@ -8,9 +8,9 @@ use Rattle.replacements.proofs.written.pass_same.Given as goal
 
 abbrev pub invariant-loop-next : goal.invariant-loop-next
 invariant-loop-next l = record {
-  at : l.at ≡ gap_start (mark_len l.arena.text) l.arena.tokens l.next;
-  on : l.initial.at ≤ l.at;
-  same : (sections : List Section) → written_from l.style l.crlf l.arena sections l.plan (guard_before l.arena.tokens l.place) l.initial.at l.place (drop l.place l.arena.tokens)
-      ≡ bytes_between l.arena.text l.initial.at l.at
-      ++ written_from l.style l.crlf l.arena sections l.plan (guard_before l.arena.tokens l.next) l.at l.next (drop l.next l.arena.tokens);
+  at : l.here ≡ gap_start (mark_len l.arena.text) l.arena.tokens l.next;
+  on : l.fn.at ≤ l.here;
+  same : (sections : List Section) → written_from l.style l.crlf l.arena sections l.plan (guard_before l.arena.tokens l.place) l.fn.at l.place (drop l.place l.arena.tokens)
+      ≡ bytes_between l.arena.text l.fn.at l.here
+      ++ written_from l.style l.crlf l.arena sections l.plan (guard_before l.arena.tokens l.next) l.here l.next (drop l.next l.arena.tokens);
 }
