@@ -7,6 +7,7 @@ ghost use Rattle.brackets.specs.Viewed.{AreWithin, item_class, item_classes, cla
 
 use crate::class::TokenClass;
 use crate::pairing::partners_of_classes;
+use crate::partner::Partner;
 use crate::{spelling, words};
 use bumpalo::Bump;
 use bumpalo::collections::into_bump_slice;
@@ -113,7 +114,7 @@ pub fn partners<'r>(
     arena: &TokenArena<'_, '_>,
     view: &View<'_>,
     run: &'r Bump,
-) -> Result<&'r [Option<u32>], NoMemory>
+) -> Result<&'r [Partner], NoMemory>
     requires { AreWithin arena.now view.now }
     ensures { IfOk result (λ partners. partners.now ≡ partners_of (classes_of arena.now view.now)) }
 {
