@@ -6,6 +6,7 @@ mod characters;
 mod class;
 mod class_sets;
 mod kept;
+mod listed;
 mod pairing;
 mod partner;
 mod spelling;
