@@ -12,6 +12,7 @@ use bumpalo::collections::into_bump_slice_mut;
 use line_tokens::NoMemory;
 
 /// Marks the topmost opener, where that is a brace and a `(` or `[` waits below it, and tells whether it did.
+#[inline(always)]
 fn mark_topmost(stack: &[Opener], braces: usize, marks: &mut [bool]) -> bool
     requires count { braces ≡ count_braces (reverse stack.now) }
     requires openers { AreOpeners (reverse stack.now) }

@@ -39,6 +39,7 @@ fn take_brace(stack: &mut Vec<Opener, &Bump>, braces: &mut usize) -> Option<u32>
 }
 
 /// Takes off the topmost opener, where it is a square one.
+#[inline(always)]
 fn take_square(stack: &mut Vec<Opener, &Bump>) -> Option<u32>
     ensures some { IfSome result (λ p. topmost is_square (reverse stack.old.items) ≡ Some (record { place = p; below = reverse stack.new.items })) }
     ensures none { IfNone result (topmost is_square (reverse stack.old.items) ≡ None) }
@@ -60,6 +61,7 @@ fn take_square(stack: &mut Vec<Opener, &Bump>) -> Option<u32>
 }
 
 /// Takes off the topmost opener, where it is a round one.
+#[inline(always)]
 fn take_round(stack: &mut Vec<Opener, &Bump>) -> Option<u32>
     ensures some { IfSome result (λ p. topmost is_round (reverse stack.old.items) ≡ Some (record { place = p; below = reverse stack.new.items })) }
     ensures none { IfNone result (topmost is_round (reverse stack.old.items) ≡ None) }
@@ -81,6 +83,7 @@ fn take_round(stack: &mut Vec<Opener, &Bump>) -> Option<u32>
 }
 
 /// Makes the two places partners.
+#[inline(always)]
 fn match_up(partners: &mut [Partner], o: u32, i: u32)
     requires few { length partners.old < 2 ^ 32 }
     requires opener { o < length partners.old }
@@ -92,6 +95,7 @@ fn match_up(partners: &mut [Partner], o: u32, i: u32)
 }
 
 /// Makes the opener and the closer partners, where the closer has one.
+#[inline(always)]
 fn close(partners: &mut [Partner], o: Option<u32>, i: u32)
     requires few { length partners.old < 2 ^ 32 }
     requires opener { ForSome o (λ p. p < length partners.old) }
@@ -104,6 +108,7 @@ fn close(partners: &mut [Partner], o: Option<u32>, i: u32)
 }
 
 /// One token, as far as the openers that wait go: the place of the opener that it takes off.
+#[inline(always)]
 pub(crate) fn waiting_step(
     stack: &mut Vec<Opener, &Bump>,
     braces: &mut usize,
@@ -137,6 +142,7 @@ pub(crate) fn waiting_step(
 }
 
 /// One token.
+#[inline(always)]
 fn bracket_step(
     stack: &mut Vec<Opener, &Bump>,
     braces: &mut usize,
