@@ -107,6 +107,15 @@ fn close(partners: &mut [Partner], o: Option<u32>, i: u32)
     }
 }
 
+/// Lets an opener wait. It stands apart since it may have to take memory.
+#[inline(never)]
+fn push_opener(stack: &mut Vec<Opener, &Bump>, place: u32, kind: TokenClass) -> Result<(), NoMemory>
+    ensures items { OnOk result (stack.new.items ≡ stack.old.items ++ record { place = place; kind = kind } ∷ []) }
+{
+    stack.push(Opener { place, kind })?;
+    Ok(())
+}
+
 /// One token, as far as the openers that wait go: the place of the opener that it takes off.
 #[inline(always)]
 pub(crate) fn waiting_step(
@@ -124,14 +133,17 @@ pub(crate) fn waiting_step(
     ensures small { OnOk result (braces.new ≤ i + 1) }
     ensures before { OnOk result (StandBefore (i + 1) (reverse stack.new.items)) }
 {
+    if !c.is_bracket() {
+        return Ok(None);
+    }
     match c {
         TokenClass::OpenRound | TokenClass::OpenSquare => {
-            stack.push(Opener { place: i, kind: c })?;
+            push_opener(stack, i, c)?;
             Ok(None)
         }
         TokenClass::OpenBrace => {
             *braces += 1;
-            stack.push(Opener { place: i, kind: c })?;
+            push_opener(stack, i, c)?;
             Ok(None)
         }
         TokenClass::CloseRound => Ok(take_round(stack)),
