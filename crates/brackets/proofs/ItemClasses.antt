@@ -97,3 +97,15 @@ pub all_classes : (arena : Contents) (classes : List TokenClass) (i : ℕ) → l
     → ((k : ℕ) → k < i → get_or classes k Nothing ≡ get_or (item_classes arena) k Nothing) → classes ≡ item_classes arena
 all_classes arena classes i count done same =
     ext_get_or Nothing classes (item_classes arena) (count ∙ sym (length-map arena.tokens (class_of arena.dialect))) (λ k h. same k (omega (arith, h, done)))
+
+-- the classes of a view of one segment stand in a row among those of the text
+pub only_segment : (arena : Contents) (ids : List ℕ) (segments : List Segment) → AreSegments segments → ids_of (map segment_bounds segments) ≡ ids
+    → All (λ id. id < length arena.tokens) ids → length segments ≡ 1
+    → take ((get_or segments 0 no_segment).end - (get_or segments 0 no_segment).first) (drop (get_or segments 0 no_segment).first (item_classes arena)) ≡ map (item_class arena) ids
+only_segment arena ids [] rule is within one = absurd (omega (arith, one))
+only_segment arena ids (segment ∷ []) rule is within one =
+    let count = segment.end - segment.first in
+    let fits = viewed_fits (length arena.tokens) ids (segment ∷ []) 0 rule is within (omega arith) in
+    row_classes arena segment.first count (omega (arith, fits.some, fits.end))
+    ∙ ap (map (item_class arena)) (sym (append-nil (range_with_len segment.first count)) ∙ is)
+only_segment arena ids (first ∷ second ∷ segments) rule is within one = absurd (omega (arith, one))

@@ -93,9 +93,8 @@ pub fn item_classes<'a>(
     Ok(classes)
 }
 
-/// The class of each place of a view, taken from the classes of all items of its text. Want of memory is the only
-/// error.
-pub fn classes_among<'r>(
+/// The class of each place of a view, copied from the classes of all items of its text, segment by segment.
+fn copied_classes<'r>(
     all: &[TokenClass],
     arena: &TokenArena<'_, '_>,
     view: &View<'_>,
@@ -114,6 +113,31 @@ pub fn classes_among<'r>(
         classes.extend_from_slice(&all[segment.first as usize..segment.end as usize])?;
     }
     Ok(into_bump_slice(classes))
+}
+
+/// The class of each place of a view, taken from the classes of all items of its text. Want of memory is the only
+/// error.
+///
+/// Those of a view of items in a row are lent, and take no memory.
+pub fn classes_among<'r>(
+    all: &'r [TokenClass],
+    arena: &TokenArena<'_, '_>,
+    view: &View<'_>,
+    run: &'r Bump,
+) -> Result<&'r [TokenClass], NoMemory>
+    requires all { all.now ≡ item_classes arena.now }
+    requires within { AreWithin arena.now view.now }
+    ensures classes { IfOk result (λ classes. classes.now ≡ classes_of arena.now view.now) }
+    ensures few { IfOk result (λ classes. length classes.now ≤ LIMIT) }
+{
+    let segments = view.segments();
+    if segments.len() == 1 {
+        let only = segments[0];
+        let items = arena.len();
+        prove!(only.end <= items);
+        return Ok(&all[only.first as usize..only.end as usize]);
+    }
+    copied_classes(all, arena, view, run)
 }
 
 /// The class of each place of a view.
