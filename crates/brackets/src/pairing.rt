@@ -96,7 +96,7 @@ fn match_up(partners: &mut [Partner], o: u32, i: u32)
 
 /// Makes the opener and the closer partners, where the closer has one.
 #[inline(always)]
-fn close(partners: &mut [Partner], o: Option<u32>, i: u32)
+pub(crate) fn close(partners: &mut [Partner], o: Option<u32>, i: u32)
     requires few { length partners.old < 2 ^ 32 }
     requires opener { ForSome o (λ p. p < length partners.old) }
     requires closer { i < length partners.old }
