@@ -1,5 +1,5 @@
 -- What a run decides, in its order: docs/PROFILE.md, "Layout of lines".
-use Rattle.std.specs.Prelude.{◌<◌, ◌≤◌, ℕ, zero, suc, ◌+◌, ◌-◌, Option, Some, None, IsSome, List, [], ◌∷◌, ◌++◌, get_or}
+use Rattle.std.specs.Prelude.{◌≡◌, ◌<◌, ◌≤◌, ℕ, zero, suc, ◌+◌, ◌-◌, Option, Some, None, IsSome, List, [], ◌∷◌, ◌++◌, get_or}
 use Rattle.style_table.specs.declared.style.Style.{Style}
 use Rattle.token_arena.specs.Gaps.{Contents}
 use Rattle.unwrapped_lines.specs.declared.line.ULine.{ULine}
@@ -31,6 +31,11 @@ decisions_from style arena ids line plan column k (suc count) =
     let slot = slot_at style arena ids line column k in
     let after = decided plan id slot in
     (id, slot) ∷ decisions_from style arena ids line after (column_after arena after id) (k + 1) count
+
+-- The decisions for the places of a line from this one on go on at a later place from this plan and this column.
+abbrev pub GoesOn : Style → Contents → List ℕ → ULine → List (Option Slot) → ℕ → ℕ → List (Option Slot) → ℕ → ℕ → Type 0
+GoesOn style arena ids line plan column k after next later =
+    (more : ℕ) → decided_all after (decisions_from style arena ids line after next later more) ≡ decided_all plan (decisions_from style arena ids line plan column k (later - k + more))
 
 -- the decisions for a line
 abbrev pub line_decisions : Style → Contents → List ℕ → List (Option Slot) → ULine → List (ℕ × Slot)

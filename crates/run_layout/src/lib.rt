@@ -10,6 +10,7 @@ mod item;
 mod laws;
 mod rows;
 mod run;
+mod stretches;
 #[cfg(test)]
 mod tests;
 
