@@ -30,6 +30,7 @@ pub struct Token<'s> {
 
 impl Token<'_> {
     /// Its rows. They are read from its bytes at each call, so that nobody pays for them who doesn't ask.
+    #[inline(always)]
     pub fn rows(&self) -> Rows
         requires { length self.now.item.raw.now < 2 ^ 31 }
         ensures count { result.count ≡ (told_by self.now).rows }
