@@ -9,6 +9,7 @@ use Rattle.token_arena.specs.Gaps.{Contents}
 use Rattle.brackets.specs.Viewed.{AreWithin}
 use Rattle.replacements.specs.declared.slot.Slot.{Slot}
 use Rattle.replacements.specs.Decisions.{slot_of}
+use Rattle.run_layout.specs.Run.{IsRowDecided}
 use Rattle.run_layout.specs.Stretches.{AreFrom, IsRest, IsLeft}
 
 one_alone : (ids : List ℕ) (k first left j : ℕ) → left ≡ 1 → get_or ids k 0 ≡ first → j < left → get_or ids (k + j) 0 ≡ first + j
@@ -49,7 +50,7 @@ before_or_in j k = grind arith
 
 -- gaps that are decided from a place up to a stretch, and those of the stretch
 pub decided_further : (plan : List (Option Slot)) (ids : List ℕ) (from k : ℕ) (stretch : Stretch) → AreFrom ids k stretch
-    → ((j : ℕ) → from ≤ j → j < k → IsSome (slot_of plan (get_or ids j 0))) → ((id : ℕ) → stretch.first ≤ id → id < stretch.end → IsSome (slot_of plan id))
+    → ((j : ℕ) → from ≤ j → j < k → IsSome (slot_of plan (get_or ids j 0))) → IsRowDecided plan stretch.first stretch.end
     → (j : ℕ) → from ≤ j → j < k + (stretch.end - stretch.first) → IsSome (slot_of plan (get_or ids j 0))
 decided_further plan ids from k stretch are before there j low high = elim (before_or_in j k) [
   | inl less ↦ before j low less

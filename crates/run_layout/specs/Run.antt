@@ -45,6 +45,10 @@ line_decisions style arena ids plan line = decisions_from style arena ids line p
 abbrev pub AreDecided : List (Option Slot) → List ℕ → ULine → Type 0
 AreDecided plan ids line = (k : ℕ) → line.first ≤ k → k < line.last + 1 → IsSome (slot_of plan (get_or ids k 0))
 
+-- the gap before each item from one up to another is decided
+abbrev pub IsRowDecided : List (Option Slot) → ℕ → ℕ → Type 0
+IsRowDecided plan first end = (id : ℕ) → first ≤ id → id < end → IsSome (slot_of plan id)
+
 -- the decisions of a run: line by line
 abbrev pub run_decisions : Style → Contents → List ℕ → List (Option Slot) → List ULine → List (ℕ × Slot)
 run_decisions style arena ids plan [] = []

@@ -1,11 +1,11 @@
 //! The decisions of a run.
 
-ghost use Rattle.std.specs.Prelude.{◌≡◌, ◌<◌, ◌≤◌, ◌+◌, ◌-◌, ℕ, IsSome, IsTrue, length};
+ghost use Rattle.std.specs.Prelude.{◌≡◌, ◌<◌, ◌≤◌, ◌+◌, ◌-◌, IsTrue, length};
 ghost use Rattle.brackets.specs.Viewed.{AreWithin, classes_of};
 ghost use Rattle.unwrapped_lines.specs.Lines.{CutPlaces};
 ghost use Rattle.replacements.specs.Decisions.{decided, decided_all, slot_of};
 ghost use Rattle.run_layout.specs.Rows.{decision_at};
-ghost use Rattle.run_layout.specs.Run.{AreDecided, GoesOn, start_of, line_decisions, run_decisions};
+ghost use Rattle.run_layout.specs.Run.{AreDecided, IsRowDecided, GoesOn, start_of, line_decisions, run_decisions};
 ghost use Rattle.run_layout.specs.Stretches.{AreFrom};
 
 use crate::columns::{behind, start_behind};
@@ -35,13 +35,13 @@ fn decide(plan: &mut Plan<'_>, id: u32, decision: Decision, end: u32) -> u32
     end
 }
 
-/// Whether the gaps of these items are decided.
+/// Whether the gap before each item from one up to another is decided.
 #[inline(always)]
-fn are_decided(stretch: Stretch, plan: &Plan<'_>) -> bool
-    requires { stretch.end ≤ length plan.now }
-    ensures { IsTrue result → ((id : ℕ) → stretch.first ≤ id → id < stretch.end → IsSome (slot_of plan.now id)) }
+pub fn is_row_decided(plan: &Plan<'_>, first: u32, end: u32) -> bool
+    requires { end ≤ length plan.now }
+    ensures { IsTrue result → IsRowDecided plan.now first end }
 {
-    for id in stretch.first..stretch.end {
+    for id in first..end {
         if !plan.is_decided(id) {
             return false;
         }
@@ -68,7 +68,7 @@ fn is_decided(
     let mut k = line.first;
     while k <= line.last {
         let stretch = stretch_near(arena, view, k, line.last + 1, segment);
-        if !are_decided(stretch, plan) {
+        if !is_row_decided(plan, stretch.first, stretch.end) {
             return false;
         }
         k += stretch.end - stretch.first;
