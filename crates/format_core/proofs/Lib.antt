@@ -5,8 +5,8 @@ pub mod EarlySections
 pub mod Planned
 pub mod OfTexts
 pub mod Decided
-pub mod EveryGap
 pub mod Stays
+pub mod EveryGap
 pub mod SoundPlan
 pub mod NothingNew
 pub mod RowsDecided

@@ -145,7 +145,8 @@ goes_next style arena ids line stretch plan after column next k id start end dec
 
 -- ## Lines that are decided
 
-decided_again : (plan : List (Option Slot)) (id : ℕ) (slot : Slot) → IsSome (slot_of plan id) → decided plan id slot ≡ plan
+-- a decision for a decided gap changes nothing
+pub decided_again : (plan : List (Option Slot)) (id : ℕ) (slot : Slot) → IsSome (slot_of plan id) → decided plan id slot ≡ plan
 decided_again plan id slot some = elim (slot_of plan id) as (λ o. IsSome o → (if is_some o then plan else slice_set plan id (Some slot)) ≡ plan) [
   | None ↦ λ h. absurd (none_is_none h)
   | Some first ↦ λ h. refl
