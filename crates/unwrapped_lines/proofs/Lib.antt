@@ -8,3 +8,4 @@ pub mod EndLemmas
 pub mod CutLemmas
 pub mod Started
 pub mod ColonLemmas
+pub mod PlainLemmas

@@ -1,15 +1,15 @@
 //! The unwrapped lines of a view.
 
-ghost use Rattle.std.specs.Prelude.{◌≡◌, ◌<◌, ◌≤◌, ◌^◌, length, IfOk};
+ghost use Rattle.std.specs.Prelude.{◌≡◌, ◌<◌, ◌≤◌, ◌^◌, length, map, IfOk};
 ghost use Rattle.brackets.specs.Viewed.{AreWithin, classes_of};
-ghost use Rattle.unwrapped_lines.specs.Lines.{lines_between, line_up_to, tree_of, unwrapped_lines_of, CutPlaces};
+ghost use Rattle.unwrapped_lines.specs.Lines.{lines_between, line_up_to, tree_of, unwrapped_lines_of, view_line, CutPlaces};
 ghost use Rattle.unwrapped_lines.specs.Stack.{IsCut};
 
 use crate::braces::braces_of;
 use crate::colons::colons;
 use crate::comments::begins;
 use crate::ending::end_level;
-use crate::line::ULine;
+use crate::line::{Line, ULine};
 use crate::part::Begin;
 use crate::tree::tree_lines;
 use crate::viewed::{code_tokens, parts};
@@ -45,6 +45,22 @@ fn lines_between<'r>(
     Ok(lines)
 }
 
+/// The lines of a view without comments: the number of a token is its place.
+fn token_lines<'r>(lines: &[Line], run: &'r Bump) -> Result<Vec<ULine, &'r Bump>, NoMemory>
+    ensures { IfOk result (λ view. view.items ≡ map view_line lines.now) }
+{
+    let mut view_lines = Vec::with_capacity(run, lines.len())?;
+    for line in lines {
+        view_lines.push(ULine {
+            first: line.first,
+            last: line.end.saturating_sub(1),
+            level: line.level,
+            kind: line.kind,
+        })?;
+    }
+    Ok(view_lines)
+}
+
 /// The lines, and that those of the tokens that are no comments cut these.
 fn read_lines<'r>(
     style: &Style,
@@ -64,9 +80,12 @@ fn read_lines<'r>(
     prove!(count <= items);
     let braces = braces_of(style);
     let tokens = code_tokens(arena, view, classes, partners, run)?;
-    let parts = parts(arena, view, classes, run)?;
     let colons = colons(&tokens, run)?;
     let tree = tree_lines(&braces, &tokens, &colons, run)?;
+    if tokens.len() == count as usize {
+        return token_lines(&tree, run);
+    }
+    let parts = parts(arena, view, classes, run)?;
     let level = end_level(&braces, &tokens, &colons, run)?;
     let begins = begins(&tree, tokens.len(), level, &parts, run)?;
     lines_between(count, &begins, run)
