@@ -9,3 +9,4 @@ pub mod CutLemmas
 pub mod Started
 pub mod ColonLemmas
 pub mod PlainLemmas
+pub mod NumberLemmas

@@ -13,7 +13,7 @@ use crate::line::{Line, ULine};
 use crate::part::Begin;
 use crate::tree::tree_lines;
 use crate::viewed::{code_tokens, parts};
-use brackets::{TokenClass, classes};
+use brackets::{Partner, TokenClass, classes};
 use bumpalo::Bump;
 use bumpalo::collections::into_bump_slice;
 use line_tokens::NoMemory;
@@ -67,7 +67,7 @@ fn read_lines<'r>(
     arena: &TokenArena<'_, '_>,
     view: &View<'_>,
     classes: &[TokenClass],
-    partners: &[Option<u32>],
+    partners: &[Partner],
     run: &'r Bump,
 ) -> Result<Vec<ULine, &'r Bump>, NoMemory>
     requires within { AreWithin arena.now view.now }
@@ -100,7 +100,7 @@ pub fn lines_of_classes<'r>(
     arena: &TokenArena<'_, '_>,
     view: &View<'_>,
     classes: &[TokenClass],
-    partners: &[Option<u32>],
+    partners: &[Partner],
     run: &'r Bump,
 ) -> Result<&'r [ULine], NoMemory>
     requires within { AreWithin arena.now view.now }
@@ -117,7 +117,7 @@ pub fn lines<'r>(
     style: &Style,
     arena: &TokenArena<'_, '_>,
     view: &View<'_>,
-    partners: &[Option<u32>],
+    partners: &[Partner],
     run: &'r Bump,
 ) -> Result<&'r [ULine], NoMemory>
     requires { AreWithin arena.now view.now }
