@@ -10,3 +10,4 @@ pub mod Started
 pub mod ColonLemmas
 pub mod PlainLemmas
 pub mod NumberLemmas
+pub mod SegmentLemmas

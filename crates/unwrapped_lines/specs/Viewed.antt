@@ -1,6 +1,7 @@
 -- A view as a list of tokens and comments.
-use Rattle.std.specs.Prelude.{◌≡◌, ◌⊎◌, ◌&&◌, ◌||◌, not, ℕ, ◌+◌, nat_le, Bool, false, Option, Some, None, List, [], ◌∷◌, length, map, get_or, slice_get, if◌then◌else◌}
+use Rattle.std.specs.Prelude.{◌≡◌, ◌≤◌, ◌-◌, ◌⊎◌, ◌++◌, drop, ◌&&◌, ◌||◌, not, ℕ, ◌+◌, nat_le, Bool, false, Option, Some, None, List, [], ◌∷◌, length, map, get_or, slice_get, if◌then◌else◌}
 use Rattle.std.specs.List.{range_with_len}
+use Rattle.token_views.specs.declared.view.Segment.{Segment}
 use Rattle.token_arena.specs.Gaps.{Contents}
 use Rattle.token_arena.specs.Stored.{Stored}
 use Rattle.brackets.specs.declared.class.TokenClass.{TokenClass}
@@ -72,6 +73,15 @@ code_places_from k (c ∷ cs) = if is_comment c then code_places_from (k + 1) cs
 -- the tokens of a view that are no comments, with their partners
 abbrev pub code_tokens : Contents → List ℕ → List TokenClass → List (Option ℕ) → List CodeToken
 code_tokens arena ids classes partners = map (token_at arena ids classes partners) (code_places_from 0 classes)
+
+-- these are the tokens of a view that stand before a place
+pub record AreTokensBefore (arena : Contents) (ids : List ℕ) (classes : List TokenClass) (partners : List (Option ℕ)) (k : ℕ) (tokens : List CodeToken) : Type 0 where
+  pub same : tokens ++ map (token_at arena ids classes partners) (code_places_from k (drop k classes)) ≡ code_tokens arena ids classes partners
+  pub few : length tokens ≤ k
+
+-- the first place behind a segment
+abbrev pub segment_stop : Segment → ℕ
+segment_stop segment = segment.before + (segment.end - segment.first)
 
 -- ## Comments
 

@@ -1,12 +1,13 @@
 //! A view as a list of tokens and comments.
 
-ghost use Rattle.std.specs.Prelude.{◌≡◌, ◌<◌, ◌≤◌, ◌+◌, ◌^◌, length, map, get_or, slice_get, IfOk, Some, true};
+ghost use Rattle.std.specs.Prelude.{◌≡◌, ◌&&◌, ◌<◌, ◌≤◌, ◌+◌, ◌^◌, length, map, get_or, slice_get, IfOk, Some, true};
 ghost use Rattle.brackets.specs.Viewed.{AreWithin, classes_of};
-ghost use Rattle.brackets.specs.Classes.{is_comment};
+ghost use Rattle.brackets.specs.Classes.{is_colon, is_comment};
 ghost use Rattle.brackets.specs.declared.class.TokenClass.TheVariants.{Nothing};
-ghost use Rattle.unwrapped_lines.specs.Viewed.{item_began, line_ends_behind, colon_touches, numbers_of, AreNumbers, partner_number, token_at, code_tokens, part_of, parts_of};
+ghost use Rattle.unwrapped_lines.specs.Viewed.{item_began, line_ends_behind, colon_touches, numbers_of, AreNumbers, AreTokensBefore, segment_stop, partner_number, token_at, code_tokens, part_of, parts_of};
 ghost use Rattle.std.specs.Bool.{OnFalse};
 ghost use Rattle.std.specs.List.{range_with_len};
+ghost use Rattle.token_views.specs.Segments.{ids_of, segment_bounds, AreSegments, no_segment};
 ghost use Rattle.c_chars.specs.declared.TheConstants.{LIMIT};
 
 use crate::part::Part;
@@ -15,7 +16,7 @@ use brackets::{Partner, TokenClass, item_class};
 use bumpalo::Bump;
 use line_tokens::{NoMemory, TokenId};
 use token_arena::TokenArena;
-use token_views::View;
+use token_views::{Segment, View};
 
 /// Whether an item began its line.
 fn item_began(arena: &TokenArena<'_, '_>, id: u32) -> bool
@@ -137,6 +138,60 @@ fn partner_number(
     }
 }
 
+/// The token with a number, of this class, with this partner.
+#[inline(always)]
+fn code_token(
+    arena: &TokenArena<'_, '_>,
+    id: u32,
+    class: TokenClass,
+    partner: Partner,
+    run: &Bump,
+) -> Result<CodeToken, NoMemory>
+    requires { id < length arena.now.tokens }
+    ensures { IfOk result (λ token. token ≡ record { class = class; began = item_began arena.now id; touched = is_colon class && colon_touches arena.now id; partner = partner }) }
+{
+    Ok(CodeToken {
+        class,
+        began: began(arena, id),
+        touched: class.is_colon() && colon_touches(arena, id, run)?,
+        partner,
+    })
+}
+
+/// Appends the tokens of the segment with a number that are no comments, with their partners.
+#[inline(always)]
+fn push_segment(
+    arena: &TokenArena<'_, '_>,
+    segments: &[Segment],
+    number: usize,
+    classes: &[TokenClass],
+    numbers: &[u32],
+    partners: &[Partner],
+    tokens: &mut Vec<CodeToken, &Bump>,
+    run: &Bump,
+) -> Result<(), NoMemory>
+    requires rule { AreSegments segments.now }
+    requires number { number < length segments.now }
+    requires within { AreWithin arena.now (ids_of (map segment_bounds segments.now)) }
+    requires places { length classes.now ≡ length (ids_of (map segment_bounds segments.now)) }
+    requires few { length classes.now ≤ LIMIT }
+    requires numbers { AreNumbers numbers.now classes.now }
+    requires before { AreTokensBefore arena.now (ids_of (map segment_bounds segments.now)) classes.now partners.now (get_or segments.now number no_segment).before tokens.old.items }
+    ensures { IfOk result (λ u. AreTokensBefore arena.now (ids_of (map segment_bounds segments.now)) classes.now partners.now (segment_stop (get_or segments.now number no_segment)) tokens.new.items) }
+{
+    let segment = segments[number];
+    let mut k = segment.before as usize;
+    for id in segment.first..segment.end {
+        let class = classes[k];
+        if !class.is_comment() {
+            let partner = partner_number(classes, numbers, partners, k);
+            tokens.push(code_token(arena, id, class, partner, run)?)?;
+        }
+        k += 1;
+    }
+    Ok(())
+}
+
 /// The tokens of a view that are no comments, with their partners.
 pub(crate) fn code_tokens<'r>(
     arena: &TokenArena<'_, '_>,
@@ -153,17 +208,18 @@ pub(crate) fn code_tokens<'r>(
 {
     let numbers = numbers(classes, run)?;
     let mut tokens = Vec::with_capacity(run, classes.len())?;
-    let mut segment = 0;
-    for (k, class) in classes.iter().enumerate() {
-        if !class.is_comment() {
-            let id = view.at_near(k as u32, &mut segment);
-            tokens.push(CodeToken {
-                class: *class,
-                began: began(arena, id.0),
-                touched: class.is_colon() && colon_touches(arena, id.0, run)?,
-                partner: partner_number(classes, &numbers, partners, k),
-            })?;
-        }
+    let segments = view.segments();
+    for number in 0..segments.len() {
+        push_segment(
+            arena,
+            segments,
+            number,
+            classes,
+            &numbers,
+            partners,
+            &mut tokens,
+            run,
+        )?;
     }
     Ok(tokens)
 }

@@ -1,4 +1,4 @@
-use Rattle.std.proofs.Common.{◌<◌, arith}
+use Rattle.std.proofs.Common.{arith}
 use Rattle.unwrapped_lines.proofs.NumberLemmas.{code_numbers}
 use Rattle.unwrapped_lines.proofs.viewed.has_comment.Goals as goal
 

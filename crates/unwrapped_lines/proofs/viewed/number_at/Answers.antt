@@ -1,4 +1,4 @@
-use Rattle.std.proofs.Common.{◌∙◌, ◌<◌, ◌≤◌, arith, length}
+use Rattle.std.proofs.Common.{◌∙◌, ◌<◌, arith, length}
 use Rattle.unwrapped_lines.proofs.NumberLemmas.{number_past, number_within, number_few, number_read, number_same}
 use Rattle.unwrapped_lines.proofs.viewed.number_at.Goals as goal
 
