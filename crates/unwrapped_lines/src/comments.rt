@@ -9,6 +9,7 @@ use bumpalo::Bump;
 use line_tokens::NoMemory;
 
 /// Whether a token comes after the inner comments at a place.
+#[inline(never)]
 fn token_follows(parts: &[Part], from: usize) -> bool
     requires { from ≤ length parts.now }
     ensures { result ≡ token_follows (drop from parts.now) }
@@ -36,6 +37,7 @@ fn is_between(lines: &[Line], total: usize, end_level: u32, m: Marks) -> bool
     }
 }
 
+#[inline(always)]
 fn begins_line(parts: &[Part], k: usize, p: Part, m: Marks) -> bool
     requires { k < length parts.now }
     ensures { result ≡ begins_line p (drop (k + 1) parts.now) m }
@@ -48,6 +50,7 @@ fn begins_line(parts: &[Part], k: usize, p: Part, m: Marks) -> bool
 }
 
 /// The line that begins at a place.
+#[inline(always)]
 fn new_begin(
     lines: &[Line],
     total: usize,
@@ -89,6 +92,7 @@ fn new_begin(
     }
 }
 
+#[inline(always)]
 fn inner_run(between: bool, parts: &[Part], k: usize, run: Run) -> Run
     requires { k < length parts.now }
     ensures { result ≡ inner_run between (drop (k + 1) parts.now) run }
@@ -104,6 +108,7 @@ fn inner_run(between: bool, parts: &[Part], k: usize, run: Run) -> Run
     }
 }
 
+#[inline(always)]
 fn next_marks(
     lines: &[Line],
     total: usize,
