@@ -4,7 +4,7 @@ ghost use Rattle.std.specs.Prelude.{◌≡◌, ◌&&◌, ◌<◌, ◌≤◌, ◌
 ghost use Rattle.brackets.specs.Viewed.{AreWithin, classes_of};
 ghost use Rattle.brackets.specs.Classes.{is_colon, is_comment};
 ghost use Rattle.brackets.specs.declared.class.TokenClass.TheVariants.{Nothing};
-ghost use Rattle.unwrapped_lines.specs.Viewed.{item_began, line_ends_behind, colon_touches, numbers_of, AreNumbers, AreTokensBefore, segment_stop, partner_number, token_at, code_tokens, part_of, parts_of};
+ghost use Rattle.unwrapped_lines.specs.Viewed.{item_began, line_ends_behind, colon_touches, numbers_of, AreNumbers, AreBlocks, number_behind, AreTokensBefore, segment_stop, partner_number, token_at, code_tokens, part_of, parts_of};
 ghost use Rattle.std.specs.Bool.{OnFalse};
 ghost use Rattle.std.specs.List.{range_with_len};
 ghost use Rattle.token_views.specs.Segments.{ids_of, segment_bounds, AreSegments, no_segment};
@@ -17,6 +17,9 @@ use bumpalo::Bump;
 use line_tokens::{NoMemory, TokenId};
 use token_arena::TokenArena;
 use token_views::{Segment, View};
+
+/// The number of a token is kept for one place of so many.
+const BLOCK: usize = 16;
 
 /// Whether an item began its line.
 fn item_began(arena: &TokenArena<'_, '_>, id: u32) -> bool
@@ -73,30 +76,50 @@ fn has_comment(classes: &[TokenClass]) -> bool
     false
 }
 
-/// How many tokens that are no comments stand before each place; nothing where there is no comment.
+/// How many tokens that are no comments stand before each sixteenth place; nothing where there is no comment.
 fn numbers<'r>(classes: &[TokenClass], run: &'r Bump) -> Result<Vec<u32, &'r Bump>, NoMemory>
     requires { length classes.now ≤ LIMIT }
     ensures { IfOk result (λ numbers. AreNumbers numbers.items classes.now) }
 {
     if has_comment(classes) {
-        all_numbers(classes, run)
+        block_numbers(classes, run)
     } else {
         Ok(Vec::new(run))
     }
 }
 
-/// How many tokens that are no comments stand before each place.
-fn all_numbers<'r>(classes: &[TokenClass], run: &'r Bump) -> Result<Vec<u32, &'r Bump>, NoMemory>
-    requires { length classes.now ≤ LIMIT }
-    ensures { IfOk result (λ numbers. numbers.items ≡ numbers_of classes.now) }
+/// The number behind these places, where the first has this one.
+fn number_behind(first: u32, classes: &[TokenClass]) -> u32
+    requires { first + length classes.now ≤ LIMIT }
+    ensures same { result ≡ number_behind first classes.now }
+    ensures most { result ≤ first + length classes.now }
 {
-    let mut numbers = Vec::with_capacity(run, classes.len())?;
-    let mut number: u32 = 0;
+    let mut number = first;
     for class in classes {
-        numbers.push(number)?;
         if !class.is_comment() {
             number += 1;
         }
+    }
+    number
+}
+
+/// How many tokens that are no comments stand before each sixteenth place.
+fn block_numbers<'r>(classes: &[TokenClass], run: &'r Bump) -> Result<Vec<u32, &'r Bump>, NoMemory>
+    requires { length classes.now ≤ LIMIT }
+    ensures { IfOk result (λ numbers. AreBlocks numbers.items classes.now) }
+{
+    let mut numbers = Vec::with_capacity(run, classes.len() / BLOCK + 1)?;
+    let mut number: u32 = 0;
+    let mut from = 0;
+    while from < classes.len() {
+        numbers.push(number)?;
+        let end = if classes.len() - from > BLOCK {
+            from + BLOCK
+        } else {
+            classes.len()
+        };
+        number = number_behind(number, &classes[from..end]);
+        from = end;
     }
     Ok(numbers)
 }
@@ -108,13 +131,15 @@ fn number_at(classes: &[TokenClass], numbers: &[u32], place: u32) -> Partner
     requires numbers { AreNumbers numbers.now classes.now }
     ensures { result ≡ slice_get (numbers_of classes.now) place }
 {
-    if place as usize >= classes.len() {
+    let k = place as usize;
+    if k >= classes.len() {
         return Partner::none();
     }
     if numbers.is_empty() {
         return Partner::at(place);
     }
-    Partner::at(numbers[place as usize])
+    let block = k / BLOCK;
+    Partner::at(number_behind(numbers[block], &classes[block * BLOCK..k]))
 }
 
 /// A partner, counted over the tokens that are no comments.
