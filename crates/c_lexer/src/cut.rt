@@ -1,6 +1,6 @@
 //! Cuts off the item that a text begins with.
 
-ghost use Rattle.std.specs.Prelude.{◌≡◌, ◌∷◌, ◌++◌, ◌+◌, ◌||◌, ◌<◌, ◌^◌, length, true, false, codes, [], ◌==◌, nat_eq, not, drop, IsTrue, IsFalse, MatchOption, MatchResult};
+ghost use Rattle.std.specs.Prelude.{◌≡◌, ◌∷◌, ◌++◌, ◌+◌, ◌||◌, ◌<◌, ◌^◌, length, true, false, codes, [], ◌==◌, nat_eq, not, drop, IsTrue, IsFalse, IfSome, MatchOption, MatchResult};
 ghost use Rattle.std.specs.List.{starts_with};
 ghost use Rattle.c_chars.specs.Characters.{bytes_of};
 ghost use Rattle.c_chars.specs.Coming.{behind};
@@ -159,6 +159,63 @@ pub(crate) fn cut_quoted<'s>(text: &Chars<'s>) -> (ItemKind, Chars<'s>)
     match cut_string(text, b"") {
         Some(left) => (ItemKind::StringLit, left),
         None => (ItemKind::StrayQuote, cut_stray(text, b'"')),
+    }
+}
+
+/// What stands behind the punctuator that the text begins with, whose first byte is this one, where it
+/// and a plain byte behind it tell how long it is; none elsewhere.
+#[inline(always)]
+fn behind_plain_mark<'s>(dialect: Dialect, text: &Chars<'s>, first: u8) -> Option<Chars<'s>>
+    requires dialect { dialect ≡ text.now.dialect }
+    requires first { IsFirst first (bytes_of text.now.chars) }
+    ensures { IfSome result (λ left. IsCutOff text.now left Punct) }
+{
+    let mut left = text.ahead();
+    if let None = left.next_plain() {
+        return None;
+    }
+    if class::is_lone_mark(first) {
+        return Some(left);
+    }
+    if !class::begins_punctuator(first) {
+        return None;
+    }
+    match left.peek_plain() {
+        Some(second) => {
+            if punctuator::is_pair(first, second.byte) {
+                return Some(front::behind(&left, 1));
+            }
+            if class::ends_mark(second.byte) {
+                Some(left)
+            } else {
+                None
+            }
+        }
+        None => None,
+    }
+}
+
+/// The item that the text begins with, whose first byte is this one, where it is a word or a
+/// punctuator of plain bytes and one behind it ends it; none elsewhere.
+#[inline(always)]
+pub(crate) fn cut_plain<'s>(
+    dialect: Dialect,
+    text: &Chars<'s>,
+    first: u8,
+) -> Option<(ItemKind, Chars<'s>)>
+    requires dialect { dialect ≡ text.now.dialect }
+    requires first { IsFirst first (bytes_of text.now.chars) }
+    ensures { IfSome result (λ r. IsCutOff text.now r.1 r.0) }
+{
+    if class::is_letter(first) {
+        return match word::behind_plain_word(text) {
+            Some(left) => Some((ItemKind::Identifier, left)),
+            None => None,
+        };
+    }
+    match behind_plain_mark(dialect, text, first) {
+        Some(left) => Some((ItemKind::Punct, left)),
+        None => None,
     }
 }
 

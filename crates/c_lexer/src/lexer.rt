@@ -46,6 +46,7 @@ fn may_end_backslash(text: &[u8], at: usize) -> bool
 }
 
 /// Whether a backslash is the last of the characters up to what is left of them.
+#[inline(never)]
 fn ends_in_backslash(chars: &Chars, left: &Chars) -> bool
     requires { IsSpanned chars.now }
     ensures { BeforeLeft chars.now left.now (λ s. result ≡ ends_in_backslash s) }
@@ -62,6 +63,7 @@ fn ends_in_backslash(chars: &Chars, left: &Chars) -> bool
 }
 
 /// Whether a backslash is the last of an item's characters. Most items end in a byte that tells it.
+#[inline(always)]
 fn is_backslash_last(text: &[u8], chars: &Chars, left: &Chars) -> bool
     requires some { 0 < left.now.at }
     requires within { left.now.at ≤ length text.now }
@@ -72,7 +74,7 @@ fn is_backslash_last(text: &[u8], chars: &Chars, left: &Chars) -> bool
     if !may_end_backslash(text, left.at()) {
         return false;
     }
-    ends_in_backslash(chars, left)
+    ends_in_backslash(&chars.ahead(), &left.ahead())
 }
 
 /// Reads the items of a text one after another.
@@ -113,6 +115,7 @@ impl<'s> Lexer<'s> {
     }
 
     /// The next item, with what it and its gap tell; none exactly where no item is left.
+    #[inline(always)]
     pub fn next_lexeme(&mut self) -> Result<Option<Lexeme<'s>>, LexFault>
         ensures text { self.new.text ≡ self.old.text }
         ensures dialect { self.new.dialect ≡ self.old.dialect }

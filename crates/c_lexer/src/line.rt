@@ -1,6 +1,6 @@
 //! The characters of one line, of a gap and of a word.
 
-ghost use Rattle.std.specs.Prelude.{◌≡◌, ◌∷◌, ◌||◌, not, IfSome, IfNone, IsTrue, IsFalse, if◌then◌else◌};
+ghost use Rattle.std.specs.Prelude.{◌≡◌, ◌∷◌, ◌||◌, not, IfSome, IfNone, IsTrue, IsFalse, if◌then◌else◌, ◌+◌, ◌≤◌};
 ghost use Rattle.std.specs.List.{prefix_len};
 ghost use Rattle.c_chars.specs.Coming.{behind};
 ghost use Rattle.c_chars.specs.Characters.{bytes_of};
@@ -84,7 +84,59 @@ pub(crate) struct Gap<'s> {
     pub rest: Chars<'s>,
 }
 
-/// The gap that the text begins with, and what stands behind it.
+/// The next character of the gap where a plain byte is it; none elsewhere, where it stays.
+#[inline(always)]
+fn next_plain_blank(chars: &mut Chars) -> Option<LogicalChar>
+    ensures dialect { chars.new.dialect ≡ chars.old.dialect }
+    ensures some { IfSome result (λ c. (chars.old.chars ≡ c ∷ chars.new.chars) × (chars.new.at ≡ c.to) × IsTrue (is_white c.byte || is_new_line c.byte)) }
+    ensures none { IfNone result (chars.new ≡ chars.old) }
+{
+    match chars.peek_plain() {
+        Some(c) => {
+            if !class::is_blank(c.byte) {
+                return None;
+            }
+            chars.next_plain()
+        }
+        None => None,
+    }
+}
+
+/// Whether a plain byte comes next that no gap goes on with.
+#[inline(always)]
+fn ends_gap(text: &Chars) -> bool
+    ensures { IsTrue result → IsFalse (starts (λ c. is_white c || is_new_line c) (bytes_of text.now.chars)) }
+{
+    match text.peek_plain() {
+        Some(c) => !class::is_blank(c.byte),
+        None => false,
+    }
+}
+
+/// The gap that goes on behind this one, whatever its characters are written as, and what stands behind
+/// both.
+#[inline(never)]
+fn behind_any_gap<'s>(gap: &Gap<'s>) -> Gap<'s>
+    requires spans { IsSpanned gap.now.rest }
+    requires few_lines { gap.now.lines ≤ gap.now.rest.at }
+    requires few_bytes { gap.now.bytes ≤ gap.now.rest.at }
+    ensures lines { result.lines ≡ gap.now.lines + new_lines (first_gap gap.now.rest.chars) }
+    ensures bytes { result.bytes ≡ gap.now.bytes + bytes_in (first_gap gap.now.rest.chars) }
+    ensures rest { result.rest ≡ behind gap.now.rest (prefix_len (λ c. is_white c || is_new_line c) (bytes_of gap.now.rest.chars)) }
+{
+    let mut rest = gap.rest.ahead();
+    let mut lines = gap.lines;
+    let mut bytes = gap.bytes;
+    while let Some(c) = next_blank(&mut rest) {
+        lines += lines_of(c.byte);
+        let len = c.to - c.from;
+        bytes += len + rest.pass_spaces();
+    }
+    Gap { lines, bytes, rest }
+}
+
+/// The gap that the text begins with, and what stands behind it. Most gaps are of plain bytes.
+#[inline(always)]
 pub(crate) fn behind_gap<'s>(text: &Chars<'s>) -> Gap<'s>
     requires { IsSpanned text.now }
     ensures lines { result.lines ≡ new_lines (first_gap text.now.chars) }
@@ -93,13 +145,17 @@ pub(crate) fn behind_gap<'s>(text: &Chars<'s>) -> Gap<'s>
 {
     let mut rest = text.ahead();
     let mut lines = 0;
-    let mut bytes = rest.pass_spaces();
-    while let Some(c) = next_blank(&mut rest) {
+    let mut bytes = 0;
+    while let Some(c) = next_plain_blank(&mut rest) {
         lines += lines_of(c.byte);
         bytes += c.to - c.from;
-        bytes += rest.pass_spaces();
     }
-    Gap { lines, bytes, rest }
+    if ends_gap(&rest) {
+        return Gap { lines, bytes, rest };
+    }
+    // By a name of its own, so that what this function gives never stands in memory.
+    let gap = behind_any_gap(&Gap { lines, bytes, rest });
+    gap
 }
 
 /// What stands behind the letters and digits that the text begins with.

@@ -35,8 +35,10 @@ fn cut_header<'s>(standing: Standing, text: &Chars<'s>) -> Option<Chars<'s>>
     }
 }
 
-/// The item that stands next in the text, which begins with this byte, and what stands behind it.
-pub(crate) fn cut_next<'s>(
+/// The item that stands next in the text, which begins with this byte, whatever it is, and what stands
+/// behind it.
+#[inline(never)]
+fn cut_any<'s>(
     dialect: Dialect,
     standing: Standing,
     text: &Chars<'s>,
@@ -51,5 +53,39 @@ pub(crate) fn cut_next<'s>(
     match cut_header(standing, text) {
         Some(left) => Ok((ItemKind::HeaderName, left)),
         None => cut::cut_item(dialect, text, first),
+    }
+}
+
+/// Whether a header name may stand next.
+fn is_behind_include(standing: Standing) -> bool
+    ensures { IsFalse result → place_of standing ≡ AfterInclude → ⊥ }
+{
+    matches!(standing, Standing::BehindInclude)
+}
+
+/// The item that stands next in the text, which begins with this byte, and what stands behind it. Most are cut
+/// off without a call.
+#[inline(always)]
+pub(crate) fn cut_next<'s>(
+    dialect: Dialect,
+    standing: Standing,
+    text: &Chars<'s>,
+    first: u8,
+) -> Result<(ItemKind, Chars<'s>), Stop>
+    requires dialect { dialect ≡ text.now.dialect }
+    requires some { 0 < length text.now.chars }
+    requires first { IsFirst first (bytes_of text.now.chars) }
+    requires begins { IsFalse (starts (λ c. is_white c || is_new_line c) (bytes_of text.now.chars)) }
+    ensures { MatchResult result (λ r. IsCutNext (place_of standing) text.now r.1 r.0) (λ stop. IsStop text.now stop) }
+{
+    if !is_behind_include(standing) {
+        if let Some((kind, left)) = cut::cut_plain(dialect, text, first) {
+            return Ok((kind, left));
+        }
+    }
+    // By names of their own, so that what this function gives never stands in memory.
+    match cut_any(dialect, standing, &text.ahead(), first) {
+        Ok((kind, left)) => Ok((kind, left)),
+        Err(stop) => Err(stop),
     }
 }

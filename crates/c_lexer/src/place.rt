@@ -104,13 +104,14 @@ fn past_other(standing: Standing) -> Standing
 }
 
 /// Behind a punctuator.
+#[inline(always)]
 fn past_mark(standing: Standing, text: &Chars, left: &Chars) -> Standing
     requires { IsSpanned text.now }
     ensures { SpelledBy text.now left.now (λ s. place_of result ≡ past_mark (place_of standing) s) }
 {
     match standing {
         Standing::FirstInLine => {
-            if spells_hash(text, left) {
+            if spells_hash(&text.ahead(), &left.ahead()) {
                 Standing::BehindHash
             } else {
                 Standing::WithinText
@@ -126,12 +127,13 @@ fn past_mark(standing: Standing, text: &Chars, left: &Chars) -> Standing
 }
 
 /// Behind a word.
+#[inline(always)]
 fn past_word(dialect: Dialect, standing: Standing, text: &Chars, left: &Chars) -> Standing
     requires { IsSpanned text.now }
     ensures { SpelledBy text.now left.now (λ s. place_of result ≡ past_word dialect (place_of standing) s) }
 {
     match standing {
-        Standing::BehindHash => past_name(dialect, text, left),
+        Standing::BehindHash => past_name(dialect, &text.ahead(), &left.ahead()),
         Standing::BehindDefine => Standing::BehindMacroName,
         Standing::FirstInLine
         | Standing::BehindInclude
@@ -142,6 +144,7 @@ fn past_word(dialect: Dialect, standing: Standing, text: &Chars, left: &Chars) -
 }
 
 /// Behind an item of this kind, whose characters are those of the text up to what is left of it.
+#[inline(always)]
 pub(crate) fn past_item(
     dialect: Dialect,
     standing: Standing,
