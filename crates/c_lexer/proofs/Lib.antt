@@ -25,3 +25,4 @@ pub mod Gaps
 pub mod Backslashes
 pub mod Lexemes
 pub mod Plains
+pub mod PlainNumbers

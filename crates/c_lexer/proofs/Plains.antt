@@ -163,6 +163,10 @@ pair_second : (a b : ℕ) → is_pair_mark a b ≡ true → (is_digit b ≡ fals
 unfolding is_pair_mark is_digit
 pair_second a b h = (grind (arith, nat_tests), grind (arith, nat_tests), grind (arith, nat_tests))
 
+pub next_bytes : (s : List LogicalChar) (e : LogicalChar) → slice_get s 0 ≡ Some e → bytes_of s ≡ e.byte ∷ drop 1 (bytes_of s)
+next_bytes [] e h = cc
+next_bytes (f ∷ s) e h = let same : f ≡ e = cc in ap (λ z. z.byte ∷ bytes_of s) same
+
 pub pair_off : (x y left : Coming) (d : Dialect) (f : ℕ) (c e : LogicalChar) → d ≡ x.dialect → IsFirst f (bytes_of x.chars) → x.chars ≡ c ∷ y.chars → y ≡ behind x 1 → slice_get y.chars 0 ≡ Some e → begins_punctuator f ≡ true → is_pair_mark f e.byte ≡ true
     → left ≡ behind y 1 → IsCutOff x left Punct
 pair_off x y left d f c e same first chars y_is next mark pair left_is =
@@ -172,7 +176,3 @@ pair_off x y left d f c e same first chars y_is next mark pair left_is =
     let len : first_front (long d) (bytes_of x.chars) ≡ 2 = ap (first_front (long d)) (whole ∙ ap (λ z. f ∷ z) rest) ∙ pair_len d f e.byte (drop 1 (bytes_of y.chars)) pair in
     begun_off x left d f 2 (bytes_of y.chars) same whole mark (first_is is_digit y.chars e next ∙ second.0) (first_is (λ b. 42 == b) y.chars e next ∙ second.1)
     (first_is (λ b. 47 == b) y.chars e next ∙ second.2) (sym len) (left_is ∙ (ap (λ z. behind z 1) y_is ∙ behind_again x 1 1))
-  where
-    next_bytes : (s : List LogicalChar) (e : LogicalChar) → slice_get s 0 ≡ Some e → bytes_of s ≡ e.byte ∷ drop 1 (bytes_of s)
-    next_bytes [] e h = cc
-    next_bytes (f ∷ s) e h = let same : f ≡ e = cc in ap (λ z. z.byte ∷ bytes_of s) same

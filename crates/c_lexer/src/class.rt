@@ -2,7 +2,7 @@
 
 ghost use Rattle.std.specs.Prelude.{◌≡◌, ◌==◌, ◌||◌, ◌&&◌, ◌∷◌, [], nat_le};
 ghost use Rattle.c_grammar.specs.Grammar.{is_white, is_new_line, is_digit, is_letter, is_sign, is_exponent, is_hex, is_separated};
-ghost use Rattle.c_lexer.specs.Class.{is_quote_mark, begins_punctuator, is_beyond, ends_word, is_lone_mark, ends_mark};
+ghost use Rattle.c_lexer.specs.Class.{is_quote_mark, begins_punctuator, is_beyond, ends_word, ends_number, is_lone_mark, ends_mark};
 ghost use Rattle.c_lexer.specs.Unit.{is_pair, is_single};
 
 use crate::punctuator;
@@ -90,6 +90,15 @@ pub(crate) fn ends_word(b: u8) -> bool
     ensures { result ≡ ends_word b }
 {
     !(is_word(b) || (is_beyond(b) || is_quote_mark(b)))
+}
+
+/// What ends a number that stands before it: no part of one, no sign, no quote, no backslash and no byte
+/// past ASCII.
+#[inline(always)]
+pub(crate) fn ends_number(b: u8) -> bool
+    ensures { result ≡ ends_number b }
+{
+    !(is_single(b) || (is_sign(b) || (is_beyond(b) || b == b'\'')))
 }
 
 /// A punctuator by itself, that none begins with that is longer.

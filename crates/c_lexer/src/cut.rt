@@ -195,7 +195,23 @@ fn behind_plain_mark<'s>(dialect: Dialect, text: &Chars<'s>, first: u8) -> Optio
     }
 }
 
-/// The item that the text begins with, whose first byte is this one, where it is a word or a
+/// What stands behind the number that the text begins with, whose first byte is this digit, where it is
+/// of letters and digits and a plain byte behind it ends it; none elsewhere.
+#[inline(always)]
+fn behind_plain_number<'s>(dialect: Dialect, text: &Chars<'s>, first: u8) -> Option<Chars<'s>>
+    requires dialect { dialect ≡ text.now.dialect }
+    requires first { IsFirst first (bytes_of text.now.chars) }
+    requires digit { IsTrue (is_digit first) }
+    ensures { IfSome result (λ left. IsCutOff text.now left Number) }
+{
+    let mut rest = text.ahead();
+    if let None = rest.next_plain() {
+        return None;
+    }
+    unit::behind_plain_number(dialect, &rest)
+}
+
+/// The item that the text begins with, whose first byte is this one, where it is a word, a number or a
 /// punctuator of plain bytes and one behind it ends it; none elsewhere.
 #[inline(always)]
 pub(crate) fn cut_plain<'s>(
@@ -210,6 +226,12 @@ pub(crate) fn cut_plain<'s>(
     if class::is_letter(first) {
         return match word::behind_plain_word(text) {
             Some(left) => Some((ItemKind::Identifier, left)),
+            None => None,
+        };
+    }
+    if class::is_digit(first) {
+        return match behind_plain_number(dialect, text, first) {
+            Some(left) => Some((ItemKind::Number, left)),
             None => None,
         };
     }

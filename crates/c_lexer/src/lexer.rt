@@ -1,6 +1,6 @@
 //! Reads the items of a text one after another.
 
-ghost use Rattle.std.specs.Prelude.{◌≡◌, ◌≤◌, ◌<◌, ◌-◌, length, take, drop, get_or, IsTrue, IfOk, IfErr, MatchOption, ⊤};
+ghost use Rattle.std.specs.Prelude.{◌≡◌, ◌≤◌, ◌<◌, ◌-◌, length, take, drop, get_or, IsFalse, IsTrue, IfSome, IfNone, IfOk, IfErr, MatchOption, ⊤};
 ghost use Rattle.c_grammar.specs.Items.{is_gap, LineStart};
 ghost use Rattle.c_chars.specs.Characters.{logical, bytes_of};
 ghost use Rattle.c_lexer.specs.Place.{IsSpanned};
@@ -46,7 +46,6 @@ fn may_end_backslash(text: &[u8], at: usize) -> bool
 }
 
 /// Whether a backslash is the last of the characters up to what is left of them.
-#[inline(never)]
 fn ends_in_backslash(chars: &Chars, left: &Chars) -> bool
     requires { IsSpanned chars.now }
     ensures { BeforeLeft chars.now left.now (λ s. result ≡ ends_in_backslash s) }
@@ -63,7 +62,6 @@ fn ends_in_backslash(chars: &Chars, left: &Chars) -> bool
 }
 
 /// Whether a backslash is the last of an item's characters. Most items end in a byte that tells it.
-#[inline(always)]
 fn is_backslash_last(text: &[u8], chars: &Chars, left: &Chars) -> bool
     requires some { 0 < left.now.at }
     requires within { left.now.at ≤ length text.now }
@@ -74,7 +72,18 @@ fn is_backslash_last(text: &[u8], chars: &Chars, left: &Chars) -> bool
     if !may_end_backslash(text, left.at()) {
         return false;
     }
-    ends_in_backslash(&chars.ahead(), &left.ahead())
+    ends_in_backslash(chars, left)
+}
+
+/// Whether the last bytes of an item tell that no backslash is its last character.
+#[inline(always)]
+fn ends_plainly(text: &[u8], chars: &Chars, left: &Chars) -> bool
+    requires some { 0 < left.now.at }
+    requires within { left.now.at ≤ length text.now }
+    requires slashed { AreSlashed text.now chars.now.chars }
+    ensures { IsTrue result → BeforeLeft chars.now left.now (λ s. IsFalse (ends_in_backslash s)) }
+{
+    !may_end_backslash(text, left.at())
 }
 
 /// Reads the items of a text one after another.
@@ -114,9 +123,51 @@ impl<'s> Lexer<'s> {
         }
     }
 
-    /// The next item, with what it and its gap tell; none exactly where no item is left.
+    /// The next item, with what it and its gap tell, where plain bytes tell all of it; none elsewhere,
+    /// where it stays. It calls nothing.
     #[inline(always)]
-    pub fn next_lexeme(&mut self) -> Result<Option<Lexeme<'s>>, LexFault>
+    fn next_plain(&mut self) -> Option<Lexeme<'s>>
+        ensures text { self.new.text ≡ self.old.text }
+        ensures dialect { self.new.dialect ≡ self.old.dialect }
+        ensures some { IfSome result (λ lexeme. IsNextLexeme self.old self.new lexeme) }
+        ensures none { IfNone result (self.new ≡ self.old) }
+    {
+        let Some(gap) = line::behind_plain_gap(&self.chars) else {
+            return None;
+        };
+        let Some(first) = gap.rest.peek_plain() else {
+            return None;
+        };
+        let standing = place::past_gap(self.standing, gap.lines != 0);
+        let Some((kind, left)) = next::cut_plain(self.dialect, standing, &gap.rest, first.byte)
+        else {
+            return None;
+        };
+        let Some(past) = place::past_plain(self.dialect, standing, kind, first.byte) else {
+            return None;
+        };
+        if !ends_plainly(self.text, &gap.rest, &left) {
+            return None;
+        }
+        let raw = between(self.text, first.from as usize, left.at());
+        self.standing = past;
+        self.chars = left;
+        Some(Lexeme {
+            item: Item {
+                kind,
+                raw,
+                start: first.from,
+            },
+            lines: gap.lines,
+            bytes: gap.bytes,
+            white: gap.bytes != 0,
+            back: false,
+        })
+    }
+
+    /// The next item, with what it and its gap tell, whatever it is; none exactly where no item is left.
+    #[inline(never)]
+    fn next_any(&mut self) -> Result<Option<Lexeme<'s>>, LexFault>
         ensures text { self.new.text ≡ self.old.text }
         ensures dialect { self.new.dialect ≡ self.old.dialect }
         ensures some { IfOk result (λ next. MatchOption next (IsTrue (is_gap (bytes_of self.old.left.chars))) (λ lexeme. IsNextLexeme self.old self.new lexeme)) }
@@ -148,6 +199,26 @@ impl<'s> Lexer<'s> {
                 }))
             }
             Err(stop) => Err(fault::fault_of(stop, first.from)),
+        }
+    }
+
+    /// The next item, with what it and its gap tell; none exactly where no item is left.
+    #[inline(always)]
+    pub fn next_lexeme(&mut self) -> Result<Option<Lexeme<'s>>, LexFault>
+        ensures text { self.new.text ≡ self.old.text }
+        ensures dialect { self.new.dialect ≡ self.old.dialect }
+        ensures some { IfOk result (λ next. MatchOption next (IsTrue (is_gap (bytes_of self.old.left.chars))) (λ lexeme. IsNextLexeme self.old self.new lexeme)) }
+        ensures end { IfOk result (λ next. MatchOption next (self.new ≡ self.old) (λ lexeme. ⊤)) }
+        ensures fault { IfErr result (λ fault. IsFault self.old fault) }
+        ensures stays { IfErr result (λ fault. self.new ≡ self.old) }
+    {
+        match self.next_plain() {
+            Some(lexeme) => Ok(Some(lexeme)),
+            None => {
+                // By a name of its own, so that what this function gives needs no place in memory.
+                let lexeme = self.next_any();
+                lexeme
+            }
         }
     }
 

@@ -1,12 +1,12 @@
 //! The characters of one line, of a gap and of a word.
 
-ghost use Rattle.std.specs.Prelude.{◌≡◌, ◌∷◌, ◌||◌, not, IfSome, IfNone, IsTrue, IsFalse, if◌then◌else◌, ◌+◌, ◌≤◌};
+ghost use Rattle.std.specs.Prelude.{◌≡◌, ◌∷◌, ◌||◌, not, IfSome, IfNone, IsTrue, IsFalse, if◌then◌else◌};
 ghost use Rattle.std.specs.List.{prefix_len};
 ghost use Rattle.c_chars.specs.Coming.{behind};
 ghost use Rattle.c_chars.specs.Characters.{bytes_of};
 ghost use Rattle.c_grammar.specs.Grammar.{is_new_line, is_white, is_letter, is_digit};
 ghost use Rattle.c_lexer.specs.Place.{IsSpanned};
-ghost use Rattle.c_lexer.specs.Reading.{new_lines, bytes_in, first_gap};
+ghost use Rattle.c_lexer.specs.Reading.{IsGap, new_lines, bytes_in, first_gap};
 ghost use Rattle.c_grammar.specs.Touch.{starts};
 
 use crate::class;
@@ -113,30 +113,7 @@ fn ends_gap(text: &Chars) -> bool
     }
 }
 
-/// The gap that goes on behind this one, whatever its characters are written as, and what stands behind
-/// both.
-#[inline(never)]
-fn behind_any_gap<'s>(gap: &Gap<'s>) -> Gap<'s>
-    requires spans { IsSpanned gap.now.rest }
-    requires few_lines { gap.now.lines ≤ gap.now.rest.at }
-    requires few_bytes { gap.now.bytes ≤ gap.now.rest.at }
-    ensures lines { result.lines ≡ gap.now.lines + new_lines (first_gap gap.now.rest.chars) }
-    ensures bytes { result.bytes ≡ gap.now.bytes + bytes_in (first_gap gap.now.rest.chars) }
-    ensures rest { result.rest ≡ behind gap.now.rest (prefix_len (λ c. is_white c || is_new_line c) (bytes_of gap.now.rest.chars)) }
-{
-    let mut rest = gap.rest.ahead();
-    let mut lines = gap.lines;
-    let mut bytes = gap.bytes;
-    while let Some(c) = next_blank(&mut rest) {
-        lines += lines_of(c.byte);
-        let len = c.to - c.from;
-        bytes += len + rest.pass_spaces();
-    }
-    Gap { lines, bytes, rest }
-}
-
-/// The gap that the text begins with, and what stands behind it. Most gaps are of plain bytes.
-#[inline(always)]
+/// The gap that the text begins with, and what stands behind it.
 pub(crate) fn behind_gap<'s>(text: &Chars<'s>) -> Gap<'s>
     requires { IsSpanned text.now }
     ensures lines { result.lines ≡ new_lines (first_gap text.now.chars) }
@@ -145,17 +122,34 @@ pub(crate) fn behind_gap<'s>(text: &Chars<'s>) -> Gap<'s>
 {
     let mut rest = text.ahead();
     let mut lines = 0;
-    let mut bytes = 0;
-    while let Some(c) = next_plain_blank(&mut rest) {
+    let mut bytes = rest.pass_spaces();
+    while let Some(c) = next_blank(&mut rest) {
         lines += lines_of(c.byte);
         bytes += c.to - c.from;
+        bytes += rest.pass_spaces();
+    }
+    Gap { lines, bytes, rest }
+}
+
+/// The gap that the text begins with, and what stands behind it, where all of it is of plain bytes and
+/// one behind it ends it; none elsewhere.
+#[inline(always)]
+pub(crate) fn behind_plain_gap<'s>(text: &Chars<'s>) -> Option<Gap<'s>>
+    requires { IsSpanned text.now }
+    ensures { IfSome result (λ gap. IsGap text.now gap.lines gap.bytes gap.rest) }
+{
+    let mut rest = text.ahead();
+    let mut lines = 0;
+    let mut bytes = 0;
+    while let Some(blank) = next_plain_blank(&mut rest) {
+        lines += lines_of(blank.byte);
+        bytes += blank.to - blank.from;
     }
     if ends_gap(&rest) {
-        return Gap { lines, bytes, rest };
+        Some(Gap { lines, bytes, rest })
+    } else {
+        None
     }
-    // By a name of its own, so that what this function gives never stands in memory.
-    let gap = behind_any_gap(&Gap { lines, bytes, rest });
-    gap
 }
 
 /// What stands behind the letters and digits that the text begins with.

@@ -1,6 +1,6 @@
 //! The item that stands next: behind an `include` a header name, wherever one begins (C11 6.4p4).
 
-ghost use Rattle.std.specs.Prelude.{◌≡◌, ◌||◌, ◌<◌, length, IsFalse, MatchOption, MatchResult};
+ghost use Rattle.std.specs.Prelude.{◌≡◌, ◌||◌, ◌<◌, length, IsFalse, IfSome, MatchOption, MatchResult};
 ghost use Rattle.c_chars.specs.Characters.{bytes_of};
 ghost use Rattle.c_grammar.specs.Grammar.{is_white, is_new_line};
 ghost use Rattle.c_grammar.specs.Items.{AfterInclude, BeginsHeader};
@@ -35,10 +35,8 @@ fn cut_header<'s>(standing: Standing, text: &Chars<'s>) -> Option<Chars<'s>>
     }
 }
 
-/// The item that stands next in the text, which begins with this byte, whatever it is, and what stands
-/// behind it.
-#[inline(never)]
-fn cut_any<'s>(
+/// The item that stands next in the text, which begins with this byte, and what stands behind it.
+pub(crate) fn cut_next<'s>(
     dialect: Dialect,
     standing: Standing,
     text: &Chars<'s>,
@@ -57,35 +55,32 @@ fn cut_any<'s>(
 }
 
 /// Whether a header name may stand next.
+#[inline(always)]
 fn is_behind_include(standing: Standing) -> bool
     ensures { IsFalse result → place_of standing ≡ AfterInclude → ⊥ }
 {
     matches!(standing, Standing::BehindInclude)
 }
 
-/// The item that stands next in the text, which begins with this byte, and what stands behind it. Most are cut
-/// off without a call.
+/// The item that stands next in the text, which begins with this byte, and what stands behind it, where
+/// plain bytes tell all of it; none elsewhere.
 #[inline(always)]
-pub(crate) fn cut_next<'s>(
+pub(crate) fn cut_plain<'s>(
     dialect: Dialect,
     standing: Standing,
     text: &Chars<'s>,
     first: u8,
-) -> Result<(ItemKind, Chars<'s>), Stop>
+) -> Option<(ItemKind, Chars<'s>)>
     requires dialect { dialect ≡ text.now.dialect }
     requires some { 0 < length text.now.chars }
     requires first { IsFirst first (bytes_of text.now.chars) }
-    requires begins { IsFalse (starts (λ c. is_white c || is_new_line c) (bytes_of text.now.chars)) }
-    ensures { MatchResult result (λ r. IsCutNext (place_of standing) text.now r.1 r.0) (λ stop. IsStop text.now stop) }
+    ensures { IfSome result (λ r. IsCutNext (place_of standing) text.now r.1 r.0) }
 {
-    if !is_behind_include(standing) {
-        if let Some((kind, left)) = cut::cut_plain(dialect, text, first) {
-            return Ok((kind, left));
-        }
+    if is_behind_include(standing) {
+        return None;
     }
-    // By names of their own, so that what this function gives never stands in memory.
-    match cut_any(dialect, standing, &text.ahead(), first) {
-        Ok((kind, left)) => Ok((kind, left)),
-        Err(stop) => Err(stop),
+    match cut::cut_plain(dialect, text, first) {
+        Some((kind, left)) => Some((kind, left)),
+        None => None,
     }
 }

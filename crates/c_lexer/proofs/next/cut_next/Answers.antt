@@ -1,6 +1,6 @@
 use Rattle.c_lexer.specs.Place.{place_of}
-use Rattle.c_lexer.proofs.Nexts.{next_of_cut}
+use Rattle.c_lexer.proofs.Nexts.{next_result}
 use Rattle.c_lexer.proofs.next.cut_next.Goals as goal
 
-pub returns-in-Some : goal.returns-in-Some
-returns-in-Some c = next_of_cut (place_of c.args.standing) c.args.text.now c.in-Some.left c.in-Some.kind c.requires.some (λ e b. c.is_behind_include.ensures c.if-not-is_behind_include.true e) c.in-Some.ensures
+pub returns-in-None : goal.returns-in-None
+returns-in-None c = next_result (place_of c.args.standing) c.args.text.now c.cut_item.result c.requires.some c.in-None.ensures c.cut_item.ensures

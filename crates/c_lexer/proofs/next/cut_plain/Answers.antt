@@ -1,0 +1,6 @@
+use Rattle.c_lexer.specs.Place.{place_of}
+use Rattle.c_lexer.proofs.Nexts.{next_of_cut}
+use Rattle.c_lexer.proofs.next.cut_plain.Goals as goal
+
+pub returns-in-Some : goal.returns-in-Some
+returns-in-Some c = next_of_cut (place_of c.args.standing) c.args.text.now c.in-Some.left c.in-Some.kind c.requires.some (λ e b. c.is_behind_include.ensures c.if-is_behind_include.false e) c.in-Some.ensures
