@@ -15,11 +15,12 @@ use Rattle.c_grammar.specs.Touch.{starts}
 use Rattle.c_grammar.specs.declared.ItemKind.TheVariants.{Number}
 use Rattle.c_lexer.specs.Class.{IsFirst, ends_number, is_beyond}
 use Rattle.c_lexer.specs.Cut.{IsCutOff}
+use Rattle.c_lexer.specs.Reading.{IsBegun}
 use Rattle.c_lexer.specs.Run.{begins_number, head_len}
 use Rattle.c_lexer.specs.Unit.{IsRunOff, begins_pair, is_pair, is_single}
 use Rattle.c_lexer.proofs.FirstBytes.{starts_so}
 use Rattle.c_lexer.proofs.Passing.{first_is, word_byte}
-use Rattle.c_lexer.proofs.Plains.{next_bytes}
+use Rattle.c_lexer.proofs.Plains.{begun_first, next_bytes, one_behind}
 use Rattle.c_lexer.proofs.Units.{number_greedy, number_some}
 use Rattle.c_lexer.proofs.UnitsOff.{number_none, rare_none, run_at, run_off, single_off}
 use Rattle.c_lexer.proofs.WordsOff.{number_off}
@@ -96,6 +97,6 @@ digit_off x y left d f same first digit y_is run =
     let head : head_len (bytes_of x.chars) ≡ 1 = rw starts_digit refl in
     number_off x y left d same number (y_is ∙ ap (λ k. behind x k) (sym head)) run
 
-pub digits_off : (x y : Coming) (d : Dialect) (f : ℕ) (o : Option Coming) → d ≡ x.dialect → IsFirst f (bytes_of x.chars) → is_digit f ≡ true → y ≡ behind x 1 → IfSome o (λ left. IsRunOff (is_number_unit d) y left) → IfSome o (λ left. IsCutOff x left Number)
-digits_off x y d f None same first digit y_is run = run
-digits_off x y d f (Some left) same first digit y_is run = digit_off x y left d f same first digit y_is run
+pub digits_off : (x y : Coming) (d : Dialect) (c : LogicalChar) (o : Option Coming) → d ≡ x.dialect → IsBegun x c y → is_digit c.byte ≡ true → IfSome o (λ left. IsRunOff (is_number_unit d) y left) → IfSome o (λ left. IsCutOff x left Number)
+digits_off x y d c None same begun digit run = run
+digits_off x y d c (Some left) same begun digit run = digit_off x y left d c.byte same (begun_first x y c begun) digit (one_behind x y c begun) run

@@ -2,7 +2,7 @@
 use Rattle.std.proofs.Common.{◌≡◌, ◌==◌, ◌&&◌, ◌||◌, ◌∙◌, Bool, true, false, ℕ, List, [], ◌∷◌, drop, nat_eq, refl, sym, ap, subst, inl, inr, arith}
 use Rattle.std.specs.Prelude.{⊤, Some, slice_get, codes}
 use Rattle.std.specs.List.{prefix_len, starts_with}
-use Rattle.std.proofs.lemmas.Bool.{and_parts, and_right, cases_Bool, eq-eqb, or_cases, or_parts, eqb-true, not-true, both_ways}
+use Rattle.std.proofs.lemmas.Bool.{and_parts, and_right, cases_Bool, eq-eqb, or_cases, or_left, or_parts, eqb-true, not-true, both_ways}
 use Rattle.std.proofs.lemmas.Bool.Decides.{nat_tests}
 use Rattle.unicode_ident.specs.Ident.{is_xid_continue}
 use Rattle.c_chars.specs.Characters.{bytes_of, is_word_byte}
@@ -10,20 +10,20 @@ use Rattle.c_chars.specs.Coming.{Coming, ArePassed, behind}
 use Rattle.c_chars.specs.declared.Dialect.{Dialect}
 use Rattle.c_chars.specs.declared.Dialect.TheVariants.{C11, C23}
 use Rattle.c_chars.specs.declared.LogicalChar.{LogicalChar}
-use Rattle.c_grammar.specs.Grammar.{is_letter, is_digit, is_letter_unit, is_word_unit, is_of}
+use Rattle.c_grammar.specs.Grammar.{is_letter, is_digit, is_word_unit, is_of}
 use Rattle.c_grammar.specs.Touch.{starts}
 use Rattle.c_grammar.specs.declared.ItemKind.TheVariants.{Identifier, Punct}
 use Rattle.c_lexer.specs.Class.{IsFirst, begins_punctuator, ends_mark, ends_word, is_beyond, is_lone_mark, is_quote_mark}
 use Rattle.c_lexer.specs.Cut.{IsCutOff}
+use Rattle.c_lexer.specs.Reading.{IsBegun}
 use Rattle.c_lexer.specs.Run.{begins_long, begins_number, first_front, goes_on_long, is_pair_mark, long, may_be_long}
 use Rattle.c_lexer.proofs.CutOffs.{behind_again}
 use Rattle.c_lexer.proofs.FirstBytes.{stands_alone, starts_so, two_apart}
 use Rattle.c_lexer.proofs.MarksOff.{mark_off}
-use Rattle.c_lexer.proofs.Passing.{behind_next, first_is, passed_run, prefix_done, word_byte}
+use Rattle.c_lexer.proofs.Passing.{behind_next, first_is, passed_run, prefix_done, prefix_next, word_byte}
 use Rattle.c_lexer.proofs.Puncts.{not_long}
 use Rattle.c_lexer.proofs.UnitsOff.{rare_none, run_at, word_none, word_run, word_stopped}
-use Rattle.c_lexer.proofs.WordsOff.{word_off}
-use Rattle.c_lexer.specs.Unit.{BeginsUnit}
+use Rattle.c_lexer.proofs.WordsOff.{letter_first, word_off}
 
 -- Words.
 
@@ -31,22 +31,26 @@ use Rattle.c_lexer.specs.Unit.{BeginsUnit}
 passed_all : (p q : ℕ → Bool) (x y : Coming) → ((b : ℕ) → q b ≡ true → p b ≡ true) → ArePassed q x y → starts p (bytes_of y.chars) ≡ false → y ≡ behind x (prefix_len p (bytes_of x.chars))
 passed_all p q x y more passed stops = sym (ap (λ n. behind y n) (prefix_done p (bytes_of y.chars) stops)) ∙ passed_run p q x y more passed
 
-pub word_ended : (x y : Coming) (c : LogicalChar) → BeginsUnit is_letter_unit (bytes_of x.chars) → ArePassed is_word_byte x y → slice_get y.chars 0 ≡ Some c → ends_word c.byte ≡ true → IsCutOff x y Identifier
-word_ended x y c letter passed next ends =
+pub word_ended : (x z y : Coming) (f c : LogicalChar) → IsBegun x f z → is_letter f.byte ≡ true → ArePassed is_word_byte z y → slice_get y.chars 0 ≡ Some c → ends_word c.byte ≡ true → IsCutOff x y Identifier
+word_ended x z y f c begun letter passed next ends =
     let parts = or_parts (is_letter c.byte || is_digit c.byte) (is_beyond c.byte || is_quote_mark c.byte) (not-true _ ends) in
     let far = or_parts (is_beyond c.byte) (is_quote_mark c.byte) parts.1 in
     let word : starts (λ b. is_letter b || is_digit b) (bytes_of y.chars) ≡ false = first_is (λ b. is_letter b || is_digit b) y.chars c next ∙ parts.0 in
     let beyond : starts is_beyond (bytes_of y.chars) ≡ false = first_is is_beyond y.chars c next ∙ far.0 in
     let quote : starts is_quote_mark (bytes_of y.chars) ≡ false = first_is is_quote_mark y.chars c next ∙ far.1 in
-    let whole = passed_all (λ b. is_letter b || is_digit b) is_word_byte x y word_byte passed word in
+    let rest = passed_all (λ b. is_letter b || is_digit b) is_word_byte z y word_byte passed word in
+    let whole = rest ∙ sym (prefix_next (λ b. is_letter b || is_digit b) x z f begun.chars_are begun.at_is begun.dialect_is (or_left (is_letter f.byte) (is_digit f.byte) letter)) in
     let rare = rare_none is_xid_continue (bytes_of y.chars) beyond in
     let run = word_run x y y whole (run_at is_word_unit y (word_none (bytes_of y.chars) (word_stopped x y whole) rare)) in
-    word_off x y letter run (λ q. absurd (both_ways (starts is_quote_mark (bytes_of y.chars)) quote q))
+    word_off x y (letter_first (bytes_of x.chars) (ap (λ s. starts is_letter (bytes_of s)) begun.chars_are ∙ letter)) run (λ q. absurd (both_ways (starts is_quote_mark (bytes_of y.chars)) quote q))
 
 -- Punctuators of one byte.
 
-pub one_behind : (x y : Coming) (c : LogicalChar) → x.chars ≡ c ∷ y.chars → y.at ≡ c.to → y.dialect ≡ x.dialect → y ≡ behind x 1
-one_behind x y c chars at dialect = sym (behind_next x y c 0 chars at dialect)
+pub one_behind : (x y : Coming) (c : LogicalChar) → IsBegun x c y → y ≡ behind x 1
+one_behind x y c begun = sym (behind_next x y c 0 begun.chars_are begun.at_is begun.dialect_is)
+
+pub begun_first : (x y : Coming) (c : LogicalChar) → IsBegun x c y → IsFirst c.byte (bytes_of x.chars)
+begun_first x y c begun = record { rest = bytes_of y.chars; whole = ap bytes_of begun.chars_are }
 
 lone_begins : (c : ℕ) → is_lone_mark c ≡ true → begins_punctuator c ≡ true
 unfolding is_lone_mark begins_punctuator
@@ -70,14 +74,16 @@ no_pair a b c s t whole second = ap (λ z. starts_with nat_eq z (a ∷ b ∷ [])
     at [] h = and_right (a == c) false refl
     at (e ∷ t) h = and_right (a == c) _ (rw h refl)
 
-pub lone_off : (x y : Coming) (d : Dialect) (f : ℕ) → d ≡ x.dialect → IsFirst f (bytes_of x.chars) → is_lone_mark f ≡ true → y ≡ behind x 1 → IsCutOff x y Punct
-lone_off x y d f same first lone left =
+pub lone_off : (x y : Coming) (d : Dialect) (c : LogicalChar) → d ≡ x.dialect → IsBegun x c y → is_lone_mark c.byte ≡ true → IsCutOff x y Punct
+lone_off x y d c same begun lone =
+    let f = c.byte in
+    let first = begun_first x y c begun in
     let other = lone_other f lone in
     let point : (f == 46 && starts is_digit first.rest) ≡ false = let no = other.1 in rw no refl in
     let apart : f ≡ 47 → ⊥ = λ e. both_ways (f == 47) other.2 (eq-eqb f 47 e) in
     mark_off x y d 1 same (starts_so begins_punctuator f (bytes_of x.chars) true first (lone_begins f lone)) (no_number f (bytes_of x.chars) first.rest first.whole other.0 point)
     (sym (two_apart 47 42 f (bytes_of x.chars) first apart)) (sym (two_apart 47 47 f (bytes_of x.chars) first apart))
-    (sym (not_long d (bytes_of x.chars) (stands_alone f (bytes_of x.chars) first (lone_short f lone)))) left
+    (sym (not_long d (bytes_of x.chars) (stands_alone f (bytes_of x.chars) first (lone_short f lone)))) (one_behind x y c begun)
 
 -- A punctuator's first byte, and what comes behind it.
 
@@ -102,21 +108,15 @@ begun_off x left d f n t same whole mark digit star slash len left_is =
 apart : (a b : ℕ) → (b == a) ≡ false → (a == b) ≡ false
 apart a b h = grind (arith, nat_tests)
 
-first_whole : (f : ℕ) (s : List LogicalChar) (c : LogicalChar) (t : List LogicalChar) → IsFirst f (bytes_of s) → s ≡ c ∷ t → bytes_of s ≡ f ∷ bytes_of t
-first_whole f s c t first chars =
-    let both : f ∷ first.rest ≡ c.byte ∷ bytes_of t = sym first.whole ∙ ap bytes_of chars in
-    let same : f ≡ c.byte = cc in
-    ap bytes_of chars ∙ ap (λ z. z ∷ bytes_of t) (sym same)
-
-pub ended_off : (x y : Coming) (d : Dialect) (f : ℕ) (c e : LogicalChar) → d ≡ x.dialect → IsFirst f (bytes_of x.chars) → x.chars ≡ c ∷ y.chars → y ≡ behind x 1 → slice_get y.chars 0 ≡ Some e → begins_punctuator f ≡ true → ends_mark e.byte ≡ true → IsCutOff x y Punct
-ended_off x y d f c e same first chars left next mark ends =
-    let whole = first_whole f x.chars c y.chars first chars in
+pub ended_off : (x y : Coming) (d : Dialect) (c e : LogicalChar) → d ≡ x.dialect → IsBegun x c y → slice_get y.chars 0 ≡ Some e → begins_punctuator c.byte ≡ true → ends_mark e.byte ≡ true → IsCutOff x y Punct
+ended_off x y d c e same begun next mark ends =
+    let whole : bytes_of x.chars ≡ c.byte ∷ bytes_of y.chars = ap bytes_of begun.chars_are in
     let parts = or_parts (goes_on_long e.byte) (is_digit e.byte || (e.byte == 47 || e.byte == 42)) (not-true _ ends) in
     let rest = or_parts (is_digit e.byte) (e.byte == 47 || e.byte == 42) parts.1 in
     let comment = or_parts (e.byte == 47) (e.byte == 42) rest.1 in
-    let short = short_there f (bytes_of x.chars) (bytes_of y.chars) whole (first_is goes_on_long y.chars e next ∙ parts.0) in
-    begun_off x y d f 1 (bytes_of y.chars) same whole mark (first_is is_digit y.chars e next ∙ rest.0) (first_is (λ b. 42 == b) y.chars e next ∙ apart 42 e.byte comment.1)
-    (first_is (λ b. 47 == b) y.chars e next ∙ apart 47 e.byte comment.0) (sym (not_long d (bytes_of x.chars) short)) left
+    let short = short_there c.byte (bytes_of x.chars) (bytes_of y.chars) whole (first_is goes_on_long y.chars e next ∙ parts.0) in
+    begun_off x y d c.byte 1 (bytes_of y.chars) same whole mark (first_is is_digit y.chars e next ∙ rest.0) (first_is (λ b. 42 == b) y.chars e next ∙ apart 42 e.byte comment.1)
+    (first_is (λ b. 47 == b) y.chars e next ∙ apart 47 e.byte comment.0) (sym (not_long d (bytes_of x.chars) short)) (one_behind x y c begun)
 
 -- Punctuators of two bytes.
 
@@ -167,12 +167,12 @@ pub next_bytes : (s : List LogicalChar) (e : LogicalChar) → slice_get s 0 ≡ 
 next_bytes [] e h = cc
 next_bytes (f ∷ s) e h = let same : f ≡ e = cc in ap (λ z. z.byte ∷ bytes_of s) same
 
-pub pair_off : (x y left : Coming) (d : Dialect) (f : ℕ) (c e : LogicalChar) → d ≡ x.dialect → IsFirst f (bytes_of x.chars) → x.chars ≡ c ∷ y.chars → y ≡ behind x 1 → slice_get y.chars 0 ≡ Some e → begins_punctuator f ≡ true → is_pair_mark f e.byte ≡ true
+pub pair_off : (x y left : Coming) (d : Dialect) (c e : LogicalChar) → d ≡ x.dialect → IsBegun x c y → slice_get y.chars 0 ≡ Some e → begins_punctuator c.byte ≡ true → is_pair_mark c.byte e.byte ≡ true
     → left ≡ behind y 1 → IsCutOff x left Punct
-pair_off x y left d f c e same first chars y_is next mark pair left_is =
-    let whole = first_whole f x.chars c y.chars first chars in
-    let second = pair_second f e.byte pair in
+pair_off x y left d c e same begun next mark pair left_is =
+    let whole : bytes_of x.chars ≡ c.byte ∷ bytes_of y.chars = ap bytes_of begun.chars_are in
+    let second = pair_second c.byte e.byte pair in
     let rest : bytes_of y.chars ≡ e.byte ∷ drop 1 (bytes_of y.chars) = next_bytes y.chars e next in
-    let len : first_front (long d) (bytes_of x.chars) ≡ 2 = ap (first_front (long d)) (whole ∙ ap (λ z. f ∷ z) rest) ∙ pair_len d f e.byte (drop 1 (bytes_of y.chars)) pair in
-    begun_off x left d f 2 (bytes_of y.chars) same whole mark (first_is is_digit y.chars e next ∙ second.0) (first_is (λ b. 42 == b) y.chars e next ∙ second.1)
-    (first_is (λ b. 47 == b) y.chars e next ∙ second.2) (sym len) (left_is ∙ (ap (λ z. behind z 1) y_is ∙ behind_again x 1 1))
+    let len : first_front (long d) (bytes_of x.chars) ≡ 2 = ap (first_front (long d)) (whole ∙ ap (λ z. c.byte ∷ z) rest) ∙ pair_len d c.byte e.byte (drop 1 (bytes_of y.chars)) pair in
+    begun_off x left d c.byte 2 (bytes_of y.chars) same whole mark (first_is is_digit y.chars e next ∙ second.0) (first_is (λ b. 42 == b) y.chars e next ∙ second.1)
+    (first_is (λ b. 47 == b) y.chars e next ∙ second.2) (sym len) (left_is ∙ (ap (λ z. behind z 1) (one_behind x y c begun) ∙ behind_again x 1 1))

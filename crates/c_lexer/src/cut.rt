@@ -11,10 +11,12 @@ ghost use Rattle.c_grammar.specs.Items.{IsLongest};
 ghost use Rattle.c_grammar.specs.declared.ItemKind.TheVariants.{Identifier, Number, Punct, Other, CharConst, StringLit, StrayQuote, LineComment, BlockComment};
 ghost use Rattle.c_lexer.specs.Cut.{IsCutOff, IsStop};
 ghost use Rattle.c_lexer.specs.Class.{IsFirst, begins_punctuator, is_quote_mark};
+ghost use Rattle.c_lexer.specs.Reading.{IsBegun};
 ghost use Rattle.c_lexer.specs.Run.{begins_number, head_len};
 ghost use Rattle.c_lexer.specs.Unit.{BeginsUnit, is_rare_unit};
 ghost use Rattle.unicode_ident.specs.Ident.{is_xid_start};
 
+use crate::line::Begun;
 use crate::{class, comment, front, line, punctuator, quote, unit, utf8, word};
 use c_chars::{Chars, Dialect};
 use c_grammar::ItemKind;
@@ -162,18 +164,16 @@ pub(crate) fn cut_quoted<'s>(text: &Chars<'s>) -> (ItemKind, Chars<'s>)
     }
 }
 
-/// What stands behind the punctuator that the text begins with, whose first byte is this one, where it
-/// and a plain byte behind it tell how long it is; none elsewhere.
+/// What stands behind the punctuator that is begun, where its first byte and a plain byte behind it tell
+/// how long it is; none elsewhere.
 #[inline(always)]
-fn behind_plain_mark<'s>(dialect: Dialect, text: &Chars<'s>, first: u8) -> Option<Chars<'s>>
-    requires dialect { dialect ≡ text.now.dialect }
-    requires first { IsFirst first (bytes_of text.now.chars) }
-    ensures { IfSome result (λ left. IsCutOff text.now left Punct) }
+fn behind_plain_mark<'s>(dialect: Dialect, begun: &Begun<'s>) -> Option<Chars<'s>>
+    requires dialect { dialect ≡ begun.now.text.dialect }
+    requires begun { IsBegun begun.now.text begun.now.first begun.now.behind }
+    ensures { IfSome result (λ left. IsCutOff begun.now.text left Punct) }
 {
-    let mut left = text.ahead();
-    if let None = left.next_plain() {
-        return None;
-    }
+    let first = begun.first.byte;
+    let left = begun.behind.ahead();
     if class::is_lone_mark(first) {
         return Some(left);
     }
@@ -195,47 +195,39 @@ fn behind_plain_mark<'s>(dialect: Dialect, text: &Chars<'s>, first: u8) -> Optio
     }
 }
 
-/// What stands behind the number that the text begins with, whose first byte is this digit, where it is
-/// of letters and digits and a plain byte behind it ends it; none elsewhere.
+/// What stands behind the number that this digit begins, where it is of letters and digits and a plain byte
+/// behind it ends it; none elsewhere.
 #[inline(always)]
-fn behind_plain_number<'s>(dialect: Dialect, text: &Chars<'s>, first: u8) -> Option<Chars<'s>>
-    requires dialect { dialect ≡ text.now.dialect }
-    requires first { IsFirst first (bytes_of text.now.chars) }
-    requires digit { IsTrue (is_digit first) }
-    ensures { IfSome result (λ left. IsCutOff text.now left Number) }
+fn behind_plain_number<'s>(dialect: Dialect, begun: &Begun<'s>) -> Option<Chars<'s>>
+    requires dialect { dialect ≡ begun.now.text.dialect }
+    requires begun { IsBegun begun.now.text begun.now.first begun.now.behind }
+    requires digit { IsTrue (is_digit begun.now.first.byte) }
+    ensures { IfSome result (λ left. IsCutOff begun.now.text left Number) }
 {
-    let mut rest = text.ahead();
-    if let None = rest.next_plain() {
-        return None;
-    }
-    unit::behind_plain_number(dialect, &rest)
+    unit::behind_plain_number(dialect, &begun.behind)
 }
 
-/// The item that the text begins with, whose first byte is this one, where it is a word, a number or a
-/// punctuator of plain bytes and one behind it ends it; none elsewhere.
+/// The item that is begun, where it is a word, a number or a punctuator of plain bytes and one behind it
+/// ends it; none elsewhere.
 #[inline(always)]
-pub(crate) fn cut_plain<'s>(
-    dialect: Dialect,
-    text: &Chars<'s>,
-    first: u8,
-) -> Option<(ItemKind, Chars<'s>)>
-    requires dialect { dialect ≡ text.now.dialect }
-    requires first { IsFirst first (bytes_of text.now.chars) }
-    ensures { IfSome result (λ r. IsCutOff text.now r.1 r.0) }
+pub(crate) fn cut_plain<'s>(dialect: Dialect, begun: &Begun<'s>) -> Option<(ItemKind, Chars<'s>)>
+    requires dialect { dialect ≡ begun.now.text.dialect }
+    requires begun { IsBegun begun.now.text begun.now.first begun.now.behind }
+    ensures { IfSome result (λ r. IsCutOff begun.now.text r.1 r.0) }
 {
-    if class::is_letter(first) {
-        return match word::behind_plain_word(text) {
+    if class::is_letter(begun.first.byte) {
+        return match word::behind_plain_word(begun) {
             Some(left) => Some((ItemKind::Identifier, left)),
             None => None,
         };
     }
-    if class::is_digit(first) {
-        return match behind_plain_number(dialect, text, first) {
+    if class::is_digit(begun.first.byte) {
+        return match behind_plain_number(dialect, begun) {
             Some(left) => Some((ItemKind::Number, left)),
             None => None,
         };
     }
-    match behind_plain_mark(dialect, text, first) {
+    match behind_plain_mark(dialect, begun) {
         Some(left) => Some((ItemKind::Punct, left)),
         None => None,
     }

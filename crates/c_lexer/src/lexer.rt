@@ -132,35 +132,31 @@ impl<'s> Lexer<'s> {
         ensures some { IfSome result (λ lexeme. IsNextLexeme self.old self.new lexeme) }
         ensures none { IfNone result (self.new ≡ self.old) }
     {
-        let Some(gap) = line::behind_plain_gap(&self.chars) else {
+        let Some(begun) = line::begin_plain(&self.chars) else {
             return None;
         };
-        let Some(first) = gap.rest.peek_plain() else {
+        let standing = place::past_gap(self.standing, begun.lines != 0);
+        let Some((kind, left)) = next::cut_plain(self.dialect, standing, &begun) else {
             return None;
         };
-        let standing = place::past_gap(self.standing, gap.lines != 0);
-        let Some((kind, left)) = next::cut_plain(self.dialect, standing, &gap.rest, first.byte)
-        else {
+        let Some(past) = place::past_plain(self.dialect, standing, kind, begun.first.byte) else {
             return None;
         };
-        let Some(past) = place::past_plain(self.dialect, standing, kind, first.byte) else {
-            return None;
-        };
-        if !ends_plainly(self.text, &gap.rest, &left) {
+        if !ends_plainly(self.text, &begun.text, &left) {
             return None;
         }
-        let raw = between(self.text, first.from as usize, left.at());
+        let raw = between(self.text, begun.first.from as usize, left.at());
         self.standing = past;
         self.chars = left;
         Some(Lexeme {
             item: Item {
                 kind,
                 raw,
-                start: first.from,
+                start: begun.first.from,
             },
-            lines: gap.lines,
-            bytes: gap.bytes,
-            white: gap.bytes != 0,
+            lines: begun.lines,
+            bytes: begun.bytes,
+            white: begun.bytes != 0,
             back: false,
         })
     }

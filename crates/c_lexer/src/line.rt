@@ -6,7 +6,7 @@ ghost use Rattle.c_chars.specs.Coming.{behind};
 ghost use Rattle.c_chars.specs.Characters.{bytes_of};
 ghost use Rattle.c_grammar.specs.Grammar.{is_new_line, is_white, is_letter, is_digit};
 ghost use Rattle.c_lexer.specs.Place.{IsSpanned};
-ghost use Rattle.c_lexer.specs.Reading.{IsGap, new_lines, bytes_in, first_gap};
+ghost use Rattle.c_lexer.specs.Reading.{IsBegun, IsGap, new_lines, bytes_in, first_gap};
 ghost use Rattle.c_grammar.specs.Touch.{starts};
 
 use crate::class;
@@ -84,35 +84,6 @@ pub(crate) struct Gap<'s> {
     pub rest: Chars<'s>,
 }
 
-/// The next character of the gap where a plain byte is it; none elsewhere, where it stays.
-#[inline(always)]
-fn next_plain_blank(chars: &mut Chars) -> Option<LogicalChar>
-    ensures dialect { chars.new.dialect ≡ chars.old.dialect }
-    ensures some { IfSome result (λ c. (chars.old.chars ≡ c ∷ chars.new.chars) × (chars.new.at ≡ c.to) × IsTrue (is_white c.byte || is_new_line c.byte)) }
-    ensures none { IfNone result (chars.new ≡ chars.old) }
-{
-    match chars.peek_plain() {
-        Some(c) => {
-            if !class::is_blank(c.byte) {
-                return None;
-            }
-            chars.next_plain()
-        }
-        None => None,
-    }
-}
-
-/// Whether a plain byte comes next that no gap goes on with.
-#[inline(always)]
-fn ends_gap(text: &Chars) -> bool
-    ensures { IsTrue result → IsFalse (starts (λ c. is_white c || is_new_line c) (bytes_of text.now.chars)) }
-{
-    match text.peek_plain() {
-        Some(c) => !class::is_blank(c.byte),
-        None => false,
-    }
-}
-
 /// The gap that the text begins with, and what stands behind it.
 pub(crate) fn behind_gap<'s>(text: &Chars<'s>) -> Gap<'s>
     requires { IsSpanned text.now }
@@ -131,25 +102,48 @@ pub(crate) fn behind_gap<'s>(text: &Chars<'s>) -> Gap<'s>
     Gap { lines, bytes, rest }
 }
 
-/// The gap that the text begins with, and what stands behind it, where all of it is of plain bytes and
-/// one behind it ends it; none elsewhere.
+/// An item that a plain byte begins, behind a gap of plain bytes.
+#[derive(Drop)]
+pub(crate) struct Begun<'s> {
+    /// How many new-lines the gap has.
+    pub lines: u32,
+    /// How many bytes the gap's characters are.
+    pub bytes: u32,
+    /// What the item begins.
+    pub text: Chars<'s>,
+    /// The item's first character.
+    pub first: LogicalChar,
+    /// What stands behind that character.
+    pub behind: Chars<'s>,
+}
+
+/// The gap that the text begins with and the first character of the item behind it, where plain bytes are
+/// all of them; none elsewhere. It looks at each byte once.
 #[inline(always)]
-pub(crate) fn behind_plain_gap<'s>(text: &Chars<'s>) -> Option<Gap<'s>>
+pub(crate) fn begin_plain<'s>(text: &Chars<'s>) -> Option<Begun<'s>>
     requires { IsSpanned text.now }
-    ensures { IfSome result (λ gap. IsGap text.now gap.lines gap.bytes gap.rest) }
+    ensures gap { IfSome result (λ begun. IsGap text.now begun.lines begun.bytes begun.text) }
+    ensures begun { IfSome result (λ begun. IsBegun begun.text begun.first begun.behind) }
 {
     let mut rest = text.ahead();
+    let mut behind = text.ahead();
     let mut lines = 0;
     let mut bytes = 0;
-    while let Some(blank) = next_plain_blank(&mut rest) {
-        lines += lines_of(blank.byte);
-        bytes += blank.to - blank.from;
+    while let Some(first) = behind.next_plain() {
+        if !class::is_blank(first.byte) {
+            return Some(Begun {
+                lines,
+                bytes,
+                text: rest,
+                first,
+                behind,
+            });
+        }
+        lines += lines_of(first.byte);
+        bytes += first.to - first.from;
+        rest = behind.ahead();
     }
-    if ends_gap(&rest) {
-        Some(Gap { lines, bytes, rest })
-    } else {
-        None
-    }
+    None
 }
 
 /// What stands behind the letters and digits that the text begins with.

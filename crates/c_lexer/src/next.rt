@@ -10,8 +10,10 @@ ghost use Rattle.c_lexer.specs.Class.{IsFirst};
 ghost use Rattle.c_lexer.specs.Cut.{IsStop};
 ghost use Rattle.c_lexer.specs.Next.{IsCutNext};
 ghost use Rattle.c_lexer.specs.Place.{place_of};
+ghost use Rattle.c_lexer.specs.Reading.{IsBegun};
 
 use crate::cut::{self, Stop};
+use crate::line::Begun;
 use crate::place::Standing;
 use crate::quote;
 use c_chars::{Chars, Dialect};
@@ -62,24 +64,21 @@ fn is_behind_include(standing: Standing) -> bool
     matches!(standing, Standing::BehindInclude)
 }
 
-/// The item that stands next in the text, which begins with this byte, and what stands behind it, where
-/// plain bytes tell all of it; none elsewhere.
+/// The item that is begun and what stands behind it, where plain bytes tell all of it; none elsewhere.
 #[inline(always)]
 pub(crate) fn cut_plain<'s>(
     dialect: Dialect,
     standing: Standing,
-    text: &Chars<'s>,
-    first: u8,
+    begun: &Begun<'s>,
 ) -> Option<(ItemKind, Chars<'s>)>
-    requires dialect { dialect ≡ text.now.dialect }
-    requires some { 0 < length text.now.chars }
-    requires first { IsFirst first (bytes_of text.now.chars) }
-    ensures { IfSome result (λ r. IsCutNext (place_of standing) text.now r.1 r.0) }
+    requires dialect { dialect ≡ begun.now.text.dialect }
+    requires begun { IsBegun begun.now.text begun.now.first begun.now.behind }
+    ensures { IfSome result (λ r. IsCutNext (place_of standing) begun.now.text r.1 r.0) }
 {
     if is_behind_include(standing) {
         return None;
     }
-    match cut::cut_plain(dialect, text, first) {
+    match cut::cut_plain(dialect, begun) {
         Some((kind, left)) => Some((kind, left)),
         None => None,
     }

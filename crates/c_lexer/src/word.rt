@@ -3,15 +3,17 @@
 ghost use Rattle.std.specs.Prelude.{◌≡◌, ◌∷◌, ◌++◌, ◌+◌, ◌==◌, ◌&&◌, not, [], length, drop, codes, nat_eq, IsTrue, IsFalse, IfSome, MatchOption};
 ghost use Rattle.std.specs.List.{starts_with};
 ghost use Rattle.c_chars.specs.Characters.{bytes_of};
-ghost use Rattle.c_grammar.specs.Grammar.{is_letter_unit, is_word_unit, is_char_prefix, is_string_prefix};
+ghost use Rattle.c_grammar.specs.Grammar.{is_letter, is_letter_unit, is_word_unit, is_char_prefix, is_string_prefix};
 ghost use Rattle.c_grammar.specs.Touch.{starts};
 ghost use Rattle.c_grammar.specs.declared.ItemKind.TheVariants.{CharConst, Identifier, StringLit};
 ghost use Rattle.c_lexer.specs.Class.{is_quote_mark};
 ghost use Rattle.c_lexer.specs.Cut.{IsCutOff};
 ghost use Rattle.c_lexer.specs.Literal.{is_string_at, is_constant_at, is_literal, begins_literal};
+ghost use Rattle.c_lexer.specs.Reading.{IsBegun};
 ghost use Rattle.c_lexer.specs.Unit.{BeginsUnit, IsRunOff};
 
-use crate::{class, cut, front, line, unit};
+use crate::line::Begun;
+use crate::{class, cut, front, unit};
 use c_chars::{Chars, Dialect};
 use c_grammar::ItemKind;
 
@@ -155,14 +157,15 @@ pub(crate) fn cut_word<'s>(dialect: Dialect, text: &Chars<'s>) -> (ItemKind, Cha
     (ItemKind::Identifier, left)
 }
 
-/// What stands behind the word that the text begins with, where it is of plain bytes and one behind it
-/// ends it; none elsewhere.
+/// What stands behind the word that is begun, where it is of plain bytes and one behind it ends it; none
+/// elsewhere.
 #[inline(always)]
-pub(crate) fn behind_plain_word<'s>(text: &Chars<'s>) -> Option<Chars<'s>>
-    requires { BeginsUnit is_letter_unit (bytes_of text.now.chars) }
-    ensures { IfSome result (λ left. IsCutOff text.now left Identifier) }
+pub(crate) fn behind_plain_word<'s>(begun: &Begun<'s>) -> Option<Chars<'s>>
+    requires begun { IsBegun begun.now.text begun.now.first begun.now.behind }
+    requires letter { IsTrue (is_letter begun.now.first.byte) }
+    ensures { IfSome result (λ left. IsCutOff begun.now.text left Identifier) }
 {
-    let mut left = text.ahead();
+    let mut left = begun.behind.ahead();
     left.pass_word();
     match left.peek_plain() {
         Some(c) => {

@@ -6,5 +6,5 @@ use Rattle.c_lexer.proofs.word.behind_plain_word.Goals as goal
 
 pub returns-then-ends_word : goal.returns-then-ends_word
 returns-then-ends_word c =
-    word_ended c.args.text.now c.pass_word.new.self c.in-Some.c c.requires (subst (λ z. ArePassed is_word_byte z c.pass_word.new.self) c.ahead-left.ensures c.pass_word.ensures) c.in-Some.ensures
-    (sym c.ends_word.ensures ∙ c.if-ends_word.true)
+    word_ended c.args.begun.now.text c.args.begun.now.behind c.pass_word.new.self c.args.begun.now.first c.in-Some.c c.requires.begun c.requires.letter
+    (subst (λ z. ArePassed is_word_byte z c.pass_word.new.self) c.ahead-left.ensures c.pass_word.ensures) c.in-Some.ensures (sym c.ends_word.ensures ∙ c.if-ends_word.true)

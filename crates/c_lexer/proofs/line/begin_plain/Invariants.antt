@@ -5,10 +5,11 @@ use Rattle.c_chars.specs.Coming.{behind}
 use Rattle.c_grammar.specs.Grammar.{is_white, is_new_line}
 use Rattle.c_lexer.specs.Place.{IsSpanned}
 use Rattle.c_lexer.specs.Reading.{new_lines, bytes_in, first_gap}
-use Rattle.c_lexer.proofs.line.behind_plain_gap.Given as goal
+use Rattle.c_lexer.proofs.line.begin_plain.Given as goal
 
-abbrev pub invariant-loop-blank : goal.invariant-loop-blank
-invariant-loop-blank l = record {
+abbrev pub invariant-loop-first : goal.invariant-loop-first
+invariant-loop-first l = record {
+  behind_is : l.behind ≡ l.rest;
   spans : IsSpanned l.rest;
   few_lines : l.lines ≤ l.rest.at;
   few_bytes : l.bytes ≤ l.rest.at;
@@ -17,5 +18,5 @@ invariant-loop-blank l = record {
   rest_is : behind l.rest (prefix_len (λ x. is_white x || is_new_line x) (bytes_of l.rest.chars)) ≡ behind l.text (prefix_len (λ x. is_white x || is_new_line x) (bytes_of l.text.chars));
 }
 
-abbrev pub decreases-loop-blank : goal.decreases-loop-blank
-decreases-loop-blank l = length l.rest.chars
+abbrev pub decreases-loop-first : goal.decreases-loop-first
+decreases-loop-first l = length l.behind.chars
