@@ -72,7 +72,7 @@ fn is_exponent(b: u8) -> bool
 pub(crate) fn is_word(b: u8) -> bool
     ensures { result ≡ (is_letter b || is_digit b) }
 {
-    is_letter(b) || is_digit(b)
+    c_chars::is_word_byte(b)
 }
 
 /// An apostrophe or a quotation mark.
