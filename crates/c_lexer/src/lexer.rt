@@ -124,9 +124,9 @@ impl<'s> Lexer<'s> {
     }
 
     /// The next item, with what it and its gap tell, where plain bytes tell all of it; none elsewhere,
-    /// where it stays. It calls nothing.
+    /// where it stays. Where `again` is false no character is read again, and nothing is called.
     #[inline(always)]
-    fn next_plain(&mut self) -> Option<Lexeme<'s>>
+    fn next_plain(&mut self, again: bool) -> Option<Lexeme<'s>>
         ensures text { self.new.text ≡ self.old.text }
         ensures dialect { self.new.dialect ≡ self.old.dialect }
         ensures some { IfSome result (λ lexeme. IsNextLexeme self.old self.new lexeme) }
@@ -139,7 +139,15 @@ impl<'s> Lexer<'s> {
         let Some((kind, left)) = next::cut_plain(self.dialect, standing, &begun) else {
             return None;
         };
-        let Some(past) = place::past_plain(self.dialect, standing, kind, begun.first.byte) else {
+        let Some(past) = place::past_begun(
+            again,
+            self.dialect,
+            standing,
+            kind,
+            begun.first.byte,
+            &begun.text,
+            &left,
+        ) else {
             return None;
         };
         if !ends_plainly(self.text, &begun.text, &left) {
@@ -161,9 +169,10 @@ impl<'s> Lexer<'s> {
         })
     }
 
-    /// The next item, with what it and its gap tell, whatever it is; none exactly where no item is left.
+    /// The next item, with what it and its gap tell, whatever it is written as; none
+    /// exactly where no item is left.
     #[inline(never)]
-    fn next_any(&mut self) -> Result<Option<Lexeme<'s>>, LexFault>
+    fn next_rest(&mut self) -> Result<Option<Lexeme<'s>>, LexFault>
         ensures text { self.new.text ≡ self.old.text }
         ensures dialect { self.new.dialect ≡ self.old.dialect }
         ensures some { IfOk result (λ next. MatchOption next (IsTrue (is_gap (bytes_of self.old.left.chars))) (λ lexeme. IsNextLexeme self.old self.new lexeme)) }
@@ -198,6 +207,23 @@ impl<'s> Lexer<'s> {
         }
     }
 
+    /// The next item, with what it and its gap tell, where it isn't told at once; none exactly where no
+    /// item is left.
+    #[inline(never)]
+    fn next_any(&mut self) -> Result<Option<Lexeme<'s>>, LexFault>
+        ensures text { self.new.text ≡ self.old.text }
+        ensures dialect { self.new.dialect ≡ self.old.dialect }
+        ensures some { IfOk result (λ next. MatchOption next (IsTrue (is_gap (bytes_of self.old.left.chars))) (λ lexeme. IsNextLexeme self.old self.new lexeme)) }
+        ensures end { IfOk result (λ next. MatchOption next (self.new ≡ self.old) (λ lexeme. ⊤)) }
+        ensures fault { IfErr result (λ fault. IsFault self.old fault) }
+        ensures stays { IfErr result (λ fault. self.new ≡ self.old) }
+    {
+        match self.next_plain(true) {
+            Some(lexeme) => Ok(Some(lexeme)),
+            None => self.next_rest(),
+        }
+    }
+
     /// The next item, with what it and its gap tell; none exactly where no item is left.
     #[inline(always)]
     pub fn next_lexeme(&mut self) -> Result<Option<Lexeme<'s>>, LexFault>
@@ -208,7 +234,7 @@ impl<'s> Lexer<'s> {
         ensures fault { IfErr result (λ fault. IsFault self.old fault) }
         ensures stays { IfErr result (λ fault. self.new ≡ self.old) }
     {
-        match self.next_plain() {
+        match self.next_plain(false) {
             Some(lexeme) => Ok(Some(lexeme)),
             None => {
                 // By a name of its own, so that what this function gives needs no place in memory.

@@ -8,6 +8,7 @@ ghost use Rattle.c_grammar.specs.Grammar.{is_same};
 ghost use Rattle.c_grammar.specs.Touch.{starts};
 ghost use Rattle.c_grammar.specs.Items.{LineStart, past_item, past_name, past_comment, is_hash, is_include};
 ghost use Rattle.c_grammar.specs.declared.ItemKind.TheVariants.{Identifier, Punct, Other, BlockComment};
+ghost use Rattle.c_lexer.specs.Class.{IsFirst};
 ghost use Rattle.c_lexer.specs.Place.{place_of, past_plain, past_mark, past_word, IsSpanned, SpelledBy};
 
 use crate::front;
@@ -197,12 +198,7 @@ fn past_plain_mark(standing: Standing, first: u8) -> Option<Standing>
 
 /// Behind an item of this kind that begins with this byte, where that tells the place; none elsewhere.
 #[inline(always)]
-pub(crate) fn past_plain(
-    dialect: Dialect,
-    standing: Standing,
-    kind: ItemKind,
-    first: u8,
-) -> Option<Standing>
+fn past_plain(dialect: Dialect, standing: Standing, kind: ItemKind, first: u8) -> Option<Standing>
     ensures { IfSome result (λ past. (s : List ℕ) → IsFalse (starts (λ c. not (c == first)) s) → place_of past ≡ past_item dialect (place_of standing) kind s) }
 {
     match kind {
@@ -216,6 +212,32 @@ pub(crate) fn past_plain(
         | ItemKind::Other
         | ItemKind::BlockComment
         | ItemKind::LineComment => None,
+    }
+}
+
+/// Behind an item of this kind that begins with this byte, whose characters are those of the text up to
+/// what is left of it. Where `again` is false they are not read again, and none is told where they would
+/// have to be.
+#[inline(always)]
+pub(crate) fn past_begun(
+    again: bool,
+    dialect: Dialect,
+    standing: Standing,
+    kind: ItemKind,
+    first: u8,
+    text: &Chars,
+    left: &Chars,
+) -> Option<Standing>
+    requires spans { IsSpanned text.now }
+    requires first { IsFirst first (bytes_of text.now.chars) }
+    ensures { IfSome result (λ past. SpelledBy text.now left.now (λ s. place_of past ≡ past_item dialect (place_of standing) kind s)) }
+{
+    if again {
+        return Some(past_item(dialect, standing, kind, text, left));
+    }
+    match past_plain(dialect, standing, kind, first) {
+        Some(past) => Some(past),
+        None => None,
     }
 }
 
