@@ -83,7 +83,9 @@ pub struct BracketFacts<'r> {
 }
 
 /// The partners of the places of a view and the gaps before them that are kept, read in one pass over the classes of
-/// its tokens. Want of memory is the only error.
+/// its tokens.
+///
+/// `docs/PROFILE.md` says under "Partners" and "Kept gaps" which these are. Want of memory is the only error.
 pub fn bracket_facts<'r>(
     classes: &[TokenClass],
     run: &'r Bump,
@@ -99,25 +101,4 @@ pub fn bracket_facts<'r>(
         spread(kept, partners);
     }
     Ok(BracketFacts { partners, kept })
-}
-
-/// Of each place of a view, whether the gap before it is kept as it is, by the classes of its tokens and their partners.
-///
-/// `docs/PROFILE.md` says under "Kept gaps" which gaps those are. Want of memory is the only error.
-pub fn kept_gaps<'r>(
-    classes: &[TokenClass],
-    partners: &[Partner],
-    run: &'r Bump,
-) -> Result<&'r [bool], NoMemory>
-    requires few { length classes.now < 2 ^ 32 }
-    requires partners { partners.now ≡ partners_of classes.now }
-    ensures kept { IfOk result (λ kept. kept.now ≡ kept_gaps_of classes.now) }
-    ensures count { IfOk result (λ kept. length kept.now ≡ length classes.now) }
-{
-    let marks = into_bump_slice_mut(vec![in run; false; classes.len()]?);
-    let again = into_bump_slice_mut(vec![in run; Partner::none(); classes.len()]?);
-    if read_brackets(classes, again, marks, run)? {
-        spread(marks, partners);
-    }
-    Ok(marks)
 }

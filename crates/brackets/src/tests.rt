@@ -4,8 +4,7 @@ use crate::TokenClass::{
     self, CloseBrace, CloseRound, CloseSquare, OpenBrace, OpenRound, OpenSquare,
 };
 use crate::{
-    Partner, bracket_facts, classes_among, item_classes, kept_gaps, partners_of_classes, spelling,
-    words,
+    Partner, bracket_facts, classes_among, item_classes, partners_of_classes, spelling, words,
 };
 use bumpalo::Bump;
 use c_chars::Dialect;
@@ -88,12 +87,14 @@ fn keeps_the_gaps_of_statement_braces(rt: HostRuntime) -> Result<(), Fail> {
             .map(|letter| letter_class(*letter))
             .collect(rt.alloc())?;
         assert!(rt; classes.len() < 100);
-        let partners = partners_of_classes(&classes, &run)?;
-        let kept = kept_gaps(&classes, partners, &run)?;
         let facts = bracket_facts(&classes, &run)?;
-        assert_eq!(rt; facts.partners, partners, "{name}");
-        assert_eq!(rt; facts.kept, kept, "{name}");
-        let found: Vec<u8, _> = kept
+        assert_eq!(rt;
+            facts.partners,
+            partners_of_classes(&classes, &run)?,
+            "{name}"
+        );
+        let found: Vec<u8, _> = facts
+            .kept
             .iter()
             .map(|kept| if *kept { b'^' } else { b'.' })
             .collect(rt.alloc())?;
