@@ -5,8 +5,8 @@ ghost use Rattle.std.specs.List.{range_with_len};
 ghost use Rattle.brackets.specs.Partners.{partners_of, count_braces, StandBefore};
 ghost use Rattle.brackets.specs.Kept.{is_statement_brace, is_inside, kept_gaps_of, marked, AreOpeners};
 
-use crate::TokenClass;
 use crate::pairing::{Opener, waiting_step};
+use crate::{Partner, TokenClass};
 use bumpalo::Bump;
 use bumpalo::collections::into_bump_slice_mut;
 use line_tokens::NoMemory;
@@ -52,7 +52,7 @@ fn mark_statement_braces(
 }
 
 /// Puts in place of the marks of braces those of the gaps between a marked brace and its partner.
-fn spread(marks: &mut [bool], partners: &[Option<u32>])
+fn spread(marks: &mut [bool], partners: &[Partner])
     requires { length marks.old ≡ length partners.now }
     ensures { marks.new ≡ map (is_inside marks.old partners.now) (range_with_len 0 (length marks.old)) }
 {
@@ -61,7 +61,7 @@ fn spread(marks: &mut [bool], partners: &[Option<u32>])
         let is_brace = *mark;
         *mark = i < end;
         if is_brace {
-            if let Some(partner) = partners[i] {
+            if let Some(partner) = partners[i].place() {
                 end = end.max(partner as usize + 1);
             }
         }
@@ -73,7 +73,7 @@ fn spread(marks: &mut [bool], partners: &[Option<u32>])
 /// `docs/PROFILE.md` says under "Kept gaps" which gaps those are. Want of memory is the only error.
 pub fn kept_gaps<'r>(
     classes: &[TokenClass],
-    partners: &[Option<u32>],
+    partners: &[Partner],
     run: &'r Bump,
 ) -> Result<&'r [bool], NoMemory>
     requires few { length classes.now < 2 ^ 32 }

@@ -4,7 +4,7 @@ ghost use Rattle.std.specs.Prelude.{◌≡◌, ◌∷◌, [], ◌++◌, ◌<◌,
 ghost use Rattle.std.specs.Option.{ForSome, ForNone};
 ghost use Rattle.brackets.specs.Partners.{partners_of, count_braces, nearest_brace, topmost, is_round, is_square, bracket_step, matching_of, paired, TakesStep, StandBefore};
 
-use crate::TokenClass;
+use crate::{Partner, TokenClass};
 use bumpalo::Bump;
 use bumpalo::collections::into_bump_slice;
 use line_tokens::NoMemory;
@@ -81,17 +81,19 @@ fn take_round(stack: &mut Vec<Opener, &Bump>) -> Option<u32>
 }
 
 /// Makes the two places partners.
-fn match_up(partners: &mut [Option<u32>], o: u32, i: u32)
+fn match_up(partners: &mut [Partner], o: u32, i: u32)
+    requires few { length partners.old < 2 ^ 32 }
     requires opener { o < length partners.old }
     requires closer { i < length partners.old }
     ensures { partners.new ≡ slice_set (slice_set partners.old o (Some i)) i (Some o) }
 {
-    partners[o as usize] = Some(i);
-    partners[i as usize] = Some(o);
+    partners[o as usize] = Partner::at(i);
+    partners[i as usize] = Partner::at(o);
 }
 
 /// Makes the opener and the closer partners, where the closer has one.
-fn close(partners: &mut [Option<u32>], o: Option<u32>, i: u32)
+fn close(partners: &mut [Partner], o: Option<u32>, i: u32)
+    requires few { length partners.old < 2 ^ 32 }
     requires opener { ForSome o (λ p. p < length partners.old) }
     requires closer { i < length partners.old }
     ensures { partners.new ≡ paired partners.old o i }
@@ -138,7 +140,7 @@ pub(crate) fn waiting_step(
 fn bracket_step(
     stack: &mut Vec<Opener, &Bump>,
     braces: &mut usize,
-    partners: &mut [Option<u32>],
+    partners: &mut [Partner],
     i: u32,
     c: TokenClass,
 ) -> Result<(), NoMemory>
@@ -146,6 +148,7 @@ fn bracket_step(
     requires small { braces.old ≤ i }
     requires before { StandBefore i (reverse stack.old.items) }
     requires here { i < length partners.old }
+    requires few { length partners.old < 2 ^ 32 }
     ensures step { OnOk result (matching_of stack.new.items partners.new ≡ bracket_step c i (matching_of stack.old.items partners.old)) }
     ensures count { OnOk result (braces.new ≡ count_braces (reverse stack.new.items)) }
     ensures small { OnOk result (braces.new ≤ i + 1) }
@@ -160,11 +163,11 @@ fn bracket_step(
 pub fn partners_of_classes<'r>(
     classes: &[TokenClass],
     run: &'r Bump,
-) -> Result<&'r [Option<u32>], NoMemory>
+) -> Result<&'r [Partner], NoMemory>
     requires { length classes.now < 2 ^ 32 }
     ensures { IfOk result (λ partners. partners.now ≡ partners_of classes.now) }
 {
-    let mut partners = vec![in run; None; classes.len()]?;
+    let mut partners = vec![in run; Partner::none(); classes.len()]?;
     let mut stack: Vec<Opener, &Bump> = Vec::new(run);
     let mut braces: usize = 0;
     for (i, c) in classes.iter().enumerate() {

@@ -3,7 +3,9 @@
 use crate::TokenClass::{
     self, CloseBrace, CloseRound, CloseSquare, OpenBrace, OpenRound, OpenSquare,
 };
-use crate::{classes_among, item_classes, kept_gaps, partners_of_classes, spelling, words};
+use crate::{
+    Partner, classes_among, item_classes, kept_gaps, partners_of_classes, spelling, words,
+};
 use bumpalo::Bump;
 use c_chars::Dialect;
 use std::test::Fail;
@@ -13,22 +15,28 @@ use token_views::View;
 #[test]
 fn pairs_brackets(rt: HostRuntime) -> Result<(), Fail> {
     let run = Bump::new(rt.alloc());
+    let none = Partner::none();
     for (classes, want) in [
         (
             [OpenRound, OpenSquare, CloseRound, CloseSquare],
-            [None, Some(3), None, Some(1)],
+            [none, Partner::at(3), none, Partner::at(1)],
         ),
         (
             [OpenBrace, OpenRound, CloseBrace, CloseRound],
-            [Some(2), None, Some(0), None],
+            [Partner::at(2), none, Partner::at(0), none],
         ),
         (
             [CloseBrace, OpenRound, CloseBrace, CloseRound],
-            [None, Some(3), None, Some(1)],
+            [none, Partner::at(3), none, Partner::at(1)],
         ),
         (
             [OpenBrace, OpenBrace, CloseBrace, CloseBrace],
-            [Some(3), Some(2), Some(1), Some(0)],
+            [
+                Partner::at(3),
+                Partner::at(2),
+                Partner::at(1),
+                Partner::at(0),
+            ],
         ),
     ] {
         let found = partners_of_classes(&classes, &run)?;

@@ -2,19 +2,46 @@
 
 ghost use Rattle.std.specs.Prelude.{◌≡◌, ◌<◌, ◌≤◌, length, IfOk};
 ghost use Rattle.c_chars.specs.declared.TheConstants.{LIMIT};
+ghost use Rattle.c_grammar.specs.declared.ItemKind.{ItemKind};
+ghost use Rattle.c_grammar.specs.Rewritten.{read_alone};
 ghost use Rattle.brackets.specs.Partners.{partners_of};
+ghost use Rattle.brackets.specs.Words.{class_spelled};
 ghost use Rattle.brackets.specs.Viewed.{AreWithin, item_class, item_classes, classes_of};
 
 use crate::class::TokenClass;
 use crate::pairing::partners_of_classes;
+use crate::partner::Partner;
 use crate::{spelling, words};
 use bumpalo::Bump;
 use bumpalo::collections::into_bump_slice;
+use c_chars::Dialect;
 use line_tokens::{NoMemory, TokenId};
 use token_arena::{ItemKind, TokenArena};
 use token_views::View;
 
+/// The class of a punctuator. One of a single byte is spelled by that byte, whichever it is.
+#[inline(always)]
+fn punctuator_class(dialect: Dialect, raw: &[u8], run: &Bump) -> Result<TokenClass, NoMemory>
+    ensures { IfOk result (λ class. class ≡ class_spelled ItemKind.Punct (read_alone dialect raw.now)) }
+{
+    if let [mark] = raw {
+        return Ok(words::mark_class(*mark));
+    }
+    let spelled = spelling::spelling(dialect, raw, run)?;
+    Ok(words::punctuator_class(spelled))
+}
+
+/// The class of a word.
+#[inline(always)]
+fn word_class(dialect: Dialect, raw: &[u8], run: &Bump) -> Result<TokenClass, NoMemory>
+    ensures { IfOk result (λ class. class ≡ class_spelled ItemKind.Identifier (read_alone dialect raw.now)) }
+{
+    let spelled = spelling::spelling(dialect, raw, run)?;
+    Ok(words::word_class(spelled))
+}
+
 /// The class of an item.
+#[inline(always)]
 pub fn item_class(
     arena: &TokenArena<'_, '_>,
     id: TokenId,
@@ -25,14 +52,8 @@ pub fn item_class(
 {
     let token = arena.get(id);
     match token.item.kind {
-        ItemKind::Identifier => {
-            let spelled = spelling::spelling(arena.dialect(), token.item.raw, run)?;
-            Ok(words::word_class(spelled))
-        }
-        ItemKind::Punct => {
-            let spelled = spelling::spelling(arena.dialect(), token.item.raw, run)?;
-            Ok(words::punctuator_class(spelled))
-        }
+        ItemKind::Identifier => word_class(arena.dialect(), token.item.raw, run),
+        ItemKind::Punct => punctuator_class(arena.dialect(), token.item.raw, run),
         ItemKind::StringLit => Ok(TokenClass::Text),
         ItemKind::LineComment => Ok(TokenClass::LineComment),
         ItemKind::BlockComment => Ok(TokenClass::BlockComment),
@@ -113,7 +134,7 @@ pub fn partners<'r>(
     arena: &TokenArena<'_, '_>,
     view: &View<'_>,
     run: &'r Bump,
-) -> Result<&'r [Option<u32>], NoMemory>
+) -> Result<&'r [Partner], NoMemory>
     requires { AreWithin arena.now view.now }
     ensures { IfOk result (λ partners. partners.now ≡ partners_of (classes_of arena.now view.now)) }
 {

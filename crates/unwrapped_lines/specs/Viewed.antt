@@ -1,5 +1,6 @@
 -- A view as a list of tokens and comments.
-use Rattle.std.specs.Prelude.{◌&&◌, ◌||◌, not, ℕ, ◌+◌, nat_le, Bool, false, Option, Some, None, List, [], ◌∷◌, length, map, get_or, slice_get, if◌then◌else◌}
+use Rattle.std.specs.Prelude.{◌≡◌, ◌⊎◌, ◌&&◌, ◌||◌, not, ℕ, ◌+◌, nat_le, Bool, false, Option, Some, None, List, [], ◌∷◌, length, map, get_or, slice_get, if◌then◌else◌}
+use Rattle.std.specs.List.{range_with_len}
 use Rattle.token_arena.specs.Gaps.{Contents}
 use Rattle.token_arena.specs.Stored.{Stored}
 use Rattle.brackets.specs.declared.class.TokenClass.{TokenClass}
@@ -41,6 +42,10 @@ numbers_from n (c ∷ cs) = n ∷ numbers_from (if is_comment c then n else n + 
 
 abbrev pub numbers_of : List TokenClass → List ℕ
 numbers_of classes = numbers_from 0 classes
+
+-- These are the numbers of all places; or there are none, and each place is its own number.
+abbrev pub AreNumbers : List ℕ → List TokenClass → Type 0
+AreNumbers numbers classes = (numbers ≡ numbers_of classes) ⊎ ((numbers ≡ []) × (numbers_of classes ≡ range_with_len 0 (length classes)))
 
 -- a partner, counted over them
 abbrev pub partner_number : List ℕ → Option (Option ℕ) → Option ℕ

@@ -26,6 +26,7 @@ fn token_follows(parts: &[Part], from: usize) -> bool
 }
 
 /// Whether no line goes on at a place.
+#[inline(always)]
 fn is_between(lines: &[Line], total: usize, end_level: u32, m: Marks) -> bool
     ensures { result ≡ is_between (record { lines = lines.now; total = total; end_level = end_level }) m }
 {
@@ -163,10 +164,20 @@ pub fn begins<'r>(
     };
     let mut k = 0;
     while k < parts.len() {
-        if let Some(b) = new_begin(lines, total, end_level, parts, k, parts[k], m) {
-            out.push(b)?;
+        let part = parts[k];
+        if part == Part::Token && !is_between(lines, total, end_level, m) {
+            // Most places: a token inside a line.
+            m = Marks {
+                seen: m.seen + 1,
+                begun: m.begun,
+                run: Run::Apart,
+            };
+        } else {
+            if let Some(b) = new_begin(lines, total, end_level, parts, k, part, m) {
+                out.push(b)?;
+            }
+            m = next_marks(lines, total, end_level, parts, k, part, m);
         }
-        m = next_marks(lines, total, end_level, parts, k, parts[k], m);
         k += 1;
     }
     Ok(out)

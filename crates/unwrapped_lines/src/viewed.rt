@@ -4,12 +4,14 @@ ghost use Rattle.std.specs.Prelude.{◌≡◌, ◌<◌, ◌≤◌, ◌+◌, ◌^
 ghost use Rattle.brackets.specs.Viewed.{AreWithin, classes_of};
 ghost use Rattle.brackets.specs.Classes.{is_comment};
 ghost use Rattle.brackets.specs.declared.class.TokenClass.TheVariants.{Nothing};
-ghost use Rattle.unwrapped_lines.specs.Viewed.{item_began, line_ends_behind, colon_touches, numbers_of, partner_number, token_at, code_tokens, part_of, parts_of};
+ghost use Rattle.unwrapped_lines.specs.Viewed.{item_began, line_ends_behind, colon_touches, numbers_of, AreNumbers, partner_number, token_at, code_tokens, part_of, parts_of};
+ghost use Rattle.std.specs.Bool.{OnFalse};
+ghost use Rattle.std.specs.List.{range_with_len};
 ghost use Rattle.c_chars.specs.declared.TheConstants.{LIMIT};
 
 use crate::part::Part;
 use crate::token::CodeToken;
-use brackets::{TokenClass, item_class};
+use brackets::{Partner, TokenClass, item_class};
 use bumpalo::Bump;
 use line_tokens::{NoMemory, TokenId};
 use token_arena::TokenArena;
@@ -22,6 +24,15 @@ fn item_began(arena: &TokenArena<'_, '_>, id: u32) -> bool
     id < arena.len() && arena.get(TokenId(id)).gap.began
 }
 
+/// Whether the item with a number began its line.
+#[inline(always)]
+fn began(arena: &TokenArena<'_, '_>, id: u32) -> bool
+    requires { id < length arena.now.tokens }
+    ensures { result ≡ item_began arena.now id }
+{
+    arena.get(TokenId(id)).gap.began
+}
+
 /// Whether a new-line or the end of the file comes behind an item.
 fn line_ends_behind(arena: &TokenArena<'_, '_>, id: u32) -> bool
     requires { id < length arena.now.tokens }
@@ -32,6 +43,7 @@ fn line_ends_behind(arena: &TokenArena<'_, '_>, id: u32) -> bool
 }
 
 /// Whether a colon comes directly behind an item, with nothing between them.
+#[inline(never)]
 fn colon_touches(arena: &TokenArena<'_, '_>, id: u32, run: &Bump) -> Result<bool, NoMemory>
     requires { id < length arena.now.tokens }
     ensures { IfOk result (λ touches. touches ≡ colon_touches arena.now id) }
@@ -48,8 +60,32 @@ fn colon_touches(arena: &TokenArena<'_, '_>, id: u32, run: &Bump) -> Result<bool
     Ok(class.is_colon())
 }
 
-/// How many tokens that are no comments stand before each place.
+/// Whether a comment stands among the classes.
+fn has_comment(classes: &[TokenClass]) -> bool
+    ensures { OnFalse result (numbers_of classes.now ≡ range_with_len 0 (length classes.now)) }
+{
+    for class in classes {
+        if class.is_comment() {
+            return true;
+        }
+    }
+    false
+}
+
+/// How many tokens that are no comments stand before each place; nothing where there is no comment.
 fn numbers<'r>(classes: &[TokenClass], run: &'r Bump) -> Result<Vec<u32, &'r Bump>, NoMemory>
+    requires { length classes.now ≤ LIMIT }
+    ensures { IfOk result (λ numbers. AreNumbers numbers.items classes.now) }
+{
+    if has_comment(classes) {
+        all_numbers(classes, run)
+    } else {
+        Ok(Vec::new(run))
+    }
+}
+
+/// How many tokens that are no comments stand before each place.
+fn all_numbers<'r>(classes: &[TokenClass], run: &'r Bump) -> Result<Vec<u32, &'r Bump>, NoMemory>
     requires { length classes.now ≤ LIMIT }
     ensures { IfOk result (λ numbers. numbers.items ≡ numbers_of classes.now) }
 {
@@ -64,14 +100,40 @@ fn numbers<'r>(classes: &[TokenClass], run: &'r Bump) -> Result<Vec<u32, &'r Bum
     Ok(numbers)
 }
 
+/// The place of a partner, counted over the tokens that are no comments.
+#[inline(always)]
+fn number_at(classes: &[TokenClass], numbers: &[u32], place: u32) -> Partner
+    requires few { length classes.now ≤ LIMIT }
+    requires numbers { AreNumbers numbers.now classes.now }
+    ensures { result ≡ slice_get (numbers_of classes.now) place }
+{
+    if place as usize >= classes.len() {
+        return Partner::none();
+    }
+    if numbers.is_empty() {
+        return Partner::at(place);
+    }
+    Partner::at(numbers[place as usize])
+}
+
 /// A partner, counted over the tokens that are no comments.
-fn partner_number(numbers: &[u32], partners: &[Option<u32>], k: usize) -> Option<u32>
-    ensures { result ≡ partner_number numbers.now (slice_get partners.now k) }
+#[inline(always)]
+fn partner_number(
+    classes: &[TokenClass],
+    numbers: &[u32],
+    partners: &[Partner],
+    k: usize,
+) -> Partner
+    requires few { length classes.now ≤ LIMIT }
+    requires numbers { AreNumbers numbers.now classes.now }
+    ensures { result ≡ partner_number (numbers_of classes.now) (slice_get partners.now k) }
 {
     match partners.get(k) {
-        Some(Some(place)) => numbers.get(*place as usize).copied(),
-        Some(None) => None,
-        None => None,
+        Some(partner) => match partner.place() {
+            Some(place) => number_at(classes, numbers, place),
+            None => Partner::none(),
+        },
+        None => Partner::none(),
     }
 }
 
@@ -80,7 +142,7 @@ pub(crate) fn code_tokens<'r>(
     arena: &TokenArena<'_, '_>,
     view: &View<'_>,
     classes: &[TokenClass],
-    partners: &[Option<u32>],
+    partners: &[Partner],
     run: &'r Bump,
 ) -> Result<Vec<CodeToken, &'r Bump>, NoMemory>
     requires within { AreWithin arena.now view.now }
@@ -97,9 +159,9 @@ pub(crate) fn code_tokens<'r>(
             let id = view.at_near(k as u32, &mut segment);
             tokens.push(CodeToken {
                 class: *class,
-                began: item_began(arena, id.0),
+                began: began(arena, id.0),
                 touched: class.is_colon() && colon_touches(arena, id.0, run)?,
-                partner: partner_number(&numbers, partners, k),
+                partner: partner_number(classes, &numbers, partners, k),
             })?;
         }
     }

@@ -1,6 +1,6 @@
 use Rattle.std.proofs.Common.{◌≡◌, ◌++◌, ◌≤◌, drop}
 use Rattle.unwrapped_lines.specs.Viewed.{numbers_from, numbers_of}
-use Rattle.unwrapped_lines.proofs.viewed.numbers.Given as goal
+use Rattle.unwrapped_lines.proofs.viewed.all_numbers.Given as goal
 
 abbrev pub invariant-loop-class : goal.invariant-loop-class
 invariant-loop-class l = record {

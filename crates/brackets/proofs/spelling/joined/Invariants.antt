@@ -1,6 +1,6 @@
 use Rattle.std.proofs.Common.{◌≡◌, ◌++◌, length}
 use Rattle.c_grammar.specs.Rewritten.{read_alone}
-use Rattle.brackets.proofs.spelling.spelling.Given as goal
+use Rattle.brackets.proofs.spelling.joined.Given as goal
 
 abbrev pub invariant-loop-byte : goal.invariant-loop-byte
 invariant-loop-byte l = l.spelled.items ++ read_alone l.dialect l.rest ≡ read_alone l.dialect l.raw
