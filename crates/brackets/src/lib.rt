@@ -16,7 +16,7 @@ mod viewed;
 mod words;
 
 pub use class::TokenClass;
-pub use kept::kept_gaps;
+pub use kept::{BracketFacts, bracket_facts, kept_gaps};
 pub use line_tokens::NoMemory;
 pub use pairing::partners_of_classes;
 pub use partner::Partner;

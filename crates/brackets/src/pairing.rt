@@ -39,6 +39,7 @@ fn take_brace(stack: &mut Vec<Opener, &Bump>, braces: &mut usize) -> Option<u32>
 }
 
 /// Takes off the topmost opener, where it is a square one.
+#[inline(always)]
 fn take_square(stack: &mut Vec<Opener, &Bump>) -> Option<u32>
     ensures some { IfSome result (λ p. topmost is_square (reverse stack.old.items) ≡ Some (record { place = p; below = reverse stack.new.items })) }
     ensures none { IfNone result (topmost is_square (reverse stack.old.items) ≡ None) }
@@ -60,6 +61,7 @@ fn take_square(stack: &mut Vec<Opener, &Bump>) -> Option<u32>
 }
 
 /// Takes off the topmost opener, where it is a round one.
+#[inline(always)]
 fn take_round(stack: &mut Vec<Opener, &Bump>) -> Option<u32>
     ensures some { IfSome result (λ p. topmost is_round (reverse stack.old.items) ≡ Some (record { place = p; below = reverse stack.new.items })) }
     ensures none { IfNone result (topmost is_round (reverse stack.old.items) ≡ None) }
@@ -81,6 +83,7 @@ fn take_round(stack: &mut Vec<Opener, &Bump>) -> Option<u32>
 }
 
 /// Makes the two places partners.
+#[inline(always)]
 fn match_up(partners: &mut [Partner], o: u32, i: u32)
     requires few { length partners.old < 2 ^ 32 }
     requires opener { o < length partners.old }
@@ -92,7 +95,8 @@ fn match_up(partners: &mut [Partner], o: u32, i: u32)
 }
 
 /// Makes the opener and the closer partners, where the closer has one.
-fn close(partners: &mut [Partner], o: Option<u32>, i: u32)
+#[inline(always)]
+pub(crate) fn close(partners: &mut [Partner], o: Option<u32>, i: u32)
     requires few { length partners.old < 2 ^ 32 }
     requires opener { ForSome o (λ p. p < length partners.old) }
     requires closer { i < length partners.old }
@@ -103,7 +107,17 @@ fn close(partners: &mut [Partner], o: Option<u32>, i: u32)
     }
 }
 
+/// Lets an opener wait. It stands apart since it may have to take memory.
+#[inline(never)]
+fn push_opener(stack: &mut Vec<Opener, &Bump>, place: u32, kind: TokenClass) -> Result<(), NoMemory>
+    ensures items { OnOk result (stack.new.items ≡ stack.old.items ++ record { place = place; kind = kind } ∷ []) }
+{
+    stack.push(Opener { place, kind })?;
+    Ok(())
+}
+
 /// One token, as far as the openers that wait go: the place of the opener that it takes off.
+#[inline(always)]
 pub(crate) fn waiting_step(
     stack: &mut Vec<Opener, &Bump>,
     braces: &mut usize,
@@ -119,14 +133,17 @@ pub(crate) fn waiting_step(
     ensures small { OnOk result (braces.new ≤ i + 1) }
     ensures before { OnOk result (StandBefore (i + 1) (reverse stack.new.items)) }
 {
+    if !c.is_bracket() {
+        return Ok(None);
+    }
     match c {
         TokenClass::OpenRound | TokenClass::OpenSquare => {
-            stack.push(Opener { place: i, kind: c })?;
+            push_opener(stack, i, c)?;
             Ok(None)
         }
         TokenClass::OpenBrace => {
             *braces += 1;
-            stack.push(Opener { place: i, kind: c })?;
+            push_opener(stack, i, c)?;
             Ok(None)
         }
         TokenClass::CloseRound => Ok(take_round(stack)),
@@ -137,6 +154,7 @@ pub(crate) fn waiting_step(
 }
 
 /// One token.
+#[inline(always)]
 fn bracket_step(
     stack: &mut Vec<Opener, &Bump>,
     braces: &mut usize,

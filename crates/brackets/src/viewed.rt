@@ -13,7 +13,7 @@ use crate::pairing::partners_of_classes;
 use crate::partner::Partner;
 use crate::{spelling, words};
 use bumpalo::Bump;
-use bumpalo::collections::into_bump_slice;
+use bumpalo::collections::{into_bump_slice, into_bump_slice_mut};
 use c_chars::Dialect;
 use line_tokens::{NoMemory, TokenId};
 use token_arena::{ItemKind, TokenArena};
@@ -31,13 +31,24 @@ fn punctuator_class(dialect: Dialect, raw: &[u8], run: &Bump) -> Result<TokenCla
     Ok(words::punctuator_class(spelled))
 }
 
+/// The class of a word that is not spelled by its bytes as they are, as where a splice stands in it.
+#[inline(never)]
+fn joined_word_class(dialect: Dialect, raw: &[u8], run: &Bump) -> Result<TokenClass, NoMemory>
+    ensures { IfOk result (λ class. class ≡ class_spelled ItemKind.Identifier (read_alone dialect raw.now)) }
+{
+    let spelled = spelling::joined(dialect, raw, run)?;
+    Ok(words::word_class(spelled))
+}
+
 /// The class of a word.
 #[inline(always)]
 fn word_class(dialect: Dialect, raw: &[u8], run: &Bump) -> Result<TokenClass, NoMemory>
     ensures { IfOk result (λ class. class ≡ class_spelled ItemKind.Identifier (read_alone dialect raw.now)) }
 {
-    let spelled = spelling::spelling(dialect, raw, run)?;
-    Ok(words::word_class(spelled))
+    if spelling::are_themselves(raw) {
+        return Ok(words::word_class(raw));
+    }
+    joined_word_class(dialect, raw, run)
 }
 
 /// The class of an item.
@@ -75,16 +86,15 @@ pub fn item_classes<'a>(
     ensures { IfOk result (λ all. all.now ≡ item_classes arena.now) }
 {
     let count = arena.len();
-    let mut classes = Vec::with_capacity(bump, count as usize)?;
-    for number in 0..count {
-        classes.push(item_class(arena, TokenId(number), bump)?)?;
+    let classes = into_bump_slice_mut(vec![in bump; TokenClass::Nothing; count as usize]?);
+    for (number, class) in classes.iter_mut().enumerate() {
+        *class = item_class(arena, TokenId(number as u32), bump)?;
     }
-    Ok(into_bump_slice(classes))
+    Ok(classes)
 }
 
-/// The class of each place of a view, taken from the classes of all items of its text. Want of memory is the only
-/// error.
-pub fn classes_among<'r>(
+/// The class of each place of a view, copied from the classes of all items of its text, segment by segment.
+fn copied_classes<'r>(
     all: &[TokenClass],
     arena: &TokenArena<'_, '_>,
     view: &View<'_>,
@@ -103,6 +113,31 @@ pub fn classes_among<'r>(
         classes.extend_from_slice(&all[segment.first as usize..segment.end as usize])?;
     }
     Ok(into_bump_slice(classes))
+}
+
+/// The class of each place of a view, taken from the classes of all items of its text. Want of memory is the only
+/// error.
+///
+/// Those of a view of items in a row are lent, and take no memory.
+pub fn classes_among<'r>(
+    all: &'r [TokenClass],
+    arena: &TokenArena<'_, '_>,
+    view: &View<'_>,
+    run: &'r Bump,
+) -> Result<&'r [TokenClass], NoMemory>
+    requires all { all.now ≡ item_classes arena.now }
+    requires within { AreWithin arena.now view.now }
+    ensures classes { IfOk result (λ classes. classes.now ≡ classes_of arena.now view.now) }
+    ensures few { IfOk result (λ classes. length classes.now ≤ LIMIT) }
+{
+    let segments = view.segments();
+    if segments.len() == 1 {
+        let only = segments[0];
+        let items = arena.len();
+        prove!(only.end <= items);
+        return Ok(&all[only.first as usize..only.end as usize]);
+    }
+    copied_classes(all, arena, view, run)
 }
 
 /// The class of each place of a view.

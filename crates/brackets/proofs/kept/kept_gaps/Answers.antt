@@ -5,15 +5,15 @@ use Rattle.brackets.proofs.kept.kept_gaps.Goals.{then-branch, else-branch}
 
 pub spread-requires : goal.spread-requires
 spread-requires c =
-    length-marks c.args.classes.now c.mark_statement_braces.new.marks c.in_ok-mark_statement_braces.ensures.marks
+    length-marks c.args.classes.now c.read_brackets.new.marks c.in_ok-read_brackets.ensures.marks
     ∙ sym (length-partners_of c.args.classes.now) ∙ sym (ap length c.requires.partners)
 
 pub returns-clause-kept : goal.returns-clause-kept
 returns-clause-kept c =
     let classes = c.args.classes.now in
-    let marks = c.mark_statement_braces.new.marks in
-    let braces = c.in_ok-mark_statement_braces.ensures.marks in
+    let marks = c.read_brackets.new.marks in
+    let braces = c.in_ok-read_brackets.ensures.marks in
     elim c.if-branch.branch [
       | then-branch w ↦ w.marks-is ∙ w.spread.ensures ∙ kept_is classes marks c.args.partners.now braces c.requires.partners
-      | else-branch w ↦ w.marks-is ∙ none_kept classes marks braces (c.in_ok-mark_statement_braces.ensures.none w.if-branch.false)
+      | else-branch w ↦ w.marks-is ∙ none_kept classes marks braces (c.in_ok-read_brackets.ensures.none w.if-branch.false)
     ]

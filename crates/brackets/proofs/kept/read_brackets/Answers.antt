@@ -4,9 +4,9 @@ use Rattle.brackets.specs.declared.pairing.Opener.{Opener}
 use Rattle.brackets.specs.Classes.{is_semicolon}
 use Rattle.brackets.specs.Kept.{AreOpeners, class_at, marked}
 use Rattle.brackets.specs.Partners.{StandBefore}
-use Rattle.brackets.proofs.KeptSteps.{all_marks, before_more, built_next, marked_next, openers_of, step_at, unmarked_next, waits_next}
-use Rattle.brackets.proofs.kept.mark_statement_braces.Goals as goal
-use Rattle.brackets.proofs.kept.mark_statement_braces.Goals.{then-is_semicolon+then-mark_topmost, else-is_semicolon, else-is_semicolon-via-then-is_semicolon+else-mark_topmost, else-is_semicolon-via-else-is_semicolon}
+use Rattle.brackets.proofs.KeptSteps.{all_marks, before_more, built_next, marked_next, openers_of, pairs_next, step_at, unmarked_next, waits_next}
+use Rattle.brackets.proofs.kept.read_brackets.Goals as goal
+use Rattle.brackets.proofs.kept.read_brackets.Goals.{then-is_semicolon+then-mark_topmost, else-is_semicolon, else-is_semicolon-via-then-is_semicolon+else-mark_topmost, else-is_semicolon-via-else-is_semicolon}
 
 pub mark_topmost-requires-clause-openers : goal.mark_topmost-requires-clause-openers
 mark_topmost-requires-clause-openers c =
@@ -26,9 +26,9 @@ loop-i-preserved c =
     let i = c.loop-i.i in
     let old = reverse c.loop-i.stack.items in
     let new = reverse c.waiting_step.new.stack.items in
-    let taken = c.in_ok-waiting_step.field-0 in
+    let taken = c.in_ok-taken.taken in
     let within : i < length classes = omega (arith, c.loop-i-test.true) in
-    let step = step_at classes i _ _ old new taken refl within c.in_ok-waiting_step.ensures.step in
+    let step = step_at classes i _ _ old new taken refl within c.in_ok-taken.ensures.step in
     let class : is_semicolon (class_at classes i) ≡ c.is_semicolon.result = ap is_semicolon (sym (get_or_default classes i _ _ within)) ∙ sym c.is_semicolon.ensures in
     let whole = c.loop-i.auto.marks ∙ ap length c.requires.unmarked ∙ length-replicate (length classes) false in
     let room : i ≤ length c.loop-i.marks = omega (arith, whole, c.loop-i-test.true) in
@@ -36,9 +36,9 @@ loop-i-preserved c =
     record {
       waits = waits_next classes i old new taken within c.loop-i.invariant.waits step;
       built = built_next classes i old new taken c.loop-i.invariant.waits step c.loop-i.invariant.built;
-      before = c.in_ok-waiting_step.ensures.before;
-      count = c.in_ok-waiting_step.ensures.count;
-      small = c.in_ok-waiting_step.ensures.small;
+      before = c.in_ok-taken.ensures.before;
+      count = c.in_ok-taken.ensures.count;
+      small = c.in_ok-taken.ensures.small;
       marks = λ j. elim c.if-is_semicolon.branch [
         | then-is_semicolon+then-mark_topmost w ↦
             let made = w.mark_topmost.ensures.marks ∙ ap (λ s. marked (reverse s) c.loop-i.marks) w.deref.ensures.value in
@@ -53,6 +53,7 @@ loop-i-preserved c =
               ap (λ m. get_or m j false) (w.marks-is ∙ v.marks-is) ∙ unmarked_next classes i c.loop-i.marks (class ∙ v.if-is_semicolon.false) j (c.loop-i.invariant.marks j)
         ]
       ];
+      pairs = pairs_next classes i old new taken c.loop-i.partners _ within step c.close.ensures c.loop-i.invariant.pairs;
       none = λ e. elim c.if-is_semicolon.branch [
         | then-is_semicolon+then-mark_topmost w ↦ let marked_one : true ≡ false = sym w.any-is ∙ e in cc
         | else-is_semicolon w ↦
