@@ -1,6 +1,7 @@
 pub mod Counts
 pub mod Opens
 pub mod SoundStart
+pub mod EarlySections
 pub mod Planned
 pub mod OfTexts
 pub mod Decided
@@ -8,3 +9,4 @@ pub mod EveryGap
 pub mod Stays
 pub mod SoundPlan
 pub mod NothingNew
+pub mod RowsDecided

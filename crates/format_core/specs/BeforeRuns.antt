@@ -4,6 +4,8 @@ use Rattle.style_table.specs.declared.style.Style.{Style}
 use Rattle.line_tokens.specs.declared.GapFacts.{GapFacts}
 use Rattle.token_arena.specs.Stored.{Stored}
 use Rattle.token_arena.specs.Gaps.{Contents}
+use Rattle.directives.specs.declared.Section.{Section}
+use Rattle.directives.specs.declared.Section.TheVariants.{Text, Dir}
 use Rattle.directives.specs.Sections.{sections_of}
 use Rattle.branch_runs.specs.Marks.{marks_of}
 use Rattle.branch_runs.specs.Dead.{is_dead}
@@ -43,6 +45,23 @@ abbrev pub item_decision : Style → ℕ → Stance → GapFacts → Option Deci
 item_decision style place OfText gap = None
 item_decision style place Leads gap = Some (lead_decision style place gap)
 item_decision style place Within gap = Some Old
+
+-- ## Sections
+
+-- the first item of a section
+abbrev pub section_first : Section → ℕ
+section_first (Text first end) = first
+section_first (Dir dir) = dir.first
+
+-- the first item behind a section
+abbrev pub section_end : Section → ℕ
+section_end (Text first end) = end
+section_end (Dir dir) = dir.end
+
+-- how an item of a section stands
+abbrev pub stance_of : Section → ℕ → Stance
+stance_of (Text first end) place = OfText
+stance_of (Dir dir) place = if place == dir.first then Leads else Within
 
 -- ## The last gap
 

@@ -14,7 +14,7 @@ use bumpalo::Bump;
 use directives::Section;
 use line_tokens::NoMemory;
 use replacements::Plan;
-use run_layout::lay_out_run;
+use run_layout::{is_row_decided, lay_out_run};
 use std::alloc::Global;
 use style_table::Style;
 use token_arena::TokenArena;
@@ -52,10 +52,8 @@ fn are_decided(view: &View<'_>, plan: &Plan<'_>) -> bool
     requires { All (λ id. id < length plan.now) view.now }
     ensures { IsTrue result → AreDecided plan.now view.now }
 {
-    let mut segment = 0;
-    for place in 0..view.len() {
-        let id = view.at_near(place, &mut segment);
-        if !plan.is_decided(id.0) {
+    for segment in view.segments() {
+        if !is_row_decided(plan, segment.first, segment.end) {
             return false;
         }
     }
