@@ -15,7 +15,7 @@ use Rattle.replacements.specs.Decisions.{decided_all}
 use Rattle.replacements.specs.Stances.{stance_in}
 use Rattle.run_layout.specs.Rows.{no_item}
 use Rattle.run_layout.proofs.Walked.{decided_all-append}
-use Rattle.format_core.specs.BeforeRuns.{is_dead_item, is_behind_dead, is_beside_dead, item_decision, decision_before, early_decision, made_at, early_from, section_first, section_end, stance_of}
+use Rattle.format_core.specs.BeforeRuns.{AreAlive, is_dead_item, is_behind_dead, is_beside_dead, item_decision, decision_before, early_decision, made_at, early_from, section_first, section_end, stance_of}
 
 -- ## Places one after another
 
@@ -64,6 +64,33 @@ text_decision style arena place dead behind text within here before =
     let beside : (dead || behind) ≡ is_beside_dead arena place = ap (λ b. b || behind) here ∙ ap (λ b. is_dead_item arena place || b) before in
     ap (λ b. if b then Some Old else None) beside
     ∙ ap (λ d. if is_beside_dead arena place then Some Old else d) (sym (before_item style arena place text within))
+
+none_from : (style : Style) (arena : Contents) (at n : ℕ) → ((place : ℕ) → at ≤ place → place < at + n → early_decision style arena place ≡ None) → early_from style arena at n ≡ []
+none_from style arena at zero none = refl
+none_from style arena at (suc n) none =
+    ap (λ d. made_at at d ++ early_from style arena (at + 1) n) (none at (omega arith) (omega arith))
+    ∙ none_from style arena (at + 1) n (λ place low high. none place (omega (arith, low)) (omega (arith, high)))
+
+first_or_later : (at place : ℕ) → at ≤ place → (place ≡ at) ⊎ (at + 1 ≤ place)
+first_or_later at place low = grind arith
+
+behind_alive : (arena : Contents) (at end place : ℕ) → is_behind_dead arena at ≡ false → AreAlive arena at end → at ≤ place → place < end → is_behind_dead arena place ≡ false
+behind_alive arena at end place behind alive low high = elim (first_or_later at place low) [
+  | inl e ↦ rw e behind
+  | inr later ↦
+      let one : place - 1 + 1 ≡ place = omega (arith, later) in
+      subst (λ x. is_behind_dead arena x ≡ false) one (sym (behind_next arena (place - 1) false (sym (alive (place - 1) (omega (arith, later)) (omega (arith, high, later))))))
+]
+
+-- where no item of a text is dead, nor the one before it, nothing is decided
+pub alive_text : (style : Style) (arena : Contents) (plan : List (Option Slot)) (at end : ℕ) (behind : Bool) → end ≤ length arena.tokens
+    → ((place : ℕ) → at ≤ place → place < end → stance_in (sections_of arena) place ≡ OfText) → behind ≡ is_behind_dead arena at → behind ≡ false → AreAlive arena at end
+    → plan ≡ decided_all plan (early_from style arena at (end - at))
+alive_text style arena plan at end behind within text is none alive =
+    let nothing : early_from style arena at (end - at) ≡ [] = none_from style arena at (end - at) (λ place low high.
+    let below : place < end = omega (arith, high, low) in
+    sym (text_decision style arena place false false (text place low below) (omega (arith, below, within)) (sym (alive place low below)) (sym (behind_alive arena at end place (sym is ∙ none) alive low below)))) in
+    sym (ap (decided_all plan) nothing)
 
 -- ## Sections
 

@@ -1,5 +1,5 @@
 -- What is decided before the runs: docs/PROFILE.md, "Gaps that no run decides".
-use Rattle.std.specs.Prelude.{◌==◌, ◌||◌, ◌&&◌, not, min, ℕ, zero, suc, ◌+◌, ◌-◌, Bool, false, Option, Some, None, List, [], ◌∷◌, ◌++◌, length, nat_lt, slice_get, if◌then◌else◌}
+use Rattle.std.specs.Prelude.{◌≡◌, ◌<◌, ◌≤◌, ◌==◌, ◌||◌, ◌&&◌, not, min, ℕ, zero, suc, ◌+◌, ◌-◌, Bool, false, Option, Some, None, List, [], ◌∷◌, ◌++◌, length, nat_lt, slice_get, if◌then◌else◌}
 use Rattle.style_table.specs.declared.style.Style.{Style}
 use Rattle.line_tokens.specs.declared.GapFacts.{GapFacts}
 use Rattle.token_arena.specs.Stored.{Stored}
@@ -24,6 +24,10 @@ use Rattle.replacements.specs.declared.stance.Stance.TheVariants.{OfText, Leads,
 -- there is an item with this number, and it stands in the group of a literal `#if 0`
 abbrev pub is_dead_item : Contents → ℕ → Bool
 is_dead_item arena id = nat_lt id (length arena.tokens) && is_dead (marks_of arena) id
+
+-- no item from one up to another does
+abbrev pub AreAlive : Contents → ℕ → ℕ → Type 0
+AreAlive arena first end = (id : ℕ) → first ≤ id → id < end → is_dead_item arena id ≡ false
 
 -- the item before a place does
 abbrev pub is_behind_dead : Contents → ℕ → Bool

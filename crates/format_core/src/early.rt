@@ -1,6 +1,6 @@
 //! What is decided before the runs: the gaps of directives and of dead items, and the last gap.
 
-ghost use Rattle.std.specs.Prelude.{◌≡◌, ◌==◌, ◌||◌, ◌<◌, ◌≤◌, ◌+◌, ◌-◌, ℕ, Some, None, if◌then◌else◌, length};
+ghost use Rattle.std.specs.Prelude.{◌≡◌, ◌==◌, ◌||◌, ◌<◌, ◌≤◌, ◌+◌, ◌-◌, ℕ, Some, None, if◌then◌else◌, IsTrue, length};
 ghost use Rattle.c_chars.specs.declared.TheConstants.{LIMIT};
 ghost use Rattle.directives.specs.Sections.{sections_of, IsCut};
 ghost use Rattle.gap_text.specs.declared.Decision.TheVariants.{Old};
@@ -9,7 +9,7 @@ ghost use Rattle.replacements.specs.Decisions.{decided_all};
 ghost use Rattle.replacements.specs.Sound.{item_before};
 ghost use Rattle.replacements.specs.declared.stance.Stance.TheVariants.{OfText, Leads, Within};
 ghost use Rattle.replacements.specs.Stances.{stance_in};
-ghost use Rattle.format_core.specs.BeforeRuns.{is_dead_item, is_behind_dead, is_beside_dead, lead_decision, item_decision, ends_in_backslash, last_decision, early_decision, early_from, early_decisions, made_at, section_first, section_end, stance_of};
+ghost use Rattle.format_core.specs.BeforeRuns.{AreAlive, is_dead_item, is_behind_dead, is_beside_dead, lead_decision, item_decision, ends_in_backslash, last_decision, early_decision, early_from, early_decisions, made_at, section_first, section_end, stance_of};
 ghost use Rattle.format_core.specs.Runs.{IsTreeOf};
 
 use branch_runs::CondTree;
@@ -183,6 +183,21 @@ fn decide_at(plan: &mut Plan<'_>, place: u32, decision: Option<Decision>)
     }
 }
 
+/// Whether no item from one up to another is dead.
+#[inline(always)]
+fn are_alive(arena: &TokenArena<'_, '_>, tree: &CondTree<'_>, first: u32, end: u32) -> bool
+    requires tree { IsTreeOf arena.now tree.now }
+    requires within { end ≤ length arena.now.tokens }
+    ensures { IsTrue result → AreAlive arena.now first end }
+{
+    for id in first..end {
+        if is_dead(arena, tree, id) {
+            return false;
+        }
+    }
+    true
+}
+
 /// Decides the gaps before the items of a text, from one item up to another: the runs are left those that aren't beside
 /// dead items.
 fn decide_text(
@@ -200,6 +215,10 @@ fn decide_text(
     ensures len { length plan.new ≡ length plan.old }
 {
     let mut behind_dead = is_behind_dead(arena, tree, first);
+    // Most texts have no dead items, and stand behind none.
+    if !behind_dead && are_alive(arena, tree, first, end) {
+        return;
+    }
     for place in first..end {
         let dead = is_dead(arena, tree, place);
         decide_at(plan, place, text_decision(dead, behind_dead));

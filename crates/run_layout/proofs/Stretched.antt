@@ -10,32 +10,26 @@ use Rattle.brackets.specs.Viewed.{AreWithin}
 use Rattle.replacements.specs.declared.slot.Slot.{Slot}
 use Rattle.replacements.specs.Decisions.{slot_of}
 use Rattle.run_layout.specs.Run.{IsRowDecided}
-use Rattle.run_layout.specs.Stretches.{AreFrom, IsRest, IsLeft}
-
-one_alone : (ids : List ℕ) (k first left j : ℕ) → left ≡ 1 → get_or ids k 0 ≡ first → j < left → get_or ids (k + j) 0 ≡ first + j
-one_alone ids k first left j one at below =
-    let none : j ≡ 0 = omega arith in
-    let here : k + j ≡ k = omega arith in
-    let there : first ≡ first + j = omega arith in
-    ap (λ i. get_or ids i 0) here ∙ (at ∙ there)
+use Rattle.run_layout.specs.Stretches.{AreFrom, IsRest}
 
 -- in a segment items follow one another
-in_segment : (segments : List Segment) (number k first left j : ℕ) → AreSegments segments → IsRest segments number k left → get_or (ids_of (map segment_bounds segments)) k 0 ≡ first → j < left
-    → get_or (ids_of (map segment_bounds segments)) (k + j) 0 ≡ first + j
-in_segment segments number k first left j rule is at below =
-    let before : ℕ = (get_or segments number no_segment).before in
-    let low : before ≤ k = is.has.low in
-    let there : HasPlace segments (k + j) number = record { low = omega (arith, low); high = omega (arith, is.rest, below) } in
-    let a = item_at_start segments number k 0 rule is.within is.has in
-    let b = item_at_start segments number (k + j) 0 rule is.within there in
-    omega (arith, a, b, at, low)
+in_segment : (segments : List Segment) (number k j : ℕ) (rest : Stretch) → AreSegments segments → IsRest segments number k rest → j < rest.end - rest.first
+    → get_or (ids_of (map segment_bounds segments)) (k + j) 0 ≡ rest.first + j
+in_segment segments number k j rest rule is below =
+    let low : (get_or segments number no_segment).before ≤ k = is.has.low in
+    let there : HasPlace segments (k + j) number = record { low = omega (arith, low); high = omega (arith, is.first, is.end, low, below) } in
+    let at = item_at_start segments number (k + j) 0 rule is.within there in
+    omega (arith, at, is.first, low)
 
--- so do those that are left from a place on
-pub left_follow : (segments : List Segment) (ids : List ℕ) (number k first left j : ℕ) → ids_of (map segment_bounds segments) ≡ ids → AreSegments segments → IsLeft segments number k left
-    → get_or ids k 0 ≡ first → j < left → get_or ids (k + j) 0 ≡ first + j
-left_follow segments ids number k first left j is rule (inl one) at below = one_alone ids k first left j one at below
-left_follow segments ids number k first left j is rule (inr rest) at below =
-    subst (λ (x : List ℕ). get_or x (k + j) 0 ≡ first + j) is (in_segment segments number k first left j rule rest (subst (λ (x : List ℕ). get_or x k 0 ≡ first) (sym is) at) below)
+-- so do those from a place on
+pub rest_follow : (segments : List Segment) (ids : List ℕ) (number k j : ℕ) (rest : Stretch) → ids_of (map segment_bounds segments) ≡ ids → AreSegments segments → IsRest segments number k rest
+    → j < rest.end - rest.first → get_or ids (k + j) 0 ≡ rest.first + j
+rest_follow segments ids number k j rest is rule from below =
+    subst (λ (x : List ℕ). get_or x (k + j) 0 ≡ rest.first + j) is (in_segment segments number k j rest rule from below)
+
+-- there is at least one
+pub rest_some : (segments : List Segment) (number k : ℕ) (rest : Stretch) → IsRest segments number k rest → rest.first < rest.end
+rest_some segments number k rest is = omega (arith, is.first, is.end, is.has.low, is.has.high)
 
 -- and they are items of the text
 pub left_within : (arena : Contents) (ids : List ℕ) (k first count : ℕ) → AreWithin arena ids → 0 < count → k + count ≤ length ids

@@ -1,5 +1,5 @@
 -- Items of a view that follow one another in the text.
-use Rattle.std.specs.Prelude.{◌≡◌, ◌<◌, ◌+◌, ◌-◌, ◌⊎◌, ℕ, List, get_or, length}
+use Rattle.std.specs.Prelude.{◌≡◌, ◌<◌, ◌+◌, ◌-◌, ℕ, List, get_or, length}
 use Rattle.token_views.specs.declared.view.Segment.{Segment}
 use Rattle.token_views.specs.declared.view.Stretch.{Stretch}
 use Rattle.token_views.specs.Segments.{no_segment, HasPlace}
@@ -8,12 +8,9 @@ use Rattle.token_views.specs.Segments.{no_segment, HasPlace}
 abbrev pub AreFrom : List ℕ → ℕ → Stretch → Type 0
 AreFrom ids k stretch = (j : ℕ) → j < stretch.end - stretch.first → get_or ids (k + j) 0 ≡ stretch.first + j
 
--- so many items are left from a place on in the segment that has it
-pub record IsRest (segments : List Segment) (number k count : ℕ) : Type 0 where
+-- the items from a place on of the segment that has it
+pub record IsRest (segments : List Segment) (number k : ℕ) (rest : Stretch) : Type 0 where
   pub within : number < length segments
   pub has : HasPlace segments k number
-  pub rest : k + count ≡ (get_or segments number no_segment).before + ((get_or segments number no_segment).end - (get_or segments number no_segment).first)
-
--- so many are left there, or one alone is told
-abbrev pub IsLeft : List Segment → ℕ → ℕ → ℕ → Type 0
-IsLeft segments number k count = (count ≡ 1) ⊎ IsRest segments number k count
+  pub first : rest.first ≡ (get_or segments number no_segment).first + (k - (get_or segments number no_segment).before)
+  pub end : rest.end ≡ (get_or segments number no_segment).end

@@ -2,8 +2,13 @@ use Rattle.std.proofs.Common.{◌≡◌, ◌∙◌, ◌+◌, ◌-◌, suc, ap, a
 use Rattle.replacements.specs.Decisions.{decided_all}
 use Rattle.format_core.specs.BeforeRuns.{early_from}
 use Rattle.format_core.proofs.SoundStart.{one_more}
-use Rattle.format_core.proofs.EarlySections.{behind_next, text_decision}
+use Rattle.format_core.proofs.EarlySections.{behind_next, text_decision, alive_text}
 use Rattle.format_core.proofs.early.decide_text.Goals as goal
+
+pub returns-then-are_alive-clause-plan : goal.returns-then-are_alive-clause-plan
+returns-then-are_alive-clause-plan c = λ style.
+    alive_text style c.args.arena.now c.args.plan.now c.args.first c.args.end c.is_behind_dead-behind_dead.result c.requires.within c.requires.text c.is_behind_dead-behind_dead.ensures
+    c.if-not-behind_dead.true (c.are_alive.ensures c.if-are_alive.true)
 
 pub loop-place-preserved : goal.loop-place-preserved
 loop-place-preserved c =

@@ -1,6 +1,6 @@
 use Rattle.std.proofs.Common.{arith}
 use Rattle.token_views.proofs.SegmentLemmas.{well}
-use Rattle.run_layout.proofs.stretches.left_in.Goals as goal
+use Rattle.run_layout.proofs.stretches.rest_at.Goals as goal
 
 pub overflow_sub-count : goal.overflow_sub-count
 overflow_sub-count c =
