@@ -1,16 +1,17 @@
 -- The classes of all items of a text.
-use Rattle.std.proofs.Common.{◌≡◌, ◌∙◌, ℕ, zero, suc, ◌+◌, ◌-◌, ◌<◌, ◌≤◌, All, List, [], ◌∷◌, ◌++◌, length, take, drop, get_or, map, refl, sym, ap, subst, arith, length-append}
-use Rattle.std.proofs.lemmas.List.{append-nil, append_assoc, drop_more, get_or-append-add, get_or_append_left, length-map, map-append, map_more}
+use Rattle.std.proofs.Common.{◌≡◌, ◌∙◌, ℕ, zero, suc, ◌+◌, ◌-◌, ◌<◌, ◌≤◌, All, List, [], ◌∷◌, ◌++◌, length, take, drop, get_or, map, refl, sym, ap, subst, arith, length-append, inl, inr, get_or-set_same, get_or-set_other}
+use Rattle.std.proofs.lemmas.Bool.{cases_eq}
+use Rattle.std.proofs.lemmas.List.{append-nil, append_assoc, drop_more, ext_get_or, get_or-append-add, get_or_append_left, length-map, map-append, map_more}
 use Rattle.std.proofs.lemmas.List.FromFn.{length-range_with_len, get_or-range_with_len}
 use Rattle.std.specs.List.{range_with_len}
-use Rattle.std.specs.Prelude.{slice_get}
+use Rattle.std.specs.Prelude.{slice_get, slice_set}
 use Rattle.c_chars.specs.declared.Dialect.{Dialect}
 use Rattle.token_arena.specs.Gaps.{Contents}
 use Rattle.token_arena.specs.Stored.{Stored}
 use Rattle.token_views.specs.declared.view.Segment.{Segment}
 use Rattle.token_views.specs.Segments.{ids_of, segment_bounds, AscendFrom, AreSegments, no_segment}
 use Rattle.brackets.specs.declared.class.TokenClass.{TokenClass}
-use Rattle.brackets.specs.declared.class.TokenClass.TheVariants.{If}
+use Rattle.brackets.specs.declared.class.TokenClass.TheVariants.{If, Nothing}
 use Rattle.brackets.specs.Viewed.{class_or_nothing, item_class, item_classes}
 use Rattle.brackets.specs.Words.{class_of}
 
@@ -81,3 +82,30 @@ segment_fits n low (segment ∷ segments) (suc i) order within h =
 pub viewed_fits : (n : ℕ) (ids : List ℕ) (segments : List Segment) (i : ℕ) → AreSegments segments → ids_of (map segment_bounds segments) ≡ ids
     → All (λ id. id < n) ids → i < length segments → FitsBelow n (get_or segments i no_segment)
 viewed_fits n ids segments i rule is within h = segment_fits n 0 segments i rule.order (subst (λ seen. All (λ id. id < n) seen) (sym is) within) h
+
+-- among classes of which those before an item are the text's, one more is that of the item
+pub class_next : (arena : Contents) (classes : List TokenClass) (i : ℕ) (class : TokenClass) → i < length classes → i < length arena.tokens → class ≡ item_class arena i
+    → ((k : ℕ) → k < i → get_or classes k Nothing ≡ get_or (item_classes arena) k Nothing)
+    → (k : ℕ) → k < i + 1 → get_or (slice_set classes i class) k Nothing ≡ get_or (item_classes arena) k Nothing
+class_next arena classes i class room within is before k h = elim (cases_eq k i) [
+  | inl y ↦ rw y (get_or-set_same classes i class Nothing room ∙ is ∙ sym (class_at arena i Nothing within))
+  | inr n ↦ get_or-set_other classes i k class Nothing n ∙ before k (omega arith)
+]
+
+-- classes of which each is that of its item are those of the text
+pub all_classes : (arena : Contents) (classes : List TokenClass) (i : ℕ) → length classes ≡ length arena.tokens → length classes ≤ i
+    → ((k : ℕ) → k < i → get_or classes k Nothing ≡ get_or (item_classes arena) k Nothing) → classes ≡ item_classes arena
+all_classes arena classes i count done same =
+    ext_get_or Nothing classes (item_classes arena) (count ∙ sym (length-map arena.tokens (class_of arena.dialect))) (λ k h. same k (omega (arith, h, done)))
+
+-- the classes of a view of one segment stand in a row among those of the text
+pub only_segment : (arena : Contents) (ids : List ℕ) (segments : List Segment) → AreSegments segments → ids_of (map segment_bounds segments) ≡ ids
+    → All (λ id. id < length arena.tokens) ids → length segments ≡ 1
+    → take ((get_or segments 0 no_segment).end - (get_or segments 0 no_segment).first) (drop (get_or segments 0 no_segment).first (item_classes arena)) ≡ map (item_class arena) ids
+only_segment arena ids [] rule is within one = absurd (omega (arith, one))
+only_segment arena ids (segment ∷ []) rule is within one =
+    let count = segment.end - segment.first in
+    let fits = viewed_fits (length arena.tokens) ids (segment ∷ []) 0 rule is within (omega arith) in
+    row_classes arena segment.first count (omega (arith, fits.some, fits.end))
+    ∙ ap (map (item_class arena)) (sym (append-nil (range_with_len segment.first count)) ∙ is)
+only_segment arena ids (first ∷ second ∷ segments) rule is within one = absurd (omega (arith, one))

@@ -1,8 +1,8 @@
 -- One token after another: the openers that wait, and the braces that are marked.
-use Rattle.std.proofs.Common.{◌≡◌, ◌==◌, ℕ, ◌<◌, ◌≤◌, ◌+◌, Bool, true, false, not, ◌&&◌, ◌||◌, List, [], ◌∷◌, ◌++◌, length, get_or, map, take, Option, Some, None, refl, arith, subst, sym, ap, ◌∙◌, inl, inr, add-one, get_or-set_same, get_or-set_other}
+use Rattle.std.proofs.Common.{◌≡◌, ◌==◌, ℕ, ◌<◌, ◌≤◌, ◌+◌, Bool, true, false, not, ◌&&◌, ◌||◌, List, [], ◌∷◌, ◌++◌, length, get_or, map, take, drop, Option, Some, None, refl, arith, subst, sym, ap, ◌∙◌, inl, inr, add-one, get_or-set_same, get_or-set_other}
 use Rattle.std.specs.Prelude.{slice_set, if◌then◌else◌}
 use Rattle.std.specs.List.{list_any, range_with_len}
-use Rattle.std.proofs.lemmas.List.{get_or_default, length-take, take_more}
+use Rattle.std.proofs.lemmas.List.{drop_more, get_or_default, length-take, take_more}
 use Rattle.std.proofs.lemmas.List.FromFn.{fill_by_all}
 use Rattle.std.proofs.Math.ListN.{length-set}
 use Rattle.std.proofs.lemmas.Bool.{cases_Bool, cases_eq, eq-eqb, ne_eqb}
@@ -10,7 +10,7 @@ use Rattle.brackets.specs.declared.pairing.Opener.{Opener}
 use Rattle.brackets.specs.declared.class.TokenClass.{TokenClass}
 use Rattle.brackets.specs.declared.class.TokenClass.TheVariants.{OpenRound, CloseRound, OpenSquare, CloseSquare, OpenBrace, CloseBrace, Nothing}
 use Rattle.brackets.specs.Classes.{is_open_brace, is_semicolon}
-use Rattle.brackets.specs.Partners.{Matching, Nearest, bracket_step, closed, is_brace, is_round, is_square, nearest_brace, topmost, matching_from, StandBefore, TakesStep}
+use Rattle.brackets.specs.Partners.{Matching, Nearest, bracket_step, closed, is_brace, is_round, is_square, nearest_brace, topmost, matching_from, paired, partners_of, StandBefore, TakesStep}
 use Rattle.brackets.specs.Kept.{AreOpeners, class_at, is_brace_in_brackets, is_round_or_square, is_semicolon_inside, is_statement_brace, marked, none_waits, some_below, waiting_at}
 
 -- The openers that wait
@@ -150,3 +150,17 @@ pub all_marks : (classes : List TokenClass) (i : ℕ) (marks : List Bool) → i 
 all_marks classes i marks e room h =
     let f = is_statement_brace classes in
     fill_by_all f marks (length classes) false room (λ k within. h k ∙ ap (λ n. is_marked_before classes n k) e)
+
+-- The partners
+
+-- what a token does to the partners, where those that are found from its place on are those of the whole
+pub pairs_next : (classes : List TokenClass) (i : ℕ) (old new : List Opener) (taken : Option ℕ) (partners after : List (Option ℕ)) → i < length classes
+    → TakesStep (class_at classes i) i old taken new → after ≡ paired partners taken i
+    → (matching_from i (record { open_brackets = old; partners = partners }) (drop i classes)).partners ≡ partners_of classes
+    → (matching_from (i + 1) (record { open_brackets = new; partners = after }) (drop (i + 1) classes)).partners ≡ partners_of classes
+pairs_next classes i old new taken partners after within step made before =
+    let rest = drop (i + 1) classes in
+    ap (λ ps. (matching_from (i + 1) (record { open_brackets = new; partners = ps }) rest).partners) made
+    ∙ ap (λ m. (matching_from (i + 1) m rest).partners) (step partners)
+    ∙ ap (λ cs. (matching_from i (record { open_brackets = old; partners = partners }) cs).partners) (sym (drop_more classes i Nothing within))
+    ∙ before

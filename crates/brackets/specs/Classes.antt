@@ -1,7 +1,7 @@
 -- Sets of classes of tokens.
 use Rattle.std.specs.Prelude.{Bool, true, false}
 use Rattle.brackets.specs.declared.class.TokenClass.{TokenClass}
-use Rattle.brackets.specs.declared.class.TokenClass.TheVariants.{If, Else, For, While, Do, Switch, Case, Default, Return, Struct, Union, Enum, Extern, CallWord, CapitalWord, PlainWord, OtherWord, OpenRound, CloseRound, OpenSquare, OpenBrace, CloseBrace, Colon, Semicolon, Comma, Question, Equals, Text, LineComment, BlockComment}
+use Rattle.brackets.specs.declared.class.TokenClass.TheVariants.{If, Else, For, While, Do, Switch, Case, Default, Return, Struct, Union, Enum, Extern, CallWord, CapitalWord, PlainWord, OtherWord, OpenRound, CloseRound, OpenSquare, CloseSquare, OpenBrace, CloseBrace, Colon, Semicolon, Comma, Question, Equals, Text, LineComment, BlockComment}
 
 -- a word
 abbrev pub is_word : TokenClass → Bool
@@ -46,6 +46,16 @@ is_opener OpenRound = true
 is_opener OpenSquare = true
 is_opener OpenBrace = true
 is_opener _ = false
+
+-- a bracket, opening or closing
+abbrev pub is_bracket : TokenClass → Bool
+is_bracket OpenRound = true
+is_bracket CloseRound = true
+is_bracket OpenSquare = true
+is_bracket CloseSquare = true
+is_bracket OpenBrace = true
+is_bracket CloseBrace = true
+is_bracket _ = false
 
 -- after it a `{` opens a list of values
 abbrev pub is_before_list : TokenClass → Bool

@@ -1,17 +1,18 @@
 //! Gaps that are kept as they are, inside the braces of statements that stand inside brackets.
 
-ghost use Rattle.std.specs.Prelude.{◌≡◌, ◌<◌, ◌^◌, reverse, replicate, map, length, false, IfOk, OnOk};
+ghost use Rattle.std.specs.Prelude.{◌≡◌, ◌<◌, ◌^◌, reverse, replicate, map, length, false, None, IfOk, OnOk};
 ghost use Rattle.std.specs.List.{range_with_len};
 ghost use Rattle.brackets.specs.Partners.{partners_of, count_braces, StandBefore};
 ghost use Rattle.brackets.specs.Kept.{is_statement_brace, is_inside, kept_gaps_of, marked, AreOpeners};
 
-use crate::TokenClass;
-use crate::pairing::{Opener, waiting_step};
+use crate::pairing::{Opener, close, waiting_step};
+use crate::{Partner, TokenClass};
 use bumpalo::Bump;
 use bumpalo::collections::into_bump_slice_mut;
 use line_tokens::NoMemory;
 
 /// Marks the topmost opener, where that is a brace and a `(` or `[` waits below it, and tells whether it did.
+#[inline(always)]
 fn mark_topmost(stack: &[Opener], braces: usize, marks: &mut [bool]) -> bool
     requires count { braces ≡ count_braces (reverse stack.now) }
     requires openers { AreOpeners (reverse stack.now) }
@@ -28,14 +29,17 @@ fn mark_topmost(stack: &[Opener], braces: usize, marks: &mut [bool]) -> bool
     false
 }
 
-/// Marks the statement braces among the places, and tells whether there is one.
-fn mark_statement_braces(
+/// Fills in the partners of the places, marks the statement braces among them, and tells whether there is one.
+fn read_brackets(
     classes: &[TokenClass],
+    partners: &mut [Partner],
     marks: &mut [bool],
     run: &Bump,
 ) -> Result<bool, NoMemory>
     requires few { length classes.now < 2 ^ 32 }
+    requires alone { partners.old ≡ replicate (length classes.now) None }
     requires unmarked { marks.old ≡ replicate (length classes.now) false }
+    ensures partners { OnOk result (partners.new ≡ partners_of classes.now) }
     ensures marks { OnOk result (marks.new ≡ map (is_statement_brace classes.now) (range_with_len 0 (length classes.now))) }
     ensures none { IfOk result (λ any. any ≡ false → marks.new ≡ replicate (length classes.now) false) }
 {
@@ -46,13 +50,14 @@ fn mark_statement_braces(
         if c.is_semicolon() && mark_topmost(&stack, braces, marks) {
             any = true;
         }
-        let _ = waiting_step(&mut stack, &mut braces, i as u32, *c)?;
+        let taken = waiting_step(&mut stack, &mut braces, i as u32, *c)?;
+        close(partners, taken, i as u32);
     }
     Ok(any)
 }
 
 /// Puts in place of the marks of braces those of the gaps between a marked brace and its partner.
-fn spread(marks: &mut [bool], partners: &[Option<u32>])
+fn spread(marks: &mut [bool], partners: &[Partner])
     requires { length marks.old ≡ length partners.now }
     ensures { marks.new ≡ map (is_inside marks.old partners.now) (range_with_len 0 (length marks.old)) }
 {
@@ -61,29 +66,39 @@ fn spread(marks: &mut [bool], partners: &[Option<u32>])
         let is_brace = *mark;
         *mark = i < end;
         if is_brace {
-            if let Some(partner) = partners[i] {
+            if let Some(partner) = partners[i].place() {
                 end = end.max(partner as usize + 1);
             }
         }
     }
 }
 
-/// Of each place of a view, whether the gap before it is kept as it is, by the classes of its tokens and their partners.
+/// What the brackets of a view tell of its places.
+#[derive(Clone, Copy, Debug)]
+pub struct BracketFacts<'r> {
+    /// The partner of each place.
+    pub partners: &'r [Partner],
+    /// Of each place, whether the gap before it is kept as it is.
+    pub kept: &'r [bool],
+}
+
+/// The partners of the places of a view and the gaps before them that are kept, read in one pass over the classes of
+/// its tokens.
 ///
-/// `docs/PROFILE.md` says under "Kept gaps" which gaps those are. Want of memory is the only error.
-pub fn kept_gaps<'r>(
+/// `docs/PROFILE.md` says under "Partners" and "Kept gaps" which these are. Want of memory is the only error.
+pub fn bracket_facts<'r>(
     classes: &[TokenClass],
-    partners: &[Option<u32>],
     run: &'r Bump,
-) -> Result<&'r [bool], NoMemory>
+) -> Result<BracketFacts<'r>, NoMemory>
     requires few { length classes.now < 2 ^ 32 }
-    requires partners { partners.now ≡ partners_of classes.now }
-    ensures kept { IfOk result (λ kept. kept.now ≡ kept_gaps_of classes.now) }
-    ensures count { IfOk result (λ kept. length kept.now ≡ length classes.now) }
+    ensures partners { IfOk result (λ facts. facts.partners.now ≡ partners_of classes.now) }
+    ensures kept { IfOk result (λ facts. facts.kept.now ≡ kept_gaps_of classes.now) }
+    ensures count { IfOk result (λ facts. length facts.kept.now ≡ length classes.now) }
 {
-    let marks = into_bump_slice_mut(vec![in run; false; classes.len()]?);
-    if mark_statement_braces(classes, marks, run)? {
-        spread(marks, partners);
+    let partners = into_bump_slice_mut(vec![in run; Partner::none(); classes.len()]?);
+    let kept = into_bump_slice_mut(vec![in run; false; classes.len()]?);
+    if read_brackets(classes, partners, kept, run)? {
+        spread(kept, partners);
     }
-    Ok(marks)
+    Ok(BracketFacts { partners, kept })
 }

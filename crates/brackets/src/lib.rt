@@ -6,7 +6,9 @@ mod characters;
 mod class;
 mod class_sets;
 mod kept;
+mod listed;
 mod pairing;
+mod partner;
 mod spelling;
 #[cfg(test)]
 mod tests;
@@ -14,7 +16,8 @@ mod viewed;
 mod words;
 
 pub use class::TokenClass;
-pub use kept::kept_gaps;
+pub use kept::{BracketFacts, bracket_facts};
 pub use line_tokens::NoMemory;
 pub use pairing::partners_of_classes;
+pub use partner::Partner;
 pub use viewed::{classes, classes_among, item_class, item_classes, partners};

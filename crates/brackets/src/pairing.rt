@@ -4,7 +4,7 @@ ghost use Rattle.std.specs.Prelude.{◌≡◌, ◌∷◌, [], ◌++◌, ◌<◌,
 ghost use Rattle.std.specs.Option.{ForSome, ForNone};
 ghost use Rattle.brackets.specs.Partners.{partners_of, count_braces, nearest_brace, topmost, is_round, is_square, bracket_step, matching_of, paired, TakesStep, StandBefore};
 
-use crate::TokenClass;
+use crate::{Partner, TokenClass};
 use bumpalo::Bump;
 use bumpalo::collections::into_bump_slice;
 use line_tokens::NoMemory;
@@ -39,6 +39,7 @@ fn take_brace(stack: &mut Vec<Opener, &Bump>, braces: &mut usize) -> Option<u32>
 }
 
 /// Takes off the topmost opener, where it is a square one.
+#[inline(always)]
 fn take_square(stack: &mut Vec<Opener, &Bump>) -> Option<u32>
     ensures some { IfSome result (λ p. topmost is_square (reverse stack.old.items) ≡ Some (record { place = p; below = reverse stack.new.items })) }
     ensures none { IfNone result (topmost is_square (reverse stack.old.items) ≡ None) }
@@ -60,6 +61,7 @@ fn take_square(stack: &mut Vec<Opener, &Bump>) -> Option<u32>
 }
 
 /// Takes off the topmost opener, where it is a round one.
+#[inline(always)]
 fn take_round(stack: &mut Vec<Opener, &Bump>) -> Option<u32>
     ensures some { IfSome result (λ p. topmost is_round (reverse stack.old.items) ≡ Some (record { place = p; below = reverse stack.new.items })) }
     ensures none { IfNone result (topmost is_round (reverse stack.old.items) ≡ None) }
@@ -81,17 +83,21 @@ fn take_round(stack: &mut Vec<Opener, &Bump>) -> Option<u32>
 }
 
 /// Makes the two places partners.
-fn match_up(partners: &mut [Option<u32>], o: u32, i: u32)
+#[inline(always)]
+fn match_up(partners: &mut [Partner], o: u32, i: u32)
+    requires few { length partners.old < 2 ^ 32 }
     requires opener { o < length partners.old }
     requires closer { i < length partners.old }
     ensures { partners.new ≡ slice_set (slice_set partners.old o (Some i)) i (Some o) }
 {
-    partners[o as usize] = Some(i);
-    partners[i as usize] = Some(o);
+    partners[o as usize] = Partner::at(i);
+    partners[i as usize] = Partner::at(o);
 }
 
 /// Makes the opener and the closer partners, where the closer has one.
-fn close(partners: &mut [Option<u32>], o: Option<u32>, i: u32)
+#[inline(always)]
+pub(crate) fn close(partners: &mut [Partner], o: Option<u32>, i: u32)
+    requires few { length partners.old < 2 ^ 32 }
     requires opener { ForSome o (λ p. p < length partners.old) }
     requires closer { i < length partners.old }
     ensures { partners.new ≡ paired partners.old o i }
@@ -101,7 +107,17 @@ fn close(partners: &mut [Option<u32>], o: Option<u32>, i: u32)
     }
 }
 
+/// Lets an opener wait. It stands apart since it may have to take memory.
+#[inline(never)]
+fn push_opener(stack: &mut Vec<Opener, &Bump>, place: u32, kind: TokenClass) -> Result<(), NoMemory>
+    ensures items { OnOk result (stack.new.items ≡ stack.old.items ++ record { place = place; kind = kind } ∷ []) }
+{
+    stack.push(Opener { place, kind })?;
+    Ok(())
+}
+
 /// One token, as far as the openers that wait go: the place of the opener that it takes off.
+#[inline(always)]
 pub(crate) fn waiting_step(
     stack: &mut Vec<Opener, &Bump>,
     braces: &mut usize,
@@ -117,14 +133,17 @@ pub(crate) fn waiting_step(
     ensures small { OnOk result (braces.new ≤ i + 1) }
     ensures before { OnOk result (StandBefore (i + 1) (reverse stack.new.items)) }
 {
+    if !c.is_bracket() {
+        return Ok(None);
+    }
     match c {
         TokenClass::OpenRound | TokenClass::OpenSquare => {
-            stack.push(Opener { place: i, kind: c })?;
+            push_opener(stack, i, c)?;
             Ok(None)
         }
         TokenClass::OpenBrace => {
             *braces += 1;
-            stack.push(Opener { place: i, kind: c })?;
+            push_opener(stack, i, c)?;
             Ok(None)
         }
         TokenClass::CloseRound => Ok(take_round(stack)),
@@ -135,10 +154,11 @@ pub(crate) fn waiting_step(
 }
 
 /// One token.
+#[inline(always)]
 fn bracket_step(
     stack: &mut Vec<Opener, &Bump>,
     braces: &mut usize,
-    partners: &mut [Option<u32>],
+    partners: &mut [Partner],
     i: u32,
     c: TokenClass,
 ) -> Result<(), NoMemory>
@@ -146,6 +166,7 @@ fn bracket_step(
     requires small { braces.old ≤ i }
     requires before { StandBefore i (reverse stack.old.items) }
     requires here { i < length partners.old }
+    requires few { length partners.old < 2 ^ 32 }
     ensures step { OnOk result (matching_of stack.new.items partners.new ≡ bracket_step c i (matching_of stack.old.items partners.old)) }
     ensures count { OnOk result (braces.new ≡ count_braces (reverse stack.new.items)) }
     ensures small { OnOk result (braces.new ≤ i + 1) }
@@ -160,11 +181,11 @@ fn bracket_step(
 pub fn partners_of_classes<'r>(
     classes: &[TokenClass],
     run: &'r Bump,
-) -> Result<&'r [Option<u32>], NoMemory>
+) -> Result<&'r [Partner], NoMemory>
     requires { length classes.now < 2 ^ 32 }
     ensures { IfOk result (λ partners. partners.now ≡ partners_of classes.now) }
 {
-    let mut partners = vec![in run; None; classes.len()]?;
+    let mut partners = vec![in run; Partner::none(); classes.len()]?;
     let mut stack: Vec<Opener, &Bump> = Vec::new(run);
     let mut braces: usize = 0;
     for (i, c) in classes.iter().enumerate() {

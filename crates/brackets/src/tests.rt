@@ -3,7 +3,9 @@
 use crate::TokenClass::{
     self, CloseBrace, CloseRound, CloseSquare, OpenBrace, OpenRound, OpenSquare,
 };
-use crate::{classes_among, item_classes, kept_gaps, partners_of_classes, spelling, words};
+use crate::{
+    Partner, bracket_facts, classes_among, item_classes, partners_of_classes, spelling, words,
+};
 use bumpalo::Bump;
 use c_chars::Dialect;
 use std::test::Fail;
@@ -13,22 +15,28 @@ use token_views::View;
 #[test]
 fn pairs_brackets(rt: HostRuntime) -> Result<(), Fail> {
     let run = Bump::new(rt.alloc());
+    let none = Partner::none();
     for (classes, want) in [
         (
             [OpenRound, OpenSquare, CloseRound, CloseSquare],
-            [None, Some(3), None, Some(1)],
+            [none, Partner::at(3), none, Partner::at(1)],
         ),
         (
             [OpenBrace, OpenRound, CloseBrace, CloseRound],
-            [Some(2), None, Some(0), None],
+            [Partner::at(2), none, Partner::at(0), none],
         ),
         (
             [CloseBrace, OpenRound, CloseBrace, CloseRound],
-            [None, Some(3), None, Some(1)],
+            [none, Partner::at(3), none, Partner::at(1)],
         ),
         (
             [OpenBrace, OpenBrace, CloseBrace, CloseBrace],
-            [Some(3), Some(2), Some(1), Some(0)],
+            [
+                Partner::at(3),
+                Partner::at(2),
+                Partner::at(1),
+                Partner::at(0),
+            ],
         ),
     ] {
         let found = partners_of_classes(&classes, &run)?;
@@ -79,9 +87,14 @@ fn keeps_the_gaps_of_statement_braces(rt: HostRuntime) -> Result<(), Fail> {
             .map(|letter| letter_class(*letter))
             .collect(rt.alloc())?;
         assert!(rt; classes.len() < 100);
-        let partners = partners_of_classes(&classes, &run)?;
-        let kept = kept_gaps(&classes, partners, &run)?;
-        let found: Vec<u8, _> = kept
+        let facts = bracket_facts(&classes, &run)?;
+        assert_eq!(rt;
+            facts.partners,
+            partners_of_classes(&classes, &run)?,
+            "{name}"
+        );
+        let found: Vec<u8, _> = facts
+            .kept
             .iter()
             .map(|kept| if *kept { b'^' } else { b'.' })
             .collect(rt.alloc())?;
@@ -105,8 +118,7 @@ fn keeps_the_gaps_of_many_statement_braces(rt: HostRuntime) -> Result<(), Fail> 
     }
     classes.push(CloseRound)?;
     assert!(rt; classes.len() < 1_000_000);
-    let partners = partners_of_classes(&classes, &run)?;
-    let kept = kept_gaps(&classes, partners, &run)?;
+    let kept = bracket_facts(&classes, &run)?.kept;
     // All are, but those before the brackets outside and before the first brace.
     assert_eq!(rt; kept.len(), 300_002);
     assert_eq!(rt; kept.iter().filter(|kept| **kept).count(), 299_999);
@@ -116,12 +128,14 @@ fn keeps_the_gaps_of_many_statement_braces(rt: HostRuntime) -> Result<(), Fail> 
 #[test]
 fn tells_words_apart(rt: HostRuntime) -> Result<(), Fail> {
     let run = Bump::new(rt.alloc());
-    let rows: [(&[u8], TokenClass); 9] = [
+    let rows: [(&[u8], TokenClass); 11] = [
         (b"if", TokenClass::If),
         (b"i\\\nf", TokenClass::If),
         (b"__attribute__", TokenClass::CallWord),
         (b"unsigned", TokenClass::OtherWord),
         (b"size_t", TokenClass::OtherWord),
+        (b"struc", TokenClass::PlainWord),
+        (b"structs", TokenClass::PlainWord),
         (b"FOO_1", TokenClass::CapitalWord),
         (b"X", TokenClass::PlainWord),
         (b"Foo", TokenClass::PlainWord),

@@ -13,9 +13,8 @@ use bumpalo::collections::into_bump_slice;
 fn push_flags(flags: &mut Vec<bool, &Bump>, count: u32, flag: bool) -> Result<(), NoMemory>
     ensures { IfOk result (λ _. flags.new.items ≡ flags.old.items ++ replicate count flag) }
 {
-    for _place in 0..count {
-        flags.push(flag)?;
-    }
+    let len = flags.len();
+    flags.resize(len + count as usize, flag)?;
     Ok(())
 }
 

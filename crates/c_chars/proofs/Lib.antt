@@ -4,3 +4,4 @@ pub mod Spans
 pub mod Splits
 pub mod Ends
 pub mod Runs
+pub mod Tables

@@ -8,6 +8,7 @@ mod reader;
 mod units;
 
 pub use reader::Chars;
+pub use units::is_word_byte;
 
 /// The most bytes that one input may have.
 pub const LIMIT: usize = 8_388_608;

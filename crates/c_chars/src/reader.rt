@@ -1,6 +1,6 @@
 //! Reads the characters of a text one after another.
 
-ghost use Rattle.std.specs.Prelude.{◌≡◌, ◌+◌, ◌<◌, ◌≤◌, ◌^◌, length, drop, MatchOption, IfSome, IfNone, ◌∷◌, [], slice_get};
+ghost use Rattle.std.specs.Prelude.{◌≡◌, ◌+◌, ◌<◌, ◌≤◌, ◌^◌, length, drop, MatchOption, Some, IfSome, IfNone, ◌∷◌, [], slice_get};
 ghost use Rattle.c_chars.specs.Characters.{chars, logical, mark_len, is_word_byte};
 ghost use Rattle.c_chars.specs.Coming.{AreBetween, ArePassed, AreSpacesPassed};
 
@@ -33,6 +33,24 @@ impl<'s> Cursor<'s> {
             return Some(self.take_unit(*byte, self.at, 1, behind));
         }
         self.step_any()
+    }
+
+    /// The next character where a plain byte is it; none where it is written otherwise, and at the
+    /// end. It stays there.
+    #[inline(always)]
+    fn next_plain(&mut self) -> Option<LogicalChar>
+        ensures dialect { self.new.dialect ≡ self.old.dialect }
+        ensures next { MatchOption result
+            ((self.new.at ≡ self.old.at) × (self.new.rest.now ≡ self.old.rest.now))
+            (λ c. (chars self.old.dialect self.old.at self.old.rest.now ≡ c ∷ chars self.new.dialect self.new.at self.new.rest.now) × (self.new.at ≡ c.to)) }
+    {
+        let [byte, behind @ ..] = self.rest else {
+            return None;
+        };
+        if is_plain(*byte) {
+            return Some(self.take_unit(*byte, self.at, 1, behind));
+        }
+        None
     }
 
     /// The next character, whatever it is written as. Apart from `next`, so that the room for what
@@ -188,6 +206,29 @@ impl<'s> Chars<'s> {
         ensures none { IfNone result ((self.old.chars ≡ []) × (self.new ≡ self.old)) }
     {
         self.cursor.next()
+    }
+
+    /// The next character where a plain byte is it, which nothing behind it can change; none where it
+    /// is written otherwise, and at the end.
+    ///
+    /// It calls nothing, so that what reads plain bytes alone keeps its reader in registers.
+    #[inline(always)]
+    pub fn next_plain(&mut self) -> Option<LogicalChar>
+        ensures dialect { self.new.dialect ≡ self.old.dialect }
+        ensures some { IfSome result (λ c. (self.old.chars ≡ c ∷ self.new.chars) × (self.new.at ≡ c.to)) }
+        ensures none { IfNone result (self.new ≡ self.old) }
+    {
+        self.cursor.next_plain()
+    }
+
+    /// The next character where a plain byte is it, which is left where it stands; none where it is
+    /// written otherwise, and at the end.
+    #[inline(always)]
+    pub fn peek_plain(&self) -> Option<LogicalChar>
+        ensures { IfSome result (λ c. slice_get self.now.chars 0 ≡ Some c) }
+    {
+        let mut ahead = self.cursor;
+        ahead.next_plain()
     }
 
     /// Steps behind the letters, digits, `_` and `$` that come next, in one pass over their bytes.

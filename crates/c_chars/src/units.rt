@@ -1,6 +1,6 @@
 //! The first character of a text, before splices are taken out.
 
-ghost use Rattle.std.specs.Prelude.{◌≡◌, ◌&&◌, ◌<◌, ◌≤◌, length};
+ghost use Rattle.std.specs.Prelude.{◌≡◌, ◌&&◌, ◌<◌, ◌≤◌, false, get_or, length};
 ghost use Rattle.std.specs.List.{prefix_len};
 ghost use Rattle.c_chars.specs.Characters.{trigraph, IsUnit, begins_trigraph, begins_return, has_trigraphs, is_plain, is_space_byte, is_word_byte};
 
@@ -65,13 +65,43 @@ pub(crate) fn is_plain(b: u8) -> bool
     b != b'?' && (b != b'\r' && b != b'\\')
 }
 
-/// A letter, a digit, `_` or `$`.
-#[tactic(auto, unfolding(crate::specs::Characters::is_word_byte))]
+/// Of each byte, whether it is a letter, a digit, `_` or `$`.
+const WORD_BYTES: [bool; 256] = [
+    false, false, false, false, false, false, false, false, false, false, false, false, false,
+    false, false, false, false, false, false, false, false, false, false, false, false, false,
+    false, false, false, false, false, false, false, false, false, false, true, false, false,
+    false, false, false, false, false, false, false, false, false, true, true, true, true, true,
+    true, true, true, true, true, false, false, false, false, false, false, false, true, true,
+    true, true, true, true, true, true, true, true, true, true, true, true, true, true, true, true,
+    true, true, true, true, true, true, true, true, false, false, false, false, true, false, true,
+    true, true, true, true, true, true, true, true, true, true, true, true, true, true, true, true,
+    true, true, true, true, true, true, true, true, true, false, false, false, false, false, false,
+    false, false, false, false, false, false, false, false, false, false, false, false, false,
+    false, false, false, false, false, false, false, false, false, false, false, false, false,
+    false, false, false, false, false, false, false, false, false, false, false, false, false,
+    false, false, false, false, false, false, false, false, false, false, false, false, false,
+    false, false, false, false, false, false, false, false, false, false, false, false, false,
+    false, false, false, false, false, false, false, false, false, false, false, false, false,
+    false, false, false, false, false, false, false, false, false, false, false, false, false,
+    false, false, false, false, false, false, false, false, false, false, false, false, false,
+    false, false, false, false, false, false, false, false, false, false, false, false, false,
+    false, false, false, false, false, false, false, false, false, false,
+];
+
+/// What the table tells of a byte.
 #[inline(always)]
-fn is_word_byte(b: u8) -> bool
+fn told(table: &[bool; 256], b: u8) -> bool
+    ensures { result ≡ get_or table.now b false }
+{
+    table[b as usize]
+}
+
+/// A letter, a digit, `_` or `$`.
+#[inline(always)]
+pub fn is_word_byte(b: u8) -> bool
     ensures { result ≡ is_word_byte b }
 {
-    b.is_ascii_alphabetic() || (b.is_ascii_digit() || (b == b'_' || b == b'$'))
+    told(&WORD_BYTES, b)
 }
 
 /// How many letters, digits, `_` and `$` the bytes begin with.

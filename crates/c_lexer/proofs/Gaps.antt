@@ -11,7 +11,7 @@ use Rattle.c_chars.specs.declared.LogicalChar.{LogicalChar}
 use Rattle.c_grammar.specs.Grammar.{is_white, is_new_line}
 use Rattle.c_grammar.specs.Touch.{starts}
 use Rattle.c_lexer.specs.Place.{IsSpanned}
-use Rattle.c_lexer.specs.Reading.{new_lines, bytes_in, first_gap}
+use Rattle.c_lexer.specs.Reading.{IsGap, new_lines, bytes_in, first_gap}
 use Rattle.c_lexer.proofs.Passing.{prefix_done, prefix_next}
 use Rattle.c_lexer.proofs.Stepping.{bytes_take}
 
@@ -32,6 +32,16 @@ bytes_step x y c e h = ap bytes_in (gap_step x y c e h) ∙ sum_by-cons (λ (z :
 -- no more of it
 pub gap_done : (s : List LogicalChar) → starts (λ b. is_white b || is_new_line b) (bytes_of s) ≡ false → first_gap s ≡ []
 gap_done s h = ap (λ n. take n s) (prefix_done (λ b. is_white b || is_new_line b) (bytes_of s) h)
+
+-- so many new-lines and bytes, and no more of it
+pub gap_ended : (x y : Coming) (lines bytes : ℕ) → starts (λ b. is_white b || is_new_line b) (bytes_of y.chars) ≡ false → lines + new_lines (first_gap y.chars) ≡ new_lines (first_gap x.chars)
+    → bytes + bytes_in (first_gap y.chars) ≡ bytes_in (first_gap x.chars)
+    → behind y (prefix_len (λ b. is_white b || is_new_line b) (bytes_of y.chars)) ≡ behind x (prefix_len (λ b. is_white b || is_new_line b) (bytes_of x.chars)) → IsGap x lines bytes y
+gap_ended x y lines bytes stops line byte rest =
+    let none = gap_done y.chars stops in
+    let no_line : new_lines (first_gap y.chars) ≡ 0 = ap new_lines none in
+    let no_byte : bytes_in (first_gap y.chars) ≡ 0 = ap bytes_in none in
+    record { lines_are = omega (arith, line, no_line); bytes_are = omega (arith, byte, no_byte); rest_is = sym (ap (λ n. behind y n) (prefix_done (λ b. is_white b || is_new_line b) (bytes_of y.chars) stops)) ∙ rest }
 
 -- Where the next character stands.
 pub record IsOneOn (x y : Coming) (c : LogicalChar) : Type 0 where

@@ -24,3 +24,5 @@ pub mod NextItems
 pub mod Gaps
 pub mod Backslashes
 pub mod Lexemes
+pub mod Plains
+pub mod PlainNumbers

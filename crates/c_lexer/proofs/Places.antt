@@ -1,17 +1,21 @@
 -- How far a word reaches, and the place behind an item.
-use Rattle.std.proofs.Common.{◌≡◌, ◌==◌, Bool, true, false, ℕ, suc, zero, ◌≤◌, ◌<◌, List, [], ◌∷◌, length, take, nat_eq, refl, sym, ◌∙◌, ap, subst, arith, inl, inr}
+use Rattle.std.proofs.Common.{◌≡◌, ◌==◌, not, Bool, true, false, ℕ, suc, zero, ◌≤◌, ◌<◌, List, [], ◌∷◌, length, take, nat_eq, refl, sym, ◌∙◌, ap, subst, arith, inl, inr}
+use Rattle.std.specs.Prelude.{IfSome, None, Option, Some}
 use Rattle.std.specs.List.{starts_with}
-use Rattle.std.proofs.lemmas.Bool.{and_parts, eqb-true, eq-eqb, cases_Bool, false_from_ne_true}
+use Rattle.std.proofs.lemmas.Bool.{and_parts, eqb-true, eq-eqb, cases_Bool, false_from_ne_true, not-false}
 use Rattle.c_chars.specs.Characters.{bytes_of}
 use Rattle.c_chars.specs.Coming.{Coming, AreBetween, passed, behind}
 use Rattle.c_chars.specs.declared.Dialect.{Dialect}
 use Rattle.c_chars.specs.declared.LogicalChar.{LogicalChar}
 use Rattle.c_grammar.specs.Grammar.{is_same}
-use Rattle.c_grammar.specs.Items.{Place, LineStart, AfterHash, AfterInclude, AfterDefine, AfterMacroName, InDirective, InText, past_item}
+use Rattle.c_grammar.specs.Items.{Place, LineStart, AfterHash, AfterInclude, AfterDefine, AfterMacroName, InDirective, InText, is_hash, past_item}
+use Rattle.c_grammar.specs.Touch.{starts}
 use Rattle.c_grammar.specs.declared.ItemKind.{ItemKind}
 use Rattle.c_grammar.specs.declared.ItemKind.TheVariants.{Identifier, Number, CharConst, StringLit, Punct, HeaderName, StrayQuote, Other, BlockComment, LineComment}
 use Rattle.c_grammar.proofs.Lists.{same_refl}
-use Rattle.c_lexer.specs.Place.{IsSpanned, past_plain, past_mark, past_word}
+use Rattle.c_lexer.specs.Class.{IsFirst}
+use Rattle.c_lexer.specs.Place.{IsSpanned, place_of, past_plain, past_mark, past_word}
+use Rattle.c_lexer.specs.declared.place.Standing.{Standing}
 use Rattle.c_lexer.proofs.Stepping.{onwards}
 
 -- behind fewer characters it stands elsewhere
@@ -85,6 +89,40 @@ word_place d AfterMacroName s = refl
 word_place d InDirective s = refl
 word_place d InText s = refl
 
+-- a punctuator that begins with another byte is no `#`
+no_hash : (f : ℕ) (s : List ℕ) → (f == 35) ≡ false → (f == 37) ≡ false → starts (λ c. not (c == f)) s ≡ false → is_hash s ≡ false
+no_hash f [] hash percent first = refl
+no_hash f (c ∷ s) hash percent first = let same : c ≡ f = eqb-true c f (not-false (c == f) first) in rw (same, hash, percent) refl
+
+pub plain_mark : (p : Place) (f : ℕ) (s : List ℕ) → (f == 35) ≡ false → (f == 37) ≡ false → starts (λ c. not (c == f)) s ≡ false → past_plain p ≡ past_mark p s
+plain_mark LineStart f s hash percent first = let other = no_hash f s hash percent first in rw other refl
+plain_mark AfterHash f s hash percent first = refl
+plain_mark AfterInclude f s hash percent first = refl
+plain_mark AfterDefine f s hash percent first = refl
+plain_mark AfterMacroName f s hash percent first = refl
+plain_mark InDirective f s hash percent first = refl
+plain_mark InText f s hash percent first = refl
+
+-- Behind an item of this kind that begins so, the place is this one, if any is told.
+abbrev pub IsToldPlace : Dialect → Place → ItemKind → ℕ → Option Standing → Type 0
+IsToldPlace d p kind f o = IfSome o (λ past. (s : List ℕ) → starts (λ c. not (c == f)) s ≡ false → place_of past ≡ past_item d p kind s)
+
+pub told_word : (d : Dialect) (p : Place) (f : ℕ) (o : Option Standing) → IfSome o (λ past. (e : Dialect) (s : List ℕ) → place_of past ≡ past_word e p s) → IsToldPlace d p Identifier f o
+told_word d p f None h = h
+told_word d p f (Some past) h = λ s first. h d s ∙ word_place d p s
+
+pub told_mark : (d : Dialect) (p : Place) (f : ℕ) (o : Option Standing) → IfSome o (λ past. (s : List ℕ) → starts (λ c. not (c == f)) s ≡ false → place_of past ≡ past_mark p s) → IsToldPlace d p Punct f o
+told_mark d p f None h = h
+told_mark d p f (Some past) h = λ s first. h s first ∙ mark_place d p s
+
+-- the first characters of a text begin as it does
+pub first_only : (f n : ℕ) (s : List ℕ) → IsFirst f s → starts (λ c. not (c == f)) (take n s) ≡ false
+first_only f n s first = ap (λ z. starts (λ c. not (c == f)) (take n z)) first.whole ∙ at n
+  where
+    at : (n : ℕ) → starts (λ c. not (c == f)) (take n (f ∷ first.rest)) ≡ false
+    at zero = refl
+    at (suc n) = let same : (f == f) ≡ true = eq-eqb f f refl in rw same refl
+
 -- a kind whose spelling tells nothing of the place
 abbrev pub is_plain : ItemKind → Bool
 is_plain Identifier = false
@@ -140,3 +178,6 @@ plain_place d AfterDefine Other s h = refl
 plain_place d AfterMacroName Other s h = refl
 plain_place d InDirective Other s h = refl
 plain_place d InText Other s h = refl
+
+pub told_other : (d : Dialect) (p : Place) (k : ItemKind) (f : ℕ) (past : Standing) → is_plain k ≡ true → place_of past ≡ past_plain p → IsToldPlace d p k f (Some past)
+told_other d p k f past plain h = λ s first. h ∙ plain_place d p k s plain

@@ -1,6 +1,8 @@
 -- Classes of characters that tell which kind of item begins.
-use Rattle.std.specs.Prelude.{◌≡◌, ◌==◌, ◌||◌, ℕ, Bool, List, ◌∷◌, nat_le, codes}
-use Rattle.c_grammar.specs.Grammar.{is_of}
+use Rattle.std.specs.Prelude.{◌≡◌, ◌==◌, ◌||◌, not, ℕ, Bool, List, ◌∷◌, nat_le, codes}
+use Rattle.c_grammar.specs.Grammar.{is_of, is_letter, is_digit, is_sign}
+use Rattle.c_lexer.specs.Run.{goes_on_long}
+use Rattle.c_lexer.specs.Unit.{is_single}
 
 -- an apostrophe or a quotation mark
 abbrev pub is_quote_mark : ℕ → Bool
@@ -13,6 +15,22 @@ begins_punctuator c = is_of (codes "[](){}.-+&*~!/%<>=^|?:;,#") c
 -- a backslash, or past ASCII
 unfoldable pub is_beyond : ℕ → Bool
 is_beyond c = (c == 92) || nat_le 128 c
+
+-- what ends a word that stands before it, which begins no literal
+abbrev pub ends_word : ℕ → Bool
+ends_word c = not ((is_letter c || is_digit c) || (is_beyond c || is_quote_mark c))
+
+-- what ends a number that stands before it
+abbrev pub ends_number : ℕ → Bool
+ends_number c = not (is_single c || (is_sign c || (is_beyond c || c == 39)))
+
+-- a punctuator by itself, that none begins with that is longer
+unfoldable pub is_lone_mark : ℕ → Bool
+is_lone_mark c = is_of (codes "[](){}~;,") c
+
+-- what ends a punctuator of one character that stands before it
+abbrev pub ends_mark : ℕ → Bool
+ends_mark c = not (goes_on_long c || (is_digit c || (c == 47 || c == 42)))
 
 -- the characters begin with this one
 pub record IsFirst (c : ℕ) (s : List ℕ) : Type 0 where

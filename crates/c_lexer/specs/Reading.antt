@@ -42,6 +42,18 @@ ends_in_backslash (c ∷ e ∷ s) = ends_in_backslash (e ∷ s)
 abbrev pub first_gap : List LogicalChar → List LogicalChar
 first_gap s = take (prefix_len (λ c. is_white c || is_new_line c) (bytes_of s)) s
 
+-- The gap that the text begins with has so many new-lines and its characters so many bytes, and then that is left.
+pub record IsGap (text : Coming) (lines bytes : ℕ) (rest : Coming) : Type 0 where
+  pub lines_are : lines ≡ new_lines (first_gap text.chars)
+  pub bytes_are : bytes ≡ bytes_in (first_gap text.chars)
+  pub rest_is : rest ≡ behind text (prefix_len (λ c. is_white c || is_new_line c) (bytes_of text.chars))
+
+-- The text begins with this character, and then that is left.
+pub record IsBegun (text : Coming) (first : LogicalChar) (left : Coming) : Type 0 where
+  pub chars_are : text.chars ≡ first ∷ left.chars
+  pub at_is : left.at ≡ first.to
+  pub dialect_is : left.dialect ≡ text.dialect
+
 -- The next item of the text is this one, and this is what its characters and those of its gap tell.
 pub record IsNextLexeme (old new : Reading) (lexeme : Lexeme) : Type 0 where
   pub next : IsNextItem old new lexeme.item.kind lexeme.item.start lexeme.item.raw.now

@@ -45,6 +45,11 @@ begins_long c = is_of (codes "-=&+|!<>*/%^.#:") c
 unfoldable pub goes_on_long : ℕ → Bool
 goes_on_long c = is_of (codes "=>&+|-<.:#%") c
 
+-- these two characters are a punctuator, and none that is longer begins with them
+unfoldable pub is_pair_mark : ℕ → ℕ → Bool
+is_pair_mark a b =
+    if b == 61 then is_of (codes "=!+<>-|&*/%^") a else (if b == 62 then a == 45 else (is_of (codes "&+|-#") b && a == b))
+
 -- the first two characters can be those of a punctuator
 abbrev pub may_be_long : List ℕ → Bool
 may_be_long [] = false

@@ -2,9 +2,10 @@
 
 ghost use Rattle.std.specs.Prelude.{◌≡◌, ◌==◌, ◌||◌, ◌&&◌, ◌∷◌, [], nat_le};
 ghost use Rattle.c_grammar.specs.Grammar.{is_white, is_new_line, is_digit, is_letter, is_sign, is_exponent, is_hex, is_separated};
-ghost use Rattle.c_lexer.specs.Class.{is_quote_mark, begins_punctuator, is_beyond};
+ghost use Rattle.c_lexer.specs.Class.{is_quote_mark, begins_punctuator, is_beyond, ends_word, ends_number, is_lone_mark, ends_mark};
 ghost use Rattle.c_lexer.specs.Unit.{is_pair, is_single};
 
+use crate::punctuator;
 use c_chars::Dialect;
 
 /// White space and new-lines.
@@ -71,7 +72,7 @@ fn is_exponent(b: u8) -> bool
 pub(crate) fn is_word(b: u8) -> bool
     ensures { result ≡ (is_letter b || is_digit b) }
 {
-    is_letter(b) || is_digit(b)
+    c_chars::is_word_byte(b)
 }
 
 /// An apostrophe or a quotation mark.
@@ -80,6 +81,45 @@ pub(crate) fn is_quote_mark(b: u8) -> bool
     ensures { result ≡ is_quote_mark b }
 {
     matches!(b, b'\'' | b'"')
+}
+
+/// What ends a word that stands before it, which begins no literal: no letter, no digit, no quote, no
+/// backslash and no byte past ASCII.
+#[inline(always)]
+pub(crate) fn ends_word(b: u8) -> bool
+    ensures { result ≡ ends_word b }
+{
+    !(is_word(b) || (is_beyond(b) || is_quote_mark(b)))
+}
+
+/// What ends a number that stands before it: no part of one, no sign, no quote, no backslash and no byte
+/// past ASCII.
+#[inline(always)]
+pub(crate) fn ends_number(b: u8) -> bool
+    ensures { result ≡ ends_number b }
+{
+    !(is_single(b) || (is_sign(b) || (is_beyond(b) || b == b'\'')))
+}
+
+/// A punctuator by itself, that none begins with that is longer.
+#[tactic(auto, unfolding(crate::specs::Class::is_lone_mark))]
+#[inline(always)]
+pub(crate) fn is_lone_mark(b: u8) -> bool
+    ensures { result ≡ is_lone_mark b }
+{
+    matches!(
+        b,
+        b'[' | b']' | b'(' | b')' | b'{' | b'}' | b'~' | b';' | b','
+    )
+}
+
+/// What ends a punctuator of one byte that stands before it: it goes on with none, and neither a number
+/// nor a comment is begun.
+#[inline(always)]
+pub(crate) fn ends_mark(b: u8) -> bool
+    ensures { result ≡ ends_mark b }
+{
+    !(punctuator::goes_on_long(b) || (is_digit(b) || (b == b'/' || b == b'*')))
 }
 
 /// The first byte of a punctuator.

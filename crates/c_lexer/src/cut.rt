@@ -1,6 +1,6 @@
 //! Cuts off the item that a text begins with.
 
-ghost use Rattle.std.specs.Prelude.{◌≡◌, ◌∷◌, ◌++◌, ◌+◌, ◌||◌, ◌<◌, ◌^◌, length, true, false, codes, [], ◌==◌, nat_eq, not, drop, IsTrue, IsFalse, MatchOption, MatchResult};
+ghost use Rattle.std.specs.Prelude.{◌≡◌, ◌∷◌, ◌++◌, ◌+◌, ◌||◌, ◌<◌, ◌^◌, length, true, false, codes, [], ◌==◌, nat_eq, not, drop, IsTrue, IsFalse, IfSome, MatchOption, MatchResult};
 ghost use Rattle.std.specs.List.{starts_with};
 ghost use Rattle.c_chars.specs.Characters.{bytes_of};
 ghost use Rattle.c_chars.specs.Coming.{behind};
@@ -11,10 +11,12 @@ ghost use Rattle.c_grammar.specs.Items.{IsLongest};
 ghost use Rattle.c_grammar.specs.declared.ItemKind.TheVariants.{Identifier, Number, Punct, Other, CharConst, StringLit, StrayQuote, LineComment, BlockComment};
 ghost use Rattle.c_lexer.specs.Cut.{IsCutOff, IsStop};
 ghost use Rattle.c_lexer.specs.Class.{IsFirst, begins_punctuator, is_quote_mark};
+ghost use Rattle.c_lexer.specs.Reading.{IsBegun};
 ghost use Rattle.c_lexer.specs.Run.{begins_number, head_len};
 ghost use Rattle.c_lexer.specs.Unit.{BeginsUnit, is_rare_unit};
 ghost use Rattle.unicode_ident.specs.Ident.{is_xid_start};
 
+use crate::line::Begun;
 use crate::{class, comment, front, line, punctuator, quote, unit, utf8, word};
 use c_chars::{Chars, Dialect};
 use c_grammar::ItemKind;
@@ -159,6 +161,75 @@ pub(crate) fn cut_quoted<'s>(text: &Chars<'s>) -> (ItemKind, Chars<'s>)
     match cut_string(text, b"") {
         Some(left) => (ItemKind::StringLit, left),
         None => (ItemKind::StrayQuote, cut_stray(text, b'"')),
+    }
+}
+
+/// What stands behind the punctuator that is begun, where its first byte and a plain byte behind it tell
+/// how long it is; none elsewhere.
+#[inline(always)]
+fn behind_plain_mark<'s>(dialect: Dialect, begun: &Begun<'s>) -> Option<Chars<'s>>
+    requires dialect { dialect ≡ begun.now.text.dialect }
+    requires begun { IsBegun begun.now.text begun.now.first begun.now.behind }
+    ensures { IfSome result (λ left. IsCutOff begun.now.text left Punct) }
+{
+    let first = begun.first.byte;
+    let left = begun.behind.ahead();
+    if class::is_lone_mark(first) {
+        return Some(left);
+    }
+    if !class::begins_punctuator(first) {
+        return None;
+    }
+    match left.peek_plain() {
+        Some(second) => {
+            if punctuator::is_pair(first, second.byte) {
+                return Some(front::behind(&left, 1));
+            }
+            if class::ends_mark(second.byte) {
+                Some(left)
+            } else {
+                None
+            }
+        }
+        None => None,
+    }
+}
+
+/// What stands behind the number that this digit begins, where it is of letters and digits and a plain byte
+/// behind it ends it; none elsewhere.
+#[inline(always)]
+fn behind_plain_number<'s>(dialect: Dialect, begun: &Begun<'s>) -> Option<Chars<'s>>
+    requires dialect { dialect ≡ begun.now.text.dialect }
+    requires begun { IsBegun begun.now.text begun.now.first begun.now.behind }
+    requires digit { IsTrue (is_digit begun.now.first.byte) }
+    ensures { IfSome result (λ left. IsCutOff begun.now.text left Number) }
+{
+    unit::behind_plain_number(dialect, &begun.behind)
+}
+
+/// The item that is begun, where it is a word, a number or a punctuator of plain bytes and one behind it
+/// ends it; none elsewhere.
+#[inline(always)]
+pub(crate) fn cut_plain<'s>(dialect: Dialect, begun: &Begun<'s>) -> Option<(ItemKind, Chars<'s>)>
+    requires dialect { dialect ≡ begun.now.text.dialect }
+    requires begun { IsBegun begun.now.text begun.now.first begun.now.behind }
+    ensures { IfSome result (λ r. IsCutOff begun.now.text r.1 r.0) }
+{
+    if class::is_letter(begun.first.byte) {
+        return match word::behind_plain_word(begun) {
+            Some(left) => Some((ItemKind::Identifier, left)),
+            None => None,
+        };
+    }
+    if class::is_digit(begun.first.byte) {
+        return match behind_plain_number(dialect, begun) {
+            Some(left) => Some((ItemKind::Number, left)),
+            None => None,
+        };
+    }
+    match behind_plain_mark(dialect, begun) {
+        Some(left) => Some((ItemKind::Punct, left)),
+        None => None,
     }
 }
 

@@ -1,6 +1,6 @@
 //! What a text begins with.
 
-ghost use Rattle.std.specs.Prelude.{◌≡◌, ◌&&◌, ◌∷◌, [], not, map, nat_eq, drop};
+ghost use Rattle.std.specs.Prelude.{◌≡◌, ◌∷◌, [], map, nat_eq, drop};
 ghost use Rattle.std.specs.List.{starts_with};
 ghost use Rattle.c_chars.specs.Characters.{bytes_of};
 ghost use Rattle.c_chars.specs.Coming.{behind};
@@ -135,18 +135,6 @@ pub(crate) fn begins_quote(text: &Chars) -> bool
     match text.peek(0) {
         Some(c) => class::is_quote_mark(c.byte),
         None => false,
-    }
-}
-
-/// Whether a word that stands before the text ends there, and begins no literal: no quote, no backslash
-/// and no byte past ASCII comes next.
-#[inline(always)]
-pub(crate) fn ends_word(text: &Chars) -> bool
-    ensures { result ≡ (not (starts is_beyond (bytes_of text.now.chars)) && not (starts is_quote_mark (bytes_of text.now.chars))) }
-{
-    match text.peek(0) {
-        Some(c) => !class::is_beyond(c.byte) && !class::is_quote_mark(c.byte),
-        None => true,
     }
 }
 

@@ -1,6 +1,6 @@
 //! Reads the items of a text one after another.
 
-ghost use Rattle.std.specs.Prelude.{◌≡◌, ◌≤◌, ◌<◌, ◌-◌, length, take, drop, get_or, IsTrue, IfOk, IfErr, MatchOption, ⊤};
+ghost use Rattle.std.specs.Prelude.{◌≡◌, ◌≤◌, ◌<◌, ◌-◌, length, take, drop, get_or, IsFalse, IsTrue, IfSome, IfNone, IfOk, IfErr, MatchOption, ⊤};
 ghost use Rattle.c_grammar.specs.Items.{is_gap, LineStart};
 ghost use Rattle.c_chars.specs.Characters.{logical, bytes_of};
 ghost use Rattle.c_lexer.specs.Place.{IsSpanned};
@@ -75,6 +75,17 @@ fn is_backslash_last(text: &[u8], chars: &Chars, left: &Chars) -> bool
     ends_in_backslash(chars, left)
 }
 
+/// Whether the last bytes of an item tell that no backslash is its last character.
+#[inline(always)]
+fn ends_plainly(text: &[u8], chars: &Chars, left: &Chars) -> bool
+    requires some { 0 < left.now.at }
+    requires within { left.now.at ≤ length text.now }
+    requires slashed { AreSlashed text.now chars.now.chars }
+    ensures { IsTrue result → BeforeLeft chars.now left.now (λ s. IsFalse (ends_in_backslash s)) }
+{
+    !may_end_backslash(text, left.at())
+}
+
 /// Reads the items of a text one after another.
 #[derive(Drop)]
 pub struct Lexer<'s> {
@@ -112,8 +123,56 @@ impl<'s> Lexer<'s> {
         }
     }
 
-    /// The next item, with what it and its gap tell; none exactly where no item is left.
-    pub fn next_lexeme(&mut self) -> Result<Option<Lexeme<'s>>, LexFault>
+    /// The next item, with what it and its gap tell, where plain bytes tell all of it; none elsewhere,
+    /// where it stays. Where `again` is false no character is read again, and nothing is called.
+    #[inline(always)]
+    fn next_plain(&mut self, again: bool) -> Option<Lexeme<'s>>
+        ensures text { self.new.text ≡ self.old.text }
+        ensures dialect { self.new.dialect ≡ self.old.dialect }
+        ensures some { IfSome result (λ lexeme. IsNextLexeme self.old self.new lexeme) }
+        ensures none { IfNone result (self.new ≡ self.old) }
+    {
+        let Some(begun) = line::begin_plain(&self.chars) else {
+            return None;
+        };
+        let standing = place::past_gap(self.standing, begun.lines != 0);
+        let Some((kind, left)) = next::cut_plain(self.dialect, standing, &begun) else {
+            return None;
+        };
+        let Some(past) = place::past_begun(
+            again,
+            self.dialect,
+            standing,
+            kind,
+            begun.first.byte,
+            &begun.text,
+            &left,
+        ) else {
+            return None;
+        };
+        if !ends_plainly(self.text, &begun.text, &left) {
+            return None;
+        }
+        let raw = between(self.text, begun.first.from as usize, left.at());
+        self.standing = past;
+        self.chars = left;
+        Some(Lexeme {
+            item: Item {
+                kind,
+                raw,
+                start: begun.first.from,
+            },
+            lines: begun.lines,
+            bytes: begun.bytes,
+            white: begun.bytes != 0,
+            back: false,
+        })
+    }
+
+    /// The next item, with what it and its gap tell, whatever it is written as; none
+    /// exactly where no item is left.
+    #[inline(never)]
+    fn next_rest(&mut self) -> Result<Option<Lexeme<'s>>, LexFault>
         ensures text { self.new.text ≡ self.old.text }
         ensures dialect { self.new.dialect ≡ self.old.dialect }
         ensures some { IfOk result (λ next. MatchOption next (IsTrue (is_gap (bytes_of self.old.left.chars))) (λ lexeme. IsNextLexeme self.old self.new lexeme)) }
@@ -145,6 +204,43 @@ impl<'s> Lexer<'s> {
                 }))
             }
             Err(stop) => Err(fault::fault_of(stop, first.from)),
+        }
+    }
+
+    /// The next item, with what it and its gap tell, where it isn't told at once; none exactly where no
+    /// item is left.
+    #[inline(never)]
+    fn next_any(&mut self) -> Result<Option<Lexeme<'s>>, LexFault>
+        ensures text { self.new.text ≡ self.old.text }
+        ensures dialect { self.new.dialect ≡ self.old.dialect }
+        ensures some { IfOk result (λ next. MatchOption next (IsTrue (is_gap (bytes_of self.old.left.chars))) (λ lexeme. IsNextLexeme self.old self.new lexeme)) }
+        ensures end { IfOk result (λ next. MatchOption next (self.new ≡ self.old) (λ lexeme. ⊤)) }
+        ensures fault { IfErr result (λ fault. IsFault self.old fault) }
+        ensures stays { IfErr result (λ fault. self.new ≡ self.old) }
+    {
+        match self.next_plain(true) {
+            Some(lexeme) => Ok(Some(lexeme)),
+            None => self.next_rest(),
+        }
+    }
+
+    /// The next item, with what it and its gap tell; none exactly where no item is left.
+    #[inline(always)]
+    pub fn next_lexeme(&mut self) -> Result<Option<Lexeme<'s>>, LexFault>
+        ensures text { self.new.text ≡ self.old.text }
+        ensures dialect { self.new.dialect ≡ self.old.dialect }
+        ensures some { IfOk result (λ next. MatchOption next (IsTrue (is_gap (bytes_of self.old.left.chars))) (λ lexeme. IsNextLexeme self.old self.new lexeme)) }
+        ensures end { IfOk result (λ next. MatchOption next (self.new ≡ self.old) (λ lexeme. ⊤)) }
+        ensures fault { IfErr result (λ fault. IsFault self.old fault) }
+        ensures stays { IfErr result (λ fault. self.new ≡ self.old) }
+    {
+        match self.next_plain(false) {
+            Some(lexeme) => Ok(Some(lexeme)),
+            None => {
+                // By a name of its own, so that what this function gives needs no place in memory.
+                let lexeme = self.next_any();
+                lexeme
+            }
         }
     }
 

@@ -6,7 +6,7 @@ ghost use Rattle.c_chars.specs.Coming.{behind};
 ghost use Rattle.c_chars.specs.Characters.{bytes_of};
 ghost use Rattle.c_grammar.specs.Grammar.{is_new_line, is_white, is_letter, is_digit};
 ghost use Rattle.c_lexer.specs.Place.{IsSpanned};
-ghost use Rattle.c_lexer.specs.Reading.{new_lines, bytes_in, first_gap};
+ghost use Rattle.c_lexer.specs.Reading.{IsBegun, IsGap, new_lines, bytes_in, first_gap};
 ghost use Rattle.c_grammar.specs.Touch.{starts};
 
 use crate::class;
@@ -100,6 +100,50 @@ pub(crate) fn behind_gap<'s>(text: &Chars<'s>) -> Gap<'s>
         bytes += rest.pass_spaces();
     }
     Gap { lines, bytes, rest }
+}
+
+/// An item that a plain byte begins, behind a gap of plain bytes.
+#[derive(Drop)]
+pub(crate) struct Begun<'s> {
+    /// How many new-lines the gap has.
+    pub lines: u32,
+    /// How many bytes the gap's characters are.
+    pub bytes: u32,
+    /// What the item begins.
+    pub text: Chars<'s>,
+    /// The item's first character.
+    pub first: LogicalChar,
+    /// What stands behind that character.
+    pub behind: Chars<'s>,
+}
+
+/// The gap that the text begins with and the first character of the item behind it, where plain bytes are
+/// all of them; none elsewhere. It looks at each byte once.
+#[inline(always)]
+pub(crate) fn begin_plain<'s>(text: &Chars<'s>) -> Option<Begun<'s>>
+    requires { IsSpanned text.now }
+    ensures gap { IfSome result (λ begun. IsGap text.now begun.lines begun.bytes begun.text) }
+    ensures begun { IfSome result (λ begun. IsBegun begun.text begun.first begun.behind) }
+{
+    let mut rest = text.ahead();
+    let mut behind = text.ahead();
+    let mut lines = 0;
+    let mut bytes = 0;
+    while let Some(first) = behind.next_plain() {
+        if !class::is_blank(first.byte) {
+            return Some(Begun {
+                lines,
+                bytes,
+                text: rest,
+                first,
+                behind,
+            });
+        }
+        lines += lines_of(first.byte);
+        bytes += first.to - first.from;
+        rest = behind.ahead();
+    }
+    None
 }
 
 /// What stands behind the letters and digits that the text begins with.

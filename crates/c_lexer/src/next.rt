@@ -1,6 +1,6 @@
 //! The item that stands next: behind an `include` a header name, wherever one begins (C11 6.4p4).
 
-ghost use Rattle.std.specs.Prelude.{◌≡◌, ◌||◌, ◌<◌, length, IsFalse, MatchOption, MatchResult};
+ghost use Rattle.std.specs.Prelude.{◌≡◌, ◌||◌, ◌<◌, length, IsFalse, IfSome, MatchOption, MatchResult};
 ghost use Rattle.c_chars.specs.Characters.{bytes_of};
 ghost use Rattle.c_grammar.specs.Grammar.{is_white, is_new_line};
 ghost use Rattle.c_grammar.specs.Items.{AfterInclude, BeginsHeader};
@@ -10,8 +10,10 @@ ghost use Rattle.c_lexer.specs.Class.{IsFirst};
 ghost use Rattle.c_lexer.specs.Cut.{IsStop};
 ghost use Rattle.c_lexer.specs.Next.{IsCutNext};
 ghost use Rattle.c_lexer.specs.Place.{place_of};
+ghost use Rattle.c_lexer.specs.Reading.{IsBegun};
 
 use crate::cut::{self, Stop};
+use crate::line::Begun;
 use crate::place::Standing;
 use crate::quote;
 use c_chars::{Chars, Dialect};
@@ -51,5 +53,33 @@ pub(crate) fn cut_next<'s>(
     match cut_header(standing, text) {
         Some(left) => Ok((ItemKind::HeaderName, left)),
         None => cut::cut_item(dialect, text, first),
+    }
+}
+
+/// Whether a header name may stand next.
+#[inline(always)]
+fn is_behind_include(standing: Standing) -> bool
+    ensures { IsFalse result → place_of standing ≡ AfterInclude → ⊥ }
+{
+    matches!(standing, Standing::BehindInclude)
+}
+
+/// The item that is begun and what stands behind it, where plain bytes tell all of it; none elsewhere.
+#[inline(always)]
+pub(crate) fn cut_plain<'s>(
+    dialect: Dialect,
+    standing: Standing,
+    begun: &Begun<'s>,
+) -> Option<(ItemKind, Chars<'s>)>
+    requires dialect { dialect ≡ begun.now.text.dialect }
+    requires begun { IsBegun begun.now.text begun.now.first begun.now.behind }
+    ensures { IfSome result (λ r. IsCutNext (place_of standing) begun.now.text r.1 r.0) }
+{
+    if is_behind_include(standing) {
+        return None;
+    }
+    match cut::cut_plain(dialect, begun) {
+        Some((kind, left)) => Some((kind, left)),
+        None => None,
     }
 }

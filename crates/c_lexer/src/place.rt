@@ -1,11 +1,14 @@
 //! Where an item stands: in a line, and in a directive (C11 6.10).
 
-ghost use Rattle.std.specs.Prelude.{◌≡◌, ◌≤◌, length, take, codes, if◌then◌else◌, true, false};
+ghost use Rattle.std.specs.Prelude.{◌≡◌, ◌≤◌, ◌==◌, not, ℕ, List, length, take, codes, if◌then◌else◌, true, false, IfSome, IsFalse};
 ghost use Rattle.c_chars.specs.Characters.{bytes_of};
 ghost use Rattle.c_chars.specs.Coming.{behind};
+ghost use Rattle.c_chars.specs.declared.Dialect.{Dialect};
 ghost use Rattle.c_grammar.specs.Grammar.{is_same};
+ghost use Rattle.c_grammar.specs.Touch.{starts};
 ghost use Rattle.c_grammar.specs.Items.{LineStart, past_item, past_name, past_comment, is_hash, is_include};
 ghost use Rattle.c_grammar.specs.declared.ItemKind.TheVariants.{Identifier, Punct, Other, BlockComment};
+ghost use Rattle.c_lexer.specs.Class.{IsFirst};
 ghost use Rattle.c_lexer.specs.Place.{place_of, past_plain, past_mark, past_word, IsSpanned, SpelledBy};
 
 use crate::front;
@@ -162,6 +165,79 @@ pub(crate) fn past_item(
         | ItemKind::HeaderName
         | ItemKind::StrayQuote
         | ItemKind::Other => past_other(standing),
+    }
+}
+
+/// Behind a word whose spelling tells nothing; none where it may tell something.
+#[inline(always)]
+fn past_plain_word(standing: Standing) -> Option<Standing>
+    ensures { IfSome result (λ past. (d : Dialect) (s : List ℕ) → place_of past ≡ past_word d (place_of standing) s) }
+{
+    match standing {
+        Standing::BehindHash => None,
+        Standing::BehindDefine => Some(Standing::BehindMacroName),
+        Standing::FirstInLine
+        | Standing::BehindInclude
+        | Standing::BehindMacroName
+        | Standing::WithinDirective
+        | Standing::WithinText => Some(past_other(standing)),
+    }
+}
+
+/// Behind a punctuator that begins with this byte, whose spelling tells nothing more; none where it may
+/// tell something.
+#[inline(always)]
+fn past_plain_mark(standing: Standing, first: u8) -> Option<Standing>
+    ensures { IfSome result (λ past. (s : List ℕ) → IsFalse (starts (λ c. not (c == first)) s) → place_of past ≡ past_mark (place_of standing) s) }
+{
+    if first == b'#' || first == b'%' {
+        return None;
+    }
+    Some(past_other(standing))
+}
+
+/// Behind an item of this kind that begins with this byte, where that tells the place; none elsewhere.
+#[inline(always)]
+fn past_plain(dialect: Dialect, standing: Standing, kind: ItemKind, first: u8) -> Option<Standing>
+    ensures { IfSome result (λ past. (s : List ℕ) → IsFalse (starts (λ c. not (c == first)) s) → place_of past ≡ past_item dialect (place_of standing) kind s) }
+{
+    match kind {
+        ItemKind::Identifier => past_plain_word(standing),
+        ItemKind::Punct => past_plain_mark(standing, first),
+        ItemKind::Number => Some(past_other(standing)),
+        ItemKind::CharConst
+        | ItemKind::StringLit
+        | ItemKind::HeaderName
+        | ItemKind::StrayQuote
+        | ItemKind::Other
+        | ItemKind::BlockComment
+        | ItemKind::LineComment => None,
+    }
+}
+
+/// Behind an item of this kind that begins with this byte, whose characters are those of the text up to
+/// what is left of it. Where `again` is false they are not read again, and none is told where they would
+/// have to be.
+#[inline(always)]
+pub(crate) fn past_begun(
+    again: bool,
+    dialect: Dialect,
+    standing: Standing,
+    kind: ItemKind,
+    first: u8,
+    text: &Chars,
+    left: &Chars,
+) -> Option<Standing>
+    requires spans { IsSpanned text.now }
+    requires first { IsFirst first (bytes_of text.now.chars) }
+    ensures { IfSome result (λ past. SpelledBy text.now left.now (λ s. place_of past ≡ past_item dialect (place_of standing) kind s)) }
+{
+    if again {
+        return Some(past_item(dialect, standing, kind, text, left));
+    }
+    match past_plain(dialect, standing, kind, first) {
+        Some(past) => Some(past),
+        None => None,
     }
 }
 

@@ -3,7 +3,7 @@
 ghost use Rattle.std.specs.Prelude.{◌≡◌};
 ghost use Rattle.c_chars.specs.declared.Dialect.TheVariants.{C23};
 ghost use Rattle.c_chars.specs.Characters.{bytes_of};
-ghost use Rattle.c_lexer.specs.Run.{long, first_front, begins_long, goes_on_long};
+ghost use Rattle.c_lexer.specs.Run.{long, first_front, begins_long, goes_on_long, is_pair_mark};
 
 use crate::front;
 use c_chars::{Chars, Dialect};
@@ -51,6 +51,23 @@ pub(crate) fn goes_on_long(b: u8) -> bool
         b,
         b'=' | b'>' | b'&' | b'+' | b'|' | b'-' | b'<' | b'.' | b':' | b'#' | b'%'
     )
+}
+
+/// Whether the two bytes are a punctuator, and none that is longer begins with them.
+#[tactic(auto, unfolding(crate::specs::Run::is_pair_mark))]
+#[inline(always)]
+pub(crate) fn is_pair(a: u8, b: u8) -> bool
+    ensures { result ≡ is_pair_mark a b }
+{
+    match b {
+        b'=' => matches!(
+            a,
+            b'=' | b'!' | b'+' | b'<' | b'>' | b'-' | b'|' | b'&' | b'*' | b'/' | b'%' | b'^'
+        ),
+        b'>' => a == b'-',
+        b'&' | b'+' | b'|' | b'-' | b'#' => a == b,
+        _ => false,
+    }
 }
 
 /// The length of the longest punctuator of C23 that the text begins with, otherwise 1.

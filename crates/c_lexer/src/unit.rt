@@ -1,6 +1,6 @@
 //! The units of words and numbers (C11 6.4.2.1, 6.4.3, 6.4.8), and their runs.
 
-ghost use Rattle.std.specs.Prelude.{◌≡◌, IsTrue, IsFalse, MatchOption};
+ghost use Rattle.std.specs.Prelude.{◌≡◌, IsTrue, IsFalse, IfSome, MatchOption};
 ghost use Rattle.unicode_ident.specs.Ident.{is_xid_start, is_xid_continue};
 ghost use Rattle.c_chars.specs.Characters.{bytes_of};
 ghost use Rattle.c_grammar.specs.Grammar.{is_universal_name, is_word_unit, is_number_unit};
@@ -145,6 +145,27 @@ fn behind_number_unit<'s>(dialect: Dialect, text: &Chars<'s>) -> Option<Chars<'s
         return Some(front::behind(text, 1));
     }
     behind_rare(text)
+}
+
+/// What stands behind the number whose head stands before the text, where what the text goes on with is
+/// of letters and digits and a plain byte behind them ends it; none elsewhere.
+#[inline(always)]
+pub(crate) fn behind_plain_number<'s>(dialect: Dialect, text: &Chars<'s>) -> Option<Chars<'s>>
+    requires { dialect ≡ text.now.dialect }
+    ensures { IfSome result (λ left. IsRunOff (is_number_unit dialect) text.now left) }
+{
+    let mut left = text.ahead();
+    left.pass_word();
+    match left.peek_plain() {
+        Some(c) => {
+            if class::ends_number(c.byte) {
+                Some(left)
+            } else {
+                None
+            }
+        }
+        None => None,
+    }
 }
 
 /// What stands behind the number whose head stands before the text.

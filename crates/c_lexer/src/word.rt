@@ -1,17 +1,19 @@
 //! Words, and the literals whose prefix a word is (C11 6.4.2.1, 6.4.4.4, 6.4.5).
 
-ghost use Rattle.std.specs.Prelude.{◌≡◌, ◌∷◌, ◌++◌, ◌+◌, ◌==◌, ◌&&◌, not, [], length, drop, codes, nat_eq, IsTrue, IsFalse, MatchOption};
+ghost use Rattle.std.specs.Prelude.{◌≡◌, ◌∷◌, ◌++◌, ◌+◌, ◌==◌, ◌&&◌, not, [], length, drop, codes, nat_eq, IsTrue, IsFalse, IfSome, MatchOption};
 ghost use Rattle.std.specs.List.{starts_with};
 ghost use Rattle.c_chars.specs.Characters.{bytes_of};
-ghost use Rattle.c_grammar.specs.Grammar.{is_letter_unit, is_word_unit, is_char_prefix, is_string_prefix};
+ghost use Rattle.c_grammar.specs.Grammar.{is_letter, is_letter_unit, is_word_unit, is_char_prefix, is_string_prefix};
 ghost use Rattle.c_grammar.specs.Touch.{starts};
-ghost use Rattle.c_grammar.specs.declared.ItemKind.TheVariants.{CharConst, StringLit};
+ghost use Rattle.c_grammar.specs.declared.ItemKind.TheVariants.{CharConst, Identifier, StringLit};
 ghost use Rattle.c_lexer.specs.Class.{is_quote_mark};
 ghost use Rattle.c_lexer.specs.Cut.{IsCutOff};
 ghost use Rattle.c_lexer.specs.Literal.{is_string_at, is_constant_at, is_literal, begins_literal};
+ghost use Rattle.c_lexer.specs.Reading.{IsBegun};
 ghost use Rattle.c_lexer.specs.Unit.{BeginsUnit, IsRunOff};
 
-use crate::{cut, front, line, unit};
+use crate::line::Begun;
+use crate::{class, cut, front, unit};
 use c_chars::{Chars, Dialect};
 use c_grammar::ItemKind;
 
@@ -143,7 +145,7 @@ fn cut_before_quote<'s>(
 
 /// The item that the text begins with a word of, and what stands behind it, whatever the word has.
 #[inline(never)]
-fn cut_any_word<'s>(dialect: Dialect, text: &Chars<'s>) -> (ItemKind, Chars<'s>)
+pub(crate) fn cut_word<'s>(dialect: Dialect, text: &Chars<'s>) -> (ItemKind, Chars<'s>)
     requires dialect { dialect ≡ text.now.dialect }
     requires letter { BeginsUnit is_letter_unit (bytes_of text.now.chars) }
     ensures { IsCutOff text.now result.1 result.0 }
@@ -155,17 +157,24 @@ fn cut_any_word<'s>(dialect: Dialect, text: &Chars<'s>) -> (ItemKind, Chars<'s>)
     (ItemKind::Identifier, left)
 }
 
-/// The item that the text begins with a word of, and what stands behind it. Most words are of letters
-/// and digits alone, and stand before no quote.
+/// What stands behind the word that is begun, where it is of plain bytes and one behind it ends it; none
+/// elsewhere.
 #[inline(always)]
-pub(crate) fn cut_word<'s>(dialect: Dialect, text: &Chars<'s>) -> (ItemKind, Chars<'s>)
-    requires dialect { dialect ≡ text.now.dialect }
-    requires letter { BeginsUnit is_letter_unit (bytes_of text.now.chars) }
-    ensures { IsCutOff text.now result.1 result.0 }
+pub(crate) fn behind_plain_word<'s>(begun: &Begun<'s>) -> Option<Chars<'s>>
+    requires begun { IsBegun begun.now.text begun.now.first begun.now.behind }
+    requires letter { IsTrue (is_letter begun.now.first.byte) }
+    ensures { IfSome result (λ left. IsCutOff begun.now.text left Identifier) }
 {
-    let left = line::behind_word(text);
-    if front::ends_word(&left) {
-        return (ItemKind::Identifier, left);
+    let mut left = begun.behind.ahead();
+    left.pass_word();
+    match left.peek_plain() {
+        Some(c) => {
+            if class::ends_word(c.byte) {
+                Some(left)
+            } else {
+                None
+            }
+        }
+        None => None,
     }
-    cut_any_word(dialect, text)
 }

@@ -1,14 +1,17 @@
 //! What a directive is, by the items behind its `#`.
 
-ghost use Rattle.std.specs.Prelude.{◌≡◌, ◌≤◌, ◌<◌, ◌+◌, ◌∷◌, [], length, MatchOption};
+ghost use Rattle.std.specs.Prelude.{◌≡◌, ◌≤◌, ◌<◌, ◌+◌, ◌∷◌, [], length, MatchOption, if◌then◌else◌};
 ghost use Rattle.std.specs.List.{slice_range};
 ghost use Rattle.c_grammar.specs.Fitting.{is_comment};
 ghost use Rattle.c_grammar.specs.Touch.{is_identifier};
+ghost use Rattle.c_grammar.specs.Grammar.{is_same};
+ghost use Rattle.c_grammar.specs.Rewritten.{read_alone};
 ghost use Rattle.token_arena.specs.Entries.{told_by};
+ghost use Rattle.directives.specs.declared.DirectiveKind.TheVariants.{Unknown};
 ghost use Rattle.directives.specs.Directives.{spelling, is_hash_token, is_opening, kind_named, kind_behind, past_comments, opens_parameters, heads_function, defines_function};
 
 use crate::DirectiveKind;
-use crate::spelling::is_spelled;
+use crate::spelling::{is_spelled, next};
 use c_chars::Dialect;
 use line_tokens::{ItemKind, TokenId};
 use token_arena::{Token, TokenArena};
@@ -78,35 +81,70 @@ pub(crate) fn first_code<'s>(
     None
 }
 
-/// The kind of the directive that has this name.
+/// The kind of the directive whose name begins with an `i`, by what is spelled behind that.
+fn kind_behind_i(rest: &[u8], dialect: Dialect) -> DirectiveKind
+    ensures { result ≡ kind_named (105 ∷ read_alone dialect rest.now) }
+{
+    if is_spelled(dialect, rest, b"f") {
+        DirectiveKind::If
+    } else if is_spelled(dialect, rest, b"fdef") {
+        DirectiveKind::Ifdef
+    } else if is_spelled(dialect, rest, b"fndef") {
+        DirectiveKind::Ifndef
+    } else if is_spelled(dialect, rest, b"nclude") {
+        DirectiveKind::Include
+    } else {
+        DirectiveKind::Unknown
+    }
+}
+
+/// The kind of the directive whose name begins with an `e`, by what is spelled behind that.
+fn kind_behind_e(rest: &[u8], dialect: Dialect) -> DirectiveKind
+    ensures { result ≡ kind_named (101 ∷ read_alone dialect rest.now) }
+{
+    if is_spelled(dialect, rest, b"lif") {
+        DirectiveKind::Elif
+    } else if is_spelled(dialect, rest, b"lse") {
+        DirectiveKind::Else
+    } else if is_spelled(dialect, rest, b"ndif") {
+        DirectiveKind::Endif
+    } else if is_spelled(dialect, rest, b"rror") {
+        DirectiveKind::Error
+    } else {
+        DirectiveKind::Unknown
+    }
+}
+
+/// The kind, where what is spelled behind the first character of its name makes it this one.
+fn kind_if(rest: &[u8], dialect: Dialect, word: &[u8], kind: DirectiveKind) -> DirectiveKind
+    ensures { result ≡ (if is_same (read_alone dialect rest.now) word.now then kind else Unknown) }
+{
+    if is_spelled(dialect, rest, word) {
+        kind
+    } else {
+        DirectiveKind::Unknown
+    }
+}
+
+/// The kind of the directive that has this name. Its first character leaves few names to compare with.
 fn kind_named(name: &Token<'_>, dialect: Dialect) -> DirectiveKind
     ensures { result ≡ kind_named (spelling dialect (told_by name.now)) }
 {
-    let raw = name.item.raw;
-    if is_spelled(dialect, raw, b"if") {
-        DirectiveKind::If
-    } else if is_spelled(dialect, raw, b"ifdef") {
-        DirectiveKind::Ifdef
-    } else if is_spelled(dialect, raw, b"ifndef") {
-        DirectiveKind::Ifndef
-    } else if is_spelled(dialect, raw, b"elif") {
-        DirectiveKind::Elif
-    } else if is_spelled(dialect, raw, b"else") {
-        DirectiveKind::Else
-    } else if is_spelled(dialect, raw, b"endif") {
-        DirectiveKind::Endif
-    } else if is_spelled(dialect, raw, b"include") {
-        DirectiveKind::Include
-    } else if is_spelled(dialect, raw, b"define") {
-        DirectiveKind::Define
-    } else if is_spelled(dialect, raw, b"undef") {
-        DirectiveKind::Undef
-    } else if is_spelled(dialect, raw, b"line") {
-        DirectiveKind::Line
-    } else if is_spelled(dialect, raw, b"error") {
-        DirectiveKind::Error
-    } else if is_spelled(dialect, raw, b"pragma") {
-        DirectiveKind::Pragma
+    let Some((first, rest)) = next(dialect, name.item.raw) else {
+        return DirectiveKind::Unknown;
+    };
+    if first == b'i' {
+        kind_behind_i(rest, dialect)
+    } else if first == b'e' {
+        kind_behind_e(rest, dialect)
+    } else if first == b'd' {
+        kind_if(rest, dialect, b"efine", DirectiveKind::Define)
+    } else if first == b'u' {
+        kind_if(rest, dialect, b"ndef", DirectiveKind::Undef)
+    } else if first == b'l' {
+        kind_if(rest, dialect, b"ine", DirectiveKind::Line)
+    } else if first == b'p' {
+        kind_if(rest, dialect, b"ragma", DirectiveKind::Pragma)
     } else {
         DirectiveKind::Unknown
     }

@@ -74,7 +74,7 @@ fn unit(dialect: Dialect, s: &[u8]) -> (u8, usize)
 }
 
 /// The first character, and the bytes behind it; none exactly where there is none.
-fn next<'s>(dialect: Dialect, raw: &'s [u8]) -> Option<(u8, &'s [u8])>
+pub(crate) fn next<'s>(dialect: Dialect, raw: &'s [u8]) -> Option<(u8, &'s [u8])>
     ensures { MatchOption result
         (read_alone dialect raw.now ≡ [])
         (λ r. read_alone dialect raw.now ≡ r.0 ∷ read_alone dialect r.1.now) }

@@ -35,7 +35,8 @@ use Rattle.format_core.specs.KeptGaps.{kept_decisions}
 use Rattle.format_core.specs.Runs.{runs_of, seen_by, lines_of_items, after_kept, after_items, after_runs, early_plan, plan_of}
 use Rattle.format_core.specs.Laws.{EveryGapIsDecided}
 use Rattle.format_core.proofs.OfTexts.{text_mark}
-use Rattle.format_core.proofs.Decided.{IsMadeFor, IsDecided, made-left, made-right, is_some-decided, decided-is_some, stays_decided, length-decided_all, made_decided, here_or_later, run_decides}
+use Rattle.format_core.proofs.Stays.{runs_keep}
+use Rattle.format_core.proofs.Decided.{IsMadeFor, IsDecided, made-left, made-right, is_some-decided, decided-is_some, length-decided_all, made_decided, here_or_later, run_decides}
 
 -- ## Before the runs
 
@@ -140,19 +141,9 @@ seen_decided style arena plan run id long (k, below, is) =
     let here : IsSome (slot_of after (get_or ids k id)) = run_decides style arena ids kept (lines_of_items style arena ids) cut within k id below in
     decided-is_some after id (subst (λ i. IsSome (slot_of after i)) is here)
 
--- a run keeps what is decided
-items_keep : (style : Style) (arena : Contents) (plan : List (Option Slot)) (ids : List ℕ) (place : ℕ) → IsDecided plan place → IsDecided (after_items style arena plan ids) place
-items_keep style arena plan ids place h =
-    let kept : List (Option Slot) = after_kept style arena plan ids in
-    stays_decided kept (run_decisions style arena ids kept (lines_of_items style arena ids)) place
-    (stays_decided plan (kept_decisions style arena 0 ids (kept_gaps_of (classes_of arena ids))) place h)
-
 -- the runs keep what is decided
-runs_keep : (style : Style) (arena : Contents) (plan : List (Option Slot)) (run count place : ℕ) → IsDecided plan place → IsDecided (after_runs style arena plan run count) place
-runs_keep style arena plan run zero place h = h
-runs_keep style arena plan run (suc count) place h =
-    let ids = seen_by arena run in
-    runs_keep style arena (after_items style arena plan ids) (run + 1) count place (items_keep style arena plan ids place h)
+all_keep : (style : Style) (arena : Contents) (plan : List (Option Slot)) (run count place : ℕ) → IsDecided plan place → IsDecided (after_runs style arena plan run count) place
+all_keep style arena plan run count place h = (h.0, runs_keep style arena plan run count place h.0 h.1)
 
 -- what one of the runs sees is decided behind all of them
 runs_decide : (style : Style) (arena : Contents) (plan : List (Option Slot)) (from count run id : ℕ) → length plan ≡ length arena.tokens + 1 → from ≤ run → run < from + count
@@ -162,7 +153,7 @@ runs_decide style arena plan from (suc count) run id long low high sees =
     let ids = seen_by arena from in
     let after : List (Option Slot) = after_items style arena plan ids in
     elim (here_or_later from run low) [
-      | inl e ↦ runs_keep style arena after (from + 1) count id (seen_decided style arena plan from id long (subst (λ r. Contains (seen_by arena r) id) (sym e) sees))
+      | inl e ↦ all_keep style arena after (from + 1) count id (seen_decided style arena plan from id long (subst (λ r. Contains (seen_by arena r) id) (sym e) sees))
       | inr later ↦
           let still : length after ≡ length arena.tokens + 1 = length-items style arena plan ids ∙ long in
           runs_decide style arena after (from + 1) count run id still later (omega (arith, high)) sees
@@ -181,6 +172,6 @@ unfolding plan_of
 every_gap_is_decided style arena place within =
     let plan : List (Option Slot) = after_runs style arena (early_plan style arena) 0 (runs_of arena) in
     is_some-decided plan place (elim (early_or_left style arena place (is_beside_dead arena place) refl) [
-      | inl (decision, is) ↦ runs_keep style arena (early_plan style arena) 0 (runs_of arena) place (early_decided style arena place decision within is)
+      | inl (decision, is) ↦ all_keep style arena (early_plan style arena) 0 (runs_of arena) place (early_decided style arena place decision within is)
       | inr left ↦ left_decided style arena place left
     ])

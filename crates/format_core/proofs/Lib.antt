@@ -1,10 +1,12 @@
 pub mod Counts
 pub mod Opens
 pub mod SoundStart
+pub mod EarlySections
 pub mod Planned
 pub mod OfTexts
 pub mod Decided
-pub mod EveryGap
 pub mod Stays
+pub mod EveryGap
 pub mod SoundPlan
 pub mod NothingNew
+pub mod RowsDecided

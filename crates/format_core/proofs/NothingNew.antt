@@ -1,6 +1,5 @@
 -- A run whose items have decided gaps alone decides nothing.
 use Rattle.std.proofs.Common.{◌≡◌, ◌∙◌, ℕ, suc, ◌+◌, ◌<◌, Bool, true, false, Option, List, [], ◌∷◌, length, refl, sym, ap, arith}
-use Rattle.std.specs.Prelude.{IsSome}
 use Rattle.style_table.specs.declared.style.Style.{Style}
 use Rattle.token_arena.specs.Gaps.{Contents}
 use Rattle.brackets.specs.Kept.{kept_gaps_of}
@@ -10,18 +9,12 @@ use Rattle.unwrapped_lines.specs.declared.line.ULine.{ULine}
 use Rattle.unwrapped_lines.specs.Lines.{CutPlaces}
 use Rattle.unwrapped_lines.proofs.Started.{lines_cut_views}
 use Rattle.replacements.specs.declared.slot.Slot.{Slot}
-use Rattle.replacements.specs.Decisions.{slot_of, decided, decided_all}
-use Rattle.replacements.proofs.Firsts.{kept}
+use Rattle.replacements.specs.Decisions.{decided_all}
 use Rattle.run_layout.specs.Rows.{item_at, column_behind}
 use Rattle.run_layout.specs.Run.{line_decisions, run_decisions}
-use Rattle.run_layout.proofs.Walked.{cut_within, decided_all-append, nothing_new}
+use Rattle.run_layout.proofs.Walked.{cut_within, decided_all-append, decided_again, nothing_new}
 use Rattle.format_core.specs.KeptGaps.{input_column, kept_slot, kept_decisions}
 use Rattle.format_core.specs.Runs.{AreDecided, lines_of_items, after_kept, after_items}
-use Rattle.format_core.proofs.Decided.{decided-is_some}
-
--- a decision for a decided gap changes nothing
-again : (plan : List (Option Slot)) (id : ℕ) (slot : Slot) → IsSome (slot_of plan id) → decided plan id slot ≡ plan
-again plan id slot some = let first = decided-is_some plan id some in kept plan id slot first.0 first.1
 
 -- nothing new is kept
 kept_nothing : (style : Style) (arena : Contents) (plan : List (Option Slot)) (column : ℕ) (ids : List ℕ) (marks : List Bool) → AreDecided plan ids
@@ -31,7 +24,7 @@ kept_nothing style arena plan column (id ∷ ids) [] some = refl
 kept_nothing style arena plan column (id ∷ ids) (true ∷ marks) some =
     let at = input_column style arena column id in
     let later = kept_decisions style arena (column_behind at (item_at arena id)) ids marks in
-    ap (λ (p : List (Option Slot)). decided_all p later) (again plan id (kept_slot at) (some 0 (omega arith)))
+    ap (λ (p : List (Option Slot)). decided_all p later) (decided_again plan id (kept_slot at) (some 0 (omega arith)))
     ∙ kept_nothing style arena plan (column_behind at (item_at arena id)) ids marks (λ place below. some (suc place) (omega (arith, below)))
 kept_nothing style arena plan column (id ∷ ids) (false ∷ marks) some =
     kept_nothing style arena plan (column_behind (input_column style arena column id) (item_at arena id)) ids marks (λ place below. some (suc place) (omega (arith, below)))

@@ -71,7 +71,7 @@ items_keep style arena plan ids place slot is =
     (stay plan (kept_decisions style arena 0 ids (kept_gaps_of (classes_of arena ids))) place slot is)
 
 -- no run changes it
-runs_keep : (style : Style) (arena : Contents) (plan : List (Option Slot)) (run count place : ℕ) (slot : Slot) → slot_of plan place ≡ Some slot → slot_of (after_runs style arena plan run count) place ≡ Some slot
+pub runs_keep : (style : Style) (arena : Contents) (plan : List (Option Slot)) (run count place : ℕ) (slot : Slot) → slot_of plan place ≡ Some slot → slot_of (after_runs style arena plan run count) place ≡ Some slot
 runs_keep style arena plan run zero place slot is = is
 runs_keep style arena plan run (suc count) place slot is =
     runs_keep style arena (after_items style arena plan (seen_by arena run)) (run + 1) count place slot (items_keep style arena plan (seen_by arena run) place slot is)

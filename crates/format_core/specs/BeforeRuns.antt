@@ -1,9 +1,11 @@
 -- What is decided before the runs: docs/PROFILE.md, "Gaps that no run decides".
-use Rattle.std.specs.Prelude.{◌==◌, ◌||◌, ◌&&◌, not, min, ℕ, zero, suc, ◌+◌, ◌-◌, Bool, false, Option, Some, None, List, [], ◌∷◌, ◌++◌, length, nat_lt, slice_get, if◌then◌else◌}
+use Rattle.std.specs.Prelude.{◌≡◌, ◌<◌, ◌≤◌, ◌==◌, ◌||◌, ◌&&◌, not, min, ℕ, zero, suc, ◌+◌, ◌-◌, Bool, false, Option, Some, None, List, [], ◌∷◌, ◌++◌, length, nat_lt, slice_get, if◌then◌else◌}
 use Rattle.style_table.specs.declared.style.Style.{Style}
 use Rattle.line_tokens.specs.declared.GapFacts.{GapFacts}
 use Rattle.token_arena.specs.Stored.{Stored}
 use Rattle.token_arena.specs.Gaps.{Contents}
+use Rattle.directives.specs.declared.Section.{Section}
+use Rattle.directives.specs.declared.Section.TheVariants.{Text, Dir}
 use Rattle.directives.specs.Sections.{sections_of}
 use Rattle.branch_runs.specs.Marks.{marks_of}
 use Rattle.branch_runs.specs.Dead.{is_dead}
@@ -22,6 +24,10 @@ use Rattle.replacements.specs.declared.stance.Stance.TheVariants.{OfText, Leads,
 -- there is an item with this number, and it stands in the group of a literal `#if 0`
 abbrev pub is_dead_item : Contents → ℕ → Bool
 is_dead_item arena id = nat_lt id (length arena.tokens) && is_dead (marks_of arena) id
+
+-- no item from one up to another does
+abbrev pub AreAlive : Contents → ℕ → ℕ → Type 0
+AreAlive arena first end = (id : ℕ) → first ≤ id → id < end → is_dead_item arena id ≡ false
 
 -- the item before a place does
 abbrev pub is_behind_dead : Contents → ℕ → Bool
@@ -43,6 +49,23 @@ abbrev pub item_decision : Style → ℕ → Stance → GapFacts → Option Deci
 item_decision style place OfText gap = None
 item_decision style place Leads gap = Some (lead_decision style place gap)
 item_decision style place Within gap = Some Old
+
+-- ## Sections
+
+-- the first item of a section
+abbrev pub section_first : Section → ℕ
+section_first (Text first end) = first
+section_first (Dir dir) = dir.first
+
+-- the first item behind a section
+abbrev pub section_end : Section → ℕ
+section_end (Text first end) = end
+section_end (Dir dir) = dir.end
+
+-- how an item of a section stands
+abbrev pub stance_of : Section → ℕ → Stance
+stance_of (Text first end) place = OfText
+stance_of (Dir dir) place = if place == dir.first then Leads else Within
 
 -- ## The last gap
 

@@ -1,8 +1,10 @@
 //! How the lines of a formatted text end.
 
-ghost use Rattle.std.specs.Prelude.{◌≡◌, ◌==◌, false, count_by};
+ghost use Rattle.std.specs.Prelude.{◌≡◌, ◌==◌, false};
+ghost use Rattle.std.specs.List.{list_any};
 ghost use Rattle.format_core.specs.LineEnds.{ends_by, feed_lines, return_lines};
 
+use memchr::memchr;
 use style_table::LineEnding;
 
 /// How many lines of a text end in `\r\n`, and how many in `\n` alone.
@@ -34,11 +36,11 @@ fn line_counts(text: &[u8]) -> LineCounts
     counts
 }
 
-/// How many `\r` there are.
-fn returns(text: &[u8]) -> usize
-    ensures { result ≡ count_by (λ b. b == 13) text.now }
+/// Whether there is a `\r`.
+fn has_return(text: &[u8]) -> bool
+    ensures { result ≡ list_any (λ b. b == 13) text.now }
 {
-    text.iter().filter(|b| **b == b'\r').count()
+    memchr(b'\r', text).is_some()
 }
 
 /// Whether the lines of a formatted text end in `\r\n`, where this is the input.
@@ -48,7 +50,7 @@ pub(crate) fn ends_by(ending: LineEnding, text: &[u8]) -> bool
     match ending {
         LineEnding::DeriveLF => {
             // Most texts have no `\r`, and then need no count of lines.
-            if returns(text) == 0 {
+            if !has_return(text) {
                 return false;
             }
             let counts = line_counts(text);

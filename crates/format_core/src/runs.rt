@@ -8,13 +8,13 @@ ghost use Rattle.format_core.specs.Runs.{AreDecided, IsTreeOf, runs_of, seen_by,
 
 use crate::early::decide_early;
 use crate::kept::keep_gaps;
-use brackets::{TokenClass, classes_among, item_classes, kept_gaps, partners_of_classes};
+use brackets::{TokenClass, bracket_facts, classes_among, item_classes};
 use branch_runs::CondTree;
 use bumpalo::Bump;
 use directives::Section;
 use line_tokens::NoMemory;
 use replacements::Plan;
-use run_layout::lay_out_run;
+use run_layout::{is_row_decided, lay_out_run};
 use std::alloc::Global;
 use style_table::Style;
 use token_arena::TokenArena;
@@ -39,10 +39,9 @@ fn lay_out_items(
     ensures len { OnOk result (length plan.new ≡ length plan.old) }
 {
     let classes = classes_among(all, arena, view, run)?;
-    let partners = partners_of_classes(classes, run)?;
-    let kept = kept_gaps(classes, partners, run)?;
-    keep_gaps(style, arena, view, kept, plan);
-    let lines = lines_of_classes(style, arena, view, classes, partners, run)?;
+    let facts = bracket_facts(classes, run)?;
+    keep_gaps(style, arena, view, facts.kept, plan);
+    let lines = lines_of_classes(style, arena, view, classes, facts.partners, run)?;
     lay_out_run(style, arena, view, classes, lines, plan);
     Ok(())
 }
@@ -52,10 +51,8 @@ fn are_decided(view: &View<'_>, plan: &Plan<'_>) -> bool
     requires { All (λ id. id < length plan.now) view.now }
     ensures { IsTrue result → AreDecided plan.now view.now }
 {
-    let mut segment = 0;
-    for place in 0..view.len() {
-        let id = view.at_near(place, &mut segment);
-        if !plan.is_decided(id.0) {
+    for segment in view.segments() {
+        if !is_row_decided(plan, segment.first, segment.end) {
             return false;
         }
     }

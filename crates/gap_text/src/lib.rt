@@ -4,10 +4,12 @@
 //! the items.
 #![tactic(auto)]
 
+mod short;
 #[cfg(test)]
 mod tests;
 mod white;
 
+pub use short::short_lines;
 pub use white::write_gap;
 
 /// What was decided for a gap.

@@ -6,7 +6,7 @@ ghost use Rattle.fmt_ports.specs.Causes.{AppendsPart, Counts};
 ghost use Rattle.style_table.specs.Range.{IsInRange};
 ghost use Rattle.gap_text.specs.GapText.{blanks, gap_text, indentation, level_columns, line_end, line_ends, tabs_to};
 
-use crate::Decision;
+use crate::{Decision, short_lines};
 use fmt_ports::{Failed, Sink, write_all};
 use style_table::{Style, UseTab};
 
@@ -156,6 +156,9 @@ fn write_lines<K: Sink>(
     ensures part { AppendsPart (K.taken sink.old) (K.taken sink.new) (line_ends crlf count ++ indentation style.now (level_columns style.now level column) column) }
     ensures counts { Counts (K.faults sink.old) (K.faults sink.new) result }
 {
+    if let Some(piece) = short_lines(style, crlf, count, column) {
+        return write_all(sink, piece);
+    }
     write_line_ends(crlf, count, sink)?;
     write_indentation(style, level_columns(style, level, column), column, sink)
 }

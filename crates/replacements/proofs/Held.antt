@@ -59,3 +59,9 @@ held_begun text at rest = let none : bytes_between text at at ≡ [] = between-n
 -- what is held lies in its text
 pub held_within : (text : List ℕ) (at : ℕ) (t : Stored) → Stands text at t → at ≤ length text
 held_within text at t stands = omega (arith, stands.later, stands.within)
+
+-- bytes that are passed are held with those before them
+pub held_passed : (text : List ℕ) (a b c : ℕ) (before rest : List ℕ) → a ≤ b → b ≤ c → before ≡ bytes_between text b c ++ rest → bytes_between text a b ++ before ≡ bytes_between text a c ++ rest
+held_passed text a b c before rest first second is =
+    ap (λ (z : List ℕ). bytes_between text a b ++ z) is
+    ∙ (sym (append_assoc (bytes_between text a b) (bytes_between text b c) rest) ∙ ap (λ (z : List ℕ). z ++ rest) (between-append text a b c first second))

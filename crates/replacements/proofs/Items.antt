@@ -12,7 +12,10 @@ use Rattle.token_arena.specs.Stored.{Stored, stored_of, stored_from}
 use Rattle.token_arena.specs.Gaps.{Contents, behind, gap_of, gap_from, gap_start}
 use Rattle.token_arena.specs.Holds.{HoldsItems}
 use Rattle.directives.specs.Directives.{is_hash_token}
+use Rattle.replacements.specs.Guards.{guard_before, guard_from, guard_of}
 use Rattle.replacements.specs.Stances.{hash_comes, IsKnown}
+use Rattle.replacements.specs.declared.guard.Guard.{Guard}
+use Rattle.replacements.specs.declared.guard.Guard.TheVariants.{Free}
 
 -- the token at this place comes next
 pub drop_next : (tokens : List Stored) (place : ℕ) (token : Stored) → slice_get tokens place ≡ Some token → drop place tokens ≡ token ∷ drop (place + 1) tokens
@@ -94,6 +97,15 @@ start_next at (x ∷ xs) (suc place) t is = start_next (behind x) xs place t is
 
 pub gap_start-next : (at : ℕ) (tokens : List Stored) (place : ℕ) (t : Stored) → slice_get tokens place ≡ Some t → gap_start at tokens (place + 1) ≡ behind t
 gap_start-next at tokens place t is = ap (λ n. gap_start at tokens n) (add-one place) ∙ start_next at tokens place t is
+
+guards_next : (g : Guard) (tokens : List Stored) (place : ℕ) (t : Stored) → slice_get tokens place ≡ Some t → guard_from g tokens (suc place) ≡ guard_of t
+guards_next g [] place t is = absurd (none_there place t is)
+guards_next g (x ∷ xs) zero t is = let same : x ≡ t = cc in ap guard_of same
+guards_next g (x ∷ xs) (suc place) t is = guards_next (guard_of x) xs place t is
+
+-- the guard behind an item
+pub guard_next : (tokens : List Stored) (place : ℕ) (t : Stored) → slice_get tokens place ≡ Some t → guard_before tokens (place + 1) ≡ guard_of t
+guard_next tokens place t is = ap (λ n. guard_before tokens n) (add-one place) ∙ guards_next Free tokens place t is
 
 pub gap_there : (text : List ℕ) (at : ℕ) (tokens : List Stored) (place : ℕ) (t : Stored) → slice_get tokens place ≡ Some t → gap_from text at tokens place ≡ take (t.start - gap_start at tokens place) (drop (gap_start at tokens place) text)
 gap_there text at [] place t is = absurd (none_there place t is)

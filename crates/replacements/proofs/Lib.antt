@@ -13,3 +13,5 @@ pub mod Writing
 pub mod SoundGaps
 pub mod SoundTwin
 pub mod Hashes
+pub mod SameGaps
+pub mod PlanEntries

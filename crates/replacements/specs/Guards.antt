@@ -1,5 +1,5 @@
 -- Guards: docs/PROFILE.md, "Guards". What stands before a line end behind an item, so that the two don't read as something else.
-use Rattle.std.specs.Prelude.{◌==◌, ◌++◌, ℕ, Bool, true, false, List, [], ◌∷◌, if◌then◌else◌}
+use Rattle.std.specs.Prelude.{◌==◌, ◌++◌, ℕ, zero, suc, Bool, true, false, List, [], ◌∷◌, if◌then◌else◌}
 use Rattle.c_grammar.specs.Touch.{takes_line, ends}
 use Rattle.token_arena.specs.Stored.{Stored}
 use Rattle.style_table.specs.declared.style.Style.{Style}
@@ -12,6 +12,16 @@ use Rattle.replacements.specs.declared.guard.Guard.TheVariants as guard
 -- What a line end behind an item needs: behind a last backslash a blank, or a splice where the blank would be the item's own; `\r\n` behind a last `\r`.
 abbrev pub guard_of : Stored → Guard
 guard_of token = if token.back then (if takes_line token.kind then guard.Splice else guard.Blank) else (if ends (λ b. b == 13) token.raw then guard.Return else guard.Free)
+
+-- what a line end needs in the gap at a place, where these items' first one stands behind this guard
+abbrev pub guard_from : Guard → List Stored → ℕ → Guard
+guard_from g tokens zero = g
+guard_from g [] (suc place) = g
+guard_from g (token ∷ tokens) (suc place) = guard_from (guard_of token) tokens place
+
+-- the same, where nothing stands before the first item
+abbrev pub guard_before : List Stored → ℕ → Guard
+guard_before tokens place = guard_from guard.Free tokens place
 
 -- it stands behind a last backslash
 abbrev pub is_behind_backslash : Guard → Bool

@@ -5,3 +5,5 @@ pub mod Stances
 pub mod Guards
 pub mod Written
 pub mod Sound
+pub mod Same
+pub mod Entries

@@ -1,13 +1,15 @@
 //! What a line end needs from the item before it.
 
-ghost use Rattle.std.specs.Prelude.{◌≡◌, ◌==◌};
+ghost use Rattle.std.specs.Prelude.{◌≡◌, ◌==◌, ◌≤◌, length, IsTrue};
+ghost use Rattle.replacements.specs.declared.guard.Guard.TheVariants.{Free};
 ghost use Rattle.c_grammar.specs.Touch.{ends, takes_line};
 ghost use Rattle.token_arena.specs.Entries.{told_by};
-ghost use Rattle.replacements.specs.Guards.{guard_for, guard_of, guard_text, guarded_ends, is_behind_backslash};
+ghost use Rattle.replacements.specs.Guards.{guard_before, guard_for, guard_of, guard_text, guarded_ends, is_behind_backslash};
 
 use c_grammar::ItemKind;
 use gap_text::Decision;
-use token_arena::Token;
+use line_tokens::TokenId;
+use token_arena::{Token, TokenArena};
 
 /// What stands before a line end behind an item, so that the two don't read as something else.
 #[derive(Clone, Copy, Debug, PartialEq, Eq)]
@@ -55,6 +57,31 @@ pub fn guard_of(token: &Token<'_>) -> Guard
         Guard::Return
     } else {
         Guard::Free
+    }
+}
+
+/// What a line end needs in the gap at a place, behind the item before it.
+#[inline(always)]
+pub(crate) fn guard_before(arena: &TokenArena<'_, '_>, place: u32) -> Guard
+    requires { place ≤ length arena.now.tokens }
+    ensures { result ≡ guard_before arena.now.tokens place }
+{
+    if place == 0 {
+        return Guard::Free;
+    }
+    guard_of(&arena.get(TokenId(place - 1)))
+}
+
+/// Whether a line end needs nothing.
+#[inline(always)]
+pub(crate) fn is_free(guard: Guard) -> bool
+    ensures { IsTrue result → guard ≡ Free }
+{
+    match guard {
+        Guard::Free => true,
+        Guard::Blank => false,
+        Guard::Splice => false,
+        Guard::Return => false,
     }
 }
 

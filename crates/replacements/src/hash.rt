@@ -28,7 +28,7 @@ fn may_begin_hash(b: u8) -> bool
 
 /// Whether the first byte tells that bytes spell no `#`. It does for most items, and then no other byte is looked at.
 #[inline(always)]
-fn begins_no_hash(raw: &[u8]) -> bool
+pub(crate) fn begins_no_hash(raw: &[u8]) -> bool
     ensures { IsTrue result → SpellsNoHash raw.now }
 {
     match raw {

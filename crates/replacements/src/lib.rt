@@ -6,11 +6,13 @@
 //! the input.
 #![tactic(auto)]
 
+mod entry;
 mod guard;
 mod hash;
 mod laws;
 mod plan;
 mod reading;
+mod same;
 mod slot;
 mod sound;
 mod stance;

@@ -6,6 +6,7 @@ ghost use Rattle.replacements.specs.declared.slot.Decided.TheVariants as Decided
 ghost use Rattle.replacements.specs.Decisions.{decided, slot_of};
 ghost use Rattle.replacements.specs.Breaks.{fixed_by};
 
+use crate::entry::Entry;
 use crate::reading::has_new_line_at;
 use crate::slot::{Decided, Slot, has_line_end};
 use bumpalo::Bump;
@@ -19,16 +20,17 @@ use token_arena::TokenArena;
 /// decided: one place for the gap before each item, and one for the last gap.
 #[derive(Drop)]
 pub struct Plan<'a> {
-    slots: &'a mut [Option<Slot>],
+    entries: &'a mut [Entry],
 }
 
 impl<'a> Model for Plan<'a> {
     ghost use Rattle.std.specs.Prelude.{List, Option};
     ghost use Rattle.replacements.specs.declared.slot.Slot.{Slot};
+    ghost use Rattle.replacements.specs.Entries.{slots_in};
 
     ghost Value = { List (Option Slot) };
 
-    ghost view = { λ p. p.slots.now };
+    ghost view = { λ p. slots_in p.entries.now };
 }
 
 impl<'a> Plan<'a> {
@@ -37,16 +39,14 @@ impl<'a> Plan<'a> {
         ensures { IfOk result (λ plan. plan ≡ replicate (length arena.now.tokens + 1) None) }
     {
         let places = arena.len() + 1;
-        let mut slots = Vec::with_capacity(bump, places as usize)?;
-        for _place in 0..places {
-            slots.push(None)?;
-        }
+        let entries = vec![in bump; Entry::Open; places as usize]?;
         Ok(Plan {
-            slots: into_bump_slice_mut(slots),
+            entries: into_bump_slice_mut(entries),
         })
     }
 
     /// Decides a gap where it is open; `end` is the column at which the item behind it starts.
+    #[inline(always)]
     pub fn decide(&mut self, place: u32, decision: Decision, end: u32) -> Decided
         requires { place < length self.old }
         ensures kept { (result ≡ Decided.Kept) ↔ IsSome (slot_of self.old place) }
@@ -56,25 +56,28 @@ impl<'a> Plan<'a> {
         if self.is_decided(place) {
             return Decided::Kept;
         }
-        self.slots[place as usize] = Some(Slot { decision, end });
+        self.entries[place as usize] = Entry::of(Slot { decision, end });
         Decided::New
     }
 
     /// Whether a gap is decided.
+    #[inline(always)]
     pub fn is_decided(&self, place: u32) -> bool
         requires { place < length self.now }
         ensures { IsTrue result ↔ IsSome (slot_of self.now place) }
     {
-        self.slot(place).is_some()
+        let entries = &*self.entries;
+        entries[place as usize].is_decided()
     }
 
     /// What is decided for a gap.
+    #[inline(always)]
     pub fn slot(&self, place: u32) -> Option<Slot>
         requires { place < length self.now }
         ensures { result ≡ slot_of self.now place }
     {
-        let slots = &*self.slots;
-        slots[place as usize]
+        let entries = &*self.entries;
+        entries[place as usize].slot()
     }
 
     /// Where the item behind a decided gap starts, and whether a line ends in the gap. The plan is of this arena's text.

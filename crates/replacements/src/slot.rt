@@ -23,8 +23,6 @@ pub struct Slot {
     pub end: u32,
 }
 
-const _: () = prove!(size_of::<Option<Slot>>() <= 24);
-
 /// Whether a line ends in a gap that was decided so, where the input's gap has a new-line or not.
 pub(crate) fn has_line_end(decision: Decision, old: bool) -> bool
     ensures { result ≡ has_line_end decision old }

@@ -7,14 +7,15 @@ ghost use Rattle.directives.specs.declared.Section.{Section};
 ghost use Rattle.fmt_ports.specs.Causes.{AppendsPart, Counts};
 ghost use Rattle.token_arena.specs.Entries.{told_by};
 ghost use Rattle.token_arena.specs.Gaps.{gap_start, Stands, StandFrom};
-ghost use Rattle.replacements.specs.Guards.{guarded_text};
+ghost use Rattle.replacements.specs.Guards.{guard_before, guarded_text};
 ghost use Rattle.replacements.specs.Stances.{stance_in, hash_comes, IsAt, IsKnown};
 ghost use Rattle.replacements.specs.Written.{bytes_between, decision_at, first_gap, is_of_text, is_old, laid_gap, mark_bytes, planned_gap, written, written_from};
 ghost use Rattle.replacements.specs.declared.guard.Guard.TheVariants.{Free};
 
-use crate::guard::{Guard, guard_for, guard_of, guard_text, guarded_ends};
+use crate::guard::{Guard, guard_before, guard_for, guard_text, guarded_ends};
 use crate::hash::{HashRun, hash_comes};
 use crate::plan::Plan;
+use crate::same::{between, comes_no_hash, is_same};
 use crate::stance::{Stance, stance_at};
 use directives::Section;
 use fmt_ports::{Failed, Sink, write_all};
@@ -26,11 +27,9 @@ use token_arena::{Token, TokenArena};
 /// The bytes of a byte order mark.
 const MARK: [u8; 3] = [0xEF, 0xBB, 0xBF];
 
-/// Where the writing stands: what the item before leaves behind it.
+/// Where the writing stands.
 #[derive(Clone, Copy)]
 struct Walk {
-    /// What a line end needs.
-    guard: Guard,
     /// The section in which the next item stands, or one before it.
     section: usize,
     /// Whether a `#` comes.
@@ -41,14 +40,8 @@ struct Walk {
     held: usize,
 }
 
-/// Whether the input's bytes stay.
-fn is_old(decision: Decision) -> bool
-    ensures { result ≡ is_old decision }
-{
-    matches!(decision, Decision::Old)
-}
-
 /// What a plan decides for a gap: that it stays, where nothing else is decided.
+#[inline(always)]
 fn decision_at(plan: &Plan<'_>, place: u32) -> Decision
     requires { place < length plan.now }
     ensures { result ≡ decision_at plan.now place }
@@ -57,16 +50,6 @@ fn decision_at(plan: &Plan<'_>, place: u32) -> Decision
         Some(slot) => slot.decision,
         None => Decision::Old,
     }
-}
-
-/// The bytes of a text from one offset up to another.
-#[inline(always)]
-fn between(text: &[u8], from: usize, to: usize) -> &[u8]
-    requires order { from ≤ to }
-    requires within { to ≤ length text.now }
-    ensures { result.now ≡ bytes_between text.now from to }
-{
-    &text[from..to]
 }
 
 /// What stands before the first item where its gap doesn't stay.
@@ -86,18 +69,26 @@ fn first_gap(arena: &TokenArena<'_, '_>, token: &Token<'_>) -> &'static [u8]
 #[inline(always)]
 fn blank_comes(
     arena: &TokenArena<'_, '_>,
-    run: &mut HashRun,
-    stance: Stance,
+    sections: &[Section],
+    walk: &mut Walk,
     place: u32,
     token: &Token<'_>,
 ) -> bool
     requires here { IsAt arena.now.tokens place (told_by token.now) }
-    requires known { IsKnown arena.now.dialect arena.now.tokens place run.old.end run.old.hash }
-    ensures known { IsKnown arena.now.dialect arena.now.tokens place run.new.end run.new.hash }
-    ensures is { result ≡ (is_of_text stance && hash_comes arena.now.dialect (drop place arena.now.tokens)) }
+    requires within { walk.old.section ≤ length sections.now }
+    requires later { (k : ℕ) → place ≤ k → stance_in (drop walk.old.section sections.now) k ≡ stance_in sections.now k }
+    requires known { IsKnown arena.now.dialect arena.now.tokens place walk.old.run.end walk.old.run.hash }
+    ensures within { walk.new.section ≤ length sections.now }
+    ensures later { (k : ℕ) → place ≤ k → stance_in (drop walk.new.section sections.now) k ≡ stance_in sections.now k }
+    ensures known { IsKnown arena.now.dialect arena.now.tokens place walk.new.run.end walk.new.run.hash }
+    ensures kept { (walk.new.at ≡ walk.old.at) × (walk.new.held ≡ walk.old.held) }
+    ensures is { result ≡ (is_of_text (stance_in sections.now place) && hash_comes arena.now.dialect (drop place arena.now.tokens)) }
 {
-    match stance {
-        Stance::OfText => hash_comes(arena, place, token, run),
+    if comes_no_hash(token) {
+        return false;
+    }
+    match stance_at(sections, &mut walk.section, place) {
+        Stance::OfText => hash_comes(arena, place, token, &mut walk.run),
         Stance::Leads => false,
         Stance::Within => false,
     }
@@ -129,8 +120,8 @@ fn write_laid<K: Sink>(
     style: &Style,
     crlf: bool,
     arena: &TokenArena<'_, '_>,
+    sections: &[Section],
     walk: &mut Walk,
-    stance: Stance,
     place: u32,
     token: &Token<'_>,
     decision: Decision,
@@ -138,30 +129,34 @@ fn write_laid<K: Sink>(
 ) -> Result<(), Failed>
     requires tab { 1 ≤ style.now.tab_width }
     requires here { IsAt arena.now.tokens place (told_by token.now) }
+    requires within { walk.old.section ≤ length sections.now }
+    requires later { (k : ℕ) → place ≤ k → stance_in (drop walk.old.section sections.now) k ≡ stance_in sections.now k }
     requires known { IsKnown arena.now.dialect arena.now.tokens place walk.old.run.end walk.old.run.hash }
+    ensures within { walk.new.section ≤ length sections.now }
+    ensures later { (k : ℕ) → place ≤ k → stance_in (drop walk.new.section sections.now) k ≡ stance_in sections.now k }
     ensures known { IsKnown arena.now.dialect arena.now.tokens place walk.new.run.end walk.new.run.hash }
-    ensures kept { (walk.new.guard ≡ walk.old.guard) × (walk.new.section ≡ walk.old.section) × (walk.new.at ≡ walk.old.at) × (walk.new.held ≡ walk.old.held) }
-    ensures ok { OnOk result (Appends (K.taken sink.old) (K.taken sink.new) (laid_gap style.now crlf arena.now walk.old.guard place stance decision (told_by token.now) (drop (place + 1) arena.now.tokens))) }
-    ensures part { AppendsPart (K.taken sink.old) (K.taken sink.new) (laid_gap style.now crlf arena.now walk.old.guard place stance decision (told_by token.now) (drop (place + 1) arena.now.tokens)) }
+    ensures kept { (walk.new.at ≡ walk.old.at) × (walk.new.held ≡ walk.old.held) }
+    ensures ok { OnOk result (Appends (K.taken sink.old) (K.taken sink.new) (laid_gap style.now crlf arena.now (guard_before arena.now.tokens place) place (stance_in sections.now place) decision (told_by token.now) (drop (place + 1) arena.now.tokens))) }
+    ensures part { AppendsPart (K.taken sink.old) (K.taken sink.new) (laid_gap style.now crlf arena.now (guard_before arena.now.tokens place) place (stance_in sections.now place) decision (told_by token.now) (drop (place + 1) arena.now.tokens)) }
     ensures counts { Counts (K.faults sink.old) (K.faults sink.new) result }
 {
     if place == 0 {
         return write_all(sink, first_gap(arena, token));
     }
-    if blank_comes(arena, &mut walk.run, stance, place, token) {
+    if blank_comes(arena, sections, walk, place, token) {
         return write_all(sink, b" ");
     }
-    write_guarded(style, crlf, walk.guard, decision, b"", sink)
+    write_guarded(style, crlf, guard_before(arena, place), decision, b"", sink)
 }
 
-/// Writes what is held and what is decided before an item, or holds the gap too where it stays.
+/// Writes what is held and what is decided before an item whose gap doesn't stay, and holds nothing then.
 #[inline(always)]
-fn write_or_hold<K: Sink>(
+fn write_anew<K: Sink>(
     style: &Style,
     crlf: bool,
     arena: &TokenArena<'_, '_>,
+    sections: &[Section],
     walk: &mut Walk,
-    stance: Stance,
     place: u32,
     token: &Token<'_>,
     decision: Decision,
@@ -169,32 +164,34 @@ fn write_or_hold<K: Sink>(
 ) -> Result<(), Failed>
     requires tab { 1 ≤ style.now.tab_width }
     requires here { IsAt arena.now.tokens place (told_by token.now) }
+    requires within { walk.old.section ≤ length sections.now }
+    requires later { (k : ℕ) → place ≤ k → stance_in (drop walk.old.section sections.now) k ≡ stance_in sections.now k }
     requires known { IsKnown arena.now.dialect arena.now.tokens place walk.old.run.end walk.old.run.hash }
     requires stands { Stands arena.now.text walk.old.at (told_by token.now) }
     requires held { walk.old.held ≤ walk.old.at }
+    requires anew { is_old decision ≡ false }
+    ensures within { walk.new.section ≤ length sections.now }
+    ensures later { (k : ℕ) → place ≤ k → stance_in (drop walk.new.section sections.now) k ≡ stance_in sections.now k }
     ensures known { IsKnown arena.now.dialect arena.now.tokens place walk.new.run.end walk.new.run.hash }
-    ensures kept { (walk.new.guard ≡ walk.old.guard) × (walk.new.section ≡ walk.old.section) × (walk.new.at ≡ walk.old.at) }
+    ensures kept { walk.new.at ≡ walk.old.at }
     ensures held { walk.new.held ≤ token.now.item.start }
     ensures ok { OnOk result ((piece : List ℕ) × Appends (K.taken sink.old) (K.taken sink.new) piece
         × (bytes_between arena.now.text walk.old.held walk.old.at
-        ++ planned_gap style.now crlf arena.now walk.old.guard walk.old.at place stance decision (told_by token.now) (drop (place + 1) arena.now.tokens)
+        ++ planned_gap style.now crlf arena.now (guard_before arena.now.tokens place) walk.old.at place (stance_in sections.now place) decision (told_by token.now) (drop (place + 1) arena.now.tokens)
         ≡ piece ++ bytes_between arena.now.text walk.new.held token.now.item.start)) }
     ensures part { AppendsPart (K.taken sink.old) (K.taken sink.new) (bytes_between arena.now.text walk.old.held walk.old.at
-        ++ planned_gap style.now crlf arena.now walk.old.guard walk.old.at place stance decision (told_by token.now) (drop (place + 1) arena.now.tokens)) }
+        ++ planned_gap style.now crlf arena.now (guard_before arena.now.tokens place) walk.old.at place (stance_in sections.now place) decision (told_by token.now) (drop (place + 1) arena.now.tokens)) }
     ensures counts { Counts (K.faults sink.old) (K.faults sink.new) result }
 {
-    if is_old(decision) {
-        return Ok(());
-    }
     write_all(sink, between(arena.text(), walk.held, walk.at))?;
     write_laid(
-        style, crlf, arena, walk, stance, place, token, decision, sink,
+        style, crlf, arena, sections, walk, place, token, decision, sink,
     )?;
     walk.held = token.item.start as usize;
     Ok(())
 }
 
-/// Writes what stands before an item, and holds the item. So a stretch that stays as it is, is written at once.
+/// Writes what stands before an item whose gap doesn't stay, and holds the item.
 #[inline(always)]
 fn write_token<K: Sink>(
     style: &Style,
@@ -215,27 +212,26 @@ fn write_token<K: Sink>(
     requires stand { StandFrom arena.now.text (mark_len arena.now.text) arena.now.tokens }
     requires at { walk.old.at ≡ gap_start (mark_len arena.now.text) arena.now.tokens place }
     requires held { walk.old.held ≤ walk.old.at }
+    requires anew { is_old (decision_at plan.now place) ≡ false }
     ensures within { walk.new.section ≤ length sections.now }
     ensures known { IsKnown arena.now.dialect arena.now.tokens place walk.new.run.end walk.new.run.hash }
     ensures later { (k : ℕ) → place ≤ k → stance_in (drop walk.new.section sections.now) k ≡ stance_in sections.now k }
     ensures at { OnOk result ((walk.new.at ≡ gap_start (mark_len arena.now.text) arena.now.tokens (place + 1)) × (walk.new.held ≤ walk.new.at)) }
     ensures ok { OnOk result ((piece : List ℕ) × Appends (K.taken sink.old) (K.taken sink.new) piece
         × (bytes_between arena.now.text walk.old.held walk.old.at
-        ++ written_from style.now crlf arena.now sections.now plan.now walk.old.guard walk.old.at place (drop place arena.now.tokens)
+        ++ written_from style.now crlf arena.now sections.now plan.now (guard_before arena.now.tokens place) walk.old.at place (drop place arena.now.tokens)
         ≡ piece ++ (bytes_between arena.now.text walk.new.held walk.new.at
-        ++ written_from style.now crlf arena.now sections.now plan.now walk.new.guard walk.new.at (place + 1) (drop (place + 1) arena.now.tokens)))) }
+        ++ written_from style.now crlf arena.now sections.now plan.now (guard_before arena.now.tokens (place + 1)) walk.new.at (place + 1) (drop (place + 1) arena.now.tokens)))) }
     ensures part { AppendsPart (K.taken sink.old) (K.taken sink.new) (bytes_between arena.now.text walk.old.held walk.old.at
-        ++ written_from style.now crlf arena.now sections.now plan.now walk.old.guard walk.old.at place (drop place arena.now.tokens)) }
+        ++ written_from style.now crlf arena.now sections.now plan.now (guard_before arena.now.tokens place) walk.old.at place (drop place arena.now.tokens)) }
     ensures counts { Counts (K.faults sink.old) (K.faults sink.new) result }
 {
     let token = arena.get(TokenId(place));
-    let stance = stance_at(sections, &mut walk.section, place);
     let decision = decision_at(plan, place);
-    write_or_hold(
-        style, crlf, arena, walk, stance, place, &token, decision, sink,
+    write_anew(
+        style, crlf, arena, sections, walk, place, &token, decision, sink,
     )?;
     walk.at = token.item.start as usize + token.item.raw.len();
-    walk.guard = guard_of(&token);
     Ok(())
 }
 
@@ -251,6 +247,43 @@ fn first_offset(arena: &TokenArena<'_, '_>) -> usize
     ensures { result ≡ mark_len arena.now.text }
 {
     if arena.mark() { MARK.len() } else { 0 }
+}
+
+/// Passes items from a place on as long as the gap before each is in the input as it is to be written, so that they
+/// are copied in one stretch. The place of the first other item, or behind the last one; `at` is moved to its gap.
+fn pass_same(
+    style: &Style,
+    crlf: bool,
+    arena: &TokenArena<'_, '_>,
+    plan: &Plan<'_>,
+    place: u32,
+    at: &mut usize,
+) -> u32
+    requires whole { length plan.now ≡ length arena.now.tokens + 1 }
+    requires here { place ≤ length arena.now.tokens }
+    requires at { at.old ≡ gap_start (mark_len arena.now.text) arena.now.tokens place }
+    ensures within { result ≤ length arena.now.tokens }
+    ensures later { place ≤ result }
+    ensures at { at.new ≡ gap_start (mark_len arena.now.text) arena.now.tokens result }
+    ensures on { at.old ≤ at.new }
+    ensures anew { result < length arena.now.tokens → is_old (decision_at plan.now result) ≡ false }
+    ensures same { (sections : List Section) → written_from style.now crlf arena.now sections plan.now (guard_before arena.now.tokens place) at.old place (drop place arena.now.tokens)
+        ≡ bytes_between arena.now.text at.old at.new
+        ++ written_from style.now crlf arena.now sections plan.now (guard_before arena.now.tokens result) at.new result (drop result arena.now.tokens) }
+{
+    let count = arena.len();
+    let mut here = *at;
+    for next in place..count {
+        let token = arena.get(TokenId(next));
+        let decision = decision_at(plan, next);
+        if !is_same(style, crlf, arena, here, next, &token, decision) {
+            *at = here;
+            return next;
+        }
+        here = token.item.start as usize + token.item.raw.len();
+    }
+    *at = here;
+    count
 }
 
 /// Writes all items, and the gaps before and behind them.
@@ -271,18 +304,20 @@ fn write_tokens<K: Sink>(
     let count = arena.len();
     let begin = first_offset(arena);
     let mut walk = Walk {
-        guard: Guard::Free,
         section: 0,
         run: HashRun::none(),
         at: begin,
         held: begin,
     };
-    for place in 0..count {
+    let mut place = pass_same(style, crlf, arena, plan, 0, &mut walk.at);
+    while place < count {
         write_token(style, crlf, arena, sections, plan, &mut walk, place, sink)?;
+        place = pass_same(style, crlf, arena, plan, place + 1, &mut walk.at);
     }
     write_all(sink, between(arena.text(), walk.held, walk.at))?;
     let decision = decision_at(plan, count);
-    write_guarded(style, crlf, walk.guard, decision, arena.gap(count), sink)
+    let guard = guard_before(arena, count);
+    write_guarded(style, crlf, guard, decision, arena.gap(count), sink)
 }
 
 /// Writes the text of a plan in a style: the byte order mark, then each item behind the text of its gap, and the

@@ -2,3 +2,4 @@ pub mod Items
 pub mod Classes
 pub mod Walked
 pub mod Stands
+pub mod Stretched

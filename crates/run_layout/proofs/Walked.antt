@@ -1,7 +1,9 @@
 -- Decisions, one after another.
-use Rattle.std.proofs.Common.{◌≡◌, ◌∙◌, ℕ, zero, suc, ◌+◌, ◌-◌, ◌<◌, ◌≤◌, Option, Some, None, List, [], ◌∷◌, ◌++◌, length, get_or, drop, refl, sym, ap, arith, subst}
+use Rattle.std.proofs.Common.{◌≡◌, ◌∙◌, ◌==◌, Bool, true, false, eq-eqb, ℕ, zero, suc, ◌+◌, ◌-◌, ◌<◌, ◌≤◌, Option, Some, None, List, [], ◌∷◌, ◌++◌, length, get_or, drop, refl, sym, ap, arith, subst}
 use Rattle.std.specs.Prelude.{IsSome, is_some, slice_set, if◌then◌else◌}
 use Rattle.std.proofs.Math.Seq.{drop-cons}
+use Rattle.std.proofs.lemmas.Bool.{ne_eqb}
+use Rattle.c_grammar.specs.Touch.{takes_line}
 use Rattle.style_table.specs.declared.style.Style.{Style}
 use Rattle.token_arena.specs.Gaps.{Contents}
 use Rattle.gap_text.specs.declared.Decision.{Decision}
@@ -10,8 +12,10 @@ use Rattle.unwrapped_lines.specs.declared.line.ULine.{ULine}
 use Rattle.unwrapped_lines.specs.Lines.{CutPlaces}
 use Rattle.replacements.specs.declared.slot.Slot.{Slot}
 use Rattle.replacements.specs.Decisions.{slot_of, decided, decided_all}
-use Rattle.run_layout.specs.Rows.{item_before, item_at, decision_at, start_behind, column_behind}
-use Rattle.run_layout.specs.Run.{AreDecided, start_of, slot_at, column_after, decisions_from, line_decisions, run_decisions}
+use Rattle.token_views.specs.declared.view.Stretch.{Stretch}
+use Rattle.run_layout.specs.Rows.{item_before, item_at, next_decision, decision_at, start_behind, column_behind}
+use Rattle.run_layout.specs.Stretches.{AreFrom}
+use Rattle.run_layout.specs.Run.{AreDecided, GoesOn, start_of, slot_at, column_after, decisions_from, line_decisions, run_decisions}
 
 -- decisions behind others
 pub decided_all-append : (plan : List (Option Slot)) (made later : List (ℕ × Slot)) → decided_all plan (made ++ later) ≡ decided_all (decided_all plan made) later
@@ -67,9 +71,82 @@ one_place style arena ids line plan after column next k id start end decision le
     n ∙ ap (λ x. column_behind x (item_at arena id)) s ∙ ap (λ x. column_after arena x id) plans ∙ ap (column_after arena made) (sym at) in
     rw (plans, columns) (sym (first_and_rest style arena ids line plan column k left more m))
 
+-- ## Places one after another
+
+pub next_before : (ids : List ℕ) (k id : ℕ) → get_or ids k 0 ≡ id → Some id ≡ item_before ids (k + 1)
+next_before ids k id at = let e : k + 1 ≡ suc k = omega arith in rw e (ap Some (sym at))
+
+-- at the place itself
+pub goes_here : (style : Style) (arena : Contents) (ids : List ℕ) (line : ULine) (plan : List (Option Slot)) (column k : ℕ) → GoesOn style arena ids line plan column k plan column k
+goes_here style arena ids line plan column k = λ more.
+    let same : more ≡ k - k + more = omega arith in
+    ap (λ count. decided_all plan (decisions_from style arena ids line plan column k count)) same
+
+-- at a later place, and then at one that is later yet
+pub goes_further : (style : Style) (arena : Contents) (ids : List ℕ) (line : ULine) (plan between after : List (Option Slot)) (column middle next k j later : ℕ) → k ≤ j → j ≤ later
+    → GoesOn style arena ids line plan column k between middle j → GoesOn style arena ids line between middle j after next later → GoesOn style arena ids line plan column k after next later
+goes_further style arena ids line plan between after column middle next k j later low high first second = λ more.
+    let count : j - k + (later - j + more) ≡ later - k + more = omega (arith, low, high) in
+    second more ∙ (first (later - j + more) ∙ ap (λ n. decided_all plan (decisions_from style arena ids line plan column k n)) count)
+
+-- behind one place
+pub goes_on : (style : Style) (arena : Contents) (ids : List ℕ) (line : ULine) (plan after : List (Option Slot)) (column next k later id start end : ℕ) (decision : Decision)
+    → later ≡ k + 1 → get_or ids k 0 ≡ id → decision ≡ decision_at style arena ids line k → end ≡ start_behind column decision
+    → after ≡ decided plan id (record { decision = decision; end = end }) → start ≡ start_of (slot_of after id) → next ≡ column_behind start (item_at arena id)
+    → GoesOn style arena ids line plan column k after next later
+goes_on style arena ids line plan after column next k later id start end decision l at d e a s n = λ more.
+    let count : later - k + more ≡ suc more = omega (arith, l) in
+    ap (λ j. decided_all after (decisions_from style arena ids line after next j more)) l
+    ∙ one_place style arena ids line plan after column next k id start end decision more (later - k + more) count at d e a s n
+
+-- at the end of a line all its decisions are made
+pub all_made : (style : Style) (arena : Contents) (ids : List ℕ) (line : ULine) (plan after : List (Option Slot)) (next later : ℕ) → later ≡ line.last + 1
+    → GoesOn style arena ids line plan 0 line.first after next later → after ≡ decided_all plan (line_decisions style arena ids plan line)
+all_made style arena ids line plan after next later l on =
+    let count : later - line.first + 0 ≡ line.last + 1 - line.first = omega (arith, l) in
+    on 0 ∙ ap (λ n. decided_all plan (decisions_from style arena ids line plan 0 line.first n)) count
+
+-- what stands before an item inside a line that comes next in the text
+next_is : (style : Style) (arena : Contents) (ids : List ℕ) (line : ULine) (k id : ℕ) → line.first ≤ k → get_or ids k 0 ≡ id → get_or ids (k + 1) 0 ≡ id + 1
+    → next_decision style line (takes_line (item_at arena id).kind) (item_at arena (id + 1)) ≡ decision_at style arena ids line (k + 1)
+next_is style arena ids line k id from at next =
+    let inner : (k + 1 == line.first) ≡ false = ne_eqb (k + 1) line.first (λ e. absurd (omega (arith, from, e))) in
+    let before : item_before ids (k + 1) ≡ Some id = sym (next_before ids k id at) in
+    let follows : (id + 1 == id + 1) ≡ true = eq-eqb (id + 1) (id + 1) refl in
+    rw (inner, before, next, follows) refl
+
+-- the first item of a stretch stands at its place
+pub item_of : (ids : List ℕ) (k : ℕ) (stretch : Stretch) → AreFrom ids k stretch → stretch.first < stretch.end → get_or ids k 0 ≡ stretch.first
+item_of ids k stretch are some =
+    let here : k ≡ k + 0 = omega arith in
+    ap (λ j. get_or ids j 0) here ∙ (are 0 (omega (arith, some)) ∙ omega arith)
+
+-- such a place, where the items from a place on are those of a stretch
+pub goes_next : (style : Style) (arena : Contents) (ids : List ℕ) (line : ULine) (stretch : Stretch) (plan after : List (Option Slot)) (column next k id start end : ℕ) (decision : Decision) (takes : Bool)
+    → AreFrom ids k stretch → stretch.first + 1 ≤ id → id < stretch.end → line.first ≤ k → takes ≡ takes_line (item_at arena (id - 1)).kind
+    → decision ≡ next_decision style line takes (item_at arena id) → end ≡ start_behind column decision
+    → after ≡ decided plan id (record { decision = decision; end = end }) → start ≡ start_of (slot_of after id) → next ≡ column_behind start (item_at arena id)
+    → GoesOn style arena ids line plan column (k + (id - stretch.first)) after next (k + (id + 1 - stretch.first))
+goes_next style arena ids line stretch plan after column next k id start end decision takes are low high from t d e a s n =
+    let place : ℕ = k + (id - stretch.first) in
+    let left : ℕ = k + (id - 1 - stretch.first) in
+    let step : left + 1 ≡ place = omega (arith, low) in
+    let one : id - 1 + 1 ≡ id = omega (arith, low) in
+    let here : get_or ids place 0 ≡ id = are (id - stretch.first) (omega (arith, high, low)) ∙ omega (arith, low) in
+    let there : get_or ids left 0 ≡ id - 1 = are (id - 1 - stretch.first) (omega (arith, high, low)) ∙ omega (arith, low) in
+    let at : get_or ids (left + 1) 0 ≡ id - 1 + 1 = ap (λ j. get_or ids j 0) step ∙ (here ∙ sym one) in
+    let is : next_decision style line (takes_line (item_at arena (id - 1)).kind) (item_at arena (id - 1 + 1)) ≡ decision_at style arena ids line (left + 1) =
+    next_is style arena ids line left (id - 1) (omega (arith, from)) there at in
+    let made : decision ≡ decision_at style arena ids line place =
+    d ∙ (ap (λ b. next_decision style line b (item_at arena id)) t
+    ∙ (ap (λ x. next_decision style line (takes_line (item_at arena (id - 1)).kind) (item_at arena x)) (sym one)
+    ∙ (is ∙ ap (λ j. decision_at style arena ids line j) step))) in
+    goes_on style arena ids line plan after column next place (k + (id + 1 - stretch.first)) id start end decision (omega (arith, low)) here made e a s n
+
 -- ## Lines that are decided
 
-decided_again : (plan : List (Option Slot)) (id : ℕ) (slot : Slot) → IsSome (slot_of plan id) → decided plan id slot ≡ plan
+-- a decision for a decided gap changes nothing
+pub decided_again : (plan : List (Option Slot)) (id : ℕ) (slot : Slot) → IsSome (slot_of plan id) → decided plan id slot ≡ plan
 decided_again plan id slot some = elim (slot_of plan id) as (λ o. IsSome o → (if is_some o then plan else slice_set plan id (Some slot)) ≡ plan) [
   | None ↦ λ h. absurd (none_is_none h)
   | Some first ↦ λ h. refl
@@ -96,9 +173,6 @@ nothing_new style arena ids line plan some = sym (nothing_from style arena ids l
 
 pub item_within : (arena : Contents) (ids : List ℕ) (k id : ℕ) → AreWithin arena ids → k < length ids → get_or ids k 0 ≡ id → id < length arena.tokens
 item_within arena ids k id items within at = rw (← at) (items k 0 within)
-
-pub next_before : (ids : List ℕ) (k id : ℕ) → get_or ids k 0 ≡ id → Some id ≡ item_before ids (k + 1)
-next_before ids k id at = let e : k + 1 ≡ suc k = omega arith in rw e (ap Some (sym at))
 
 pub before_within : (arena : Contents) (ids : List ℕ) (k : ℕ) (before : Option ℕ) → AreWithin arena ids → k < length ids → before ≡ item_before ids k
     → (id : ℕ) → before ≡ Some id → id < length arena.tokens

@@ -1,3 +1,4 @@
+pub mod Stretches
 pub mod Rows
 pub mod Run
 pub mod Laws

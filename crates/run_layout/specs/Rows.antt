@@ -131,6 +131,10 @@ inner_decision style arena line before id =
     if row_ends arena before id then Lines (1 + empty_further style arena line before id) (continuation_column style line) line.level
     else Spaces (blanks (item_at arena id))
 
+-- before such an item that comes next in the text behind one that takes its line or doesn't
+abbrev pub next_decision : Style → ULine → Bool → Stored → Decision
+next_decision style line takes token = if takes || is_begun_comment token then Lines 1 (continuation_column style line) line.level else Spaces (blanks token)
+
 -- before an item that begins its line or doesn't
 abbrev pub item_decision : Style → Contents → ULine → Bool → Option ℕ → ℕ → Decision
 item_decision style arena line begins before id = if begins then first_decision style arena line before id else inner_decision style arena line before id

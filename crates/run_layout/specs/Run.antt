@@ -1,5 +1,5 @@
 -- What a run decides, in its order: docs/PROFILE.md, "Layout of lines".
-use Rattle.std.specs.Prelude.{◌<◌, ◌≤◌, ℕ, zero, suc, ◌+◌, ◌-◌, Option, Some, None, IsSome, List, [], ◌∷◌, ◌++◌, get_or}
+use Rattle.std.specs.Prelude.{◌≡◌, ◌<◌, ◌≤◌, ℕ, zero, suc, ◌+◌, ◌-◌, Option, Some, None, IsSome, List, [], ◌∷◌, ◌++◌, get_or}
 use Rattle.style_table.specs.declared.style.Style.{Style}
 use Rattle.token_arena.specs.Gaps.{Contents}
 use Rattle.unwrapped_lines.specs.declared.line.ULine.{ULine}
@@ -32,6 +32,11 @@ decisions_from style arena ids line plan column k (suc count) =
     let after = decided plan id slot in
     (id, slot) ∷ decisions_from style arena ids line after (column_after arena after id) (k + 1) count
 
+-- The decisions for the places of a line from this one on go on at a later place from this plan and this column.
+abbrev pub GoesOn : Style → Contents → List ℕ → ULine → List (Option Slot) → ℕ → ℕ → List (Option Slot) → ℕ → ℕ → Type 0
+GoesOn style arena ids line plan column k after next later =
+    (more : ℕ) → decided_all after (decisions_from style arena ids line after next later more) ≡ decided_all plan (decisions_from style arena ids line plan column k (later - k + more))
+
 -- the decisions for a line
 abbrev pub line_decisions : Style → Contents → List ℕ → List (Option Slot) → ULine → List (ℕ × Slot)
 line_decisions style arena ids plan line = decisions_from style arena ids line plan 0 line.first (line.last + 1 - line.first)
@@ -39,6 +44,10 @@ line_decisions style arena ids plan line = decisions_from style arena ids line p
 -- each gap of a line is decided
 abbrev pub AreDecided : List (Option Slot) → List ℕ → ULine → Type 0
 AreDecided plan ids line = (k : ℕ) → line.first ≤ k → k < line.last + 1 → IsSome (slot_of plan (get_or ids k 0))
+
+-- the gap before each item from one up to another is decided
+abbrev pub IsRowDecided : List (Option Slot) → ℕ → ℕ → Type 0
+IsRowDecided plan first end = (id : ℕ) → first ≤ id → id < end → IsSome (slot_of plan id)
 
 -- the decisions of a run: line by line
 abbrev pub run_decisions : Style → Contents → List ℕ → List (Option Slot) → List ULine → List (ℕ × Slot)

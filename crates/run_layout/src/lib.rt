@@ -10,9 +10,10 @@ mod item;
 mod laws;
 mod rows;
 mod run;
+mod stretches;
 #[cfg(test)]
 mod tests;
 
 pub use columns::column_behind;
 pub use laws::runs_stay_sound;
-pub use run::lay_out_run;
+pub use run::{is_row_decided, lay_out_run};

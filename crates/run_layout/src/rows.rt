@@ -5,7 +5,8 @@ ghost use Rattle.std.specs.Option.{ForSome};
 ghost use Rattle.c_grammar.specs.Fitting.{is_comment};
 ghost use Rattle.c_grammar.specs.Touch.{takes_line};
 ghost use Rattle.brackets.specs.Viewed.{AreWithin, classes_of};
-ghost use Rattle.run_layout.specs.Rows.{item_before, follows, takes_row, is_begun_comment, item_at, row_ends, row_token, first_role, opens_before, empty_rows, first_of_line, empty_further, blanks, inner_decision, decision_at};
+ghost use Rattle.token_arena.specs.Entries.{told_by};
+ghost use Rattle.run_layout.specs.Rows.{item_before, follows, takes_row, is_begun_comment, row_ends, row_token, first_role, opens_before, empty_rows, first_of_line, empty_further, blanks, inner_decision, next_decision, decision_at};
 
 use crate::columns::continuation_column;
 use crate::item::item;
@@ -14,7 +15,7 @@ use gap_text::Decision;
 use indenter::{empty_lines, start_column};
 use line_tokens::{ItemKind, LineTok, Role, TokenId};
 use style_table::Style;
-use token_arena::TokenArena;
+use token_arena::{Token, TokenArena};
 use token_views::View;
 use unwrapped_lines::ULine;
 
@@ -26,21 +27,21 @@ fn is_comment(kind: ItemKind) -> bool
 }
 
 /// An item that takes the rest of its line.
-fn takes_line(kind: ItemKind) -> bool
+pub(crate) fn takes_line(kind: ItemKind) -> bool
     ensures { result ≡ takes_line kind }
 {
     matches!(kind, ItemKind::LineComment | ItemKind::StrayQuote)
 }
 
 /// The item before a place of a view.
-pub(crate) fn item_before(view: &View<'_>, k: u32, segment: &mut usize) -> Option<u32>
+fn item_before(view: &View<'_>, k: u32) -> Option<u32>
     requires { k < length view.now }
     ensures { result ≡ item_before view.now k }
 {
     if k == 0 {
         return None;
     }
-    Some(view.at_near(k - 1, segment).0)
+    Some(view.at(k - 1).0)
 }
 
 /// Whether an item comes next in the text behind the one before it in the view.
@@ -65,11 +66,10 @@ fn takes_row(arena: &TokenArena<'_, '_>, before: Option<u32>) -> bool
 }
 
 /// Whether an item is a comment that began its line.
-fn is_begun_comment(arena: &TokenArena<'_, '_>, id: u32) -> bool
-    requires { id < length arena.now.tokens }
-    ensures { result ≡ is_begun_comment (item_at arena.now id) }
+#[inline(always)]
+fn is_begun_comment(token: &Token<'_>) -> bool
+    ensures { result ≡ is_begun_comment (told_by token.now) }
 {
-    let token = item(arena, id);
     is_comment(token.item.kind) && token.gap.began
 }
 
@@ -81,7 +81,7 @@ fn row_ends(arena: &TokenArena<'_, '_>, before: Option<u32>, id: u32) -> bool
 {
     let follows = follows(before, id);
     let takes = takes_row(arena, before);
-    let begun = is_begun_comment(arena, id);
+    let begun = is_begun_comment(&item(arena, id));
     !follows || takes || begun
 }
 
@@ -182,11 +182,11 @@ fn empty_further(
 }
 
 /// How many blanks stand before an item inside a row.
-fn blanks(arena: &TokenArena<'_, '_>, id: u32) -> u32
-    requires { id < length arena.now.tokens }
-    ensures { result ≡ blanks (item_at arena.now id) }
+#[inline(always)]
+fn blanks(token: &Token<'_>) -> u32
+    ensures { result ≡ blanks (told_by token.now) }
 {
-    if item(arena, id).gap.empty { 0 } else { 1 }
+    if token.gap.empty { 0 } else { 1 }
 }
 
 /// What stands before any other item of a line.
@@ -208,11 +208,26 @@ fn inner_decision(
             level: line.level,
         }
     } else {
-        Decision::Spaces(blanks(arena, id))
+        Decision::Spaces(blanks(&item(arena, id)))
     }
 }
 
-/// What stands before the item at a place of a line, which is this one behind that one.
+/// What stands before an item inside a line that comes next in the text behind one that takes its line or doesn't.
+#[inline(always)]
+pub(crate) fn next_decision(style: &Style, line: &ULine, takes: bool, token: &Token<'_>) -> Decision
+    ensures { result ≡ next_decision style.now line.now takes (told_by token.now) }
+{
+    if takes || is_begun_comment(token) {
+        return Decision::Lines {
+            count: 1,
+            column: continuation_column(style, line),
+            level: line.level,
+        };
+    }
+    Decision::Spaces(blanks(token))
+}
+
+/// What stands before the item at a place of a line, which is this one.
 pub(crate) fn decision_at(
     style: &Style,
     arena: &TokenArena<'_, '_>,
@@ -220,13 +235,11 @@ pub(crate) fn decision_at(
     classes: &[TokenClass],
     line: &ULine,
     k: u32,
-    before: Option<u32>,
     id: u32,
 ) -> Decision
     requires classes { classes.now ≡ classes_of arena.now view.now }
     requires place { k < length view.now }
     requires items { AreWithin arena.now view.now }
-    requires before { before ≡ item_before view.now k }
     requires id { get_or view.now k 0 ≡ id }
     ensures { result ≡ decision_at style.now arena.now view.now line.now k }
 {
@@ -236,5 +249,5 @@ pub(crate) fn decision_at(
         let opened = opens_before(classes, k);
         return first_of_line(style, arena, line, opened, classes[k as usize], id);
     }
-    inner_decision(style, arena, line, before, id)
+    inner_decision(style, arena, line, item_before(view, k), id)
 }

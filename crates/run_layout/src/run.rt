@@ -1,51 +1,121 @@
 //! The decisions of a run.
 
-ghost use Rattle.std.specs.Prelude.{◌≡◌, ◌<◌, ◌≤◌, ◌+◌, All, IsTrue, length};
+ghost use Rattle.std.specs.Prelude.{◌≡◌, ◌<◌, ◌≤◌, ◌+◌, ◌-◌, IsTrue, length};
 ghost use Rattle.brackets.specs.Viewed.{AreWithin, classes_of};
 ghost use Rattle.unwrapped_lines.specs.Lines.{CutPlaces};
 ghost use Rattle.replacements.specs.Decisions.{decided, decided_all, slot_of};
-ghost use Rattle.run_layout.specs.Run.{AreDecided, start_of, line_decisions, run_decisions};
+ghost use Rattle.run_layout.specs.Rows.{decision_at};
+ghost use Rattle.run_layout.specs.Run.{AreDecided, IsRowDecided, GoesOn, start_of, line_decisions, run_decisions};
+ghost use Rattle.run_layout.specs.Stretches.{AreFrom};
 
-use crate::columns::{column_behind, start_behind};
-use crate::rows::{decision_at, item_before};
+use crate::columns::{behind, start_behind};
+use crate::item::item;
+use crate::rows::{decision_at, next_decision, takes_line};
+use crate::stretches::stretch_near;
 use brackets::TokenClass;
 use gap_text::Decision;
-use line_tokens::TokenId;
 use replacements::Plan;
 use style_table::Style;
 use token_arena::TokenArena;
-use token_views::View;
+use token_views::{Stretch, View};
 use unwrapped_lines::ULine;
 
 /// Decides a gap where it is open, and tells where the item behind it starts.
-fn decide(plan: &mut Plan<'_>, id: TokenId, decision: Decision, end: u32) -> u32
-    requires { id.0 < length plan.old }
-    ensures plan { plan.new ≡ decided plan.old id.0 (record { decision = decision; end = end }) }
+#[inline(always)]
+fn decide(plan: &mut Plan<'_>, id: u32, decision: Decision, end: u32) -> u32
+    requires { id < length plan.old }
+    ensures plan { plan.new ≡ decided plan.old id (record { decision = decision; end = end }) }
     ensures len { length plan.new ≡ length plan.old }
-    ensures start { result ≡ start_of (slot_of plan.new id.0) }
+    ensures start { result ≡ start_of (slot_of plan.new id) }
 {
-    let _ = plan.decide(id.0, decision, end);
-    match plan.slot(id.0) {
-        Some(slot) => slot.end,
-        None => 0,
+    if let Some(slot) = plan.slot(id) {
+        return slot.end;
     }
+    let _ = plan.decide(id, decision, end);
+    end
 }
 
-/// Whether each gap of a line is decided, as in most lines that an earlier run saw.
-fn is_decided(view: &View<'_>, line: &ULine, plan: &Plan<'_>, segment: &mut usize) -> bool
-    requires places { line.now.last < length view.now }
-    requires whole { All (λ id. id < length plan.now) view.now }
-    ensures { IsTrue result → AreDecided plan.now view.now line.now }
+/// Whether the gap before each item from one up to another is decided.
+#[inline(always)]
+pub fn is_row_decided(plan: &Plan<'_>, first: u32, end: u32) -> bool
+    requires { end ≤ length plan.now }
+    ensures { IsTrue result → IsRowDecided plan.now first end }
 {
-    let count = view.len();
-    prove!(line.last < count);
-    for place in line.first..line.last + 1 {
-        let id = view.at_near(place, segment);
-        if !plan.is_decided(id.0) {
+    for id in first..end {
+        if !plan.is_decided(id) {
             return false;
         }
     }
     true
+}
+
+/// Whether each gap of a line is decided, as in most lines that an earlier run saw.
+#[inline(always)]
+fn is_decided(
+    arena: &TokenArena<'_, '_>,
+    view: &View<'_>,
+    line: &ULine,
+    plan: &Plan<'_>,
+    segment: &mut usize,
+) -> bool
+    requires items { AreWithin arena.now view.now }
+    requires places { line.now.last < length view.now }
+    requires whole { length plan.now ≡ length arena.now.tokens + 1 }
+    ensures { IsTrue result → AreDecided plan.now view.now line.now }
+{
+    let count = view.len();
+    prove!(line.last < count);
+    let mut k = line.first;
+    while k <= line.last {
+        let stretch = stretch_near(arena, view, k, line.last + 1, segment);
+        if !is_row_decided(plan, stretch.first, stretch.end) {
+            return false;
+        }
+        k += stretch.end - stretch.first;
+    }
+    true
+}
+
+/// Decides the gaps of the items of a line that follow one another in the text, the first of which stands at a place.
+/// What stands before it ends at a column, and this is what stands there; the column behind the last one is told.
+#[inline(always)]
+fn lay_out_stretch(
+    style: &Style,
+    arena: &TokenArena<'_, '_>,
+    view: &View<'_>,
+    line: &ULine,
+    plan: &mut Plan<'_>,
+    k: u32,
+    stretch: Stretch,
+    decision: Decision,
+    column: u32,
+) -> u32
+    requires some { stretch.first < stretch.end }
+    requires items { stretch.end ≤ length arena.now.tokens }
+    requires are { AreFrom view.now k stretch }
+    requires from { line.now.first ≤ k }
+    requires decision { decision ≡ decision_at style.now arena.now view.now line.now k }
+    requires whole { length plan.old ≡ length arena.now.tokens + 1 }
+    ensures on { GoesOn style.now arena.now view.now line.now plan.old column k plan.new result (k + (stretch.end - stretch.first)) }
+    ensures len { length plan.new ≡ length plan.old }
+{
+    let first = item(arena, stretch.first);
+    let start = decide(
+        plan,
+        stretch.first,
+        decision,
+        start_behind(column, decision),
+    );
+    let mut column = behind(&first, start);
+    let mut takes = takes_line(first.item.kind);
+    for id in stretch.first + 1..stretch.end {
+        let token = item(arena, id);
+        let decision = next_decision(style, line, takes, &token);
+        let start = decide(plan, id, decision, start_behind(column, decision));
+        column = behind(&token, start);
+        takes = takes_line(token.item.kind);
+    }
+    column
 }
 
 /// Decides the gaps of a line. `segment` is the number of the view's segment that was looked into last.
@@ -68,17 +138,16 @@ fn lay_out_line(
 {
     let count = view.len();
     prove!(line.last < count);
-    if is_decided(view, line, plan, segment) {
+    if is_decided(arena, view, line, plan, segment) {
         return;
     }
     let mut column = 0;
-    let mut before = item_before(view, line.first, segment);
-    for k in line.first..line.last + 1 {
-        let id = view.at_near(k, segment);
-        let decision = decision_at(style, arena, view, classes, line, k, before, id.0);
-        let start = decide(plan, id, decision, start_behind(column, decision));
-        column = column_behind(arena, start, id.0);
-        before = Some(id.0);
+    let mut k = line.first;
+    while k <= line.last {
+        let stretch = stretch_near(arena, view, k, line.last + 1, segment);
+        let decision = decision_at(style, arena, view, classes, line, k, stretch.first);
+        column = lay_out_stretch(style, arena, view, line, plan, k, stretch, decision, column);
+        k += stretch.end - stretch.first;
     }
 }
 

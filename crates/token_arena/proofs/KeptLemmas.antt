@@ -1,7 +1,7 @@
 -- Entries as they are made, item by item: what they keep so far, and what one more adds.
 use Rattle.std.proofs.Common.{◌≡◌, ◌==◌, ◌&&◌, ◌∙◌, ℕ, suc, ◌+◌, ◌-◌, ◌≤◌, Bool, true, false, List, [], ◌∷◌, ◌++◌, length, take, drop, inl, inr, refl, sym, ap, subst, arith}
 use Rattle.std.proofs.lemmas.Bool.{cases_Bool, and_parts, and_right, eqb-true, ne_eqb}
-use Rattle.std.proofs.lemmas.List.{length-map, map-append, length-drop, length-take-le}
+use Rattle.std.proofs.lemmas.List.{length-drop, length-take-le}
 use Rattle.std.proofs.lemmas.List.Elements.{All-append}
 use Rattle.c_chars.specs.Characters.{logical, mark_len, bytes_of}
 use Rattle.c_chars.specs.declared.Dialect.{Dialect}
@@ -9,11 +9,12 @@ use Rattle.c_chars.specs.declared.TheConstants.{LIMIT}
 use Rattle.c_grammar.specs.Items.{LineStart, is_gap}
 use Rattle.c_grammar.specs.Text.{ReadItem, Left, IsStep, IsReadUpTo, start_of, end_of, raw_of}
 use Rattle.c_grammar.proofs.Reading.{begun, stepped, ended}
-use Rattle.token_arena.specs.Stored.{Stored, stored_of, stored_from, stored_items, line_at}
+use Rattle.token_arena.specs.Stored.{Stored, stored_of, stored_from, stored_items}
 use Rattle.token_arena.specs.Gaps.{Stands, StandFrom, behind}
-use Rattle.token_arena.specs.Entries.{kept_by, kept_by_all, AllWithin, AreEntries}
+use Rattle.token_arena.specs.Entries.{kept_by, kept_from, kept_by_all, AllWithin, AreEntries}
 use Rattle.token_arena.specs.declared.arena.Entry.{Entry}
 use Rattle.c_chars.proofs.Spans.{Ascend, chars_ascend}
+use Rattle.token_arena.proofs.EntryLemmas.{length_kept}
 use Rattle.token_arena.proofs.Spans.{IsSpanned}
 
 -- an item that is the first where none was read
@@ -46,6 +47,18 @@ pub length-stored_from : (text : List ℕ) (is_first : Bool) (from : ℕ) (items
 length-stored_from text is_first from [] = refl
 length-stored_from text is_first from (i ∷ items) = ap (λ n. suc n) (length-stored_from text false (end_of i) items)
 
+-- one more entry is that of one more item, the first where there was none
+kept_from-push : (text : List ℕ) (entries : List Entry) (entry : Entry) → kept_from text false (entries ++ entry ∷ []) ≡ kept_from text false entries ++ kept_by text false entry ∷ []
+kept_from-push text [] entry = refl
+kept_from-push text (e ∷ entries) entry = ap (λ s. kept_by text false e ∷ s) (kept_from-push text entries entry)
+
+kept_by_all-push : (text : List ℕ) (entries : List Entry) (entry : Entry)
+    → kept_by_all text (entries ++ entry ∷ []) ≡ kept_by_all text entries ++ kept_by text (length entries == 0) entry ∷ []
+kept_by_all-push text [] entry = refl
+kept_by_all-push text (e ∷ entries) entry =
+    let later : (length (e ∷ entries) == 0) ≡ false = ne_eqb (length (e ∷ entries)) 0 (λ h. absurd (omega arith)) in
+    rw later (ap (λ s. kept_by text true e ∷ s) (kept_from-push text entries entry))
+
 -- where items end that stand in order
 abbrev pub end_from : ℕ → List Stored → ℕ
 end_from at [] = at
@@ -65,24 +78,22 @@ first_is [] n h = rw (← h) refl
 first_is (item ∷ items) n h = rw (← h) (sym (ne_eqb (length (item ∷ items)) 0 (λ e. absurd (omega arith))))
 
 -- Items have been read up to an offset of their text, and these entries keep them.
-pub record IsKeptUpTo (d : Dialect) (text : List ℕ) (left : Left) (entries : List Entry) (at line : ℕ) : Type 0 where
+pub record IsKeptUpTo (d : Dialect) (text : List ℕ) (left : Left) (entries : List Entry) (at : ℕ) : Type 0 where
   pub items : List ReadItem
   pub read : IsReadUpTo d text items left
   pub up : Ascend at (length text) left.chars
-  pub line_is : line ≡ line_at text at
   pub kept : kept_by_all text entries ≡ stored_items text items
   pub items_stop : items_end (mark_len text) items ≡ at
   pub stand : StandFrom text (mark_len text) (kept_by_all text entries)
   pub stop : end_from (mark_len text) (kept_by_all text entries) ≡ at
   pub within : AllWithin text entries
 
--- A byte order mark is in its text and ends no line.
+-- A byte order mark is in its text.
 pub record IsMarked (text : List ℕ) : Type 0 where
   pub within : mark_len text ≤ length text
-  pub no_line : line_at text (mark_len text) ≡ 1
 
 not_marked : (text : List ℕ) → mark_len text ≡ 0 → IsMarked text
-not_marked text e = record { within = rw e (omega arith); no_line = rw e refl }
+not_marked text e = record { within = rw e (omega arith) }
 
 pub marked : (text : List ℕ) → IsMarked text
 marked [] = not_marked [] refl
@@ -100,9 +111,9 @@ marked (a ∷ b ∷ c ∷ text) = elim (cases_Bool ((239 == a) && ((187 == b) &&
 ]
   where
     with_mark : (text : List ℕ) → IsMarked (239 ∷ 187 ∷ 191 ∷ text)
-    with_mark text = record { within = omega arith; no_line = refl }
+    with_mark text = record { within = omega arith }
 
-pub kept_begun : (d : Dialect) (text : List ℕ) → IsKeptUpTo d text (record { place = LineStart; chars = logical d text }) [] (mark_len text) 1
+pub kept_begun : (d : Dialect) (text : List ℕ) → IsKeptUpTo d text (record { place = LineStart; chars = logical d text }) [] (mark_len text)
 kept_begun d text =
     let mark : IsMarked text = marked text in
     let len : length (drop (mark_len text) text) ≡ length text - mark_len text = length-drop (mark_len text) text in
@@ -110,7 +121,6 @@ kept_begun d text =
       items = [];
       read = begun d text;
       up = chars_ascend d (mark_len text) (length text) (drop (mark_len text) text) (omega (arith, len, mark.within));
-      line_is = sym mark.no_line;
       kept = refl;
       items_stop = refl;
       stand = mark.within;
@@ -118,60 +128,59 @@ kept_begun d text =
       within = λ k d below. absurd (omega arith);
     }
 
-pub kept_step : (d : Dialect) (text : List ℕ) (old new : Left) (entries : List Entry) (entry : Entry) (at line at2 line2 : ℕ) (read : ReadItem)
-    → (before : IsKeptUpTo d text old entries at line)
+pub kept_step : (d : Dialect) (text : List ℕ) (old new : Left) (entries : List Entry) (entry : Entry) (at at2 : ℕ) (read : ReadItem)
+    → (before : IsKeptUpTo d text old entries at)
     → IsStep d old new read
     → IsSpanned at (length text) read new.chars
-    → kept_by text entry ≡ stored_of text (length entries == 0) at read
+    → kept_by text (length entries == 0) entry ≡ stored_of text (length entries == 0) at read
     → entry.start + entry.len ≤ length text
     → at2 ≡ end_of read
-    → line2 ≡ line_at text at2
-    → IsKeptUpTo d text new (entries ++ entry ∷ []) at2 line2
-kept_step d text old new entries entry at line at2 line2 read before step span told room at2_is line2_is =
+    → IsKeptUpTo d text new (entries ++ entry ∷ []) at2
+kept_step d text old new entries entry at at2 read before step span told room at2_is =
     let mark : ℕ = mark_len text in
     let tokens : List Stored = kept_by_all text entries in
-    let pushed : kept_by_all text (entries ++ entry ∷ []) ≡ tokens ++ kept_by text entry ∷ [] = map-append (kept_by text) entries (entry ∷ []) in
+    let made : Stored = kept_by text (length entries == 0) entry in
+    let pushed : kept_by_all text (entries ++ entry ∷ []) ≡ tokens ++ made ∷ [] = kept_by_all-push text entries entry in
     let count : length before.items ≡ length entries =
-    sym (length-stored_from text true mark before.items) ∙ (sym (ap length before.kept) ∙ length-map entries (kept_by text)) in
+    sym (length-stored_from text true mark before.items) ∙ (sym (ap length before.kept) ∙ length_kept text entries) in
     let first : first_of true before.items ≡ (length entries == 0) = first_is before.items (length entries) count in
     let more : stored_items text (before.items ++ read ∷ []) ≡ stored_items text before.items ++ stored_of text (first_of true before.items) (items_end mark before.items) read ∷ [] =
     stored_from-push text true mark before.items read in
-    let same : stored_of text (first_of true before.items) (items_end mark before.items) read ≡ kept_by text entry =
+    let same : stored_of text (first_of true before.items) (items_end mark before.items) read ≡ made =
     ap (λ b. stored_of text b (items_end mark before.items) read) first ∙ (ap (λ k. stored_of text (length entries == 0) k read) before.items_stop ∙ sym told) in
     let kept : kept_by_all text (entries ++ entry ∷ []) ≡ stored_items text (before.items ++ read ∷ []) =
-    pushed ∙ (ap (λ s. s ++ kept_by text entry ∷ []) before.kept ∙ (ap (λ x. stored_items text before.items ++ x ∷ []) (sym same) ∙ sym more)) in
+    pushed ∙ (ap (λ s. s ++ made ∷ []) before.kept ∙ (ap (λ x. stored_items text before.items ++ x ∷ []) (sym same) ∙ sym more)) in
     let wide : ℕ = end_of read - start_of read in
     let behind_start : length (drop (start_of read) text) ≡ length text - start_of read = length-drop (start_of read) text in
     let raw_len : length (raw_of text read) ≡ wide = length-take-le wide (drop (start_of read) text) (omega (arith, behind_start, span.some, span.within)) in
-    let starts : (kept_by text entry).start ≡ start_of read = ap (λ (t : Stored). t.start) told in
-    let raws : (kept_by text entry).raw ≡ raw_of text read = ap (λ (t : Stored). t.raw) told in
-    let raws_len : length (kept_by text entry).raw ≡ wide = ap length raws ∙ raw_len in
-    let raws_are : (kept_by text entry).raw ≡ take (length (kept_by text entry).raw) (drop (kept_by text entry).start text) =
-    raws ∙ (ap (λ k. take wide (drop k text)) (sym starts) ∙ ap (λ k. take k (drop (kept_by text entry).start text)) (sym raws_len)) in
-    let stands : Stands text at (kept_by text entry) = record {
+    let starts : made.start ≡ start_of read = ap (λ (t : Stored). t.start) told in
+    let raws : made.raw ≡ raw_of text read = ap (λ (t : Stored). t.raw) told in
+    let raws_len : length made.raw ≡ wide = ap length raws ∙ raw_len in
+    let raws_are : made.raw ≡ take (length made.raw) (drop made.start text) =
+    raws ∙ (ap (λ k. take wide (drop k text)) (sym starts) ∙ ap (λ k. take k (drop made.start text)) (sym raws_len)) in
+    let stands : Stands text at made = record {
       later = omega (arith, starts, span.later);
       within = omega (arith, starts, raws_len, span.some, span.within);
       bytes = raws_are;
       some = omega (arith, raws_len, span.some);
     } in
-    let stops : behind (kept_by text entry) ≡ at2 = omega (arith, starts, raws_len, span.some, at2_is) in
-    let stand : StandFrom text mark (tokens ++ kept_by text entry ∷ []) =
-    StandFrom-push text mark tokens (kept_by text entry) before.stand (subst (λ k. Stands text k (kept_by text entry)) (sym before.stop) stands) in
+    let stops : behind made ≡ at2 = omega (arith, starts, raws_len, span.some, at2_is) in
+    let stand : StandFrom text mark (tokens ++ made ∷ []) =
+    StandFrom-push text mark tokens made before.stand (subst (λ k. Stands text k made) (sym before.stop) stands) in
     record {
       items = before.items ++ read ∷ [];
       read = stepped d text before.items old new read before.read step;
       up = subst (λ k. Ascend k (length text) new.chars) (sym at2_is) span.up;
-      line_is = line2_is;
       kept = kept;
       items_stop = items_end-push mark before.items read ∙ sym at2_is;
       stand = subst (StandFrom text mark) (sym pushed) stand;
-      stop = ap (end_from mark) pushed ∙ (end_from-push mark tokens (kept_by text entry) ∙ stops);
+      stop = ap (end_from mark) pushed ∙ (end_from-push mark tokens made ∙ stops);
       within = All-append (λ (e : Entry). e.start + e.len ≤ length text) entries (entry ∷ []) before.within (λ k other below. let first : k ≡ 0 = omega arith in rw first room);
     }
 
-pub kept_ended : (d : Dialect) (text : List ℕ) (left : Left) (entries : List Entry) (at line : ℕ) → length text ≤ LIMIT → IsKeptUpTo d text left entries at line
+pub kept_ended : (d : Dialect) (text : List ℕ) (left : Left) (entries : List Entry) (at : ℕ) → length text ≤ LIMIT → IsKeptUpTo d text left entries at
     → is_gap (bytes_of left.chars) ≡ true → AreEntries text d entries
-kept_ended d text left entries at line fits all gap = record {
+kept_ended d text left entries at fits all gap = record {
   within = all.within;
   sound = record {
     stand = all.stand;

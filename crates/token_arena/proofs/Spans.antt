@@ -31,9 +31,16 @@ span_of at stop (c ∷ e ∷ s) h up =
       ends = rest.ends;
     }
 
--- An item with characters stands behind this offset and in the text, and what is left ascends from its end on.
+-- characters whose spans ascend have a byte or more each
+wide_ascend : (at stop : ℕ) (s : List LogicalChar) → Ascend at stop s → at + length s ≤ finish_from at s
+unfolding finish_from
+wide_ascend at stop [] up = omega arith
+wide_ascend at stop (c ∷ s) up = omega (arith, up.0, up.1, wide_ascend c.to stop s up.2)
+
+-- An item with characters stands behind this offset and the characters of its gap, and in the text, and what is left ascends from its end on.
 pub record IsSpanned (at stop : ℕ) (read : ReadItem) (rest : List LogicalChar) : Type 0 where
   pub later : at ≤ start_of read
+  pub wide : at + length read.gap ≤ start_of read
   pub some : start_of read < end_of read
   pub within : end_of read ≤ stop
   pub up : Ascend (end_of read) stop rest
@@ -48,8 +55,10 @@ spanned_step at stop left rest read up whole some =
     let parts : Ascend from (finish_from from read.chars) read.chars × Ascend (finish_from from read.chars) stop rest = ascend_cut from stop read.chars rest split.1 in
     let span : IsSpan from (finish_from from read.chars) read.chars = span_of from (finish_from from read.chars) read.chars some parts.0 in
     let up_from : Ascend (end_of read) stop rest = subst (λ k. Ascend k stop rest) span.ends parts.1 in
+    let wide : at + length read.gap ≤ from = wide_ascend at from read.gap split.0 in
     record {
       later = omega (arith, behind, span.later);
+      wide = omega (arith, wide, span.later);
       some = span.some;
       within = ascend_fits (end_of read) stop rest up_from;
       up = up_from;

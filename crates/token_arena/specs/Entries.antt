@@ -1,40 +1,55 @@
 -- How the items lie in memory.
-use Rattle.std.specs.Prelude.{◌==◌, ◌||◌, ◌≤◌, ◌+◌, not, ℕ, Bool, List, All, length, take, drop, map, count_by}
+use Rattle.std.specs.Prelude.{◌==◌, ◌||◌, ◌≤◌, ◌+◌, ◌-◌, not, ℕ, Bool, true, false, List, [], ◌∷◌, All, length, take, drop, count_by}
 use Rattle.token_arena.specs.Gaps.{Contents}
 use Rattle.token_arena.specs.Holds.{IsSound}
 use Rattle.c_chars.specs.declared.Dialect.{Dialect}
 use Rattle.c_lexer.specs.declared.item.Lexeme.{Lexeme}
 use Rattle.line_tokens.specs.declared.GapFacts.{GapFacts}
-use Rattle.token_arena.specs.Stored.{Stored, is_line_feed, rows_of, first_row, last_row, width_of}
+use Rattle.token_arena.specs.Stored.{Stored, is_line_feed, line_at, rows_of, first_row, last_row, width_of}
 use Rattle.token_arena.specs.declared.arena.Entry.{Entry}
 use Rattle.token_arena.specs.declared.arena.Token.{Token}
 
--- what an entry says of an item of this text: its rows are those of its bytes
-abbrev pub kept_by : List ℕ → Entry → Stored
-kept_by text entry = record {
+-- what an entry says of the gap of its item, which is the first of its text or not: without a character and a splice it is empty
+abbrev pub gap_kept : Bool → Entry → GapFacts
+gap_kept is_first entry = record {
+  lines = entry.lines;
+  empty = not (entry.white || entry.splice);
+  white = entry.white;
+  splice = entry.splice;
+  began = is_first || not (entry.lines == 0);
+}
+
+-- what an entry says of an item of this text, the first or another: its line is that of its first byte, and its rows are those of its bytes
+abbrev pub kept_by : List ℕ → Bool → Entry → Stored
+kept_by text is_first entry = record {
   kind = entry.kind;
   start = entry.start;
   raw = take entry.len (drop entry.start text);
-  gap = entry.gap;
-  line = entry.line;
+  gap = gap_kept is_first entry;
+  line = line_at text entry.start;
   rows = rows_of (take entry.len (drop entry.start text));
   first_width = width_of (first_row (take entry.len (drop entry.start text)));
   last_width = width_of (last_row (take entry.len (drop entry.start text)));
   back = entry.back;
 }
 
+-- what entries that follow one another say of their items, where the first of these is the first of its text or not
+abbrev pub kept_from : List ℕ → Bool → List Entry → List Stored
+kept_from text is_first [] = []
+kept_from text is_first (entry ∷ entries) = kept_by text is_first entry ∷ kept_from text false entries
+
 -- what the entries say of their items
 abbrev pub kept_by_all : List ℕ → List Entry → List Stored
-kept_by_all text entries = map (kept_by text) entries
+kept_by_all text entries = kept_from text true entries
 
--- what a token says of its item
+-- what a token says of its item: its line has the new-lines before it
 abbrev pub told_by : Token → Stored
 told_by token = record {
   kind = token.item.kind;
   start = token.item.start;
   raw = token.item.raw.now;
   gap = token.gap;
-  line = token.line;
+  line = 1 + count_by is_line_feed token.before.now;
   rows = rows_of token.item.raw.now;
   first_width = width_of (first_row token.item.raw.now);
   last_width = width_of (last_row token.item.raw.now);
@@ -54,23 +69,14 @@ pub record AreEntries (text : List ℕ) (dialect : Dialect) (entries : List Entr
   pub within : AllWithin text entries
   pub sound : IsSound (contents_of text dialect entries)
 
--- the gap of this item, which has so many bytes, and is the first of its text or not
-abbrev pub gap_told : Lexeme → Bool → ℕ → GapFacts
-gap_told lexeme is_first len = record {
-  lines = lexeme.lines;
-  empty = len == 0;
-  white = lexeme.white;
-  splice = not (lexeme.bytes == len);
-  began = is_first || not (lexeme.lines == 0);
-}
-
--- the entry of this item behind a gap of these bytes, which begins on this line
-abbrev pub entry_of : Lexeme → Bool → List ℕ → ℕ → Entry
-entry_of lexeme is_first gap line = record {
+-- the entry of this item behind a gap that begins at this offset: a spliced line end is in no character
+abbrev pub entry_of : Lexeme → ℕ → Entry
+entry_of lexeme gap = record {
   start = lexeme.item.start;
   len = length lexeme.item.raw.now;
-  gap = gap_told lexeme is_first (length gap);
-  line = line + count_by is_line_feed gap;
+  lines = lexeme.lines;
   kind = lexeme.item.kind;
+  white = lexeme.white;
+  splice = not (lexeme.bytes == lexeme.item.start - gap);
   back = lexeme.back;
 }

@@ -5,9 +5,9 @@ ghost use Rattle.c_chars.specs.Characters.{mark_len};
 ghost use Rattle.c_chars.specs.declared.TheConstants.{LIMIT};
 ghost use Rattle.token_arena.specs.Gaps.{gap_of, gap_start, gap_end, joined, StandFrom};
 ghost use Rattle.token_arena.specs.Holds.{HoldsItems};
-ghost use Rattle.token_arena.specs.Entries.{told_by, AreEntries, contents_of};
+ghost use Rattle.token_arena.specs.Entries.{told_by, AreEntries, contents_of, gap_kept};
 
-use crate::facts::{Rows, rows_of};
+use crate::facts::{Rows, line_feeds, rows_of};
 use c_lexer::{Dialect, Item, ItemKind};
 use line_tokens::{GapFacts, TokenId};
 use std::marker::Model;
@@ -22,14 +22,15 @@ pub struct Token<'s> {
     pub item: Item<'s>,
     /// The gap before it.
     pub gap: GapFacts,
-    /// The physical line on which it begins, from 1.
-    pub line: u32,
     /// Its last character is a backslash.
     pub back: bool,
+    /// The text before it.
+    pub before: &'s [u8],
 }
 
 impl Token<'_> {
     /// Its rows. They are read from its bytes at each call, so that nobody pays for them who doesn't ask.
+    #[inline(always)]
     pub fn rows(&self) -> Rows
         requires { length self.now.item.raw.now < 2 ^ 31 }
         ensures count { result.count ≡ (told_by self.now).rows }
@@ -38,20 +39,43 @@ impl Token<'_> {
     {
         rows_of(self.item.raw)
     }
+
+    /// The physical line on which it begins, from 1. The new-lines before it are counted at each call, as its rows are read.
+    pub fn line(&self) -> usize
+        ensures { result ≡ (told_by self.now).line }
+    {
+        line_feeds(self.before) + 1
+    }
 }
 
-/// An item as it lies in memory; its bytes are those of the text from `start` on.
+/// An item as it lies in memory; its bytes are those of the text from `start` on. It has `lines` new-lines before it,
+/// `white` space other than splices, and a `splice`; the other facts of its gap follow from these.
 #[derive(Clone, Copy)]
 pub(crate) struct Entry {
     pub start: u32,
     pub len: u32,
-    pub gap: GapFacts,
-    pub line: u32,
+    pub lines: u32,
     pub kind: ItemKind,
+    pub white: bool,
+    pub splice: bool,
     pub back: bool,
 }
 
-const _: () = prove!(size_of::<Entry>() <= 24);
+const _: () = prove!(size_of::<Entry>() <= 16);
+
+/// What the gap of an item is, where it is the first of its text or not.
+#[inline(always)]
+fn gap_kept(entry: &Entry, is_first: bool) -> GapFacts
+    ensures { result ≡ gap_kept is_first entry.now }
+{
+    GapFacts {
+        lines: entry.lines,
+        empty: !(entry.white | entry.splice),
+        white: entry.white,
+        splice: entry.splice,
+        began: is_first || entry.lines != 0,
+    }
+}
 
 /// So many bytes of a text, from an offset on.
 #[inline(always)]
@@ -96,6 +120,8 @@ impl<'a, 's> TokenArena<'a, 's> {
     }
 
     /// How many items there are.
+    #[inline(always)]
+    #[tactic(auto, using(crate::proofs::EntryLemmas::length_kept))]
     pub fn len(&self) -> u32
         ensures count { result ≡ length self.now.tokens }
         ensures most { result ≤ LIMIT }
@@ -108,6 +134,7 @@ impl<'a, 's> TokenArena<'a, 's> {
     }
 
     /// There is no item: the text has at most a mark and white space.
+    #[tactic(auto, using(crate::proofs::EntryLemmas::length_kept))]
     pub fn is_empty(&self) -> bool
         ensures { result ≡ (length self.now.tokens == 0) }
     {
@@ -115,6 +142,8 @@ impl<'a, 's> TokenArena<'a, 's> {
     }
 
     /// The item with this number.
+    #[inline(always)]
+    #[tactic(auto, using(crate::proofs::EntryLemmas::length_kept))]
     pub fn get(&self, id: TokenId) -> Token<'s>
         requires { id.0 < length self.now.tokens }
         ensures { slice_get self.now.tokens id.0 ≡ Some (told_by result) }
@@ -127,13 +156,14 @@ impl<'a, 's> TokenArena<'a, 's> {
                 raw,
                 start: entry.start,
             },
-            gap: entry.gap,
-            line: entry.line,
+            gap: gap_kept(&entry, id.0 == 0),
             back: entry.back,
+            before: bytes_of(self.text, 0, entry.start),
         }
     }
 
     /// The bytes before the item with this number, or after the last item. The mark is in no gap.
+    #[inline(always)]
     pub fn gap(&self, place: u32) -> &'s [u8]
         requires { place ≤ length self.now.tokens }
         ensures { result.now ≡ gap_of self.now place }
@@ -165,6 +195,7 @@ impl<'a, 's> TokenArena<'a, 's> {
     }
 
     // Where the gap at a place begins.
+    #[tactic(auto, using(crate::proofs::EntryLemmas::length_kept))]
     fn gap_start(&self, place: u32) -> usize
         requires { place ≤ length self.now.tokens }
         ensures { result ≡ gap_start (mark_len self.now.text) self.now.tokens place }
@@ -177,6 +208,7 @@ impl<'a, 's> TokenArena<'a, 's> {
     }
 
     // Where the gap at a place ends.
+    #[tactic(auto, using(crate::proofs::EntryLemmas::length_kept))]
     fn gap_end(&self, place: u32) -> usize
         requires { place ≤ length self.now.tokens }
         ensures { result ≡ gap_end (length self.now.text) self.now.tokens place }

@@ -1,37 +1,22 @@
 //! What is kept of an item, from its bytes and those of the gap before it.
 
-ghost use Rattle.std.specs.Prelude.{◌≡◌, ◌<◌, ◌+◌, ◌-◌, ◌^◌, not, length, count_by};
+ghost use Rattle.std.specs.Prelude.{◌≡◌, ◌<◌, ◌≤◌, ◌-◌, ◌^◌, not, length, count_by};
 ghost use Rattle.std.specs.Int.{is_in_range};
 ghost use Rattle.std.specs.List.{list_all, position_or_len, suffix_len};
 ghost use Rattle.std.specs.Io.BufRead.{strip_last};
 ghost use Rattle.token_arena.specs.Stored.{is_line_feed, rows_of, first_row, last_row, width_of};
-ghost use Rattle.token_arena.specs.Entries.{gap_told, entry_of};
+ghost use Rattle.token_arena.specs.Entries.{entry_of};
 
 use crate::arena::Entry;
 use c_lexer::Lexeme;
-use line_tokens::GapFacts;
 use std::str::from_utf8;
 use unicode_width::UnicodeWidthStr;
 
 /// How many new-lines there are among these bytes.
-pub(crate) fn line_feeds(bytes: &[u8]) -> u32
-    requires { length bytes.now < 2 ^ 32 }
+pub(crate) fn line_feeds(bytes: &[u8]) -> usize
     ensures { result ≡ count_by is_line_feed bytes.now }
 {
-    bytes.iter().filter(|b| **b == b'\n').count() as u32
-}
-
-/// What the gap of an item is, where it has so many bytes. Spliced line ends are bytes of no character.
-fn gap_facts(lexeme: &Lexeme<'_>, is_first: bool, len: u32) -> GapFacts
-    ensures { result ≡ gap_told lexeme.now is_first len }
-{
-    GapFacts {
-        lines: lexeme.lines,
-        empty: len == 0,
-        white: lexeme.white,
-        splice: lexeme.bytes != len,
-        began: is_first || lexeme.lines != 0,
-    }
+    bytes.iter().filter(|b| **b == b'\n').count()
 }
 
 /// A row without the carriage return at its end.
@@ -129,7 +114,27 @@ fn one_row(width: u32) -> Rows
     }
 }
 
+/// The rows of an item of any bytes.
+#[inline(never)]
+fn rows_of_any(raw: &[u8]) -> Rows
+    requires { length raw.now < 2 ^ 31 }
+    ensures count { result.count ≡ rows_of raw.now }
+    ensures first { result.first_width ≡ width_of (first_row raw.now) }
+    ensures last { result.last_width ≡ width_of (last_row raw.now) }
+{
+    let feeds = line_feeds(raw);
+    if feeds == 0 {
+        return one_row(width(raw));
+    }
+    Rows {
+        count: feeds as u32 + 1,
+        first_width: width(first_row(raw)),
+        last_width: width(last_row(raw)),
+    }
+}
+
 /// The rows of an item. Most items are one row of printable ASCII, which one pass shows.
+#[inline(always)]
 pub(crate) fn rows_of(raw: &[u8]) -> Rows
     requires { length raw.now < 2 ^ 31 }
     ensures count { result.count ≡ rows_of raw.now }
@@ -139,30 +144,24 @@ pub(crate) fn rows_of(raw: &[u8]) -> Rows
     if is_printable(raw) {
         return one_row(raw.len() as u32);
     }
-    let feeds = line_feeds(raw);
-    if feeds == 0 {
-        return one_row(width(raw));
-    }
-    Rows {
-        count: feeds + 1,
-        first_width: width(first_row(raw)),
-        last_width: width(last_row(raw)),
-    }
+    rows_of_any(raw)
 }
 
-/// The entry of an item behind a gap of these bytes, which begins on this line.
-pub(crate) fn entry_of(lexeme: &Lexeme<'_>, is_first: bool, gap: &[u8], line: u32) -> Entry
+/// The entry of an item behind a gap that begins at this offset. Spliced line ends are bytes of no character.
+#[inline(always)]
+pub(crate) fn entry_of(lexeme: &Lexeme<'_>, gap: u32) -> Entry
     requires fits { length lexeme.now.item.raw.now < 2 ^ 31 }
-    requires room { line + length gap.now < 2 ^ 32 }
-    ensures { result ≡ entry_of lexeme.now is_first gap.now line }
+    requires order { gap ≤ lexeme.now.item.start }
+    ensures { result ≡ entry_of lexeme.now gap }
 {
     let item = &lexeme.item;
     Entry {
         start: item.start,
         len: item.raw.len() as u32,
-        gap: gap_facts(lexeme, is_first, gap.len() as u32),
-        line: line + line_feeds(gap),
+        lines: lexeme.lines,
         kind: item.kind,
+        white: lexeme.white,
+        splice: lexeme.bytes != item.start - gap,
         back: lexeme.back,
     }
 }

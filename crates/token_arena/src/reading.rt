@@ -7,18 +7,18 @@ ghost use Rattle.token_arena.specs.Building.{IsArenaOf, IsCause};
 ghost use Rattle.token_arena.specs.Entries.{AreEntries};
 
 use crate::arena::{Entry, MARK, TokenArena};
-use crate::facts::{entry_of, line_feeds};
+use crate::facts::entry_of;
 use crate::fault::ArenaFault;
 use bumpalo::Bump;
 use bumpalo::collections::into_bump_slice;
 use c_lexer::{Dialect, LIMIT, LexFault, Lexer};
 
 /// How many bytes a byte order mark takes that the text begins with.
-fn mark_len(text: &[u8]) -> usize
+fn mark_len(text: &[u8]) -> u32
     ensures { result ≡ mark_len text.now }
 {
     if text.starts_with(&MARK) {
-        MARK.len()
+        MARK.len() as u32
     } else {
         0
     }
@@ -34,15 +34,12 @@ fn entries_of<'a>(bump: &'a Bump, text: &[u8], dialect: Dialect) -> Result<&'a [
     let mut entries = Vec::with_capacity(bump, text.len() / 2)?;
     let mut lexer = Lexer::new(text, dialect);
     let mut at = mark_len(text);
-    let mut line = 1;
     loop {
         match lexer.next_lexeme() {
             Ok(Some(lexeme)) => {
-                let start = lexeme.item.start as usize;
-                let entry = entry_of(&lexeme, entries.is_empty(), &text[at..start], line);
+                let entry = entry_of(&lexeme, at);
                 entries.push(entry)?;
-                line = entry.line + line_feeds(lexeme.item.raw);
-                at = start + lexeme.item.raw.len();
+                at = entry.start + entry.len;
             }
             Ok(None) => return Ok(into_bump_slice(entries)),
             Err(LexFault::UnterminatedComment { start }) => {
@@ -116,7 +113,7 @@ mod tests {
     }
 
     /// Each item of a text in C11: kind, bytes, offset, gap, line, rows, and the widths of the first and of the last row.
-    type Row<'s> = (ItemKind, &'s [u8], u32, GapFacts, u32, u32, u32, u32);
+    type Row<'s> = (ItemKind, &'s [u8], u32, GapFacts, usize, u32, u32, u32);
 
     fn compare(rt: &impl Abort, arena: &TokenArena<'_, '_>, id: u32, row: Row<'_>) {
         let (kind, raw, start, gap, line, rows, first_width, last_width) = row;
@@ -126,7 +123,7 @@ mod tests {
         assert_eq!(rt; token.item.raw, raw, "of item {id}");
         assert_eq!(rt; token.item.start, start, "of item {id}");
         assert_eq!(rt; token.gap, gap, "before item {id}");
-        assert_eq!(rt; token.line, line, "of item {id}");
+        assert_eq!(rt; token.line(), line, "of item {id}");
         assert!(rt; token.item.raw.len() < 100);
         let measured = token.rows();
         assert_eq!(rt; measured.count, rows, "of item {id}");
@@ -259,7 +256,7 @@ mod tests {
         let commas = repeated(rt.alloc(), b',', 100_000)?;
         let arena = build(&bump, commas.as_slice(), Dialect::C11)?;
         assert_eq!(rt; arena.len(), 100_000);
-        assert!(rt; bump.allocated_bytes() < 100_000 * 48);
+        assert!(rt; bump.allocated_bytes() < 100_000 * 32);
         Ok(())
     }
 }

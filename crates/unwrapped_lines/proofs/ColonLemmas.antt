@@ -280,3 +280,39 @@ other_at tokens colons place j h lt q c e =
     ∙ at_other k tokens n place 0 lt q c
     ∙ enough k (n - s) tokens n s 0 (omega arith) (omega arith) most
     ∙ sym (h.colon s (omega arith) most))
+
+-- ## One step of a scan
+
+pub scan_question : (tokens : List CodeToken) (end i asked : ℕ) → i < end → is_question (class_at tokens i) ≡ true
+    → case_colon (end - (i + 1)) tokens end (i + 1) (asked + 1) ≡ case_colon (end - i) tokens end i asked
+scan_question tokens end i asked lt q =
+    let more : end - i ≡ suc (end - (i + 1)) = omega arith in
+    sym (ap (λ m. case_colon m tokens end i asked) more ∙ at_question (end - (i + 1)) tokens end i asked lt q)
+
+pub scan_answer : (tokens : List CodeToken) (end i asked : ℕ) → i < end → is_question (class_at tokens i) ≡ false → is_colon (class_at tokens i) ≡ true → 0 < asked
+    → case_colon (end - (i + 1)) tokens end (i + 1) (asked - 1) ≡ case_colon (end - i) tokens end i asked
+scan_answer tokens end i asked lt q c some =
+    let more : end - i ≡ suc (end - (i + 1)) = omega arith in
+    sym (ap (λ m. case_colon m tokens end i asked) more ∙ at_answer (end - (i + 1)) tokens end i asked lt q c some)
+
+pub scan_here : (tokens : List CodeToken) (end i : ℕ) → i < end → is_question (class_at tokens i) ≡ false → is_colon (class_at tokens i) ≡ true
+    → i ≡ case_colon (end - i) tokens end i 0
+scan_here tokens end i lt q c =
+    let more : end - i ≡ suc (end - (i + 1)) = omega arith in
+    sym (ap (λ m. case_colon m tokens end i 0) more ∙ at_colon (end - (i + 1)) tokens end i lt q c)
+
+pub scan_other : (tokens : List CodeToken) (end i j asked : ℕ) → i < end → is_question (class_at tokens i) ≡ false → is_colon (class_at tokens i) ≡ false → j ≡ step_over tokens end i
+    → case_colon (end - j) tokens end j asked ≡ case_colon (end - i) tokens end i asked
+scan_other tokens end i j asked lt q c e =
+    let more : end - i ≡ suc (end - (i + 1)) = omega arith in
+    let s = step_over tokens end i in
+    let up = step_up tokens end i lt in
+    let least : i < s = up.least in
+    let most : s ≤ end = up.most in
+    ap (λ x. case_colon (end - x) tokens end x asked) e
+    ∙ sym (ap (λ m. case_colon m tokens end i asked) more
+    ∙ at_other (end - (i + 1)) tokens end i asked lt q c
+    ∙ enough (end - (i + 1)) (end - s) tokens end s asked (omega arith) (omega arith) most)
+
+pub scan_end : (tokens : List CodeToken) (end i asked : ℕ) → end ≤ i → end ≡ case_colon (end - i) tokens end i asked
+scan_end tokens end i asked h = sym (colon_at_end (end - i) tokens end i asked h)

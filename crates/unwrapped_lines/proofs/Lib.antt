@@ -8,3 +8,6 @@ pub mod EndLemmas
 pub mod CutLemmas
 pub mod Started
 pub mod ColonLemmas
+pub mod PlainLemmas
+pub mod NumberLemmas
+pub mod SegmentLemmas

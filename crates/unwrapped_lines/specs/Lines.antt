@@ -3,6 +3,7 @@ use Rattle.std.specs.Prelude.{◌≡◌, ◌≤◌, ℕ, ◌+◌, ◌-◌, Optio
 use Rattle.style_table.specs.declared.style.Style.{Style}
 use Rattle.token_arena.specs.Gaps.{Contents}
 use Rattle.brackets.specs.Viewed.{classes_of}
+use Rattle.unwrapped_lines.specs.declared.line.Line.{Line}
 use Rattle.unwrapped_lines.specs.declared.line.ULine.{ULine}
 use Rattle.unwrapped_lines.specs.declared.part.Begin.{Begin}
 use Rattle.unwrapped_lines.specs.Wrapping.{braces_of}
@@ -30,6 +31,10 @@ tree_of style arena ids partners =
 abbrev pub unwrapped_lines_of : Style → Contents → List ℕ → List (Option ℕ) → List ULine
 unwrapped_lines_of style arena ids partners =
     lines_between (length ids) (begins_from (tree_of style arena ids partners) (parts_of arena ids (classes_of arena ids)) 0 no_marks)
+
+-- the line of a view without comments whose tokens this line has
+abbrev pub view_line : Line → ULine
+view_line l = record { first = l.first; last = l.end - 1; level = l.level; kind = l.kind }
 
 -- the lines cut the places from one to before another whole and in order
 abbrev pub CutPlaces : ℕ → ℕ → List ULine → Type 0

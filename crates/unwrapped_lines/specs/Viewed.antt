@@ -1,5 +1,7 @@
 -- A view as a list of tokens and comments.
-use Rattle.std.specs.Prelude.{◌&&◌, ◌||◌, not, ℕ, ◌+◌, nat_le, Bool, false, Option, Some, None, List, [], ◌∷◌, length, map, get_or, slice_get, if◌then◌else◌}
+use Rattle.std.specs.Prelude.{◌≡◌, ◌<◌, ◌≤◌, ◌*◌, take, ◌-◌, ◌⊎◌, ◌++◌, drop, ◌&&◌, ◌||◌, not, ℕ, ◌+◌, nat_le, Bool, false, Option, Some, None, List, [], ◌∷◌, length, map, get_or, slice_get, if◌then◌else◌}
+use Rattle.std.specs.List.{range_with_len}
+use Rattle.token_views.specs.declared.view.Segment.{Segment}
 use Rattle.token_arena.specs.Gaps.{Contents}
 use Rattle.token_arena.specs.Stored.{Stored}
 use Rattle.brackets.specs.declared.class.TokenClass.{TokenClass}
@@ -42,6 +44,20 @@ numbers_from n (c ∷ cs) = n ∷ numbers_from (if is_comment c then n else n + 
 abbrev pub numbers_of : List TokenClass → List ℕ
 numbers_of classes = numbers_from 0 classes
 
+-- the number behind some places, where the first has this one
+abbrev pub number_behind : ℕ → List TokenClass → ℕ
+number_behind n [] = n
+number_behind n (c ∷ cs) = number_behind (if is_comment c then n else n + 1) cs
+
+-- the numbers of the places 0, 16, 32 and so on
+pub record AreBlocks (numbers : List ℕ) (classes : List TokenClass) : Type 0 where
+  pub at : (j : ℕ) → j < length numbers → get_or numbers j 0 ≡ number_behind 0 (take (j * 16) classes)
+  pub reach : length classes ≤ length numbers * 16
+
+-- These are the numbers of every sixteenth place; or there are none, and each place is its own number.
+abbrev pub AreNumbers : List ℕ → List TokenClass → Type 0
+AreNumbers numbers classes = AreBlocks numbers classes ⊎ ((numbers ≡ []) × (numbers_of classes ≡ range_with_len 0 (length classes)))
+
 -- a partner, counted over them
 abbrev pub partner_number : List ℕ → Option (Option ℕ) → Option ℕ
 partner_number numbers None = None
@@ -67,6 +83,15 @@ code_places_from k (c ∷ cs) = if is_comment c then code_places_from (k + 1) cs
 -- the tokens of a view that are no comments, with their partners
 abbrev pub code_tokens : Contents → List ℕ → List TokenClass → List (Option ℕ) → List CodeToken
 code_tokens arena ids classes partners = map (token_at arena ids classes partners) (code_places_from 0 classes)
+
+-- these are the tokens of a view that stand before a place
+pub record AreTokensBefore (arena : Contents) (ids : List ℕ) (classes : List TokenClass) (partners : List (Option ℕ)) (k : ℕ) (tokens : List CodeToken) : Type 0 where
+  pub same : tokens ++ map (token_at arena ids classes partners) (code_places_from k (drop k classes)) ≡ code_tokens arena ids classes partners
+  pub few : length tokens ≤ k
+
+-- the first place behind a segment
+abbrev pub segment_stop : Segment → ℕ
+segment_stop segment = segment.before + (segment.end - segment.first)
 
 -- ## Comments
 

@@ -1,18 +1,20 @@
-//! The colons of case labels, found for all places in one pass from the right.
+//! The colons of case labels.
 //!
-//! A `case` without a colon looks to the end of its list. So that many of them take no longer than one,
-//! each place has its answer before the lines are read. Tokens without a `case` need no answers.
+//! A `case` without a colon looks to the end of its list. So that many of them take no longer than one, each place
+//! has its answer before the lines are read, found for all in one pass from the right. Where the colon of each
+//! `case` stands near it, as in nearly every text, no answers are kept.
 
-ghost use Rattle.std.specs.Prelude.{◌≡◌, ◌<◌, ◌≤◌, ◌+◌, ◌-◌, ◌^◌, length, IfOk, ℕ, false};
-ghost use Rattle.unwrapped_lines.specs.Forms.{case_colon, class_at};
+ghost use Rattle.std.specs.Prelude.{◌≡◌, ◌<◌, ◌≤◌, ◌+◌, ◌-◌, ◌^◌, length, IfOk};
+ghost use Rattle.unwrapped_lines.specs.Forms.{case_colon};
 ghost use Rattle.unwrapped_lines.specs.Colons.{AreColonsFrom, AreCaseColons};
-ghost use Rattle.brackets.specs.Classes.{is_case};
-ghost use Rattle.std.specs.Bool.{OnFalse};
 
 use crate::lookups::{class_at, step_over};
 use crate::token::CodeToken;
 use bumpalo::Bump;
 use line_tokens::NoMemory;
+
+/// So many tokens are looked at for the colon of a `case` before the colons of all places are kept.
+const NEAR: usize = 16;
 
 /// The first colon at a place or behind it that answers no question mark, by those of the places behind it.
 fn colon_from(tokens: &[CodeToken], colons: &[u32], place: usize) -> usize
@@ -36,13 +38,49 @@ fn colon_from(tokens: &[CodeToken], colons: &[u32], place: usize) -> usize
     }
 }
 
-/// Whether a `case` stands among the tokens.
-fn has_case(tokens: &[CodeToken]) -> bool
-    ensures { OnFalse result ((k : ℕ) → is_case (class_at tokens.now k) ≡ false) }
+/// The colon of the `case` at a place, or the end of its list where it has none, looked for from there on.
+fn scan_colon(tokens: &[CodeToken], end: usize, at: usize) -> usize
+    requires here { at < end }
+    requires list { end ≤ length tokens.now }
+    ensures same { result ≡ case_colon (end - (at + 1)) tokens.now end (at + 1) 0 }
+    ensures least { at < result }
+    ensures most { result ≤ end }
 {
+    let mut i = at + 1;
+    let mut asked: usize = 0;
+    while i < end {
+        let class = class_at(tokens, i);
+        if class.is_question() {
+            asked += 1;
+            i += 1;
+        } else if !class.is_colon() {
+            i = step_over(tokens, end, i);
+        } else if asked == 0 {
+            return i;
+        } else {
+            asked -= 1;
+            i += 1;
+        }
+    }
+    end
+}
+
+/// Whether the colon of the `case` at a place stands among the next few tokens, or no more of them follow.
+fn is_near(tokens: &[CodeToken], at: usize) -> bool
+    requires { at < length tokens.now }
+{
+    if tokens.len() - at <= NEAR {
+        return true;
+    }
+    let end = at + NEAR;
+    scan_colon(tokens, end, at) < end
+}
+
+/// Whether the colon of some `case` isn't near it.
+fn has_far_case(tokens: &[CodeToken]) -> bool {
     let mut i = 0;
     while i < tokens.len() {
-        if class_at(tokens, i).is_case() {
+        if class_at(tokens, i).is_case() && !is_near(tokens, i) {
             return true;
         }
         i += 1;
@@ -66,7 +104,7 @@ fn all_colons<'r>(tokens: &[CodeToken], run: &'r Bump) -> Result<Vec<u32, &'r Bu
     Ok(colons)
 }
 
-/// The colon of each place, or nothing where no `case` asks for one.
+/// The colon of each place, or nothing where each `case` has its colon near it: then that is found sooner than kept.
 pub(crate) fn colons<'r>(
     tokens: &[CodeToken],
     run: &'r Bump,
@@ -74,7 +112,7 @@ pub(crate) fn colons<'r>(
     requires few { length tokens.now < 2 ^ 30 }
     ensures { IfOk result (λ colons. AreCaseColons colons.items tokens.now) }
 {
-    if has_case(tokens) {
+    if has_far_case(tokens) {
         all_colons(tokens, run)
     } else {
         Ok(Vec::new(run))
@@ -85,11 +123,14 @@ pub(crate) fn colons<'r>(
 pub(crate) fn label_colon(tokens: &[CodeToken], colons: &[u32], end: usize, at: usize) -> usize
     requires here { at < end }
     requires list { end ≤ length tokens.now }
-    requires colons { AreColonsFrom 0 colons.now tokens.now }
+    requires colons { AreCaseColons colons.now tokens.now }
     ensures same { result ≡ case_colon (end - (at + 1)) tokens.now end (at + 1) 0 }
     ensures least { at < result }
     ensures most { result ≤ end }
 {
+    if colons.is_empty() {
+        return scan_colon(tokens, end, at);
+    }
     let colon = colons[at + 1] as usize;
     if colon < end { colon } else { end }
 }

@@ -9,6 +9,7 @@ use bumpalo::Bump;
 use line_tokens::NoMemory;
 
 /// Whether a token comes after the inner comments at a place.
+#[inline(never)]
 fn token_follows(parts: &[Part], from: usize) -> bool
     requires { from ≤ length parts.now }
     ensures { result ≡ token_follows (drop from parts.now) }
@@ -26,6 +27,7 @@ fn token_follows(parts: &[Part], from: usize) -> bool
 }
 
 /// Whether no line goes on at a place.
+#[inline(always)]
 fn is_between(lines: &[Line], total: usize, end_level: u32, m: Marks) -> bool
     ensures { result ≡ is_between (record { lines = lines.now; total = total; end_level = end_level }) m }
 {
@@ -35,6 +37,7 @@ fn is_between(lines: &[Line], total: usize, end_level: u32, m: Marks) -> bool
     }
 }
 
+#[inline(always)]
 fn begins_line(parts: &[Part], k: usize, p: Part, m: Marks) -> bool
     requires { k < length parts.now }
     ensures { result ≡ begins_line p (drop (k + 1) parts.now) m }
@@ -47,6 +50,7 @@ fn begins_line(parts: &[Part], k: usize, p: Part, m: Marks) -> bool
 }
 
 /// The line that begins at a place.
+#[inline(always)]
 fn new_begin(
     lines: &[Line],
     total: usize,
@@ -88,6 +92,7 @@ fn new_begin(
     }
 }
 
+#[inline(always)]
 fn inner_run(between: bool, parts: &[Part], k: usize, run: Run) -> Run
     requires { k < length parts.now }
     ensures { result ≡ inner_run between (drop (k + 1) parts.now) run }
@@ -103,6 +108,7 @@ fn inner_run(between: bool, parts: &[Part], k: usize, run: Run) -> Run
     }
 }
 
+#[inline(always)]
 fn next_marks(
     lines: &[Line],
     total: usize,
@@ -163,10 +169,20 @@ pub fn begins<'r>(
     };
     let mut k = 0;
     while k < parts.len() {
-        if let Some(b) = new_begin(lines, total, end_level, parts, k, parts[k], m) {
-            out.push(b)?;
+        let part = parts[k];
+        if part == Part::Token && !is_between(lines, total, end_level, m) {
+            // Most places: a token inside a line.
+            m = Marks {
+                seen: m.seen + 1,
+                begun: m.begun,
+                run: Run::Apart,
+            };
+        } else {
+            if let Some(b) = new_begin(lines, total, end_level, parts, k, part, m) {
+                out.push(b)?;
+            }
+            m = next_marks(lines, total, end_level, parts, k, part, m);
         }
-        m = next_marks(lines, total, end_level, parts, k, parts[k], m);
         k += 1;
     }
     Ok(out)

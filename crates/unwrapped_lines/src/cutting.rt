@@ -1,19 +1,19 @@
 //! The unwrapped lines of a view.
 
-ghost use Rattle.std.specs.Prelude.{◌≡◌, ◌<◌, ◌≤◌, ◌^◌, length, IfOk};
+ghost use Rattle.std.specs.Prelude.{◌≡◌, ◌<◌, ◌≤◌, ◌^◌, length, map, IfOk};
 ghost use Rattle.brackets.specs.Viewed.{AreWithin, classes_of};
-ghost use Rattle.unwrapped_lines.specs.Lines.{lines_between, line_up_to, tree_of, unwrapped_lines_of, CutPlaces};
+ghost use Rattle.unwrapped_lines.specs.Lines.{lines_between, line_up_to, tree_of, unwrapped_lines_of, view_line, CutPlaces};
 ghost use Rattle.unwrapped_lines.specs.Stack.{IsCut};
 
 use crate::braces::braces_of;
 use crate::colons::colons;
 use crate::comments::begins;
 use crate::ending::end_level;
-use crate::line::ULine;
+use crate::line::{Line, ULine};
 use crate::part::Begin;
 use crate::tree::tree_lines;
 use crate::viewed::{code_tokens, parts};
-use brackets::{TokenClass, classes};
+use brackets::{Partner, TokenClass, classes};
 use bumpalo::Bump;
 use bumpalo::collections::into_bump_slice;
 use line_tokens::NoMemory;
@@ -45,13 +45,29 @@ fn lines_between<'r>(
     Ok(lines)
 }
 
+/// The lines of a view without comments: the number of a token is its place.
+fn token_lines<'r>(lines: &[Line], run: &'r Bump) -> Result<Vec<ULine, &'r Bump>, NoMemory>
+    ensures { IfOk result (λ view. view.items ≡ map view_line lines.now) }
+{
+    let mut view_lines = Vec::with_capacity(run, lines.len())?;
+    for line in lines {
+        view_lines.push(ULine {
+            first: line.first,
+            last: line.end.saturating_sub(1),
+            level: line.level,
+            kind: line.kind,
+        })?;
+    }
+    Ok(view_lines)
+}
+
 /// The lines, and that those of the tokens that are no comments cut these.
 fn read_lines<'r>(
     style: &Style,
     arena: &TokenArena<'_, '_>,
     view: &View<'_>,
     classes: &[TokenClass],
-    partners: &[Option<u32>],
+    partners: &[Partner],
     run: &'r Bump,
 ) -> Result<Vec<ULine, &'r Bump>, NoMemory>
     requires within { AreWithin arena.now view.now }
@@ -64,9 +80,12 @@ fn read_lines<'r>(
     prove!(count <= items);
     let braces = braces_of(style);
     let tokens = code_tokens(arena, view, classes, partners, run)?;
-    let parts = parts(arena, view, classes, run)?;
     let colons = colons(&tokens, run)?;
     let tree = tree_lines(&braces, &tokens, &colons, run)?;
+    if tokens.len() == count as usize {
+        return token_lines(&tree, run);
+    }
+    let parts = parts(arena, view, classes, run)?;
     let level = end_level(&braces, &tokens, &colons, run)?;
     let begins = begins(&tree, tokens.len(), level, &parts, run)?;
     lines_between(count, &begins, run)
@@ -81,7 +100,7 @@ pub fn lines_of_classes<'r>(
     arena: &TokenArena<'_, '_>,
     view: &View<'_>,
     classes: &[TokenClass],
-    partners: &[Option<u32>],
+    partners: &[Partner],
     run: &'r Bump,
 ) -> Result<&'r [ULine], NoMemory>
     requires within { AreWithin arena.now view.now }
@@ -98,7 +117,7 @@ pub fn lines<'r>(
     style: &Style,
     arena: &TokenArena<'_, '_>,
     view: &View<'_>,
-    partners: &[Option<u32>],
+    partners: &[Partner],
     run: &'r Bump,
 ) -> Result<&'r [ULine], NoMemory>
     requires { AreWithin arena.now view.now }

@@ -397,8 +397,8 @@ fn other_form(
 {
     let from = behind_close(closes, at);
     let stop = scans::statement_stop(tokens, o.end, from, assigned);
-    let tag = scans::tag_before(tokens, from, stop.at);
     if stop.opens {
+        let tag = scans::tag_before(tokens, from, stop.at);
         Form {
             kind: kind_or_close(closes, tagged_kind(tag)),
             level,
@@ -618,15 +618,14 @@ pub fn form_of(
     ensures level { result.level ≤ 2 * at }
 {
     match start {
-        Start::Fresh => statement(braces, tokens, colons, o, at),
+        Start::Fresh => {}
         Start::Tail => {
             let t = tail_end(tokens, o.end, at);
             if at < t {
-                line_alone(LineKind::Control, o.level, t)
-            } else {
-                statement(braces, tokens, colons, o, at)
+                return line_alone(LineKind::Control, o.level, t);
             }
         }
-        Start::Closing(b) => close_form(braces, tokens, o, b, at),
+        Start::Closing(b) => return close_form(braces, tokens, o, b, at),
     }
+    statement(braces, tokens, colons, o, at)
 }

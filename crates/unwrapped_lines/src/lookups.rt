@@ -6,6 +6,7 @@ ghost use Rattle.unwrapped_lines.specs.Forms.{class_at, seen, partner_in, after_
 use crate::token::CodeToken;
 use brackets::TokenClass;
 
+#[inline(always)]
 pub fn class_at(tokens: &[CodeToken], i: usize) -> TokenClass
     ensures { result ≡ class_at tokens.now i }
 {
@@ -15,6 +16,7 @@ pub fn class_at(tokens: &[CodeToken], i: usize) -> TokenClass
     }
 }
 
+#[inline(always)]
 pub fn began_at(tokens: &[CodeToken], i: usize) -> bool
     ensures { result ≡ began_at tokens.now i }
 {
@@ -24,6 +26,7 @@ pub fn began_at(tokens: &[CodeToken], i: usize) -> bool
     }
 }
 
+#[inline(always)]
 pub fn touched_at(tokens: &[CodeToken], i: usize) -> bool
     ensures { result ≡ touched_at tokens.now i }
 {
@@ -33,15 +36,17 @@ pub fn touched_at(tokens: &[CodeToken], i: usize) -> bool
     }
 }
 
+#[inline(always)]
 pub fn has_no_partner(tokens: &[CodeToken], i: usize) -> bool
     ensures { result ≡ has_no_partner tokens.now i }
 {
     match tokens.get(i) {
-        Some(t) => t.partner.is_none(),
+        Some(t) => t.partner.place().is_none(),
         None => true,
     }
 }
 
+#[inline(always)]
 pub fn seen(tokens: &[CodeToken], end: usize, i: usize) -> TokenClass
     ensures { result ≡ seen tokens.now end i }
 {
@@ -53,12 +58,13 @@ pub fn seen(tokens: &[CodeToken], end: usize, i: usize) -> TokenClass
 }
 
 /// The partner of the opener at a place, in the list that ends at `end`.
+#[inline(always)]
 pub fn partner_in(tokens: &[CodeToken], end: usize, i: usize) -> Option<usize>
     ensures same { result ≡ partner_in tokens.now end i }
     ensures inside { IfSome result (λ p. (i < p) × (p < end)) }
 {
     match tokens.get(i) {
-        Some(t) => match t.partner {
+        Some(t) => match t.partner.place() {
             Some(place) => {
                 let p = place as usize;
                 if i < p && p < end { Some(p) } else { None }
@@ -69,6 +75,7 @@ pub fn partner_in(tokens: &[CodeToken], end: usize, i: usize) -> Option<usize>
     }
 }
 
+#[inline(always)]
 pub fn after_group(tokens: &[CodeToken], end: usize, i: usize) -> usize
     ensures same { result ≡ after_group tokens.now end i }
     ensures least { i ≤ result }
@@ -84,6 +91,7 @@ pub fn after_group(tokens: &[CodeToken], end: usize, i: usize) -> usize
     }
 }
 
+#[inline(always)]
 pub fn step_over(tokens: &[CodeToken], end: usize, i: usize) -> usize
     requires here { i < end }
     requires list { end ≤ length tokens.now }
@@ -101,6 +109,7 @@ pub fn step_over(tokens: &[CodeToken], end: usize, i: usize) -> usize
     }
 }
 
+#[inline(always)]
 pub fn block_end(tokens: &[CodeToken], end: usize, i: usize) -> usize
     requires { i < end }
     ensures same { result ≡ block_end tokens.now end i }
@@ -113,6 +122,7 @@ pub fn block_end(tokens: &[CodeToken], end: usize, i: usize) -> usize
     }
 }
 
+#[inline(always)]
 pub fn class_before(tokens: &[CodeToken], i: usize) -> TokenClass
     ensures { result ≡ class_before tokens.now i }
 {
@@ -123,6 +133,7 @@ pub fn class_before(tokens: &[CodeToken], i: usize) -> TokenClass
     }
 }
 
+#[inline(always)]
 pub fn opens_list(tokens: &[CodeToken], assigned: bool, i: usize) -> bool
     ensures { result ≡ opens_list tokens.now assigned i }
 {

@@ -116,7 +116,7 @@ fn behind(tokens: &[CodeToken], first: usize, i: usize) -> usize
     ensures most { 0 < result → result < i }
 {
     match tokens.get(i) {
-        Some(t) => match t.partner {
+        Some(t) => match t.partner.place() {
             Some(place) => {
                 let p = place as usize;
                 if first < p && p < i { p } else { 0 }

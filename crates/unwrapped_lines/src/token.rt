@@ -1,6 +1,6 @@
 //! Tokens as the cut into lines sees them.
 
-use brackets::TokenClass;
+use brackets::{Partner, TokenClass};
 
 /// A token that is no comment.
 #[derive(Clone, Copy, Debug, Drop)]
@@ -12,5 +12,7 @@ pub struct CodeToken {
     /// A colon directly behind it touches it.
     pub touched: bool,
     /// Its partner, counted over the tokens that are no comments.
-    pub partner: Option<u32>,
+    pub partner: Partner,
 }
+
+const _: () = prove!(size_of::<CodeToken>() <= 8);

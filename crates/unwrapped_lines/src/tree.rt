@@ -53,11 +53,11 @@ pub(crate) fn settle(
     ensures same { IfOk result (λ s. settled tokens.now at (reverse stack.old.items) ≡ record { opens = reverse stack.new.items; start = s }) }
     ensures fewer { length stack.new.items ≤ length stack.old.items }
 {
-    while let Some(o) = stack.pop() {
+    while let Some(o) = stack.last().copied() {
         if o.block {
-            stack.push(o)?;
             return Ok(Start::Fresh);
         }
+        stack.pop();
         if answers_else(tokens, o, at) {
             return Ok(Start::Fresh);
         }

@@ -1,25 +1,40 @@
 //! A view as a list of tokens and comments.
 
-ghost use Rattle.std.specs.Prelude.{◌≡◌, ◌<◌, ◌≤◌, ◌+◌, ◌^◌, length, map, get_or, slice_get, IfOk, Some, true};
+ghost use Rattle.std.specs.Prelude.{◌≡◌, ◌&&◌, ◌<◌, ◌≤◌, ◌+◌, ◌^◌, length, map, get_or, slice_get, IfOk, Some, true};
 ghost use Rattle.brackets.specs.Viewed.{AreWithin, classes_of};
-ghost use Rattle.brackets.specs.Classes.{is_comment};
+ghost use Rattle.brackets.specs.Classes.{is_colon, is_comment};
 ghost use Rattle.brackets.specs.declared.class.TokenClass.TheVariants.{Nothing};
-ghost use Rattle.unwrapped_lines.specs.Viewed.{item_began, line_ends_behind, colon_touches, numbers_of, partner_number, token_at, code_tokens, part_of, parts_of};
+ghost use Rattle.unwrapped_lines.specs.Viewed.{item_began, line_ends_behind, colon_touches, numbers_of, AreNumbers, AreBlocks, number_behind, AreTokensBefore, segment_stop, partner_number, token_at, code_tokens, part_of, parts_of};
+ghost use Rattle.std.specs.Bool.{OnFalse};
+ghost use Rattle.std.specs.List.{range_with_len};
+ghost use Rattle.token_views.specs.Segments.{ids_of, segment_bounds, AreSegments, no_segment};
 ghost use Rattle.c_chars.specs.declared.TheConstants.{LIMIT};
 
 use crate::part::Part;
 use crate::token::CodeToken;
-use brackets::{TokenClass, item_class};
+use brackets::{Partner, TokenClass, item_class};
 use bumpalo::Bump;
 use line_tokens::{NoMemory, TokenId};
 use token_arena::TokenArena;
-use token_views::View;
+use token_views::{Segment, View};
+
+/// The number of a token is kept for one place of so many.
+const BLOCK: usize = 16;
 
 /// Whether an item began its line.
 fn item_began(arena: &TokenArena<'_, '_>, id: u32) -> bool
     ensures { result ≡ item_began arena.now id }
 {
     id < arena.len() && arena.get(TokenId(id)).gap.began
+}
+
+/// Whether the item with a number began its line.
+#[inline(always)]
+fn began(arena: &TokenArena<'_, '_>, id: u32) -> bool
+    requires { id < length arena.now.tokens }
+    ensures { result ≡ item_began arena.now id }
+{
+    arena.get(TokenId(id)).gap.began
 }
 
 /// Whether a new-line or the end of the file comes behind an item.
@@ -32,6 +47,7 @@ fn line_ends_behind(arena: &TokenArena<'_, '_>, id: u32) -> bool
 }
 
 /// Whether a colon comes directly behind an item, with nothing between them.
+#[inline(never)]
 fn colon_touches(arena: &TokenArena<'_, '_>, id: u32, run: &Bump) -> Result<bool, NoMemory>
     requires { id < length arena.now.tokens }
     ensures { IfOk result (λ touches. touches ≡ colon_touches arena.now id) }
@@ -48,31 +64,157 @@ fn colon_touches(arena: &TokenArena<'_, '_>, id: u32, run: &Bump) -> Result<bool
     Ok(class.is_colon())
 }
 
-/// How many tokens that are no comments stand before each place.
+/// Whether a comment stands among the classes.
+fn has_comment(classes: &[TokenClass]) -> bool
+    ensures { OnFalse result (numbers_of classes.now ≡ range_with_len 0 (length classes.now)) }
+{
+    for class in classes {
+        if class.is_comment() {
+            return true;
+        }
+    }
+    false
+}
+
+/// How many tokens that are no comments stand before each sixteenth place; nothing where there is no comment.
 fn numbers<'r>(classes: &[TokenClass], run: &'r Bump) -> Result<Vec<u32, &'r Bump>, NoMemory>
     requires { length classes.now ≤ LIMIT }
-    ensures { IfOk result (λ numbers. numbers.items ≡ numbers_of classes.now) }
+    ensures { IfOk result (λ numbers. AreNumbers numbers.items classes.now) }
 {
-    let mut numbers = Vec::with_capacity(run, classes.len())?;
-    let mut number: u32 = 0;
+    if has_comment(classes) {
+        block_numbers(classes, run)
+    } else {
+        Ok(Vec::new(run))
+    }
+}
+
+/// The number behind these places, where the first has this one.
+fn number_behind(first: u32, classes: &[TokenClass]) -> u32
+    requires { first + length classes.now ≤ LIMIT }
+    ensures same { result ≡ number_behind first classes.now }
+    ensures most { result ≤ first + length classes.now }
+{
+    let mut number = first;
     for class in classes {
-        numbers.push(number)?;
         if !class.is_comment() {
             number += 1;
         }
     }
+    number
+}
+
+/// How many tokens that are no comments stand before each sixteenth place.
+fn block_numbers<'r>(classes: &[TokenClass], run: &'r Bump) -> Result<Vec<u32, &'r Bump>, NoMemory>
+    requires { length classes.now ≤ LIMIT }
+    ensures { IfOk result (λ numbers. AreBlocks numbers.items classes.now) }
+{
+    let mut numbers = Vec::with_capacity(run, classes.len() / BLOCK + 1)?;
+    let mut number: u32 = 0;
+    let mut from = 0;
+    while from < classes.len() {
+        numbers.push(number)?;
+        let end = if classes.len() - from > BLOCK {
+            from + BLOCK
+        } else {
+            classes.len()
+        };
+        number = number_behind(number, &classes[from..end]);
+        from = end;
+    }
     Ok(numbers)
 }
 
+/// The place of a partner, counted over the tokens that are no comments.
+#[inline(always)]
+fn number_at(classes: &[TokenClass], numbers: &[u32], place: u32) -> Partner
+    requires few { length classes.now ≤ LIMIT }
+    requires numbers { AreNumbers numbers.now classes.now }
+    ensures { result ≡ slice_get (numbers_of classes.now) place }
+{
+    let k = place as usize;
+    if k >= classes.len() {
+        return Partner::none();
+    }
+    if numbers.is_empty() {
+        return Partner::at(place);
+    }
+    let block = k / BLOCK;
+    Partner::at(number_behind(numbers[block], &classes[block * BLOCK..k]))
+}
+
 /// A partner, counted over the tokens that are no comments.
-fn partner_number(numbers: &[u32], partners: &[Option<u32>], k: usize) -> Option<u32>
-    ensures { result ≡ partner_number numbers.now (slice_get partners.now k) }
+#[inline(always)]
+fn partner_number(
+    classes: &[TokenClass],
+    numbers: &[u32],
+    partners: &[Partner],
+    k: usize,
+) -> Partner
+    requires few { length classes.now ≤ LIMIT }
+    requires numbers { AreNumbers numbers.now classes.now }
+    ensures { result ≡ partner_number (numbers_of classes.now) (slice_get partners.now k) }
 {
     match partners.get(k) {
-        Some(Some(place)) => numbers.get(*place as usize).copied(),
-        Some(None) => None,
-        None => None,
+        Some(partner) => match partner.place() {
+            Some(place) => number_at(classes, numbers, place),
+            None => Partner::none(),
+        },
+        None => Partner::none(),
     }
+}
+
+/// The token with a number, of this class, with this partner.
+#[inline(always)]
+fn code_token(
+    arena: &TokenArena<'_, '_>,
+    id: u32,
+    class: TokenClass,
+    partner: Partner,
+    run: &Bump,
+) -> Result<CodeToken, NoMemory>
+    requires { id < length arena.now.tokens }
+    ensures { IfOk result (λ token. token ≡ record { class = class; began = item_began arena.now id; touched = is_colon class && colon_touches arena.now id; partner = partner }) }
+{
+    Ok(CodeToken {
+        class,
+        began: began(arena, id),
+        touched: class.is_colon() && colon_touches(arena, id, run)?,
+        partner,
+    })
+}
+
+/// Appends the tokens of the segment with a number that are no comments, with their partners.
+#[inline(always)]
+fn push_segment(
+    arena: &TokenArena<'_, '_>,
+    segments: &[Segment],
+    number: usize,
+    classes: &[TokenClass],
+    numbers: &[u32],
+    partners: &[Partner],
+    tokens: &mut Vec<CodeToken, &Bump>,
+    run: &Bump,
+) -> Result<(), NoMemory>
+    requires rule { AreSegments segments.now }
+    requires number { number < length segments.now }
+    requires within { AreWithin arena.now (ids_of (map segment_bounds segments.now)) }
+    requires places { length classes.now ≡ length (ids_of (map segment_bounds segments.now)) }
+    requires few { length classes.now ≤ LIMIT }
+    requires numbers { AreNumbers numbers.now classes.now }
+    requires before { AreTokensBefore arena.now (ids_of (map segment_bounds segments.now)) classes.now partners.now (get_or segments.now number no_segment).before tokens.old.items }
+    ensures { IfOk result (λ u. AreTokensBefore arena.now (ids_of (map segment_bounds segments.now)) classes.now partners.now (segment_stop (get_or segments.now number no_segment)) tokens.new.items) }
+{
+    let segment = segments[number];
+    let mut k = segment.before as usize;
+    for id in segment.first..segment.end {
+        let class = classes[k];
+        if !class.is_comment() {
+            let partner = partner_number(classes, numbers, partners, k);
+            tokens.push(code_token(arena, id, class, partner, run)?)?;
+        }
+        k += 1;
+    }
+    Ok(())
 }
 
 /// The tokens of a view that are no comments, with their partners.
@@ -80,7 +222,7 @@ pub(crate) fn code_tokens<'r>(
     arena: &TokenArena<'_, '_>,
     view: &View<'_>,
     classes: &[TokenClass],
-    partners: &[Option<u32>],
+    partners: &[Partner],
     run: &'r Bump,
 ) -> Result<Vec<CodeToken, &'r Bump>, NoMemory>
     requires within { AreWithin arena.now view.now }
@@ -91,17 +233,18 @@ pub(crate) fn code_tokens<'r>(
 {
     let numbers = numbers(classes, run)?;
     let mut tokens = Vec::with_capacity(run, classes.len())?;
-    let mut segment = 0;
-    for (k, class) in classes.iter().enumerate() {
-        if !class.is_comment() {
-            let id = view.at_near(k as u32, &mut segment);
-            tokens.push(CodeToken {
-                class: *class,
-                began: item_began(arena, id.0),
-                touched: class.is_colon() && colon_touches(arena, id.0, run)?,
-                partner: partner_number(&numbers, partners, k),
-            })?;
-        }
+    let segments = view.segments();
+    for number in 0..segments.len() {
+        push_segment(
+            arena,
+            segments,
+            number,
+            classes,
+            &numbers,
+            partners,
+            &mut tokens,
+            run,
+        )?;
     }
     Ok(tokens)
 }

@@ -3,11 +3,11 @@ use Rattle.brackets.specs.Partners.{is_round, is_square}
 use Rattle.brackets.proofs.BracketLemmas.{taken, nearest_low, topmost_low, more, pushed, other_step}
 use Rattle.brackets.proofs.pairing.waiting_step.Goals as goal
 
-pub returns-in_ok-push-in-OpenRound-clause-before : goal.returns-in_ok-push-in-OpenRound-clause-before
-returns-in_ok-push-in-OpenRound-clause-before c = pushed c.args.i _ _ _ refl c.in_ok-push-in-OpenRound.ensures.items c.requires.before
+pub returns-in_ok-push_opener-in-OpenRound-clause-before : goal.returns-in_ok-push_opener-in-OpenRound-clause-before
+returns-in_ok-push_opener-in-OpenRound-clause-before c = pushed c.args.i _ _ _ refl c.in_ok-push_opener-in-OpenRound.ensures.items c.requires.before
 
-pub returns-in_ok-push-in-OpenBrace-clause-before : goal.returns-in_ok-push-in-OpenBrace-clause-before
-returns-in_ok-push-in-OpenBrace-clause-before c = pushed c.args.i _ _ _ refl c.in_ok-push-in-OpenBrace.ensures.items c.requires.before
+pub returns-in_ok-push_opener-in-OpenBrace-clause-before : goal.returns-in_ok-push_opener-in-OpenBrace-clause-before
+returns-in_ok-push_opener-in-OpenBrace-clause-before c = pushed c.args.i _ _ _ refl c.in_ok-push_opener-in-OpenBrace.ensures.items c.requires.before
 
 pub returns-in-CloseRound-clause-before : goal.returns-in-CloseRound-clause-before
 returns-in-CloseRound-clause-before c =
@@ -33,3 +33,6 @@ returns-in_default c = record {
   small = let q = c.requires.small in omega arith;
   before = more _ _ c.requires.before;
 }
+
+pub returns-then-not-is_bracket-clause-before : goal.returns-then-not-is_bracket-clause-before
+returns-then-not-is_bracket-clause-before c = more _ _ c.requires.before

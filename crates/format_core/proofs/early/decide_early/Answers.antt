@@ -1,22 +1,31 @@
-use Rattle.std.proofs.Common.{◌≡◌, ◌∙◌, ◌+◌, ◌-◌, ℕ, suc, List, Option, ap, arith}
-use Rattle.replacements.specs.declared.slot.Slot.{Slot}
+use Rattle.std.proofs.Common.{◌∙◌, ◌+◌, ◌-◌, ℕ, length, get_or, drop, sym, ap, subst, arith}
+use Rattle.directives.specs.declared.Section.TheVariants.{Text}
+use Rattle.directives.specs.Sections.{IsCut}
 use Rattle.replacements.specs.Decisions.{decided_all}
-use Rattle.format_core.specs.BeforeRuns.{early_from}
-use Rattle.format_core.proofs.SoundStart.{one_more}
+use Rattle.format_core.specs.BeforeRuns.{early_from, section_end}
+use Rattle.format_core.proofs.EarlySections.{early_on, section_next, stands_behind}
 use Rattle.format_core.proofs.early.decide_early.Goals as goal
 
-pub loop-place-preserved : goal.loop-place-preserved
-loop-place-preserved c =
+pub decide_section-place-requires-clause-within : goal.decide_section-place-requires-clause-within
+decide_section-place-requires-clause-within c =
+    (section_next c.loop-section.place (length c.args.arena.now.tokens) c.loop-section.section-index c.args.sections.now _ c.loop-section-test.true c.loop-section.invariant.cut).high
+
+pub loop-section-preserved : goal.loop-section-preserved
+loop-section-preserved c =
     let style = c.args.style.now in
     let arena = c.args.arena.now in
-    let place = c.loop-place.place in
-    let places : ℕ = c.len-places.result + 1 in
-    let rest : ℕ = places - (place + 1) in
-    let more : places - place ≡ suc rest = omega (arith, c.loop-place-test.true) in
+    let len = length arena.tokens in
+    let sections = c.args.sections.now in
+    let i = c.loop-section.section-index in
+    let at = c.loop-section.place in
+    let v = c.loop-section.invariant in
+    let made = c.decide_section-place in
+    let end : ℕ = section_end (get_or sections i (Text 0 0)) in
+    let next = section_next at len i sections (Text 0 0) c.loop-section-test.true v.cut in
     record {
-      within = c.early_decision-decision.ensures.within;
-      later = λ k low. c.early_decision-decision.ensures.later k (omega (arith, low));
-      len = c.decide_at.ensures.len ∙ c.loop-place.invariant.len;
-      rest = ap (λ (plan : List (Option Slot)). decided_all plan (early_from style arena (place + 1) rest)) c.decide_at.ensures.plan
-          ∙ (one_more style arena c.loop-place.plan place rest (places - place) c.early_decision-decision.result more c.early_decision-decision.ensures.is ∙ c.loop-place.invariant.rest);
+      cut = subst (λ (x : ℕ). IsCut x len (drop (i + 1) sections)) (sym made.ensures.end) next.rest;
+      stands = λ k low. stands_behind at len i sections sections (Text 0 0) c.loop-section-test.true v.cut v.stands k (omega (arith, low, made.ensures.end));
+      len = made.ensures.len ∙ v.len;
+      rest = ap (λ (x : ℕ). decided_all made.new.plan (early_from style arena x (len + 1 - x))) made.ensures.end
+          ∙ (early_on style arena c.loop-section.plan made.new.plan at end (len + 1) next.low (omega (arith, next.high)) made.ensures.plan ∙ v.rest);
     }

@@ -1,7 +1,7 @@
-use Rattle.std.proofs.Common.{ℕ, ◌<◌, get_or}
-use Rattle.std.specs.Prelude.{IsSome}
-use Rattle.replacements.specs.Decisions.{slot_of}
+use Rattle.std.proofs.Common.{map, drop}
+use Rattle.token_views.specs.Segments.{ids_of, segment_bounds}
+use Rattle.format_core.specs.Runs.{AreDecided}
 use Rattle.format_core.proofs.runs.are_decided.Given as goal
 
-abbrev pub invariant-loop-place : goal.invariant-loop-place
-invariant-loop-place l = (k : ℕ) → k < l.place → IsSome (slot_of l.plan (get_or l.view k 0))
+abbrev pub invariant-loop-segment : goal.invariant-loop-segment
+invariant-loop-segment l = AreDecided l.plan (ids_of (map segment_bounds (drop l.segment-index l.segment-items))) → AreDecided l.plan l.view

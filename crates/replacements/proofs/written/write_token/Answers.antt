@@ -1,23 +1,23 @@
-use Rattle.std.proofs.Common.{◌≡◌, ◌∙◌, ◌+◌, ◌++◌, ℕ, List, sym, arith, drop}
+use Rattle.std.proofs.Common.{◌≡◌, ◌+◌, ◌++◌, ℕ, List, sym, arith, drop}
 use Rattle.c_chars.specs.Characters.{mark_len}
 use Rattle.fmt_ports.proofs.Parts.{part_of_front}
 use Rattle.token_arena.specs.Entries.{told_by}
 use Rattle.token_arena.specs.Gaps.{Stands, behind, gap_start}
-use Rattle.replacements.specs.Guards.{guard_of}
+use Rattle.replacements.specs.Guards.{guard_before, guard_of}
 use Rattle.replacements.specs.Stances.{stance_in}
 use Rattle.replacements.specs.Written.{bytes_between, decision_at, planned_gap, written_from}
 use Rattle.replacements.proofs.Held.{stands_at, held_next}
-use Rattle.replacements.proofs.Items.{gap_start-next}
+use Rattle.replacements.proofs.Items.{gap_start-next, guard_next}
 use Rattle.replacements.proofs.Writing.{written_next, held_front}
 use Rattle.replacements.proofs.written.write_token.Goals as goal
 
-pub write_or_hold-requires-clause-stands : goal.write_or_hold-requires-clause-stands
-write_or_hold-requires-clause-stands g c =
+pub write_anew-requires-clause-stands : goal.write_anew-requires-clause-stands
+write_anew-requires-clause-stands g c =
     let arena = c.args.arena.now in
     rw c.requires.at (stands_at arena.text (mark_len arena.text) arena.tokens c.args.place (told_by c.get-token.result) c.requires.stand c.get-token.ensures)
 
-pub returns-in_err-write_or_hold-clause-part : goal.returns-in_err-write_or_hold-clause-part
-returns-in_err-write_or_hold-clause-part g c =
+pub returns-in_err-write_anew-clause-part : goal.returns-in_err-write_anew-clause-part
+returns-in_err-write_anew-clause-part g c =
     let style = c.args.style.now in
     let arena = c.args.arena.now in
     let sections = c.args.sections.now in
@@ -25,12 +25,11 @@ returns-in_err-write_or_hold-clause-part g c =
     let walk = c.args.walk.now in
     let place = c.args.place in
     let token = told_by c.get-token.result in
-    let stand : c.stance_at-stance.result ≡ stance_in sections place = c.stance_at-stance.ensures.is ∙ c.requires.later place (omega arith) in
-    let gap : List ℕ = planned_gap style c.args.crlf arena walk.guard walk.at place (stance_in sections place) (decision_at plan place) token (drop (place + 1) arena.tokens) in
+    let gap : List ℕ = planned_gap style c.args.crlf arena (guard_before arena.tokens place) walk.at place (stance_in sections place) (decision_at plan place) token (drop (place + 1) arena.tokens) in
     let rest : List ℕ = written_from style c.args.crlf arena sections plan (guard_of token) (behind token) (place + 1) (drop (place + 1) arena.tokens) in
-    let part = rw (stand, c.decision_at-decision.ensures) at c.in_err-write_or_hold.ensures.part in
+    let part = rw c.decision_at-decision.ensures at c.in_err-write_anew.ensures.part in
     part_of_front _ _ (bytes_between arena.text walk.held walk.at ++ gap) (token.raw ++ rest) _
-    (held_front (bytes_between arena.text walk.held walk.at) gap token.raw rest _ (written_next style c.args.crlf arena sections plan walk.guard walk.at place token c.get-token.ensures))
+    (held_front (bytes_between arena.text walk.held walk.at) gap token.raw rest _ (written_next style c.args.crlf arena sections plan (guard_before arena.tokens place) walk.at place token c.get-token.ensures))
     part
 
 pub returns-clause-at : goal.returns-clause-at
@@ -38,7 +37,7 @@ returns-clause-at g c =
     let arena = c.args.arena.now in
     let token = told_by c.get-token.result in
     let next : gap_start (mark_len arena.text) arena.tokens (c.args.place + 1) ≡ behind token = gap_start-next (mark_len arena.text) arena.tokens c.args.place token c.get-token.ensures in
-    (sym next, omega (arith, c.write_or_hold.ensures.held))
+    (sym next, omega (arith, c.write_anew.ensures.held))
 
 pub returns-clause-ok : goal.returns-clause-ok
 returns-clause-ok g c =
@@ -49,14 +48,13 @@ returns-clause-ok g c =
     let walk = c.args.walk.now in
     let place = c.args.place in
     let token = told_by c.get-token.result in
-    let stand : c.stance_at-stance.result ≡ stance_in sections place = c.stance_at-stance.ensures.is ∙ c.requires.later place (omega arith) in
-    let gap : List ℕ = planned_gap style c.args.crlf arena walk.guard walk.at place (stance_in sections place) (decision_at plan place) token (drop (place + 1) arena.tokens) in
-    let any = rw (stand, c.decision_at-decision.ensures) at c.in_ok-write_or_hold.ensures.ok in
+    let gap : List ℕ = planned_gap style c.args.crlf arena (guard_before arena.tokens place) walk.at place (stance_in sections place) (decision_at plan place) token (drop (place + 1) arena.tokens) in
+    let any = rw c.decision_at-decision.ensures at c.in_ok-write_anew.ensures.ok in
     let stands : Stands arena.text walk.at token = rw c.requires.at (stands_at arena.text (mark_len arena.text) arena.tokens place token c.requires.stand c.get-token.ensures) in
-    let next = written_next style c.args.crlf arena sections plan walk.guard walk.at place token c.get-token.ensures in (
+    let next = written_next style c.args.crlf arena sections plan (guard_before arena.tokens place) walk.at place token c.get-token.ensures in (
       any.0,
       any.1,
-      rw c.guard_of-walk.ensures (held_next arena.text walk.at walk.held c.write_or_hold.new.walk.held token gap any.0 _ _ stands c.write_or_hold.ensures.held any.2 next),
+      rw (guard_next arena.tokens place token c.get-token.ensures) (held_next arena.text walk.at walk.held c.write_anew.new.walk.held token gap any.0 _ _ stands c.write_anew.ensures.held any.2 next),
     )
 
 pub returns-clause-part : goal.returns-clause-part
@@ -68,10 +66,9 @@ returns-clause-part g c =
     let walk = c.args.walk.now in
     let place = c.args.place in
     let token = told_by c.get-token.result in
-    let stand : c.stance_at-stance.result ≡ stance_in sections place = c.stance_at-stance.ensures.is ∙ c.requires.later place (omega arith) in
-    let gap : List ℕ = planned_gap style c.args.crlf arena walk.guard walk.at place (stance_in sections place) (decision_at plan place) token (drop (place + 1) arena.tokens) in
+    let gap : List ℕ = planned_gap style c.args.crlf arena (guard_before arena.tokens place) walk.at place (stance_in sections place) (decision_at plan place) token (drop (place + 1) arena.tokens) in
     let rest : List ℕ = written_from style c.args.crlf arena sections plan (guard_of token) (behind token) (place + 1) (drop (place + 1) arena.tokens) in
-    let part = rw (stand, c.decision_at-decision.ensures) at c.in_ok-write_or_hold.ensures.part in
+    let part = rw c.decision_at-decision.ensures at c.in_ok-write_anew.ensures.part in
     part_of_front _ _ (bytes_between arena.text walk.held walk.at ++ gap) (token.raw ++ rest) _
-    (held_front (bytes_between arena.text walk.held walk.at) gap token.raw rest _ (written_next style c.args.crlf arena sections plan walk.guard walk.at place token c.get-token.ensures))
+    (held_front (bytes_between arena.text walk.held walk.at) gap token.raw rest _ (written_next style c.args.crlf arena sections plan (guard_before arena.tokens place) walk.at place token c.get-token.ensures))
     part

@@ -12,7 +12,7 @@ first_of_line-requires c = item_within c.args.arena.now c.args.view.now c.args.k
 
 pub inner_decision-requires-clause-before : goal.inner_decision-requires-clause-before
 inner_decision-requires-clause-before c =
-    before_within c.args.arena.now c.args.view.now c.args.k c.args.before c.requires.items c.requires.place c.requires.before
+    before_within c.args.arena.now c.args.view.now c.args.k c.item_before.result c.requires.items c.requires.place c.item_before.ensures
 
 pub inner_decision-requires-clause-within : goal.inner_decision-requires-clause-within
 inner_decision-requires-clause-within c = item_within c.args.arena.now c.args.view.now c.args.k c.args.id c.requires.items c.requires.place c.requires.id

@@ -22,13 +22,3 @@ returns-then-is_printable-clause-last c =
     let raw = c.args.raw.now in
     let h : list_all (is_in_range 0x20 0x7E) raw ≡ true = sym c.is_printable.ensures ∙ c.if-is_printable.true in
     ap (λ (rows : Rows). rows.last_width) c.one_row.ensures ∙ sym (ap width_of (last_row-one raw (no_feed-printable raw h)) ∙ width_of-printable raw h)
-
-pub returns-then-feeds-eq0-clause-first : goal.returns-then-feeds-eq0-clause-first
-returns-then-feeds-eq0-clause-first c =
-    ap (λ (rows : Rows). rows.first_width) c.one_row-then-feeds-eq0.ensures
-    ∙ c.width.ensures ∙ ap width_of (sym (first_row-one c.args.raw.now (sym c.line_feeds-feeds.ensures ∙ c.if-feeds-eq0.true)))
-
-pub returns-then-feeds-eq0-clause-last : goal.returns-then-feeds-eq0-clause-last
-returns-then-feeds-eq0-clause-last c =
-    ap (λ (rows : Rows). rows.last_width) c.one_row-then-feeds-eq0.ensures
-    ∙ c.width.ensures ∙ ap width_of (sym (last_row-one c.args.raw.now (sym c.line_feeds-feeds.ensures ∙ c.if-feeds-eq0.true)))

@@ -6,7 +6,7 @@ abbrev pub invariant-loop-lexeme : goal.invariant-loop-lexeme
 invariant-loop-lexeme l = record {
   text_stays : l.lexer.text ≡ l.text;
   dialect_stays : l.lexer.dialect ≡ l.fn.dialect;
-  kept : IsKeptUpTo l.fn.dialect l.text l.lexer.left l.entries.items l.at l.line;
+  kept : IsKeptUpTo l.fn.dialect l.text l.lexer.left l.entries.items l.at;
 }
 
 abbrev pub decreases-loop-lexeme : goal.decreases-loop-lexeme

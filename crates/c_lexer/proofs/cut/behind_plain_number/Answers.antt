@@ -1,0 +1,10 @@
+use Rattle.std.proofs.Common.{◌∙◌, sym}
+use Rattle.c_lexer.proofs.PlainNumbers.{digits_off}
+use Rattle.c_lexer.proofs.cut.behind_plain_number.Goals as goal
+
+pub behind_plain_number-requires : goal.behind_plain_number-requires
+behind_plain_number-requires c = c.requires.dialect ∙ sym c.requires.begun.dialect_is
+
+pub returns : goal.returns
+returns c =
+    digits_off c.args.begun.now.text c.args.begun.now.behind c.args.dialect c.args.begun.now.first c.behind_plain_number.result c.requires.dialect c.requires.begun c.requires.digit c.behind_plain_number.ensures

@@ -1,0 +1,9 @@
+use Rattle.std.proofs.Common.{◌<◌, length, subst, sym, arith}
+use Rattle.c_lexer.specs.Place.{place_of}
+use Rattle.c_lexer.proofs.Nexts.{next_of_cut}
+use Rattle.c_lexer.proofs.next.cut_plain.Goals as goal
+
+pub returns-in-Some : goal.returns-in-Some
+returns-in-Some c =
+    next_of_cut (place_of c.args.standing) c.args.begun.now.text c.in-Some.left c.in-Some.kind (subst (λ z. 0 < length z) (sym c.requires.begun.chars_are) (omega arith))
+    (λ e b. c.is_behind_include.ensures c.if-is_behind_include.false e) c.in-Some.ensures

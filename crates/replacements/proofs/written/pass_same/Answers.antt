@@ -1,0 +1,44 @@
+use Rattle.std.proofs.Common.{◌≡◌, ◌+◌, arith, drop, rules, sym}
+use Rattle.c_chars.specs.Characters.{mark_len}
+use Rattle.token_arena.specs.Entries.{told_by}
+use Rattle.token_arena.specs.Gaps.{Stands, behind, gap_start}
+use Rattle.replacements.specs.Guards.{guard_before}
+use Rattle.replacements.specs.Written.{written_from}
+use Rattle.replacements.proofs.Held.{held_begun, stands_at}
+use Rattle.replacements.proofs.Items.{gap_start-next}
+use Rattle.replacements.proofs.SameGaps.{passed_more}
+use Rattle.replacements.proofs.written.pass_same.Goals as goal
+
+pub loop-next-init : goal.loop-next-init
+loop-next-init c =
+    let arena = c.args.arena.now in
+    record {
+      at = c.requires.at;
+      on = omega arith;
+      same = λ sections. held_begun arena.text c.args.at.now (written_from c.args.style.now c.args.crlf arena sections c.args.plan.now (guard_before arena.tokens c.args.place) c.args.at.now c.args.place (drop c.args.place arena.tokens));
+    }
+
+pub is_same-requires : goal.is_same-requires
+is_same-requires c =
+    let arena = c.args.arena.now in
+    let token = told_by c.get-token.result in
+    let stands : Stands arena.text c.loop-next.here token = rw c.loop-next.invariant.at (stands_at arena.text (mark_len arena.text) arena.tokens c.loop-next.next token c.len-count.ensures.stand c.get-token.ensures) in
+    record {
+      later = stands.later;
+      within = omega (arith, stands.within);
+      here = omega (arith, c.len-count.ensures.count, c.loop-next-test.true);
+    }
+
+pub loop-next-preserved : goal.loop-next-preserved
+loop-next-preserved c =
+    let arena = c.args.arena.now in
+    let token = told_by c.get-token.result in
+    let at = c.loop-next.here in
+    let stands : Stands arena.text at token = rw c.loop-next.invariant.at (stands_at arena.text (mark_len arena.text) arena.tokens c.loop-next.next token c.len-count.ensures.stand c.get-token.ensures) in
+    let start : gap_start (mark_len arena.text) arena.tokens (c.loop-next.next + 1) ≡ behind token = gap_start-next (mark_len arena.text) arena.tokens c.loop-next.next token c.get-token.ensures in
+    record {
+      at = sym start;
+      on = omega (arith, c.loop-next.invariant.on, stands.later);
+      same = λ sections. passed_more c.args.style.now c.args.crlf arena sections c.args.plan.now at c.loop-next.next c.args.at.now token _ stands c.loop-next.invariant.on c.get-token.ensures
+          (rw c.decision_at-decision.ensures at c.is_same.ensures.same (search rules)) (c.loop-next.invariant.same sections);
+    }

@@ -1,0 +1,16 @@
+use Rattle.std.proofs.Common.{◌≡◌, ◌≤◌, ◌++◌, List, drop}
+use Rattle.c_chars.specs.Characters.{mark_len}
+use Rattle.directives.specs.declared.Section.{Section}
+use Rattle.token_arena.specs.Gaps.{gap_start}
+use Rattle.replacements.specs.Guards.{guard_before}
+use Rattle.replacements.specs.Written.{bytes_between, written_from}
+use Rattle.replacements.proofs.written.pass_same.Given as goal
+
+abbrev pub invariant-loop-next : goal.invariant-loop-next
+invariant-loop-next l = record {
+  at : l.here ≡ gap_start (mark_len l.arena.text) l.arena.tokens l.next;
+  on : l.fn.at ≤ l.here;
+  same : (sections : List Section) → written_from l.style l.crlf l.arena sections l.plan (guard_before l.arena.tokens l.place) l.fn.at l.place (drop l.place l.arena.tokens)
+      ≡ bytes_between l.arena.text l.fn.at l.here
+      ++ written_from l.style l.crlf l.arena sections l.plan (guard_before l.arena.tokens l.next) l.here l.next (drop l.next l.arena.tokens);
+}

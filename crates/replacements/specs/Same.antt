@@ -1,0 +1,21 @@
+-- Decided gaps that the input has as they are decided.
+use Rattle.std.specs.Prelude.{◌≡◌, ℕ, Bool, false, List, ◌∷◌}
+use Rattle.c_chars.specs.declared.Dialect.{Dialect}
+use Rattle.token_arena.specs.Stored.{Stored}
+use Rattle.token_arena.specs.Gaps.{Contents}
+use Rattle.style_table.specs.declared.style.Style.{Style}
+use Rattle.gap_text.specs.declared.Decision.{Decision}
+use Rattle.replacements.specs.Guards.{guard_before}
+use Rattle.replacements.specs.Stances.{hash_comes}
+use Rattle.replacements.specs.Written.{bytes_between, planned_gap}
+use Rattle.replacements.specs.declared.stance.Stance.{Stance}
+
+-- In no dialect comes a `#` from this item on, whatever stands behind it.
+abbrev pub ComesNoHash : Stored → Type 0
+ComesNoHash token = (d : Dialect) (tokens : List Stored) → hash_comes d (token ∷ tokens) ≡ false
+
+-- However the item stands in its text, and whatever comes then: what is written before it is what the input has there, behind this offset.
+abbrev pub IsSame : Style → Bool → Contents → ℕ → ℕ → Decision → Stored → Type 0
+IsSame style crlf arena at place decision token =
+    (stance : Stance) (tokens : List Stored)
+    → planned_gap style crlf arena (guard_before arena.tokens place) at place stance decision token tokens ≡ bytes_between arena.text at token.start
