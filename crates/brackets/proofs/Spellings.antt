@@ -1,8 +1,8 @@
 -- How bytes are read, character by character.
-use Rattle.std.proofs.Common.{◌≡◌, ◌==◌, ◌&&◌, not, ℕ, ◌+◌, length, true, false, List, [], ◌∷◌, drop, refl, ◌∙◌, ap}
+use Rattle.std.proofs.Common.{◌≡◌, ◌<◌, ◌≤◌, ◌==◌, ◌&&◌, not, ℕ, ◌+◌, arith, length, get_or, Bool, true, false, List, [], ◌∷◌, drop, refl, ◌∙◌, ap, sym, subst}
 use Rattle.std.specs.List.{list_all}
 use Rattle.c_chars.specs.Characters.{bytes_of, IsUnit}
-use Rattle.std.proofs.lemmas.Bool.{and_parts, not-true}
+use Rattle.std.proofs.lemmas.Bool.{and_parts, not-true, eqb-true}
 use Rattle.c_chars.specs.declared.Dialect.{Dialect}
 use Rattle.c_chars.specs.declared.Dialect.TheVariants.{C11, C23}
 use Rattle.c_grammar.proofs.White.{unit_plain}
@@ -37,3 +37,30 @@ reads_itself d (b ∷ s) h =
     let parts = and_parts (is_itself b) (list_all is_itself s) h in
     let kept = not_either b parts.0 in
     read_plain d (b ∷ s) s b 1 (unit_plain d b s kept.0 kept.1) refl kept.2 ∙ ap (λ z. b ∷ z) (reads_itself d s parts.1)
+
+-- a byte alone reads as itself, whichever it is
+pub reads_alone : (d : Dialect) (b : ℕ) → read_alone d (b ∷ []) ≡ b ∷ []
+reads_alone d b = by_test (b == 63) refl (b == 13) refl
+  where
+    none : (d : Dialect) → read_alone d [] ≡ []
+    none C11 = refl
+    none C23 = refl
+
+    question : (d : Dialect) → read_alone d (63 ∷ []) ≡ 63 ∷ []
+    question C11 = refl
+    question C23 = refl
+
+    return : (d : Dialect) → read_alone d (13 ∷ []) ≡ 13 ∷ []
+    return C11 = refl
+    return C23 = refl
+
+    by_test : (t : Bool) → (b == 63) ≡ t → (u : Bool) → (b == 13) ≡ u → read_alone d (b ∷ []) ≡ b ∷ []
+    by_test true e u f = subst (λ x. read_alone d (x ∷ []) ≡ x ∷ []) (sym (eqb-true b 63 e)) (question d)
+    by_test false e true f = subst (λ x. read_alone d (x ∷ []) ≡ x ∷ []) (sym (eqb-true b 13 f)) (return d)
+    by_test false e false f = read_last d (b ∷ []) [] b 1 (unit_plain d b [] e f) refl refl ∙ ap (λ z. b ∷ z) (none d)
+
+-- bytes of which there is one read as that byte
+pub reads_one : (d : Dialect) (s : List ℕ) (b : ℕ) → 1 ≤ length s → length s < 2 → b ≡ get_or s 0 0 → read_alone d s ≡ b ∷ []
+reads_one d [] b some few first = absurd (omega (arith, some))
+reads_one d (x ∷ []) b some few first = reads_alone d x ∙ ap (λ y. y ∷ []) (sym first)
+reads_one d (x ∷ y ∷ s) b some few first = absurd (omega (arith, few))

@@ -62,7 +62,7 @@ word_class_begins b (x ∷ s) some first =
 
 -- the characters that punctuators with a class of their own begin with
 abbrev pub first_marks : List ℕ
-first_marks = 37 ∷ 40 ∷ 41 ∷ 44 ∷ 58 ∷ 59 ∷ 60 ∷ 61 ∷ 63 ∷ 91 ∷ 93 ∷ 123 ∷ 125 ∷ []
+first_marks = 33 ∷ 35 ∷ 37 ∷ 38 ∷ 40 ∷ 41 ∷ 42 ∷ 43 ∷ 44 ∷ 45 ∷ 46 ∷ 47 ∷ 58 ∷ 59 ∷ 60 ∷ 61 ∷ 62 ∷ 63 ∷ 91 ∷ 93 ∷ 94 ∷ 123 ∷ 124 ∷ 125 ∷ 126 ∷ []
 
 -- no punctuator with a class of its own begins with another character
 pub no_other_mark : (b : ℕ) → Outside b first_marks → filter (begins b) punctuators ≡ []

@@ -1,7 +1,7 @@
 -- Sets of classes of tokens.
 use Rattle.std.specs.Prelude.{Bool, true, false}
 use Rattle.brackets.specs.declared.class.TokenClass.{TokenClass}
-use Rattle.brackets.specs.declared.class.TokenClass.TheVariants.{If, Else, For, While, Do, Switch, Case, Default, Return, Struct, Union, Enum, Extern, CallWord, CapitalWord, PlainWord, OtherWord, OpenRound, CloseRound, OpenSquare, CloseSquare, OpenBrace, CloseBrace, Colon, Semicolon, Comma, Question, Equals, Text, LineComment, BlockComment}
+use Rattle.brackets.specs.declared.class.TokenClass.TheVariants.{If, Else, For, While, Do, Switch, Case, Default, Return, Goto, Jump, Struct, Union, Enum, Extern, SizeWord, AsmWord, CallWord, Volatile, Inline, CapitalWord, PlainWord, TypeWord, OpenRound, CloseRound, OpenSquare, CloseSquare, OpenBrace, CloseBrace, Colon, Semicolon, Comma, Question, Equals, Text, LineComment, BlockComment}
 
 -- a word
 abbrev pub is_word : TokenClass → Bool
@@ -18,10 +18,16 @@ is_word Struct = true
 is_word Union = true
 is_word Enum = true
 is_word Extern = true
+is_word Goto = true
+is_word Jump = true
+is_word SizeWord = true
+is_word AsmWord = true
 is_word CallWord = true
+is_word Volatile = true
+is_word Inline = true
 is_word CapitalWord = true
 is_word PlainWord = true
-is_word OtherWord = true
+is_word TypeWord = true
 is_word _ = false
 
 -- a plain word
@@ -122,6 +128,8 @@ is_extern Extern = true
 is_extern _ = false
 
 abbrev pub is_call_word : TokenClass → Bool
+is_call_word SizeWord = true
+is_call_word AsmWord = true
 is_call_word CallWord = true
 is_call_word _ = false
 

@@ -7,7 +7,7 @@ use Rattle.c_grammar.specs.declared.ItemKind.{ItemKind}
 use Rattle.c_grammar.specs.Rewritten.{read_alone}
 use Rattle.token_arena.specs.Stored.{Stored}
 use Rattle.brackets.specs.declared.class.TokenClass.{TokenClass}
-use Rattle.brackets.specs.declared.class.TokenClass.TheVariants.{If, Else, For, While, Do, Switch, Case, Default, Return, Struct, Union, Enum, Extern, CallWord, CapitalWord, PlainWord, OtherWord, OpenRound, CloseRound, OpenSquare, CloseSquare, OpenBrace, CloseBrace, Colon, Semicolon, Comma, Question, Equals, Text, LineComment, BlockComment, Other}
+use Rattle.brackets.specs.declared.class.TokenClass.TheVariants.{If, Else, For, While, Do, Switch, Case, Default, Return, Goto, Jump, Struct, Union, Enum, Extern, SizeWord, AsmWord, CallWord, Volatile, Inline, CapitalWord, PlainWord, TypeWord, OpenRound, CloseRound, OpenSquare, CloseSquare, OpenBrace, CloseBrace, Colon, Semicolon, Comma, Question, Equals, OtherAssign, Arrow, Point, Ellipsis, Step, Not, Star, Divide, Sign, Shift, Relation, Equality, Ampersand, Caret, Bar, And, Or, Hash, Literal, Text, LineComment, BlockComment, Other}
 
 -- the class in the first row with this spelling, and the last argument where none has it
 abbrev pub class_in : List (List ℕ × TokenClass) → List ℕ → TokenClass → TokenClass
@@ -18,25 +18,25 @@ class_in (row ∷ rows) s other = if bytes_eq s row.0 then row.1 else class_in r
 abbrev pub statement_words : List (List ℕ × TokenClass)
 statement_words =
     (codes "if", If) ∷ (codes "else", Else) ∷ (codes "for", For) ∷ (codes "while", While) ∷ (codes "do", Do) ∷ (codes "switch", Switch)
-    ∷ (codes "case", Case) ∷ (codes "default", Default) ∷ (codes "return", Return) ∷ (codes "goto", OtherWord) ∷ (codes "break", OtherWord)
-    ∷ (codes "continue", OtherWord) ∷ (codes "struct", Struct) ∷ (codes "union", Union) ∷ (codes "enum", Enum) ∷ (codes "extern", Extern) ∷ []
+    ∷ (codes "case", Case) ∷ (codes "default", Default) ∷ (codes "return", Return) ∷ (codes "goto", Goto) ∷ (codes "break", Jump)
+    ∷ (codes "continue", Jump) ∷ (codes "struct", Struct) ∷ (codes "union", Union) ∷ (codes "enum", Enum) ∷ (codes "extern", Extern) ∷ []
 
 -- the words that a group in parentheses follows
 abbrev pub call_words : List (List ℕ × TokenClass)
 call_words =
-    (codes "sizeof", CallWord) ∷ (codes "_Alignof", CallWord) ∷ (codes "_Alignas", CallWord) ∷ (codes "_Generic", CallWord)
+    (codes "sizeof", SizeWord) ∷ (codes "_Alignof", SizeWord) ∷ (codes "_Alignas", CallWord) ∷ (codes "_Generic", CallWord)
     ∷ (codes "_Static_assert", CallWord) ∷ (codes "typeof", CallWord) ∷ (codes "__typeof__", CallWord) ∷ (codes "__attribute__", CallWord)
-    ∷ (codes "asm", CallWord) ∷ (codes "__asm__", CallWord) ∷ (codes "__asm", CallWord) ∷ []
+    ∷ (codes "asm", AsmWord) ∷ (codes "__asm__", AsmWord) ∷ (codes "__asm", AsmWord) ∷ []
 
 -- the other words of types (C11 6.7.1 to 6.7.4)
 abbrev pub type_words : List (List ℕ × TokenClass)
 type_words =
-    (codes "void", OtherWord) ∷ (codes "char", OtherWord) ∷ (codes "short", OtherWord) ∷ (codes "int", OtherWord) ∷ (codes "long", OtherWord)
-    ∷ (codes "float", OtherWord) ∷ (codes "double", OtherWord) ∷ (codes "signed", OtherWord) ∷ (codes "unsigned", OtherWord)
-    ∷ (codes "_Bool", OtherWord) ∷ (codes "_Complex", OtherWord) ∷ (codes "const", OtherWord) ∷ (codes "volatile", OtherWord)
-    ∷ (codes "restrict", OtherWord) ∷ (codes "static", OtherWord) ∷ (codes "typedef", OtherWord) ∷ (codes "register", OtherWord)
-    ∷ (codes "inline", OtherWord) ∷ (codes "auto", OtherWord) ∷ (codes "_Atomic", OtherWord) ∷ (codes "_Noreturn", OtherWord)
-    ∷ (codes "_Thread_local", OtherWord) ∷ []
+    (codes "void", TypeWord) ∷ (codes "char", TypeWord) ∷ (codes "short", TypeWord) ∷ (codes "int", TypeWord) ∷ (codes "long", TypeWord)
+    ∷ (codes "float", TypeWord) ∷ (codes "double", TypeWord) ∷ (codes "signed", TypeWord) ∷ (codes "unsigned", TypeWord)
+    ∷ (codes "_Bool", TypeWord) ∷ (codes "_Complex", TypeWord) ∷ (codes "const", TypeWord) ∷ (codes "volatile", Volatile)
+    ∷ (codes "restrict", TypeWord) ∷ (codes "static", TypeWord) ∷ (codes "typedef", TypeWord) ∷ (codes "register", TypeWord)
+    ∷ (codes "inline", Inline) ∷ (codes "auto", TypeWord) ∷ (codes "_Atomic", TypeWord) ∷ (codes "_Noreturn", TypeWord)
+    ∷ (codes "_Thread_local", TypeWord) ∷ []
 
 -- all of these words
 abbrev pub words : List (List ℕ × TokenClass)
@@ -52,7 +52,7 @@ is_in_capitals s = nat_le 2 (length s) && not (list_any is_ascii_lowercase s)
 
 -- a word of no table: one that ends in `_t` names a type, and every other one is plain
 abbrev pub named_class : List ℕ → TokenClass
-named_class s = if ends_with nat_eq s (codes "_t") then OtherWord else (if is_in_capitals s then CapitalWord else PlainWord)
+named_class s = if ends_with nat_eq s (codes "_t") then TypeWord else (if is_in_capitals s then CapitalWord else PlainWord)
 
 -- the class of a word
 abbrev pub word_class : List ℕ → TokenClass
@@ -63,13 +63,23 @@ abbrev pub punctuators : List (List ℕ × TokenClass)
 punctuators =
     (codes "(", OpenRound) ∷ (codes ")", CloseRound) ∷ (codes "[", OpenSquare) ∷ (codes "<:", OpenSquare) ∷ (codes "]", CloseSquare)
     ∷ (codes ":>", CloseSquare) ∷ (codes "{", OpenBrace) ∷ (codes "<%", OpenBrace) ∷ (codes "}", CloseBrace) ∷ (codes "%>", CloseBrace)
-    ∷ (codes ":", Colon) ∷ (codes ";", Semicolon) ∷ (codes ",", Comma) ∷ (codes "?", Question) ∷ (codes "=", Equals) ∷ []
+    ∷ (codes ":", Colon) ∷ (codes ";", Semicolon) ∷ (codes ",", Comma) ∷ (codes "?", Question) ∷ (codes "=", Equals) ∷ (codes "*=", OtherAssign)
+    ∷ (codes "/=", OtherAssign) ∷ (codes "%=", OtherAssign) ∷ (codes "+=", OtherAssign) ∷ (codes "-=", OtherAssign) ∷ (codes "<<=", OtherAssign)
+    ∷ (codes ">>=", OtherAssign) ∷ (codes "&=", OtherAssign) ∷ (codes "^=", OtherAssign) ∷ (codes "|=", OtherAssign) ∷ (codes "->", Arrow)
+    ∷ (codes ".", Point) ∷ (codes "...", Ellipsis) ∷ (codes "++", Step) ∷ (codes "--", Step) ∷ (codes "!", Not) ∷ (codes "~", Not) ∷ (codes "*", Star)
+    ∷ (codes "/", Divide) ∷ (codes "%", Divide) ∷ (codes "+", Sign) ∷ (codes "-", Sign) ∷ (codes "<<", Shift) ∷ (codes ">>", Shift)
+    ∷ (codes "<", Relation) ∷ (codes ">", Relation) ∷ (codes "<=", Relation) ∷ (codes ">=", Relation) ∷ (codes "==", Equality)
+    ∷ (codes "!=", Equality) ∷ (codes "&", Ampersand) ∷ (codes "^", Caret) ∷ (codes "|", Bar) ∷ (codes "&&", And) ∷ (codes "||", Or)
+    ∷ (codes "#", Hash) ∷ (codes "%:", Hash) ∷ []
 
 -- the class of an item of this kind that is spelled so
 abbrev pub class_spelled : ItemKind → List ℕ → TokenClass
 class_spelled ItemKind.Identifier s = word_class s
 class_spelled ItemKind.Punct s = class_in punctuators s Other
 class_spelled ItemKind.StringLit s = Text
+class_spelled ItemKind.Number s = Literal
+class_spelled ItemKind.CharConst s = Literal
+class_spelled ItemKind.HeaderName s = Literal
 class_spelled ItemKind.LineComment s = LineComment
 class_spelled ItemKind.BlockComment s = BlockComment
 class_spelled _ s = Other

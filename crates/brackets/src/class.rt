@@ -1,6 +1,6 @@
 //! Classes of tokens.
 
-/// What a token is spelled, as far as brackets and lines depend on it. `docs/PROFILE.md` has the words.
+/// What a token is spelled, as far as brackets, lines and roles depend on it. `docs/PROFILE.md` has the words.
 #[derive(Clone, Copy, Debug, PartialEq, Eq)]
 pub enum TokenClass {
     /// `if`
@@ -21,6 +21,10 @@ pub enum TokenClass {
     Default,
     /// `return`
     Return,
+    /// `goto`
+    Goto,
+    /// `break` or `continue`
+    Jump,
     /// `struct`
     Struct,
     /// `union`
@@ -29,14 +33,22 @@ pub enum TokenClass {
     Enum,
     /// `extern`
     Extern,
-    /// A word that a group in parentheses follows, as `sizeof` and `__attribute__`.
+    /// `sizeof` or `_Alignof`
+    SizeWord,
+    /// `asm`, `__asm__` or `__asm`
+    AsmWord,
+    /// Any other word that a group in parentheses follows, as `__attribute__`.
     CallWord,
+    /// `volatile`
+    Volatile,
+    /// `inline`
+    Inline,
     /// A plain word of at least two characters without a small letter of ASCII.
     CapitalWord,
     /// Any other plain word.
     PlainWord,
-    /// Any other word: `goto`, `break`, `continue` and the words of types.
-    OtherWord,
+    /// Any other word of types.
+    TypeWord,
     /// `(`
     OpenRound,
     /// `)`
@@ -59,6 +71,44 @@ pub enum TokenClass {
     Question,
     /// `=`
     Equals,
+    /// Any other assignment, as `+=`.
+    OtherAssign,
+    /// `->`
+    Arrow,
+    /// `.`
+    Point,
+    /// `...`
+    Ellipsis,
+    /// `++` or `--`
+    Step,
+    /// `!` or `~`
+    Not,
+    /// `*`
+    Star,
+    /// `/` or `%`
+    Divide,
+    /// `+` or `-`
+    Sign,
+    /// `<<` or `>>`
+    Shift,
+    /// `<`, `>`, `<=` or `>=`
+    Relation,
+    /// `==` or `!=`
+    Equality,
+    /// `&`
+    Ampersand,
+    /// `^`
+    Caret,
+    /// `|`
+    Bar,
+    /// `&&`
+    And,
+    /// `||`
+    Or,
+    /// `#` or `%:`
+    Hash,
+    /// A number, a character constant or a header name.
+    Literal,
     /// A string.
     Text,
     /// A comment that ends with its line.

@@ -25,10 +25,16 @@ impl TokenClass {
                 | TokenClass::Union
                 | TokenClass::Enum
                 | TokenClass::Extern
+                | TokenClass::Goto
+                | TokenClass::Jump
+                | TokenClass::SizeWord
+                | TokenClass::AsmWord
                 | TokenClass::CallWord
+                | TokenClass::Volatile
+                | TokenClass::Inline
                 | TokenClass::CapitalWord
                 | TokenClass::PlainWord
-                | TokenClass::OtherWord
+                | TokenClass::TypeWord
         )
     }
 
@@ -185,7 +191,10 @@ impl TokenClass {
     pub fn is_call_word(self) -> bool
         ensures { result ≡ is_call_word self }
     {
-        matches!(self, TokenClass::CallWord)
+        matches!(
+            self,
+            TokenClass::SizeWord | TokenClass::AsmWord | TokenClass::CallWord
+        )
     }
 
     /// `(`

@@ -29,7 +29,7 @@ fn class_from_underscore(spelled: &[u8], other: TokenClass) -> TokenClass
     ensures { result ≡ class_in (filter (begins 95) words) spelled.now other }
 {
     if is_word(spelled, b"_Alignof") {
-        TokenClass::CallWord
+        TokenClass::SizeWord
     } else if is_word(spelled, b"_Alignas") {
         TokenClass::CallWord
     } else if is_word(spelled, b"_Generic") {
@@ -41,19 +41,19 @@ fn class_from_underscore(spelled: &[u8], other: TokenClass) -> TokenClass
     } else if is_word(spelled, b"__attribute__") {
         TokenClass::CallWord
     } else if is_word(spelled, b"__asm__") {
-        TokenClass::CallWord
+        TokenClass::AsmWord
     } else if is_word(spelled, b"__asm") {
-        TokenClass::CallWord
+        TokenClass::AsmWord
     } else if is_word(spelled, b"_Bool") {
-        TokenClass::OtherWord
+        TokenClass::TypeWord
     } else if is_word(spelled, b"_Complex") {
-        TokenClass::OtherWord
+        TokenClass::TypeWord
     } else if is_word(spelled, b"_Atomic") {
-        TokenClass::OtherWord
+        TokenClass::TypeWord
     } else if is_word(spelled, b"_Noreturn") {
-        TokenClass::OtherWord
+        TokenClass::TypeWord
     } else if is_word(spelled, b"_Thread_local") {
-        TokenClass::OtherWord
+        TokenClass::TypeWord
     } else {
         other
     }
@@ -65,9 +65,9 @@ fn class_from_a(spelled: &[u8], other: TokenClass) -> TokenClass
     ensures { result ≡ class_in (filter (begins 97) words) spelled.now other }
 {
     if is_word(spelled, b"asm") {
-        TokenClass::CallWord
+        TokenClass::AsmWord
     } else if is_word(spelled, b"auto") {
-        TokenClass::OtherWord
+        TokenClass::TypeWord
     } else {
         other
     }
@@ -79,7 +79,7 @@ fn class_from_b(spelled: &[u8], other: TokenClass) -> TokenClass
     ensures { result ≡ class_in (filter (begins 98) words) spelled.now other }
 {
     if is_word(spelled, b"break") {
-        TokenClass::OtherWord
+        TokenClass::Jump
     } else {
         other
     }
@@ -93,11 +93,11 @@ fn class_from_c(spelled: &[u8], other: TokenClass) -> TokenClass
     if is_word(spelled, b"case") {
         TokenClass::Case
     } else if is_word(spelled, b"continue") {
-        TokenClass::OtherWord
+        TokenClass::Jump
     } else if is_word(spelled, b"char") {
-        TokenClass::OtherWord
+        TokenClass::TypeWord
     } else if is_word(spelled, b"const") {
-        TokenClass::OtherWord
+        TokenClass::TypeWord
     } else {
         other
     }
@@ -113,7 +113,7 @@ fn class_from_d(spelled: &[u8], other: TokenClass) -> TokenClass
     } else if is_word(spelled, b"default") {
         TokenClass::Default
     } else if is_word(spelled, b"double") {
-        TokenClass::OtherWord
+        TokenClass::TypeWord
     } else {
         other
     }
@@ -143,7 +143,7 @@ fn class_from_f(spelled: &[u8], other: TokenClass) -> TokenClass
     if is_word(spelled, b"for") {
         TokenClass::For
     } else if is_word(spelled, b"float") {
-        TokenClass::OtherWord
+        TokenClass::TypeWord
     } else {
         other
     }
@@ -155,7 +155,7 @@ fn class_from_g(spelled: &[u8], other: TokenClass) -> TokenClass
     ensures { result ≡ class_in (filter (begins 103) words) spelled.now other }
 {
     if is_word(spelled, b"goto") {
-        TokenClass::OtherWord
+        TokenClass::Goto
     } else {
         other
     }
@@ -169,9 +169,9 @@ fn class_from_i(spelled: &[u8], other: TokenClass) -> TokenClass
     if is_word(spelled, b"if") {
         TokenClass::If
     } else if is_word(spelled, b"int") {
-        TokenClass::OtherWord
+        TokenClass::TypeWord
     } else if is_word(spelled, b"inline") {
-        TokenClass::OtherWord
+        TokenClass::Inline
     } else {
         other
     }
@@ -183,7 +183,7 @@ fn class_from_l(spelled: &[u8], other: TokenClass) -> TokenClass
     ensures { result ≡ class_in (filter (begins 108) words) spelled.now other }
 {
     if is_word(spelled, b"long") {
-        TokenClass::OtherWord
+        TokenClass::TypeWord
     } else {
         other
     }
@@ -197,9 +197,9 @@ fn class_from_r(spelled: &[u8], other: TokenClass) -> TokenClass
     if is_word(spelled, b"return") {
         TokenClass::Return
     } else if is_word(spelled, b"restrict") {
-        TokenClass::OtherWord
+        TokenClass::TypeWord
     } else if is_word(spelled, b"register") {
-        TokenClass::OtherWord
+        TokenClass::TypeWord
     } else {
         other
     }
@@ -215,13 +215,13 @@ fn class_from_s(spelled: &[u8], other: TokenClass) -> TokenClass
     } else if is_word(spelled, b"struct") {
         TokenClass::Struct
     } else if is_word(spelled, b"sizeof") {
-        TokenClass::CallWord
+        TokenClass::SizeWord
     } else if is_word(spelled, b"short") {
-        TokenClass::OtherWord
+        TokenClass::TypeWord
     } else if is_word(spelled, b"signed") {
-        TokenClass::OtherWord
+        TokenClass::TypeWord
     } else if is_word(spelled, b"static") {
-        TokenClass::OtherWord
+        TokenClass::TypeWord
     } else {
         other
     }
@@ -235,7 +235,7 @@ fn class_from_t(spelled: &[u8], other: TokenClass) -> TokenClass
     if is_word(spelled, b"typeof") {
         TokenClass::CallWord
     } else if is_word(spelled, b"typedef") {
-        TokenClass::OtherWord
+        TokenClass::TypeWord
     } else {
         other
     }
@@ -249,7 +249,7 @@ fn class_from_u(spelled: &[u8], other: TokenClass) -> TokenClass
     if is_word(spelled, b"union") {
         TokenClass::Union
     } else if is_word(spelled, b"unsigned") {
-        TokenClass::OtherWord
+        TokenClass::TypeWord
     } else {
         other
     }
@@ -261,9 +261,9 @@ fn class_from_v(spelled: &[u8], other: TokenClass) -> TokenClass
     ensures { result ≡ class_in (filter (begins 118) words) spelled.now other }
 {
     if is_word(spelled, b"void") {
-        TokenClass::OtherWord
+        TokenClass::TypeWord
     } else if is_word(spelled, b"volatile") {
-        TokenClass::OtherWord
+        TokenClass::Volatile
     } else {
         other
     }

@@ -132,8 +132,8 @@ fn tells_words_apart(rt: HostRuntime) -> Result<(), Fail> {
         (b"if", TokenClass::If),
         (b"i\\\nf", TokenClass::If),
         (b"__attribute__", TokenClass::CallWord),
-        (b"unsigned", TokenClass::OtherWord),
-        (b"size_t", TokenClass::OtherWord),
+        (b"unsigned", TokenClass::TypeWord),
+        (b"size_t", TokenClass::TypeWord),
         (b"struc", TokenClass::PlainWord),
         (b"structs", TokenClass::PlainWord),
         (b"FOO_1", TokenClass::CapitalWord),
@@ -150,7 +150,7 @@ fn tells_words_apart(rt: HostRuntime) -> Result<(), Fail> {
         (b"<%", OpenBrace),
         (b"??<", OpenBrace),
         (b":>", CloseSquare),
-        (b"+", TokenClass::Other),
+        (b"+", TokenClass::Sign),
     ];
     for (raw, class) in marks {
         let spelled = spelling::spelling(Dialect::C11, raw, &run)?;
@@ -176,7 +176,7 @@ fn takes_the_classes_of_views(rt: HostRuntime) -> Result<(), Fail> {
                 CloseRound,
                 TokenClass::PlainWord,
                 OpenSquare,
-                TokenClass::Other,
+                TokenClass::Literal,
                 CloseSquare,
                 TokenClass::Semicolon,
             ],
@@ -186,7 +186,7 @@ fn takes_the_classes_of_views(rt: HostRuntime) -> Result<(), Fail> {
             5,
             &[
                 OpenSquare,
-                TokenClass::Other,
+                TokenClass::Literal,
                 CloseSquare,
                 TokenClass::Semicolon,
             ],

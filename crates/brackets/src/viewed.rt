@@ -68,11 +68,8 @@ pub fn item_class(
         ItemKind::StringLit => Ok(TokenClass::Text),
         ItemKind::LineComment => Ok(TokenClass::LineComment),
         ItemKind::BlockComment => Ok(TokenClass::BlockComment),
-        ItemKind::Number
-        | ItemKind::CharConst
-        | ItemKind::HeaderName
-        | ItemKind::StrayQuote
-        | ItemKind::Other => Ok(TokenClass::Other),
+        ItemKind::Number | ItemKind::CharConst | ItemKind::HeaderName => Ok(TokenClass::Literal),
+        ItemKind::StrayQuote | ItemKind::Other => Ok(TokenClass::Other),
     }
 }
 

@@ -53,7 +53,7 @@ fn named_class(spelled: &[u8]) -> TokenClass
     ensures { result ≡ named_class spelled.now }
 {
     if ends_as_type(spelled) {
-        TokenClass::OtherWord
+        TokenClass::TypeWord
     } else if is_in_capitals(spelled) {
         TokenClass::CapitalWord
     } else {
@@ -79,10 +79,68 @@ fn listed_mark(first: u8, spelled: &[u8], other: TokenClass) -> TokenClass
     ensures { result ≡ class_in (filter (begins first) punctuators) spelled.now other }
 {
     match first {
-        b'%' => class_in(&[(b"%>", TokenClass::CloseBrace)], spelled, other),
+        b'!' => class_in(
+            &[(b"!", TokenClass::Not), (b"!=", TokenClass::Equality)],
+            spelled,
+            other,
+        ),
+        b'#' => class_in(&[(b"#", TokenClass::Hash)], spelled, other),
+        b'%' => class_in(
+            &[
+                (b"%>", TokenClass::CloseBrace),
+                (b"%=", TokenClass::OtherAssign),
+                (b"%", TokenClass::Divide),
+                (b"%:", TokenClass::Hash),
+            ],
+            spelled,
+            other,
+        ),
+        b'&' => class_in(
+            &[
+                (b"&=", TokenClass::OtherAssign),
+                (b"&", TokenClass::Ampersand),
+                (b"&&", TokenClass::And),
+            ],
+            spelled,
+            other,
+        ),
         b'(' => class_in(&[(b"(", TokenClass::OpenRound)], spelled, other),
         b')' => class_in(&[(b")", TokenClass::CloseRound)], spelled, other),
+        b'*' => class_in(
+            &[(b"*=", TokenClass::OtherAssign), (b"*", TokenClass::Star)],
+            spelled,
+            other,
+        ),
+        b'+' => class_in(
+            &[
+                (b"+=", TokenClass::OtherAssign),
+                (b"++", TokenClass::Step),
+                (b"+", TokenClass::Sign),
+            ],
+            spelled,
+            other,
+        ),
         b',' => class_in(&[(b",", TokenClass::Comma)], spelled, other),
+        b'-' => class_in(
+            &[
+                (b"-=", TokenClass::OtherAssign),
+                (b"->", TokenClass::Arrow),
+                (b"--", TokenClass::Step),
+                (b"-", TokenClass::Sign),
+            ],
+            spelled,
+            other,
+        ),
+        b'.' => class_in(
+            &[(b".", TokenClass::Point), (b"...", TokenClass::Ellipsis)],
+            spelled,
+            other,
+        ),
+        b'/' => class_in(
+            &[(b"/=", TokenClass::OtherAssign), (b"/", TokenClass::Divide)],
+            spelled,
+            other,
+        ),
         b':' => class_in(
             &[(b":>", TokenClass::CloseSquare), (b":", TokenClass::Colon)],
             spelled,
@@ -93,16 +151,49 @@ fn listed_mark(first: u8, spelled: &[u8], other: TokenClass) -> TokenClass
             &[
                 (b"<:", TokenClass::OpenSquare),
                 (b"<%", TokenClass::OpenBrace),
+                (b"<<=", TokenClass::OtherAssign),
+                (b"<<", TokenClass::Shift),
+                (b"<", TokenClass::Relation),
+                (b"<=", TokenClass::Relation),
             ],
             spelled,
             other,
         ),
-        b'=' => class_in(&[(b"=", TokenClass::Equals)], spelled, other),
+        b'=' => class_in(
+            &[(b"=", TokenClass::Equals), (b"==", TokenClass::Equality)],
+            spelled,
+            other,
+        ),
+        b'>' => class_in(
+            &[
+                (b">>=", TokenClass::OtherAssign),
+                (b">>", TokenClass::Shift),
+                (b">", TokenClass::Relation),
+                (b">=", TokenClass::Relation),
+            ],
+            spelled,
+            other,
+        ),
         b'?' => class_in(&[(b"?", TokenClass::Question)], spelled, other),
         b'[' => class_in(&[(b"[", TokenClass::OpenSquare)], spelled, other),
         b']' => class_in(&[(b"]", TokenClass::CloseSquare)], spelled, other),
+        b'^' => class_in(
+            &[(b"^=", TokenClass::OtherAssign), (b"^", TokenClass::Caret)],
+            spelled,
+            other,
+        ),
         b'{' => class_in(&[(b"{", TokenClass::OpenBrace)], spelled, other),
+        b'|' => class_in(
+            &[
+                (b"|=", TokenClass::OtherAssign),
+                (b"|", TokenClass::Bar),
+                (b"||", TokenClass::Or),
+            ],
+            spelled,
+            other,
+        ),
         b'}' => class_in(&[(b"}", TokenClass::CloseBrace)], spelled, other),
+        b'~' => class_in(&[(b"~", TokenClass::Not)], spelled, other),
         _ => other,
     }
 }
@@ -123,17 +214,31 @@ pub(crate) fn mark_class(mark: u8) -> TokenClass
     ensures { result ≡ class_in punctuators (mark ∷ []) Other }
 {
     match mark {
+        b'!' => TokenClass::Not,
+        b'#' => TokenClass::Hash,
+        b'%' => TokenClass::Divide,
+        b'&' => TokenClass::Ampersand,
         b'(' => TokenClass::OpenRound,
         b')' => TokenClass::CloseRound,
+        b'*' => TokenClass::Star,
+        b'+' => TokenClass::Sign,
         b',' => TokenClass::Comma,
+        b'-' => TokenClass::Sign,
+        b'.' => TokenClass::Point,
+        b'/' => TokenClass::Divide,
         b':' => TokenClass::Colon,
         b';' => TokenClass::Semicolon,
+        b'<' => TokenClass::Relation,
         b'=' => TokenClass::Equals,
+        b'>' => TokenClass::Relation,
         b'?' => TokenClass::Question,
         b'[' => TokenClass::OpenSquare,
         b']' => TokenClass::CloseSquare,
+        b'^' => TokenClass::Caret,
         b'{' => TokenClass::OpenBrace,
+        b'|' => TokenClass::Bar,
         b'}' => TokenClass::CloseBrace,
+        b'~' => TokenClass::Not,
         _ => TokenClass::Other,
     }
 }

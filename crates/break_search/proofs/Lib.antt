@@ -1,8 +1,6 @@
 mod Forks
 mod Orders
 mod Heaps
-mod Edits
-mod Chaining
 mod Nodes
 mod Jumping
 mod Striding
@@ -12,6 +10,7 @@ mod Relaxing
 mod LineFacts
 mod AfterRelaxing
 mod Following
+mod Reaching
 mod Choosing
 mod LineSteps
 mod Settling
@@ -20,3 +19,5 @@ mod TurnFacts
 mod Beginning
 mod Answering
 mod Thrifty
+pub mod Walking
+pub mod LeastBreaks

@@ -1,8 +1,9 @@
 pub mod Outcome
+pub mod Starts
 pub mod Frontier
-pub mod Chains
 pub mod Groups
 pub mod Vertices
+pub mod Ways
 pub mod Jumps
 pub mod Progress
 pub mod Thrift

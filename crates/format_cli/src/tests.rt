@@ -344,14 +344,14 @@ const FORMATTED: [Row; 15] = [
     Row {
         name: "a function",
         input: b"int f(void){\n   return   1;\n}\n",
-        out: b"int f(void){\n  return 1;\n}\n",
+        out: b"int f(void) {\n  return 1;\n}\n",
         ..QUIET
     },
     Row {
         name: "wrapped braces",
         words: &["--style", "Microsoft"],
         input: b"void f(void){if(x){g();}else h();}\n",
-        out: b"void f(void)\n{\n    if(x)\n    {\n        g();\n    }\n    else\n        h();\n}\n",
+        out: b"void f(void)\n{\n    if (x)\n    {\n        g();\n    }\n    else\n        h();\n}\n",
         ..QUIET
     },
     Row {
@@ -363,7 +363,7 @@ const FORMATTED: [Row; 15] = [
     Row {
         name: "braces as digraphs, and one too many",
         input: b"}\n<% a+  +b\n\n%>\nc",
-        out: b"}\n<%\n  a+ +b\n%>\nc",
+        out: b"}\n<%\n  a + +b\n%>\nc",
         ..QUIET
     },
     Row {
@@ -410,7 +410,7 @@ const FORMATTED: [Row; 15] = [
         files: &[("a.c", b"x  =1;\n")],
         status: 6,
         notes: b"b.c: missing\n",
-        held: &[("a.c", b"x =1;\n")],
+        held: &[("a.c", b"x = 1;\n")],
         ..QUIET
     },
     Row {
@@ -418,15 +418,15 @@ const FORMATTED: [Row; 15] = [
         words: &["-i", "a.c", "a.c"],
         files: &[("a.c", b"x  =1;\n")],
         failing_files: &[5],
-        held: &[("a.c", b"x =1;\n")],
+        held: &[("a.c", b"x = 1;\n")],
         ..QUIET
     },
     Row {
         name: "an unchanged file isn't written",
         words: &["-i", "a.c"],
-        files: &[("a.c", b"x =1;\n")],
+        files: &[("a.c", b"x = 1;\n")],
         failing_files: &[3],
-        held: &[("a.c", b"x =1;\n")],
+        held: &[("a.c", b"x = 1;\n")],
         ..QUIET
     },
     Row {
@@ -482,7 +482,7 @@ const TEXTS: [(&str, &[u8], &[u8]); 14] = [
     (
         "slashes that a comment keeps apart",
         b"/ /**/ /x\n",
-        b"/ /**/ /x\n",
+        b"/ /**/ / x\n",
     ),
     (
         "operands that are no header name",
@@ -492,17 +492,17 @@ const TEXTS: [(&str, &[u8], &[u8]); 14] = [
     (
         "statements on one row",
         b"void f(void){if(x){g();}else h();}\n",
-        b"void f(void){\n  if(x){\n    g();\n  }else\n    h();\n}\n",
+        b"void f(void) {\n  if (x) {\n    g();\n  } else\n    h();\n}\n",
     ),
     (
         "two heads and one body",
         b"void g(void){\n#ifdef A\nif(x){\n#else\n  if (y){\n#endif\nf( );\n}\n}\n",
-        b"void g(void){\n#ifdef A\n  if(x){\n#else\n  if (y){\n#endif\n    f( );\n  }\n}\n",
+        b"void g(void) {\n#ifdef A\n  if (x) {\n#else\n  if (y) {\n#endif\n    f();\n  }\n}\n",
     ),
     (
         "directives in a block",
         b"{\n#if X\na ;\n#endif\n}\n",
-        b"{\n#if X\n  a ;\n#endif\n}\n",
+        b"{\n#if X\n  a;\n#endif\n}\n",
     ),
 ];
 

@@ -32,7 +32,7 @@ use Rattle.run_layout.specs.Run.{run_decisions}
 use Rattle.format_core.specs.BeforeRuns.{is_behind_dead, is_beside_dead, item_decision, decision_before, early_decision, made_at, early_from, early_decisions}
 use Rattle.brackets.specs.Kept.{kept_gaps_of}
 use Rattle.format_core.specs.KeptGaps.{kept_decisions}
-use Rattle.format_core.specs.Runs.{runs_of, seen_by, lines_of_items, after_kept, after_items, after_runs, early_plan, plan_of}
+use Rattle.format_core.specs.Runs.{toks_of_items, runs_of, seen_by, lines_of_items, after_kept, after_items, after_runs, early_plan, plan_of}
 use Rattle.format_core.specs.Laws.{EveryGapIsDecided}
 use Rattle.format_core.proofs.OfTexts.{text_mark}
 use Rattle.format_core.proofs.Stays.{runs_keep}
@@ -57,11 +57,11 @@ early_made style arena at (suc count) place decision low high is =
       | inr past ↦ made-right place here later (early_made style arena (at + 1) count place decision past (omega (arith, high)) is)
     ]
 
-length-early : (style : Style) (arena : Contents) → length (early_plan style arena) ≡ length arena.tokens + 1
+pub length-early : (style : Style) (arena : Contents) → length (early_plan style arena) ≡ length arena.tokens + 1
 length-early style arena =
     length-decided_all (replicate (length arena.tokens + 1) None) (early_decisions style arena) ∙ length-replicate (length arena.tokens + 1) None
 
-early_decided : (style : Style) (arena : Contents) (place : ℕ) (decision : Decision) → place ≤ length arena.tokens → early_decision style arena place ≡ Some decision
+pub early_decided : (style : Style) (arena : Contents) (place : ℕ) (decision : Decision) → place ≤ length arena.tokens → early_decision style arena place ≡ Some decision
     → IsDecided (early_plan style arena) place
 early_decided style arena place decision within is =
     let count = length arena.tokens + 1 in
@@ -91,7 +91,7 @@ live true true behind some e = e
 live false dead behind some e = cc
 
 -- the item is there, of a text and not dead
-abbrev IsLeft : Contents → ℕ → Type 0
+abbrev pub IsLeft : Contents → ℕ → Type 0
 IsLeft arena place = (place < length arena.tokens) × (stance_in (sections_of arena) place ≡ OfText) × (is_dead (marks_of arena) place ≡ false)
 
 alive_open : (style : Style) (arena : Contents) (place : ℕ) → is_beside_dead arena place ≡ false
@@ -104,7 +104,7 @@ alive_open style arena place alive = elim (before_open style arena place (slice_
       inr (within, of_text, live (nat_lt place (length arena.tokens)) (is_dead (marks_of arena) place) (is_behind_dead arena place) there alive)
 ]
 
-early_or_left : (style : Style) (arena : Contents) (place : ℕ) (dead : Bool) → is_beside_dead arena place ≡ dead
+pub early_or_left : (style : Style) (arena : Contents) (place : ℕ) (dead : Bool) → is_beside_dead arena place ≡ dead
     → ((decision : Decision) × ((if dead then Some Old else decision_before style arena place (slice_get arena.tokens place)) ≡ Some decision)) ⊎ IsLeft arena place
 early_or_left style arena place true e = inl (Old, refl)
 early_or_left style arena place false e = alive_open style arena place e
@@ -120,13 +120,13 @@ seen_within arena run = λ k d below.
     subst (λ n. get_or (seen_by arena run) k d < n) end (view_within (effects marks) run (effects_cut marks 0 [] cut) k d below)
 
 -- a run makes the plan no longer
-length-kept : (style : Style) (arena : Contents) (plan : List (Option Slot)) (ids : List ℕ) → length (after_kept style arena plan ids) ≡ length plan
+pub length-kept : (style : Style) (arena : Contents) (plan : List (Option Slot)) (ids : List ℕ) → length (after_kept style arena plan ids) ≡ length plan
 length-kept style arena plan ids = length-decided_all plan (kept_decisions style arena 0 ids (kept_gaps_of (classes_of arena ids)))
 
 length-items : (style : Style) (arena : Contents) (plan : List (Option Slot)) (ids : List ℕ) → length (after_items style arena plan ids) ≡ length plan
 length-items style arena plan ids =
     let kept : List (Option Slot) = after_kept style arena plan ids in
-    length-decided_all kept (run_decisions style arena ids kept (lines_of_items style arena ids)) ∙ length-kept style arena plan ids
+    length-decided_all kept (run_decisions style arena ids (toks_of_items style arena ids) kept (lines_of_items style arena ids)) ∙ length-kept style arena plan ids
 
 -- behind a run each gap of an item that it sees is decided
 seen_decided : (style : Style) (arena : Contents) (plan : List (Option Slot)) (run id : ℕ) → length plan ≡ length arena.tokens + 1 → Contains (seen_by arena run) id
@@ -138,7 +138,7 @@ seen_decided style arena plan run id long (k, below, is) =
     let after : List (Option Slot) = after_items style arena plan ids in
     let same : length kept ≡ length plan = length-kept style arena plan ids in
     let within : All (λ i. i < length kept) ids = λ j d low. (let w = seen_within arena run j d low in omega (arith, w, long, same)) in
-    let here : IsSome (slot_of after (get_or ids k id)) = run_decides style arena ids kept (lines_of_items style arena ids) cut within k id below in
+    let here : IsSome (slot_of after (get_or ids k id)) = run_decides style arena ids (toks_of_items style arena ids) kept (lines_of_items style arena ids) cut within k id below in
     decided-is_some after id (subst (λ i. IsSome (slot_of after i)) is here)
 
 -- the runs keep what is decided

@@ -1,4 +1,4 @@
-pub mod Counts
+pub mod LineCounts
 pub mod Opens
 pub mod SoundStart
 pub mod EarlySections
@@ -10,3 +10,5 @@ pub mod EveryGap
 pub mod SoundPlan
 pub mod NothingNew
 pub mod RowsDecided
+pub mod SoundPlans
+pub mod RunsTold

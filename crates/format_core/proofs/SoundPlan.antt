@@ -8,6 +8,7 @@ use Rattle.directives.proofs.Whole.{sections_are_cut}
 use Rattle.brackets.specs.Kept.{kept_gaps_of}
 use Rattle.brackets.specs.Partners.{partners_of}
 use Rattle.brackets.specs.Viewed.{AreWithin, classes_of}
+use Rattle.annotator.proofs.Counts.{as_many_roles, roles_tell}
 use Rattle.unwrapped_lines.proofs.Started.{lines_cut_views}
 use Rattle.replacements.specs.declared.slot.Slot.{Slot}
 use Rattle.replacements.specs.Sound.{IsSound}
@@ -17,13 +18,13 @@ use Rattle.run_layout.specs.Rows.{item_at, column_behind}
 use Rattle.run_layout.proofs.Stands.{MadeStand, all_sound, stay_sound}
 use Rattle.format_core.specs.KeptGaps.{input_column, kept_decisions}
 use Rattle.format_core.specs.Laws.{PlannedTextsAreTwins}
-use Rattle.format_core.specs.Runs.{runs_of, seen_by, lines_of_items, after_kept, after_items, after_runs, early_plan, plan_of}
+use Rattle.format_core.specs.Runs.{runs_of, seen_by, lines_of_items, toks_of_items, after_kept, after_items, after_runs, early_plan, plan_of}
 use Rattle.format_core.proofs.EveryGap.{seen_within}
 use Rattle.format_core.proofs.OfTexts.{views_are_of_texts}
 use Rattle.format_core.proofs.SoundStart.{old_stands, early_sound}
 
 -- what stays may stand
-kept_stand : (style : Style) (arena : Contents) (column : ℕ) (ids : List ℕ) (marks : List Bool) → MadeStand arena (kept_decisions style arena column ids marks)
+pub kept_stand : (style : Style) (arena : Contents) (column : ℕ) (ids : List ℕ) (marks : List Bool) → MadeStand arena (kept_decisions style arena column ids marks)
 kept_stand style arena column [] marks = tt
 kept_stand style arena column (id ∷ ids) [] = tt
 kept_stand style arena column (id ∷ ids) (true ∷ marks) = (old_stands arena id, kept_stand style arena (column_behind (input_column style arena column id) (item_at arena id)) ids marks)
@@ -33,8 +34,11 @@ kept_stand style arena column (id ∷ ids) (false ∷ marks) = kept_stand style 
 items_sound : (style : Style) (arena : Contents) (plan : List (Option Slot)) (ids : List ℕ) → AreWithin arena ids → AreOfTexts arena ids → IsSound arena plan → IsSound arena (after_items style arena plan ids)
 items_sound style arena plan ids within texts sound =
     let made = kept_decisions style arena 0 ids (kept_gaps_of (classes_of arena ids)) in
-    stay_sound style arena ids (lines_of_items style arena ids) (after_kept style arena plan ids) within texts
-    (lines_cut_views style arena ids (partners_of (classes_of arena ids)))
+    let partners = partners_of (classes_of arena ids) in
+    let lines = lines_of_items style arena ids in
+    let cut = lines_cut_views style arena ids partners in
+    stay_sound style arena ids (toks_of_items style arena ids) lines (after_kept style arena plan ids) within texts
+    (as_many_roles arena ids partners lines cut) (roles_tell arena ids partners lines) cut
     (all_sound arena plan made sound (kept_stand style arena 0 ids (kept_gaps_of (classes_of arena ids))))
 
 runs_sound : (style : Style) (arena : Contents) (plan : List (Option Slot)) (run count : ℕ) → IsSound arena plan → IsSound arena (after_runs style arena plan run count)

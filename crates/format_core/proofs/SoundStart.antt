@@ -3,6 +3,7 @@ use Rattle.std.proofs.Common.{◌≡◌, ◌==◌, ◌∙◌, not, ◌&&◌, ℕ
 use Rattle.std.specs.Prelude.{if◌then◌else◌, slice_get}
 use Rattle.std.proofs.lemmas.Bool.{eqb-true}
 use Rattle.c_chars.specs.declared.Dialect.{Dialect}
+use Rattle.c_grammar.specs.Items.{Place}
 use Rattle.style_table.specs.declared.style.Style.{Style}
 use Rattle.line_tokens.specs.declared.GapFacts.{GapFacts}
 use Rattle.token_arena.specs.Stored.{Stored}
@@ -12,7 +13,8 @@ use Rattle.gap_text.specs.declared.Decision.{Decision}
 use Rattle.gap_text.specs.declared.Decision.TheVariants.{Old, Spaces, Lines}
 use Rattle.replacements.specs.Breaks.{has_new_line_before}
 use Rattle.replacements.specs.Decisions.{slot_of, decided_all}
-use Rattle.replacements.specs.Sound.{MayEnd, MayStandBetween, MayStand, IsSound, item_before, stance_before}
+use Rattle.replacements.specs.Sound.{MayEnd, MayStandBetween, MayStand, IsSound, item_before, stance_before, place_before}
+use Rattle.replacements.specs.Places.{place_in}
 use Rattle.replacements.specs.Stances.{stance_in}
 use Rattle.replacements.specs.declared.slot.Slot.{Slot}
 use Rattle.replacements.specs.declared.stance.Stance.{Stance}
@@ -24,25 +26,25 @@ use Rattle.format_core.specs.Runs.{early_plan}
 
 -- ## One gap
 
-old_between : (d : Dialect) (before : Stance) (left : Option Stored) (here : Stance) (token : Option Stored) → MayStandBetween d before left here token Old
-old_between d before left here None = tt
-old_between d before None here (Some token) = tt
-old_between d before (Some l) here (Some token) = tt
+old_between : (d : Dialect) (stood : Place) (before : Stance) (left : Option Stored) (here : Stance) (token : Option Stored) → MayStandBetween d stood before left here token Old
+old_between d stood before left here None = tt
+old_between d stood before None here (Some token) = tt
+old_between d stood before (Some l) here (Some token) = tt
 
 -- the input's bytes may stand anywhere
 pub old_stands : (arena : Contents) (place : ℕ) → MayStand arena place Old
 old_stands arena place =
-    old_between arena.dialect (stance_before (stance_in (sections_of arena)) place) (item_before arena.tokens place) (stance_in (sections_of arena) place) (slice_get arena.tokens place)
+    old_between arena.dialect (place_before (place_in arena) place) (stance_before (stance_in (sections_of arena)) place) (item_before arena.tokens place) (stance_in (sections_of arena) place) (slice_get arena.tokens place)
 
-lines_between : (d : Dialect) (before : Stance) (left : Option Stored) (here : Stance) (token : Option Stored) (count : ℕ) → here ≡ Leads → 0 < count → MayStandBetween d before left here token (Lines count 0 0)
-lines_between d before left here None count e h = h
-lines_between d before None here (Some token) count e h = tt
-lines_between d before (Some l) here (Some token) count e h = (h, λ w. cc)
+lines_between : (d : Dialect) (stood : Place) (before : Stance) (left : Option Stored) (here : Stance) (token : Option Stored) (count : ℕ) → here ≡ Leads → 0 < count → MayStandBetween d stood before left here token (Lines count 0 0)
+lines_between d stood before left here None count e h = h
+lines_between d stood before None here (Some token) count e h = tt
+lines_between d stood before (Some l) here (Some token) count e h = (h, λ w. cc)
 
 lead_cases : (arena : Contents) (place count : ℕ) (x : Bool) → (x ≡ true → place ≡ 0) → stance_in (sections_of arena) place ≡ Leads → 0 < count → MayStand arena place (if x then Spaces 0 else Lines count 0 0)
 lead_cases arena place count true z e h = nothing_stands arena place (z refl)
 lead_cases arena place count false z e h =
-    lines_between arena.dialect (stance_before (stance_in (sections_of arena)) place) (item_before arena.tokens place) (stance_in (sections_of arena) place) (slice_get arena.tokens place) count e h
+    lines_between arena.dialect (place_before (place_in arena) place) (stance_before (stance_in (sections_of arena)) place) (item_before arena.tokens place) (stance_in (sections_of arena) place) (slice_get arena.tokens place) count e h
 
 -- before the first item of a directive
 lead_stands : (style : Style) (arena : Contents) (place : ℕ) (gap : GapFacts) → stance_in (sections_of arena) place ≡ Leads → MayStand arena place (lead_decision style place gap)
@@ -75,7 +77,7 @@ before_stands : (style : Style) (arena : Contents) (place : ℕ) (token : Option
     → MayStand arena place decision
 before_stands style arena place None decision at is =
     let same : last_decision style arena ≡ decision = cc in
-    let P : Option Stored → Type 0 = λ x. MayStandBetween arena.dialect (stance_before (stance_in (sections_of arena)) place) (item_before arena.tokens place) (stance_in (sections_of arena) place) x decision in
+    let P : Option Stored → Type 0 = λ x. MayStandBetween arena.dialect (place_before (place_in arena) place) (stance_before (stance_in (sections_of arena)) place) (item_before arena.tokens place) (stance_in (sections_of arena) place) x decision in
     subst P (sym at) (subst MayEnd same (last_stands style arena))
 before_stands style arena place (Some token) decision at is = item_stands style arena place (stance_in (sections_of arena) place) token.gap decision refl is
 

@@ -15,7 +15,7 @@ use Rattle.format_core.specs.BeforeRuns.{early_decision, early_slot, made_at, ea
 use Rattle.brackets.specs.Kept.{kept_gaps_of}
 use Rattle.brackets.specs.Viewed.{classes_of}
 use Rattle.format_core.specs.KeptGaps.{kept_decisions}
-use Rattle.format_core.specs.Runs.{runs_of, seen_by, lines_of_items, after_kept, after_items, after_runs, early_plan, plan_of}
+use Rattle.format_core.specs.Runs.{toks_of_items, runs_of, seen_by, lines_of_items, after_kept, after_items, after_runs, early_plan, plan_of}
 use Rattle.format_core.specs.Laws.{EarlyDecisionsStay}
 use Rattle.format_core.proofs.SoundStart.{fresh}
 
@@ -67,7 +67,7 @@ early_there style arena place decision within is =
 items_keep : (style : Style) (arena : Contents) (plan : List (Option Slot)) (ids : List ℕ) (place : ℕ) (slot : Slot) → slot_of plan place ≡ Some slot → slot_of (after_items style arena plan ids) place ≡ Some slot
 items_keep style arena plan ids place slot is =
     let kept : List (Option Slot) = after_kept style arena plan ids in
-    stay kept (run_decisions style arena ids kept (lines_of_items style arena ids)) place slot
+    stay kept (run_decisions style arena ids (toks_of_items style arena ids) kept (lines_of_items style arena ids)) place slot
     (stay plan (kept_decisions style arena 0 ids (kept_gaps_of (classes_of arena ids))) place slot is)
 
 -- no run changes it

@@ -1,5 +1,5 @@
 -- What holds of the plan of a text.
-use Rattle.std.specs.Prelude.{◌≡◌, ◌≤◌, ℕ, Bool, Some, IsSome, length}
+use Rattle.std.specs.Prelude.{◌≡◌, ◌≤◌, ℕ, Bool, List, Option, Some, IsSome, length}
 use Rattle.c_grammar.specs.Twin.{IsTwin}
 use Rattle.style_table.specs.declared.style.Style.{Style}
 use Rattle.token_arena.specs.Gaps.{Contents}
@@ -9,6 +9,9 @@ use Rattle.gap_text.specs.declared.Decision.{Decision}
 use Rattle.replacements.specs.Decisions.{slot_of}
 use Rattle.replacements.specs.Written.{decision_at, written}
 use Rattle.format_core.specs.BeforeRuns.{early_decision}
+use Rattle.replacements.specs.declared.slot.Slot.{Slot}
+use Rattle.run_layout.specs.Outcomes.{LaidLine}
+use Rattle.format_core.specs.Plans.{IsPlanOf}
 use Rattle.format_core.specs.Runs.{plan_of}
 
 -- The text of the plan of a text is a twin of it, in every style and with either line end.
@@ -23,3 +26,23 @@ EarlyDecisionsStay = (style : Style) (arena : Contents) (place : ℕ) (decision 
 -- Each gap of a text is decided: before the runs, or by the first run that sees it. docs/PROFILE.md, "Runs".
 abbrev pub EveryGapIsDecided : Type 0
 EveryGapIsDecided = (style : Style) (arena : Contents) (place : ℕ) → place ≤ length arena.tokens → IsSome (slot_of (plan_of style arena) place)
+
+-- ## Plans with breaks that are searched
+
+-- The text of a plan is a twin of the text, in every style and with either line end, whichever lines are reported.
+abbrev pub PlansAreTwins : Type 0
+PlansAreTwins =
+    (style : Style) (budget : ℕ) (crlf : Bool) (arena : Contents) (plan : List (Option Slot)) (done : List LaidLine)
+    → HoldsItems arena → IsPlanOf style budget arena plan done → IsTwin arena.dialect arena.text (written style crlf arena (sections_of arena) plan)
+
+-- No run changes what is decided before the runs.
+abbrev pub EarlyDecisionsStayInPlans : Type 0
+EarlyDecisionsStayInPlans =
+    (style : Style) (budget : ℕ) (arena : Contents) (plan : List (Option Slot)) (done : List LaidLine) (place : ℕ) (decision : Decision)
+    → IsPlanOf style budget arena plan done → place ≤ length arena.tokens → early_decision style arena place ≡ Some decision → decision_at plan place ≡ decision
+
+-- Each gap of a text is decided in each of its plans.
+abbrev pub PlansAreWhole : Type 0
+PlansAreWhole =
+    (style : Style) (budget : ℕ) (arena : Contents) (plan : List (Option Slot)) (done : List LaidLine) (place : ℕ)
+    → IsPlanOf style budget arena plan done → place ≤ length arena.tokens → IsSome (slot_of plan place)

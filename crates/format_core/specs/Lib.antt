@@ -3,6 +3,10 @@ pub mod LineEnds
 pub mod BeforeRuns
 pub mod KeptGaps
 pub mod Runs
+pub mod Plans
+pub mod Reports
+pub mod FormatsWithin
+pub mod RunsTold
 pub mod Formats
 pub mod Exact
 pub mod Laws

@@ -10,6 +10,8 @@ use Rattle.branch_runs.specs.Runs.{need, view_of}
 use Rattle.brackets.specs.Kept.{kept_gaps_of}
 use Rattle.brackets.specs.Partners.{partners_of}
 use Rattle.brackets.specs.Viewed.{classes_of}
+use Rattle.line_tokens.specs.declared.LineTok.{LineTok}
+use Rattle.annotator.specs.Tokens.{roles_of}
 use Rattle.unwrapped_lines.specs.declared.line.ULine.{ULine}
 use Rattle.unwrapped_lines.specs.Lines.{unwrapped_lines_of}
 use Rattle.replacements.specs.Decisions.{slot_of, decided_all}
@@ -35,13 +37,17 @@ seen_by arena run = view_of (tree_of (marks_of arena)) run
 abbrev pub lines_of_items : Style → Contents → List ℕ → List ULine
 lines_of_items style arena ids = unwrapped_lines_of style arena ids (partners_of (classes_of arena ids))
 
+-- what these items do in their lines
+abbrev pub toks_of_items : Style → Contents → List ℕ → List LineTok
+toks_of_items style arena ids = roles_of arena ids (partners_of (classes_of arena ids)) (lines_of_items style arena ids)
+
 -- the plan after what stays as it is between these items is decided
 abbrev pub after_kept : Style → Contents → List (Option Slot) → List ℕ → List (Option Slot)
 after_kept style arena plan ids = decided_all plan (kept_decisions style arena 0 ids (kept_gaps_of (classes_of arena ids)))
 
 -- the plan after these items are laid out: first what stays is decided, then their lines
 abbrev pub after_items : Style → Contents → List (Option Slot) → List ℕ → List (Option Slot)
-after_items style arena plan ids = let kept = after_kept style arena plan ids in decided_all kept (run_decisions style arena ids kept (lines_of_items style arena ids))
+after_items style arena plan ids = let kept = after_kept style arena plan ids in decided_all kept (run_decisions style arena ids (toks_of_items style arena ids) kept (lines_of_items style arena ids))
 
 -- the gap before each of these items is decided
 abbrev pub AreDecided : List (Option Slot) → List ℕ → Type 0

@@ -1,7 +1,7 @@
 //! The laws of the layout. Each stands on the contract of a function that does nothing.
 
 ghost use Rattle.format_core.specs.Exact.{OpenTextsHaveNoLayout};
-ghost use Rattle.format_core.specs.Laws.{EarlyDecisionsStay, EveryGapIsDecided, PlannedTextsAreTwins};
+ghost use Rattle.format_core.specs.Laws.{EarlyDecisionsStay, EarlyDecisionsStayInPlans, EveryGapIsDecided, PlannedTextsAreTwins, PlansAreTwins, PlansAreWhole};
 
 /// No text has both a layout and a block comment that nothing ends: so such a text is always refused.
 pub fn open_texts_have_no_layout()
@@ -23,4 +23,19 @@ pub fn early_decisions_stay()
 /// a decision.
 pub fn every_gap_is_decided()
     ensures { EveryGapIsDecided }
+{}
+
+/// The text of a plan is a twin of the text, in every style, whichever lines are reported.
+pub fn plans_are_twins()
+    ensures { PlansAreTwins }
+{}
+
+/// No run changes what is decided before the runs.
+pub fn early_decisions_stay_in_plans()
+    ensures { EarlyDecisionsStayInPlans }
+{}
+
+/// Each gap of a text is decided in each of its plans.
+pub fn plans_are_whole()
+    ensures { PlansAreWhole }
 {}

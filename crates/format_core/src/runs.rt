@@ -2,12 +2,14 @@
 
 ghost use Rattle.std.specs.Prelude.{◌≡◌, ◌<◌, ◌≤◌, ◌+◌, All, IfOk, IsTrue, OnOk, length};
 ghost use Rattle.c_chars.specs.declared.TheConstants.{LIMIT};
+ghost use Rattle.style_table.specs.Range.{IsInRange};
 ghost use Rattle.brackets.specs.Viewed.{AreWithin, item_classes};
 ghost use Rattle.directives.specs.Sections.{sections_of, IsCut};
 ghost use Rattle.format_core.specs.Runs.{AreDecided, IsTreeOf, runs_of, seen_by, after_items, after_runs, plan_of};
 
 use crate::early::decide_early;
 use crate::kept::keep_gaps;
+use annotator::roles_of_classes;
 use brackets::{TokenClass, bracket_facts, classes_among, item_classes};
 use branch_runs::CondTree;
 use bumpalo::Bump;
@@ -31,7 +33,7 @@ fn lay_out_items(
     plan: &mut Plan<'_>,
     run: &Bump,
 ) -> Result<(), NoMemory>
-    requires tab { 1 ≤ style.now.tab_width }
+    requires range { IsInRange style.now }
     requires all { all.now ≡ item_classes arena.now }
     requires within { AreWithin arena.now view.now }
     requires whole { length plan.old ≡ length arena.now.tokens + 1 }
@@ -42,12 +44,13 @@ fn lay_out_items(
     let facts = bracket_facts(classes, run)?;
     keep_gaps(style, arena, view, facts.kept, plan);
     let lines = lines_of_classes(style, arena, view, classes, facts.partners, run)?;
-    lay_out_run(style, arena, view, classes, lines, plan);
+    let toks = roles_of_classes(arena, view, classes, facts.partners, lines, run)?;
+    lay_out_run(style, arena, view, classes, toks, lines, plan);
     Ok(())
 }
 
 /// Whether the gap before each item of a view is decided.
-fn are_decided(view: &View<'_>, plan: &Plan<'_>) -> bool
+pub(crate) fn are_decided(view: &View<'_>, plan: &Plan<'_>) -> bool
     requires { All (λ id. id < length plan.now) view.now }
     ensures { IsTrue result → AreDecided plan.now view.now }
 {
@@ -70,7 +73,7 @@ fn lay_out_seen(
     plan: &mut Plan<'_>,
     run: &Bump,
 ) -> Result<(), NoMemory>
-    requires tab { 1 ≤ style.now.tab_width }
+    requires range { IsInRange style.now }
     requires all { all.now ≡ item_classes arena.now }
     requires tree { IsTreeOf arena.now tree.now }
     requires number { number < runs_of arena.now }
@@ -94,7 +97,7 @@ fn lay_out_runs(
     tree: &CondTree<'_>,
     plan: &mut Plan<'_>,
 ) -> Result<(), NoMemory>
-    requires tab { 1 ≤ style.now.tab_width }
+    requires range { IsInRange style.now }
     requires all { all.now ≡ item_classes arena.now }
     requires tree { IsTreeOf arena.now tree.now }
     requires whole { length plan.old ≡ length arena.now.tokens + 1 }
@@ -120,7 +123,7 @@ pub(crate) fn plan_of<'a>(
     arena: &TokenArena<'_, '_>,
     sections: &[Section],
 ) -> Result<Plan<'a>, NoMemory>
-    requires tab { 1 ≤ style.now.tab_width }
+    requires range { IsInRange style.now }
     requires fits { length arena.now.text ≤ LIMIT }
     requires sections { sections.now ≡ sections_of arena.now }
     requires cut { IsCut 0 (length arena.now.tokens) sections.now }

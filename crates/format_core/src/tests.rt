@@ -17,11 +17,16 @@ struct Row {
     output: &'static [u8],
 }
 
-const ROWS: [Row; 44] = [
+const ROWS: [Row; 45] = [
+    Row {
+        name: "blanks by roles",
+        input: b"int*p,*q;\nx=(int)y*z;\n",
+        output: b"int *p, *q;\nx = (int)y * z;\n",
+    },
     Row {
         name: "a function",
         input: b"int f(void){\n   return   1;\n}\n",
-        output: b"int f(void){\n  return 1;\n}\n",
+        output: b"int f(void) {\n  return 1;\n}\n",
     },
     Row {
         name: "the empty text",
@@ -51,7 +56,7 @@ const ROWS: [Row; 44] = [
     Row {
         name: "gaps of one blank, a tab, two blanks and none",
         input: b"\xEF\xBB\xBFa b\tc  d(e)f g;h i\t\n",
-        output: b"\xEF\xBB\xBFa b c d(e)f g;\nh i\n",
+        output: b"\xEF\xBB\xBFa b c d(e) f g;\nh i\n",
     },
     Row {
         name: "splices behind semicolons",
@@ -76,7 +81,7 @@ const ROWS: [Row; 44] = [
     Row {
         name: "comments between slashes",
         input: b"/ /**/ /x\n",
-        output: b"/ /**/ /x\n",
+        output: b"/ /**/ / x\n",
     },
     Row {
         name: "macros with and without parameters",
@@ -166,7 +171,7 @@ const ROWS: [Row; 44] = [
     Row {
         name: "directives in braces",
         input: b"{\n#if X\na ;\n#endif\n}\n",
-        output: b"{\n#if X\n  a ;\n#endif\n}\n",
+        output: b"{\n#if X\n  a;\n#endif\n}\n",
     },
     Row {
         name: "a directive that is indented and spliced",
@@ -191,27 +196,27 @@ const ROWS: [Row; 44] = [
     Row {
         name: "two heads of a statement and one body",
         input: b"void g(void){\n#ifdef A\nif(x){\n#else\n  if (y){\n#endif\nf( );\n}\n}\n",
-        output: b"void g(void){\n#ifdef A\n  if(x){\n#else\n  if (y){\n#endif\n    f( );\n  }\n}\n",
+        output: b"void g(void) {\n#ifdef A\n  if (x) {\n#else\n  if (y) {\n#endif\n    f();\n  }\n}\n",
     },
     Row {
         name: "two heads of a function and one body",
         input: b"#ifdef A\nint f(int a){\n#else\nint f(void){\n#endif\nreturn 0;}\n",
-        output: b"#ifdef A\nint f(int a){\n#else\nint f(void){\n#endif\n  return 0;\n}\n",
+        output: b"#ifdef A\nint f(int a) {\n#else\nint f(void) {\n#endif\n  return 0;\n}\n",
     },
     Row {
         name: "branches inside a line",
         input: b"f(a,\n#ifdef X\nb ,\n#else\nc ,\n#endif\nd);\n",
-        output: b"f(a,\n#ifdef X\n    b ,\n#else\n    c ,\n#endif\n    d);\n",
+        output: b"f(a,\n#ifdef X\n    b,\n#else\n    c,\n#endif\n    d);\n",
     },
     Row {
         name: "an `else` in a branch of its own",
         input: b"void f(void){if(x)g();\n#ifdef E\nelse h();\n#endif\n}\n",
-        output: b"void f(void){\n  if(x)\n    g();\n#ifdef E\n  else\n    h();\n#endif\n}\n",
+        output: b"void f(void) {\n  if (x)\n    g();\n#ifdef E\n  else\n    h();\n#endif\n}\n",
     },
     Row {
         name: "a dead group and one that lives",
         input: b"if(a){\n#if 0\n  b ( ;\n\n\n#else\nc();\n#endif\n}\n",
-        output: b"if(a){\n#if 0\n  b ( ;\n\n\n#else\n  c();\n#endif\n}\n",
+        output: b"if (a) {\n#if 0\n  b ( ;\n\n\n#else\n  c();\n#endif\n}\n",
     },
     Row {
         name: "a group that stays dead to the end",
@@ -221,12 +226,12 @@ const ROWS: [Row; 44] = [
     Row {
         name: "statements on one row",
         input: b"void f(void){if(x){g();}else h();}\n",
-        output: b"void f(void){\n  if(x){\n    g();\n  }else\n    h();\n}\n",
+        output: b"void f(void) {\n  if (x) {\n    g();\n  } else\n    h();\n}\n",
     },
     Row {
         name: "labels",
         input: b"void f(int x){switch(x){case 1:a();break;default:b();}out:c();}\n",
-        output: b"void f(int x){\n  switch(x){\n  case 1:\n    a();\n    break;\n  default:\n    b();\n  }\nout:\n  c();\n}\n",
+        output: b"void f(int x) {\n  switch (x) {\n  case 1:\n    a();\n    break;\n  default:\n    b();\n  }\nout:\n  c();\n}\n",
     },
     Row {
         name: "a closing brace without partner",

@@ -79,15 +79,15 @@ blanks_text_bytes d place left item after n breaks =
 
 -- Bytes that may stand for the old ones
 
-fit_behind_free : (d : Dialect) (text : List ℕ) (place : Place) (left : ReadItem) (gaps : List (List ℕ)) (items : List ReadItem) (end : List ℕ) → FitBehind d place left gaps items end → FreeBehind d text place left gaps items end
-fit_behind_free d text place left [] [] end fit = fit
-fit_behind_free d text place left [] (i ∷ items) end fit = absurd fit
-fit_behind_free d text place left (g ∷ gaps) [] end fit = absurd fit
-fit_behind_free d text place left (g ∷ gaps) (i ∷ items) end fit = (FitBytes fit.0, fit_behind_free d text (past_item d (past_gap place (bytes_of i.gap)) i.kind (bytes_of i.chars)) i gaps items end fit.1)
+fit_behind_free : (d : Dialect) (text : List ℕ) (stood place : Place) (left : ReadItem) (gaps : List (List ℕ)) (items : List ReadItem) (end : List ℕ) → FitBehind d place left gaps items end → FreeBehind d text stood place left gaps items end
+fit_behind_free d text stood place left [] [] end fit = fit
+fit_behind_free d text stood place left [] (i ∷ items) end fit = absurd fit
+fit_behind_free d text stood place left (g ∷ gaps) [] end fit = absurd fit
+fit_behind_free d text stood place left (g ∷ gaps) (i ∷ items) end fit = (FitBytes fit.0, fit_behind_free d text (past_gap place (bytes_of i.gap)) (past_item d (past_gap place (bytes_of i.gap)) i.kind (bytes_of i.chars)) i gaps items end fit.1)
 
 -- are free
 pub fit_text_free : (d : Dialect) (text : List ℕ) (gaps : List (List ℕ)) (items : List ReadItem) (end : List ℕ) → FitText d gaps items end → FreeText d text gaps items end
 fit_text_free d text [] [] end fit = tt
 fit_text_free d text [] (i ∷ items) end fit = absurd fit
 fit_text_free d text (g ∷ gaps) [] end fit = absurd fit
-fit_text_free d text (g ∷ gaps) (i ∷ items) end fit = (fit.0, fit_behind_free d text (past_item d LineStart i.kind (bytes_of i.chars)) i gaps items end fit.1)
+fit_text_free d text (g ∷ gaps) (i ∷ items) end fit = (fit.0, fit_behind_free d text LineStart (past_item d LineStart i.kind (bytes_of i.chars)) i gaps items end fit.1)

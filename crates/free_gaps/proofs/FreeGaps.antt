@@ -17,20 +17,21 @@ use Rattle.c_grammar.proofs.FitGaps.{fit_gaps, keeps_items_over_fit_gaps}
 use Rattle.c_grammar.proofs.KeptBytes.{fit_itself}
 use Rattle.c_grammar.proofs.Lines.{keeps_items_over_lines}
 use Rattle.free_gaps.specs.FreeGaps.{MayBreak}
-use Rattle.free_gaps.proofs.Places.{IsFreeGap, AreAlike, alike_text, step_alike, step_part}
+use Rattle.free_gaps.proofs.OneLine.{line_gap}
+use Rattle.free_gaps.proofs.Places.{IsFreeGap, AreAlike, alike_text, AreStood, stood_alike, step_alike, step_part}
 
 -- the same items, each behind a free gap
-abbrev pub HaveFreeGaps : Dialect → Place → ItemKind → List ℕ → List Piece → List Piece → Type 0
-HaveFreeGaps d place left l [] [] = ⊤
-HaveFreeGaps d place left l (p ∷ ps) (q ∷ qs) =
-    IsSameItem p q × IsFreeGap place left l p ps q.gap × HaveFreeGaps d (past_item d (past_gap place p.gap) p.kind p.spelling) p.kind p.spelling ps qs
-HaveFreeGaps d place left l [] (q ∷ qs) = ⊥
-HaveFreeGaps d place left l (p ∷ ps) [] = ⊥
+abbrev pub HaveFreeGaps : Dialect → Place → Place → ItemKind → List ℕ → List Piece → List Piece → Type 0
+HaveFreeGaps d stood place left l [] [] = ⊤
+HaveFreeGaps d stood place left l (p ∷ ps) (q ∷ qs) =
+    IsSameItem p q × IsFreeGap stood place left l p ps q.gap × HaveFreeGaps d (past_gap place p.gap) (past_item d (past_gap place p.gap) p.kind p.spelling) p.kind p.spelling ps qs
+HaveFreeGaps d stood place left l [] (q ∷ qs) = ⊥
+HaveFreeGaps d stood place left l (p ∷ ps) [] = ⊥
 
 -- the same items, the first behind any gap, each other behind a free one
 abbrev pub AreFree : Dialect → List Piece → List Piece → Type 0
 AreFree d [] [] = ⊤
-AreFree d (p ∷ ps) (q ∷ qs) = IsSameItem p q × IsTrue (is_gap q.gap) × HaveFreeGaps d (past_item d LineStart p.kind p.spelling) p.kind p.spelling ps qs
+AreFree d (p ∷ ps) (q ∷ qs) = IsSameItem p q × IsTrue (is_gap q.gap) × HaveFreeGaps d LineStart (past_item d LineStart p.kind p.spelling) p.kind p.spelling ps qs
 AreFree d [] (q ∷ qs) = ⊥
 AreFree d (p ∷ ps) [] = ⊥
 
@@ -60,10 +61,10 @@ fit_moved p q left o g e fit = record {
 
 -- One gap
 
-free_gap : (d : Dialect) (p : Place) (xs : List Piece) (l x : Piece) (ps : List Piece) (last g : List ℕ) → Reads d LineStart (xs ++ l ∷ x ∷ ps) last →
-    AreAlike p (place_behind d LineStart (xs ++ l ∷ [])) (x ∷ ps) → IsFreeGap p l.kind l.spelling x ps g → Reads d LineStart (xs ++ l ∷ regapped g x ∷ ps) last
+free_gap : (d : Dialect) (stood p : Place) (xs : List Piece) (l x : Piece) (ps : List Piece) (last g : List ℕ) → Reads d LineStart (xs ++ l ∷ x ∷ ps) last →
+    AreStood stood (past_gap (place_behind d LineStart xs) l.gap) → AreAlike p (place_behind d LineStart (xs ++ l ∷ [])) (x ∷ ps) → IsFreeGap stood p l.kind l.spelling x ps g → Reads d LineStart (xs ++ l ∷ regapped g x ∷ ps) last
 unfolding is_white is_new_line
-free_gap d p xs l x ps last g h alike (inl fit) =
+free_gap d stood p xs l x ps last g h at alike (inl fit) =
     let behind = place_behind d LineStart (xs ++ l ∷ []) in
     let there : Reads d LineStart ((xs ++ l ∷ []) ++ x ∷ ps) last = subst (λ z. Reads d LineStart z last) (sym (onward xs l (x ∷ ps))) h in
     let rest : Reads d behind (x ∷ ps) last = reads_behind d LineStart (xs ++ l ∷ []) (x ∷ ps) last there in
@@ -73,7 +74,7 @@ free_gap d p xs l x ps last g h alike (inl fit) =
       fit_moved p behind l.kind x.gap g (alike_text p behind (x ∷ ps) alike) fit,
       stay_fit d next next x.kind ps last rest.2,
     )
-free_gap d p xs l x ps last g h alike (inr (inl free)) =
+free_gap d stood p xs l x ps last g h at alike (inr (inl free)) =
     let behind = place_behind d LineStart (xs ++ l ∷ []) in
     let text : in_directive behind ≡ false = sym (alike_text p behind (x ∷ ps) alike) ∙ free.breaks.in_text in
     (keeps_items_over_lines d (written (xs ++ l ∷ x ∷ ps) last) xs ps l x last g (record { whole = refl; reads = h }) free.white (not_empty g free.some) free.breaks.goes_on text free.breaks.no_hash).reads
@@ -81,20 +82,13 @@ free_gap d p xs l x ps last g h alike (inr (inl free)) =
     not_empty : (g : List ℕ) → is_same g [] ≡ false → g ≡ [] → ⊥
     not_empty [] s e = cc
     not_empty (c ∷ g) s e = cc
-free_gap d p xs l x ps last g h alike (inr (inr closed)) = subst (λ z. Reads d LineStart (xs ++ l ∷ regapped z x ∷ ps) last) (sym (same_is g [] closed.none)) (by_lines closed.lines)
-  where
-    close : (x : Piece) → Reads d LineStart (xs ++ l ∷ x ∷ ps) last → may_touch l.kind l.spelling x.kind x.spelling ≡ true → list_any is_new_line x.gap ≡ false → Reads d LineStart (xs ++ l ∷ regapped [] x ∷ ps) last
-    close x k touch n = (keeps_items d (written (xs ++ l ∷ x ∷ ps) last) xs ps l x last (record { whole = refl; reads = k }) touch n).reads
-
-    joined : MayBreak p l.kind x ps → Reads d LineStart (xs ++ l ∷ regapped (32 ∷ []) x ∷ ps) last
-    joined b =
-        let behind = place_behind d LineStart (xs ++ l ∷ []) in
-        let text : in_directive behind ≡ false = sym (alike_text p behind (x ∷ ps) alike) ∙ b.in_text in
-        (keeps_items_over_lines d (written (xs ++ l ∷ x ∷ ps) last) xs ps l x last (32 ∷ []) (record { whole = refl; reads = h }) refl (λ z. cc) b.goes_on text b.no_hash).reads
-
-    by_lines : (list_any is_new_line x.gap ≡ false) ⊎ MayBreak p l.kind x ps → Reads d LineStart (xs ++ l ∷ regapped [] x ∷ ps) last
-    by_lines (inl n) = close x h closed.touch n
-    by_lines (inr b) = close (regapped (32 ∷ []) x) (joined b) closed.touch refl
+free_gap d stood p xs l x ps last g h at alike (inr (inr (inr line))) = line_gap d stood p xs l x ps last g h at line
+free_gap d stood p xs l x ps last g h at alike (inr (inr (inl closed))) =
+    let behind = place_behind d LineStart (xs ++ l ∷ []) in
+    let text : in_directive behind ≡ false = sym (alike_text p behind (x ∷ ps) alike) ∙ closed.breaks.in_text in
+    let joined = (keeps_items_over_lines d (written (xs ++ l ∷ x ∷ ps) last) xs ps l x last (32 ∷ []) (record { whole = refl; reads = h }) refl (λ z. cc) closed.breaks.goes_on text closed.breaks.no_hash).reads in
+    let none = (keeps_items d (written (xs ++ l ∷ regapped (32 ∷ []) x ∷ ps) last) xs ps l (regapped (32 ∷ []) x) last (record { whole = refl; reads = joined }) closed.touch refl).reads in
+    subst (λ z. Reads d LineStart (xs ++ l ∷ regapped z x ∷ ps) last) (sym (same_is g [] closed.none)) none
 
 -- All gaps
 
@@ -105,25 +99,25 @@ behind_more d place (x ∷ xs) ys = behind_more d (past_item d (past_gap place x
 item_same : (d : Dialect) (place : Place) (p q : Piece) → IsSameItem p q → past_item d place p.kind p.spelling ≡ past_item d place q.kind q.spelling
 item_same d place p q same = ap (λ z. past_item d place z p.spelling) (sym same.kind) ∙ ap (λ z. past_item d place q.kind z) (sym same.spelling)
 
-item_moved : (d : Dialect) (place : Place) (p q : Piece) (ps qs : List Piece) → IsSameItem p q → HaveFreeGaps d place p.kind p.spelling ps qs → HaveFreeGaps d place q.kind q.spelling ps qs
-item_moved d place p q ps qs same free = subst (λ z. HaveFreeGaps d place q.kind z ps qs) (sym same.spelling) (subst (λ z. HaveFreeGaps d place z p.spelling ps qs) (sym same.kind) free)
+item_moved : (d : Dialect) (stood place : Place) (p q : Piece) (ps qs : List Piece) → IsSameItem p q → HaveFreeGaps d stood place p.kind p.spelling ps qs → HaveFreeGaps d stood place q.kind q.spelling ps qs
+item_moved d stood place p q ps qs same free = subst (λ z. HaveFreeGaps d stood place q.kind z ps qs) (sym same.spelling) (subst (λ z. HaveFreeGaps d stood place z p.spelling ps qs) (sym same.kind) free)
 
-free_gaps : (d : Dialect) (p : Place) (xs : List Piece) (l : Piece) (ps qs : List Piece) (last : List ℕ) → Reads d LineStart (xs ++ l ∷ ps) last →
-    AreAlike p (place_behind d LineStart (xs ++ l ∷ [])) ps → HaveFreeGaps d p l.kind l.spelling ps qs → Reads d LineStart (xs ++ l ∷ qs) last
-free_gaps d p xs l [] [] last h alike free = h
-free_gaps d p xs l [] (y ∷ qs) last h alike free = absurd free
-free_gaps d p xs l (x ∷ ps) [] last h alike free = absurd free
-free_gaps d p xs l (x ∷ ps) (y ∷ qs) last h alike free =
+free_gaps : (d : Dialect) (stood p : Place) (xs : List Piece) (l : Piece) (ps qs : List Piece) (last : List ℕ) → Reads d LineStart (xs ++ l ∷ ps) last →
+    AreStood stood (past_gap (place_behind d LineStart xs) l.gap) → AreAlike p (place_behind d LineStart (xs ++ l ∷ [])) ps → HaveFreeGaps d stood p l.kind l.spelling ps qs → Reads d LineStart (xs ++ l ∷ qs) last
+free_gaps d stood p xs l [] [] last h at alike free = h
+free_gaps d stood p xs l [] (y ∷ qs) last h at alike free = absurd free
+free_gaps d stood p xs l (x ∷ ps) [] last h at alike free = absurd free
+free_gaps d stood p xs l (x ∷ ps) (y ∷ qs) last h at alike free =
     let same : IsSameItem x y = free.0 in
     let behind = place_behind d LineStart (xs ++ l ∷ []) in
     let next = past_item d (past_gap p x.gap) x.kind x.spelling in
-    let one : Reads d LineStart (xs ++ l ∷ y ∷ ps) last = subst (λ z. Reads d LineStart (xs ++ l ∷ z ∷ ps) last) (piece_is x y same) (free_gap d p xs l x ps last y.gap h alike free.1) in
+    let one : Reads d LineStart (xs ++ l ∷ y ∷ ps) last = subst (λ z. Reads d LineStart (xs ++ l ∷ z ∷ ps) last) (piece_is x y same) (free_gap d stood p xs l x ps last y.gap h at alike free.1) in
     let there : Reads d LineStart ((xs ++ l ∷ []) ++ y ∷ ps) last = subst (λ z. Reads d LineStart z last) (sym (onward xs l (y ∷ ps))) one in
     let place_is : past_item d (past_gap behind y.gap) x.kind x.spelling ≡ place_behind d LineStart ((xs ++ l ∷ []) ++ y ∷ []) =
     item_same d (past_gap behind y.gap) x y same ∙ sym (behind_more d LineStart (xs ++ l ∷ []) (y ∷ [])) in
-    let now : AreAlike next (place_behind d LineStart ((xs ++ l ∷ []) ++ y ∷ [])) ps = subst (λ z. AreAlike next z ps) place_is (step_alike d p behind l.kind l.spelling x ps y.gap alike free.1) in
-    let rest : HaveFreeGaps d next y.kind y.spelling ps qs = item_moved d next x y ps qs same free.2 in
-    subst (λ z. Reads d LineStart z last) (onward xs l (y ∷ qs)) (free_gaps d next (xs ++ l ∷ []) y ps qs last there now rest)
+    let now : AreAlike next (place_behind d LineStart ((xs ++ l ∷ []) ++ y ∷ [])) ps = subst (λ z. AreAlike next z ps) place_is (step_alike d stood p behind l.kind l.spelling x ps y.gap alike free.1) in
+    let rest : HaveFreeGaps d (past_gap p x.gap) next y.kind y.spelling ps qs = item_moved d (past_gap p x.gap) next x y ps qs same free.2 in
+    subst (λ z. Reads d LineStart z last) (onward xs l (y ∷ qs)) (free_gaps d (past_gap p x.gap) next (xs ++ l ∷ []) y ps qs last there (stood_alike stood p behind l.kind l.spelling x ps y.gap alike free.1) now rest)
 
 -- the place behind the first item, whatever gap is before it
 first_alike : (d : Dialect) (p q : Piece) → IsSameItem p q → past_item d LineStart p.kind p.spelling ≡ past_item d (past_gap LineStart q.gap) q.kind q.spelling
@@ -139,26 +133,26 @@ keeps_free_items d (p ∷ ps) (q ∷ qs) last end h free e =
     let next = past_item d LineStart p.kind p.spelling in
     let stay : HaveFitGaps d next p.kind ps ps = stay_fit d (past_item d (past_gap LineStart p.gap) p.kind p.spelling) next p.kind ps last h.2 in
     let first = keeps_items_over_fit_gaps d (written (p ∷ ps) last) (p ∷ ps) (q ∷ ps) last end (record { whole = refl; reads = h }) (same, free.1, stay) e in
-    let rest : HaveFreeGaps d next q.kind q.spelling ps qs = item_moved d next p q ps qs same free.2 in
-    free_gaps d next [] q ps qs end first.reads (inl (first_alike d p q same)) rest
+    let rest : HaveFreeGaps d LineStart next q.kind q.spelling ps qs = item_moved d LineStart next p q ps qs same free.2 in
+    free_gaps d LineStart next [] q ps qs end first.reads (inl (sym (first_place q.gap))) (inl (first_alike d p q same)) rest
 
 -- Parts
 
 part_same : (place : Place) (g : List ℕ) (p q : Piece) → IsSameItem p q → part_of place g p.kind p.spelling ≡ part_of place g q.kind q.spelling
 part_same place g p q same = ap (λ z. part_of place g z p.spelling) (sym same.kind) ∙ ap (λ z. part_of place g q.kind z) (sym same.spelling)
 
-free_parts : (d : Dialect) (p q : Place) (left : ItemKind) (l : List ℕ) (ps qs : List Piece) → AreAlike p q ps → HaveFreeGaps d p left l ps qs → parts_of d p ps ≡ parts_of d q qs
-free_parts d p q left l [] [] alike free = refl
-free_parts d p q left l [] (y ∷ qs) alike free = absurd free
-free_parts d p q left l (x ∷ ps) [] alike free = absurd free
-free_parts d p q left l (x ∷ ps) (y ∷ qs) alike free =
+free_parts : (d : Dialect) (stood p q : Place) (left : ItemKind) (l : List ℕ) (ps qs : List Piece) → AreAlike p q ps → HaveFreeGaps d stood p left l ps qs → parts_of d p ps ≡ parts_of d q qs
+free_parts d stood p q left l [] [] alike free = refl
+free_parts d stood p q left l [] (y ∷ qs) alike free = absurd free
+free_parts d stood p q left l (x ∷ ps) [] alike free = absurd free
+free_parts d stood p q left l (x ∷ ps) (y ∷ qs) alike free =
     let same : IsSameItem x y = free.0 in
     let next = past_item d (past_gap p x.gap) x.kind x.spelling in
     let other = past_item d (past_gap q y.gap) y.kind y.spelling in
     let head : part_of (past_gap p x.gap) x.gap x.kind x.spelling ≡ part_of (past_gap q y.gap) y.gap y.kind y.spelling =
-    step_part p q left l x ps y.gap alike free.1 ∙ part_same (past_gap q y.gap) y.gap x y same in
-    let now : AreAlike next other ps = subst (λ z. AreAlike next z ps) (item_same d (past_gap q y.gap) x y same) (step_alike d p q left l x ps y.gap alike free.1) in
-    ap (λ z. z ∷ parts_of d next ps) head ∙ ap (λ z. part_of (past_gap q y.gap) y.gap y.kind y.spelling ∷ z) (free_parts d next other x.kind x.spelling ps qs now free.2)
+    step_part stood p q left l x ps y.gap alike free.1 ∙ part_same (past_gap q y.gap) y.gap x y same in
+    let now : AreAlike next other ps = subst (λ z. AreAlike next z ps) (item_same d (past_gap q y.gap) x y same) (step_alike d stood p q left l x ps y.gap alike free.1) in
+    ap (λ z. z ∷ parts_of d next ps) head ∙ ap (λ z. part_of (past_gap q y.gap) y.gap y.kind y.spelling ∷ z) (free_parts d (past_gap p x.gap) next other x.kind x.spelling ps qs now free.2)
 
 -- The same items are of directives.
 pub keeps_parts : (d : Dialect) (ps qs : List Piece) → AreFree d ps qs → parts_of d LineStart ps ≡ parts_of d LineStart qs
@@ -173,5 +167,5 @@ keeps_parts d (p ∷ ps) (q ∷ qs) free =
     ap (λ z. part_of z p.gap p.kind p.spelling) (first_place p.gap) ∙ (part_same LineStart q.gap p q same ∙ ap (λ z. part_of z q.gap q.kind q.spelling) (sym (first_place q.gap))) in
     let old : past_item d (past_gap LineStart p.gap) p.kind p.spelling ≡ next = ap (λ z. past_item d z p.kind p.spelling) (first_place p.gap) in
     let tail : parts_of d (past_item d (past_gap LineStart p.gap) p.kind p.spelling) ps ≡ parts_of d other qs =
-    ap (λ z. parts_of d z ps) old ∙ free_parts d next other p.kind p.spelling ps qs (inl (first_alike d p q same)) free.2 in
+    ap (λ z. parts_of d z ps) old ∙ free_parts d LineStart next other p.kind p.spelling ps qs (inl (first_alike d p q same)) free.2 in
     ap (λ z. z ∷ parts_of d (past_item d (past_gap LineStart p.gap) p.kind p.spelling) ps) head ∙ ap (λ z. part_of (past_gap LineStart q.gap) q.gap q.kind q.spelling ∷ z) tail

@@ -1,4 +1,6 @@
 pub mod Places
+pub mod Headers
+pub mod OneLine
 pub mod FreeGaps
 pub mod Trigraphs
 pub mod ReadItems

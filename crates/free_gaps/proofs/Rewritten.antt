@@ -1,5 +1,5 @@
 -- Other bytes between the items of a text, where lines are broken and joined among them and gaps go, give a twin.
-use Rattle.std.proofs.Common.{◌≡◌, ◌==◌, not, ℕ, ◌+◌, ◌-◌, arith, length, true, false, List, [], ◌∷◌, ◌++◌, map, take, drop, refl, sym, ◌∙◌, ap, subst, inl, inr, append_assoc, length-append}
+use Rattle.std.proofs.Common.{◌≡◌, ◌==◌, ◌||◌, not, ℕ, ◌+◌, ◌-◌, arith, length, true, false, List, [], ◌∷◌, ◌++◌, map, take, drop, refl, sym, ◌∙◌, ap, subst, inl, inr, ◌⊎◌, append_assoc, length-append}
 use Rattle.std.proofs.lemmas.Bool.{and_right}
 use Rattle.std.proofs.Math.Seq.{take-append_seam, drop-append_seam}
 use Rattle.c_chars.specs.Characters.{chars, bytes_of, moved, mark_len, logical}
@@ -9,8 +9,8 @@ use Rattle.c_chars.specs.declared.LogicalChar.{LogicalChar}
 use Rattle.c_grammar.specs.declared.ItemKind.{ItemKind}
 use Rattle.c_grammar.specs.Grammar.{is_same}
 use Rattle.c_grammar.specs.Items.{Place, LineStart, AfterHash, AfterInclude, AfterDefine, AfterMacroName, InDirective, InText, past_gap, past_item, is_gap, Reads, written}
-use Rattle.c_grammar.specs.Touch.{ends}
-use Rattle.c_grammar.specs.Text.{ReadItem, piece_of, begin_of, finish_of, end_of, raw_of, characters_of}
+use Rattle.c_grammar.specs.Touch.{ends, may_touch}
+use Rattle.c_grammar.specs.Text.{ReadItem, piece_of, begin_of, finish_of, start_of, end_of, raw_of, characters_of}
 use Rattle.c_grammar.specs.Regapping.{IsSameItem, regapped_text}
 use Rattle.c_grammar.specs.Fitting.{IsFitGap, IsFitEnd}
 use Rattle.c_grammar.specs.Rewritten.{read_alone}
@@ -18,11 +18,14 @@ use Rattle.c_grammar.proofs.Lists.{same_is}
 use Rattle.c_grammar.proofs.ItemBytes.{ReadAs, AreParted, parted, next_black, chars_at}
 use Rattle.c_grammar.proofs.NewText.{read_at, new_items, new_end}
 use Rattle.c_grammar.proofs.Rewritten.{HasMark, mark_of}
+use Rattle.touching.specs.Spelling.{spelling}
 use Rattle.touching.specs.TakingAway.{would_open}
-use Rattle.free_gaps.specs.FreeGaps.{IsTextGap, AreFreeBytes, FitBytes, TextBytes, NoBytes, FreeBehind, FreeText, RewritesFreeGaps}
-use Rattle.free_gaps.proofs.Places.{opens_parameters, IsFreeGap}
+use Rattle.free_gaps.specs.FreeGaps.{IsTextGap, AreFreeBytes, FitBytes, TextBytes, NoBytes, LineBytes, FreeBehind, FreeText, RewritesFreeGaps}
+use Rattle.free_gaps.specs.OneLine.{IsKeptApart, would_name}
+use Rattle.free_gaps.proofs.Places.{opens_parameters, IsLineGap, IsFreeGap}
 use Rattle.free_gaps.proofs.FreeGaps.{HaveFreeGaps, AreFree, keeps_free_items, keeps_parts}
 use Rattle.free_gaps.proofs.ReadItems.{IsRead, AreRead, are_read, touch_read, touch_together}
+use Rattle.free_gaps.proofs.Trigraphs.{StandTogether}
 use Rattle.free_gaps.proofs.NewText.{AreBytesBetween, BytesBehind, BytesOfText, text_chars}
 
 -- Bytes
@@ -36,67 +39,85 @@ no_chars : (d : Dialect) → read_alone d [] ≡ []
 no_chars C11 = refl
 no_chars C23 = refl
 
-bytes_between : (d : Dialect) (text : List ℕ) (place : Place) (left item : ReadItem) (after : List ReadItem) (new : List ℕ) → IsRead d text left → IsRead d text item →
-    AreFreeBytes d text place left item after new → AreBytesBetween d left item new
-bytes_between d text place left item after new l r (FitBytes fit) = record { white = fit.fits.white; guarded = fit.guarded; some = inl fit.some }
-bytes_between d text place left item after new l r (TextBytes free) = record { white = free.gap.white; guarded = free.guarded; some = inl (let there = some_bytes d new free.gap.some in rw there refl) }
-bytes_between d text place left item after new l r (NoBytes none closed) = subst (λ z. AreBytesBetween d left item z) (sym (same_is new [] none)) (record {
+bytes_between : (d : Dialect) (text : List ℕ) (stood place : Place) (left item : ReadItem) (after : List ReadItem) (new : List ℕ) → IsRead d text left → IsRead d text item →
+    AreFreeBytes d text stood place left item after new → AreBytesBetween d left item new
+bytes_between d text stood place left item after new l r (FitBytes fit) = record { white = fit.fits.white; guarded = fit.guarded; some = inl fit.some }
+bytes_between d text stood place left item after new l r (TextBytes free) = record { white = free.gap.white; guarded = free.guarded; some = inl (let there = some_bytes d new free.gap.some in rw there refl) }
+bytes_between d text stood place left item after new l r (NoBytes none closed) = subst (λ z. AreBytesBetween d left item z) (sym (same_is new [] none)) (record {
   white = ap is_gap (no_chars d);
   guarded = record { backslash = and_right (ends (λ c. c == 92) (bytes_of left.chars)) false refl; return = and_right (ends (λ c. c == 13) (bytes_of left.chars)) false refl };
   some = inr (touch_together d text left item l (touch_read d text left item l r closed.touch));
 })
+bytes_between d text stood place left item after new l r (LineBytes line) = record { white = line.white; guarded = line.guarded; some = by line.apart }
+  where
+    by : (may_touch left.kind (spelling d (raw_of text left)) item.kind (spelling d (raw_of text item)) ≡ true) ⊎ IsKeptApart d left item new → ((not (is_same new []) || (end_of left == start_of item)) ≡ true) ⊎ StandTogether left item
+    by (inl touch) = inr (touch_together d text left item l (touch_read d text left item l r touch))
+    by (inr kept) = inl kept.some
 
-pub bytes_behind : (d : Dialect) (text : List ℕ) (place : Place) (left : ReadItem) (gaps : List (List ℕ)) (items : List ReadItem) (end : List ℕ) → IsRead d text left → AreRead d text items →
-    FreeBehind d text place left gaps items end → BytesBehind d left gaps items end
-bytes_behind d text place left [] [] end l all free = free
-bytes_behind d text place left [] (i ∷ items) end l all free = absurd free
-bytes_behind d text place left (g ∷ gaps) [] end l all free = absurd free
-bytes_behind d text place left (g ∷ gaps) (i ∷ items) end l all free =
-    (bytes_between d text place left i items g l all.0 free.0, bytes_behind d text (past_item d (past_gap place (bytes_of i.gap)) i.kind (bytes_of i.chars)) i gaps items end all.0 all.1 free.1)
+pub bytes_behind : (d : Dialect) (text : List ℕ) (stood place : Place) (left : ReadItem) (gaps : List (List ℕ)) (items : List ReadItem) (end : List ℕ) → IsRead d text left → AreRead d text items →
+    FreeBehind d text stood place left gaps items end → BytesBehind d left gaps items end
+bytes_behind d text stood place left [] [] end l all free = free
+bytes_behind d text stood place left [] (i ∷ items) end l all free = absurd free
+bytes_behind d text stood place left (g ∷ gaps) [] end l all free = absurd free
+bytes_behind d text stood place left (g ∷ gaps) (i ∷ items) end l all free =
+    (bytes_between d text stood place left i items g l all.0 free.0, bytes_behind d text (past_gap place (bytes_of i.gap)) (past_item d (past_gap place (bytes_of i.gap)) i.kind (bytes_of i.chars)) i gaps items end all.0 all.1 free.1)
 
 pub bytes_of_text : (d : Dialect) (text : List ℕ) (gaps : List (List ℕ)) (items : List ReadItem) (end : List ℕ) → AreRead d text items → FreeText d text gaps items end → BytesOfText d gaps items end
 bytes_of_text d text [] [] end all free = tt
 bytes_of_text d text [] (i ∷ items) end all free = absurd free
 bytes_of_text d text (g ∷ gaps) [] end all free = absurd free
-bytes_of_text d text (g ∷ gaps) (i ∷ items) end all free = (free.0, bytes_behind d text (past_item d LineStart i.kind (bytes_of i.chars)) i gaps items end all.0 all.1 free.1)
+bytes_of_text d text (g ∷ gaps) (i ∷ items) end all free = (free.0, bytes_behind d text LineStart (past_item d LineStart i.kind (bytes_of i.chars)) i gaps items end all.0 all.1 free.1)
 
 -- Pieces
 
 read_item : (d : Dialect) (n : ℕ) (i : ReadItem) (gap : List LogicalChar) (raw : List ℕ) → ReadAs d i.chars raw → IsSameItem (piece_of i) (record { gap = bytes_of gap; kind = i.kind; spelling = bytes_of (chars d n raw) })
 read_item d n i gap raw reads = record { kind = refl; spelling = read_at d n raw ∙ reads.spelling }
 
-opens_piece : (place : Place) (item : ReadItem) → would_open place item ≡ false → opens_parameters place (piece_of item) ≡ false
-opens_piece LineStart item o = o
-opens_piece AfterHash item o = o
-opens_piece AfterInclude item o = o
-opens_piece AfterDefine item o = o
-opens_piece AfterMacroName item o = o
-opens_piece InDirective item o = o
-opens_piece InText item o = o
+opens_item : (place : Place) (item : ReadItem) → opens_parameters place (piece_of item) ≡ true → would_open place item ≡ true
+opens_item LineStart item o = o
+opens_item AfterHash item o = o
+opens_item AfterInclude item o = o
+opens_item AfterDefine item o = o
+opens_item AfterMacroName item o = o
+opens_item InDirective item o = o
+opens_item InText item o = o
 
-gap_read : (d : Dialect) (text : List ℕ) (at : ℕ) (place : Place) (left item : ReadItem) (after : List ReadItem) (new : List ℕ) → IsRead d text left → IsRead d text item →
-    AreFreeBytes d text place left item after new → IsFreeGap place left.kind (bytes_of left.chars) (piece_of item) (map piece_of after) (bytes_of (chars d at new))
-gap_read d text at place left item after new l r (FitBytes fit) = inl (subst (λ z. IsFitGap place left.kind (bytes_of item.gap) z) (sym (read_at d at new)) fit.fits)
-gap_read d text at place left item after new l r (TextBytes free) = inr (inl (subst (λ z. IsTextGap place left.kind (piece_of item) (map piece_of after) z) (sym (read_at d at new)) free.gap))
-gap_read d text at place left item after new l r (NoBytes none closed) = inr (inr (record {
+gap_read : (d : Dialect) (text : List ℕ) (at : ℕ) (stood place : Place) (left item : ReadItem) (after : List ReadItem) (new : List ℕ) → IsRead d text left → IsRead d text item →
+    AreFreeBytes d text stood place left item after new → IsFreeGap stood place left.kind (bytes_of left.chars) (piece_of item) (map piece_of after) (bytes_of (chars d at new))
+gap_read d text at stood place left item after new l r (FitBytes fit) = inl (subst (λ z. IsFitGap place left.kind (bytes_of item.gap) z) (sym (read_at d at new)) fit.fits)
+gap_read d text at stood place left item after new l r (TextBytes free) = inr (inl (subst (λ z. IsTextGap place left.kind (piece_of item) (map piece_of after) z) (sym (read_at d at new)) free.gap))
+gap_read d text at stood place left item after new l r (NoBytes none closed) = inr (inr (inl (record {
   none = ap (λ z. is_same z []) (read_at d at new ∙ (ap (read_alone d) (same_is new [] none) ∙ no_chars d));
   touch = touch_read d text left item l r closed.touch;
-  opens = opens_piece place item closed.opens;
-  lines = closed.lines;
-}))
+  breaks = closed.breaks;
+})))
+gap_read d text at stood place left item after new l r (LineBytes line) = inr (inr (inr (subst (λ z. IsLineGap stood place left.kind (bytes_of left.chars) (piece_of item) z) (sym (read_at d at new)) (record {
+  one_line = line.one_line;
+  goes_on = line.goes_on;
+  white = line.white;
+  no_line = line.no_line;
+  apart = by line.apart;
+  opens = λ o. line.opens (opens_item place item o);
+  names = line.names;
+}))))
+  where
+    by : (may_touch left.kind (spelling d (raw_of text left)) item.kind (spelling d (raw_of text item)) ≡ true) ⊎ IsKeptApart d left item new →
+        (may_touch left.kind (bytes_of left.chars) item.kind (bytes_of item.chars) ≡ true) ⊎ ((is_same (bytes_of item.gap) [] || not (is_same (read_alone d new) [])) ≡ true)
+    by (inl touch) = inl (touch_read d text left item l r touch)
+    by (inr kept) = inr kept.white
 
-behind_free : (d : Dialect) (text : List ℕ) (place : Place) (left : ReadItem) (old : List ℕ) (gaps : List (List ℕ)) (items : List ReadItem) (end : List ℕ) (at : ℕ) → AreParted d text (end_of left) old items →
-    IsRead d text left → AreRead d text items → FreeBehind d text place left gaps items end → HaveFreeGaps d place left.kind (bytes_of left.chars) (map piece_of items) (map piece_of (new_items d at gaps items text))
+behind_free : (d : Dialect) (text : List ℕ) (stood place : Place) (left : ReadItem) (old : List ℕ) (gaps : List (List ℕ)) (items : List ReadItem) (end : List ℕ) (at : ℕ) → AreParted d text (end_of left) old items →
+    IsRead d text left → AreRead d text items → FreeBehind d text stood place left gaps items end → HaveFreeGaps d stood place left.kind (bytes_of left.chars) (map piece_of items) (map piece_of (new_items d at gaps items text))
 unfolding new_items
-behind_free d text place left old [] [] end at parts l all free = tt
-behind_free d text place left old [] (i ∷ items) end at parts l all free = absurd free
-behind_free d text place left old (g ∷ gaps) [] end at parts l all free = absurd free
-behind_free d text place left old (g ∷ gaps) (i ∷ items) end at parts l all free =
+behind_free d text stood place left old [] [] end at parts l all free = tt
+behind_free d text stood place left old [] (i ∷ items) end at parts l all free = absurd free
+behind_free d text stood place left old (g ∷ gaps) [] end at parts l all free = absurd free
+behind_free d text stood place left old (g ∷ gaps) (i ∷ items) end at parts l all free =
     let raw = raw_of text i in
     let next = past_item d (past_gap place (bytes_of i.gap)) i.kind (bytes_of i.chars) in (
       read_item d (at + length g) i (chars d at g) raw parts.4,
-      gap_read d text at place left i items g l all.0 free.0,
-      behind_free d text next i parts.1 gaps items end (at + length g + length raw) parts.9 all.0 all.1 free.1,
+      gap_read d text at stood place left i items g l all.0 free.0,
+      behind_free d text (past_gap place (bytes_of i.gap)) next i parts.1 gaps items end (at + length g + length raw) parts.9 all.0 all.1 free.1,
     )
 
 text_free : (d : Dialect) (text : List ℕ) (start : ℕ) (old : List ℕ) (gaps : List (List ℕ)) (items : List ReadItem) (end : List ℕ) (at : ℕ) → AreParted d text start old items →
@@ -110,7 +131,7 @@ text_free d text start old (g ∷ gaps) (i ∷ items) end at parts all free =
     let next = past_item d LineStart i.kind (bytes_of i.chars) in (
       read_item d (at + length g) i (chars d at g) raw parts.4,
       ap is_gap (read_at d at g) ∙ free.0,
-      behind_free d text next i parts.1 gaps items end (at + length g + length raw) parts.9 all.0 all.1 free.1,
+      behind_free d text LineStart next i parts.1 gaps items end (at + length g + length raw) parts.9 all.0 all.1 free.1,
     )
 
 -- Kinds and bytes

@@ -1,11 +1,10 @@
 -- Other bytes between the items of a text, where lines are broken and joined among them and gaps go.
-use Rattle.std.specs.Prelude.{◌≡◌, ◌⊎◌, ℕ, List, [], ◌∷◌, ◌++◌, take, map, IsTrue, IsFalse, ⊤}
-use Rattle.std.specs.List.{list_any}
+use Rattle.std.specs.Prelude.{◌≡◌, ℕ, List, [], ◌∷◌, ◌++◌, take, map, IsTrue, IsFalse, ⊤}
 use Rattle.c_chars.specs.Characters.{bytes_of, mark_len}
 use Rattle.c_chars.specs.declared.Dialect.{Dialect}
 use Rattle.c_chars.specs.declared.LogicalChar.{LogicalChar}
 use Rattle.c_grammar.specs.declared.ItemKind.{ItemKind}
-use Rattle.c_grammar.specs.Grammar.{is_new_line, is_same}
+use Rattle.c_grammar.specs.Grammar.{is_same}
 use Rattle.c_grammar.specs.Items.{Place, LineStart, past_gap, past_item, is_gap, Piece}
 use Rattle.c_grammar.specs.Touch.{takes_line, may_touch, regapped}
 use Rattle.c_grammar.specs.Text.{ReadItem, piece_of, raw_of, LexesText}
@@ -14,7 +13,7 @@ use Rattle.c_grammar.specs.Regapping.{regapped_text}
 use Rattle.c_grammar.specs.Fitting.{in_directive, no_hash_comes, IsFitEnd}
 use Rattle.c_grammar.specs.Rewritten.{read_alone, IsGuarded, AreFitBytes}
 use Rattle.touching.specs.Spelling.{spelling}
-use Rattle.touching.specs.TakingAway.{would_open}
+use Rattle.free_gaps.specs.OneLine.{AreLineBytes}
 
 -- Between an item of this kind at this place and this item, before these others, a line may end or go on: the place is in no directive (C11 6.10p2, p5),
 -- the left item doesn't take its line, and no `#` stands next, comments aside.
@@ -34,32 +33,32 @@ pub record AreTextBytes (d : Dialect) (place : Place) (left item : ReadItem) (af
   pub gap : IsTextGap place left.kind (piece_of item) (map piece_of after) (read_alone d new)
   pub guarded : IsGuarded left new
 
--- What stands between the two may go: they may touch as they are spelled, the right one isn't the `(` that makes a macro function-like (C11 6.10.3p10),
--- and no new-line goes but where a line may go on.
+-- Where a line may end or go on, what stands between the two may go: they may touch as they are spelled.
 pub record MayClose (d : Dialect) (text : List ℕ) (place : Place) (left item : ReadItem) (after : List ReadItem) : Type 0 where
   pub touch : IsTrue (may_touch left.kind (spelling d (raw_of text left)) item.kind (spelling d (raw_of text item)))
-  pub opens : IsFalse (would_open place item)
-  pub lines : IsFalse (list_any is_new_line (bytes_of item.gap)) ⊎ MayBreak place left.kind (piece_of item) (map piece_of after)
+  pub breaks : MayBreak place left.kind (piece_of item) (map piece_of after)
 
--- Bytes that may stand between two items, the left one at this place, before these others: such as may stand for the old ones, such as read as a gap of a text, or none where those may go.
-pub data AreFreeBytes (d : Dialect) (text : List ℕ) (place : Place) (left item : ReadItem) (after : List ReadItem) (new : List ℕ) : Type 0 where
-  FitBytes : AreFitBytes d place left item new → AreFreeBytes d text place left item after new
-  TextBytes : AreTextBytes d place left item after new → AreFreeBytes d text place left item after new
-  NoBytes : IsTrue (is_same new []) → MayClose d text place left item after → AreFreeBytes d text place left item after new
+-- Bytes that may stand between two items, the left one at the first place and the gap at the second, before these others: such as may stand for the old ones, such as read as a gap of a text, none where those may go, or such as may stand in a line.
+pub data AreFreeBytes (d : Dialect) (text : List ℕ) (stood place : Place) (left item : ReadItem) (after : List ReadItem) (new : List ℕ) : Type 0 where
+  FitBytes : AreFitBytes d place left item new → AreFreeBytes d text stood place left item after new
+  TextBytes : AreTextBytes d place left item after new → AreFreeBytes d text stood place left item after new
+  NoBytes : IsTrue (is_same new []) → MayClose d text place left item after → AreFreeBytes d text stood place left item after new
+  LineBytes : AreLineBytes d text stood place left item new → AreFreeBytes d text stood place left item after new
 
--- such bytes before each of the items that come behind this one at this place, which is its place in the old text, and guarded bytes at the end
-abbrev pub FreeBehind : Dialect → List ℕ → Place → ReadItem → List (List ℕ) → List ReadItem → List ℕ → Type 0
-FreeBehind d text place left [] [] end = IsGuarded left end
-FreeBehind d text place left (gap ∷ gaps) (item ∷ items) end =
-    AreFreeBytes d text place left item items gap × FreeBehind d text (past_item d (past_gap place (bytes_of item.gap)) item.kind (bytes_of item.chars)) item gaps items end
-FreeBehind d text place left [] (item ∷ items) end = ⊥
-FreeBehind d text place left (gap ∷ gaps) [] end = ⊥
+-- such bytes before each of the items that come behind this one, which stands at the first place and leads to the second, its places in the old text, and guarded bytes at the end
+abbrev pub FreeBehind : Dialect → List ℕ → Place → Place → ReadItem → List (List ℕ) → List ReadItem → List ℕ → Type 0
+FreeBehind d text stood place left [] [] end = IsGuarded left end
+FreeBehind d text stood place left (gap ∷ gaps) (item ∷ items) end =
+    AreFreeBytes d text stood place left item items gap
+    × FreeBehind d text (past_gap place (bytes_of item.gap)) (past_item d (past_gap place (bytes_of item.gap)) item.kind (bytes_of item.chars)) item gaps items end
+FreeBehind d text stood place left [] (item ∷ items) end = ⊥
+FreeBehind d text stood place left (gap ∷ gaps) [] end = ⊥
 
 -- bytes before each item of a text: any gap before the first, and such ones before the others
 abbrev pub FreeText : Dialect → List ℕ → List (List ℕ) → List ReadItem → List ℕ → Type 0
 FreeText d text [] [] end = ⊤
 FreeText d text (gap ∷ gaps) (item ∷ items) end =
-    IsTrue (is_gap (read_alone d gap)) × FreeBehind d text (past_item d LineStart item.kind (bytes_of item.chars)) item gaps items end
+    IsTrue (is_gap (read_alone d gap)) × FreeBehind d text LineStart (past_item d LineStart item.kind (bytes_of item.chars)) item gaps items end
 FreeText d text [] (item ∷ items) end = ⊥
 FreeText d text (gap ∷ gaps) [] end = ⊥
 

@@ -1,1 +1,2 @@
 pub mod FreeGaps
+pub mod OneLine

@@ -9,15 +9,22 @@
 
 mod frames;
 mod gap;
+mod node;
 mod placing;
 mod rules;
+mod spot;
 mod state;
+mod stepping;
+mod store;
 #[cfg(test)]
 mod tests;
 
 pub use frames::{Frame, Frames};
 pub use gap::Gap;
 pub use line_tokens::NoMemory;
+pub use node::{NodeState, digest, is_same_place};
 pub use placing::step;
 pub use rules::allowed;
-pub use state::{State, cells, digest, has_same_layout, start};
+pub use state::{State, cells, start};
+pub use stepping::{allowed_in, cells_in, start_in, step_in, token_start_in, try_step_in};
+pub use store::FrameStore;

@@ -26,7 +26,7 @@ pub record IsWhite (bytes : List ℕ) : Type 0 where
   pub whites : List White
   pub bytes_are : bytes ≡ white_bytes whites
 
-white_append : (a b : List White) → white_bytes (a ++ b) ≡ white_bytes a ++ white_bytes b
+pub white_append : (a b : List White) → white_bytes (a ++ b) ≡ white_bytes a ++ white_bytes b
 white_append [] b = refl
 white_append (Blank ∷ a) b = ap (λ z. 32 ∷ z) (white_append a b)
 white_append (Tab ∷ a) b = ap (λ z. 9 ∷ z) (white_append a b)
@@ -145,7 +145,7 @@ pub record Leaves (left : ReadItem) (g : Guard) : Type 0 where
 
 -- Line ends fit.
 
-white_is_gap : (ws : List White) → is_gap (white_chars ws) ≡ true
+pub white_is_gap : (ws : List White) → is_gap (white_chars ws) ≡ true
 unfolding is_white is_new_line
 white_is_gap [] = refl
 white_is_gap (Blank ∷ ws) = white_is_gap ws

@@ -8,10 +8,13 @@ pub mod TextLines
 pub mod Broken
 pub mod Leaving
 pub mod Following
+pub mod OneLine
 pub mod OutPlaces
+pub mod Standing
 pub mod Writing
 pub mod SoundGaps
 pub mod SoundTwin
+pub mod Made
 pub mod Hashes
 pub mod SameGaps
 pub mod PlanEntries

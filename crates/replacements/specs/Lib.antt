@@ -2,6 +2,7 @@ pub mod Decisions
 pub mod Breaks
 pub mod Laws
 pub mod Stances
+pub mod Places
 pub mod Guards
 pub mod Written
 pub mod Sound

@@ -2,4 +2,17 @@ pub mod Items
 pub mod Classes
 pub mod Walked
 pub mod Stands
+pub mod Telling
 pub mod Stretched
+pub mod MadeFor
+pub mod BrokenLines
+pub mod LaidLines
+pub mod OneBreaking
+pub mod OneRow
+pub mod RowSteps
+pub mod LineFacts
+pub mod Writing
+pub mod RowLines
+pub mod Reporting
+pub mod LineOutcomes
+pub mod RunSteps

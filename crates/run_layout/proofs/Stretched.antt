@@ -9,7 +9,8 @@ use Rattle.token_arena.specs.Gaps.{Contents}
 use Rattle.brackets.specs.Viewed.{AreWithin}
 use Rattle.replacements.specs.declared.slot.Slot.{Slot}
 use Rattle.replacements.specs.Decisions.{slot_of}
-use Rattle.run_layout.specs.Run.{IsRowDecided}
+use Rattle.unwrapped_lines.specs.declared.line.ULine.{ULine}
+use Rattle.run_layout.specs.Run.{IsOpen, IsRowDecided, IsRowOpen}
 use Rattle.run_layout.specs.Stretches.{AreFrom, IsRest}
 
 -- in a segment items follow one another
@@ -53,3 +54,17 @@ decided_further plan ids from k stretch are before there j low high = elim (befo
       let at : stretch.first + (j - k) ≡ get_or ids j 0 = sym (are (j - k) (omega (arith, high, more))) ∙ ap (λ i. get_or ids i 0) place in
       subst (λ id. IsSome (slot_of plan id)) at (there (stretch.first + (j - k)) (omega arith) (omega (arith, high, more)))
 ]
+
+-- a gap that is open in a stretch is one of the line
+pub open_in_line : (plan : List (Option Slot)) (ids : List ℕ) (line : ULine) (k : ℕ) (stretch : Stretch) → AreFrom ids k stretch → line.first ≤ k → k + (stretch.end - stretch.first) ≤ line.last + 1
+    → IsRowOpen plan stretch.first stretch.end → IsOpen plan ids line
+open_in_line plan ids line k stretch are from within row =
+    let j : ℕ = row.id - stretch.first in
+    let below : j < stretch.end - stretch.first = omega (arith, row.from, row.within) in
+    let at : stretch.first + j ≡ row.id = omega (arith, row.from) in
+    record {
+      place = k + j;
+      from = omega (arith, from);
+      within = omega (arith, below, within);
+      open_gap = ap (λ x. slot_of plan x) (are j below ∙ at) ∙ row.open_gap;
+    }

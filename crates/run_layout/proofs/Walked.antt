@@ -8,12 +8,13 @@ use Rattle.style_table.specs.declared.style.Style.{Style}
 use Rattle.token_arena.specs.Gaps.{Contents}
 use Rattle.gap_text.specs.declared.Decision.{Decision}
 use Rattle.brackets.specs.Viewed.{AreWithin}
+use Rattle.line_tokens.specs.declared.LineTok.{LineTok}
 use Rattle.unwrapped_lines.specs.declared.line.ULine.{ULine}
 use Rattle.unwrapped_lines.specs.Lines.{CutPlaces}
 use Rattle.replacements.specs.declared.slot.Slot.{Slot}
 use Rattle.replacements.specs.Decisions.{slot_of, decided, decided_all}
 use Rattle.token_views.specs.declared.view.Stretch.{Stretch}
-use Rattle.run_layout.specs.Rows.{item_before, item_at, next_decision, decision_at, start_behind, column_behind}
+use Rattle.run_layout.specs.Rows.{item_before, item_at, blanks, next_decision, decision_at, start_behind, column_behind}
 use Rattle.run_layout.specs.Stretches.{AreFrom}
 use Rattle.run_layout.specs.Run.{AreDecided, GoesOn, start_of, slot_at, column_after, decisions_from, line_decisions, run_decisions}
 
@@ -49,27 +50,27 @@ cut_some at count (line ∷ lines) cut (suc i) d within = cut_some (line.last + 
 -- ## One place of a line
 
 -- the first of so many decisions, and the others
-pub first_and_rest : (style : Style) (arena : Contents) (ids : List ℕ) (line : ULine) (plan : List (Option Slot)) (column k left more : ℕ) → more ≡ suc left
-    → decided_all plan (decisions_from style arena ids line plan column k more)
-    ≡ decided_all (decided plan (get_or ids k 0) (slot_at style arena ids line column k))
-    (decisions_from style arena ids line (decided plan (get_or ids k 0) (slot_at style arena ids line column k))
-    (column_after arena (decided plan (get_or ids k 0) (slot_at style arena ids line column k)) (get_or ids k 0)) (k + 1) left)
-first_and_rest style arena ids line plan column k left more e = rw e refl
+pub first_and_rest : (style : Style) (arena : Contents) (ids : List ℕ) (toks : List LineTok) (line : ULine) (plan : List (Option Slot)) (column k left more : ℕ) → more ≡ suc left
+    → decided_all plan (decisions_from style arena ids toks line plan column k more)
+    ≡ decided_all (decided plan (get_or ids k 0) (slot_at style arena ids toks line column k))
+    (decisions_from style arena ids toks line (decided plan (get_or ids k 0) (slot_at style arena ids toks line column k))
+    (column_after arena (decided plan (get_or ids k 0) (slot_at style arena ids toks line column k)) (get_or ids k 0)) (k + 1) left)
+first_and_rest style arena ids toks line plan column k left more e = rw e refl
 
 -- the place at k is decided, and those from the next on are left
-pub one_place : (style : Style) (arena : Contents) (ids : List ℕ) (line : ULine) (plan after : List (Option Slot)) (column next k id start end : ℕ) (decision : Decision) (left more : ℕ)
-    → more ≡ suc left → get_or ids k 0 ≡ id → decision ≡ decision_at style arena ids line k → end ≡ start_behind column decision
+pub one_place : (style : Style) (arena : Contents) (ids : List ℕ) (toks : List LineTok) (line : ULine) (plan after : List (Option Slot)) (column next k id start end : ℕ) (decision : Decision) (left more : ℕ)
+    → more ≡ suc left → get_or ids k 0 ≡ id → decision ≡ decision_at style arena ids toks line k → end ≡ start_behind column decision
     → after ≡ decided plan id (record { decision = decision; end = end }) → start ≡ start_of (slot_of after id) → next ≡ column_behind start (item_at arena id)
-    → decided_all after (decisions_from style arena ids line after next (k + 1) left) ≡ decided_all plan (decisions_from style arena ids line plan column k more)
-one_place style arena ids line plan after column next k id start end decision left more m at d e a s n =
-    let slot = slot_at style arena ids line column k in
+    → decided_all after (decisions_from style arena ids toks line after next (k + 1) left) ≡ decided_all plan (decisions_from style arena ids toks line plan column k more)
+one_place style arena ids toks line plan after column next k id start end decision left more m at d e a s n =
+    let slot = slot_at style arena ids toks line column k in
     let made : List (Option Slot) = decided plan (get_or ids k 0) slot in
-    let ends : end ≡ start_behind column (decision_at style arena ids line k) = e ∙ ap (start_behind column) d in
+    let ends : end ≡ start_behind column (decision_at style arena ids toks line k) = e ∙ ap (start_behind column) d in
     let same : record { decision = decision; end = end } ≡ slot = cc in
     let plans : after ≡ made = a ∙ ap (λ x. decided plan x (record { decision = decision; end = end })) (sym at) ∙ ap (decided plan (get_or ids k 0)) same in
     let columns : next ≡ column_after arena made (get_or ids k 0) =
     n ∙ ap (λ x. column_behind x (item_at arena id)) s ∙ ap (λ x. column_after arena x id) plans ∙ ap (column_after arena made) (sym at) in
-    rw (plans, columns) (sym (first_and_rest style arena ids line plan column k left more m))
+    rw (plans, columns) (sym (first_and_rest style arena ids toks line plan column k left more m))
 
 -- ## Places one after another
 
@@ -77,39 +78,39 @@ pub next_before : (ids : List ℕ) (k id : ℕ) → get_or ids k 0 ≡ id → So
 next_before ids k id at = let e : k + 1 ≡ suc k = omega arith in rw e (ap Some (sym at))
 
 -- at the place itself
-pub goes_here : (style : Style) (arena : Contents) (ids : List ℕ) (line : ULine) (plan : List (Option Slot)) (column k : ℕ) → GoesOn style arena ids line plan column k plan column k
-goes_here style arena ids line plan column k = λ more.
+pub goes_here : (style : Style) (arena : Contents) (ids : List ℕ) (toks : List LineTok) (line : ULine) (plan : List (Option Slot)) (column k : ℕ) → GoesOn style arena ids toks line plan column k plan column k
+goes_here style arena ids toks line plan column k = λ more.
     let same : more ≡ k - k + more = omega arith in
-    ap (λ count. decided_all plan (decisions_from style arena ids line plan column k count)) same
+    ap (λ count. decided_all plan (decisions_from style arena ids toks line plan column k count)) same
 
 -- at a later place, and then at one that is later yet
-pub goes_further : (style : Style) (arena : Contents) (ids : List ℕ) (line : ULine) (plan between after : List (Option Slot)) (column middle next k j later : ℕ) → k ≤ j → j ≤ later
-    → GoesOn style arena ids line plan column k between middle j → GoesOn style arena ids line between middle j after next later → GoesOn style arena ids line plan column k after next later
-goes_further style arena ids line plan between after column middle next k j later low high first second = λ more.
+pub goes_further : (style : Style) (arena : Contents) (ids : List ℕ) (toks : List LineTok) (line : ULine) (plan between after : List (Option Slot)) (column middle next k j later : ℕ) → k ≤ j → j ≤ later
+    → GoesOn style arena ids toks line plan column k between middle j → GoesOn style arena ids toks line between middle j after next later → GoesOn style arena ids toks line plan column k after next later
+goes_further style arena ids toks line plan between after column middle next k j later low high first second = λ more.
     let count : j - k + (later - j + more) ≡ later - k + more = omega (arith, low, high) in
-    second more ∙ (first (later - j + more) ∙ ap (λ n. decided_all plan (decisions_from style arena ids line plan column k n)) count)
+    second more ∙ (first (later - j + more) ∙ ap (λ n. decided_all plan (decisions_from style arena ids toks line plan column k n)) count)
 
 -- behind one place
-pub goes_on : (style : Style) (arena : Contents) (ids : List ℕ) (line : ULine) (plan after : List (Option Slot)) (column next k later id start end : ℕ) (decision : Decision)
-    → later ≡ k + 1 → get_or ids k 0 ≡ id → decision ≡ decision_at style arena ids line k → end ≡ start_behind column decision
+pub goes_on : (style : Style) (arena : Contents) (ids : List ℕ) (toks : List LineTok) (line : ULine) (plan after : List (Option Slot)) (column next k later id start end : ℕ) (decision : Decision)
+    → later ≡ k + 1 → get_or ids k 0 ≡ id → decision ≡ decision_at style arena ids toks line k → end ≡ start_behind column decision
     → after ≡ decided plan id (record { decision = decision; end = end }) → start ≡ start_of (slot_of after id) → next ≡ column_behind start (item_at arena id)
-    → GoesOn style arena ids line plan column k after next later
-goes_on style arena ids line plan after column next k later id start end decision l at d e a s n = λ more.
+    → GoesOn style arena ids toks line plan column k after next later
+goes_on style arena ids toks line plan after column next k later id start end decision l at d e a s n = λ more.
     let count : later - k + more ≡ suc more = omega (arith, l) in
-    ap (λ j. decided_all after (decisions_from style arena ids line after next j more)) l
-    ∙ one_place style arena ids line plan after column next k id start end decision more (later - k + more) count at d e a s n
+    ap (λ j. decided_all after (decisions_from style arena ids toks line after next j more)) l
+    ∙ one_place style arena ids toks line plan after column next k id start end decision more (later - k + more) count at d e a s n
 
 -- at the end of a line all its decisions are made
-pub all_made : (style : Style) (arena : Contents) (ids : List ℕ) (line : ULine) (plan after : List (Option Slot)) (next later : ℕ) → later ≡ line.last + 1
-    → GoesOn style arena ids line plan 0 line.first after next later → after ≡ decided_all plan (line_decisions style arena ids plan line)
-all_made style arena ids line plan after next later l on =
+pub all_made : (style : Style) (arena : Contents) (ids : List ℕ) (toks : List LineTok) (line : ULine) (plan after : List (Option Slot)) (next later : ℕ) → later ≡ line.last + 1
+    → GoesOn style arena ids toks line plan 0 line.first after next later → after ≡ decided_all plan (line_decisions style arena ids toks plan line)
+all_made style arena ids toks line plan after next later l on =
     let count : later - line.first + 0 ≡ line.last + 1 - line.first = omega (arith, l) in
-    on 0 ∙ ap (λ n. decided_all plan (decisions_from style arena ids line plan 0 line.first n)) count
+    on 0 ∙ ap (λ n. decided_all plan (decisions_from style arena ids toks line plan 0 line.first n)) count
 
 -- what stands before an item inside a line that comes next in the text
-next_is : (style : Style) (arena : Contents) (ids : List ℕ) (line : ULine) (k id : ℕ) → line.first ≤ k → get_or ids k 0 ≡ id → get_or ids (k + 1) 0 ≡ id + 1
-    → next_decision style line (takes_line (item_at arena id).kind) (item_at arena (id + 1)) ≡ decision_at style arena ids line (k + 1)
-next_is style arena ids line k id from at next =
+next_is : (style : Style) (arena : Contents) (ids : List ℕ) (toks : List LineTok) (line : ULine) (k id : ℕ) → line.first ≤ k → get_or ids k 0 ≡ id → get_or ids (k + 1) 0 ≡ id + 1
+    → next_decision style line (takes_line (item_at arena id).kind) (blanks style toks (k + 1)) (item_at arena (id + 1)) ≡ decision_at style arena ids toks line (k + 1)
+next_is style arena ids toks line k id from at next =
     let inner : (k + 1 == line.first) ≡ false = ne_eqb (k + 1) line.first (λ e. absurd (omega (arith, from, e))) in
     let before : item_before ids (k + 1) ≡ Some id = sym (next_before ids k id at) in
     let follows : (id + 1 == id + 1) ≡ true = eq-eqb (id + 1) (id + 1) refl in
@@ -122,12 +123,12 @@ item_of ids k stretch are some =
     ap (λ j. get_or ids j 0) here ∙ (are 0 (omega (arith, some)) ∙ omega arith)
 
 -- such a place, where the items from a place on are those of a stretch
-pub goes_next : (style : Style) (arena : Contents) (ids : List ℕ) (line : ULine) (stretch : Stretch) (plan after : List (Option Slot)) (column next k id start end : ℕ) (decision : Decision) (takes : Bool)
-    → AreFrom ids k stretch → stretch.first + 1 ≤ id → id < stretch.end → line.first ≤ k → takes ≡ takes_line (item_at arena (id - 1)).kind
-    → decision ≡ next_decision style line takes (item_at arena id) → end ≡ start_behind column decision
+pub goes_next : (style : Style) (arena : Contents) (ids : List ℕ) (toks : List LineTok) (line : ULine) (stretch : Stretch) (plan after : List (Option Slot)) (column next k id start end count : ℕ) (decision : Decision) (takes : Bool)
+    → AreFrom ids k stretch → stretch.first + 1 ≤ id → id < stretch.end → line.first ≤ k → takes ≡ takes_line (item_at arena (id - 1)).kind → count ≡ blanks style toks (k + (id - stretch.first))
+    → decision ≡ next_decision style line takes count (item_at arena id) → end ≡ start_behind column decision
     → after ≡ decided plan id (record { decision = decision; end = end }) → start ≡ start_of (slot_of after id) → next ≡ column_behind start (item_at arena id)
-    → GoesOn style arena ids line plan column (k + (id - stretch.first)) after next (k + (id + 1 - stretch.first))
-goes_next style arena ids line stretch plan after column next k id start end decision takes are low high from t d e a s n =
+    → GoesOn style arena ids toks line plan column (k + (id - stretch.first)) after next (k + (id + 1 - stretch.first))
+goes_next style arena ids toks line stretch plan after column next k id start end count decision takes are low high from t b d e a s n =
     let place : ℕ = k + (id - stretch.first) in
     let left : ℕ = k + (id - 1 - stretch.first) in
     let step : left + 1 ≡ place = omega (arith, low) in
@@ -135,13 +136,15 @@ goes_next style arena ids line stretch plan after column next k id start end dec
     let here : get_or ids place 0 ≡ id = are (id - stretch.first) (omega (arith, high, low)) ∙ omega (arith, low) in
     let there : get_or ids left 0 ≡ id - 1 = are (id - 1 - stretch.first) (omega (arith, high, low)) ∙ omega (arith, low) in
     let at : get_or ids (left + 1) 0 ≡ id - 1 + 1 = ap (λ j. get_or ids j 0) step ∙ (here ∙ sym one) in
-    let is : next_decision style line (takes_line (item_at arena (id - 1)).kind) (item_at arena (id - 1 + 1)) ≡ decision_at style arena ids line (left + 1) =
-    next_is style arena ids line left (id - 1) (omega (arith, from)) there at in
-    let made : decision ≡ decision_at style arena ids line place =
-    d ∙ (ap (λ b. next_decision style line b (item_at arena id)) t
-    ∙ (ap (λ x. next_decision style line (takes_line (item_at arena (id - 1)).kind) (item_at arena x)) (sym one)
-    ∙ (is ∙ ap (λ j. decision_at style arena ids line j) step))) in
-    goes_on style arena ids line plan after column next place (k + (id + 1 - stretch.first)) id start end decision (omega (arith, low)) here made e a s n
+    let is : next_decision style line (takes_line (item_at arena (id - 1)).kind) (blanks style toks (left + 1)) (item_at arena (id - 1 + 1)) ≡ decision_at style arena ids toks line (left + 1) =
+    next_is style arena ids toks line left (id - 1) (omega (arith, from)) there at in
+    let spaces : count ≡ blanks style toks (left + 1) = b ∙ ap (blanks style toks) (sym step) in
+    let made : decision ≡ decision_at style arena ids toks line place =
+    d ∙ (ap (λ x. next_decision style line x count (item_at arena id)) t
+    ∙ (ap (λ x. next_decision style line (takes_line (item_at arena (id - 1)).kind) x (item_at arena id)) spaces
+    ∙ (ap (λ x. next_decision style line (takes_line (item_at arena (id - 1)).kind) (blanks style toks (left + 1)) (item_at arena x)) (sym one)
+    ∙ (is ∙ ap (λ j. decision_at style arena ids toks line j) step)))) in
+    goes_on style arena ids toks line plan after column next place (k + (id + 1 - stretch.first)) id start end decision (omega (arith, low)) here made e a s n
 
 -- ## Lines that are decided
 
@@ -155,19 +158,19 @@ decided_again plan id slot some = elim (slot_of plan id) as (λ o. IsSome o → 
     none_is_none : IsSome {T = Slot} None → ⊥
     none_is_none h = cc
 
-nothing_from : (style : Style) (arena : Contents) (ids : List ℕ) (line : ULine) (plan : List (Option Slot)) (column k count : ℕ)
-    → ((j : ℕ) → k ≤ j → j < k + count → IsSome (slot_of plan (get_or ids j 0))) → decided_all plan (decisions_from style arena ids line plan column k count) ≡ plan
-nothing_from style arena ids line plan column k zero some = refl
-nothing_from style arena ids line plan column k (suc count) some =
+nothing_from : (style : Style) (arena : Contents) (ids : List ℕ) (toks : List LineTok) (line : ULine) (plan : List (Option Slot)) (column k count : ℕ)
+    → ((j : ℕ) → k ≤ j → j < k + count → IsSome (slot_of plan (get_or ids j 0))) → decided_all plan (decisions_from style arena ids toks line plan column k count) ≡ plan
+nothing_from style arena ids toks line plan column k zero some = refl
+nothing_from style arena ids toks line plan column k (suc count) some =
     let id = get_or ids k 0 in
-    let same : decided plan id (slot_at style arena ids line column k) ≡ plan = decided_again plan id (slot_at style arena ids line column k) (some k (omega arith) (omega arith)) in
-    first_and_rest style arena ids line plan column k count (suc count) refl
-    ∙ (ap (λ (p : List (Option Slot)). decided_all p (decisions_from style arena ids line p (column_after arena p id) (k + 1) count)) same
-    ∙ nothing_from style arena ids line plan (column_after arena plan id) (k + 1) count (λ j low high. some j (omega (arith, low)) (omega (arith, high))))
+    let same : decided plan id (slot_at style arena ids toks line column k) ≡ plan = decided_again plan id (slot_at style arena ids toks line column k) (some k (omega arith) (omega arith)) in
+    first_and_rest style arena ids toks line plan column k count (suc count) refl
+    ∙ (ap (λ (p : List (Option Slot)). decided_all p (decisions_from style arena ids toks line p (column_after arena p id) (k + 1) count)) same
+    ∙ nothing_from style arena ids toks line plan (column_after arena plan id) (k + 1) count (λ j low high. some j (omega (arith, low)) (omega (arith, high))))
 
 -- a line whose gaps are decided changes nothing
-pub nothing_new : (style : Style) (arena : Contents) (ids : List ℕ) (line : ULine) (plan : List (Option Slot)) → AreDecided plan ids line → plan ≡ decided_all plan (line_decisions style arena ids plan line)
-nothing_new style arena ids line plan some = sym (nothing_from style arena ids line plan 0 line.first (line.last + 1 - line.first) (λ j low high. some j low (omega (arith, low, high))))
+pub nothing_new : (style : Style) (arena : Contents) (ids : List ℕ) (toks : List LineTok) (line : ULine) (plan : List (Option Slot)) → AreDecided plan ids line → plan ≡ decided_all plan (line_decisions style arena ids toks plan line)
+nothing_new style arena ids toks line plan some = sym (nothing_from style arena ids toks line plan 0 line.first (line.last + 1 - line.first) (λ j low high. some j low (omega (arith, low, high))))
 
 -- ## Items of places and before them
 
@@ -184,12 +187,12 @@ before_within arena ids (suc k) before items within is id e =
 
 -- ## One line of a run
 
-pub one_line : (style : Style) (arena : Contents) (ids : List ℕ) (lines : List ULine) (plan after : List (Option Slot)) (i : ℕ) (d : ULine)
-    → i < length lines → after ≡ decided_all plan (line_decisions style arena ids plan (get_or lines i d))
-    → decided_all after (run_decisions style arena ids after (drop (i + 1) lines)) ≡ decided_all plan (run_decisions style arena ids plan (drop i lines))
-one_line style arena ids lines plan after i d within a =
+pub one_line : (style : Style) (arena : Contents) (ids : List ℕ) (toks : List LineTok) (lines : List ULine) (plan after : List (Option Slot)) (i : ℕ) (d : ULine)
+    → i < length lines → after ≡ decided_all plan (line_decisions style arena ids toks plan (get_or lines i d))
+    → decided_all after (run_decisions style arena ids toks after (drop (i + 1) lines)) ≡ decided_all plan (run_decisions style arena ids toks plan (drop i lines))
+one_line style arena ids toks lines plan after i d within a =
     let e : suc i ≡ i + 1 = omega arith in
     let line : ULine = get_or lines i d in
     let at : drop i lines ≡ line ∷ drop (i + 1) lines = drop-cons lines i d within ∙ ap (λ j. line ∷ drop j lines) e in
-    let made = line_decisions style arena ids plan line in
-    rw (at, decided_all-append plan made (run_decisions style arena ids (decided_all plan made) (drop (i + 1) lines)), a) refl
+    let made = line_decisions style arena ids toks plan line in
+    rw (at, decided_all-append plan made (run_decisions style arena ids toks (decided_all plan made) (drop (i + 1) lines)), a) refl

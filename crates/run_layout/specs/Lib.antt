@@ -1,4 +1,12 @@
 pub mod Stretches
 pub mod Rows
+pub mod Tells
 pub mod Run
+pub mod InputColumns
+pub mod Broken
+pub mod Outcomes
+pub mod Told
+pub mod Reports
+pub mod RunsLaid
+pub mod OneRow
 pub mod Laws

@@ -1,5 +1,5 @@
 -- What stands before the items of a line that isn't searched for breaks: docs/PROFILE.md, "Layout of lines".
-use Rattle.std.specs.Prelude.{◌==◌, ◌&&◌, ◌||◌, not, min, ℕ, zero, suc, ◌+◌, Bool, false, Option, Some, None, List, [], get_or, if◌then◌else◌}
+use Rattle.std.specs.Prelude.{◌==◌, ◌&&◌, ◌||◌, not, min, ℕ, zero, suc, ◌+◌, ◌-◌, Bool, false, Option, Some, None, List, [], get_or, if◌then◌else◌}
 use Rattle.c_grammar.specs.Touch.{takes_line}
 use Rattle.c_grammar.specs.Fitting.{is_comment}
 use Rattle.c_grammar.specs.declared.ItemKind.TheVariants.{Other}
@@ -14,6 +14,7 @@ use Rattle.brackets.specs.declared.class.TokenClass.TheVariants.{Nothing}
 use Rattle.brackets.specs.Classes.{is_open_brace, is_close_brace}
 use Rattle.brackets.specs.Viewed.{item_class}
 use Rattle.unwrapped_lines.specs.declared.line.ULine.{ULine}
+use Rattle.spacing.specs.Spaces.{spaces_before}
 use Rattle.indenter.specs.Rows.{most_column, start_column, empty_lines}
 use Rattle.gap_text.specs.declared.Decision.{Decision}
 use Rattle.gap_text.specs.declared.Decision.TheVariants.{Old, Spaces, Lines, Splice}
@@ -121,27 +122,49 @@ first_decision style arena line before id = first_of_line style arena line (is_b
 abbrev pub empty_further : Style → Contents → ULine → Option ℕ → ℕ → ℕ
 empty_further style arena line before id = if follows before id then 0 else empty_rows style line false (row_token arena id Word)
 
--- no blank where nothing stood, otherwise one
-abbrev pub blanks : Stored → ℕ
-blanks token = if token.gap.empty then 0 else 1
+-- what a list of tokens has past its end
+abbrev pub no_tok : LineTok
+no_tok = record {
+  id = record { 0 = 0 };
+  role = Word;
+  power = 0;
+  depth = 0;
+  trailing_list = false;
+  held = false;
+  touch = false;
+  directive = false;
+  gap = record { lines = 0; empty = false; white = false; splice = false; began = false };
+  kind = Other;
+  rows = 0;
+  first_width = 0;
+  last_width = 0;
+}
 
--- before any other item of a line
-abbrev pub inner_decision : Style → Contents → ULine → Option ℕ → ℕ → Decision
-inner_decision style arena line before id =
+-- the token at a place of a view
+abbrev pub tok_at : List LineTok → ℕ → LineTok
+tok_at toks k = get_or toks k no_tok
+
+-- the blanks between the token before a place and the one at it
+abbrev pub blanks : Style → List LineTok → ℕ → ℕ
+blanks style toks k = spaces_before style (tok_at toks (k - 1)) (tok_at toks k)
+
+-- before any other item of a line, at this place
+abbrev pub inner_decision : Style → Contents → List LineTok → ULine → ℕ → Option ℕ → ℕ → Decision
+inner_decision style arena toks line k before id =
     if row_ends arena before id then Lines (1 + empty_further style arena line before id) (continuation_column style line) line.level
-    else Spaces (blanks (item_at arena id))
+    else Spaces (blanks style toks k)
 
--- before such an item that comes next in the text behind one that takes its line or doesn't
-abbrev pub next_decision : Style → ULine → Bool → Stored → Decision
-next_decision style line takes token = if takes || is_begun_comment token then Lines 1 (continuation_column style line) line.level else Spaces (blanks token)
+-- before such an item that comes next in the text behind one that takes its line or doesn't, with so many blanks
+abbrev pub next_decision : Style → ULine → Bool → ℕ → Stored → Decision
+next_decision style line takes count token = if takes || is_begun_comment token then Lines 1 (continuation_column style line) line.level else Spaces count
 
 -- before an item that begins its line or doesn't
-abbrev pub item_decision : Style → Contents → ULine → Bool → Option ℕ → ℕ → Decision
-item_decision style arena line begins before id = if begins then first_decision style arena line before id else inner_decision style arena line before id
+abbrev pub item_decision : Style → Contents → List LineTok → ULine → ℕ → Bool → Option ℕ → ℕ → Decision
+item_decision style arena toks line k begins before id = if begins then first_decision style arena line before id else inner_decision style arena toks line k before id
 
 -- What stands before the item at a place of a line.
-abbrev pub decision_at : Style → Contents → List ℕ → ULine → ℕ → Decision
-decision_at style arena ids line k = item_decision style arena line (k == line.first) (item_before ids k) (get_or ids k 0)
+abbrev pub decision_at : Style → Contents → List ℕ → List LineTok → ULine → ℕ → Decision
+decision_at style arena ids toks line k = item_decision style arena toks line k (k == line.first) (item_before ids k) (get_or ids k 0)
 
 -- ## Columns
 

@@ -1,8 +1,29 @@
-//! The law of a run's decisions. It stands on the contract of a function that does nothing.
+//! The laws of a run's decisions. Each stands on the contract of a function that does nothing.
 
-ghost use Rattle.run_layout.specs.Laws.{RunsStaySound};
+ghost use Rattle.run_layout.specs.Laws.{LinesDecide, LinesKeep, LinesStaySound, OneBreakingIsAdmissible, RunsStaySound};
 
-/// A plan that decides only what may stand is such a plan after a run too.
+/// Each decision that a run makes may stand for its gap: a plan that decides only what may stand is such a plan after a
+/// run too, in every style, for any view of items of texts.
 pub fn runs_stay_sound()
     ensures { RunsStaySound }
+{}
+
+/// The same of the lines of a run that are broken, whatever roles their tokens have and whichever lines are reported.
+pub fn lines_stay_sound()
+    ensures { LinesStaySound }
+{}
+
+/// What is decided before a run stays.
+pub fn lines_keep()
+    ensures { LinesKeep }
+{}
+
+/// Behind a run the gap of each item that it sees is decided.
+pub fn lines_decide()
+    ensures { LinesDecide }
+{}
+
+/// Without a limit of columns a line has one admissible breaking.
+pub fn one_breaking_is_admissible()
+    ensures { OneBreakingIsAdmissible }
 {}

@@ -5,9 +5,16 @@
 //! [`runs_stay_sound`] carries the law that each of its decisions may stand.
 #![tactic(auto)]
 
+mod broken;
 mod columns;
+mod first;
 mod item;
+mod laid;
 mod laws;
+mod lines;
+mod report;
+mod reported;
+mod row;
 mod rows;
 mod run;
 mod stretches;
@@ -15,5 +22,11 @@ mod stretches;
 mod tests;
 
 pub use columns::column_behind;
-pub use laws::runs_stay_sound;
+pub use laid::Laid;
+pub use laws::{
+    lines_decide, lines_keep, lines_stay_sound, one_breaking_is_admissible, runs_stay_sound,
+};
+pub use lines::lay_out_lines;
+pub use report::{Counts, Report, Tally};
+pub use reported::column_through;
 pub use run::{is_row_decided, lay_out_run};

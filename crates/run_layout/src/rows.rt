@@ -1,6 +1,7 @@
 //! What stands before the items of a line.
 
-ghost use Rattle.std.specs.Prelude.{◌≡◌, ◌<◌, ◌+◌, ◌^◌, length, get_or};
+ghost use Rattle.std.specs.Prelude.{◌≡◌, ◌<◌, ◌+◌, ◌^◌, false, length, get_or};
+ghost use Rattle.style_table.specs.Range.{IsInRange};
 ghost use Rattle.std.specs.Option.{ForSome};
 ghost use Rattle.c_grammar.specs.Fitting.{is_comment};
 ghost use Rattle.c_grammar.specs.Touch.{takes_line};
@@ -14,6 +15,7 @@ use brackets::TokenClass;
 use gap_text::Decision;
 use indenter::{empty_lines, start_column};
 use line_tokens::{ItemKind, LineTok, Role, TokenId};
+use spacing::spaces_before;
 use style_table::Style;
 use token_arena::{Token, TokenArena};
 use token_views::View;
@@ -120,7 +122,7 @@ fn first_role(class: TokenClass) -> Role
 }
 
 /// Whether a `{` stands before a place, where the places have these classes.
-fn opens_before(classes: &[TokenClass], k: u32) -> bool
+pub(crate) fn opens_before(classes: &[TokenClass], k: u32) -> bool
     requires { k < length classes.now }
     ensures { result ≡ opens_before classes.now k }
 {
@@ -140,7 +142,7 @@ fn empty_rows(style: &Style, line: &ULine, opened: bool, token: &LineTok) -> u32
 }
 
 /// What stands before the first item of a line, behind a `{` or not.
-fn first_of_line(
+pub(crate) fn first_of_line(
     style: &Style,
     arena: &TokenArena<'_, '_>,
     line: &ULine,
@@ -181,25 +183,33 @@ fn empty_further(
     empty_rows(style, line, false, &token)
 }
 
-/// How many blanks stand before an item inside a row.
+/// How many blanks stand between the token before a place and the one at it.
 #[inline(always)]
-fn blanks(token: &Token<'_>) -> u32
-    ensures { result ≡ blanks (told_by token.now) }
+pub(crate) fn blanks(style: &Style, toks: &[LineTok], k: usize) -> u32
+    requires range { IsInRange style.now }
+    requires before { 0 < k }
+    requires place { k < length toks.now }
+    ensures { result ≡ blanks style.now toks.now k }
 {
-    if token.gap.empty { 0 } else { 1 }
+    u32::from(spaces_before(style, &toks[k - 1], &toks[k]))
 }
 
-/// What stands before any other item of a line.
+/// What stands before any other item of a line, which stands at this place.
 fn inner_decision(
     style: &Style,
     arena: &TokenArena<'_, '_>,
+    toks: &[LineTok],
     line: &ULine,
+    k: u32,
     before: Option<u32>,
     id: u32,
 ) -> Decision
+    requires range { IsInRange style.now }
     requires before { ForSome before (λ id. id < length arena.now.tokens) }
     requires within { id < length arena.now.tokens }
-    ensures { result ≡ inner_decision style.now arena.now line.now before id }
+    requires place { k < length toks.now }
+    requires follows { row_ends arena.now before id ≡ false → 0 < k }
+    ensures { result ≡ inner_decision style.now arena.now toks.now line.now k before id }
 {
     if row_ends(arena, before, id) {
         Decision::Lines {
@@ -208,14 +218,21 @@ fn inner_decision(
             level: line.level,
         }
     } else {
-        Decision::Spaces(blanks(&item(arena, id)))
+        Decision::Spaces(blanks(style, toks, k as usize))
     }
 }
 
-/// What stands before an item inside a line that comes next in the text behind one that takes its line or doesn't.
+/// What stands before an item inside a line that comes next in the text behind one that takes its line or doesn't, with so
+/// many blanks.
 #[inline(always)]
-pub(crate) fn next_decision(style: &Style, line: &ULine, takes: bool, token: &Token<'_>) -> Decision
-    ensures { result ≡ next_decision style.now line.now takes (told_by token.now) }
+pub(crate) fn next_decision(
+    style: &Style,
+    line: &ULine,
+    takes: bool,
+    count: u32,
+    token: &Token<'_>,
+) -> Decision
+    ensures { result ≡ next_decision style.now line.now takes count (told_by token.now) }
 {
     if takes || is_begun_comment(token) {
         return Decision::Lines {
@@ -224,7 +241,7 @@ pub(crate) fn next_decision(style: &Style, line: &ULine, takes: bool, token: &To
             level: line.level,
         };
     }
-    Decision::Spaces(blanks(token))
+    Decision::Spaces(count)
 }
 
 /// What stands before the item at a place of a line, which is this one.
@@ -233,15 +250,18 @@ pub(crate) fn decision_at(
     arena: &TokenArena<'_, '_>,
     view: &View<'_>,
     classes: &[TokenClass],
+    toks: &[LineTok],
     line: &ULine,
     k: u32,
     id: u32,
 ) -> Decision
+    requires range { IsInRange style.now }
+    requires count { length toks.now ≡ length view.now }
     requires classes { classes.now ≡ classes_of arena.now view.now }
     requires place { k < length view.now }
     requires items { AreWithin arena.now view.now }
     requires id { get_or view.now k 0 ≡ id }
-    ensures { result ≡ decision_at style.now arena.now view.now line.now k }
+    ensures { result ≡ decision_at style.now arena.now view.now toks.now line.now k }
 {
     let count = classes.len();
     prove!((k as usize) < count);
@@ -249,5 +269,5 @@ pub(crate) fn decision_at(
         let opened = opens_before(classes, k);
         return first_of_line(style, arena, line, opened, classes[k as usize], id);
     }
-    inner_decision(style, arena, line, item_before(view, k), id)
+    inner_decision(style, arena, toks, line, k, item_before(view, k), id)
 }

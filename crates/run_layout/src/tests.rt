@@ -4,6 +4,7 @@ ghost use Rattle.std.specs.Prelude.{◌≡◌, ◌+◌, length};
 ghost use Rattle.brackets.specs.Viewed.{AreWithin};
 
 use crate::lay_out_run;
+use annotator::roles_of_classes;
 use brackets::{classes, partners_of_classes};
 use bumpalo::Bump;
 use gap_text::Decision;
@@ -19,18 +20,25 @@ use unwrapped_lines::lines_of_classes;
 /// A text with the text of its items and decisions in a style.
 type Case = (&'static str, &'static str, &'static str, &'static str);
 
-const CASES: [Case; 14] = [
+const CASES: [Case; 16] = [
+    (
+        "blanks by roles",
+        "LLVM",
+        "int*p,*q;\nx=(int)y*z;",
+        "int *p, *q;\nx = (int)y * z;",
+    ),
+    ("a pointer beside its type", "Google", "char*s;", "char* s;"),
     (
         "branches",
         "LLVM",
         "void f(void){if(x){g();}else h();}",
-        "void f(void){\n  if(x){\n    g();\n  }else\n    h();\n}",
+        "void f(void) {\n  if (x) {\n    g();\n  } else\n    h();\n}",
     ),
     (
         "branches with wrapped braces",
         "Microsoft",
         "void f(void){if(x){g();}else h();}",
-        "void f(void)\n{\n    if(x)\n    {\n        g();\n    }\n    else\n        h();\n}",
+        "void f(void)\n{\n    if (x)\n    {\n        g();\n    }\n    else\n        h();\n}",
     ),
     (
         "rows that are joined",
@@ -48,25 +56,25 @@ const CASES: [Case; 14] = [
         "empty lines of a block",
         "LLVM",
         "void f(void){\n\n\ng();\n\n}",
-        "void f(void){\n\n  g();\n}",
+        "void f(void) {\n\n  g();\n}",
     ),
     (
         "no empty lines at the start of a block",
         "Google",
         "void f(void){\n\n\ng();\n\n}",
-        "void f(void){\n  g();\n}",
+        "void f(void) {\n  g();\n}",
     ),
     (
         "empty lines behind the brace of a list",
         "Google",
         "int a[] = {\n\n1};",
-        "int a[] = { 1};",
+        "int a[] = {1};",
     ),
     (
         "a digraph for a brace",
         "Google",
         "void f(void)<%\n\ng();%>",
-        "void f(void)<%\n  g();\n%>",
+        "void f(void) <%\n  g();\n%>",
     ),
     (
         "behind a line comment",
@@ -164,8 +172,9 @@ fn is_laid_out(
     let classes = classes(arena, view, run)?;
     let partners = partners_of_classes(classes, run)?;
     let lines = lines_of_classes(&style, arena, view, classes, partners, run)?;
+    let toks = roles_of_classes(arena, view, classes, partners, lines, run)?;
     let mut plan = Plan::make(arena, run)?;
-    lay_out_run(&style, arena, view, classes, lines, &mut plan);
+    lay_out_run(&style, arena, view, classes, toks, lines, &mut plan);
     let text = drawn(rt, alloc, arena, view, &plan)?;
     assert!(rt; text.as_slice() == want.as_bytes(), "{name}");
     Ok(())
@@ -208,9 +217,10 @@ fn goes_on_from_what_is_decided(rt: HostRuntime) -> Result<(), Fail> {
     let classes = classes(&arena, &view, &run)?;
     let partners = partners_of_classes(classes, &run)?;
     let lines = lines_of_classes(&style, &arena, &view, classes, partners, &run)?;
+    let toks = roles_of_classes(&arena, &view, classes, partners, lines, &run)?;
     let mut plan = Plan::make(&arena, &run)?;
     assert_eq!(rt; plan.decide(1, Decision::Old, 9), Decided::New);
-    lay_out_run(&style, &arena, &view, classes, lines, &mut plan);
+    lay_out_run(&style, &arena, &view, classes, toks, lines, &mut plan);
     let kept = plan.slot(1).ok_or("a decision")?;
     assert_eq!(rt; kept.decision, Decision::Old);
     assert_eq!(rt; kept.end, 9);

@@ -4,6 +4,7 @@
 //! read from the top, and the first row whose condition holds decides.
 #![tactic(auto)]
 
+mod laws;
 #[cfg(test)]
 mod tests;
 
@@ -11,6 +12,7 @@ ghost use Rattle.std.specs.Prelude.{◌≡◌, ◌≤◌};
 ghost use Rattle.style_table.specs.Range.{IsInRange};
 ghost use Rattle.spacing.specs.Spaces.{as_before, one_if, is_attached, is_line_comment, is_never, is_always, is_left, is_right, spaces_by_table, spaces_before};
 
+pub use laws::keeps_apart;
 use line_tokens::{ItemKind, LineTok, Role};
 use style_table::{PointerAlignment, SpaceBeforeParens, Style};
 

@@ -1,4 +1,5 @@
 mod Ends
+mod PlainBytes
 mod Firsts
 pub mod Marks
 pub mod NoMark

@@ -4,10 +4,12 @@
 #![tactic(auto)]
 
 mod laws;
+mod near;
 mod spelling;
 #[cfg(test)]
 mod tests;
 mod touch;
 
 pub use laws::takes_gaps_away;
+pub use near::near_touch;
 pub use touch::may_touch;

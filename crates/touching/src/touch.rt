@@ -14,7 +14,7 @@ use c_grammar::ItemKind;
 use c_lexer::Item;
 
 /// `::`, the two that begin a comment, and the punctuators of C11 6.4.6.
-const GOING_ON: [&[u8]; 57] = [
+pub(crate) const GOING_ON: [&[u8]; 57] = [
     b"::", b"//", b"/*", b"[", b"]", b"(", b")", b"{", b"}", b".", b"->", b"++", b"--", b"&", b"*",
     b"+", b"-", b"~", b"!", b"/", b"%", b"<<", b">>", b"<", b">", b"<=", b">=", b"==", b"!=", b"^",
     b"|", b"&&", b"||", b"?", b":", b";", b"...", b"=", b"*=", b"/=", b"%=", b"+=", b"-=", b"<<=",
@@ -22,7 +22,7 @@ const GOING_ON: [&[u8]; 57] = [
 ];
 
 #[tactic(auto, unfolding(c_grammar::specs::Grammar::is_letter))]
-fn is_letter(c: u8) -> bool
+pub(crate) fn is_letter(c: u8) -> bool
     ensures { result ≡ is_letter c }
 {
     c.is_ascii_alphabetic() || c == b'_' || c == b'$'
@@ -155,7 +155,9 @@ fn trigraph_comes(dialect: Dialect, left: &Item<'_>, right: &Item<'_>) -> bool
 
 /// Whether two items may stand side by side with nothing between them (docs/DEFINITIONS.md, "Items that may touch").
 ///
-/// Their bytes are at most [`LIMIT`], as those of every item of a text.
+/// Their bytes are at most [`LIMIT`], as those of every item of a text. Ask [`near_touch`](crate::near_touch) first, which
+/// is told most answers by the first bytes.
+#[inline(never)]
 pub fn may_touch(dialect: Dialect, left: &Item<'_>, right: &Item<'_>) -> bool
     requires left { length left.now.raw.now ≤ LIMIT }
     requires right { length right.now.raw.now ≤ LIMIT }

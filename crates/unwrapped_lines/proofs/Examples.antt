@@ -1,7 +1,7 @@
 -- Worked examples.
 use Rattle.std.proofs.Common.{◌≡◌, ℕ, true, false, List, [], ◌∷◌, Option, refl}
 use Rattle.brackets.specs.declared.class.TokenClass.{TokenClass}
-use Rattle.brackets.specs.declared.class.TokenClass.TheVariants.{If, Else, OtherWord, PlainWord, OpenRound, CloseRound, OpenBrace, CloseBrace, Semicolon}
+use Rattle.brackets.specs.declared.class.TokenClass.TheVariants.{If, Else, TypeWord, PlainWord, OpenRound, CloseRound, OpenBrace, CloseBrace, Semicolon}
 use Rattle.unwrapped_lines.specs.declared.token.CodeToken.{CodeToken}
 use Rattle.unwrapped_lines.specs.declared.line.LineKind.TheVariants.{Simple, Control, FuncHead, Close}
 use Rattle.unwrapped_lines.specs.declared.braces.Braces.{Braces}
@@ -21,7 +21,7 @@ attach = record { after_case_label = false; after_control = false; after_enum = 
 
 -- void f(void){if(x){g();}else h();}
 abbrev text : List TokenClass
-text = OtherWord ∷ PlainWord ∷ OpenRound ∷ OtherWord ∷ CloseRound ∷ OpenBrace
+text = TypeWord ∷ PlainWord ∷ OpenRound ∷ TypeWord ∷ CloseRound ∷ OpenBrace
     ∷ If ∷ OpenRound ∷ PlainWord ∷ CloseRound ∷ OpenBrace ∷ PlainWord ∷ OpenRound ∷ CloseRound ∷ Semicolon ∷ CloseBrace
     ∷ Else ∷ PlainWord ∷ OpenRound ∷ CloseRound ∷ Semicolon ∷ CloseBrace ∷ []
 

@@ -1,5 +1,5 @@
 -- Scans past their end.
-use Rattle.std.proofs.Common.{◌≡◌, ℕ, zero, suc, ◌<◌, ◌≤◌, ◌-◌, nat_lt, Bool, true, false, List, refl, arith}
+use Rattle.std.proofs.Common.{◌≡◌, ℕ, zero, suc, ◌<◌, ◌≤◌, ◌-◌, nat_lt, Bool, true, false, List, refl, subst, arith}
 use Rattle.brackets.specs.declared.class.TokenClass.{TokenClass}
 use Rattle.unwrapped_lines.specs.declared.token.CodeToken.{CodeToken}
 use Rattle.unwrapped_lines.specs.declared.form.Stop.{Stop}
@@ -34,6 +34,14 @@ pub tag_other : (n : ℕ) (tokens : List CodeToken) (first i : ℕ) (found : Tok
     → is_member_word (class_at tokens (i - 1)) ≡ false → is_word (class_at tokens (i - 1)) ≡ false → call_opener tokens first i ≡ 0 → tag_before n tokens first i found ≡ found
 tag_other zero tokens first i found lt fuel m w o = absurd (omega arith)
 tag_other (suc n) tokens first i found lt fuel m w o = rw (lt_true first i lt, m, w, o, tag_before) refl
+
+pub tag_group : (n : ℕ) (tokens : List CodeToken) (first i o : ℕ) (found tag : TokenClass) → first < i → 0 < o → i - first ≤ n → o < i
+    → is_member_word (class_at tokens (i - 1)) ≡ false → is_word (class_at tokens (i - 1)) ≡ false → o ≡ call_opener tokens first i → tag_before n tokens first i found ≡ tag
+    → (m : ℕ) × ((o - first ≤ m) × (tag_before m tokens first o found ≡ tag))
+tag_group zero tokens first i o found tag lt some fuel down m w eo e = absurd (omega (arith, lt, fuel))
+tag_group (suc n) tokens first i o found tag lt some fuel down m w eo e =
+    let opener : 0 < call_opener tokens first i = subst (λ (x : ℕ). 0 < x) eo some in
+    (n, ((omega (arith, fuel, down)), rw eo (rw (lt_true first i lt, m, w, lt_true 0 (call_opener tokens first i) opener, tag_before) at e)))
 
 pub colon_at_end : (n : ℕ) (tokens : List CodeToken) (end i asked : ℕ) → end ≤ i → case_colon n tokens end i asked ≡ end
 colon_at_end zero tokens end i asked h = refl

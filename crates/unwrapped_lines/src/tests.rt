@@ -14,8 +14,8 @@ use crate::token::CodeToken;
 use crate::tree::tree_lines;
 use brackets::TokenClass::{
     Case, CloseBrace, CloseRound, CloseSquare, Colon, Comma, Do, Else, Enum, Equals, Extern, For,
-    If, OpenBrace, OpenRound, OpenSquare, Other, OtherWord, PlainWord, Question, Semicolon, Struct,
-    Switch, Text, While,
+    If, OpenBrace, OpenRound, OpenSquare, Other, PlainWord, Question, Semicolon, Struct, Switch,
+    Text, TypeWord, While,
 };
 use brackets::{TokenClass, partners_of_classes};
 use bumpalo::Bump;
@@ -25,7 +25,7 @@ use style_table::Style;
 
 /// `void f(void){if(x){g();}else h();}`
 const FUNCTION: [TokenClass; 22] = [
-    OtherWord, PlainWord, OpenRound, OtherWord, CloseRound, OpenBrace, If, OpenRound, PlainWord,
+    TypeWord, PlainWord, OpenRound, TypeWord, CloseRound, OpenBrace, If, OpenRound, PlainWord,
     CloseRound, OpenBrace, PlainWord, OpenRound, CloseRound, Semicolon, CloseBrace, Else,
     PlainWord, OpenRound, CloseRound, Semicolon, CloseBrace,
 ];
@@ -167,7 +167,7 @@ fn reads_labels_and_declarations(rt: HostRuntime) -> Result<(), Fail> {
     assert!(rt; reads_as(&rt, "LLVM", &late, &late_lines, &run)?);
     // struct s{int a;}v;
     let members = [
-        Struct, PlainWord, OpenBrace, OtherWord, PlainWord, Semicolon, CloseBrace, PlainWord,
+        Struct, PlainWord, OpenBrace, TypeWord, PlainWord, Semicolon, CloseBrace, PlainWord,
         Semicolon,
     ];
     let member_lines = [(3, 0, StructHead), (6, 1, Simple), (9, 0, Close)];
@@ -185,13 +185,13 @@ fn reads_labels_and_declarations(rt: HostRuntime) -> Result<(), Fail> {
     assert!(rt; reads_as(&rt, "LLVM", &numbers, &number_lines, &run)?);
     // extern "C"{int x;}
     let linked = [
-        Extern, Text, OpenBrace, OtherWord, PlainWord, Semicolon, CloseBrace,
+        Extern, Text, OpenBrace, TypeWord, PlainWord, Semicolon, CloseBrace,
     ];
     let linked_lines = [(3, 0, ExternHead), (6, 0, Simple), (7, 0, Close)];
     assert!(rt; reads_as(&rt, "LLVM", &linked, &linked_lines, &run)?);
     // int a[]={1,2};
     let list = [
-        OtherWord,
+        TypeWord,
         PlainWord,
         OpenSquare,
         CloseSquare,

@@ -250,7 +250,7 @@ pub(crate) fn code_tokens<'r>(
 }
 
 /// Which of three kinds a comment is.
-fn comment_part(arena: &TokenArena<'_, '_>, id: u32, started: bool, class: TokenClass) -> Part
+pub fn comment_part(arena: &TokenArena<'_, '_>, id: u32, started: bool, class: TokenClass) -> Part
     requires item { id < length arena.now.tokens }
     requires comment { is_comment class ≡ true }
     ensures { result ≡ part_of arena.now id started class }

@@ -1,5 +1,5 @@
 use Rattle.std.proofs.Common.{◌∙◌, sym}
-use Rattle.format_core.proofs.Counts.{ends_plain}
+use Rattle.format_core.proofs.LineCounts.{ends_plain}
 use Rattle.format_core.proofs.line_ends.ends_by.Goals as goal
 
 pub returns-then-not-has_return : goal.returns-then-not-has_return

@@ -1,5 +1,5 @@
 use Rattle.std.proofs.Common.{◌==◌, ◌∙◌}
-use Rattle.format_core.proofs.Counts.{found_any}
+use Rattle.format_core.proofs.LineCounts.{found_any}
 use Rattle.format_core.proofs.line_ends.has_return.Goals as goal
 
 pub returns : goal.returns

@@ -12,4 +12,4 @@ is_row_decided-requires c =
 pub loop-segment-preserved : goal.loop-segment-preserved
 loop-segment-preserved c = λ rest.
     let seen = c.segments-segment-items in
-    c.loop-segment.invariant (segment_first c.args.plan.now seen.result.now c.loop-segment.segment-index no_segment c.loop-segment-test.true (c.is_row_decided.ensures c.if-not-is_row_decided.false) rest)
+    c.loop-segment.invariant (segment_first c.args.plan.now seen.result.now c.loop-segment.segment-index no_segment c.loop-segment-test.true c.if-not-is_row_decided.ensures.yes rest)

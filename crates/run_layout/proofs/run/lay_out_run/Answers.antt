@@ -11,7 +11,7 @@ lay_out_line-requires-clause-some c = cut_some 0 (length c.args.view.now) c.args
 pub loop-line-preserved : goal.loop-line-preserved
 loop-line-preserved c = record {
   len = c.lay_out_line.ensures.len ∙ c.loop-line.invariant.len;
-  rest = one_line c.args.style.now c.args.arena.now c.args.view.now c.args.lines.now c.loop-line.plan c.lay_out_line.new.plan c.loop-line.line-index _
+  rest = one_line c.args.style.now c.args.arena.now c.args.view.now c.args.toks.now c.args.lines.now c.loop-line.plan c.lay_out_line.new.plan c.loop-line.line-index _
       c.loop-line-test.true c.lay_out_line.ensures.plan
       ∙ c.loop-line.invariant.rest;
 }

@@ -8,5 +8,5 @@ abbrev pub invariant-loop-id : goal.invariant-loop-id
 invariant-loop-id l = record {
   len : length l.plan ≡ length l.arena.tokens + 1;
   takes : l.takes ≡ takes_line (item_at l.arena (l.id - 1)).kind;
-  on : GoesOn l.style l.arena l.view l.line l.fn.plan l.fn.column l.k l.plan l.column (l.k + (l.id - l.fn.stretch.first));
+  on : GoesOn l.style l.arena l.view l.toks l.line l.fn.plan l.fn.column l.k l.plan l.column (l.k + (l.id - l.fn.stretch.first));
 }

@@ -1,8 +1,0 @@
-use Rattle.break_search.proofs.Grouping.{more_kept}
-use Rattle.break_search.proofs.table.reach.Goals as goal
-
-pub more-preserved : goal.more-preserved
-more-preserved c = λ i d u h. more_kept _ _ _ c.in_ok-push.ensures.items i d u (c.more.invariant i d u h)
-
-pub returns-in_err-push-clause-kept : goal.returns-in_err-push-clause-kept
-returns-in_err-push-clause-kept c = rw c.in_err-push.ensures.items c.more.invariant

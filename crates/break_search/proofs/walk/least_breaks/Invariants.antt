@@ -1,0 +1,5 @@
+use Rattle.break_search.proofs.LeastBreaks.{IsLittleIn}
+use Rattle.break_search.proofs.walk.least_breaks.Given as goal
+
+abbrev pub invariant-tokens : goal.invariant-tokens
+invariant-tokens l = IsLittleIn l.line l.breaks.items l.store l.state l.placed

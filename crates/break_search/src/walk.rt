@@ -1,0 +1,122 @@
+//! The layouts that given choices pass through.
+
+ghost use Rattle.std.specs.Prelude.{◌≡◌, ◌*◌, ◌<◌, ◌≤◌, length, IfOk};
+ghost use Rattle.style_table.specs.Range.{IsInRange};
+ghost use Rattle.line_state.specs.Line.{first_layout};
+ghost use Rattle.line_state.specs.Store.{layout_in, state_in, IsIn};
+ghost use Rattle.break_search.specs.Outcome.{IsSearchable, line_of};
+ghost use Rattle.break_search.specs.Starts.{IsAdmissible, MayStay, starts_of};
+ghost use Rattle.break_search.specs.Vertices.{IsNextState};
+
+use crate::line::SearchedLine;
+use bumpalo::Bump;
+use bumpalo::collections::into_bump_slice;
+use line_state::{FrameStore, NoMemory, NodeState};
+use line_tokens::{Fixed, LineTok};
+use std::alloc::Global;
+use style_table::Style;
+
+/// Where each token behind a line's first one starts, by admissible choices, one for each gap inside the line.
+///
+/// # Errors
+///
+/// `NoMemory` where memory ran out.
+pub fn starts<'r>(
+    alloc: Global,
+    style: &Style,
+    line: &[LineTok],
+    column: u32,
+    fixed: &[Option<Fixed>],
+    breaks: &[bool],
+    run: &'r Bump,
+) -> Result<&'r [u32], NoMemory>
+    requires some { 0 < length line.now }
+    requires short { length line.now < 4294967296 }
+    requires even { length fixed.now ≡ length line.now }
+    requires range { IsInRange style.now }
+    requires admissible { IsAdmissible (line_of style.now column line.now fixed.now) breaks.now }
+    ensures { IfOk result (λ starts. starts.now ≡ starts_of (line_of style.now column line.now fixed.now) (first_layout (line_of style.now column line.now fixed.now)) breaks.now) }
+{
+    let line = SearchedLine {
+        style,
+        column,
+        tokens: line,
+        fixed,
+    };
+    let scratch = Bump::new(alloc);
+    let mut store = FrameStore::make(&scratch)?;
+    let mut state = line.first(&mut store)?;
+    let mut starts = Vec::with_capacity(run, breaks.len())?;
+    for brk in breaks {
+        let place = line.start(&store, &state, *brk);
+        starts.push(place)?;
+        let Some(next) = line.successor(&mut store, &state, *brk)? else {
+            unreachable!()
+        };
+        state = next;
+    }
+    Ok(into_bump_slice(starts))
+}
+
+/// The next state and its choice, which breaks only where the gap can't stay.
+fn least_next<'r>(
+    line: &SearchedLine<'_>,
+    store: &mut FrameStore<'r>,
+    state: &NodeState,
+) -> Result<(NodeState, bool), NoMemory>
+    requires line { IsSearchable line.now }
+    requires known { IsIn store.old state.now }
+    requires some { 0 < state.now.index }
+    requires next { state.now.index < length line.now.tokens }
+    requires cheap { state.now.cost ≤ state.now.index * 18446744073709551615 }
+    requires stay { MayStay (layout_in store.old state.now) }
+    ensures next { IfOk result (λ x. IsNextState line.now (layout_in store.old state.now) state.now.cost x.1 (state_in store.new x.0)) }
+    ensures known { IfOk result (λ x. IsIn store.new x.0) }
+    ensures stay { IfOk result (λ x. MayStay (layout_in store.new x.0)) }
+{
+    if let Some(next) = line.successor(store, state, false)? {
+        return Ok((next, false));
+    }
+    let Some(next) = line.successor(store, state, true)? else {
+        unreachable!()
+    };
+    Ok((next, true))
+}
+
+/// The breaking of a line that breaks only where it has to.
+///
+/// # Errors
+///
+/// `NoMemory` where memory ran out.
+pub fn least_breaks<'r>(
+    alloc: Global,
+    style: &Style,
+    line: &[LineTok],
+    column: u32,
+    fixed: &[Option<Fixed>],
+    run: &'r Bump,
+) -> Result<&'r [bool], NoMemory>
+    requires some { 0 < length line.now }
+    requires short { length line.now < 4294967296 }
+    requires even { length fixed.now ≡ length line.now }
+    requires range { IsInRange style.now }
+    ensures { IfOk result (λ breaks. IsAdmissible (line_of style.now column line.now fixed.now) breaks.now) }
+{
+    let line = SearchedLine {
+        style,
+        column,
+        tokens: line,
+        fixed,
+    };
+    let scratch = Bump::new(alloc);
+    let mut store = FrameStore::make(&scratch)?;
+    let mut state = line.first(&mut store)?;
+    let count = line.gaps();
+    let mut breaks = Vec::with_capacity(run, count as usize)?;
+    'tokens: for placed in 0..count {
+        let (next, brk) = least_next(&line, &mut store, &state)?;
+        breaks.push(brk)?;
+        state = next;
+    }
+    Ok(into_bump_slice(breaks))
+}

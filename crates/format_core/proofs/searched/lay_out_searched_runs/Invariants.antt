@@ -1,0 +1,11 @@
+use Rattle.std.proofs.Common.{◌≡◌, ◌≤◌, ◌-◌, ◌*◌, length}
+use Rattle.format_core.proofs.RunsTold.{GoesOnRuns}
+use Rattle.format_core.proofs.searched.lay_out_searched_runs.Given as goal
+
+abbrev pub invariant-loop-number : goal.invariant-loop-number
+invariant-loop-number l = record {
+  len : length l.plan ≡ length l.initial.plan;
+  room : l.tally.searched ≤ l.number * 33554432;
+  cheap : l.tally.cost ≤ l.tally.searched * 18446744073709551615;
+  on : GoesOnRuns l.style l.budget l.arena l.initial.plan l.count l.initial.tally l.plan l.number (l.count - l.number) l.tally;
+}

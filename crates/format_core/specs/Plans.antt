@@ -1,0 +1,25 @@
+-- The plan of a text: what is decided before the runs, and then run by run and line by line. docs/PROFILE.md, "Runs", says what a run sees.
+use Rattle.std.specs.Prelude.{◌≡◌, ℕ, zero, suc, ◌+◌, Option, List, [], ◌∷◌, ◌++◌}
+use Rattle.style_table.specs.declared.style.Style.{Style}
+use Rattle.token_arena.specs.Gaps.{Contents}
+use Rattle.replacements.specs.declared.slot.Slot.{Slot}
+use Rattle.run_layout.specs.Outcomes.{LaidLine, AfterLines}
+use Rattle.format_core.specs.Runs.{runs_of, seen_by, lines_of_items, toks_of_items, after_kept, early_plan}
+
+-- Behind the run that sees these items stands this plan, and this came of its lines: first what stays as it is between them is decided, then their lines are laid out.
+abbrev pub AfterItems : Style → ℕ → Contents → ℕ → List (Option Slot) → List ℕ → List (Option Slot) → List LaidLine → Type 0
+AfterItems style budget arena run plan ids final done =
+    AfterLines style budget arena ids (toks_of_items style arena ids) run (after_kept style arena plan ids) (lines_of_items style arena ids) final done
+
+-- Behind so many runs from this one on stands this plan, and this came of their lines.
+abbrev pub AfterRuns : Style → ℕ → Contents → List (Option Slot) → ℕ → ℕ → List (Option Slot) → List LaidLine → Type 0
+AfterRuns style budget arena plan run zero final done = (final ≡ plan) × (done ≡ [])
+AfterRuns style budget arena plan run (suc count) final done =
+    (after : List (Option Slot)) × (here : List LaidLine) × (later : List LaidLine)
+    × AfterItems style budget arena run plan (seen_by arena run) after here
+    × AfterRuns style budget arena after (run + 1) count final later
+    × (done ≡ here ++ later)
+
+-- This is a plan of a text, and this came of the lines of all its runs in their order. A gap keeps what is decided for it first.
+abbrev pub IsPlanOf : Style → ℕ → Contents → List (Option Slot) → List LaidLine → Type 0
+IsPlanOf style budget arena plan done = AfterRuns style budget arena (early_plan style arena) 0 (runs_of arena) plan done

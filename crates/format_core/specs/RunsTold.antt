@@ -1,0 +1,21 @@
+-- Runs that were laid out, with what is told of their lines.
+use Rattle.std.specs.Prelude.{ℕ, List, Option}
+use Rattle.style_table.specs.declared.style.Style.{Style}
+use Rattle.token_arena.specs.Gaps.{Contents}
+use Rattle.replacements.specs.declared.slot.Slot.{Slot}
+use Rattle.run_layout.specs.Outcomes.{LaidLine}
+use Rattle.run_layout.specs.RunsLaid.{IsToldOf}
+use Rattle.run_layout.specs.declared.report.Tally.{Tally}
+use Rattle.format_core.specs.Plans.{AfterItems, AfterRuns}
+
+-- behind the run that sees these items stands this plan, and its lines are told so
+pub record AreItemsTold (style : Style) (budget : ℕ) (arena : Contents) (run : ℕ) (plan : List (Option Slot)) (ids : List ℕ) (final : List (Option Slot)) (before after : Tally) : Type 0 where
+  pub done : List LaidLine
+  pub items : AfterItems style budget arena run plan ids final done
+  pub told : IsToldOf done before after
+
+-- the same behind so many runs from this one on
+pub record AreRunsTold (style : Style) (budget : ℕ) (arena : Contents) (plan : List (Option Slot)) (run count : ℕ) (final : List (Option Slot)) (before after : Tally) : Type 0 where
+  pub done : List LaidLine
+  pub runs : AfterRuns style budget arena plan run count final done
+  pub told : IsToldOf done before after

@@ -1,0 +1,134 @@
+//! The plan of a text whose lines are searched, run by run over one store of items.
+
+ghost use Rattle.std.specs.Prelude.{◌≡◌, ◌<◌, ◌≤◌, ◌+◌, ◌*◌, ◌^◌, OnOk, length};
+ghost use Rattle.c_chars.specs.declared.TheConstants.{LIMIT};
+ghost use Rattle.style_table.specs.Range.{IsInRange};
+ghost use Rattle.brackets.specs.Viewed.{AreWithin, item_classes};
+ghost use Rattle.format_core.specs.Runs.{IsTreeOf, runs_of, seen_by};
+ghost use Rattle.format_core.specs.RunsTold.{AreItemsTold, AreRunsTold};
+
+use crate::kept::keep_gaps;
+use crate::runs::are_decided;
+use annotator::roles_of_classes;
+use brackets::{TokenClass, bracket_facts, classes_among};
+use branch_runs::CondTree;
+use bumpalo::Bump;
+use line_tokens::NoMemory;
+use replacements::Plan;
+use run_layout::{Tally, lay_out_lines};
+use std::alloc::Global;
+use style_table::Style;
+use token_arena::TokenArena;
+use token_views::View;
+use unwrapped_lines::lines_of_classes;
+
+/// Decides the gaps of the items that a run sees, where they are open: first those that stay as they are. `all` are
+/// the classes of all items of the text.
+fn lay_out_searched_items(
+    alloc: Global,
+    style: &Style,
+    budget: u64,
+    arena: &TokenArena<'_, '_>,
+    all: &[TokenClass],
+    number: u32,
+    view: &View<'_>,
+    plan: &mut Plan<'_>,
+    tally: &mut Tally<'_>,
+    run: &Bump,
+) -> Result<(), NoMemory>
+    requires range { IsInRange style.now }
+    requires budget { budget ≤ 16000000 }
+    requires all { all.now ≡ item_classes arena.now }
+    requires within { AreWithin arena.now view.now }
+    requires whole { length plan.old ≡ length arena.now.tokens + 1 }
+    requires room { tally.old.searched ≤ 2 ^ 59 }
+    requires cheap { tally.old.cost ≤ tally.old.searched * 18446744073709551615 }
+    ensures told { OnOk result (AreItemsTold style.now budget arena.now number plan.old view.now plan.new tally.old tally.new) }
+    ensures len { OnOk result (length plan.new ≡ length plan.old) }
+    ensures room { OnOk result (tally.new.searched ≤ tally.old.searched + 33554432) }
+    ensures cheap { OnOk result (tally.new.cost ≤ tally.new.searched * 18446744073709551615) }
+{
+    let items = arena.len();
+    let count = view.len();
+    prove!(count <= items);
+    let classes = classes_among(all, arena, view, run)?;
+    let facts = bracket_facts(classes, run)?;
+    keep_gaps(style, arena, view, facts.kept, plan);
+    let lines = lines_of_classes(style, arena, view, classes, facts.partners, run)?;
+    let toks = roles_of_classes(arena, view, classes, facts.partners, lines, run)?;
+    lay_out_lines(
+        alloc, style, budget, arena, view, classes, toks, number, lines, plan, tally, run,
+    )?;
+    Ok(())
+}
+
+/// Decides the gaps of the items that the run with this number sees, where they are open. A run of branches without
+/// text sees nothing new, and its lines aren't asked for.
+fn lay_out_searched_seen(
+    alloc: Global,
+    style: &Style,
+    budget: u64,
+    arena: &TokenArena<'_, '_>,
+    all: &[TokenClass],
+    tree: &CondTree<'_>,
+    number: u32,
+    plan: &mut Plan<'_>,
+    tally: &mut Tally<'_>,
+    run: &Bump,
+) -> Result<(), NoMemory>
+    requires range { IsInRange style.now }
+    requires budget { budget ≤ 16000000 }
+    requires all { all.now ≡ item_classes arena.now }
+    requires tree { IsTreeOf arena.now tree.now }
+    requires number { number < runs_of arena.now }
+    requires whole { length plan.old ≡ length arena.now.tokens + 1 }
+    requires room { tally.old.searched ≤ 2 ^ 59 }
+    requires cheap { tally.old.cost ≤ tally.old.searched * 18446744073709551615 }
+    ensures told { OnOk result (AreItemsTold style.now budget arena.now number plan.old (seen_by arena.now number) plan.new tally.old tally.new) }
+    ensures len { OnOk result (length plan.new ≡ length plan.old) }
+    ensures room { OnOk result (tally.new.searched ≤ tally.old.searched + 33554432) }
+    ensures cheap { OnOk result (tally.new.cost ≤ tally.new.searched * 18446744073709551615) }
+{
+    let view = tree.view(number, run)?;
+    if are_decided(&view, plan) {
+        return Ok(());
+    }
+    lay_out_searched_items(
+        alloc, style, budget, arena, all, number, &view, plan, tally, run,
+    )?;
+    Ok(())
+}
+
+/// Decides the gaps of all items of texts, run by run. What a run takes of memory serves the next one too.
+pub fn lay_out_searched_runs(
+    alloc: Global,
+    style: &Style,
+    budget: u64,
+    arena: &TokenArena<'_, '_>,
+    all: &[TokenClass],
+    tree: &CondTree<'_>,
+    plan: &mut Plan<'_>,
+    tally: &mut Tally<'_>,
+) -> Result<(), NoMemory>
+    requires range { IsInRange style.now }
+    requires budget { budget ≤ 16000000 }
+    requires all { all.now ≡ item_classes arena.now }
+    requires tree { IsTreeOf arena.now tree.now }
+    requires whole { length plan.old ≡ length arena.now.tokens + 1 }
+    requires none { tally.old.searched ≡ 0 }
+    requires free { tally.old.cost ≡ 0 }
+    ensures told { OnOk result (AreRunsTold style.now budget arena.now plan.old 0 (runs_of arena.now) plan.new tally.old tally.new) }
+    ensures len { OnOk result (length plan.new ≡ length plan.old) }
+{
+    let mut run = Bump::new(alloc);
+    let count = tree.runs();
+    for number in 0..count {
+        lay_out_searched_seen(
+            alloc, style, budget, arena, all, tree, number, plan, tally, &run,
+        )?;
+        if run.reset().is_err() {
+            run = Bump::new(alloc);
+        }
+    }
+    Ok(())
+}

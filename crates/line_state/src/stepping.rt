@@ -1,0 +1,285 @@
+//! States with their frames in a store: the same steps, in which equal lists of frames are kept once.
+
+ghost use Rattle.std.specs.Prelude.{◌≡◌, ◌+◌, ◌*◌, ◌^◌, ◌<◌, ◌≤◌, ◌↔◌, ◌&&◌, not, nat_le, true, false, length, IfOk, IsTrue, IfNone, IfSome, OnSome};
+ghost use Rattle.line_state.specs.Brackets.{opens_frame};
+ghost use Rattle.style_table.specs.Range.{IsInRange};
+ghost use Rattle.line_state.specs.Layout.{gap_before, is_allowed, spot_of, open_frames, placed_frame, placed_frames, frames_after, with_topmost, with_opened, layout_after, cost_of, cells_of, start_layout, start_of};
+ghost use Rattle.line_state.specs.Store.{list_at, layout_in, IsIn, IsGrown, AreApart};
+
+use crate::frames::Frame;
+use crate::gap::{Gap, opens};
+use crate::node::NodeState;
+use crate::placing::{cost, end_column, frame_above, placed, start_column};
+use crate::rules::allows;
+use crate::spot::Spot;
+use crate::store::FrameStore;
+use line_tokens::{Fixed, LineTok, NoMemory, Role};
+use style_table::Style;
+
+/// The state before a line's first token, at the column at which the line starts.
+///
+/// # Errors
+///
+/// `NoMemory` where memory ran out.
+pub fn start_in<'r>(
+    store: &mut FrameStore<'r>,
+    style: &Style,
+    column: u32,
+) -> Result<NodeState, NoMemory>
+    ensures layout { IfOk result (λ state. layout_in store.new state ≡ start_layout style.now column) }
+    ensures cost { IfOk result (λ state. state.cost ≡ 0) }
+    ensures known { IfOk result (IsIn store.new) }
+    ensures grown { IsGrown store.old store.new }
+{
+    let base = Frame {
+        indent: column.saturating_add(style.continuation_indent_width),
+        base: column,
+        comma: 0,
+        opening: 0,
+        opener: Role::Word,
+    };
+    let node = store.keep(base, None)?;
+    Ok(NodeState {
+        index: 0,
+        column,
+        cost: 0,
+        node,
+    })
+}
+
+/// What a state counts: 1 and its frames, the base frame aside. Takes no memory.
+pub fn cells_in(store: &FrameStore<'_>, state: &NodeState) -> u64
+    requires { IsIn store.now state.now }
+    ensures value { result ≡ cells_of (layout_in store.now state.now) }
+    ensures some { 1 ≤ result }
+    ensures small { result ≤ 2 ^ 32 }
+{
+    u64::from(store.node(state.node).depth) + 1
+}
+
+/// Whether the left token opened the topmost one of so many frames, and nothing has been placed in it.
+fn is_just_opened(gap: &Gap, count: u32) -> bool
+    ensures { result ≡ (not gap.now.first && opens_frame gap.now.left.role && nat_le count gap.now.right.depth) }
+{
+    !gap.first && opens(gap.left.role) && count <= gap.right.depth
+}
+
+/// The spot of a gap behind a state. `left_open` is the node of the frames that are open there.
+fn spot_in(store: &FrameStore<'_>, state: &NodeState, gap: &Gap, left_open: u32) -> Spot
+    requires known { IsIn store.now state.now }
+    requires known_open { left_open < length store.now }
+    requires list { list_at store.now left_open ≡ record { base = (list_at store.now state.now.node).base; frames = open_frames (layout_in store.now state.now) gap.now } }
+    ensures { result ≡ spot_of (layout_in store.now state.now) gap.now }
+{
+    Spot {
+        column: state.column,
+        base: store.node(left_open).base,
+        below: store.below_topmost(left_open),
+        top: store.topmost(left_open),
+        opened: is_just_opened(gap, store.node(state.node).depth),
+    }
+}
+
+/// Whether the gap before `right` may break, where `brk`, or stay as it is. Takes no memory.
+///
+/// Before the line's first token, which then stands for `left` too, a break is the one choice. A decided gap has its own
+/// choice.
+pub fn allowed_in<'r>(
+    store: &FrameStore<'r>,
+    style: &Style,
+    state: &NodeState,
+    left: &LineTok,
+    right: &LineTok,
+    fixed: Option<Fixed>,
+    brk: bool,
+) -> bool
+    requires { IsIn store.now state.now }
+    ensures { let layout = layout_in store.now state.now in
+        result ≡ is_allowed style.now layout (gap_before layout left.now right.now fixed) brk }
+{
+    let gap = Gap {
+        left: *left,
+        right: *right,
+        fixed,
+        first: state.index == 0,
+    };
+    let left_open = store.lowest(state.node, gap.right.depth);
+    allows(style, &spot_in(store, state, &gap, left_open), &gap, brk)
+}
+
+/// The node of the frames once the token is placed, its own among them.
+fn place_in<'r>(
+    store: &mut FrameStore<'r>,
+    style: &Style,
+    gap: &Gap,
+    left_open: u32,
+    top: Frame,
+) -> Result<u32, NoMemory>
+    requires { left_open < length store.old }
+    ensures known { IfOk result (λ node. node < length store.new) }
+    ensures list { let list = list_at store.old left_open in
+        IfOk result (λ node. list_at store.new node ≡ record { base = list.base; frames = with_opened style.now gap.now.right.role list.base (with_topmost list.frames top) }) }
+    ensures grown { IsGrown store.old store.new }
+{
+    let node = store.with_topmost(left_open, top)?;
+    if !opens(gap.right.role) {
+        return Ok(node);
+    }
+    let below = store.node(node).frame;
+    let kept = store.keep(frame_above(style, below, gap.right.role), Some(node))?;
+    Ok(kept)
+}
+
+/// The state with the gap's token more. `left_open` is the node of the frames that are open there.
+fn step_from<'r>(
+    store: &mut FrameStore<'r>,
+    style: &Style,
+    state: &NodeState,
+    gap: &Gap,
+    left_open: u32,
+    spot: &Spot,
+    brk: bool,
+) -> Result<NodeState, NoMemory>
+    requires range { IsInRange style.now }
+    requires known { IsIn store.old state.now }
+    requires index { state.now.index < 4294967295 }
+    requires cost { state.now.cost ≤ state.now.index * 18446744073709551615 }
+    requires known_open { left_open < length store.old }
+    requires list { list_at store.old left_open ≡ record { base = (list_at store.old state.now.node).base; frames = open_frames (layout_in store.old state.now) gap.now } }
+    requires spot { spot.now ≡ spot_of (layout_in store.old state.now) gap.now }
+    ensures layout { IfOk result (λ next. layout_in store.new next ≡ layout_after style.now (layout_in store.old state.now) gap.now brk) }
+    ensures cost { IfOk result (λ next. next.cost ≡ state.now.cost + cost_of style.now (layout_in store.old state.now) gap.now brk) }
+    ensures bound { IfOk result (λ next. next.cost ≤ next.index * 18446744073709551615) }
+    ensures known { IfOk result (IsIn store.new) }
+    ensures grown { IsGrown store.old store.new }
+{
+    let start = start_column(style, spot, gap, brk);
+    let cost = cost(style, spot, gap, brk, start);
+    let top = placed(style, spot, gap, brk, start);
+    let node = place_in(store, style, gap, left_open, top)?;
+    Ok(NodeState {
+        index: state.index + 1,
+        column: end_column(&gap.right, start),
+        cost: state.cost + u128::from(cost),
+        node,
+    })
+}
+
+/// The state with one token more, in which the gap before `right` broke, where `brk`, or stayed.
+///
+/// Before the line's first token, which then stands for `left` too, `brk` is true. The given state stays as it is, and
+/// so does each state whose node is in the store.
+///
+/// # Errors
+///
+/// `NoMemory` where memory ran out.
+pub fn step_in<'r>(
+    store: &mut FrameStore<'r>,
+    style: &Style,
+    state: &NodeState,
+    left: &LineTok,
+    right: &LineTok,
+    fixed: Option<Fixed>,
+    brk: bool,
+) -> Result<NodeState, NoMemory>
+    requires range { IsInRange style.now }
+    requires known { IsIn store.old state.now }
+    requires index { state.now.index < 4294967295 }
+    requires cost { state.now.cost ≤ state.now.index * 18446744073709551615 }
+    requires allowed { let layout = layout_in store.old state.now in
+        let gap = gap_before layout left.now right.now fixed in
+        IsTrue (is_allowed style.now layout gap brk) }
+    ensures layout { let layout = layout_in store.old state.now in
+        let gap = gap_before layout left.now right.now fixed in
+        IfOk result (λ next. layout_in store.new next ≡ layout_after style.now layout gap brk) }
+    ensures cost { let layout = layout_in store.old state.now in
+        let gap = gap_before layout left.now right.now fixed in
+        IfOk result (λ next. next.cost ≡ state.now.cost + cost_of style.now layout gap brk) }
+    ensures bound { IfOk result (λ next. next.cost ≤ next.index * 18446744073709551615) }
+    ensures known { IfOk result (IsIn store.new) }
+    ensures grown { IsGrown store.old store.new }
+{
+    let gap = Gap {
+        left: *left,
+        right: *right,
+        fixed,
+        first: state.index == 0,
+    };
+    let left_open = store.lowest(state.node, gap.right.depth);
+    let spot = spot_in(store, state, &gap, left_open);
+    step_from(store, style, state, &gap, left_open, &spot, brk)
+}
+
+/// The state with one token more, as `step_in` tells it, where the choice is admissible.
+///
+/// # Errors
+///
+/// `NoMemory` where memory ran out.
+pub fn try_step_in<'r>(
+    store: &mut FrameStore<'r>,
+    style: &Style,
+    state: &NodeState,
+    left: &LineTok,
+    right: &LineTok,
+    fixed: Option<Fixed>,
+    brk: bool,
+) -> Result<Option<NodeState>, NoMemory>
+    requires range { IsInRange style.now }
+    requires known { IsIn store.old state.now }
+    requires index { state.now.index < 4294967295 }
+    requires cost { state.now.cost ≤ state.now.index * 18446744073709551615 }
+    ensures none { let layout = layout_in store.old state.now in
+        let gap = gap_before layout left.now right.now fixed in
+        IfOk result (λ next. IfNone next (is_allowed style.now layout gap brk ≡ false)) }
+    ensures some { let layout = layout_in store.old state.now in
+        let gap = gap_before layout left.now right.now fixed in
+        IfOk result (λ next. OnSome next (is_allowed style.now layout gap brk ≡ true)) }
+    ensures layout { let layout = layout_in store.old state.now in
+        let gap = gap_before layout left.now right.now fixed in
+        IfOk result (λ next. IfSome next (λ n. layout_in store.new n ≡ layout_after style.now layout gap brk)) }
+    ensures cost { let layout = layout_in store.old state.now in
+        let gap = gap_before layout left.now right.now fixed in
+        IfOk result (λ next. IfSome next (λ n. n.cost ≡ state.now.cost + cost_of style.now layout gap brk)) }
+    ensures bound { IfOk result (λ next. IfSome next (λ n. n.cost ≤ n.index * 18446744073709551615)) }
+    ensures known { IfOk result (λ next. IfSome next (IsIn store.new)) }
+    ensures grown { IsGrown store.old store.new }
+{
+    let gap = Gap {
+        left: *left,
+        right: *right,
+        fixed,
+        first: state.index == 0,
+    };
+    let left_open = store.lowest(state.node, gap.right.depth);
+    let spot = spot_in(store, state, &gap, left_open);
+    if !allows(style, &spot, &gap, brk) {
+        return Ok(None);
+    }
+    let next = step_from(store, style, state, &gap, left_open, &spot, brk)?;
+    Ok(Some(next))
+}
+
+/// Where `right` starts, where the gap before it broke, where `brk`, or stayed. Takes no memory.
+pub fn token_start_in(
+    store: &FrameStore<'_>,
+    style: &Style,
+    state: &NodeState,
+    left: &LineTok,
+    right: &LineTok,
+    fixed: Option<Fixed>,
+    brk: bool,
+) -> u32
+    requires range { IsInRange style.now }
+    requires known { IsIn store.now state.now }
+    ensures { let layout = layout_in store.now state.now in
+        result ≡ start_of style.now layout (gap_before layout left.now right.now fixed) brk }
+{
+    let gap = Gap {
+        left: *left,
+        right: *right,
+        fixed,
+        first: state.index == 0,
+    };
+    let left_open = store.lowest(state.node, gap.right.depth);
+    start_column(style, &spot_in(store, state, &gap, left_open), &gap, brk)
+}

@@ -1,0 +1,22 @@
+use Rattle.std.proofs.Common.{◌≡◌, ◌∙◌, ◌+◌, ◌-◌, suc, ap, arith}
+use Rattle.run_layout.proofs.Reporting.{passed, old_more}
+use Rattle.run_layout.proofs.reported.report_line.Goals as goal
+
+pub loop-k-preserved : goal.loop-k-preserved
+loop-k-preserved c =
+    let style = c.args.style.now in
+    let arena = c.args.arena.now in
+    let ids = c.args.view.now in
+    let last = c.args.line.now.last in
+    let k = c.loop-k.k in
+    let v = c.loop-k.invariant in
+    let p = c.pass-start in
+    let more : last + 1 - k ≡ suc (last + 1 - (k + 1)) = omega (arith, c.loop-k-test.true) in
+    record {
+      place = p.ensures.place ∙ ap (λ x. x + 1) v.place;
+      column = passed style arena ids k c.at-id.result.0 c.loop-k.cursor.column p.new.cursor.column v.column (c.at-id.ensures 0) p.ensures.column;
+      len = c.decide.ensures.len ∙ v.len;
+      rest = old_more style arena ids c.loop-k.plan c.decide.new.self c.loop-k.cursor.column p.new.cursor.column k c.at-id.result.0 p.result (last + 1 - (k + 1)) (last + 1 - k) more (c.at-id.ensures 0)
+          p.ensures.start p.ensures.column c.decide.ensures.plan
+          ∙ v.rest;
+    }

@@ -1,0 +1,153 @@
+//! Lines that are broken.
+
+ghost use Rattle.std.specs.Prelude.{◌≡◌, ◌+◌, ◌<◌, ◌≤◌, ◌^◌, ◌∷◌, All, IfOk, OnOk, Some, length, map, get_or, slice_get, if◌then◌else◌};
+ghost use Rattle.style_table.specs.Range.{IsInRange};
+ghost use Rattle.brackets.specs.Viewed.{AreWithin, classes_of};
+ghost use Rattle.line_state.specs.Layout.{is_some_decision};
+ghost use Rattle.line_state.specs.Line.{first_layout};
+ghost use Rattle.break_search.specs.Outcome.{line_of};
+ghost use Rattle.break_search.specs.Starts.{IsAdmissible, starts_of};
+ghost use Rattle.indenter.specs.Rows.{start_column};
+ghost use Rattle.replacements.specs.Decisions.{decided, decided_all};
+ghost use Rattle.line_tokens.specs.declared.LineTok.{LineTok};
+ghost use Rattle.run_layout.specs.Broken.{decision_by, empty_inside, first_made, fixed_of_token, inside_made, number};
+
+use crate::first::decide_first;
+use crate::row::token_at;
+use break_search::starts;
+use brackets::TokenClass;
+use bumpalo::Bump;
+use bumpalo::collections::into_bump_slice;
+use gap_text::Decision;
+use indenter::{empty_lines, start_column};
+use line_tokens::{Fixed, LineTok, NoMemory};
+use replacements::Plan;
+use spacing::spaces_before;
+use std::alloc::Global;
+use style_table::Style;
+use token_arena::TokenArena;
+use token_views::View;
+use unwrapped_lines::ULine;
+
+/// The empty lines before a further row of a line: only behind a directive are there any.
+fn empty_inside(style: &Style, line: &ULine, token: &LineTok) -> u32
+    requires { IsInRange style.now }
+    ensures is { result ≡ empty_inside style.now line.now token.now }
+    ensures fits { result + 1 < 2 ^ 32 }
+{
+    if token.directive {
+        empty_lines(style, None, line, token)
+    } else {
+        0
+    }
+}
+
+/// What stands before a token inside a line, which starts at a column, where its gap breaks or stays.
+fn decision_by(style: &Style, line: &ULine, left: &LineTok, right: &LineTok, brk: bool, start: u32) -> Decision
+    requires { IsInRange style.now }
+    ensures { result ≡ decision_by style.now line.now left.now right.now brk start }
+{
+    if brk {
+        Decision::Lines {
+            count: 1 + empty_inside(style, line, right),
+            column: start,
+            level: line.level,
+        }
+    } else {
+        Decision::Spaces(u32::from(spaces_before(style, left, right)))
+    }
+}
+
+/// Decides a gap that isn't decided.
+fn decide_open(plan: &mut Plan<'_>, fixed: Option<Fixed>, id: u32, decision: Decision, start: u32)
+    requires { id < length plan.old }
+    ensures plan { plan.new ≡ (if is_some_decision fixed then plan.old else decided plan.old id (record { decision = decision; end = start })) }
+    ensures len { length plan.new ≡ length plan.old }
+{
+    if fixed.is_none() {
+        let _ = plan.decide(id, decision, start);
+    }
+}
+
+/// Decides the open gaps inside a line, by admissible choices; `starts` are the columns at which its tokens then start.
+fn write_breaks(
+    style: &Style,
+    line: &ULine,
+    tokens: &[LineTok],
+    fixed: &[Option<Fixed>],
+    breaks: &[bool],
+    starts: &[u32],
+    plan: &mut Plan<'_>,
+)
+    requires range { IsInRange style.now }
+    requires some { 0 < length tokens.now }
+    requires even { length fixed.now ≡ length tokens.now }
+    requires admissible { IsAdmissible (line_of style.now (start_column style.now line.now) tokens.now fixed.now) breaks.now }
+    requires starts { starts.now ≡ starts_of (line_of style.now (start_column style.now line.now) tokens.now fixed.now) (first_layout (line_of style.now (start_column style.now line.now) tokens.now fixed.now)) breaks.now }
+    requires aligned { length starts.now ≡ length breaks.now }
+    requires within { All (λ token. token.id.0 < length plan.old) tokens.now }
+    ensures plan { plan.new ≡ decided_all plan.old (inside_made line.now (map number tokens.now) (line_of style.now (start_column style.now line.now) tokens.now fixed.now) (first_layout (line_of style.now (start_column style.now line.now) tokens.now fixed.now)) breaks.now) }
+    ensures len { length plan.new ≡ length plan.old }
+{
+    for at in 0..breaks.len() {
+        let left = token_at(tokens, at);
+        let right = token_at(tokens, at + 1);
+        let start = starts[at];
+        let decision = decision_by(style, line, left, right, breaks[at], start);
+        decide_open(plan, fixed[at + 1], right.id.0, decision, start);
+    }
+}
+
+/// What is decided of the gaps before these tokens.
+pub(crate) fn fixed_of<'r>(
+    arena: &TokenArena<'_, '_>,
+    tokens: &[LineTok],
+    plan: &Plan<'_>,
+    run: &'r Bump,
+) -> Result<&'r [Option<Fixed>], NoMemory>
+    requires whole { length plan.now ≡ length arena.now.tokens + 1 }
+    requires within { All (λ token. token.id.0 < length plan.now) tokens.now }
+    ensures { IfOk result (λ fixed. fixed.now ≡ map (fixed_of_token arena.now plan.now) tokens.now) }
+{
+    let count = arena.len();
+    let mut fixed = Vec::with_capacity(run, tokens.len())?;
+    for token in tokens {
+        fixed.push(plan.fixed_of(arena, token.id.0))?;
+    }
+    let _ = count;
+    Ok(into_bump_slice(fixed))
+}
+
+/// Decides the open gaps of a line, by admissible choices.
+pub(crate) fn write_broken(
+    alloc: Global,
+    style: &Style,
+    arena: &TokenArena<'_, '_>,
+    view: &View<'_>,
+    classes: &[TokenClass],
+    line: &ULine,
+    tokens: &[LineTok],
+    fixed: &[Option<Fixed>],
+    breaks: &[bool],
+    plan: &mut Plan<'_>,
+    run: &Bump,
+) -> Result<(), NoMemory>
+    requires range { IsInRange style.now }
+    requires some { 0 < length tokens.now }
+    requires short { length tokens.now < 4294967296 }
+    requires even { length fixed.now ≡ length tokens.now }
+    requires admissible { IsAdmissible (line_of style.now (start_column style.now line.now) tokens.now fixed.now) breaks.now }
+    requires inside { All (λ token. token.id.0 < length plan.old) tokens.now }
+    requires classes { classes.now ≡ classes_of arena.now view.now }
+    requires place { line.now.first < length view.now }
+    requires items { AreWithin arena.now view.now }
+    requires first { (token : LineTok) → slice_get tokens.now 0 ≡ Some token → get_or view.now line.now.first 0 ≡ token.id.0 }
+    requires whole { length plan.old ≡ length arena.now.tokens + 1 }
+    ensures plan { OnOk result (plan.new ≡ decided_all plan.old (first_made style.now arena.now view.now line.now ∷ inside_made line.now (map number tokens.now) (line_of style.now (start_column style.now line.now) tokens.now fixed.now) (first_layout (line_of style.now (start_column style.now line.now) tokens.now fixed.now)) breaks.now)) }
+    ensures len { OnOk result (length plan.new ≡ length plan.old) }
+{
+    let starts = starts(alloc, style, tokens, start_column(style, line), fixed, breaks, run)?;
+    decide_first(style, arena, view, classes, line, token_at(tokens, 0).id.0, plan);
+    write_breaks(style, line, tokens, fixed, breaks, starts, plan);
+    Ok(())
+}

@@ -1,0 +1,244 @@
+//! The lines of a run.
+
+ghost use Rattle.std.specs.Prelude.{◌≡◌, ◌+◌, ◌*◌, ◌^◌, ◌<◌, ◌≤◌, All, IfOk, IsTrue, OnOk, Some, length, map, get_or, slice_get};
+ghost use Rattle.std.specs.Bool.{OnFalse, OnTrue};
+ghost use Rattle.style_table.specs.Range.{IsInRange};
+ghost use Rattle.brackets.specs.Viewed.{AreWithin, classes_of};
+ghost use Rattle.line_state.specs.Line.{gaps};
+ghost use Rattle.run_layout.specs.Tells.{StandForItems};
+ghost use Rattle.replacements.specs.Decisions.{decided_all, slot_of};
+ghost use Rattle.run_layout.specs.Broken.{broken_line, broken_made, of_line};
+ghost use Rattle.run_layout.specs.InputColumns.{input_before};
+ghost use Rattle.run_layout.specs.OneRow.{AreOpenInside, IsRow, stays};
+ghost use Rattle.run_layout.specs.Outcomes.{IsOpen};
+ghost use Rattle.unwrapped_lines.specs.Lines.{CutPlaces};
+ghost use Rattle.run_layout.specs.RunsLaid.{IsRunLaid};
+ghost use Rattle.run_layout.specs.Told.{IsLaid};
+
+use crate::broken::{fixed_of, write_broken};
+use crate::first::decide_first;
+use crate::item::item;
+use crate::laid::Laid;
+use crate::report::{Tally, note_line};
+use crate::reported::{InputCursor, report_line};
+use crate::run::is_decided;
+use crate::row::{end_of, first_start, is_row, token_at, write_row};
+use brackets::TokenClass;
+use break_search::{Outcome, least_breaks, search};
+use bumpalo::Bump;
+use indenter::start_column;
+use line_tokens::{LineTok, NoMemory};
+use replacements::Plan;
+use std::alloc::Global;
+use style_table::Style;
+use token_arena::TokenArena;
+use token_views::View;
+use unwrapped_lines::ULine;
+
+/// The tokens of a line, among those of a view.
+#[inline(always)]
+fn tokens_of_line<'v>(toks: &'v [LineTok], line: &ULine) -> &'v [LineTok]
+    requires some { line.now.first ≤ line.now.last }
+    requires within { line.now.last < length toks.now }
+    ensures { result.now ≡ of_line line.now toks.now }
+{
+    &toks[line.first as usize..line.last as usize + 1]
+}
+
+/// Whether the gaps inside a line with these tokens are open.
+#[inline(always)]
+fn are_open_inside(plan: &Plan<'_>, tokens: &[LineTok]) -> bool
+    requires { All (λ token. token.id.0 < length plan.now) tokens.now }
+    ensures { IsTrue result → AreOpenInside plan.now tokens.now }
+{
+    for at in 1..tokens.len() {
+        if plan.slot(token_at(tokens, at).id.0).is_some() {
+            return false;
+        }
+    }
+    true
+}
+
+/// Lays out a line whose inner gaps are open, if it stays on one row. Otherwise nothing is decided. It takes no memory.
+fn lay_out_row(
+    style: &Style,
+    budget: u64,
+    arena: &TokenArena<'_, '_>,
+    view: &View<'_>,
+    classes: &[TokenClass],
+    toks: &[LineTok],
+    line: &ULine,
+    plan: &mut Plan<'_>,
+) -> bool
+    requires range { IsInRange style.now }
+    requires budget { budget ≤ 16000000 }
+    requires within { AreWithin arena.now view.now }
+    requires classes { classes.now ≡ classes_of arena.now view.now }
+    requires tell { StandForItems arena.now view.now toks.now }
+    requires some { line.now.first ≤ line.now.last }
+    requires places { line.now.last < length view.now }
+    requires whole { length plan.old ≡ length arena.now.tokens + 1 }
+    ensures row { OnTrue result (IsRow (broken_line style.now arena.now view.now toks.now plan.old line.now) budget) }
+    ensures limit { OnTrue result (0 < style.now.column_limit) }
+    ensures plan { OnTrue result (plan.new ≡ decided_all plan.old (broken_made style.now arena.now view.now toks.now plan.old line.now (stays (gaps (broken_line style.now arena.now view.now toks.now plan.old line.now))))) }
+    ensures same { OnFalse result (plan.new ≡ plan.old) }
+    ensures len { length plan.new ≡ length plan.old }
+{
+    let items = arena.len();
+    let tokens = tokens_of_line(toks, line);
+    if style.column_limit == 0 || !are_open_inside(plan, tokens) {
+        return false;
+    }
+    let token = token_at(tokens, 0);
+    let id = token.id.0;
+    prove!(id < items);
+    let first = plan.fixed_of(arena, id);
+    let column = start_column(style, line);
+    if !is_row(style, tokens, column, first, budget) {
+        return false;
+    }
+    let behind = end_of(token, first_start(column, first));
+    decide_first(style, arena, view, classes, line, id, plan);
+    write_row(style, tokens, behind, plan);
+    true
+}
+
+/// Lays out a line that has an open gap and doesn't stay on one row.
+fn lay_out_searched(
+    alloc: Global,
+    style: &Style,
+    budget: u64,
+    arena: &TokenArena<'_, '_>,
+    view: &View<'_>,
+    classes: &[TokenClass],
+    toks: &[LineTok],
+    line: &ULine,
+    cursor: &mut InputCursor,
+    plan: &mut Plan<'_>,
+    run: &Bump,
+) -> Result<Laid, NoMemory>
+    requires range { IsInRange style.now }
+    requires budget { budget ≤ 16000000 }
+    requires within { AreWithin arena.now view.now }
+    requires classes { classes.now ≡ classes_of arena.now view.now }
+    requires tell { StandForItems arena.now view.now toks.now }
+    requires some { line.now.first ≤ line.now.last }
+    requires places { line.now.last < length view.now }
+    requires whole { length plan.old ≡ length arena.now.tokens + 1 }
+    requires opens { IsOpen plan.old view.now line.now }
+    requires before { cursor.old.place ≤ line.now.first }
+    requires column { cursor.old.column ≡ input_before style.now arena.now view.now cursor.old.place }
+    ensures laid { IfOk result (IsLaid style.now budget arena.now view.now toks.now plan.old line.now plan.new) }
+    ensures len { OnOk result (length plan.new ≡ length plan.old) }
+    ensures before { OnOk result (cursor.new.place ≤ line.now.last + 1) }
+    ensures column { OnOk result (cursor.new.column ≡ input_before style.now arena.now view.now cursor.new.place) }
+{
+    let count = view.len();
+    prove!(line.last < count);
+    let tokens = tokens_of_line(toks, line);
+    let fixed = fixed_of(arena, tokens, plan, run)?;
+    let column = start_column(style, line);
+    if style.column_limit == 0 {
+        let breaks = least_breaks(alloc, style, tokens, column, fixed, run)?;
+        write_broken(alloc, style, arena, view, classes, line, tokens, fixed, breaks, plan, run)?;
+        return Ok(Laid::Unsearched);
+    }
+    match search(alloc, style, tokens, column, fixed, budget, run)? {
+        Outcome::Found { breaks, cost } => {
+            write_broken(alloc, style, arena, view, classes, line, tokens, fixed, breaks, plan, run)?;
+            Ok(Laid::Least { cost })
+        }
+        Outcome::OverBudget { cells } => {
+            report_line(style, arena, view, classes, line, cursor, plan);
+            Ok(Laid::Over { cells })
+        }
+    }
+}
+
+/// Lays out a line: decides its open gaps, and tells what came of it. `segment` is the number of the view's segment that
+/// was looked into last.
+fn lay_out_line(
+    alloc: Global,
+    style: &Style,
+    budget: u64,
+    arena: &TokenArena<'_, '_>,
+    view: &View<'_>,
+    classes: &[TokenClass],
+    toks: &[LineTok],
+    line: &ULine,
+    segment: &mut usize,
+    cursor: &mut InputCursor,
+    plan: &mut Plan<'_>,
+    run: &Bump,
+) -> Result<Laid, NoMemory>
+    requires range { IsInRange style.now }
+    requires budget { budget ≤ 16000000 }
+    requires within { AreWithin arena.now view.now }
+    requires classes { classes.now ≡ classes_of arena.now view.now }
+    requires tell { StandForItems arena.now view.now toks.now }
+    requires some { line.now.first ≤ line.now.last }
+    requires places { line.now.last < length view.now }
+    requires whole { length plan.old ≡ length arena.now.tokens + 1 }
+    requires before { cursor.old.place ≤ line.now.first }
+    requires column { cursor.old.column ≡ input_before style.now arena.now view.now cursor.old.place }
+    ensures laid { IfOk result (IsLaid style.now budget arena.now view.now toks.now plan.old line.now plan.new) }
+    ensures len { OnOk result (length plan.new ≡ length plan.old) }
+    ensures before { OnOk result (cursor.new.place ≤ line.now.last + 1) }
+    ensures column { OnOk result (cursor.new.column ≡ input_before style.now arena.now view.now cursor.new.place) }
+{
+    if is_decided(arena, view, line, plan, segment) {
+        return Ok(Laid::Unsearched);
+    }
+    if lay_out_row(style, budget, arena, view, classes, toks, line, plan) {
+        return Ok(Laid::Least { cost: 0 });
+    }
+    lay_out_searched(alloc, style, budget, arena, view, classes, toks, line, cursor, plan, run)
+}
+
+/// Lays out the lines of a run: decides the gap before each item of a view, which these lines cut, where it is open. What
+/// came of them is noted. `classes` and `toks` are those of the view's places.
+pub fn lay_out_lines(
+    alloc: Global,
+    style: &Style,
+    budget: u64,
+    arena: &TokenArena<'_, '_>,
+    view: &View<'_>,
+    classes: &[TokenClass],
+    toks: &[LineTok],
+    number: u32,
+    lines: &[ULine],
+    plan: &mut Plan<'_>,
+    tally: &mut Tally<'_>,
+    run: &Bump,
+) -> Result<(), NoMemory>
+    requires range { IsInRange style.now }
+    requires budget { budget ≤ 16000000 }
+    requires within { AreWithin arena.now view.now }
+    requires classes { classes.now ≡ classes_of arena.now view.now }
+    requires tell { StandForItems arena.now view.now toks.now }
+    requires cut { CutPlaces 0 (length view.now) lines.now }
+    requires whole { length plan.old ≡ length arena.now.tokens + 1 }
+    requires room { tally.old.searched + length lines.now < 2 ^ 60 }
+    requires cheap { tally.old.cost ≤ tally.old.searched * 18446744073709551615 }
+    ensures laid { OnOk result (IsRunLaid style.now budget arena.now view.now toks.now number plan.old lines.now plan.new tally.old tally.new) }
+    ensures len { OnOk result (length plan.new ≡ length plan.old) }
+    ensures room { OnOk result (tally.new.searched ≤ tally.old.searched + length lines.now) }
+    ensures cheap { OnOk result (tally.new.cost ≤ tally.new.searched * 18446744073709551615) }
+{
+    let items = arena.len();
+    let mut segment = 0;
+    let mut cursor = InputCursor {
+        place: 0,
+        column: 0,
+    };
+    for line in lines {
+        let laid = lay_out_line(
+            alloc, style, budget, arena, view, classes, toks, line, &mut segment, &mut cursor, plan, run,
+        )?;
+        let id = view.at(line.first).0;
+        prove!(id < items);
+        let row = item(arena, id).line() as u64;
+        note_line(number, row, laid, tally)?;
+    }
+    Ok(())
+}

@@ -1,0 +1,142 @@
+//! Lines that stay on one row. They need no search, and take no memory.
+
+ghost use Rattle.std.specs.Prelude.{◌≡◌, ◌<◌, ◌≤◌, ◌^◌, ℕ, All, IsTrue, None, Some, drop, get_or, length, slice_get};
+ghost use Rattle.style_table.specs.Range.{IsInRange};
+ghost use Rattle.line_state.specs.Brackets.{opens_frame};
+ghost use Rattle.line_state.specs.Layout.{end_of, stored_or};
+ghost use Rattle.line_state.specs.Line.{Line};
+ghost use Rattle.run_layout.specs.Rows.{no_tok};
+ghost use Rattle.replacements.specs.Decisions.{decided_all};
+ghost use Rattle.run_layout.specs.OneRow.{Fits, IsRow, IsRowLine, open_behind, row_made};
+
+use gap_text::Decision;
+use line_tokens::{Fixed, LineTok};
+use penalties::gap_rule;
+use replacements::Plan;
+use spacing::spaces_before;
+use style_table::Style;
+
+/// The token at a place.
+#[inline(always)]
+pub(crate) fn token_at(tokens: &[LineTok], at: usize) -> &LineTok
+    requires { at < length tokens.now }
+    ensures { slice_get tokens.now at ≡ Some result.now }
+{
+    &tokens[at]
+}
+
+/// The column behind a token that starts at a column.
+#[inline(always)]
+pub(crate) fn end_of(token: &LineTok, start: u32) -> u32
+    ensures { result ≡ end_of token.now start }
+{
+    if token.rows > 1 {
+        token.last_width
+    } else {
+        start.saturating_add(token.last_width)
+    }
+}
+
+/// Whether a token is a bracket that opens a frame.
+#[inline(always)]
+fn opens_frame(token: &LineTok) -> bool
+    ensures { result ≡ opens_frame token.now.role }
+{
+    token.role.is_bracket_open() || token.role.is_list_open()
+}
+
+/// How many frames are open behind a token, where so many are before it.
+#[inline(always)]
+fn open_behind(frames: u64, token: &LineTok) -> u64
+    ensures is { result ≡ open_behind frames token.now }
+    ensures few { result ≤ 2 ^ 32 }
+{
+    let kept = frames.min(u64::from(token.depth));
+    if opens_frame(token) { kept + 1 } else { kept }
+}
+
+/// Whether the first row of a token that starts here doesn't pass the limit.
+#[inline(always)]
+fn fits(style: &Style, token: &LineTok, start: u32) -> bool
+    ensures { IsTrue result → Fits style.now token.now start }
+{
+    token.role.is_trailing() || start.saturating_add(token.first_width) <= style.column_limit
+}
+
+/// Where a line's first token starts.
+#[inline(always)]
+pub(crate) fn first_start(column: u32, first: Option<Fixed>) -> u32
+    ensures { result ≡ stored_or first column }
+{
+    match first {
+        Some(fixed) => fixed.column,
+        None => column,
+    }
+}
+
+/// Whether a line's first token costs nothing: its gap is decided, or it doesn't pass the limit.
+#[inline(always)]
+fn first_fits(style: &Style, token: &LineTok, start: u32, first: Option<Fixed>) -> bool
+    ensures { IsTrue result → first ≡ None → Fits style.now token.now start }
+{
+    match first {
+        Some(_) => true,
+        None => fits(style, token, start),
+    }
+}
+
+/// Whether a line stays on one row that doesn't pass the limit, within the budget. Of its gaps only the first may be
+/// decided.
+pub(crate) fn is_row(style: &Style, tokens: &[LineTok], column: u32, first: Option<Fixed>, budget: u64) -> bool
+    requires range { IsInRange style.now }
+    requires some { 0 < length tokens.now }
+    requires budget { budget ≤ 16000000 }
+    ensures { IsTrue result → (l : Line) → IsRowLine l style.now column tokens.now first → IsRow l budget }
+{
+    let mut left = token_at(tokens, 0);
+    let start = first_start(column, first);
+    if !first_fits(style, left, start, first) {
+        return false;
+    }
+    let mut behind = end_of(left, start);
+    let mut frames = open_behind(0, left);
+    let mut cells = frames + 1;
+    for at in 1..tokens.len() {
+        let right = token_at(tokens, at);
+        if gap_rule(style, left, right).must {
+            return false;
+        }
+        let start = behind.saturating_add(u32::from(spaces_before(style, left, right)));
+        frames = open_behind(frames, right);
+        cells += frames + 1;
+        if cells > budget {
+            return false;
+        }
+        if !fits(style, right, start) {
+            return false;
+        }
+        behind = end_of(right, start);
+        left = right;
+    }
+    cells <= budget
+}
+
+/// Decides the gaps inside a line that stays on one row, whose first token ends at a column.
+pub(crate) fn write_row(style: &Style, tokens: &[LineTok], column: u32, plan: &mut Plan<'_>)
+    requires range { IsInRange style.now }
+    requires some { 0 < length tokens.now }
+    requires within { All (λ token. token.id.0 < length plan.old) tokens.now }
+    ensures plan { plan.new ≡ decided_all plan.old (row_made style.now column (get_or tokens.now 0 no_tok) (drop 1 tokens.now)) }
+    ensures len { length plan.new ≡ length plan.old }
+{
+    let mut left = token_at(tokens, 0);
+    let mut column = column;
+    for at in 1..tokens.len() {
+        let right = token_at(tokens, at);
+        let spaces = u32::from(spaces_before(style, left, right));
+        let start = column.saturating_add(spaces);
+        let _ = plan.decide(right.id.0, Decision::Spaces(spaces), start);
+        column = end_of(right, start);
+        left = right;
+    }
+}

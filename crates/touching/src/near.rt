@@ -1,0 +1,175 @@
+//! Items whose first bytes tell whether they may touch, as those of most do.
+
+ghost use Rattle.std.specs.Prelude.{◌≡◌, ◌==◌, ◌<◌, ◌&&◌, ◌||◌, ◌∷◌, [], codes, length, map, IfSome};
+ghost use Rattle.std.specs.List.{list_any};
+ghost use Rattle.c_grammar.specs.Grammar.{is_of, is_sign};
+ghost use Rattle.c_grammar.specs.Touch.{is_front, is_identifier, is_number, is_other_kind, is_punct, may_touch, punct_goes_on, takes_line, word_by_word};
+ghost use Rattle.touching.specs.Near.{is_plain, pair_goes_on, seconds, thirds};
+ghost use Rattle.touching.specs.Spelling.{spelling};
+
+use crate::touch::{GOING_ON, is_letter};
+use c_chars::Dialect;
+use c_grammar::ItemKind;
+
+/// A byte that is a character wherever it stands, and no `?`.
+#[inline(always)]
+fn is_plain(b: u8) -> bool
+    ensures { result ≡ is_plain b }
+{
+    b != b'?' && b != b'\r' && b != b'\\' && b != 0xEF
+}
+
+/// An identifier or a number, and what would go on with it.
+#[inline(always)]
+fn word_by_word(left: ItemKind, right: ItemKind, r: u8) -> bool
+    ensures { result ≡ word_by_word left right (r ∷ []) }
+{
+    matches!(left, ItemKind::Identifier | ItemKind::Number)
+        && match right {
+            ItemKind::Identifier | ItemKind::Number => true,
+            ItemKind::CharConst | ItemKind::StringLit => is_letter(r),
+            _ => false,
+        }
+}
+
+/// What may be a prefix, and a quote.
+#[inline(always)]
+fn word_by_quote(left: ItemKind, r: u8) -> bool
+    ensures { result ≡ (is_identifier left && is_of (codes "'\"") r) }
+{
+    matches!(left, ItemKind::Identifier) && (r == b'\'' || r == b'"')
+}
+
+/// A number, and what may go on with it.
+#[inline(always)]
+#[tactic(auto, unfolding(c_grammar::specs::Grammar::is_sign))]
+fn number_may_go_on(left: ItemKind, r: u8) -> bool
+    ensures { result ≡ (is_number left && (is_of (codes ".'") r || is_sign r)) }
+{
+    matches!(left, ItemKind::Number) && (r == b'.' || r == b'\'' || r == b'+' || r == b'-')
+}
+
+/// A point, and a number.
+#[inline(always)]
+fn point_by_number(l: u8, right: ItemKind) -> bool
+    ensures { result ≡ ((l == 46) && is_number right) }
+{
+    l == b'.' && matches!(right, ItemKind::Number)
+}
+
+/// An item that is none of C, or one that takes its line.
+#[inline(always)]
+fn keeps_apart(left: ItemKind, right: ItemKind) -> bool
+    ensures { result ≡ ((is_other_kind left || is_other_kind right) || takes_line left) }
+{
+    matches!(
+        left,
+        ItemKind::Other | ItemKind::LineComment | ItemKind::StrayQuote
+    ) || matches!(right, ItemKind::Other)
+}
+
+/// Whether a byte is one of these.
+#[inline(always)]
+fn is_second(r: u8) -> bool
+    ensures { result ≡ is_of seconds r }
+{
+    matches!(
+        r,
+        b':' | b'/' | b'*' | b'>' | b'+' | b'-' | b'<' | b'=' | b'&' | b'|' | b'#' | b'%' | b'.'
+    )
+}
+
+/// Whether a byte is one of these.
+#[inline(always)]
+fn is_third(r: u8) -> bool
+    ensures { result ≡ is_of thirds r }
+{
+    matches!(r, b'=' | b'.' | b'%')
+}
+
+/// Whether a word begins with these two.
+#[inline(always)]
+fn begins_with(l: u8, r: u8, word: &[u8]) -> bool
+    ensures { result ≡ is_front (l ∷ r ∷ []) word.now }
+{
+    match word {
+        [a, b, ..] => l == *a && r == *b,
+        _ => false,
+    }
+}
+
+/// Whether a word of this table begins with these two.
+fn some_begins(l: u8, r: u8, table: &[&[u8]]) -> bool
+    ensures { result ≡ list_any (is_front (l ∷ r ∷ [])) (map (λ p. p.now) table.now) }
+{
+    for word in table {
+        if begins_with(l, r, word) {
+            return true;
+        }
+    }
+    false
+}
+
+/// Whether a punctuator or a comment begins with these two.
+#[inline(always)]
+fn pair_goes_on(l: u8, r: u8) -> bool
+    ensures { result ≡ pair_goes_on l r }
+{
+    if !is_second(r) {
+        return false;
+    }
+    some_begins(l, r, &GOING_ON)
+}
+
+/// Whether a punctuator goes on with a character, where its bytes tell it.
+#[inline(always)]
+fn punct_goes_on(dialect: Dialect, left: ItemKind, raw: &[u8], r: u8) -> Option<bool>
+    requires { 0 < length raw.now }
+    ensures { IfSome result (λ goes_on. goes_on ≡ punct_goes_on left (spelling dialect raw.now) (r ∷ [])) }
+{
+    let _read = dialect;
+    if !matches!(left, ItemKind::Punct) {
+        return Some(false);
+    }
+    if raw.len() == 1 && is_plain(raw[0]) {
+        return Some(pair_goes_on(raw[0], r));
+    }
+    if raw.len() == 2 && is_plain(raw[0]) && is_plain(raw[1]) && !is_third(r) {
+        return Some(false);
+    }
+    None
+}
+
+/// Whether two items may touch, of these kinds and with these bytes, where their first bytes tell it, as those of most do.
+///
+/// Where they don't, [`may_touch`](crate::may_touch) tells it.
+#[inline(always)]
+pub fn near_touch(
+    dialect: Dialect,
+    left: ItemKind,
+    left_raw: &[u8],
+    right: ItemKind,
+    right_raw: &[u8],
+) -> Option<bool>
+    ensures { IfSome result (λ touch. touch ≡ may_touch left (spelling dialect left_raw.now) right (spelling dialect right_raw.now)) }
+{
+    if left_raw.is_empty() || right_raw.is_empty() {
+        return None;
+    }
+    let (l, r) = (left_raw[0], right_raw[0]);
+    if !is_plain(l) {
+        return None;
+    }
+    if !is_plain(r) {
+        return None;
+    }
+    if word_by_quote(left, r)
+        || number_may_go_on(left, r)
+        || point_by_number(l, right)
+        || keeps_apart(left, right)
+    {
+        return None;
+    }
+    let goes_on = punct_goes_on(dialect, left, left_raw, r)?;
+    Some(!(word_by_word(left, right, r) | goes_on))
+}
