@@ -17,10 +17,10 @@ mod searched;
 mod tests;
 
 pub use fault::FormatFault;
-pub use run_layout::{Counts, Report};
-pub use searched::lay_out_searched_runs;
 pub use formatted::{Formatted, format};
 pub use laws::{
-    early_decisions_stay_in_plans, plans_are_twins, plans_are_whole,
-    early_decisions_stay, every_gap_is_decided, open_texts_have_no_layout, planned_texts_are_twins,
+    early_decisions_stay, early_decisions_stay_in_plans, every_gap_is_decided,
+    open_texts_have_no_layout, planned_texts_are_twins, plans_are_twins, plans_are_whole,
 };
+pub use run_layout::{Counts, Report};
+pub use searched::lay_out_searched_runs;

@@ -30,7 +30,6 @@ above_zero n not_zero = grind (arith, not_zero)
 pub length_short : (toks tokens : List LineTok) (line : ULine) → tokens ≡ of_line line toks → line.last < length toks → line.last < 4294967295 → length tokens < 4294967296
 length_short toks tokens line are within small = omega (arith, ap (λ (xs : List LineTok). length xs) are, length_of_line line toks within, small)
 
-
 module _ (style : Style) (budget : ℕ) (arena : Contents) (ids : List ℕ) (toks : List LineTok) (plan : List (Option Slot)) (line : ULine) where
   -- a line whose gaps are decided
   pub kept_laid : (after : List (Option Slot)) → AreDecided plan ids line → after ≡ plan → IsLaid style budget arena ids toks plan line after laid.Unsearched

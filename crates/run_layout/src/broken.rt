@@ -14,8 +14,8 @@ ghost use Rattle.run_layout.specs.Broken.{decision_by, empty_inside, first_made,
 
 use crate::first::decide_first;
 use crate::row::token_at;
-use break_search::starts;
 use brackets::TokenClass;
+use break_search::starts;
 use bumpalo::Bump;
 use bumpalo::collections::into_bump_slice;
 use gap_text::Decision;
@@ -43,7 +43,14 @@ fn empty_inside(style: &Style, line: &ULine, token: &LineTok) -> u32
 }
 
 /// What stands before a token inside a line, which starts at a column, where its gap breaks or stays.
-fn decision_by(style: &Style, line: &ULine, left: &LineTok, right: &LineTok, brk: bool, start: u32) -> Decision
+fn decision_by(
+    style: &Style,
+    line: &ULine,
+    left: &LineTok,
+    right: &LineTok,
+    brk: bool,
+    start: u32,
+) -> Decision
     requires { IsInRange style.now }
     ensures { result ≡ decision_by style.now line.now left.now right.now brk start }
 {
@@ -146,8 +153,24 @@ pub(crate) fn write_broken(
     ensures plan { OnOk result (plan.new ≡ decided_all plan.old (first_made style.now arena.now view.now line.now ∷ inside_made line.now (map number tokens.now) (line_of style.now (start_column style.now line.now) tokens.now fixed.now) (first_layout (line_of style.now (start_column style.now line.now) tokens.now fixed.now)) breaks.now)) }
     ensures len { OnOk result (length plan.new ≡ length plan.old) }
 {
-    let starts = starts(alloc, style, tokens, start_column(style, line), fixed, breaks, run)?;
-    decide_first(style, arena, view, classes, line, token_at(tokens, 0).id.0, plan);
+    let starts = starts(
+        alloc,
+        style,
+        tokens,
+        start_column(style, line),
+        fixed,
+        breaks,
+        run,
+    )?;
+    decide_first(
+        style,
+        arena,
+        view,
+        classes,
+        line,
+        token_at(tokens, 0).id.0,
+        plan,
+    );
     write_breaks(style, line, tokens, fixed, breaks, starts, plan);
     Ok(())
 }

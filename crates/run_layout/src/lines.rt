@@ -21,8 +21,8 @@ use crate::item::item;
 use crate::laid::Laid;
 use crate::report::{Tally, note_line};
 use crate::reported::{InputCursor, report_line};
-use crate::run::is_decided;
 use crate::row::{end_of, first_start, is_row, token_at, write_row};
+use crate::run::is_decided;
 use brackets::TokenClass;
 use break_search::{Outcome, least_breaks, search};
 use bumpalo::Bump;
@@ -140,12 +140,16 @@ fn lay_out_searched(
     let column = start_column(style, line);
     if style.column_limit == 0 {
         let breaks = least_breaks(alloc, style, tokens, column, fixed, run)?;
-        write_broken(alloc, style, arena, view, classes, line, tokens, fixed, breaks, plan, run)?;
+        write_broken(
+            alloc, style, arena, view, classes, line, tokens, fixed, breaks, plan, run,
+        )?;
         return Ok(Laid::Unsearched);
     }
     match search(alloc, style, tokens, column, fixed, budget, run)? {
         Outcome::Found { breaks, cost } => {
-            write_broken(alloc, style, arena, view, classes, line, tokens, fixed, breaks, plan, run)?;
+            write_broken(
+                alloc, style, arena, view, classes, line, tokens, fixed, breaks, plan, run,
+            )?;
             Ok(Laid::Least { cost })
         }
         Outcome::OverBudget { cells } => {
@@ -192,7 +196,9 @@ fn lay_out_line(
     if lay_out_row(style, budget, arena, view, classes, toks, line, plan) {
         return Ok(Laid::Least { cost: 0 });
     }
-    lay_out_searched(alloc, style, budget, arena, view, classes, toks, line, cursor, plan, run)
+    lay_out_searched(
+        alloc, style, budget, arena, view, classes, toks, line, cursor, plan, run,
+    )
 }
 
 /// Lays out the lines of a run: decides the gap before each item of a view, which these lines cut, where it is open. What
@@ -233,7 +239,18 @@ pub fn lay_out_lines(
     };
     for line in lines {
         let laid = lay_out_line(
-            alloc, style, budget, arena, view, classes, toks, line, &mut segment, &mut cursor, plan, run,
+            alloc,
+            style,
+            budget,
+            arena,
+            view,
+            classes,
+            toks,
+            line,
+            &mut segment,
+            &mut cursor,
+            plan,
+            run,
         )?;
         let id = view.at(line.first).0;
         prove!(id < items);

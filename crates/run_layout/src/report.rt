@@ -43,7 +43,12 @@ pub struct Tally<'a> {
 }
 
 /// Notes what came of a line.
-pub(crate) fn note_line(run: u32, row: u64, laid: Laid, tally: &mut Tally<'_>) -> Result<(), NoMemory>
+pub(crate) fn note_line(
+    run: u32,
+    row: u64,
+    laid: Laid,
+    tally: &mut Tally<'_>,
+) -> Result<(), NoMemory>
     requires room { tally.old.searched < 2 ^ 60 }
     requires cheap { tally.old.cost ≤ tally.old.searched * 18446744073709551615 }
     ensures reports { OnOk result (tally.new.reports.items ≡ tally.old.reports.items ++ report_told run row laid) }

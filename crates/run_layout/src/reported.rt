@@ -66,7 +66,13 @@ fn pass(style: &Style, arena: &TokenArena<'_, '_>, id: u32, cursor: &mut InputCu
 }
 
 /// Passes the items of a view up to a place.
-fn move_to(style: &Style, arena: &TokenArena<'_, '_>, view: &View<'_>, place: u32, cursor: &mut InputCursor)
+fn move_to(
+    style: &Style,
+    arena: &TokenArena<'_, '_>,
+    view: &View<'_>,
+    place: u32,
+    cursor: &mut InputCursor,
+)
     requires tab { 1 ≤ style.now.tab_width }
     requires items { AreWithin arena.now view.now }
     requires before { cursor.old.place ≤ place }
@@ -105,7 +111,15 @@ pub(crate) fn report_line(
 {
     let count = view.len();
     prove!(line.last < count);
-    decide_first(style, arena, view, classes, line, view.at(line.first).0, plan);
+    decide_first(
+        style,
+        arena,
+        view,
+        classes,
+        line,
+        view.at(line.first).0,
+        plan,
+    );
     move_to(style, arena, view, line.first + 1, cursor);
     for k in line.first + 1..line.last + 1 {
         let id = view.at(k).0;

@@ -87,7 +87,13 @@ fn first_fits(style: &Style, token: &LineTok, start: u32, first: Option<Fixed>) 
 
 /// Whether a line stays on one row that doesn't pass the limit, within the budget. Of its gaps only the first may be
 /// decided.
-pub(crate) fn is_row(style: &Style, tokens: &[LineTok], column: u32, first: Option<Fixed>, budget: u64) -> bool
+pub(crate) fn is_row(
+    style: &Style,
+    tokens: &[LineTok],
+    column: u32,
+    first: Option<Fixed>,
+    budget: u64,
+) -> bool
     requires range { IsInRange style.now }
     requires some { 0 < length tokens.now }
     requires budget { budget ≤ 16000000 }
