@@ -10,8 +10,6 @@ mod listed;
 mod pairing;
 mod partner;
 mod spelling;
-#[cfg(test)]
-mod tests;
 mod viewed;
 mod words;
 

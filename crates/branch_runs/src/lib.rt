@@ -13,8 +13,6 @@ mod mark;
 mod node;
 mod open_groups;
 mod stack;
-#[cfg(test)]
-mod tests;
 mod tree;
 mod walk;
 mod zero;

@@ -16,8 +16,6 @@ mod next;
 mod place;
 mod punctuator;
 mod quote;
-#[cfg(test)]
-mod tests;
 mod unit;
 mod utf8;
 mod word;

@@ -11,8 +11,6 @@
 mod command;
 mod fault;
 mod read;
-#[cfg(test)]
-mod tests;
 
 pub use fault::{USAGE, WordsFault};
 pub use read::{StyleChoice, Words, read_words};

@@ -10,8 +10,6 @@ mod laws;
 mod names;
 mod nesting;
 mod spelling;
-#[cfg(test)]
-mod tests;
 
 pub use c_chars::Dialect;
 pub use cut::sections;

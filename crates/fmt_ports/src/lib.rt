@@ -14,8 +14,6 @@ mod name;
 mod plan;
 mod real;
 mod real_files;
-#[cfg(test)]
-mod tests;
 mod text;
 mod whole;
 

@@ -8,8 +8,6 @@ mod in_force;
 mod input;
 mod laws;
 mod refusal;
-#[cfg(test)]
-mod tests;
 
 pub use command::format_command;
 use fmt_ports::{RealFiles, RealIn, RealOut};

@@ -13,8 +13,6 @@ mod laws;
 mod line_ends;
 mod runs;
 mod searched;
-#[cfg(test)]
-mod tests;
 
 pub use fault::FormatFault;
 pub use formatted::{Formatted, format};

@@ -5,8 +5,6 @@
 #![tactic(auto)]
 
 mod short;
-#[cfg(test)]
-mod tests;
 mod white;
 
 pub use short::short_lines;

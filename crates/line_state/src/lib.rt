@@ -16,8 +16,6 @@ mod spot;
 mod state;
 mod stepping;
 mod store;
-#[cfg(test)]
-mod tests;
 
 pub use frames::{Frame, Frames};
 pub use gap::Gap;

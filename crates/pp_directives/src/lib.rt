@@ -19,8 +19,6 @@ mod resolve;
 mod settings;
 mod state;
 mod tables;
-#[cfg(test)]
-mod tests;
 mod words;
 
 pub use cond::Cond;

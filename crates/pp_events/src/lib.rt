@@ -13,8 +13,6 @@ mod machine;
 mod replace;
 mod same;
 mod state;
-#[cfg(test)]
-mod tests;
 mod token;
 
 pub use c_grammar::ItemKind;

@@ -7,8 +7,6 @@
 
 mod class;
 mod kinds;
-#[cfg(test)]
-mod tests;
 mod unit;
 
 pub use c_lexer::{Dialect, ItemKind};

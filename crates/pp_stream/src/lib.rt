@@ -11,8 +11,6 @@ mod name;
 mod place;
 mod reader;
 mod sections;
-#[cfg(test)]
-mod tests;
 
 pub use c_lexer::{Dialect, ItemKind, LIMIT};
 pub use item::{PpItem, PpSection, SectionKind};

@@ -9,8 +9,6 @@ mod include;
 mod plain;
 mod reading;
 mod rules;
-#[cfg(test)]
-mod tests;
 mod text;
 mod tokens;
 

@@ -16,11 +16,7 @@ mod same;
 mod slot;
 mod sound;
 mod stance;
-#[cfg(test)]
-mod tests;
 mod written;
-#[cfg(test)]
-mod written_tests;
 
 pub use gap_text::Decision;
 pub use guard::{Guard, guard_of, is_behind_backslash};

@@ -18,8 +18,6 @@ mod row;
 mod rows;
 mod run;
 mod stretches;
-#[cfg(test)]
-mod tests;
 
 pub use columns::column_behind;
 pub use laid::Laid;

@@ -13,8 +13,6 @@ mod line;
 mod pair;
 mod reading;
 mod skipped;
-#[cfg(test)]
-mod tests;
 mod text;
 mod whole;
 

@@ -7,8 +7,6 @@
 mod key;
 mod named;
 mod style;
-#[cfg(test)]
-mod tests;
 mod value;
 mod words;
 mod writing;

@@ -165,26 +165,3 @@ pub(crate) fn entry_of(lexeme: &Lexeme<'_>, gap: u32) -> Entry
         back: lexeme.back,
     }
 }
-
-#[cfg(test)]
-mod tests {
-    use super::*;
-
-    #[test]
-    fn measures_each_row_in_columns(rt: HostRuntime) {
-        let cases: [(&[u8], u32, u32, u32); 5] = [
-            (b"word", 1, 4, 4),
-            ("/* \u{4e00} */".as_bytes(), 1, 8, 8),
-            (b"\"\xff\xfe\"", 1, 4, 4),
-            (b"/* a\r\nbc\n\t*/", 3, 4, 3),
-            (b"/*\r*/", 1, 5, 5),
-        ];
-        for (raw, count, first, last) in cases {
-            assert!(rt; raw.len() < 100);
-            let rows = rows_of(raw);
-            assert_eq!(rt; rows.count, count, "rows of {raw:?}");
-            assert_eq!(rt; rows.first_width, first, "first row of {raw:?}");
-            assert_eq!(rt; rows.last_width, last, "last row of {raw:?}");
-        }
-    }
-}

@@ -4,8 +4,6 @@
 //! items, so its memory grows with the directives of a text and not with its items.
 #![tactic(auto)]
 
-#[cfg(test)]
-mod tests;
 mod view;
 
 pub use line_tokens::{NoMemory, TokenId};

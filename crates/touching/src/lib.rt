@@ -6,8 +6,6 @@
 mod laws;
 mod near;
 mod spelling;
-#[cfg(test)]
-mod tests;
 mod touch;
 
 pub use laws::takes_gaps_away;

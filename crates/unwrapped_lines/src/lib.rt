@@ -13,10 +13,6 @@ mod lookups;
 mod open;
 mod part;
 mod scans;
-#[cfg(test)]
-mod tests;
-#[cfg(test)]
-mod text_tests;
 mod token;
 mod tree;
 mod viewed;

@@ -1,0 +1,352 @@
+//! Worked lines, and all short lines against a search of every breaking.
+
+ghost use Rattle.std.specs.Prelude.{◌≡◌, ◌<◌, ◌≤◌, length};
+ghost use Rattle.style_table.specs.Range.{IsInRange};
+
+use break_search::{Outcome, search};
+use bumpalo::Bump;
+use line_state::{allowed, start, step};
+use line_tokens::{Fixed, GapFacts, ItemKind, LineTok, Role, TokenId};
+use std::alloc::Global;
+use std::process::Abort;
+use std::test::Fail;
+use style_table::{AlignAfterOpenBracket, Style};
+
+/// A token of this role, depth and width, behind a blank.
+fn token(role: Role, depth: u32, width: u32) -> LineTok {
+    LineTok {
+        id: TokenId(0),
+        role,
+        power: 4,
+        depth,
+        trailing_list: false,
+        held: false,
+        touch: true,
+        directive: false,
+        gap: GapFacts {
+            lines: 0,
+            empty: false,
+            white: true,
+            splice: false,
+            began: false,
+        },
+        kind: ItemKind::Identifier,
+        rows: 1,
+        first_width: width,
+        last_width: width,
+    }
+}
+
+/// A call of two arguments, with the widths of its name and its arguments.
+fn call(name: u32, first: u32, second: u32) -> [LineTok; 7] {
+    [
+        token(Role::Word, 0, name),
+        token(Role::CallOpen, 0, 1),
+        token(Role::Word, 1, first),
+        token(Role::Comma, 1, 1),
+        token(Role::Word, 1, second),
+        token(Role::CallClose, 1, 1),
+        token(Role::Semi, 0, 1),
+    ]
+}
+
+#[test]
+fn breaks_calls_at_their_least_cost(rt: HostRuntime) -> Result<(), Fail> {
+    let style = Style::named("LLVM").ok_or("a style")?;
+    let run = Bump::new(rt.alloc());
+    let free = [None; 7];
+    let behind_comma = [false, false, false, true, false, false];
+    let behind_opener = [false, true, false, false, false, false];
+    let behind_both = [false, true, false, true, false, false];
+    let nowhere = [false; 6];
+    for (name, line, want, want_cost) in [
+        ("fits", call(4, 10, 10), nowhere, 0),
+        ("behind the comma", call(4, 50, 36), behind_comma, 1),
+        ("behind the opener", call(40, 40, 30), behind_opener, 19),
+        ("past the limit", call(4, 100, 1), behind_both, 25_000_020),
+    ] {
+        match search(rt.alloc(), &style, &line, 0, &free, 2_000_000, &run)? {
+            Outcome::Found { breaks, cost } => {
+                assert_eq!(rt; breaks, want.as_slice(), "{name}");
+                assert_eq!(rt; cost, want_cost, "{name}");
+            }
+            Outcome::OverBudget { cells: _ } => assert!(rt; false, "{name}"),
+        }
+    }
+    match search(rt.alloc(), &style, &call(4, 50, 36), 0, &free, 1, &run)? {
+        Outcome::Found { breaks: _, cost: _ } => assert!(rt; false, "within one cell"),
+        Outcome::OverBudget { cells } => assert!(rt; cells > 1, "over one cell"),
+    }
+    Ok(())
+}
+
+/// The cost of a breaking, if it is admissible. Of the bits the highest is that of the first gap.
+fn cost_of(
+    rt: &impl Abort,
+    alloc: Global,
+    style: &Style,
+    line: &[LineTok],
+    fixed: &[Option<Fixed>],
+    bits: u32,
+) -> Result<Option<u128>, Fail>
+    requires range { IsInRange style.now }
+    requires even { length fixed.now ≡ length line.now }
+{
+    let mut state = start(alloc, style, 0);
+    for at in 0..line.len() {
+        let right = &line[at];
+        let left = if at == 0 { right } else { &line[at - 1] };
+        let place = line.len() - 1 - at;
+        assert!(rt; place < 32);
+        let brk = at == 0 || (bits >> place) % 2 == 1;
+        if !allowed(style, &state, left, right, fixed[at], brk) {
+            return Ok(None);
+        }
+        assert!(rt; state.index < 4_294_967_295);
+        assert!(rt; state.cost <= u128::from(state.index) * 18_446_744_073_709_551_615);
+        state = step(style, &state, left, right, fixed[at], brk)?;
+    }
+    Ok(Some(state.cost))
+}
+
+/// Compares the search of a line with all of its breakings, told by their bits.
+fn compare(
+    rt: &impl Abort,
+    alloc: Global,
+    style: &Style,
+    line: &[LineTok],
+    fixed: &[Option<Fixed>],
+    run: &Bump,
+) -> Result<(), Fail>
+    requires range { IsInRange style.now }
+    requires some { 0 < length line.now }
+    requires even { length fixed.now ≡ length line.now }
+{
+    assert!(rt; line.len() <= 8);
+    let mut least: Option<(u128, u32)> = None;
+    for bits in 0..1u32 << (line.len() - 1) {
+        if let Some(cost) = cost_of(rt, alloc, style, line, fixed, bits)? {
+            if least.is_none_or(|(least, _)| cost < least) {
+                least = Some((cost, bits));
+            }
+        }
+    }
+    let (want, bits) = least.ok_or("an admissible breaking")?;
+    match search(alloc, style, line, 0, fixed, 2_000_000, run)? {
+        Outcome::Found { breaks, cost } => {
+            assert!(rt; u128::from(cost) == want, "{line:?}");
+            let mut found: u32 = 0;
+            for brk in breaks {
+                found = found.wrapping_mul(2).wrapping_add(u32::from(*brk));
+            }
+            assert!(rt; found == bits, "{line:?}");
+        }
+        Outcome::OverBudget { cells: _ } => assert!(rt; false, "{line:?}"),
+    }
+    Ok(())
+}
+
+/// The line whose tokens are told by the digits of a number: each digit is a role and a width of these.
+fn line_of(alloc: Global, shapes: &[(Role, u32)], code: u32, len: u32) -> Result<Vec<LineTok>, Fail>
+    requires { 0 < length shapes.now }
+{
+    let mut tokens = Vec::new(alloc);
+    let mut rest = code as usize;
+    let mut depth: u32 = 0;
+    for _ in 0..len {
+        let (role, width) = shapes[rest % shapes.len()];
+        rest = rest / shapes.len();
+        tokens.push(token(role, depth, width))?;
+        depth = match role {
+            Role::CallOpen | Role::ListOpen => depth.saturating_add(1),
+            Role::CallClose | Role::ListClose => depth.saturating_sub(1),
+            _ => depth,
+        };
+    }
+    Ok(tokens)
+}
+
+/// A style with a narrow limit.
+fn narrow(style: Style, align: AlignAfterOpenBracket, pack: bool) -> Style
+    requires { IsInRange style }
+    ensures { IsInRange result }
+{
+    Style {
+        column_limit: 8,
+        align_after_open_bracket: align,
+        bin_pack_arguments: pack,
+        ..style
+    }
+}
+
+/// Compares all lines of so many tokens out of these shapes.
+fn compare_lines(
+    rt: &impl Abort,
+    alloc: Global,
+    style: &Style,
+    shapes: &[(Role, u32)],
+    fixed: &[Option<Fixed>],
+    len: u32,
+    lines: u32,
+) -> Result<(), Fail>
+    requires range { IsInRange style.now }
+    requires some { 0 < length shapes.now }
+{
+    for code in 0..lines {
+        let run = Bump::new(alloc);
+        let tokens = line_of(alloc, shapes, code, len)?;
+        let line = tokens.as_slice();
+        assert!(rt; !line.is_empty() && line.len() <= 8 && line.len() <= fixed.len());
+        compare(rt, alloc, style, line, &fixed[..line.len()], &run)?;
+    }
+    Ok(())
+}
+
+#[test]
+fn finds_the_least_of_all_breakings_of_five_tokens(rt: HostRuntime) -> Result<(), Fail> {
+    let llvm = Style::named("LLVM").ok_or("a style")?;
+    let shapes = [
+        (Role::Word, 3),
+        (Role::Comma, 1),
+        (Role::CallOpen, 1),
+        (Role::CallClose, 1),
+        (Role::Binary, 2),
+    ];
+    let decision = Fixed {
+        column: 5,
+        broken: true,
+    };
+    let decided = [None, None, Some(decision), None, None];
+    for (align, pack) in [
+        (AlignAfterOpenBracket::Align, true),
+        (AlignAfterOpenBracket::DontAlign, false),
+        (AlignAfterOpenBracket::AlwaysBreak, false),
+    ] {
+        let style = narrow(llvm, align, pack);
+        for (len, lines) in [(1, 5), (2, 25), (3, 125), (4, 625), (5, 3_125)] {
+            compare_lines(&rt, rt.alloc(), &style, &shapes, &[None; 5], len, lines)?;
+            compare_lines(&rt, rt.alloc(), &style, &shapes, &decided, len, lines)?;
+        }
+    }
+    Ok(())
+}
+
+/// Compares all lines of at most eight tokens out of three shapes, with no decision.
+fn compare_three_shapes(
+    rt: &impl Abort,
+    alloc: Global,
+    style: &Style,
+    shapes: &[(Role, u32)],
+) -> Result<(), Fail>
+    requires range { IsInRange style.now }
+    requires some { length shapes.now ≡ 3 }
+{
+    for (len, lines) in [
+        (1, 3),
+        (2, 9),
+        (3, 27),
+        (4, 81),
+        (5, 243),
+        (6, 729),
+        (7, 2_187),
+        (8, 6_561),
+    ] {
+        compare_lines(rt, alloc, style, shapes, &[None; 8], len, lines)?;
+    }
+    Ok(())
+}
+
+#[test]
+fn finds_the_least_of_all_breakings_of_eight_tokens(rt: HostRuntime) -> Result<(), Fail> {
+    let llvm = Style::named("LLVM").ok_or("a style")?;
+    let aligned = narrow(llvm, AlignAfterOpenBracket::Align, true);
+    let words = [(Role::Word, 3), (Role::Comma, 1), (Role::CallOpen, 1)];
+    compare_three_shapes(&rt, rt.alloc(), &aligned, &words)?;
+    let unaligned = narrow(llvm, AlignAfterOpenBracket::DontAlign, false);
+    let calls = [(Role::Comma, 1), (Role::CallOpen, 1), (Role::CallClose, 1)];
+    compare_three_shapes(&rt, rt.alloc(), &unaligned, &calls)?;
+    let broken = narrow(llvm, AlignAfterOpenBracket::AlwaysBreak, false);
+    let lists = [(Role::Comma, 1), (Role::ListOpen, 1), (Role::Binary, 2)];
+    compare_three_shapes(&rt, rt.alloc(), &broken, &lists)
+}
+
+/// Two words that can't both stay on the first row, and behind them closers and points that take no column and break at
+/// some cost: so the ways that break before the one word and before the other cost the same, wherever the line ends.
+fn two_ways(alloc: Global, len: u32) -> Result<Vec<LineTok>, Fail> {
+    let mut tokens = Vec::new(alloc);
+    for at in 0..len {
+        tokens.push(match at {
+            0 => token(Role::Word, 0, 60),
+            1 | 3 => token(Role::Comma, 0, 1),
+            2 | 4 => token(Role::Word, 0, 10),
+            _ if at % 2 == 1 => token(Role::CallClose, 0, 0),
+            _ => token(Role::Member, 0, 0),
+        })?;
+    }
+    Ok(tokens)
+}
+
+#[test]
+fn takes_the_first_of_two_ways_of_one_cost(rt: HostRuntime) -> Result<(), Fail> {
+    let style = Style::named("LLVM").ok_or("a style")?;
+    for (name, len) in [
+        ("no closer", 5),
+        ("one closer", 6),
+        ("a point", 7),
+        ("nine tokens", 9),
+        ("sixteen tokens", 16),
+        ("forty tokens", 40),
+        ("four hundred tokens", 400),
+    ] {
+        let run = Bump::new(rt.alloc());
+        let tokens = two_ways(rt.alloc(), len)?;
+        let line = tokens.as_slice();
+        let free = vec![in rt.alloc(); None; line.len()]?;
+        let fixed = free.as_slice();
+        assert!(rt; !line.is_empty() && line.len() < 4_294_967_295 && fixed.len() == line.len());
+        match search(rt.alloc(), &style, line, 0, fixed, 2_000_000, &run)? {
+            Outcome::Found { breaks, cost } => {
+                assert_eq!(rt; cost, 1, "{name}");
+                assert_eq!(rt; breaks.iter().position(|brk| *brk), Some(3), "{name}");
+                assert_eq!(rt; breaks.iter().filter(|brk| **brk).count(), 1, "{name}");
+            }
+            Outcome::OverBudget { cells: _ } => assert!(rt; false, "{name}"),
+        }
+    }
+    Ok(())
+}
+
+#[test]
+fn breaks_a_long_initialiser_into_rows(rt: HostRuntime) -> Result<(), Fail> {
+    let style = Style::named("LLVM").ok_or("a style")?;
+    let run = Bump::new(rt.alloc());
+    let mut tokens = vec![in rt.alloc();
+        token(Role::Word, 0, 8),
+        token(Role::Word, 0, 4),
+        token(Role::Word, 0, 1),
+        token(Role::IndexOpen, 0, 1),
+        token(Role::IndexClose, 1, 1),
+        token(Role::Assign, 0, 1),
+        token(Role::ListOpen, 0, 1),
+    ]?;
+    for at in 0..4_096 {
+        if at > 0 {
+            tokens.push(token(Role::Comma, 1, 1))?;
+        }
+        tokens.push(token(Role::Literal, 1, 4))?;
+    }
+    tokens.push(token(Role::ListClose, 1, 1))?;
+    tokens.push(token(Role::Semi, 0, 1))?;
+    let line = tokens.as_slice();
+    let free = vec![in rt.alloc(); None; line.len()]?;
+    let fixed = free.as_slice();
+    assert!(rt; !line.is_empty() && line.len() < 4_294_967_295 && fixed.len() == line.len());
+    match search(rt.alloc(), &style, line, 0, fixed, 2_000_000, &run)? {
+        Outcome::Found { breaks, cost } => {
+            assert_eq!(rt; cost, 351);
+            assert_eq!(rt; breaks.iter().filter(|brk| **brk).count(), 342);
+        }
+        Outcome::OverBudget { cells: _ } => assert!(rt; false),
+    }
+    Ok(())
+}

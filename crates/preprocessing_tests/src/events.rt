@@ -1,0 +1,473 @@
+// Texts and their events, by the examples of C11 6.10.3 and by its rules of conditionals, includes and lines.
+
+use pp_text::{Dialect, EventsFault, events};
+use pp_directives::{Condition, Event, IncludeText, Setting};
+use pp_events::{PpToken, Spaced, spelling_of};
+use std::alloc::{AllocError, Global};
+use std::str::from_utf8;
+use std::test::Fail;
+
+// Bytes of a spelling.
+fn push_bytes(out: &mut String, bytes: &[u8]) -> Result<(), AllocError> {
+    match from_utf8(bytes) {
+        Ok(text) => out.push_str(text),
+        Err(_) => out.push_str("?"),
+    }
+}
+
+// A string that `#` made: its tokens, a blank where white space stands before one.
+fn show_string(out: &mut String, parts: &Vec<Spaced>) -> Result<(), AllocError> {
+    out.push_str("str<")?;
+    for part in parts {
+        if part.white {
+            out.push_str(" ")?;
+        }
+        push_bytes(out, spelling_of(&part.token))?;
+    }
+    out.push_str(">")
+}
+
+// A token: its spelling, `line 7` of a line's number, and `str<x>` of a string that `#` made.
+fn show_token(out: &mut String, token: &PpToken) -> Result<(), AllocError> {
+    match token {
+        PpToken::Plain { .. } => push_bytes(out, spelling_of(token)),
+        PpToken::Line { number } => write!(out, "line {number}"),
+        PpToken::Str { parts } => show_string(out, &parts.items),
+        PpToken::Pasted { .. } => out.push_str("pasted"),
+    }
+}
+
+// Tokens behind a word, in brackets.
+fn show_tokens(out: &mut String, word: &str, tokens: &Vec<PpToken>) -> Result<(), AllocError> {
+    out.push_str(word)?;
+    out.push_str("[")?;
+    for token in tokens {
+        out.push_str(" ")?;
+        show_token(out, token)?;
+    }
+    out.push_str(" ]")
+}
+
+// An event: a token as it is, and every other one by a word in capital letters.
+fn show_event(out: &mut String, event: &Event) -> Result<(), AllocError> {
+    match event {
+        Event::Token(token) => show_token(out, token),
+        Event::Pragma(tokens) => show_tokens(out, "PRAGMA", tokens),
+        Event::Line(tokens) => show_tokens(out, "LINE", tokens),
+        Event::Error(tokens) => show_tokens(out, "ERROR", tokens),
+        Event::Warning(tokens) => show_tokens(out, "WARNING", tokens),
+        Event::Embed(tokens) => show_tokens(out, "EMBED", tokens),
+        Event::IncludeNotFound => out.push_str("NOTFOUND"),
+        Event::Malformed(tokens) => show_tokens(out, "MALFORMED", tokens),
+        Event::Unlexed => out.push_str("UNLEXED"),
+        Event::TurnsSpent => out.push_str("SPENT"),
+    }
+}
+
+// Events in order, a blank behind each.
+fn show_events(alloc: Global, found: &Vec<Event>) -> Result<String, AllocError> {
+    let mut out = String::new(alloc);
+    for event in found {
+        show_event(&mut out, event)?;
+        out.push_str(" ")?;
+    }
+    Ok(out)
+}
+
+// An item.
+fn plain(alloc: Global, text: &[u8]) -> Result<PpToken, AllocError> {
+    Ok(PpToken::Plain {
+        text: text.to_vec(alloc)?,
+    })
+}
+
+// Items.
+fn key_of(alloc: Global, texts: &[&[u8]]) -> Result<Vec<PpToken>, AllocError> {
+    let mut key = Vec::new(alloc);
+    for text in texts {
+        key.push(plain(alloc, text)?)?;
+    }
+    Ok(key)
+}
+
+// A condition that holds.
+fn holding(alloc: Global, texts: &[&[u8]]) -> Result<Condition, AllocError> {
+    Ok(Condition {
+        key: key_of(alloc, texts)?,
+        holds: true,
+    })
+}
+
+// The conditions `1`, `2 > 1` and `1 && 0` hold, and no other.
+fn conditions(alloc: Global) -> Result<Vec<Condition>, AllocError> {
+    let mut made = Vec::new(alloc);
+    made.push(holding(alloc, &[b"1"])?)?;
+    made.push(holding(alloc, &[b"2", b">", b"1"])?)?;
+    made.push(holding(alloc, &[b"1", b"&&", b"0"])?)?;
+    Ok(made)
+}
+
+// An include of `"a.h"` finds these bytes.
+fn includes(alloc: Global, bytes: &[u8]) -> Result<Vec<IncludeText>, AllocError> {
+    let mut made = Vec::new(alloc);
+    made.push(IncludeText {
+        key: key_of(alloc, &[b"\"a.h\""])?,
+        bytes: bytes.to_vec(alloc)?,
+    })?;
+    Ok(made)
+}
+
+// The events of a text.
+fn shown(
+    alloc: Global,
+    header: &[u8],
+    depth: u64,
+    turns: u64,
+    text: &[u8],
+) -> Result<String, EventsFault> {
+    let setting = Setting {
+        macros: Vec::new(alloc),
+        includes: includes(alloc, header)?,
+        conditions: conditions(alloc)?,
+        depth,
+        turns,
+    };
+    let told = events(alloc, Dialect::C11, &setting, text)?;
+    Ok(show_events(alloc, &told)?)
+}
+
+#[test]
+fn expands_the_examples_of_6_10_3(rt: HostRuntime) -> Result<(), Fail> {
+    let cases: [(&str, &[u8], &str); 7] = [
+        (
+            "6.10.3.3 EXAMPLE: a string of a paste",
+            b"#define hash_hash # ## #\n#define mkstr(a) # a\n#define in_between(a) mkstr(a)\n\
+              #define join(c, d) in_between(c hash_hash d)\nchar p[] = join(x, y);\n",
+            "char p [ ] = str<x ## y> ; ",
+        ),
+        (
+            "6.10.3.5 EXAMPLE 3: rescanning",
+            b"#define x 3\n#define f(a) f(x * (a))\n#undef x\n#define x 2\n#define g f\n#define z z[0]\n\
+              #define h g(~\n#define m(a) a(w)\n#define w 0,1\n#define t(a) a\n#define p() int\n\
+              f(y+1) + f(f(z)) % t(t(g)(0) + t)(1);\ng(x+(3,4)-w) | h 5) & m\n(f)^m(m);\n",
+            "f ( 2 * ( y + 1 ) ) + f ( 2 * ( f ( 2 * ( z [ 0 ] ) ) ) ) % f ( 2 * ( 0 ) ) + t ( 1 ) ; \
+             f ( 2 * ( 2 + ( 3 , 4 ) - 0 , 1 ) ) | f ( 2 * ( ~ 5 ) ) & f ( 2 * ( 0 , 1 ) ) ^ m ( 0 , 1 ) ; ",
+        ),
+        (
+            "6.10.3.5 EXAMPLE 3: empty arguments",
+            b"#define p() int\n#define q(x) x\n#define r(x,y) x ## y\n#define str(x) # x\n\
+              p() i[q()] = { q(1), r(2,3), r(4,), r(,5), r(,) };\nchar c[2][6] = { str(hello), str() };\n",
+            "int i [ ] = { 1 , 23 , 4 , 5 , } ; char c [ 2 ] [ 6 ] = { str<hello> , str<> } ; ",
+        ),
+        (
+            "6.10.3.5 EXAMPLE 4: strings and pastes",
+            b"#define str(s) # s\n#define xstr(s) str(s)\n\
+              #define debug(s, t) printf(\"x\" # s \"= %d, x\" # t \"= %s\", \\\n x ## s, x ## t)\n\
+              #define INCFILE(n) vers ## n\n#define glue(a, b) a ## b\n#define xglue(a, b) glue(a, b)\n\
+              #define HIGHLOW \"hello\"\n#define LOW LOW \", world\"\n\
+              debug(1, 2);\nfputs(str(strncmp(\"abc\\0d\", \"abc\", '\\4') // this goes away\n == 0) str(: @\\n), s);\n\
+              #include xstr(INCFILE(2).h)\nglue(HIGH, LOW);\nxglue(HIGH, LOW)\n",
+            "printf ( \"x\" str<1> \"= %d, x\" str<2> \"= %s\" , x1 , x2 ) ; \
+             fputs ( str<strncmp(\"abc\\0d\", \"abc\", '\\4') == 0> str<: @\\n> , s ) ; NOTFOUND \
+             \"hello\" ; \"hello\" \", world\" ",
+        ),
+        (
+            "6.10.3.5 EXAMPLE 5: placemarkers",
+            b"#define t(x,y,z) x ## y ## z\nint j[] = { t(1,2,3), t(,4,5), t(6,,7), t(8,9,),\n t(10,,), t(,11,), t(,,12), t(,,) };\n",
+            "int j [ ] = { 123 , 45 , 67 , 89 , 10 , 11 , 12 , } ; ",
+        ),
+        (
+            "6.10.3.5 EXAMPLE 6: redefinitions",
+            b"#define OBJ_LIKE (1-1)\n#define OBJ_LIKE /* white space */ (1-1) /* other */\n#define FUNC_LIKE(a)   ( a )\n\
+              #define FUNC_LIKE( a )( /* note the white space */ \\\n a /* other stuff on this line\n */ )\n\
+              OBJ_LIKE FUNC_LIKE(b)\n",
+            "( 1 - 1 ) ( b ) ",
+        ),
+        (
+            "6.10.3.5 EXAMPLE 7: variadic macros",
+            b"#define debug(...) fprintf(stderr, __VA_ARGS__)\n#define showlist(...) puts(#__VA_ARGS__)\n\
+              #define report(test, ...) ((test)?puts(#test):\\\n printf(__VA_ARGS__))\n\
+              debug(\"Flag\");\ndebug(\"X = %d\\n\", x);\nshowlist(The first, second, and third items.);\n\
+              report(x>y, \"x is %d but y is %d\", x, y);\n",
+            "fprintf ( stderr , \"Flag\" ) ; fprintf ( stderr , \"X = %d\\n\" , x ) ; puts ( str<The first, second, and third items.> ) ; \
+             ( ( x > y ) ? puts ( str<x>y> ) : printf ( \"x is %d but y is %d\" , x , y ) ) ; ",
+        ),
+    ];
+    for (name, text, expected) in cases {
+        let told = shown(rt.alloc(), b"", 0, 10000, text)?;
+        assert_eq!(rt; told.as_str(), expected, "{name}");
+    }
+    Ok(())
+}
+
+#[test]
+fn follows_conditionals(rt: HostRuntime) -> Result<(), Fail> {
+    let cases: [(&str, &[u8], &str); 8] = [
+        (
+            "a condition is expanded, 6.10.1p4",
+            b"#define A 2\n#if A > 1\nx\n#else\ny\n#endif\nz",
+            "x z ",
+        ),
+        (
+            "a condition that the setting doesn't have",
+            b"#if A > 1\nx\n#else\ny\n#endif",
+            "y ",
+        ),
+        (
+            "defined is answered first, 6.10.1p1",
+            b"#define A\n#if defined A && defined(B)\nx\n#endif",
+            "x ",
+        ),
+        (
+            "the first group that holds, 6.10.1p6",
+            b"#if 0\na\n#elif 1\nb\n#elif 1\nc\n#else\nd\n#endif",
+            "b ",
+        ),
+        (
+            "a skipped group acts on nothing, 6.10.1p6",
+            b"#if 0\n#define A b\n#error e\n#include <n>\n#if 1\nc\n#endif\n#else\nA\n#endif",
+            "A ",
+        ),
+        (
+            "ifdef and ifndef, 6.10.1p5",
+            b"#define A\n#ifdef A\nx\n#endif\n#ifndef A\ny\n#endif",
+            "x ",
+        ),
+        (
+            "a conditional doesn't cut a call, 6.10.3p11",
+            b"#define f(x) [x]\nf(\n#if 1\na\n#else\nb\n#endif\n)",
+            "[ a ] ",
+        ),
+        (
+            "conditionals that don't match, 6.10p1",
+            b"#endif\n#if 1\nx",
+            "MALFORMED[ ] x MALFORMED[ ] ",
+        ),
+    ];
+    for (name, text, expected) in cases {
+        let told = shown(rt.alloc(), b"", 0, 10000, text)?;
+        assert_eq!(rt; told.as_str(), expected, "{name}");
+    }
+    Ok(())
+}
+
+#[test]
+fn reads_included_texts(rt: HostRuntime) -> Result<(), Fail> {
+    let cases: [(&str, &[u8], u64, &[u8], &str); 11] = [
+        (
+            "an included text that defines a macro",
+            b"#define A b\nc\n",
+            1,
+            b"A\n#include \"a.h\"\nA",
+            "A c b ",
+        ),
+        (
+            "an operand is expanded, 6.10.2p4",
+            b"c",
+            1,
+            b"#define A \"a.h\"\n#include A\nd",
+            "c d ",
+        ),
+        (
+            "no depth is left",
+            b"c",
+            0,
+            b"a\n#include \"a.h\"\nd",
+            "a NOTFOUND d ",
+        ),
+        (
+            "a text that includes itself",
+            b"c\n#include \"a.h\"\nd\n",
+            2,
+            b"#include \"a.h\"",
+            "c c NOTFOUND d d ",
+        ),
+        ("another text", b"c", 1, b"#include <a.h>\nd", "NOTFOUND d "),
+        (
+            "a skipped include",
+            b"c",
+            1,
+            b"#if 0\n#include \"a.h\"\n#endif\nd",
+            "d ",
+        ),
+        (
+            "conditionals end with their text, 6.10p1",
+            b"#if 0\n",
+            1,
+            b"#if 1\n#include \"a.h\"\nx\n#else\ny\n#endif",
+            "MALFORMED[ ] x ",
+        ),
+        (
+            "an included text ends no conditional around it",
+            b"#endif\n",
+            1,
+            b"#if 1\n#include \"a.h\"\n#else\nx\n#endif\ny",
+            "MALFORMED[ ] y ",
+        ),
+        (
+            "a call doesn't go past the end of a text",
+            b"f",
+            1,
+            b"#define f(x) [x]\n#include \"a.h\"\n(1)",
+            "f ( 1 ) ",
+        ),
+        (
+            "each text has its own lines, 6.10.4",
+            b"#line 50\n__LINE__\n",
+            1,
+            b"\n#include \"a.h\"\n__LINE__",
+            "LINE[ 50 ] line 50 line 3 ",
+        ),
+        (
+            "an included text that doesn't lex",
+            b"/*",
+            1,
+            b"#include \"a.h\"\nx",
+            "UNLEXED x ",
+        ),
+    ];
+    for (name, header, depth, text, expected) in cases {
+        let told = shown(rt.alloc(), header, depth, 10000, text)?;
+        assert_eq!(rt; told.as_str(), expected, "{name}");
+    }
+    Ok(())
+}
+
+#[test]
+fn counts_lines_and_tells_of_the_rest(rt: HostRuntime) -> Result<(), Fail> {
+    let cases: [(&str, &[u8], &str); 9] = [
+        ("no text", b"", ""),
+        (
+            "physical lines, 6.10.8.1",
+            b"__LINE__\n\n__LINE__",
+            "line 1 line 3 ",
+        ),
+        (
+            "lines behind a line directive, 6.10.4p3",
+            b"\n#line 40\n__LINE__\n\n__LINE__",
+            "LINE[ 40 ] line 40 line 42 ",
+        ),
+        (
+            "lines behind the greatest number, 6.10.4p3",
+            b"#line 2147483647\n__LINE__\n__LINE__",
+            "LINE[ 2147483647 ] line 2147483647 line 2147483648 ",
+        ),
+        (
+            "a number that no line may have, 6.10.4p3",
+            b"#line 2147483648\n__LINE__",
+            "LINE[ 2147483648 ] line 2 ",
+        ),
+        (
+            "an operand is expanded, 6.10.4p5",
+            b"#define N 7\n#line N \"f\"\n__LINE__",
+            "LINE[ 7 \"f\" ] line 7 ",
+        ),
+        (
+            "directives that are left to the compiler",
+            b"#pragma p q\n#error e\n#\n#name x",
+            "PRAGMA[ p q ] ERROR[ e ] MALFORMED[ name x ] ",
+        ),
+        (
+            "a directive cuts a call",
+            b"#define f(x) [x]\nf\n#pragma p\n(1)",
+            "f PRAGMA[ p ] ( 1 ) ",
+        ),
+        ("a text that doesn't lex", b"x /*", "UNLEXED "),
+    ];
+    for (name, text, expected) in cases {
+        let told = shown(rt.alloc(), b"", 0, 10000, text)?;
+        assert_eq!(rt; told.as_str(), expected, "{name}");
+    }
+    Ok(())
+}
+
+#[test]
+fn spends_turns(rt: HostRuntime) -> Result<(), Fail> {
+    let told = shown(rt.alloc(), b"", 0, 2, b"a b c")?;
+    assert_eq!(rt; told.as_str(), "SPENT ");
+    let told = shown(rt.alloc(), b"", 0, 3, b"a b c")?;
+    assert_eq!(rt; told.as_str(), "a b c ");
+    Ok(())
+}
+
+#[test]
+fn tells_the_items_outside_of_skipped_groups(rt: HostRuntime) -> Result<(), Fail> {
+    // 29 items are 17 tokens and the items of a skipped group and of three directives. A turn for each suffices.
+    let text: &[u8] = b"void g(void){\n#ifdef A\nif(x){\n#else\n  if (y){\n#endif\nf( );\n}\n}\n";
+    let formatted: &[u8] =
+        b"void g(void) {\n#ifdef A\n  if (x) {\n#else\n  if (y) {\n#endif\n    f();\n  }\n}\n";
+    let tokens = "void g ( void ) { if ( y ) { f ( ) ; } } ";
+    let told = shown(rt.alloc(), b"", 0, 29, text)?;
+    assert_eq!(rt; told.as_str(), tokens);
+    let told = shown(rt.alloc(), b"", 0, 29, formatted)?;
+    assert_eq!(rt; told.as_str(), tokens);
+    Ok(())
+}
+
+#[test]
+fn tells_the_same_of_a_formatted_text(rt: HostRuntime) -> Result<(), Fail> {
+    // A text, and one of other white space; 6.10.3p10 looks at the white space before a `(`.
+    let cases: [(&str, &[u8], &[u8], &str); 9] = [
+        (
+            "a parameter list behind a splice, 6.10.3p10",
+            b"#define F\\\n(x) x\nF(a)\n",
+            b"#define F(x) x\nF(a)\n",
+            "a ",
+        ),
+        (
+            "a body that begins with a bracket, 6.10.3p9",
+            b"#define F (x)\n#define G(x) x\nF  G( b )\nF(a) G (c)\n",
+            b"#define F (x)\n#define G(x) x\nF G(b) F(a) G(c)\n",
+            "( x ) b ( x ) ( a ) c ",
+        ),
+        (
+            "conditionals in a call, X not defined",
+            b"f(a,\n#ifdef X\nb ,\n#else\nc ,\n#endif\nd);\n",
+            b"f(a,\n#ifdef X\n  b,\n#else\n  c,\n#endif\n  d);\n",
+            "f ( a , c , d ) ; ",
+        ),
+        (
+            "conditionals in a call, X defined",
+            b"#define X\nf(a,\n#ifdef X\nb ,\n#else\nc ,\n#endif\nd);\n",
+            b"#define X\nf(a,\n#ifdef X\n  b,\n#else\n  c,\n#endif\n  d);\n",
+            "f ( a , b , d ) ; ",
+        ),
+        (
+            "conditionals among a macro's arguments, X not defined",
+            b"#define f(p,q,r) r q p\nf(a,\n#ifdef X\nb ,\n#else\nc ,\n#endif\nd);\n",
+            b"#define f(p, q, r) r q p\nf(a,\n#ifdef X\n  b,\n#else\n  c,\n#endif\n  d);\n",
+            "d c a ; ",
+        ),
+        (
+            "conditionals among a macro's arguments, X defined",
+            b"#define X\n#define f(p,q,r) r q p\nf(a,\n#ifdef X\nb ,\n#else\nc ,\n#endif\nd);\n",
+            b"#define X\n#define f(p, q, r) r q p\nf(a,\n#ifdef X\n  b,\n#else\n  c,\n#endif\n  d);\n",
+            "d b a ; ",
+        ),
+        (
+            "a call that isn't closed, and one of too few arguments, 6.10.3p4",
+            b"#define f(p,q) q p\nf(a) f( a,b ) f (c",
+            b"#define f(p, q) q p\nf(a) f(a, b) f(c",
+            "f ( a ) b a f ( c ",
+        ),
+        (
+            "operands of ## stay as written, 6.10.3.3p2, and others are expanded",
+            b"#define X 1\n#define join(a,b) a##b b\njoin( X , X )\n",
+            b"#define X 1\n#define join(a, b) a##b b\njoin(X, X)\n",
+            "XX 1 ",
+        ),
+        (
+            "white space in a string, 6.10.3.2p2",
+            b"#define s(x) #x\ns(  a+b  - c )\n",
+            b"#define s(x) #x\ns(a+b - c)\n",
+            "str<a+b - c> ",
+        ),
+    ];
+    for (name, text, formatted, expected) in cases {
+        let told = shown(rt.alloc(), b"", 0, 100, text)?;
+        assert_eq!(rt; told.as_str(), expected, "{name}");
+        let told = shown(rt.alloc(), b"", 0, 100, formatted)?;
+        assert_eq!(rt; told.as_str(), expected, "{name}, formatted");
+    }
+    Ok(())
+}

@@ -1,0 +1,69 @@
+// A macro whose body has its own name, as C11 6.10.3.4 has it.
+ghost use Rattle.std.specs.Prelude.{None};
+
+use pp_events::{ItemKind, Macro, Part, PpToken, Spellings, Tok, What, expand};
+use std::alloc::{AllocError, Global};
+use std::collections::VecDeque;
+use std::test::Fail;
+
+// Tells of no spelling that it is an item.
+struct NoItem;
+
+impl Spellings for NoItem {
+    ghost kinds = { λ _ _. None };
+
+    fn kind_of(&self, _text: &[u8]) -> Option<ItemKind> {
+        None
+    }
+}
+
+// An identifier with white space before it.
+fn word(alloc: Global, text: &[u8]) -> Result<Tok, AllocError> {
+    Ok(Tok {
+        token: PpToken::Plain {
+            text: text.to_vec(alloc)?,
+        },
+        kind: ItemKind::Identifier,
+        hide: Vec::new(alloc),
+        white: true,
+        line: 1,
+    })
+}
+
+// `#define z z w`
+fn z_macro(alloc: Global) -> Result<Macro, AllocError> {
+    let mut body = Vec::new(alloc);
+    for text in [b"z", b"w"] {
+        body.push(Part {
+            what: What::Word(word(alloc, text)?),
+            white: true,
+            glue: false,
+        })?;
+    }
+    Ok(Macro {
+        name: b"z".to_vec(alloc)?,
+        function_like: false,
+        arity: 0,
+        variadic: false,
+        body,
+    })
+}
+
+#[test]
+fn replaces_a_name_once(rt: HostRuntime) -> Result<(), Fail> {
+    let alloc = rt.alloc();
+    let mut table = Vec::new(alloc);
+    table.push(z_macro(alloc)?)?;
+    for (turns, count) in [(3u64, 2usize), (2, 0)] {
+        let mut text = VecDeque::new(alloc);
+        text.push_back(word(alloc, b"z")?)?;
+        match expand(alloc, &NoItem, table.as_slice(), turns, text)? {
+            Some((tokens, left)) => {
+                assert_eq!(rt; tokens.len(), count);
+                assert_eq!(rt; left, 0u64);
+            }
+            None => assert_eq!(rt; count, 0usize),
+        }
+    }
+    Ok(())
+}

@@ -1,0 +1,7 @@
+//! Tests.
+#![tactic(auto)]
+
+#[cfg(test)]
+mod commands;
+#[cfg(test)]
+mod formatted_texts;
