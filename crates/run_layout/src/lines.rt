@@ -4,6 +4,7 @@ ghost use Rattle.std.specs.Prelude.{◌≡◌, ◌+◌, ◌*◌, ◌^◌, ◌<�
 ghost use Rattle.std.specs.Bool.{OnFalse, OnTrue};
 ghost use Rattle.style_table.specs.Range.{IsInRange};
 ghost use Rattle.brackets.specs.Viewed.{AreWithin, classes_of};
+ghost use Rattle.annotator.specs.Tokens.{TellItems};
 ghost use Rattle.line_state.specs.Line.{gaps};
 ghost use Rattle.run_layout.specs.Tells.{StandForItems};
 ghost use Rattle.replacements.specs.Decisions.{decided_all, slot_of};
@@ -221,7 +222,8 @@ pub fn lay_out_lines(
     requires budget { budget ≤ 16000000 }
     requires within { AreWithin arena.now view.now }
     requires classes { classes.now ≡ classes_of arena.now view.now }
-    requires tell { StandForItems arena.now view.now toks.now }
+    requires count { length toks.now ≡ length view.now }
+    requires tell { TellItems arena.now view.now toks.now }
     requires cut { CutPlaces 0 (length view.now) lines.now }
     requires whole { length plan.old ≡ length arena.now.tokens + 1 }
     requires room { tally.old.searched + length lines.now < 2 ^ 60 }

@@ -5,7 +5,8 @@ use Rattle.format_cli.proofs.input.formatted.Goals as goal
 pub returns-in-Ok-clause-formats : goal.returns-in-Ok-clause-formats
 returns-in-Ok-clause-formats c = record {
   fits = c.in-Ok.ensures.fits;
-  formats = c.in-Ok.ensures.formats;
+  reports = c.in-Ok.formatted.reports.now;
+  formats = c.in-Ok.ensures.formats.formats;
   twins = c.in-Ok.ensures.twins;
   alike = alike C11 _ _ c.in-Ok.ensures.twins;
 }
