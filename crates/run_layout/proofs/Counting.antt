@@ -1,6 +1,5 @@
 -- Physical lines, counted along.
 use Rattle.std.proofs.Common.{◌≡◌, ◌∙◌, ℕ, zero, suc, ◌+◌, ◌-◌, ◌<◌, ◌≤◌, Bool, true, false, List, [], ◌∷◌, length, get_or, take, drop, refl, sym, ap, arith, subst, count_by}
-use Rattle.std.specs.Prelude.{Some, slice_get}
 use Rattle.std.proofs.Math.Seq.{take-add}
 use Rattle.std.proofs.lemmas.List.Sums.{sum_by-append, count_by-le-length}
 use Rattle.std.proofs.lemmas.List.{length-take-le}
@@ -9,9 +8,7 @@ use Rattle.c_grammar.specs.Text.{ReadItem, end_of}
 use Rattle.token_arena.specs.Stored.{Stored, is_line_feed, line_at, stored_from}
 use Rattle.token_arena.specs.Gaps.{Contents, StandFrom, behind}
 use Rattle.token_arena.specs.Holds.{HoldsItems}
-use Rattle.run_layout.specs.Counted.{IsCounted}
 use Rattle.run_layout.specs.Rows.{no_item, item_at}
-use Rattle.run_layout.specs.declared.line_count.LineCount.{LineCount}
 
 -- ## The line of an item
 
@@ -49,3 +46,13 @@ pub few_feeds : (text : List ℕ) (at : ℕ) → at ≤ length text → count_by
 few_feeds text at within =
     let most : count_by is_line_feed (take at text) ≤ length (take at text) = count_by-le-length is_line_feed (take at text) in
     omega (arith, most, length-take-le at text within)
+
+-- so a count goes on up to a later place
+pub counted_on : (text : List ℕ) (from to feeds more : ℕ) → feeds ≡ count_by is_line_feed (take from text) → from ≤ to → more ≡ count_by is_line_feed (take (to - from) (drop from text))
+    → feeds + more ≡ count_by is_line_feed (take to text)
+counted_on text from to feeds more counted low is = omega (arith, counted, is, feeds_on text from to low)
+
+-- or back to an earlier one
+pub counted_back : (text : List ℕ) (from to feeds less : ℕ) → feeds ≡ count_by is_line_feed (take from text) → to ≤ from → less ≡ count_by is_line_feed (take (from - to) (drop to text))
+    → feeds ≡ count_by is_line_feed (take to text) + less
+counted_back text from to feeds less counted low is = omega (arith, counted, is, feeds_on text to from low)

@@ -171,6 +171,11 @@ first_within style arena ids place column lines i d within a =
     let n = next_needs style arena ids place column lines i d within a in
     omega (arith, n.some, n.within)
 
+-- and of their tokens
+pub first_among : (style : Style) (arena : Contents) (ids : List ℕ) (toks : List LineTok) (place column : ℕ) (lines : List ULine) (i : ℕ) (d : ULine) → length toks ≡ length ids → i < length lines
+    → IsAhead style arena ids place column (drop i lines) → (get_or lines i d).first < length toks
+first_among style arena ids toks place column lines i d many within a = omega (arith, first_within style arena ids place column lines i d within a, many)
+
 -- so its first item is one of the text
 pub first_there : (style : Style) (arena : Contents) (ids : List ℕ) (place column : ℕ) (lines : List ULine) (i : ℕ) (d : ULine) (id : ℕ) → i < length lines → IsAhead style arena ids place column (drop i lines) → AreWithin arena ids
     → id ≡ get_or ids (get_or lines i d).first 0 → id < length arena.tokens

@@ -18,12 +18,12 @@ ghost use Rattle.run_layout.specs.RunsLaid.{IsRunLaid};
 ghost use Rattle.run_layout.specs.Told.{IsLaid};
 
 use crate::broken::{fixed_of, write_broken};
+use crate::decided::is_decided;
 use crate::first::decide_first;
 use crate::laid::Laid;
 use crate::report::{Tally, note_line};
 use crate::reported::{InputCursor, report_line};
 use crate::row::{end_of, first_start, is_row, token_at, write_row};
-use crate::decided::is_decided;
 use brackets::TokenClass;
 use break_search::{Outcome, least_breaks, search};
 use bumpalo::Bump;

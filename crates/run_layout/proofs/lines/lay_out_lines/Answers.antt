@@ -2,7 +2,7 @@ use Rattle.std.proofs.Common.{◌≡◌, ◌∙◌, ◌+◌, ◌<◌, ◌≤◌,
 use Rattle.std.proofs.Math.ListN.{drop_of_length-le}
 use Rattle.run_layout.specs.Rows.{item_at}
 use Rattle.run_layout.proofs.Telling.{stand_for_items}
-use Rattle.run_layout.proofs.RunSteps.{lines_begin, line_done, lines_end, ahead_more, next_needs, first_within, first_there, first_told}
+use Rattle.run_layout.proofs.RunSteps.{lines_begin, line_done, lines_end, ahead_more, next_needs, first_within, first_among, first_there, first_told}
 use Rattle.run_layout.proofs.lines.lay_out_lines.Goals as goal
 
 pub lay_out_line-requires-clause-places : goal.lay_out_line-requires-clause-places
@@ -14,8 +14,7 @@ lay_out_line-requires-clause-tell c = stand_for_items c.args.arena.now c.args.vi
 
 pub token_at-requires : goal.token_at-requires
 token_at-requires c =
-    let within = first_within c.args.style.now c.args.arena.now c.args.view.now c.loop-line.cursor.place c.loop-line.cursor.column c.args.lines.now c.loop-line.line-index _ c.loop-line-test.true c.loop-line.invariant.ahead in
-    omega (arith, within, c.requires.count)
+    first_among c.args.style.now c.args.arena.now c.args.view.now c.args.toks.now c.loop-line.cursor.place c.loop-line.cursor.column c.args.lines.now c.loop-line.line-index _ c.requires.count c.loop-line-test.true c.loop-line.invariant.ahead
 
 pub note_line-requires-clause-within : goal.note_line-requires-clause-within
 note_line-requires-clause-within c =
