@@ -8,7 +8,7 @@ use crate::fixtures::{all_items, items_around, read_view, style};
 use bumpalo::Bump;
 use gap_text::Decision;
 use replacements::{Decided, Plan};
-use run_layout::{Report, Tally, lay_out_lines, lay_out_run};
+use run_layout::{Report, Tally, lay_out_lines};
 use std::alloc::Global;
 use std::process::Abort;
 use std::test::Fail;
@@ -172,15 +172,22 @@ fn is_laid_out(
     let style = style(named)?;
     let told = read_view(&style, arena, view, run)?;
     let mut plan = Plan::make(arena, run)?;
-    lay_out_run(
+    assert!(rt; told.lines.len() < 1_000);
+    let mut tally = Tally::new(run);
+    lay_out_lines(
+        alloc,
         &style,
+        1_000,
         arena,
         view,
         told.classes,
         told.tokens,
+        0,
         told.lines,
         &mut plan,
-    );
+        &mut tally,
+        run,
+    )?;
     let text = drawn(rt, alloc, arena, view, &plan)?;
     assert!(rt; text.as_slice() == want.as_bytes(), "{name}");
     Ok(())
@@ -221,15 +228,22 @@ fn goes_on_from_what_is_decided(rt: HostRuntime) -> Result<(), Fail> {
     let told = read_view(&style, &arena, &view, &run)?;
     let mut plan = Plan::make(&arena, &run)?;
     assert_eq!(rt; plan.decide(1, Decision::Old, 9), Decided::New);
-    lay_out_run(
+    assert!(rt; told.lines.len() < 1_000);
+    let mut tally = Tally::new(&run);
+    lay_out_lines(
+        rt.alloc(),
         &style,
+        1_000,
         &arena,
         &view,
         told.classes,
         told.tokens,
+        0,
         told.lines,
         &mut plan,
-    );
+        &mut tally,
+        &run,
+    )?;
     for (place, decision, end) in [(1, Decision::Old, 9), (2, Decision::Spaces(1), 11)] {
         let slot = plan.slot(place).ok_or("a decision")?;
         assert_eq!(rt; slot.decision, decision, "{place}");
@@ -338,11 +352,7 @@ fn is_searched(rt: &impl Abort, alloc: Global, run: &Bump, row: &Searched) -> Re
     let told = read_view(&style, &arena, &view, run)?;
     assert!(rt; told.lines.len() < 1_000);
     let mut plan = Plan::make(&arena, run)?;
-    let mut tally = Tally {
-        reports: Vec::new(run),
-        searched: 0,
-        cost: 0,
-    };
+    let mut tally = Tally::new(run);
     lay_out_lines(
         alloc,
         &style,
