@@ -1,5 +1,5 @@
 -- How many cells the search of a line may have: docs/PROFILE.md, "Words of the command".
-use Rattle.std.specs.Prelude.{ℕ, Bool, Option, Some, None, List, ◌&&◌, length, nat_le, if◌then◌else◌}
+use Rattle.std.specs.Prelude.{ℕ, Bool, Option, Some, None, ◌&&◌, length, nat_le, if◌then◌else◌}
 use Rattle.std.specs.Char.{is_digit}
 use Rattle.std.specs.List.{list_all}
 use Rattle.std.specs.Str.Parse.{digits_value}

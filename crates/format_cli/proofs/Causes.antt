@@ -1,5 +1,5 @@
 -- Why an input is refused, from why its text is.
-use Rattle.std.proofs.Common.{◌≡◌, ◌≢◌, ◌<◌, ℕ, List, Some, None, length, inl, inr, subst, sym, codes, IfSome, Bool, true, false, not, ◌∙◌, ap, refl}
+use Rattle.std.proofs.Common.{◌≡◌, ◌≢◌, ◌<◌, ℕ, List, Some, None, length, inr, subst, sym, codes, IfSome, Bool, true, false, not, ◌∙◌, ap, refl}
 use Rattle.std.proofs.lemmas.Bool.{false≢true}
 use Rattle.std.specs.declared.option.Option.{Option}
 use Rattle.fmt_ports.specs.Files.{Held, KeepsAll, KeepsOthers}

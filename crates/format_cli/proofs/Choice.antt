@@ -1,12 +1,10 @@
 -- Words say one thing.
-use Rattle.std.proofs.Common.{◌≡◌, ◌⊎◌, ◌++◌, ◌∙◌, ℕ, Bool, true, false, List, None, Some, Ok, IsTrue, IsFalse, sym, subst, inl, inr, codes}
+use Rattle.std.proofs.Common.{◌≡◌, ◌⊎◌, ◌++◌, ◌∙◌, ℕ, List, None, Some, Ok, IsTrue, IsFalse, sym, subst, codes}
 use Rattle.std.specs.Prelude.{⊤}
 use Rattle.std.proofs.lemmas.List.{append_cancel_left}
 use Rattle.std.proofs.lemmas.Bool.{false≢true}
-use Rattle.std.specs.declared.option.Option.{Option}
 use Rattle.fmt_ports.specs.Files.{Held}
 use Rattle.style_table.specs.declared.style.Style.{Style}
-use Rattle.command_words.specs.Command.{rows_of_words}
 use Rattle.command_words.specs.Said.{Chooses, Reads}
 use Rattle.command_words.specs.declared.read.Words.{Words}
 use Rattle.command_words.specs.declared.read.StyleChoice.{StyleChoice}

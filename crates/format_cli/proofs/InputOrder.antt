@@ -1,8 +1,7 @@
 -- What names and bytes tell of the inputs decides how they end.
-use Rattle.std.proofs.Common.{◌≡◌, ◌≢◌, ◌⊎◌, ◌∙◌, ◌<◌, ◌≤◌, ℕ, List, [], ◌∷◌, Some, None, refl, sym, ap, subst, inl, inr, length, IsSomeAnd, IfSome, arith}
+use Rattle.std.proofs.Common.{◌≡◌, ◌≢◌, ◌⊎◌, ◌∙◌, ◌<◌, ℕ, List, [], ◌∷◌, Some, None, refl, sym, subst, inl, inr, length, IsSomeAnd, arith}
 use Rattle.std.specs.Prelude.{⊤}
 use Rattle.std.specs.declared.option.Option.{Option}
-use Rattle.std.specs.Borrow.{Bor}
 use Rattle.fmt_ports.specs.Files.{Held, HeldAt, KeepsAll, KeepsOthers}
 use Rattle.c_chars.specs.declared.TheConstants.{LIMIT}
 use Rattle.c_chars.specs.declared.Dialect.TheVariants.{C11}
@@ -14,7 +13,7 @@ use Rattle.format_cli.specs.declared.input.Place.TheVariants.{Output, Itself}
 use Rattle.format_cli.specs.declared.refusal.Refusal.{Refusal}
 use Rattle.format_cli.specs.declared.refusal.Refusal.TheVariants.{BadWords, BadStates, NoInput, UnknownStyle, LongConfiguration, BadConfiguration, TooLarge, OpenComment, SourceFailed, FileFailed, OutFailed, NotesFailed, Missing, NoMemory}
 use Rattle.format_cli.specs.InForce.{IsHeld}
-use Rattle.format_cli.specs.Inputs.{AreDone, AreRefused, Ends, IsDone, IsFileCause, IsFileRefused, IsFormatted, IsSourceDone, IsSourceRefused, IsTold, PutFails}
+use Rattle.format_cli.specs.Inputs.{AreDone, AreRefused, Ends, IsDone, IsFileCause, IsFileRefused, IsFormatted, IsSourceDone, IsSourceRefused, PutFails}
 use Rattle.format_cli.specs.Notes.{status_of}
 use Rattle.format_cli.specs.Order.{AreDifferent, FilesStop, IsBadText, IsThere, Tells}
 use Rattle.format_cli.specs.Statuses.{IsOneOf}

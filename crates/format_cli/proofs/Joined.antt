@@ -1,14 +1,11 @@
 -- What the output and the notes take of several FILEs.
-use Rattle.std.proofs.Common.{◌≡◌, ◌∙◌, ℕ, List, [], ◌∷◌, ◌++◌, Some, None, refl, sym, append-nil}
+use Rattle.std.proofs.Common.{◌∙◌, ℕ, List, [], ◌∷◌, Some, None, refl, sym}
 use Rattle.std.specs.List.{concat}
-use Rattle.std.specs.declared.option.Option.{Option}
 use Rattle.std.proofs.KnownBytes.{Appends-trans}
-use Rattle.std.specs.Io.KnownBytes.{Appends, Keeps}
 use Rattle.fmt_ports.specs.Files.{Held, KeepsAll}
 use Rattle.format_cli.specs.declared.input.Options.{Options}
-use Rattle.format_cli.specs.declared.input.Place.TheVariants.{Output}
 use Rattle.format_cli.specs.InForce.{IsHeld}
-use Rattle.format_cli.specs.Inputs.{AreDone, Ends, rows_told}
+use Rattle.format_cli.specs.Inputs.{rows_told}
 use Rattle.format_cli.specs.Joined.{AreFormatted, OutputsAreJoined}
 use Rattle.format_cli.proofs.Ends.{takes_nothing}
 

@@ -2,6 +2,8 @@ mod Rest
 mod Ends
 mod Counts
 mod Causes
+mod ReportRows
+mod Done
 mod Statuses
 mod Kept
 mod Choice

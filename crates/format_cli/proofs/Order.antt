@@ -1,6 +1,5 @@
 -- What the words, names and bytes tell decides how a call ends.
-use Rattle.std.proofs.Common.{◌≡◌, ◌≢◌, ◌⊎◌, ◌∙◌, ◌++◌, ◌≤◌, ◌+◌, ◌-◌, ◌^◌, ℕ, Bool, true, false, List, [], ◌∷◌, Some, None, Ok, Err, IsTrue, IsFalse, OnOk, MatchResult, refl, sym, subst, inl, inr, append-nil, le_trans, min, arith}
-use Rattle.std.proofs.lemmas.Bool.{false≢true}
+use Rattle.std.proofs.Common.{◌≡◌, ◌⊎◌, ◌∙◌, ◌++◌, ◌≤◌, ℕ, Bool, true, false, List, [], Ok, Err, IsTrue, IsFalse, OnOk, refl, sym, subst, inl, inr, le_trans}
 use Rattle.std.proofs.KnownBytes.{Appends-trans}
 use Rattle.std.specs.declared.option.Option.{Option}
 use Rattle.std.specs.declared.result.Result.{Result}
@@ -9,9 +8,7 @@ use Rattle.fmt_ports.specs.Causes.{AppendsPart, Counts, Rose}
 use Rattle.fmt_ports.specs.Files.{Held}
 use Rattle.style_table.specs.declared.style.Style.{Style}
 use Rattle.command_words.specs.declared.read.Words.{Words}
-use Rattle.command_words.specs.Command.{rows_of_words}
 use Rattle.command_words.specs.Said.{Reads}
-use Rattle.format_cli.specs.declared.input.Place.{Place}
 use Rattle.format_cli.specs.declared.refusal.Refusal.{Refusal}
 use Rattle.format_cli.specs.declared.refusal.Refusal.TheVariants.{BadWords, BadStates, NoInput, UnknownStyle, LongConfiguration, BadConfiguration, TooLarge, OpenComment, SourceFailed, FileFailed, OutFailed, NotesFailed, Missing, NoMemory}
 use Rattle.format_cli.specs.Account.{AreWordsRefused, EndsWell, IsBegun, IsNotPerformed, IsPerformed, IsRefused, World, files_of, options_of, place_of}
@@ -27,7 +24,7 @@ use Rattle.format_cli.proofs.InputOrder.{AreOnce, files_end, files_stay, source_
 -- words that say something are refused only for want of memory
 read_words : (words : List (List ℕ)) (said : Words) (refusal : Refusal) → AreWordsRefused words refusal → Reads words (Ok said) → status_of refusal ≡ 7
 read_words words said BadWords k reads = absurd (k reads.0)
-read_words words said (BadStates word) k reads = absurd (no_budget (rows_of_words words) word.now said k.1 reads.2)
+read_words words said (BadStates word) k reads = absurd (no_budget words word.now said k.1 reads.2)
 read_words words said NoInput k reads = absurd (reads.1 k.2)
 read_words words said (UnknownStyle unknown) k reads = absurd k
 read_words words said (LongConfiguration file) k reads = absurd k

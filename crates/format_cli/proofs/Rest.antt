@@ -5,8 +5,7 @@ use Rattle.std.proofs.lemmas.Grind.{common_steps}
 use Rattle.std.specs.declared.result.Result.{Result}
 use Rattle.std.specs.Borrow.{Bor}
 use Rattle.style_config.specs.declared.skipped.SkippedKey.{SkippedKey}
-use Rattle.run_layout.specs.declared.report.Report.{Report}
-use Rattle.format_cli.specs.Notes.{report_row, report_rows, skipped_row, skipped_rows}
+use Rattle.format_cli.specs.Notes.{skipped_row, skipped_rows}
 
 -- the rest begins with the element at its place
 pub rest_step : {A : Type 0} (xs : List A) (i : ℕ) (x : A) → i < length xs → get_or xs i x ≡ x → drop i xs ≡ x ∷ drop (i + 1) xs
@@ -27,11 +26,6 @@ rest_end xs i h = grind (arith, common_steps)
 pub rows_step : (file : List ℕ) (keys : List SkippedKey) (i : ℕ) (key : SkippedKey) → i < length keys → get_or keys i key ≡ key →
     skipped_rows file (drop i keys) ≡ skipped_row file key ++ skipped_rows file (drop (i + 1) keys)
 rows_step file keys i key h e = ap (skipped_rows file) (rest_step keys i key h e)
-
--- the rows of the reports that are left
-pub reports_step : (name : List ℕ) (budget : ℕ) (reports : List Report) (i : ℕ) (report : Report) → i < length reports → get_or reports i report ≡ report →
-    report_rows name budget (drop i reports) ≡ report_row name budget report ++ report_rows name budget (drop (i + 1) reports)
-reports_step name budget reports i report h e = ap (report_rows name budget) (rest_step reports i report h e)
 
 -- what holds on success, whatever is answered then
 pub on_ok : {T E : Type 0} (P : Type 0) (r : Result T E) → IfOk r (λ _. P) → OnOk r P
@@ -54,3 +48,7 @@ passed (Err y) e h = rw h.1
 pub ok_follows : {T E : Type 0} (P Q : T → Type 0) (r : Result T E) → ((v : T) → P v → Q v) → IfOk r P → IfOk r Q
 ok_follows P Q (Ok v) f p = f v p
 ok_follows P Q (Err e) f p = p
+
+pub on_map : {T E : Type 0} (P Q : Type 0) (r : Result T E) → (P → Q) → OnOk r P → OnOk r Q
+on_map P Q (Ok v) f p = f p
+on_map P Q (Err e) f p = p

@@ -4,7 +4,6 @@ use Rattle.std.specs.Prelude.{⊤}
 use Rattle.std.specs.declared.option.Option.{Option}
 use Rattle.fmt_ports.specs.Causes.{Rose}
 use Rattle.style_table.specs.declared.style.Style.{Style}
-use Rattle.clap.specs.Words.{Row}
 use Rattle.command_words.specs.Budget.{budget_of}
 use Rattle.command_words.specs.Command.{rows_of_words}
 use Rattle.command_words.specs.declared.read.Words.{Words}
@@ -288,13 +287,13 @@ bad_words words before now (Missing file) is k = absurd (cc)
 bad_words words before now NoMemory is k = absurd (cc)
 
 -- a value that tells no budget isn't said
-pub no_budget : (rows : List Row) (word : List ℕ) (said : Words) → HasBadStates rows word → Says rows said → ⊥
-no_budget rows word said bad says = let e : Some said.budget ≡ None = sym says.budget ∙ (ap budget_of bad.given ∙ bad.bad) in cc
+pub no_budget : (words : List (List ℕ)) (word : List ℕ) (said : Words) → HasBadStates (rows_of_words words) word → Says (rows_of_words words) said → ⊥
+no_budget words word said bad says = let e : Some said.budget ≡ None = sym says.budget ∙ (ap budget_of bad.given ∙ bad.bad) in cc
 
 -- bad words say nothing
 pub not_read : (words : List (List ℕ)) (said : Words) → AreBadWords words → Reads words (Ok said) → ⊥
 not_read words said (inl bad) reads = bad reads.0
-not_read words said (inr (inl bad)) reads = no_budget (rows_of_words words) bad.1.0 said bad.1.1 reads.2
+not_read words said (inr (inl bad)) reads = no_budget words bad.1.0 said bad.1.1 reads.2
 not_read words said (inr (inr bad)) reads = reads.1 bad.2
 
 -- bad words give status 2, or memory ran out

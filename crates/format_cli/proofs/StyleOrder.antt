@@ -1,7 +1,6 @@
 -- What names and bytes tell of the style decides how its choice ends.
-use Rattle.std.proofs.Common.{◌≡◌, ◌≢◌, ◌⊎◌, ◌∙◌, ◌<◌, ◌≤◌, ℕ, List, Some, None, Ok, Err, refl, sym, ap, subst, inl, inr, length, IsSomeAnd, arith}
+use Rattle.std.proofs.Common.{◌≡◌, ◌≢◌, ◌⊎◌, ◌∙◌, ◌<◌, ℕ, List, Some, None, Ok, Err, refl, sym, ap, subst, inl, inr, length, IsSomeAnd, arith}
 use Rattle.std.specs.declared.option.Option.{Option}
-use Rattle.std.specs.declared.result.Result.{Result}
 use Rattle.fmt_ports.specs.Files.{Held, HeldAt}
 use Rattle.style_table.specs.declared.style.Style.{Style}
 use Rattle.style_table.specs.Named.{named}

@@ -1,5 +1,5 @@
 -- Which refusal comes first, as names and bytes tell it: README.md, "Use".
-use Rattle.std.specs.Prelude.{◌≡◌, ◌≢◌, ◌≤◌, ◌<◌, ◌⊎◌, ⊤, ℕ, List, [], ◌∷◌, ◌++◌, Option, Some, None, Ok, IsTrue, IsFalse, length}
+use Rattle.std.specs.Prelude.{◌≡◌, ◌≢◌, ◌<◌, ◌⊎◌, ⊤, ℕ, List, [], ◌∷◌, ◌++◌, Option, Some, None, Ok, IsTrue, IsFalse, length}
 use Rattle.std.specs.Io.KnownBytes.{Appends}
 use Rattle.fmt_ports.specs.Files.{Held}
 use Rattle.c_chars.specs.declared.TheConstants.{LIMIT}

@@ -1,5 +1,5 @@
 -- Each decision for a line that is broken may stand.
-use Rattle.std.proofs.Common.{◌≡◌, ◌∙◌, ◌==◌, ◌⊎◌, inl, inr, ◌||◌, ◌&&◌, not, ℕ, zero, suc, ◌+◌, ◌-◌, ◌<◌, ◌≤◌, Bool, true, false, Option, Some, None, List, [], ◌∷◌, length, get_or, take, drop, refl, sym, ap, arith, subst}
+use Rattle.std.proofs.Common.{◌≡◌, ◌∙◌, ◌==◌, ◌⊎◌, inl, inr, ◌||◌, ◌&&◌, not, ℕ, zero, suc, ◌+◌, ◌-◌, ◌<◌, Bool, true, false, Option, Some, None, List, [], ◌∷◌, length, get_or, drop, refl, sym, ap, arith, subst}
 use Rattle.std.specs.Prelude.{if◌then◌else◌, slice_get, IsTrue, IsFalse}
 use Rattle.std.proofs.lemmas.Bool.{or_parts}
 use Rattle.std.proofs.lemmas.Bool.Decides.{nat_tests}
@@ -18,16 +18,14 @@ use Rattle.penalties.specs.Breaks.{ends_its_row, gap_rule}
 use Rattle.penalties.proofs.Needs.{needs_none}
 use Rattle.line_state.specs.declared.gap.Gap.{Gap}
 use Rattle.line_state.specs.Layout.{Layout, is_allowed, is_decided, is_some_decision, as_decided, keeps_frame_rules, layout_after, start_of}
-use Rattle.line_state.specs.Line.{Line, Step, gap_at}
-use Rattle.line_state.proofs.Steps.{IsGap, IsPlacing, is_gap, placing}
+use Rattle.line_state.specs.Line.{Line, Step}
+use Rattle.line_state.proofs.Steps.{IsGap, is_gap, placing}
 use Rattle.token_arena.specs.Stored.{Stored}
 use Rattle.token_arena.specs.Gaps.{Contents}
 use Rattle.brackets.specs.Viewed.{AreWithin}
 use Rattle.unwrapped_lines.specs.declared.line.ULine.{ULine}
-use Rattle.gap_text.specs.declared.Decision.{Decision}
-use Rattle.gap_text.specs.declared.Decision.TheVariants.{Spaces, Lines}
+use Rattle.gap_text.specs.declared.Decision.TheVariants.{Spaces}
 use Rattle.replacements.specs.declared.slot.Slot.{Slot}
-use Rattle.replacements.specs.declared.stance.Stance.{Stance}
 use Rattle.replacements.specs.declared.stance.Stance.TheVariants.{OfText}
 use Rattle.replacements.specs.Places.{place_in}
 use Rattle.replacements.specs.Sound.{MayJoin, MayStandBetween, MayStand}

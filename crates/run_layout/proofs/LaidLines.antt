@@ -1,6 +1,6 @@
 -- What holds behind the lines of a run, whichever of them are reported.
 use Rattle.std.proofs.Common.{◌≡◌, ◌∙◌, ◌⊎◌, inl, inr, ℕ, zero, suc, ◌+◌, ◌-◌, ◌<◌, ◌≤◌, Bool, true, false, Option, Some, None, List, [], ◌∷◌, length, map, get_or, refl, sym, ap, arith, subst}
-use Rattle.std.specs.Prelude.{All, IsSome, slice_get, if◌then◌else◌}
+use Rattle.std.specs.Prelude.{All, slice_get, if◌then◌else◌}
 use Rattle.std.proofs.lemmas.List.{get_or_default}
 use Rattle.std.proofs.lemmas.Option.{slice_get-get_or}
 use Rattle.least_breaking.specs.Choices.{Leads}
@@ -9,22 +9,20 @@ use Rattle.line_tokens.specs.declared.LineTok.{LineTok}
 use Rattle.line_tokens.specs.declared.Fixed.{Fixed}
 use Rattle.line_state.specs.declared.gap.Gap.{Gap}
 use Rattle.line_state.specs.Layout.{Layout, is_decided, is_some_decision, layout_after}
-use Rattle.line_state.specs.Line.{Line, Step, gap_at, gaps, decision_at, joined, first_layout}
+use Rattle.line_state.specs.Line.{Line, Step, gaps, decision_at, joined, first_layout}
 use Rattle.line_state.proofs.Steps.{is_gap, placing, first_index}
 use Rattle.token_arena.specs.Gaps.{Contents}
 use Rattle.brackets.specs.Viewed.{AreWithin}
 use Rattle.unwrapped_lines.specs.declared.line.ULine.{ULine}
 use Rattle.unwrapped_lines.specs.Lines.{CutPlaces}
-use Rattle.gap_text.specs.declared.Decision.TheVariants.{Old}
 use Rattle.replacements.specs.declared.slot.Slot.{Slot}
 use Rattle.replacements.specs.Breaks.{fixed_by}
 use Rattle.replacements.specs.Decisions.{slot_of, decided_all}
-use Rattle.replacements.specs.Sound.{MayStand, IsSound}
+use Rattle.replacements.specs.Sound.{IsSound}
 use Rattle.replacements.proofs.Firsts.{stay}
 use Rattle.run_layout.specs.Tells.{StandForItems}
 use Rattle.run_layout.specs.Rows as rows
-use Rattle.run_layout.specs.OpenGaps.{AreDecided}
-use Rattle.run_layout.specs.InputColumns.{input_before, input_column, input_behind, old_from}
+use Rattle.run_layout.specs.InputColumns.{input_before, input_behind, old_from}
 use Rattle.run_layout.specs.Broken.{of_line, broken_line, first_made, broken_made, inside_slot, made_if_open, made_at, inside_made}
 use Rattle.run_layout.specs.Outcomes.{LineOutcome, Kept, Only, Least, Over, LaidLine, ComesOf, reported_made, outcome_made, AfterLines}
 use Rattle.run_layout.specs.Laws.{AreOfTexts, LinesStaySound, LinesKeep, LinesDecide}

@@ -1,26 +1,24 @@
 -- A line as it is broken, as the code reads it.
-use Rattle.std.proofs.Common.{◌≡◌, ◌∙◌, ◌⊎◌, inl, inr, ℕ, zero, suc, ◌+◌, ◌-◌, ◌<◌, ◌≤◌, Bool, Option, Some, None, List, [], ◌∷◌, length, map, get_or, take, drop, refl, sym, ap, arith, subst, slice_get}
+use Rattle.std.proofs.Common.{◌≡◌, ◌∙◌, ℕ, zero, suc, ◌+◌, ◌-◌, ◌<◌, Option, Some, None, List, [], ◌∷◌, length, map, get_or, take, drop, refl, sym, ap, arith, slice_get}
 use Rattle.std.proofs.lemmas.List.{take-map, drop-map}
-use Rattle.std.proofs.lemmas.Option.{slice_get-get_or, get_or_from_slice_get, slice_get_within}
 use Rattle.least_breaking.specs.Choices.{IsLeast}
 use Rattle.least_breaking.proofs.Thrift.{thrifty_least}
 use Rattle.style_table.specs.declared.style.Style.{Style}
 use Rattle.line_tokens.specs.declared.LineTok.{LineTok}
 use Rattle.line_tokens.specs.declared.Fixed.{Fixed}
 use Rattle.line_state.specs.Layout.{Layout, stored_or, end_of}
-use Rattle.line_state.specs.Line.{Line, Step, gaps, decision_at, joined, first_layout}
+use Rattle.line_state.specs.Line.{Step, gaps, joined, first_layout}
 use Rattle.line_state.proofs.Steps.{first_index, functional}
 use Rattle.token_arena.specs.Gaps.{Contents}
 use Rattle.unwrapped_lines.specs.declared.line.ULine.{ULine}
 use Rattle.indenter.specs.Rows.{start_column}
 use Rattle.replacements.specs.declared.slot.Slot.{Slot}
 use Rattle.replacements.specs.Breaks.{fixed_by}
-use Rattle.replacements.specs.Decisions.{slot_of, decided_all}
+use Rattle.replacements.specs.Decisions.{slot_of}
 use Rattle.run_layout.specs.Rows.{no_tok}
 use Rattle.run_layout.specs.Tells.{StandForItems}
 use Rattle.run_layout.specs.Broken.{number, fixed_of_token, of_line, broken_line, inside_made}
-use Rattle.run_layout.specs.OneRow.{AreOpenInside, IsOneRow, IsRow, IsRowLine, row_made, stays}
-use Rattle.run_layout.proofs.BrokenLines.{get_or_of_line, length_of_line}
+use Rattle.run_layout.specs.OneRow.{AreOpenInside, IsRow, IsRowLine, row_made, stays}
 use Rattle.run_layout.proofs.OneRow.{AreNumbers, row_is_made}
 use Rattle.run_layout.proofs.RowSteps.{row_begins}
 

@@ -1,12 +1,11 @@
 -- What a line that is searched comes to, as the code makes it.
-use Rattle.std.proofs.Common.{◌≡◌, ◌∙◌, ℕ, ◌+◌, ◌-◌, ◌<◌, ◌≤◌, Bool, Option, List, ◌∷◌, length, map, refl, sym, ap, arith, subst}
+use Rattle.std.proofs.Common.{◌≡◌, ◌∙◌, ℕ, ◌<◌, Bool, Option, List, ◌∷◌, length, map, refl, sym, ap, arith, subst}
 use Rattle.style_table.specs.declared.style.Style.{Style}
 use Rattle.line_tokens.specs.declared.LineTok.{LineTok}
 use Rattle.line_tokens.specs.declared.Fixed.{Fixed}
 use Rattle.line_state.specs.Line.{Line, first_layout}
-use Rattle.break_search.specs.Outcome.{line_of, IsFound, IsOver, IsOutcome}
+use Rattle.break_search.specs.Outcome.{line_of, IsFound, IsOver}
 use Rattle.break_search.specs.Starts.{IsAdmissible}
-use Rattle.break_search.specs.declared.outcome.Outcome.{Outcome}
 use Rattle.token_arena.specs.Gaps.{Contents}
 use Rattle.unwrapped_lines.specs.declared.line.ULine.{ULine}
 use Rattle.indenter.specs.Rows.{start_column}

@@ -1,16 +1,14 @@
 -- Without a limit of columns one breaking is admissible.
-use Rattle.std.proofs.Common.{◌≡◌, ◌∙◌, ◌==◌, ℕ, ◌<◌, Bool, true, false, not, ◌||◌, Option, Some, None, List, [], ◌∷◌, length, refl, sym, ap, arith, subst, eq-eqb}
+use Rattle.std.proofs.Common.{◌≡◌, ◌∙◌, Bool, true, false, not, Option, Some, None, List, [], ◌∷◌, refl, sym, ap, arith, subst}
 use Rattle.std.specs.Prelude.{if◌then◌else◌}
 use Rattle.least_breaking.specs.Choices.{Leads}
 use Rattle.style_table.specs.declared.style.Style.{Style}
-use Rattle.line_tokens.specs.declared.LineTok.{LineTok}
 use Rattle.line_tokens.specs.declared.Fixed.{Fixed}
-use Rattle.line_tokens.specs.Roles.{is_own}
 use Rattle.penalties.specs.Breaks.{gap_rule}
 use Rattle.penalties.proofs.Needs.{no_choice}
 use Rattle.line_state.specs.declared.gap.Gap.{Gap}
 use Rattle.line_state.specs.Layout.{Layout, is_allowed, as_decided, keeps_frame_rules, layout_after}
-use Rattle.line_state.specs.Line.{Line, Step, gap_at}
+use Rattle.line_state.specs.Line.{Step}
 use Rattle.line_state.proofs.Steps.{is_gap, placing}
 use Rattle.run_layout.specs.Laws.{OneBreakingIsAdmissible}
 

@@ -1,5 +1,5 @@
 -- A line on one row is the least breaking.
-use Rattle.std.proofs.Common.{◌≡◌, ◌∙◌, ◌==◌, ◌⊎◌, inl, inr, ℕ, zero, suc, ◌+◌, ◌-◌, ◌*◌, ◌<◌, ◌≤◌, min, Bool, true, false, cond, not, ◌&&◌, Option, Some, None, List, [], ◌∷◌, ◌++◌, length, length-append, get_or, take, drop, replicate, refl, sym, ap, arith, subst, slice_get, slice_set}
+use Rattle.std.proofs.Common.{◌≡◌, ◌∙◌, ◌⊎◌, inl, inr, ℕ, zero, suc, ◌+◌, ◌-◌, ◌*◌, ◌<◌, ◌≤◌, min, Bool, true, false, cond, not, ◌&&◌, Option, Some, None, List, [], ◌∷◌, ◌++◌, length, length-append, get_or, take, drop, refl, sym, ap, arith, subst, slice_get, slice_set}
 use Rattle.std.specs.Prelude.{if◌then◌else◌}
 use Rattle.std.proofs.Math.ListN.{drop_of_length-le}
 use Rattle.std.proofs.Math.Seq.{drop-cons}
@@ -14,9 +14,9 @@ use Rattle.line_tokens.specs.declared.Fixed.{Fixed}
 use Rattle.line_state.specs.declared.frames.Frame.{Frame}
 use Rattle.line_state.specs.declared.gap.Gap.{Gap}
 use Rattle.line_state.specs.Brackets.{opens_frame}
-use Rattle.line_state.specs.Layout.{Layout, spot_of, columns, start_layout, is_allowed, is_some_decision, layout_after, cost_of, gap_cost, is_free, excess_at, excess, end_of, start_of, broken_start, stored_or, open_frames, topmost, with_topmost, with_opened, new_frame, placed_frames, opened_frame, comma_frame, is_after_opener, frames_after, cells_of}
+use Rattle.line_state.specs.Layout.{Layout, spot_of, columns, start_layout, is_allowed, is_some_decision, layout_after, cost_of, gap_cost, is_free, excess_at, end_of, start_of, broken_start, stored_or, open_frames, topmost, new_frame, placed_frames, opened_frame, comma_frame, is_after_opener, frames_after, cells_of}
 use Rattle.line_state.specs.Line.{Line, Step, gaps, gap_at, gap_between, decision_at, first_layout, first_cost, step_over}
-use Rattle.line_state.proofs.Steps.{StayTogether, IsFirst, is_first, stored, least_of, least_allowed, least_stays, functional, placing}
+use Rattle.line_state.proofs.Steps.{StayTogether, is_first, stored, least_of, least_allowed, least_stays, functional, placing}
 use Rattle.penalties.specs.Breaks.{gap_rule}
 use Rattle.spacing.specs.Spaces.{spaces_before}
 use Rattle.break_search.specs.Outcome.{own_cells, own_cells_by, IsFound}

@@ -1,12 +1,12 @@
 -- What the test of a line on one row has found so far.
-use Rattle.std.proofs.Common.{◌≡◌, ◌∙◌, ◌⊎◌, inl, inr, ℕ, suc, ◌+◌, ◌-◌, ◌<◌, ◌≤◌, Bool, true, false, Option, Some, None, List, ◌∷◌, length, drop, refl, sym, ap, arith, subst, slice_get}
+use Rattle.std.proofs.Common.{◌≡◌, ◌∙◌, inl, inr, ℕ, suc, ◌+◌, ◌<◌, ◌≤◌, false, Option, Some, None, List, ◌∷◌, length, drop, refl, sym, ap, arith, subst, slice_get}
 use Rattle.std.proofs.Math.Seq.{drop-cons}
 use Rattle.std.proofs.lemmas.Option.{get_or_from_slice_get, slice_get_within}
 use Rattle.style_table.specs.declared.style.Style.{Style}
 use Rattle.line_tokens.specs.declared.LineTok.{LineTok}
 use Rattle.line_tokens.specs.declared.Fixed.{Fixed}
 use Rattle.line_state.specs.Layout.{columns, end_of, stored_or}
-use Rattle.line_state.specs.Line.{Line, gaps, decision_at, first_cost}
+use Rattle.line_state.specs.Line.{Line, decision_at, first_cost}
 use Rattle.penalties.specs.Breaks.{gap_rule}
 use Rattle.spacing.specs.Spaces.{spaces_before}
 use Rattle.gap_text.specs.declared.Decision.TheVariants.{Spaces}

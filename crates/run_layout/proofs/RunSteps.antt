@@ -2,7 +2,7 @@
 use Rattle.std.specs.Prelude.{Some, slice_get}
 use Rattle.std.proofs.lemmas.List.{append-nil}
 use Rattle.std.proofs.lemmas.Option.{get_or_from_slice_get}
-use Rattle.std.proofs.Common.{◌≡◌, ◌∙◌, ℕ, suc, ◌+◌, ◌*◌, ◌<◌, ◌≤◌, Option, List, [], ◌∷◌, ◌++◌, length, get_or, drop, append_assoc, refl, sym, ap, arith, subst}
+use Rattle.std.proofs.Common.{◌≡◌, ◌∙◌, ℕ, suc, ◌+◌, ◌<◌, ◌≤◌, Option, List, [], ◌∷◌, ◌++◌, length, get_or, drop, append_assoc, refl, sym, ap, arith, subst}
 use Rattle.std.proofs.Math.Seq.{drop-cons}
 use Rattle.style_table.specs.declared.style.Style.{Style}
 use Rattle.line_tokens.specs.declared.LineTok.{LineTok}
@@ -18,7 +18,7 @@ use Rattle.run_layout.specs.Tells.{StandForItems}
 use Rattle.run_layout.proofs.Walked.{cut_before}
 use Rattle.run_layout.specs.Outcomes.{LineOutcome, Kept, Only, Least, Over, LaidLine, AfterLines, outcome_made, row_of}
 use Rattle.run_layout.specs.Reports.{report_by, searched_by, cost_by, reports_of, searched_of, cost_of, report_told, searched_told, cost_told}
-use Rattle.run_layout.specs.RunsLaid.{IsToldOf, IsRunLaid}
+use Rattle.run_layout.specs.RunsLaid.{IsRunLaid}
 use Rattle.run_layout.specs.Told.{IsTold, IsLaid}
 use Rattle.run_layout.specs.declared.laid.Laid.{Laid}
 use Rattle.run_layout.specs.declared.laid.Laid.TheVariants as laid

@@ -1,5 +1,5 @@
 -- The decisions of a line that is broken, gap by gap.
-use Rattle.std.proofs.Common.{◌≡◌, ◌∙◌, ℕ, zero, suc, ◌+◌, ◌-◌, ◌<◌, ◌≤◌, Bool, true, false, Option, Some, None, List, [], ◌∷◌, length, map, get_or, drop, refl, sym, ap, arith, subst, slice_get}
+use Rattle.std.proofs.Common.{◌≡◌, ◌∙◌, ℕ, zero, suc, ◌+◌, ◌-◌, ◌<◌, Bool, true, false, Option, Some, List, [], ◌∷◌, length, map, get_or, drop, refl, sym, ap, arith, subst, slice_get}
 use Rattle.std.specs.Prelude.{All, if◌then◌else◌}
 use Rattle.std.proofs.lemmas.Option.{slice_get-get_or, get_or_from_slice_get, slice_get_within}
 use Rattle.std.proofs.Math.ListN.{drop_of_length-le}
@@ -9,14 +9,14 @@ use Rattle.style_table.specs.declared.style.Style.{Style}
 use Rattle.line_tokens.specs.declared.LineTok.{LineTok}
 use Rattle.line_tokens.specs.declared.Fixed.{Fixed}
 use Rattle.line_state.specs.declared.gap.Gap.{Gap}
-use Rattle.line_state.specs.Layout.{Layout, is_decided, is_some_decision, layout_after, start_of}
-use Rattle.line_state.specs.Line.{Line, Step, gap_at, gaps, decision_at, joined, first_layout}
-use Rattle.line_state.proofs.Steps.{placing, is_gap, one_more}
+use Rattle.line_state.specs.Layout.{Layout, is_some_decision, layout_after, start_of}
+use Rattle.line_state.specs.Line.{Line, Step, decision_at, joined, first_layout}
+use Rattle.line_state.proofs.Steps.{placing, is_gap}
 use Rattle.break_search.specs.Starts.{IsAdmissible, starts_by, starts_of}
 use Rattle.unwrapped_lines.specs.declared.line.ULine.{ULine}
 use Rattle.replacements.specs.declared.slot.Slot.{Slot}
 use Rattle.replacements.specs.Decisions.{decided, decided_all}
-use Rattle.run_layout.specs.Broken.{number, decision_by, inside_slot, made_if_open, made_at, inside_made}
+use Rattle.run_layout.specs.Broken.{number, decision_by, inside_slot, made_at, inside_made}
 
 -- what is decided while the choices are followed
 pub record IsWritten (l : Line) (line : ULine) (items : List ℕ) (breaks : List Bool) (starts : List ℕ) (plan now : List (Option Slot)) (at : ℕ) : Type 0 where

@@ -1,5 +1,5 @@
 -- Physical lines that are counted along.
-use Rattle.std.specs.Prelude.{◌≡◌, ◌≤◌, List, length, take, count_by}
+use Rattle.std.specs.Prelude.{◌≡◌, ◌≤◌, length, take, count_by}
 use Rattle.token_arena.specs.Gaps.{Contents}
 use Rattle.token_arena.specs.Stored.{is_line_feed}
 use Rattle.run_layout.specs.declared.line_count.LineCount.{LineCount}

@@ -1,5 +1,5 @@
 -- What comes of each line of a run: docs/PROFILE.md, "Layout of lines".
-use Rattle.std.specs.Prelude.{◌≡◌, ◌<◌, ◌≤◌, ℕ, ◌+◌, ◌-◌, Bool, Option, None, List, [], ◌∷◌, get_or, length}
+use Rattle.std.specs.Prelude.{◌≡◌, ◌<◌, ℕ, ◌+◌, ◌-◌, Bool, Option, List, [], ◌∷◌, get_or}
 use Rattle.style_table.specs.declared.style.Style.{Style}
 use Rattle.line_tokens.specs.declared.LineTok.{LineTok}
 use Rattle.break_search.specs.Outcome.{IsFound, IsOver}
@@ -7,7 +7,7 @@ use Rattle.break_search.specs.Starts.{IsAdmissible}
 use Rattle.token_arena.specs.Gaps.{Contents}
 use Rattle.unwrapped_lines.specs.declared.line.ULine.{ULine}
 use Rattle.replacements.specs.declared.slot.Slot.{Slot}
-use Rattle.replacements.specs.Decisions.{slot_of, decided_all}
+use Rattle.replacements.specs.Decisions.{decided_all}
 use Rattle.run_layout.specs.Rows.{item_at}
 pub use Rattle.run_layout.specs.OpenGaps.{AreDecided, IsOpen}
 use Rattle.run_layout.specs.InputColumns.{input_before, input_behind, old_from}

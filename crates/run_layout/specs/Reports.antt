@@ -1,5 +1,5 @@
 -- What is told of the lines of a text.
-use Rattle.std.specs.Prelude.{◌≡◌, ℕ, ◌+◌, List, [], ◌∷◌, ◌++◌}
+use Rattle.std.specs.Prelude.{ℕ, ◌+◌, List, [], ◌∷◌, ◌++◌}
 use Rattle.run_layout.specs.Outcomes.{LineOutcome, Kept, Only, Least, Over, LaidLine}
 use Rattle.run_layout.specs.declared.laid.Laid.{Laid}
 use Rattle.run_layout.specs.declared.laid.Laid.TheVariants as laid

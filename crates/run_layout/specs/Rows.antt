@@ -1,7 +1,5 @@
 -- What stands before the items of a line that isn't searched for breaks: docs/PROFILE.md, "Layout of lines".
-use Rattle.std.specs.Prelude.{◌==◌, ◌&&◌, ◌||◌, not, min, ℕ, zero, suc, ◌+◌, ◌-◌, Bool, false, Option, Some, None, List, [], get_or, if◌then◌else◌}
-use Rattle.c_grammar.specs.Touch.{takes_line}
-use Rattle.c_grammar.specs.Fitting.{is_comment}
+use Rattle.std.specs.Prelude.{◌==◌, ◌&&◌, not, min, ℕ, zero, suc, ◌+◌, Bool, false, Option, Some, None, List, [], get_or, if◌then◌else◌}
 use Rattle.c_grammar.specs.declared.ItemKind.TheVariants.{Other}
 use Rattle.style_table.specs.declared.style.Style.{Style}
 use Rattle.line_tokens.specs.declared.LineTok.{LineTok}
@@ -14,7 +12,6 @@ use Rattle.brackets.specs.declared.class.TokenClass.TheVariants.{Nothing}
 use Rattle.brackets.specs.Classes.{is_open_brace, is_close_brace}
 use Rattle.brackets.specs.Viewed.{item_class}
 use Rattle.unwrapped_lines.specs.declared.line.ULine.{ULine}
-use Rattle.spacing.specs.Spaces.{spaces_before}
 use Rattle.indenter.specs.Rows.{most_column, start_column, empty_lines}
 use Rattle.gap_text.specs.declared.Decision.{Decision}
 use Rattle.gap_text.specs.declared.Decision.TheVariants.{Old, Spaces, Lines, Splice}

@@ -1,6 +1,5 @@
 use Rattle.std.proofs.Common.{◌≡◌, ◌∙◌, [], ap, sym, subst, List, map, string_bytes}
-use Rattle.std.specs.declared.result.Result.{Result}
-use Rattle.clap.specs.Words.{App, HasKind, Row, Text, fault_of, found_of, is_simple, matches_of, rows_of}
+use Rattle.clap.specs.Words.{App, HasKind, Text, fault_of, found_of, is_simple, matches_of, rows_of}
 use Rattle.clap.specs.Faults.{is_simple_and_free}
 use Rattle.command_words.specs.Command.{command, form_faults, rows_of_words}
 use Rattle.command_words.proofs.FormLemmas.{command_is_simple, command_is_free, of_form, refuses}

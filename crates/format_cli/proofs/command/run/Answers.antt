@@ -11,7 +11,7 @@ returns-in_err-style-clause-refused g c =
     rw (passed c.from_residual.result c.in_err-style.field-0.0 c.from_residual.ensures)
     (inr (inl (record {
       said = c.in-Ok.said;
-      reads = c.in-Ok.ensures;
+      reads = c.in-Ok.ensures.reads;
       refused = c.in_err-style.ensures.refused;
       untouched = record { taken = keeps_self _; held = c.in_err-style.ensures.same; left = refl };
     })))
@@ -29,7 +29,7 @@ returns-clause-done g c =
       style = c.in_ok-style.style;
       begun = world (g.S.Source.left c.args.source.now) (g.K.Sink.taken c.args.out.now) (g.F.Files.holds c.style_in_force.new.files) (g.E.Sink.taken c.style_in_force.new.notes);
       begins = record {
-        reads = c.in-Ok.ensures;
+        reads = c.in-Ok.ensures.reads;
         rows = c.in_ok-style.ensures.chosen.0;
         in_force = c.in_ok-style.ensures.chosen.1;
         told = c.in_ok-style.ensures.chosen.2;
@@ -47,7 +47,7 @@ returns-clause-refused g c =
       style = c.in_ok-style.style;
       begun = world (g.S.Source.left c.args.source.now) (g.K.Sink.taken c.args.out.now) (g.F.Files.holds c.style_in_force.new.files) (g.E.Sink.taken c.style_in_force.new.notes);
       begins = record {
-        reads = c.in-Ok.ensures;
+        reads = c.in-Ok.ensures.reads;
         rows = c.in_ok-style.ensures.chosen.0;
         in_force = c.in_ok-style.ensures.chosen.1;
         told = c.in_ok-style.ensures.chosen.2;

@@ -26,7 +26,7 @@ pub returns-in-SourceFailed-clause-ok : goal.returns-in-SourceFailed-clause-ok
 returns-in-SourceFailed-clause-ok g c = rw c.in-SourceFailed.is c.write_two-in-SourceFailed.ensures.ok
 
 pub returns-in-OutFailed-clause-part : goal.returns-in-OutFailed-clause-part
-returns-in-OutFailed-clause-part g c = rw c.in-OutFailed.is c.write_all.ensures.part
+returns-in-OutFailed-clause-part g c = rw c.in-OutFailed.is c.write_all-in-OutFailed.ensures.part
 
 pub returns-in-OutFailed-clause-ok : goal.returns-in-OutFailed-clause-ok
-returns-in-OutFailed-clause-ok g c = rw c.in-OutFailed.is (on_ok _ c.write_all.result c.write_all.ensures.ok)
+returns-in-OutFailed-clause-ok g c = rw c.in-OutFailed.is (on_ok _ c.write_all-in-OutFailed.result c.write_all-in-OutFailed.ensures.ok)

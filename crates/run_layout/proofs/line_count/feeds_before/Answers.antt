@@ -1,5 +1,4 @@
-use Rattle.std.proofs.Common.{◌≡◌, ◌+◌, ◌-◌, ◌<◌, ◌≤◌, ℕ, count_by, drop, take, arith}
-use Rattle.token_arena.specs.Stored.{is_line_feed}
+use Rattle.std.proofs.Common.{arith}
 use Rattle.run_layout.proofs.Counting.{counted_on, counted_back}
 use Rattle.run_layout.proofs.line_count.feeds_before.Goals as goal
 

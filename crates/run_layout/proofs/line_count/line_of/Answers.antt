@@ -1,4 +1,4 @@
-use Rattle.std.proofs.Common.{◌≡◌, ◌∙◌, ◌+◌, ◌<◌, ◌≤◌, ℕ, List, count_by, length, take, sym, ap, subst, arith}
+use Rattle.std.proofs.Common.{◌≡◌, ◌∙◌, ◌≤◌, ℕ, List, count_by, length, take, sym, ap, subst, arith}
 use Rattle.token_arena.specs.Stored.{Stored, is_line_feed}
 use Rattle.c_chars.specs.Characters.{mark_len}
 use Rattle.run_layout.specs.Rows.{item_at}

@@ -1,4 +1,4 @@
-use Rattle.std.proofs.Common.{◌≡◌, ◌≤◌, ◌+◌, ◌*◌, ℕ, length, drop}
+use Rattle.std.proofs.Common.{◌≡◌, ◌≤◌, ◌+◌, ◌*◌, length, drop}
 use Rattle.run_layout.specs.Counted.{IsCounted}
 use Rattle.run_layout.proofs.RunSteps.{GoesOnLines, IsAhead}
 use Rattle.run_layout.proofs.lines.lay_out_lines.Given as goal

@@ -1,4 +1,4 @@
-use Rattle.std.proofs.Common.{◌≡◌, ◌∙◌, ◌+◌, ◌<◌, ℕ, List, length, get_or, subst, arith}
+use Rattle.std.proofs.Common.{length, subst, arith}
 use Rattle.break_search.specs.Outcome.{line_of, IsOutcome}
 use Rattle.break_search.specs.declared.outcome.Outcome.{Outcome}
 use Rattle.run_layout.proofs.RowLines.{tokens_within, first_number}

@@ -1,4 +1,4 @@
-use Rattle.std.proofs.Common.{◌≡◌, ◌∙◌, ◌+◌, ◌-◌, ℕ, slice_get, sym, ap, arith}
+use Rattle.std.proofs.Common.{◌≡◌, ◌∙◌, ◌+◌, ◌-◌, slice_get, ap, arith}
 use Rattle.run_layout.proofs.RowSteps.{row_written}
 use Rattle.run_layout.proofs.row.write_row.Goals as goal
 

@@ -1,0 +1,21 @@
+use Rattle.std.proofs.Common.{[], refl, codes}
+use Rattle.std.proofs.KnownBytes.{Appends-trans}
+use Rattle.fmt_ports.proofs.Parts.{part_of_front, part_of_rest}
+use Rattle.format_cli.specs.Notes.{numbered_row}
+use Rattle.format_cli.proofs.Rest.{on_map}
+use Rattle.format_cli.proofs.reports.tell_run.Goals as goal
+
+pub returns-in_err-write_number-clause-part : goal.returns-in_err-write_number-clause-part
+returns-in_err-write_number-clause-part g c =
+    part_of_front _ _ (numbered_row [] [] c.args.run (codes ": not searched within ")) (numbered_row [] [] c.args.budget (codes " cells\n")) _ refl c.in_err-write_number.ensures.part
+
+pub returns-clause-ok : goal.returns-clause-ok
+returns-clause-ok g c =
+    on_map _ _ c.write_number-2.result
+    (λ k. Appends-trans _ _ _ (numbered_row [] [] c.args.run (codes ": not searched within ")) (numbered_row [] [] c.args.budget (codes " cells\n")) c.in_ok-write_number.ensures.ok k)
+    c.write_number-2.ensures.ok
+
+pub returns-clause-part : goal.returns-clause-part
+returns-clause-part g c =
+    part_of_rest _ _ _ (numbered_row [] [] c.args.run (codes ": not searched within ")) (numbered_row [] [] c.args.budget (codes " cells\n")) _ refl c.in_ok-write_number.ensures.ok
+    c.write_number-2.ensures.part
