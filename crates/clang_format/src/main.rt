@@ -1,16 +1,10 @@
 //! `clang_format`: formats C texts, of standard input or of files, in a style.
 //!
-//! `format_command` is the whole program over any ports; `main` gives it the real ones.
+//! `format_cli::format_command` is the whole program over any ports; `main` gives it the real ones.
 #![tactic(auto)]
 
-mod command;
-mod in_force;
-mod input;
-mod laws;
-mod refusal;
-
-pub use command::format_command;
 use fmt_ports::{RealFiles, RealIn, RealOut};
+use format_cli::format_command;
 use std::env;
 use std::process::ExitCode;
 
