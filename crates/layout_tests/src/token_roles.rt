@@ -1,7 +1,6 @@
 //! The roles of whole texts, as `docs/PROFILE.md` says under "Roles".
 
-ghost use Rattle.std.specs.Prelude.{◌≤◌, ◌<◌, length};
-
+use crate::fixtures::{all_items, style};
 use annotator::roles;
 use brackets::partners;
 use bumpalo::Bump;
@@ -15,7 +14,6 @@ use line_tokens::Role::{
 };
 use std::process::Abort;
 use std::test::Fail;
-use style_table::Style;
 use token_arena::{Dialect, build};
 use token_views::View;
 use unwrapped_lines::{LineKind, ULine, lines};
@@ -275,8 +273,8 @@ const CASES: [Case; 37] = [
 /// The tokens of a text.
 fn tokens_of<'r>(text: &[u8], run: &'r Bump) -> Result<&'r [LineTok], Fail> {
     let arena = build(run, text, Dialect::C11)?;
-    let style = Style::named("LLVM").ok_or("a style")?;
-    let view = View::of(0, arena.len(), run)?;
+    let style = style("LLVM")?;
+    let view = all_items(&arena, run)?;
     let partners = partners(&arena, &view, run)?;
     let lines = lines(&style, &arena, &view, partners, run)?;
     Ok(roles(&arena, &view, partners, lines, run)?)
