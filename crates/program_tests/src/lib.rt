@@ -1,4 +1,7 @@
-//! Tests.
+//! Tests of the program: worked rows of `format_cli::format_command`, over ends in memory.
+//!
+//! - `commands`: the one table of calls, and the rows of words, styles, ports and files.
+//! - `formatted_texts`: the rows of texts and their layout.
 #![tactic(auto)]
 
 #[cfg(test)]
