@@ -2,6 +2,8 @@
 #![tactic(auto)]
 
 #[cfg(test)]
+mod asked_lines;
+#[cfg(test)]
 mod blanks;
 #[cfg(test)]
 mod bracket_pairs;
@@ -9,6 +11,10 @@ mod bracket_pairs;
 mod break_costs;
 #[cfg(test)]
 mod digests;
+#[cfg(test)]
+mod input_columns;
+#[cfg(test)]
+mod joined_lines;
 #[cfg(test)]
 mod laid_directives;
 #[cfg(test)]
@@ -27,6 +33,8 @@ mod statement_lines;
 mod text_lines;
 #[cfg(test)]
 mod token_roles;
+#[cfg(test)]
+mod trailing_comments;
 #[cfg(test)]
 mod written_gaps;
 #[cfg(test)]
