@@ -9,7 +9,7 @@ mod keeping;
 mod laws;
 mod names;
 mod nesting;
-mod spelling;
+pub mod spelling;
 
 pub use c_chars::Dialect;
 pub use cut::sections;

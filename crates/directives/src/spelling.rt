@@ -74,7 +74,7 @@ fn unit(dialect: Dialect, s: &[u8]) -> (u8, usize)
 }
 
 /// The first character, and the bytes behind it; none exactly where there is none.
-pub(crate) fn next<'s>(dialect: Dialect, raw: &'s [u8]) -> Option<(u8, &'s [u8])>
+pub fn next<'s>(dialect: Dialect, raw: &'s [u8]) -> Option<(u8, &'s [u8])>
     ensures { MatchOption result
         (read_alone dialect raw.now ≡ [])
         (λ r. read_alone dialect raw.now ≡ r.0 ∷ read_alone dialect r.1.now) }
@@ -100,7 +100,7 @@ pub(crate) fn next<'s>(dialect: Dialect, raw: &'s [u8]) -> Option<(u8, &'s [u8])
 }
 
 /// The bytes behind a word that the spelling begins with; none exactly where it doesn't.
-fn behind_word<'s>(dialect: Dialect, raw: &'s [u8], word: &[u8]) -> Option<&'s [u8]>
+pub fn behind_word<'s>(dialect: Dialect, raw: &'s [u8], word: &[u8]) -> Option<&'s [u8]>
     ensures { MatchOption result
         (is_front word.now (read_alone dialect raw.now) ≡ false)
         (λ rest. read_alone dialect raw.now ≡ word.now ++ read_alone dialect rest.now) }
