@@ -25,3 +25,4 @@ pub use c_grammar::ItemKind;
 pub use fault::LexFault;
 pub use item::{Item, Lexeme};
 pub use lexer::Lexer;
+pub use place::Standing;
