@@ -9,7 +9,7 @@ use Rattle.c_chars.specs.Coming.{AreBetween}
 use Rattle.c_chars.specs.declared.LogicalChar.{LogicalChar}
 use Rattle.c_chars.specs.declared.Dialect.{Dialect}
 use Rattle.c_grammar.specs.Grammar.{is_same, is_white, is_new_line, Whole}
-use Rattle.c_grammar.specs.Items.{Place, LineStart, past_gap, past_item, IsNext}
+use Rattle.c_grammar.specs.Items.{Place, LineStart, past_gap, IsNext}
 use Rattle.c_grammar.specs.Text.{ReadItem, Left, IsStep, start_of, end_of, raw_of}
 use Rattle.c_grammar.specs.Twin.{Part, part_of}
 use Rattle.c_grammar.specs.declared.ItemKind.{ItemKind}
