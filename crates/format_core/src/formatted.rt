@@ -101,16 +101,21 @@ pub fn format<'a, 's>(
     let crlf = ends_by(style.line_ending, text);
     let laid_out = text_of(alloc, style, crlf, &arena, sections, &made.plan, text.len())?;
     let changed = !is_same(&laid_out, text);
+    let runs = made.runs;
+    let tally = made.tally;
+    let searched = tally.searched;
+    let cost = tally.cost;
+    let reports = into_bump_slice(tally.reports);
     let counts = Counts {
-        runs: made.runs,
-        searched: made.tally.searched,
-        over: made.tally.reports.len() as u64,
-        cost: made.tally.cost,
+        runs,
+        searched,
+        over: reports.len() as u64,
+        cost,
     };
     Ok(Formatted {
         arena,
         text: laid_out,
-        reports: into_bump_slice(made.tally.reports),
+        reports,
         counts,
         changed,
     })

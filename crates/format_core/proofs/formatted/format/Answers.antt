@@ -21,12 +21,12 @@ returns-clause-formats c =
         planned = made.planned;
         written_so = laid_is c.args.style.now arena c.ends_by-crlf.result c.in_ok-sections.sections.now c.in_ok-made.made.plan c.args.text.now c.in_ok-laid_out.laid_out.items c.in_ok-laid_out.ensures
             c.ends_by-crlf.ensures c.in_ok-sections.ensures.sections is.text_is;
-        reported = c.into_bump_slice.ensures ∙ made.reports;
+        reported = c.into_bump_slice-reports.ensures ∙ made.reports;
       };
       counted = record {
         runs = made.runs;
         searched = made.searched;
-        over = c.len.ensures ∙ ap (λ (xs : List Report). length xs) made.reports;
+        over = ap (λ (xs : List Report). length xs) (c.into_bump_slice-reports.ensures ∙ made.reports);
         cost = made.cost;
       };
     }
