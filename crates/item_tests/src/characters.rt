@@ -1,6 +1,7 @@
 //! The characters of texts, by translation phases 1 and 2 of C11 5.1.1.2.
 
 use c_chars::{Chars, Dialect, LIMIT, LogicalChar};
+use std::process::Abort;
 
 /// A character by its byte, the offset of its first raw byte and the one behind its last.
 type Span = (u8, u32, u32);
@@ -8,6 +9,17 @@ type Span = (u8, u32, u32);
 fn char_of(span: Span) -> LogicalChar {
     let (byte, from, to) = span;
     LogicalChar { byte, from, to }
+}
+
+/// Compares the characters that are left.
+fn compare(rt: &impl Abort, name: &str, left: Chars<'_>, spans: &[Span]) {
+    let mut chars = left;
+    for span in spans {
+        let expected = char_of(*span);
+        assert_eq!(rt; chars.peek(0), Some(expected), "{name}");
+        assert_eq!(rt; chars.next(), Some(expected), "{name}");
+    }
+    assert_eq!(rt; chars.next(), None, "{name}");
 }
 
 #[test]
@@ -41,13 +53,7 @@ fn joins_lines_and_replaces_trigraphs(rt: HostRuntime) {
     ];
     for (name, dialect, text, spans) in cases {
         assert!(rt; text.len() <= LIMIT);
-        let mut chars = Chars::new(text, dialect);
-        for span in spans {
-            let expected = char_of(*span);
-            assert_eq!(rt; chars.peek(0), Some(expected), "{name}");
-            assert_eq!(rt; chars.next(), Some(expected), "{name}");
-        }
-        assert_eq!(rt; chars.next(), None, "{name}");
+        compare(&rt, name, Chars::new(text, dialect), spans);
     }
 }
 

@@ -3,7 +3,7 @@
 ghost use Rattle.std.specs.Prelude.{◌≡◌, length};
 ghost use Rattle.branch_runs.specs.Cut.{end_of};
 
-use branch_runs::{CondTree, TokenId, View};
+use branch_runs::{CondTree, TokenId};
 use bumpalo::Bump;
 use directives::sections;
 use std::alloc::{AllocError, Global};
@@ -23,13 +23,17 @@ fn push_item(out: &mut String, raw: &[u8]) -> Result<(), AllocError> {
     }
 }
 
-/// The items of a view.
+/// The items that a run sees.
 fn seen(
     rt: &impl Abort,
     alloc: Global,
     arena: &TokenArena<'_, '_>,
-    view: &View<'_>,
-) -> Result<String, AllocError> {
+    tree: &CondTree<'_>,
+    r: u32,
+) -> Result<String, Fail> {
+    assert!(rt; r < tree.runs());
+    let run = Bump::new(alloc);
+    let view = tree.view(r, &run)?;
     let mut out = String::new(alloc);
     for k in 0..view.len() {
         let id = view.at(k);
@@ -84,9 +88,7 @@ fn takes_one_branch_of_each_conditional(rt: HostRuntime) -> Result<(), Fail> {
         let tree = CondTree::build(&arena, sections(&arena, &bump)?, &bump)?;
         assert_eq!(rt; tree.runs() as usize, views.len(), "{name}");
         for (r, items) in (0..tree.runs()).zip(views) {
-            let run = Bump::new(rt.alloc());
-            let view = tree.view(r, &run)?;
-            let told = seen(&rt, rt.alloc(), &arena, &view)?;
+            let told = seen(&rt, rt.alloc(), &arena, &tree, r)?;
             assert_eq!(rt; told.as_str(), *items, "{name}, run {r}");
         }
     }
