@@ -1,5 +1,5 @@
 -- What holds of the plans of a text, whichever lines are reported.
-use Rattle.std.proofs.Common.{◌≡◌, ◌∙◌, ◌⊎◌, inl, inr, ℕ, zero, suc, ◌+◌, ◌<◌, ◌≤◌, Bool, true, false, Option, Some, None, List, [], ◌∷◌, length, get_or, refl, sym, ap, arith, subst}
+use Rattle.std.proofs.Common.{◌≡◌, ◌∙◌, inl, inr, ℕ, zero, suc, ◌+◌, ◌<◌, ◌≤◌, Bool, true, false, Option, Some, List, [], ◌∷◌, length, get_or, refl, sym, ap, arith, subst}
 use Rattle.std.specs.Prelude.{All, IsSome}
 use Rattle.std.specs.List.{Contains}
 use Rattle.c_chars.specs.declared.Dialect.{Dialect}
@@ -15,7 +15,6 @@ use Rattle.brackets.specs.Partners.{partners_of}
 use Rattle.brackets.specs.Viewed.{AreWithin, classes_of}
 use Rattle.unwrapped_lines.proofs.Started.{lines_cut_views}
 use Rattle.annotator.proofs.Counts.{as_many_roles, roles_tell}
-use Rattle.gap_text.specs.declared.Decision.{Decision}
 use Rattle.replacements.specs.declared.slot.Slot.{Slot}
 use Rattle.replacements.specs.Decisions.{slot_of}
 use Rattle.replacements.specs.Sound.{IsSound}
@@ -25,12 +24,12 @@ use Rattle.replacements.proofs.SoundTwin.{sound_twin}
 use Rattle.run_layout.specs.Laws.{AreOfTexts}
 use Rattle.run_layout.specs.Outcomes.{LaidLine}
 use Rattle.run_layout.proofs.LaidLines.{lines_stay_sound, lines_keep, lines_decide, lines_length}
-use Rattle.run_layout.proofs.MadeFor.{IsDecided, is_some-decided, decided-is_some, length-decided_all}
+use Rattle.run_layout.proofs.MadeFor.{IsDecided, is_some-decided, decided-is_some}
 use Rattle.run_layout.specs.Rows.{item_at, column_behind}
 use Rattle.run_layout.proofs.Stands.{MadeStand, all_sound}
 use Rattle.run_layout.proofs.Telling.{stand_for_items}
 use Rattle.run_layout.specs.Tells.{StandForItems}
-use Rattle.format_core.specs.BeforeRuns.{early_slot, is_beside_dead, early_decision}
+use Rattle.format_core.specs.BeforeRuns.{early_slot, is_beside_dead}
 use Rattle.format_core.specs.KeptGaps.{input_column, kept_decisions}
 use Rattle.format_core.specs.Laws.{PlannedTextsAreTwins, EarlyDecisionsStay, EveryGapIsDecided}
 use Rattle.format_core.specs.Plans.{AfterItems, AfterRuns, IsPlanOf}

@@ -1,4 +1,4 @@
-use Rattle.std.proofs.Common.{◌≡◌, ◌∙◌, List, length, sym, ap}
+use Rattle.std.proofs.Common.{◌∙◌, List, length, sym, ap}
 use Rattle.run_layout.specs.declared.report.Report.{Report}
 use Rattle.format_core.proofs.Planned.{laid_is}
 use Rattle.format_core.proofs.SoundPlan.{planned_texts_are_twins, twin_along}
