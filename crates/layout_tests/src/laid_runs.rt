@@ -1,6 +1,6 @@
 //! The decisions for whole texts, as `docs/PROFILE.md` says under "Layout of lines".
 
-ghost use Rattle.std.specs.Prelude.{◌≡◌, ◌+◌, ◌≤◌, length, IfOk};
+ghost use Rattle.std.specs.Prelude.{◌≡◌, ◌+◌, ◌≤◌, length, IfOk, OnOk};
 ghost use Rattle.brackets.specs.Viewed.{AreWithin};
 ghost use Rattle.style_table.specs.Range.{IsInRange};
 
@@ -8,7 +8,7 @@ use crate::fixtures::{items_around, items_from, read_view, style};
 use bumpalo::Bump;
 use gap_text::Decision;
 use replacements::{Decided, Plan};
-use run_layout::{Report, Tally, lay_out_lines, lay_out_run};
+use run_layout::{Report, Tally, lay_out_lines};
 use std::alloc::Global;
 use std::process::Abort;
 use std::test::Fail;
@@ -165,6 +165,46 @@ fn drawn(
     Ok(text)
 }
 
+/// The budget of a line, where none passes it.
+const BUDGET: u64 = 1_000;
+
+/// Lays out the lines of a view as those of run 5, and tells what came of them.
+fn lay_out<'r>(
+    rt: &impl Abort,
+    alloc: Global,
+    style: &Style,
+    budget: u64,
+    arena: &TokenArena<'_, '_>,
+    view: &View<'_>,
+    plan: &mut Plan<'_>,
+    run: &'r Bump,
+) -> Result<Tally<'r>, Fail>
+    requires range { IsInRange style.now }
+    requires budget { budget ≤ 16000000 }
+    requires within { AreWithin arena.now view.now }
+    requires whole { length plan.old ≡ length arena.now.tokens + 1 }
+    ensures len { OnOk result (length plan.new ≡ length plan.old) }
+{
+    let told = read_view(style, arena, view, run)?;
+    assert!(rt; told.lines.len() < 1_000);
+    let mut tally = Tally::new(run);
+    lay_out_lines(
+        alloc,
+        style,
+        budget,
+        arena,
+        view,
+        told.classes,
+        told.tokens,
+        5,
+        told.lines,
+        plan,
+        &mut tally,
+        run,
+    )?;
+    Ok(tally)
+}
+
 /// The run of a view is laid out as this text.
 fn is_laid_out(
     rt: &impl Abort,
@@ -178,17 +218,8 @@ fn is_laid_out(
 {
     let (name, named, _, want) = *case;
     let style = style(named)?;
-    let told = read_view(&style, arena, view, run)?;
     let mut plan = Plan::make(arena, run)?;
-    lay_out_run(
-        &style,
-        arena,
-        view,
-        told.classes,
-        told.tokens,
-        told.lines,
-        &mut plan,
-    );
+    lay_out(rt, alloc, &style, BUDGET, arena, view, &mut plan, run)?;
     let text = drawn(rt, alloc, arena, view, &plan)?;
     assert!(rt; text.as_slice() == want.as_bytes(), "{name}");
     Ok(())
@@ -227,18 +258,18 @@ fn goes_on_from_what_is_decided(rt: HostRuntime) -> Result<(), Fail> {
     let arena = build(&run, b"a b c", Dialect::C11)?;
     assert_eq!(rt; arena.len(), 3);
     let view = items_from(&arena, 0, &run)?;
-    let told = read_view(&style, &arena, &view, &run)?;
     let mut plan = Plan::make(&arena, &run)?;
     assert_eq!(rt; plan.decide(1, Decision::Old, 9), Decided::New);
-    lay_out_run(
+    lay_out(
+        &rt,
+        rt.alloc(),
         &style,
+        BUDGET,
         &arena,
         &view,
-        told.classes,
-        told.tokens,
-        told.lines,
         &mut plan,
-    );
+        &run,
+    )?;
     for (place, decision, end) in [(1, Decision::Old, 9), (2, Decision::Spaces(1), 11)] {
         let slot = plan.slot(place).ok_or("a decision")?;
         assert_eq!(rt; slot.decision, decision, "{place}");
@@ -344,28 +375,8 @@ fn is_searched(rt: &impl Abort, alloc: Global, run: &Bump, row: &Searched) -> Re
     let style = limited(row.limit)?;
     let arena = build(run, row.input.as_bytes(), Dialect::C11)?;
     let view = items_from(&arena, 0, run)?;
-    let told = read_view(&style, &arena, &view, run)?;
-    assert!(rt; told.lines.len() < 1_000);
     let mut plan = Plan::make(&arena, run)?;
-    let mut tally = Tally {
-        reports: Vec::new(run),
-        searched: 0,
-        cost: 0,
-    };
-    lay_out_lines(
-        alloc,
-        &style,
-        row.budget,
-        &arena,
-        &view,
-        told.classes,
-        told.tokens,
-        5,
-        told.lines,
-        &mut plan,
-        &mut tally,
-        run,
-    )?;
+    let tally = lay_out(rt, alloc, &style, row.budget, &arena, &view, &mut plan, run)?;
     let text = drawn(rt, alloc, &arena, &view, &plan)?;
     assert!(rt; text.as_slice() == row.output.as_bytes(), "{}", row.name);
     assert_eq!(rt; tally.searched, row.searched, "{}", row.name);

@@ -20,7 +20,7 @@ use unwrapped_lines::{LineKind, ULine, lines};
 /// A text with the roles of its items.
 type Case = (&'static str, &'static str, &'static [Role]);
 
-const CASES: [Case; 37] = [
+const CASES: [Case; 43] = [
     (
         "declarators",
         "int *p, *q;",
@@ -253,6 +253,47 @@ const CASES: [Case; 37] = [
         &[
             Word, CtrlOpen, Word, CtrlClose, Word, GroupOpen, Word, GroupClose, Semi, Word, Word,
             Word, Semi,
+        ],
+    ),
+    (
+        "an attribute",
+        "__attribute__((packed)) int x;",
+        &[
+            Word, CallOpen, GroupOpen, Word, GroupClose, CallClose, Word, Word, Semi,
+        ],
+    ),
+    (
+        "a conditional in another",
+        "x = a ? b ? c : d : e;",
+        &[
+            Word, Assign, Word, Question, Word, Question, Word, TernColon, Word, TernColon, Word,
+            Semi,
+        ],
+    ),
+    (
+        "a macro without a semicolon",
+        "FOO(x)\nint y;",
+        &[Word, CallOpen, Word, CallClose, Word, Word, Semi],
+    ),
+    (
+        "a cast before a cast",
+        "x = (int)(char)c;",
+        &[
+            Word, Assign, CastOpen, Word, CastClose, CastOpen, Word, CastClose, Word, Semi,
+        ],
+    ),
+    (
+        "a function that gives a pointer",
+        "struct s *f(void);",
+        &[
+            Word, Word, Pointer, DeclName, DeclOpen, Word, DeclClose, Semi,
+        ],
+    ),
+    (
+        "a bit-field without a name",
+        "struct s { unsigned : 3; };",
+        &[
+            Word, Word, BlockOpen, Word, FieldColon, Literal, Semi, BlockClose, Semi,
         ],
     ),
     (

@@ -1,164 +1,303 @@
-use style_config::{ConfigFault, read};
+//! What is read of configurations.
+
 use fmt_ports::MemSink;
+use std::alloc::Global;
+use std::process::Abort;
 use std::test::Fail;
+use style_config::{ConfigFault, LIMIT, read};
 use style_table::{Style, UseTab, dump};
 
-#[test]
-fn reads_a_configuration(rt: HostRuntime) -> Result<(), Fail> {
-    let alloc = rt.alloc();
-    let llvm = Style::named("llvm").ok_or("a style")?;
-    let text = b"---\nLanguage: Java\nIndentWidth: x\n---\nLanguage: Cpp\n\
-        IndentWidth: 3 # blanks\nBasedOnStyle: 'WebKit'\nStandard: c++11\n\
-        BraceWrapping:\n  AfterEnum: true\n  AfterClass: true\n...\n";
-    let (style, skipped) = read(alloc, text, llvm).ok().ok_or("a style")?;
-    assert_eq!(rt; style.indent_width, 3);
-    assert_eq!(rt; style.column_limit, 0);
-    assert!(rt; style.brace_wrapping_after_enum);
-    let keys = skipped.keys();
-    assert_eq!(rt; keys.len(), 2);
-    assert_eq!(rt; keys[0].line, 8);
-    assert_eq!(rt; keys[0].key.text(), "Standard");
-    assert_eq!(rt; keys[1].line, 11);
-    assert_eq!(rt; keys[1].key.text(), "BraceWrapping.AfterClass");
+/// What is looked at of a style that was read, and the keys that were skipped, each behind its line.
+struct Seen {
+    indent_width: u32,
+    column_limit: u32,
+    before_comments: u32,
+    after_enum: bool,
+    skipped: &'static [(u32, &'static str)],
+}
+
+/// What is seen of the LLVM style.
+const LLVM: Seen = Seen {
+    indent_width: 2,
+    column_limit: 80,
+    before_comments: 1,
+    after_enum: false,
+    skipped: &[],
+};
+
+/// A configuration, and what is read of it over the LLVM style or its first fault.
+struct Row {
+    name: &'static str,
+    text: &'static [u8],
+    seen: Result<Seen, ConfigFault>,
+}
+
+/// Lines of what `clang-format` 14 writes of its named styles.
+const DUMPS: &[Row] = &[
+    Row {
+        name: "the dump of LLVM",
+        text: b"---\nLanguage:        Cpp\n# BasedOnStyle:  LLVM\nAccessModifierOffset: -2\n\
+            AlignTrailingComments: true\nAttributeMacros:\n  - __capability\nBraceWrapping:\n\
+            \x20 AfterCaseLabel:  false\nColumnLimit:     80\nBasedOnStyle:    ''\n\
+            IncludeIsMainSourceRegex: ''\nIndentWidth:     2\n...\n",
+        seen: Ok(Seen {
+            skipped: &[
+                (4, "AccessModifierOffset"),
+                (6, "AttributeMacros"),
+                (12, "IncludeIsMainSourceRegex"),
+            ],
+            ..LLVM
+        }),
+    },
+    Row {
+        name: "the dump of Google",
+        text: b"---\nLanguage:        Cpp\n# BasedOnStyle:  Google\nColumnLimit:     80\nBasedOnStyle:    ''\n\
+            ForEachMacros:\n  - foreach\nIncludeCategories:\n  - Regex:           '^<ext/.*\\.h>'\n\
+            \x20   Priority:        2\nIncludeIsMainRegex: '([-_](test|unittest))?$'\n\
+            IndentWidth:     2\nRawStringFormats:\n  - Language:        Cpp\n    CanonicalDelimiter: ''\n\
+            \x20   BasedOnStyle:    google\n...\n",
+        seen: Ok(Seen {
+            skipped: &[
+                (6, "ForEachMacros"),
+                (8, "IncludeCategories"),
+                (11, "IncludeIsMainRegex"),
+                (13, "RawStringFormats"),
+            ],
+            ..LLVM
+        }),
+    },
+    Row {
+        name: "the dump of WebKit",
+        text: b"---\nLanguage:        Cpp\n# BasedOnStyle:  WebKit\nAlignAfterOpenBracket: DontAlign\n\
+            AlignTrailingComments: false\nColumnLimit:     0\nBasedOnStyle:    ''\nIndentWidth:     4\n...\n",
+        seen: Ok(Seen {
+            indent_width: 4,
+            column_limit: 0,
+            ..LLVM
+        }),
+    },
+    Row {
+        name: "the dump of Mozilla",
+        text: b"---\nLanguage:        Cpp\n# BasedOnStyle:  Mozilla\nBraceWrapping:\n  AfterClass:      true\n\
+            \x20 AfterEnum:       true\nColumnLimit:     80\nBasedOnStyle:    ''\nIndentWidth:     2\n...\n",
+        seen: Ok(Seen {
+            after_enum: true,
+            skipped: &[(5, "BraceWrapping.AfterClass")],
+            ..LLVM
+        }),
+    },
+    Row {
+        name: "the dump of Microsoft",
+        text: b"---\nLanguage:        Cpp\n# BasedOnStyle:  Microsoft\nAllowShortFunctionsOnASingleLine: None\n\
+            BreakBeforeBraces: Custom\nColumnLimit:     120\nBasedOnStyle:    ''\nIndentWidth:     4\n\
+            TabWidth:        4\nUseTab:          Never\nWhitespaceSensitiveMacros:\n  - STRINGIZE\n...\n",
+        seen: Ok(Seen {
+            indent_width: 4,
+            column_limit: 120,
+            skipped: &[(11, "WhitespaceSensitiveMacros")],
+            ..LLVM
+        }),
+    },
+];
+
+/// Documents, and what `BasedOnStyle` may have.
+const BASES: &[Row] = &[
+    Row {
+        name: "a document for another language, and a base behind an entry",
+        text: b"---\nLanguage: Java\nIndentWidth: x\n---\nLanguage: Cpp\n\
+            IndentWidth: 3 # blanks\nBasedOnStyle: 'WebKit'\nStandard: c++11\n\
+            BraceWrapping:\n  AfterEnum: true\n  AfterClass: true\n...\n",
+        seen: Ok(Seen {
+            indent_width: 3,
+            column_limit: 0,
+            after_enum: true,
+            skipped: &[(8, "Standard"), (11, "BraceWrapping.AfterClass")],
+            ..LLVM
+        }),
+    },
+    Row {
+        name: "empty quotes",
+        text: b"BasedOnStyle: ''\n",
+        seen: Ok(LLVM),
+    },
+    Row {
+        name: "empty quotes and a comment",
+        text: b"BasedOnStyle: \"\" # none\n",
+        seen: Ok(LLVM),
+    },
+    Row {
+        name: "a base, and empty quotes in the next document",
+        text: b"BasedOnStyle: google\n---\nBasedOnStyle: ''\n",
+        seen: Ok(Seen {
+            before_comments: 2,
+            ..LLVM
+        }),
+    },
+    Row {
+        name: "a base in quotes",
+        text: b"BasedOnStyle: 'google'\n",
+        seen: Ok(Seen {
+            before_comments: 2,
+            ..LLVM
+        }),
+    },
+    Row {
+        name: "a base without a value",
+        text: b"BasedOnStyle:\n",
+        seen: Err(ConfigFault::UnknownStyle { line: 1 }),
+    },
+    Row {
+        name: "a blank in quotes",
+        text: b"BasedOnStyle: ' '\n",
+        seen: Err(ConfigFault::UnknownStyle { line: 1 }),
+    },
+    Row {
+        name: "one quote",
+        text: b"BasedOnStyle: '\n",
+        seen: Err(ConfigFault::UnknownStyle { line: 1 }),
+    },
+    Row {
+        name: "two quotes that differ",
+        text: b"BasedOnStyle: '\"\n",
+        seen: Err(ConfigFault::UnknownStyle { line: 1 }),
+    },
+    Row {
+        name: "a base of no name",
+        text: b"BasedOnStyle: Mine\n",
+        seen: Err(ConfigFault::UnknownStyle { line: 1 }),
+    },
+];
+
+/// Configurations at fault.
+const FAULTS: &[Row] = &[
+    Row {
+        name: "a byte that isn't UTF-8",
+        text: b"A: \xff",
+        seen: Err(ConfigFault::NotUtf8 { offset: 3 }),
+    },
+    Row {
+        name: "a line without a colon",
+        text: b"\n# x\nIndentWidth 2\n",
+        seen: Err(ConfigFault::BadLine { line: 3 }),
+    },
+    Row {
+        name: "a line behind a tab",
+        text: b"\tIndentWidth: 2\n",
+        seen: Err(ConfigFault::BadLine { line: 1 }),
+    },
+    Row {
+        name: "a nested line under no key",
+        text: b"  Nested: 2\n",
+        seen: Err(ConfigFault::BadLine { line: 1 }),
+    },
+    Row {
+        name: "an item of a list where keys stand",
+        text: b"BraceWrapping:\n- x\n",
+        seen: Err(ConfigFault::BadLine { line: 2 }),
+    },
+    Row {
+        name: "a key without a value",
+        text: b"UseTab:\n",
+        seen: Err(ConfigFault::BadValue { line: 1 }),
+    },
+    Row {
+        name: "a word that the key doesn't take",
+        text: b"UseTab: Nver\n",
+        seen: Err(ConfigFault::BadValue { line: 1 }),
+    },
+    Row {
+        name: "an outer key without keys",
+        text: b"BraceWrapping:\nUseTab: Never\n",
+        seen: Err(ConfigFault::BadValue { line: 1 }),
+    },
+    Row {
+        name: "an outer key with a value and a key",
+        text: b"AlignTrailingComments: true\n  Kind: Never\n",
+        seen: Err(ConfigFault::BadValue { line: 1 }),
+    },
+    Row {
+        name: "a number past its range",
+        text: b"IndentWidth: 17\n",
+        seen: Err(ConfigFault::OutOfRange { line: 1 }),
+    },
+    Row {
+        name: "a key twice",
+        text: b"A:\nA: 1\n",
+        seen: Err(ConfigFault::Repeated { line: 2 }),
+    },
+];
+
+/// Sees that a configuration is read as its row says.
+fn check(rt: &impl Abort, alloc: Global, row: &Row) -> Result<(), Fail> {
+    let name = row.name;
+    let llvm = Style::named("LLVM").ok_or("a style")?;
+    assert!(rt; row.text.len() <= LIMIT, "the length of {name}");
+    match (read(alloc, row.text, llvm), &row.seen) {
+        (Ok((style, skipped)), Ok(seen)) => {
+            assert_eq!(rt;
+                style.indent_width,
+                seen.indent_width,
+                "the width of {name}"
+            );
+            assert_eq!(rt;
+                style.column_limit,
+                seen.column_limit,
+                "the limit of {name}"
+            );
+            assert_eq!(rt;
+                style.spaces_before_trailing_comments,
+                seen.before_comments,
+                "the blanks of {name}"
+            );
+            assert_eq!(rt;
+                style.brace_wrapping_after_enum,
+                seen.after_enum,
+                "the braces of {name}"
+            );
+            let keys = skipped.keys();
+            assert_eq!(rt;
+                keys.len(),
+                seen.skipped.len(),
+                "the skipped keys of {name}"
+            );
+            for (key, (line, label)) in keys.iter().zip(seen.skipped) {
+                assert_eq!(rt; (key.line, key.key.text()), (*line, *label), "{name}");
+            }
+        }
+        (Err(found), Err(fault)) => assert_eq!(rt; found, *fault, "{name}"),
+        (found, _) => assert!(rt; false, "{name} is read: {}", found.is_ok()),
+    }
     Ok(())
 }
 
 #[test]
-fn tells_the_first_fault(rt: HostRuntime) -> Result<(), Fail> {
-    let alloc = rt.alloc();
-    let llvm = Style::named("llvm").ok_or("a style")?;
-    let cases: [(&[u8], ConfigFault); 12] = [
-        (b"A: \xff", ConfigFault::NotUtf8 { offset: 3 }),
-        (b"\n# x\nIndentWidth 2\n", ConfigFault::BadLine { line: 3 }),
-        (b"\tIndentWidth: 2\n", ConfigFault::BadLine { line: 1 }),
-        (b"  Nested: 2\n", ConfigFault::BadLine { line: 1 }),
-        (b"BraceWrapping:\n- x\n", ConfigFault::BadLine { line: 2 }),
-        (
-            b"BasedOnStyle: Mine\n",
-            ConfigFault::UnknownStyle { line: 1 },
-        ),
-        (b"UseTab:\n", ConfigFault::BadValue { line: 1 }),
-        (b"UseTab: Nver\n", ConfigFault::BadValue { line: 1 }),
-        (
-            b"BraceWrapping:\nUseTab: Never\n",
-            ConfigFault::BadValue { line: 1 },
-        ),
-        (
-            b"AlignTrailingComments: true\n  Kind: Never\n",
-            ConfigFault::BadValue { line: 1 },
-        ),
-        (b"IndentWidth: 17\n", ConfigFault::OutOfRange { line: 1 }),
-        (b"A:\nA: 1\n", ConfigFault::Repeated { line: 2 }),
-    ];
-    for (text, fault) in cases {
-        match read(alloc, text, llvm) {
-            Ok(_) => assert!(rt; false, "no fault"),
-            Err(found) => assert_eq!(rt; found, fault),
+fn reads_configurations(rt: HostRuntime) -> Result<(), Fail> {
+    for rows in [DUMPS, BASES, FAULTS] {
+        for row in rows {
+            check(&rt, rt.alloc(), row)?;
         }
     }
     Ok(())
 }
 
+/// What is dumped of a style is read back, whatever the base.
 #[test]
 fn reads_back_what_is_dumped(rt: HostRuntime) -> Result<(), Fail> {
     let alloc = rt.alloc();
-    let mut style = Style::named("microsoft").ok_or("a style")?;
-    style.use_tab = UseTab::AlignWithSpaces;
-    let mut sink = MemSink::new(alloc, Vec::new(alloc));
-    assert!(rt; dump(&style, &mut sink).is_ok());
-    let base = Style::named("google").ok_or("a style")?;
-    let text = sink.taken();
-    assert!(rt; text.len() < 2000);
-    let (read, skipped) = read(alloc, text, base).ok().ok_or("a style")?;
-    assert!(rt; read == style);
-    assert!(rt; skipped.keys().is_empty());
-    Ok(())
-}
-
-/// Lines of what `clang-format` 14 writes of its named styles, with the width, the column limit and the number of
-/// skipped keys that are read.
-const DUMPS: [(&str, &[u8], u32, u32, usize); 5] = [
-    (
-        "LLVM",
-        b"---\nLanguage:        Cpp\n# BasedOnStyle:  LLVM\nAccessModifierOffset: -2\n\
-        AlignTrailingComments: true\nAttributeMacros:\n  - __capability\nBraceWrapping:\n  AfterCaseLabel:  false\n\
-        ColumnLimit:     80\nBasedOnStyle:    ''\nIncludeIsMainSourceRegex: ''\nIndentWidth:     2\n...\n",
-        2,
-        80,
-        3,
-    ),
-    (
-        "Google",
-        b"---\nLanguage:        Cpp\n# BasedOnStyle:  Google\nColumnLimit:     80\nBasedOnStyle:    ''\n\
-        ForEachMacros:\n  - foreach\nIncludeCategories:\n  - Regex:           '^<ext/.*\\.h>'\n    Priority:        2\n\
-        IncludeIsMainRegex: '([-_](test|unittest))?$'\nIndentWidth:     2\nRawStringFormats:\n  - Language:        Cpp\n\
-        \x20   CanonicalDelimiter: ''\n    BasedOnStyle:    google\n...\n",
-        2,
-        80,
-        4,
-    ),
-    (
-        "WebKit",
-        b"---\nLanguage:        Cpp\n# BasedOnStyle:  WebKit\nAlignAfterOpenBracket: DontAlign\n\
-        AlignTrailingComments: false\nColumnLimit:     0\nBasedOnStyle:    ''\nIndentWidth:     4\n...\n",
-        4,
-        0,
-        0,
-    ),
-    (
-        "Mozilla",
-        b"---\nLanguage:        Cpp\n# BasedOnStyle:  Mozilla\nBraceWrapping:\n  AfterClass:      true\n\
-        \x20 AfterEnum:       true\nColumnLimit:     80\nBasedOnStyle:    ''\nIndentWidth:     2\n...\n",
-        2,
-        80,
-        1,
-    ),
-    (
-        "Microsoft",
-        b"---\nLanguage:        Cpp\n# BasedOnStyle:  Microsoft\nAllowShortFunctionsOnASingleLine: None\n\
-        BreakBeforeBraces: Custom\nColumnLimit:     120\nBasedOnStyle:    ''\nIndentWidth:     4\nTabWidth:        4\n\
-        UseTab:          Never\nWhitespaceSensitiveMacros:\n  - STRINGIZE\n...\n",
-        4,
-        120,
-        1,
-    ),
-];
-
-#[test]
-fn reads_the_dumps_of_another_tool(rt: HostRuntime) -> Result<(), Fail> {
-    let alloc = rt.alloc();
-    let llvm = Style::named("llvm").ok_or("a style")?;
-    for (name, text, width, limit, count) in DUMPS {
-        let (style, skipped) = read(alloc, text, llvm).ok().ok_or("a style")?;
-        assert_eq!(rt; style.indent_width, width, "{name}");
-        assert_eq!(rt; style.column_limit, limit, "{name}");
-        assert_eq!(rt; skipped.keys().len(), count, "{name}");
-    }
-    Ok(())
-}
-
-/// What `BasedOnStyle` may have, and how many blanks stand before a trailing comment then.
-#[test]
-fn takes_empty_quotes_as_no_base(rt: HostRuntime) -> Result<(), Fail> {
-    let alloc = rt.alloc();
-    let llvm = Style::named("llvm").ok_or("a style")?;
-    let unknown = Err(ConfigFault::UnknownStyle { line: 1 });
-    let cases: [(&[u8], Result<u32, ConfigFault>); 8] = [
-        (b"BasedOnStyle: ''\n", Ok(1)),
-        (b"BasedOnStyle: \"\" # none\n", Ok(1)),
-        (b"BasedOnStyle: google\n---\nBasedOnStyle: ''\n", Ok(2)),
-        (b"BasedOnStyle: 'google'\n", Ok(2)),
-        (b"BasedOnStyle:\n", unknown),
-        (b"BasedOnStyle: ' '\n", unknown),
-        (b"BasedOnStyle: '\n", unknown),
-        (b"BasedOnStyle: '\"\n", unknown),
-    ];
-    for (text, expected) in cases {
-        let found = match read(alloc, text, llvm) {
-            Ok((style, _)) => Ok(style.spaces_before_trailing_comments),
-            Err(fault) => Err(fault),
-        };
-        assert_eq!(rt; found, expected);
+    for (name, use_tab, base) in [
+        ("Microsoft", UseTab::AlignWithSpaces, "Google"),
+        ("Google", UseTab::Never, "WebKit"),
+    ] {
+        let mut style = Style::named(name).ok_or("a style")?;
+        style.use_tab = use_tab;
+        let mut sink = MemSink::new(alloc, Vec::new(alloc));
+        assert!(rt; dump(&style, &mut sink).is_ok(), "the dump of {name}");
+        let base = Style::named(base).ok_or("a style")?;
+        let text = sink.taken();
+        assert!(rt; text.len() <= LIMIT, "the length of {name}");
+        let (read, skipped) = read(alloc, text, base).ok().ok_or("a style")?;
+        assert!(rt; read == style, "{name}");
+        assert!(rt; skipped.keys().is_empty(), "the skipped keys of {name}");
     }
     Ok(())
 }

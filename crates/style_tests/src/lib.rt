@@ -1,4 +1,9 @@
-//! Tests.
+//! Tests of the ports, of styles and configurations, and of the words of the command.
+//!
+//! - `ports`: the ends in memory and those of the process, which fail and end where they should.
+//! - `named_styles`: the five named styles, and the values that keys take.
+//! - `configurations`: what is read of configurations, those of another tool among them, and their faults.
+//! - `words`: what the words of the command say, and why they are refused.
 #![tactic(auto)]
 
 #[cfg(test)]

@@ -1,70 +1,7 @@
-use style_table::{Key, Style, Value, ValueFault, dump};
-use fmt_ports::MemSink;
+//! The named styles, and the values of keys.
+
 use std::test::Fail;
-
-/// The whole text of the LLVM style.
-const LLVM: &str = "---
-Language: Cpp
-ColumnLimit: 80
-IndentWidth: 2
-ContinuationIndentWidth: 4
-TabWidth: 8
-UseTab: Never
-BreakBeforeBraces: Attach
-BraceWrapping:
-  AfterCaseLabel: false
-  AfterEnum: false
-  AfterExternBlock: false
-  AfterFunction: false
-  AfterStruct: false
-  AfterUnion: false
-  BeforeElse: false
-  BeforeWhile: false
-  AfterControlStatement: Never
-PointerAlignment: Right
-SpaceBeforeParens: ControlStatements
-AlignAfterOpenBracket: Align
-BinPackArguments: true
-BinPackParameters: true
-BreakBeforeBinaryOperators: None
-BreakBeforeTernaryOperators: true
-MaxEmptyLinesToKeep: 1
-KeepEmptyLinesAtTheStartOfBlocks: true
-IndentCaseLabels: false
-IndentGotoLabels: true
-IndentPPDirectives: None
-AllowShortFunctionsOnASingleLine: All
-AllowShortIfStatementsOnASingleLine: Never
-AllowShortLoopsOnASingleLine: false
-AllowShortBlocksOnASingleLine: Never
-AllowShortCaseLabelsOnASingleLine: false
-AllowShortEnumsOnASingleLine: true
-SpacesBeforeTrailingComments: 1
-SpaceAfterCStyleCast: false
-Cpp11BracedListStyle: true
-AlignEscapedNewlines: Right
-AlignTrailingComments:
-  Kind: Always
-LineEnding: DeriveLF
-InsertNewlineAtEOF: false
-SkipMacroDefinitionBody: false
-PenaltyBreakAssignment: 2
-PenaltyBreakBeforeFirstCallParameter: 19
-PenaltyBreakOpenParenthesis: 0
-PenaltyExcessCharacter: 1000000
-PenaltyReturnTypeOnItsOwnLine: 60
-...
-";
-
-#[test]
-fn writes_a_style(rt: HostRuntime) -> Result<(), Fail> {
-    let alloc = rt.alloc();
-    let style = Style::named("llvm").ok_or("a style")?;
-    let mut sink = MemSink::new(alloc, Vec::new(alloc));
-    assert!(rt; dump(&style, &mut sink).is_ok());
-    assert_eq!(rt; sink.taken(), LLVM.as_bytes());
-    Ok(())
-}
+use style_table::{Key, Style, Value, ValueFault};
 
 #[test]
 fn knows_five_names(rt: HostRuntime) -> Result<(), Fail> {
@@ -84,7 +21,7 @@ fn knows_five_names(rt: HostRuntime) -> Result<(), Fail> {
             "penalty of {name}"
         );
     }
-    assert!(rt; Style::named("LLVM ").is_none());
+    assert!(rt; Style::named("LLVM ").is_none(), "a name with a blank");
     Ok(())
 }
 
@@ -112,6 +49,10 @@ fn reads_values(rt: HostRuntime) -> Result<(), Fail> {
             Err(fault) => assert_eq!(rt; Err(fault), want, "{label}: {text}"),
         }
     }
-    assert_eq!(rt; Key::find(b"", b"AfterEnum"), None);
+    assert_eq!(rt;
+        Key::find(b"", b"AfterEnum"),
+        None,
+        "a key without its outer one"
+    );
     Ok(())
 }

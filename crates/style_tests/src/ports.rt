@@ -1,30 +1,73 @@
+//! The ends in memory and those of the process.
+
 use fmt_ports::{
     FileFault, Files, InFault, MemFiles, MemSink, MemSource, Name, RealFiles, RealIn, RealOut,
-    read_all, write_all,
+    TextSink, read_all, write_all,
 };
 use std::fs;
 use std::os::unix::fs::PermissionsExt;
 use std::test::Fail;
 
+/// A source of three bytes: the call that fails, the limit, and all its bytes or why they can't be had.
+type Reading = (&'static str, u64, u64, Result<&'static [u8], InFault>);
+
+const READINGS: &[Reading] = &[
+    ("as many bytes as the limit", 9, 3, Ok(b"abc")),
+    ("one byte past the limit", 9, 2, Err(InFault::TooLong)),
+    ("a read that fails", 1, 3, Err(InFault::Failed)),
+    ("a read that fails at the end", 2, 3, Err(InFault::Failed)),
+];
+
 #[test]
-fn reads_to_the_end_and_writes_all(rt: HostRuntime) -> Result<(), Fail> {
+fn reads_all_bytes(rt: HostRuntime) -> Result<(), Fail> {
     let alloc = rt.alloc();
-    let mut source = MemSource::new(b"abc".to_vec(alloc)?, Vec::new(alloc));
-    let text = read_all(alloc, &mut source, 3).ok().ok_or("a text")?;
-    let mut sink = MemSink::new(alloc, Vec::new(alloc));
-    assert!(rt; write_all(&mut sink, &text).is_ok());
-    assert_eq!(rt; sink.taken(), b"abc".as_slice());
+    for (name, failing, limit, wanted) in READINGS {
+        let mut source = MemSource::new(b"abc".to_vec(alloc)?, vec![in alloc; *failing; 1]?);
+        match (read_all(alloc, &mut source, *limit), wanted) {
+            (Ok(found), Ok(bytes)) => assert_eq!(rt; found.as_slice(), *bytes, "{name}"),
+            (Err(found), Err(fault)) => assert_eq!(rt; found, *fault, "{name}"),
+            (found, _) => assert!(rt; false, "{name}: {}", found.is_ok()),
+        }
+        let mut reader = RealIn::new(b"abc".as_slice());
+        let all = read_all(alloc, &mut reader, *limit);
+        assert_eq!(rt; all.is_ok(), *limit == 3, "{name}, from a reader");
+    }
     Ok(())
 }
 
+/// A sink: the call that fails, and what it takes of three bytes and then of two.
+const WRITINGS: &[(&str, u64, &[u8])] = &[
+    ("no call fails", 9, b"abcde"),
+    ("the first call fails", 1, b"de"),
+    ("the second call fails", 2, b"abc"),
+];
+
 #[test]
-fn adapts_readers_and_writers(rt: HostRuntime) -> Result<(), Fail> {
+fn writes_all_bytes(rt: HostRuntime) -> Result<(), Fail> {
     let alloc = rt.alloc();
-    let mut source = RealIn::new(b"abc".as_slice());
-    assert!(rt; matches!(read_all(alloc, &mut source, 2), Err(InFault::TooLong)));
+    for (name, failing, taken) in WRITINGS {
+        let mut sink = MemSink::new(alloc, vec![in alloc; *failing; 1]?);
+        assert_eq!(rt;
+            write_all(&mut sink, b"abc").is_ok(),
+            *failing != 1,
+            "{name}"
+        );
+        assert_eq!(rt;
+            write_all(&mut sink, b"de").is_ok(),
+            *failing != 2,
+            "{name}"
+        );
+        assert_eq!(rt; sink.taken(), *taken, "{name}");
+    }
+    let mut text = TextSink::with_room(alloc, 2)?;
+    assert!(rt; write_all(&mut text, b"abc").is_ok(), "a text");
+    assert_eq!(rt; text.into_text().as_slice(), b"abc".as_slice(), "a text");
     let mut room = [0u8; 2];
-    let mut sink = RealOut::new(room.as_mut_slice());
-    assert!(rt; write_all(&mut sink, b"abc").is_err());
+    let mut writer = RealOut::new(room.as_mut_slice());
+    assert!(rt;
+        write_all(&mut writer, b"abc").is_err(),
+        "a writer that is full"
+    );
     Ok(())
 }
 
@@ -47,17 +90,23 @@ fn writes_real_files_and_keeps_their_permissions(rt: HostRuntime) -> Result<(), 
     let alloc = rt.alloc();
     let name = "written_by_a_test.c";
     let mut files = RealFiles::new(rt.clone()?, alloc);
-    assert!(rt; files.write(name, b"old").is_ok());
-    fs::set_permissions(&rt, name, PermissionsExt::from_mode(0o640))?;
-    assert!(rt; files.write(name, b"new").is_ok());
-    let read = files.read(name, 3).ok().ok_or("a file")?;
-    assert_eq!(rt; read.as_slice(), b"new".as_slice());
-    assert_eq!(rt;
-        fs::metadata(&rt, name)?.permissions().mode() % 0o1000,
-        0o640
-    );
-    fs::remove_file(&rt, name)?;
-    assert!(rt; matches!(files.read(name, 3), Err(FileFault::Missing)));
-    assert!(rt; matches!(files.find(name, 3), Ok(None)));
+    for mode in [0o600, 0o640] {
+        assert!(rt; files.write(name, b"old").is_ok(), "a new file, {mode}");
+        fs::set_permissions(&rt, name, PermissionsExt::from_mode(mode))?;
+        assert!(rt; files.write(name, b"new").is_ok(), "an old file, {mode}");
+        let read = files.read(name, 3).ok().ok_or("a file")?;
+        assert_eq!(rt; read.as_slice(), b"new".as_slice(), "{mode}");
+        assert_eq!(rt;
+            fs::metadata(&rt, name)?.permissions().mode() % 0o1000,
+            mode,
+            "the permissions, {mode}"
+        );
+        fs::remove_file(&rt, name)?;
+        assert!(rt;
+            matches!(files.read(name, 3), Err(FileFault::Missing)),
+            "{mode}"
+        );
+        assert!(rt; matches!(files.find(name, 3), Ok(None)), "{mode}");
+    }
     Ok(())
 }

@@ -1,11 +1,177 @@
 //! Worked rows of words.
 
-use command_words::{StyleChoice, USAGE, WordsFault, read_words};
+use command_words::{StyleChoice, WordsFault, read_words};
 use std::alloc::{AllocError, Global};
 use std::test::Fail;
 
-/// What words say: their style, `-i`, `--dump-config` and the FILEs.
-type Said = (StyleChoice<'static>, bool, bool, &'static [&'static str]);
+/// What words say.
+struct Said {
+    style: StyleChoice<'static>,
+    in_place: bool,
+    dump_config: bool,
+    files: &'static [&'static str],
+}
+
+/// Words that say nothing.
+const NOTHING: Said = Said {
+    style: StyleChoice::File,
+    in_place: false,
+    dump_config: false,
+    files: &[],
+};
+
+/// Words, and what they say or why they are refused.
+struct Row {
+    name: &'static str,
+    words: &'static [&'static str],
+    said: Result<Said, WordsFault>,
+}
+
+const ROWS: &[Row] = &[
+    Row {
+        name: "no words",
+        words: &[],
+        said: Ok(NOTHING),
+    },
+    Row {
+        name: "a file",
+        words: &["a.c"],
+        said: Ok(Said {
+            files: &["a.c"],
+            ..NOTHING
+        }),
+    },
+    Row {
+        name: "files to be written back",
+        words: &["-i", "a.c", "b.c"],
+        said: Ok(Said {
+            in_place: true,
+            files: &["a.c", "b.c"],
+            ..NOTHING
+        }),
+    },
+    Row {
+        name: "a flag between files",
+        words: &["a.c", "-i", "b.c"],
+        said: Ok(Said {
+            in_place: true,
+            files: &["a.c", "b.c"],
+            ..NOTHING
+        }),
+    },
+    Row {
+        name: "-i without a file",
+        words: &["-i"],
+        said: Err(WordsFault::NoInput),
+    },
+    Row {
+        name: "-i with a dump and without a file",
+        words: &["-i", "--dump-config"],
+        said: Ok(Said {
+            in_place: true,
+            dump_config: true,
+            ..NOTHING
+        }),
+    },
+    Row {
+        name: "a style's name behind its word",
+        words: &["a.c", "--style", "LLVM"],
+        said: Ok(Said {
+            style: StyleChoice::Named("LLVM"),
+            files: &["a.c"],
+            ..NOTHING
+        }),
+    },
+    Row {
+        name: "a configuration's path behind `=`",
+        words: &["--style=file:x/y", "--dump-config"],
+        said: Ok(Said {
+            style: StyleChoice::FileAt("x/y"),
+            dump_config: true,
+            ..NOTHING
+        }),
+    },
+    Row {
+        name: "the folder's configuration",
+        words: &["--style=file"],
+        said: Ok(NOTHING),
+    },
+    Row {
+        name: "an empty path",
+        words: &["--style=file:"],
+        said: Ok(Said {
+            style: StyleChoice::FileAt(""),
+            ..NOTHING
+        }),
+    },
+    Row {
+        name: "a name in other letters than `file`",
+        words: &["--style=File"],
+        said: Ok(Said {
+            style: StyleChoice::Named("File"),
+            ..NOTHING
+        }),
+    },
+    Row {
+        name: "a name like an option",
+        words: &["--style=-x"],
+        said: Ok(Said {
+            style: StyleChoice::Named("-x"),
+            ..NOTHING
+        }),
+    },
+    Row {
+        name: "files like options",
+        words: &["--", "-i", "--help"],
+        said: Ok(Said {
+            files: &["-i", "--help"],
+            ..NOTHING
+        }),
+    },
+    Row {
+        name: "a file named `-`",
+        words: &["-"],
+        said: Ok(Said {
+            files: &["-"],
+            ..NOTHING
+        }),
+    },
+    Row {
+        name: "no word for help",
+        words: &["--help"],
+        said: Err(WordsFault::Form),
+    },
+    Row {
+        name: "no letter for help",
+        words: &["-h"],
+        said: Err(WordsFault::Form),
+    },
+    Row {
+        name: "no word for the version",
+        words: &["--version"],
+        said: Err(WordsFault::Form),
+    },
+    Row {
+        name: "a style without its value",
+        words: &["--style"],
+        said: Err(WordsFault::Form),
+    },
+    Row {
+        name: "a flag twice",
+        words: &["-i", "-i"],
+        said: Err(WordsFault::Form),
+    },
+    Row {
+        name: "a style twice",
+        words: &["--style=LLVM", "--style=LLVM"],
+        said: Err(WordsFault::Form),
+    },
+    Row {
+        name: "an unknown word",
+        words: &["--lines=1:2"],
+        said: Err(WordsFault::Form),
+    },
+];
 
 fn texts(alloc: Global, words: &[&str]) -> Result<Vec<String>, AllocError> {
     let mut all = Vec::new(alloc);
@@ -18,68 +184,26 @@ fn texts(alloc: Global, words: &[&str]) -> Result<Vec<String>, AllocError> {
 #[test]
 fn reads_words(rt: HostRuntime) -> Result<(), Fail> {
     let alloc = rt.alloc();
-    let file = StyleChoice::File;
-    let rows: [(&[&str], Result<Said, WordsFault>); 21] = [
-        (&[], Ok((file, false, false, &[]))),
-        (&["a.c"], Ok((file, false, false, &["a.c"]))),
-        (
-            &["-i", "a.c", "b.c"],
-            Ok((file, true, false, &["a.c", "b.c"])),
-        ),
-        (
-            &["a.c", "-i", "b.c"],
-            Ok((file, true, false, &["a.c", "b.c"])),
-        ),
-        (&["-i"], Err(WordsFault::NoInput)),
-        (&["-i", "--dump-config"], Ok((file, true, true, &[]))),
-        (
-            &["a.c", "--style", "LLVM"],
-            Ok((StyleChoice::Named("LLVM"), false, false, &["a.c"])),
-        ),
-        (
-            &["--style=file:x/y", "--dump-config"],
-            Ok((StyleChoice::FileAt("x/y"), false, true, &[])),
-        ),
-        (&["--style=file"], Ok((file, false, false, &[]))),
-        (
-            &["--style=file:"],
-            Ok((StyleChoice::FileAt(""), false, false, &[])),
-        ),
-        (
-            &["--style=File"],
-            Ok((StyleChoice::Named("File"), false, false, &[])),
-        ),
-        (
-            &["--style=-x"],
-            Ok((StyleChoice::Named("-x"), false, false, &[])),
-        ),
-        (
-            &["--", "-i", "--help"],
-            Ok((file, false, false, &["-i", "--help"])),
-        ),
-        (&["-"], Ok((file, false, false, &["-"]))),
-        (&["--help"], Err(WordsFault::Form)),
-        (&["-h"], Err(WordsFault::Form)),
-        (&["--version"], Err(WordsFault::Form)),
-        (&["--style"], Err(WordsFault::Form)),
-        (&["-i", "-i"], Err(WordsFault::Form)),
-        (&["--style=LLVM", "--style=LLVM"], Err(WordsFault::Form)),
-        (&["--lines=1:2"], Err(WordsFault::Form)),
-    ];
-    for (words, want) in rows {
-        let owned = texts(alloc, words)?;
-        match (read_words(alloc, &owned), want) {
-            (Ok(said), Ok((style, in_place, dump_config, files))) => {
-                assert!(rt; said.style == style, "the style of {words:?}");
+    for row in ROWS {
+        let words = texts(alloc, row.words)?;
+        match (read_words(alloc, &words), &row.said) {
+            (Ok(found), Ok(said)) => {
+                assert_eq!(rt; found.style, said.style, "the style of {}", row.name);
                 assert_eq!(rt;
+                    (found.in_place, found.dump_config),
                     (said.in_place, said.dump_config),
-                    (in_place, dump_config),
-                    "the flags of {words:?}"
+                    "the flags of {}",
+                    row.name
                 );
-                assert!(rt; said.files.as_slice() == files, "the files of {words:?}");
+                assert_eq!(rt;
+                    found.files.as_slice(),
+                    said.files,
+                    "the files of {}",
+                    row.name
+                );
             }
-            (Err(fault), Err(want)) => assert_eq!(rt; fault, want, "at {words:?}"),
-            _ => return Err("read or refused against the table".into()),
+            (Err(found), Err(fault)) => assert_eq!(rt; found, *fault, "{}", row.name),
+            (found, _) => assert!(rt; false, "{} is read: {}", row.name, found.is_ok()),
         }
     }
     Ok(())
@@ -88,13 +212,15 @@ fn reads_words(rt: HostRuntime) -> Result<(), Fail> {
 #[test]
 fn shows_its_note(rt: HostRuntime) -> Result<(), Fail> {
     let alloc = rt.alloc();
-    let rows = [
-        (WordsFault::Form, USAGE),
+    for (fault, note) in [
+        (
+            WordsFault::Form,
+            "usage: clang_format [--style S] [-i] [--dump-config] [FILE ..]",
+        ),
         (WordsFault::NoInput, "clang_format: -i needs a file"),
         (WordsFault::NoMemory, "clang_format: no memory"),
-    ];
-    for (fault, want) in rows {
-        assert_eq!(rt; format!(in alloc; "{fault}")?.as_str(), want);
+    ] {
+        assert_eq!(rt; format!(in alloc; "{fault}")?.as_str(), note, "{fault:?}");
     }
     Ok(())
 }
