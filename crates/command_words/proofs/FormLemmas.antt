@@ -1,13 +1,15 @@
 -- The command is one of which `clap` says exactly what it makes of the words.
-use Rattle.std.proofs.Common.{◌≡◌, ◌≢◌, ◌⊎◌, List, [], refl, sym, true, subst, inl, inr, Err}
-use Rattle.clap.specs.Words.{HasKind, Kinds, Text, is_simple, kind_of}
+use Rattle.std.proofs.Common.{◌≡◌, ◌≢◌, ◌⊎◌, List, [], refl, sym, true, subst, inl, inr, Ok, Err}
+use Rattle.clap.specs.Words.{HasKind, Kinds, Row, Text, is_simple, kind_of}
 use Rattle.clap.specs.Faults.{is_simple_and_free}
 use Rattle.clap.specs.declared.error.Error.{Error}
 use Rattle.clap.specs.declared.error.kind.ErrorKind.TheVariants.{OutOfMemory}
-use Rattle.command_words.specs.Command.{command, form_faults}
-use Rattle.command_words.specs.Said.{ReadsForm}
+use Rattle.std.specs.declared.result.Result.{Result}
+use Rattle.command_words.specs.Command.{command, form_faults, rows_of_words}
+use Rattle.command_words.specs.Said.{HasBadStates, ReadsForm, Says, SaysOrNot}
+use Rattle.command_words.specs.declared.read.Words.{Words}
 use Rattle.command_words.specs.declared.fault.WordsFault.{WordsFault}
-use Rattle.command_words.specs.declared.fault.WordsFault.TheVariants.{Form, NoMemory}
+use Rattle.command_words.specs.declared.fault.WordsFault.TheVariants.{Form, BadStates, NoInput, NoMemory}
 
 pub command_is_simple : is_simple command ≡ true
 command_is_simple = refl
@@ -29,3 +31,11 @@ refuses words fault e has form cause = elim cause [
   | inl is ↦ subst (λ (told : WordsFault). ReadsForm words (Err told)) (sym is) (has_fault words e has (form is))
   | inr is ↦ subst (λ (told : WordsFault). ReadsForm words (Err told)) (sym is) tt
 ]
+
+-- words without a fault say what the rows say that were found
+pub of_form : (words : List Text) (rows : List Row) (result : Result Words WordsFault) → form_faults words ≡ [] → rows ≡ rows_of_words words → SaysOrNot rows result → ReadsForm words result
+of_form words rows (Ok said) none is says = (none, subst (λ (r : List Row). Says r said) is says)
+of_form words rows (Err Form) none is says = absurd says
+of_form words rows (Err (BadStates word)) none is says = (none, subst (λ (r : List Row). HasBadStates r word.now) is says)
+of_form words rows (Err NoInput) none is says = absurd says
+of_form words rows (Err NoMemory) none is says = tt

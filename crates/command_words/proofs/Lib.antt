@@ -1,3 +1,4 @@
+mod Digits
 mod Builders
 mod FormLemmas
 pub mod Examples

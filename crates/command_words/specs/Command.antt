@@ -1,6 +1,6 @@
 -- The command, its form, and what words of the form give: docs/PROFILE.md, "Words of the command".
 -- The form is that of a simple command of the library `clap`.
-use Rattle.std.specs.Prelude.{◌≡◌, List, ℕ, [], ◌∷◌, true, Some, codes, unwrap_or, fold}
+use Rattle.std.specs.Prelude.{◌≡◌, List, ℕ, [], ◌∷◌, true, Option, Some, codes, unwrap_or, fold}
 use Rattle.clap.specs.Words.{App, Kinds, Row, Rule, Text, all_of, fault_of, first_of, matches_of, new_app, new_rule, with_rule}
 use Rattle.clap.specs.declared.builder.action.ArgAction.TheVariants.{Set, Append, SetTrue}
 
@@ -29,9 +29,10 @@ abbrev pub bare : App
 bare = let start = new_app (codes "clang_format") in
     record start { top = record start.top { no_binary_name = true; disable_help_flag = true; disable_version_flag = true } }
 
--- the words that are built: `--style S`, `-i` (the letter's code is 105), `--dump-config` and FILE
+-- the words that are built: `--style S`, `--states N`, `-i` (the letter's code is 105), `--dump-config` and FILE
 abbrev pub rules : List Rule
 rules = option_rule (codes "style")
+    ∷ option_rule (codes "states")
     ∷ letter_rule (codes "in-place") 105
     ∷ flag_rule (codes "dump-config")
     ∷ names_rule (codes "file")
@@ -61,6 +62,10 @@ Gives flag rows = first_of flag rows ≡ Some (codes "true")
 -- the value of `--style`, `file` where there is none
 abbrev pub style_word : List Row → Text
 style_word rows = unwrap_or (first_of (codes "style") rows) (codes "file")
+
+-- the value of `--states`, if there is one
+abbrev pub states_word : List Row → Option Text
+states_word rows = first_of (codes "states") rows
 
 -- the FILEs, in order
 abbrev pub file_names : List Row → List Text

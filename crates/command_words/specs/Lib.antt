@@ -1,3 +1,3 @@
 pub mod Command
+pub mod Budget
 pub mod Said
-pub mod Notes

@@ -1,13 +1,14 @@
 -- What the command's words say, and how reading them ends: docs/PROFILE.md, "Words of the command".
-use Rattle.std.specs.Prelude.{◌≡◌, ◌≢◌, ◌↔◌, ◌++◌, List, [], ⊤, IsTrue, Ok, Err, codes, map}
+use Rattle.std.specs.Prelude.{◌≡◌, ◌≢◌, ◌↔◌, ◌++◌, List, [], ⊤, IsTrue, IsSome, None, Some, Ok, Err, codes, map}
 use Rattle.std.specs.declared.result.Result.{Result}
 use Rattle.clap.specs.Words.{Row, Text}
-use Rattle.command_words.specs.Command.{Gives, IsOfForm, file_names, rows_of_words, style_word}
+use Rattle.command_words.specs.Command.{Gives, IsOfForm, file_names, rows_of_words, states_word, style_word}
+use Rattle.command_words.specs.Budget.{budget_of}
 use Rattle.command_words.specs.declared.read.StyleChoice.{StyleChoice}
 use Rattle.command_words.specs.declared.read.StyleChoice.TheVariants.{File, FileAt, Named}
 use Rattle.command_words.specs.declared.read.Words.{Words}
 use Rattle.command_words.specs.declared.fault.WordsFault.{WordsFault}
-use Rattle.command_words.specs.declared.fault.WordsFault.TheVariants.{Form, NoInput, NoMemory}
+use Rattle.command_words.specs.declared.fault.WordsFault.TheVariants.{Form, BadStates, NoInput, NoMemory}
 
 -- `file` is the file of the working folder, `file:PATH` is the file PATH, and any other word is a style's name
 abbrev pub Chooses : Text → StyleChoice → Type 0
@@ -18,6 +19,7 @@ Chooses word (Named name) = (word ≡ name.now) × (word ≢ codes "file") × ((
 -- the words say this
 pub record Says (rows : List Row) (said : Words) : Type 0 where
   pub style : Chooses (style_word rows) said.style
+  pub budget : budget_of (states_word rows) ≡ Some said.budget
   pub in_place : IsTrue said.in_place ↔ Gives (codes "in-place") rows
   pub dump_config : IsTrue said.dump_config ↔ Gives (codes "dump-config") rows
   pub files : map (λ name. name.now) said.files.items ≡ file_names rows
@@ -28,17 +30,31 @@ pub record LacksFile (rows : List Row) : Type 0 where
   pub no_dump : ¬ Gives (codes "dump-config") rows
   pub no_file : file_names rows ≡ []
 
--- words are read exactly where they are of the form and `-i` has its FILE, each fault has its own cause, and
--- want of memory may come at any time
+-- this value of `--states` tells no budget
+pub record HasBadStates (rows : List Row) (word : Text) : Type 0 where
+  pub given : states_word rows ≡ Some word
+  pub bad : budget_of (Some word) ≡ None
+
+-- Words are read exactly where they are of the form, `--states` tells a budget and `-i` has its FILE; each fault has its
+-- own cause, in this order, and want of memory may come at any time.
 abbrev pub Reads : List Text → Result Words WordsFault → Type 0
 Reads words (Ok said) = IsOfForm words × (¬ LacksFile (rows_of_words words)) × Says (rows_of_words words) said
 Reads words (Err Form) = ¬ IsOfForm words
-Reads words (Err NoInput) = IsOfForm words × LacksFile (rows_of_words words)
+Reads words (Err (BadStates word)) = IsOfForm words × HasBadStates (rows_of_words words) word.now
+Reads words (Err NoInput) = IsOfForm words × IsSome (budget_of (states_word (rows_of_words words))) × LacksFile (rows_of_words words)
 Reads words (Err NoMemory) = ⊤
 
 -- the same without the rule on `-i`
 abbrev pub ReadsForm : List Text → Result Words WordsFault → Type 0
 ReadsForm words (Ok said) = IsOfForm words × Says (rows_of_words words) said
 ReadsForm words (Err Form) = ¬ IsOfForm words
+ReadsForm words (Err (BadStates word)) = IsOfForm words × HasBadStates (rows_of_words words) word.now
 ReadsForm words (Err NoInput) = ⊥
 ReadsForm words (Err NoMemory) = ⊤
+
+-- what words of the form say, or why their values are refused
+abbrev pub SaysOrNot : List Row → Result Words WordsFault → Type 0
+SaysOrNot rows (Ok said) = Says rows said
+SaysOrNot rows (Err (BadStates word)) = HasBadStates rows word.now
+SaysOrNot rows (Err NoMemory) = ⊤
+SaysOrNot rows (Err fault) = ⊥

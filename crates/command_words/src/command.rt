@@ -68,8 +68,10 @@ pub fn make_command<'w>(alloc: Global) -> Result<Command<'w>, AllocError>
     let bare = bare_command(alloc);
     let style = option(alloc, "style");
     let with_style = with_arg(bare, style)?;
+    let states = option(alloc, "states");
+    let with_states = with_arg(with_style, states)?;
     let in_place = letter(alloc, "in-place", 'i');
-    let with_in_place = with_arg(with_style, in_place)?;
+    let with_in_place = with_arg(with_states, in_place)?;
     let dump_config = flag(alloc, "dump-config");
     let with_dump_config = with_arg(with_in_place, dump_config)?;
     let file = names(alloc, "file");

@@ -8,9 +8,11 @@
 //! line of `Says` in `specs/`.
 #![tactic(auto)]
 
+mod budget;
 mod command;
 mod fault;
 mod read;
 
+pub use budget::DEFAULT_BUDGET;
 pub use fault::{USAGE, WordsFault};
 pub use read::{StyleChoice, Words, read_words};

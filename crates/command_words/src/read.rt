@@ -1,9 +1,11 @@
 //! Reading the words: what they say, each by a small function.
 
-ghost use Rattle.std.specs.Prelude.{◌≡◌, ◌≢◌, ◌⊎◌, ◌↔◌, [], IfOk, IsTrue, Some, codes, map, option_map, string_bytes, unwrap_or};
+ghost use Rattle.std.specs.Prelude.{◌≡◌, ◌≢◌, ◌≤◌, ◌⊎◌, ◌↔◌, [], IfErr, IfOk, IsTrue, None, Some, codes, map, option_map, string_bytes, unwrap_or};
 ghost use Rattle.clap.specs.Words.{first_value, found_of, kind_of, matched_of, raw_values, rows_of};
-ghost use Rattle.command_words.specs.Said.{Chooses, Reads, ReadsForm, Says};
+ghost use Rattle.command_words.specs.Said.{Chooses, Reads, ReadsForm, SaysOrNot};
+ghost use Rattle.command_words.specs.Budget.{budget_of};
 
+use crate::budget::{DEFAULT_BUDGET, budget_in};
 use crate::command::make_command;
 use crate::fault::WordsFault;
 use clap::error::ErrorKind;
@@ -26,6 +28,8 @@ pub enum StyleChoice<'w> {
 pub struct Words<'w> {
     /// `--style S`.
     pub style: StyleChoice<'w>,
+    /// `--states N`: how many cells the search of a line may have.
+    pub budget: u64,
     /// `-i`: each FILE is written back.
     pub in_place: bool,
     /// `--dump-config`: the style in force is written, and no input is read.
@@ -64,6 +68,21 @@ fn style_of<'w>(matches: &ArgMatches<'w>) -> StyleChoice<'w>
     choice_of(matches.get_str("style").unwrap_or("file"))
 }
 
+/// The budget, or the value of `--states` that tells none.
+fn budget_of<'w>(matches: &ArgMatches<'w>) -> Result<u64, &'w str>
+    ensures some { IfOk result (λ budget. budget_of (first_value (found_of matches.now) (codes "states")) ≡ Some budget) }
+    ensures most { IfOk result (λ budget. budget ≤ 16000000) }
+    ensures none { IfErr result (λ word. (first_value (found_of matches.now) (codes "states") ≡ Some word.now) × (budget_of (Some word.now) ≡ None)) }
+{
+    match matches.get_str("states") {
+        None => Ok(DEFAULT_BUDGET),
+        Some(word) => match budget_in(word) {
+            Some(budget) => Ok(budget),
+            None => Err(word),
+        },
+    }
+}
+
 /// The FILEs that were given.
 fn files_of<'w>(alloc: Global, matches: &ArgMatches<'w>) -> Result<Vec<&'w str>, AllocError>
     ensures { IfOk result (λ files. map (λ name. name.now) files.items ≡ unwrap_or (option_map raw_values (matched_of (found_of matches.now) (codes "file"))) []) }
@@ -75,15 +94,21 @@ fn files_of<'w>(alloc: Global, matches: &ArgMatches<'w>) -> Result<Vec<&'w str>,
 }
 
 /// What the matches say.
-fn said<'w>(alloc: Global, matches: &ArgMatches<'w>) -> Result<Words<'w>, AllocError>
-    ensures { IfOk result (Says (rows_of (found_of matches.now))) }
+fn said<'w>(alloc: Global, matches: &ArgMatches<'w>) -> Result<Words<'w>, WordsFault<'w>>
+    ensures says { SaysOrNot (rows_of (found_of matches.now)) result }
+    ensures most { IfOk result (λ said. said.budget ≤ 16000000) }
 {
+    let budget = match budget_of(matches) {
+        Ok(budget) => budget,
+        Err(word) => return Err(WordsFault::BadStates(word)),
+    };
     let files = files_of(alloc, matches)?;
     let style = style_of(matches);
     let in_place = is_given(matches, "in-place");
     let dump_config = is_given(matches, "dump-config");
     Ok(Words {
         style,
+        budget,
         in_place,
         dump_config,
         files,
@@ -91,7 +116,7 @@ fn said<'w>(alloc: Global, matches: &ArgMatches<'w>) -> Result<Words<'w>, AllocE
 }
 
 /// Why the parse failed.
-fn fault_of_error(error: &Error) -> WordsFault
+fn fault_of_error<'w>(error: &Error) -> WordsFault<'w>
     ensures form { result ≡ WordsFault.Form → kind_of error.now ≢ ErrorKind.OutOfMemory }
     ensures cause { (result ≡ WordsFault.Form) ⊎ (result ≡ WordsFault.NoMemory) }
 {
@@ -102,22 +127,24 @@ fn fault_of_error(error: &Error) -> WordsFault
 }
 
 /// Reads words of the command's form.
-fn read_form<'w>(alloc: Global, words: &'w [String]) -> Result<Words<'w>, WordsFault>
-    ensures { ReadsForm (map string_bytes words.now) result }
+fn read_form<'w>(alloc: Global, words: &'w [String]) -> Result<Words<'w>, WordsFault<'w>>
+    ensures reads { ReadsForm (map string_bytes words.now) result }
+    ensures most { IfOk result (λ said. said.budget ≤ 16000000) }
 {
     let command = make_command(alloc)?;
     match command.try_get_matches_from(words) {
-        Ok(matches) => Ok(said(alloc, &matches)?),
+        Ok(matches) => said(alloc, &matches),
         Err(error) => Err(fault_of_error(&error)),
     }
 }
 
 /// Reads the words that stand after the program's name.
 ///
-/// `Form`: they are not of the command's form. `NoInput`: they are, with `-i` and neither a FILE nor
-/// `--dump-config`. `NoMemory`: memory ran out.
-pub fn read_words<'w>(alloc: Global, words: &'w [String]) -> Result<Words<'w>, WordsFault>
-    ensures { Reads (map string_bytes words.now) result }
+/// `Form`: they are not of the command's form. `BadStates`: they are, and `--states` tells no budget. `NoInput`: they
+/// have `-i` and neither a FILE nor `--dump-config`. `NoMemory`: memory ran out.
+pub fn read_words<'w>(alloc: Global, words: &'w [String]) -> Result<Words<'w>, WordsFault<'w>>
+    ensures reads { Reads (map string_bytes words.now) result }
+    ensures most { IfOk result (λ said. said.budget ≤ 16000000) }
 {
     let said = read_form(alloc, words)?;
     if said.in_place && !said.dump_config && said.files.is_empty() {

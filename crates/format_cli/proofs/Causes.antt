@@ -7,11 +7,13 @@ use Rattle.style_table.specs.declared.style.Style.{Style}
 use Rattle.command_words.specs.declared.read.StyleChoice.{StyleChoice}
 use Rattle.std.specs.Borrow.{Bor}
 use Rattle.c_chars.specs.declared.TheConstants.{LIMIT}
+use Rattle.std.specs.Io.KnownBytes.{Appends}
+use Rattle.format_cli.specs.declared.input.Options.{Options}
 use Rattle.format_cli.specs.declared.input.Place.TheVariants.{Itself}
 use Rattle.format_cli.specs.declared.refusal.Refusal.{Refusal}
-use Rattle.format_cli.specs.declared.refusal.Refusal.TheVariants.{BadWords, NoInput, UnknownStyle, LongConfiguration, BadConfiguration, TooLarge, OpenComment, SourceFailed, FileFailed, OutFailed, NotesFailed, Missing, NoMemory}
+use Rattle.format_cli.specs.declared.refusal.Refusal.TheVariants.{BadWords, BadStates, NoInput, UnknownStyle, LongConfiguration, BadConfiguration, TooLarge, OpenComment, SourceFailed, FileFailed, OutFailed, NotesFailed, Missing, NoMemory}
 use Rattle.format_cli.specs.InForce.{IsHeld, IsLonger, IsInForce, IsStyleRefused, IsConfigurationRefused, Configures, configuration_of}
-use Rattle.format_cli.specs.Inputs.{ends, IsDone, IsFormatted, IsTold, IsTextCause, IsFileCause, IsFileRefused, IsSourceRefused, IsWriteRefused}
+use Rattle.format_cli.specs.Inputs.{ends, rows_told, IsDone, IsFormatted, IsTold, IsTextCause, IsFileCause, IsFileRefused, IsSourceRefused, IsWriteRefused}
 use Rattle.c_grammar.specs.Grammar.{is_same}
 use Rattle.c_grammar.proofs.Lists.{same_is, same_refl}
 use Rattle.format_cli.proofs.Ends.{keeps_self, others_after, keeps_all_after}
@@ -23,6 +25,7 @@ longer (Some at) name text h k = rw h k
 -- a FILE is refused for its text
 pub file_cause : (held : Held) (name text : List ℕ) (refusal : Refusal) → IsHeld held name text → IsTextCause name text refusal → IsFileCause held name refusal
 file_cause held name text BadWords h k = absurd k
+file_cause held name text (BadStates word) h k = absurd k
 file_cause held name text NoInput h k = absurd k
 file_cause held name text (UnknownStyle unknown) h k = absurd k
 file_cause held name text (LongConfiguration file) h k = absurd k
@@ -41,39 +44,41 @@ large None text h k = tt
 large (Some b) text h k = subst (λ (x : List ℕ). LIMIT < length x) h k
 
 -- standard input is refused for its text, and nothing was written
-pub source_refused : (style : Style) (input old : Option (List ℕ)) (text : List ℕ) (refusal : Refusal) → IsTold input text →
-    IsTextCause (codes "<stdin>") text refusal → IsSourceRefused style input old old refusal
-source_refused style input old text BadWords h k = absurd k
-source_refused style input old text NoInput h k = absurd k
-source_refused style input old text (UnknownStyle unknown) h k = absurd k
-source_refused style input old text (LongConfiguration file) h k = absurd k
-source_refused style input old text (BadConfiguration file fault) h k = absurd k
-source_refused style input old text (TooLarge its_name) h k = (keeps_self old, (k.0, large input text h k.1))
-source_refused style input old text (OpenComment its_name at) h k = (keeps_self old, (k.0, (text, h, k.1, k.2)))
-source_refused style input old text SourceFailed h k = absurd k
-source_refused style input old text (FileFailed file) h k = absurd k
-source_refused style input old text OutFailed h k = absurd k
-source_refused style input old text NotesFailed h k = absurd k
-source_refused style input old text (Missing file) h k = absurd k
-source_refused style input old text NoMemory h k = (keeps_self old, tt)
+pub source_refused : (options : Options) (input old told : Option (List ℕ)) (text : List ℕ) (refusal : Refusal) → IsTold input text →
+    IsTextCause (codes "<stdin>") text refusal → IsSourceRefused options input old old told told refusal
+source_refused options input old told text BadWords h k = absurd k
+source_refused options input old told text (BadStates word) h k = absurd k
+source_refused options input old told text NoInput h k = absurd k
+source_refused options input old told text (UnknownStyle unknown) h k = absurd k
+source_refused options input old told text (LongConfiguration file) h k = absurd k
+source_refused options input old told text (BadConfiguration file fault) h k = absurd k
+source_refused options input old told text (TooLarge its_name) h k = (keeps_self old, (k.0, large input text h k.1), keeps_self told)
+source_refused options input old told text (OpenComment its_name at) h k = (keeps_self old, (k.0, (text, h, k.1, k.2)), keeps_self told)
+source_refused options input old told text SourceFailed h k = absurd k
+source_refused options input old told text (FileFailed file) h k = absurd k
+source_refused options input old told text OutFailed h k = absurd k
+source_refused options input old told text NotesFailed h k = absurd k
+source_refused options input old told text (Missing file) h k = absurd k
+source_refused options input old told text NoMemory h k = (keeps_self old, tt, keeps_self told)
 
 -- a FILE is refused for the write of its text, which changed
-pub write_refused : (style : Style) (name b c : List ℕ) (taken : Option (List ℕ)) (old mid new : Held) (refusal : Refusal) → IsHeld old name b →
-    IsFormatted style b c → (c ≢ b) → KeepsAll old mid → IsWriteRefused name mid new refusal →
-    IsFileRefused style Itself name (ends taken old) (ends taken new) refusal
-write_refused style name b c taken old mid new BadWords held formatted changes same k = absurd k
-write_refused style name b c taken old mid new NoInput held formatted changes same k = absurd k
-write_refused style name b c taken old mid new (UnknownStyle unknown) held formatted changes same k = absurd k
-write_refused style name b c taken old mid new (LongConfiguration file) held formatted changes same k = absurd k
-write_refused style name b c taken old mid new (BadConfiguration file fault) held formatted changes same k = absurd k
-write_refused style name b c taken old mid new (TooLarge its_name) held formatted changes same k = absurd k
-write_refused style name b c taken old mid new (OpenComment its_name at) held formatted changes same k = absurd k
-write_refused style name b c taken old mid new SourceFailed held formatted changes same k = absurd k
-write_refused style name b c taken old mid new (FileFailed file) held formatted changes same k = inr (b, c, held, formatted, (k.0, changes, keeps_self taken, others_after name old mid new same k.1))
-write_refused style name b c taken old mid new OutFailed held formatted changes same k = absurd k
-write_refused style name b c taken old mid new NotesFailed held formatted changes same k = absurd k
-write_refused style name b c taken old mid new (Missing file) held formatted changes same k = absurd k
-write_refused style name b c taken old mid new NoMemory held formatted changes same k = inl (record { taken = keeps_self taken; held = keeps_all_after old mid new same k }, tt)
+pub write_refused : (options : Options) (name b c : List ℕ) (taken told now : Option (List ℕ)) (old mid new : Held) (refusal : Refusal) → IsHeld old name b →
+    (made : IsFormatted options b c) → Appends told now (rows_told name made) → (c ≢ b) → KeepsAll old mid → IsWriteRefused name mid new refusal →
+    IsFileRefused options Itself name (ends taken old told) (ends taken new now) refusal
+write_refused options name b c taken told now old mid new BadWords held made rows changes same k = absurd k
+write_refused options name b c taken told now old mid new (BadStates word) held made rows changes same k = absurd k
+write_refused options name b c taken told now old mid new NoInput held made rows changes same k = absurd k
+write_refused options name b c taken told now old mid new (UnknownStyle unknown) held made rows changes same k = absurd k
+write_refused options name b c taken told now old mid new (LongConfiguration file) held made rows changes same k = absurd k
+write_refused options name b c taken told now old mid new (BadConfiguration file fault) held made rows changes same k = absurd k
+write_refused options name b c taken told now old mid new (TooLarge its_name) held made rows changes same k = absurd k
+write_refused options name b c taken told now old mid new (OpenComment its_name at) held made rows changes same k = absurd k
+write_refused options name b c taken told now old mid new SourceFailed held made rows changes same k = absurd k
+write_refused options name b c taken told now old mid new (FileFailed file) held made rows changes same k = inr (b, c, held, made, (k.0, changes, keeps_self taken, others_after name old mid new same k.1, rows))
+write_refused options name b c taken told now old mid new OutFailed held made rows changes same k = absurd k
+write_refused options name b c taken told now old mid new NotesFailed held made rows changes same k = absurd k
+write_refused options name b c taken told now old mid new (Missing file) held made rows changes same k = absurd k
+write_refused options name b c taken told now old mid new NoMemory held made rows changes same k = inr (b, c, held, made, (keeps_self taken, keeps_all_after old mid new same k, rows))
 
 -- no style is in force for what its configuration says
 pub style_refused : (choice : StyleChoice) (held : Held) (file : Bor (List ℕ)) (text : List ℕ) (old new : Option (List ℕ)) (refusal : Refusal) →
@@ -81,6 +86,7 @@ pub style_refused : (choice : StyleChoice) (held : Held) (file : Bor (List ℕ))
     ((style : Style) (rows : List ℕ) → Configures file.now text style rows → IsInForce choice held style rows) →
     IsConfigurationRefused file text old new refusal → IsStyleRefused choice held old new refusal
 style_refused choice held file text old new BadWords h names gives k = absurd k
+style_refused choice held file text old new (BadStates word) h names gives k = absurd k
 style_refused choice held file text old new NoInput h names gives k = absurd k
 style_refused choice held file text old new (UnknownStyle unknown) h names gives k = absurd k
 style_refused choice held file text old new (LongConfiguration at) h names gives k = absurd k
@@ -115,7 +121,7 @@ stays changed b c is fails = same_is c b (from_not (is_same c b) (sym is ∙ fai
     from_not false h = sym h
 
 -- a file was written back
-pub written_back : (style : Style) (name b c : List ℕ) (taken : Option (List ℕ)) (old mid new : Held) → IsHeld old name b → IsFormatted style b c →
-    (c ≢ b) → KeepsAll old mid → IsHeld new name c × KeepsOthers name mid new → IsDone style Itself name (ends taken old) (ends taken new)
-written_back style name b c taken old mid new held formatted changed same k =
-    (b, c, held, formatted, (keeps_self taken, inr (changed, k.0, others_after name old mid new same k.1)))
+pub written_back : (options : Options) (name b c : List ℕ) (taken told now : Option (List ℕ)) (old mid new : Held) → IsHeld old name b → (made : IsFormatted options b c) →
+    Appends told now (rows_told name made) → (c ≢ b) → KeepsAll old mid → IsHeld new name c × KeepsOthers name mid new → IsDone options Itself name (ends taken old told) (ends taken new now)
+written_back options name b c taken told now old mid new held made rows changed same k =
+    (b, c, held, made, (keeps_self taken, inr (changed, k.0, others_after name old mid new same k.1)), rows)

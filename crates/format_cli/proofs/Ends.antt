@@ -1,5 +1,5 @@
 -- What is kept where nothing is written.
-use Rattle.std.proofs.Common.{◌∙◌, ℕ, List, Some, None, [], refl}
+use Rattle.std.proofs.Common.{◌∙◌, ℕ, List, Some, None, [], refl, sym, append-nil}
 use Rattle.std.proofs.Common.{arith}
 use Rattle.std.proofs.lemmas.Grind.{common_steps}
 use Rattle.std.specs.declared.option.Option.{Option}
@@ -37,3 +37,9 @@ others_stay name (Some a) (Some b) h = λ other apart. h other
 pub appends_none : (x : Option (List ℕ)) → Appends x x []
 appends_none None = tt
 appends_none (Some x) = grind (arith, common_steps)
+
+-- where nothing is taken, a text without bytes is
+pub takes_nothing : (old new : Option (List ℕ)) → Keeps old new → Appends old new []
+takes_nothing None new k = tt
+takes_nothing (Some xs) None k = absurd k
+takes_nothing (Some xs) (Some ys) k = k ∙ sym (append-nil xs)

@@ -8,11 +8,11 @@ use Rattle.c_chars.specs.declared.TheConstants.{LIMIT}
 use Rattle.c_chars.specs.declared.Dialect.TheVariants.{C11}
 use Rattle.c_lexer.specs.Fault.{IsOpenAt}
 use Rattle.format_core.proofs.Opens.{open_texts_have_no_layout}
-use Rattle.style_table.specs.declared.style.Style.{Style}
+use Rattle.format_cli.specs.declared.input.Options.{Options}
 use Rattle.format_cli.specs.declared.input.Place.{Place}
 use Rattle.format_cli.specs.declared.input.Place.TheVariants.{Output, Itself}
 use Rattle.format_cli.specs.declared.refusal.Refusal.{Refusal}
-use Rattle.format_cli.specs.declared.refusal.Refusal.TheVariants.{BadWords, NoInput, UnknownStyle, LongConfiguration, BadConfiguration, TooLarge, OpenComment, SourceFailed, FileFailed, OutFailed, NotesFailed, Missing, NoMemory}
+use Rattle.format_cli.specs.declared.refusal.Refusal.TheVariants.{BadWords, BadStates, NoInput, UnknownStyle, LongConfiguration, BadConfiguration, TooLarge, OpenComment, SourceFailed, FileFailed, OutFailed, NotesFailed, Missing, NoMemory}
 use Rattle.format_cli.specs.InForce.{IsHeld}
 use Rattle.format_cli.specs.Inputs.{AreDone, AreRefused, Ends, IsDone, IsFileCause, IsFileRefused, IsFormatted, IsSourceDone, IsSourceRefused, IsTold, PutFails}
 use Rattle.format_cli.specs.Notes.{status_of}
@@ -23,30 +23,31 @@ use Rattle.format_cli.proofs.StyleOrder.{EndsSo}
 -- ---- one text
 
 -- a text that has a layout isn't refused
-not_bad : (style : Style) (b c : List ℕ) → IsFormatted style b c → IsBadText b → ⊥
-not_bad style b c made (inl long) = omega (arith, made.fits, long)
-not_bad style b c made (inr unended) = open_texts_have_no_layout style C11 b c unended.0 made.formats unended.1
+not_bad : (options : Options) (b c : List ℕ) → IsFormatted options b c → IsBadText b → ⊥
+not_bad options b c made (inl long) = omega (arith, made.fits, long)
+not_bad options b c made (inr unended) = open_texts_have_no_layout options.style options.budget C11 b c made.reports unended.0 made.formats unended.1
 
 -- standard input that is refused for its bytes isn't done
-pub source_stays : (style : Style) (left old new : Option (List ℕ)) → IsSourceDone style left old new → IsThere IsBadText left → ⊥
-source_stays style None old new k bad = bad
-source_stays style (Some b) old new k bad = not_bad style k.0 k.1 k.3 (subst IsBadText (sym k.2) bad)
+pub source_stays : (options : Options) (left old new told now : Option (List ℕ)) → IsSourceDone options left old new told now → IsThere IsBadText left → ⊥
+source_stays options None old new told now k bad = bad
+source_stays options (Some b) old new told now k bad = not_bad options k.0 k.1 k.3 (subst IsBadText (sym k.2) bad)
 
 -- standard input ends so, where it is refused
-pub source_ends : (style : Style) (left old new : Option (List ℕ)) (refusal : Refusal) → IsSourceRefused style left old new refusal → EndsSo 4 refusal
-source_ends style left old new BadWords k = absurd k.1
-source_ends style left old new NoInput k = absurd k.1
-source_ends style left old new (UnknownStyle unknown) k = absurd k.1
-source_ends style left old new (LongConfiguration file) k = absurd k.1
-source_ends style left old new (BadConfiguration file fault) k = absurd k.1
-source_ends style left old new (TooLarge its_name) k = inl refl
-source_ends style left old new (OpenComment its_name at) k = inl refl
-source_ends style left old new SourceFailed k = inr (inl refl)
-source_ends style left old new (FileFailed file) k = absurd k.1
-source_ends style left old new OutFailed k = inr (inl refl)
-source_ends style left old new NotesFailed k = absurd k.1
-source_ends style left old new (Missing file) k = absurd k.1
-source_ends style left old new NoMemory k = inr (inr refl)
+pub source_ends : (options : Options) (left old new told now : Option (List ℕ)) (refusal : Refusal) → IsSourceRefused options left old new told now refusal → EndsSo 4 refusal
+source_ends options left old new told now BadWords k = absurd k.1
+source_ends options left old new told now (BadStates word) k = absurd k.1
+source_ends options left old new told now NoInput k = absurd k.1
+source_ends options left old new told now (UnknownStyle unknown) k = absurd k.1
+source_ends options left old new told now (LongConfiguration file) k = absurd k.1
+source_ends options left old new told now (BadConfiguration file fault) k = absurd k.1
+source_ends options left old new told now (TooLarge its_name) k = inl refl
+source_ends options left old new told now (OpenComment its_name at) k = inl refl
+source_ends options left old new told now SourceFailed k = inr (inl refl)
+source_ends options left old new told now (FileFailed file) k = absurd k.1
+source_ends options left old new told now OutFailed k = inr (inl refl)
+source_ends options left old new told now NotesFailed k = inr (inl refl)
+source_ends options left old new told now (Missing file) k = absurd k.1
+source_ends options left old new told now NoMemory k = inr (inr refl)
 
 -- ---- one FILE
 
@@ -58,10 +59,10 @@ Stops status file = ((file ≡ None) × (status ≡ 6)) ⊎ (IsThere IsBadText f
 abbrev pub IsFine : Option (List ℕ) → Type 0
 IsFine file = IsThere (λ text. IsBadText text → ⊥) file
 
-stays : (held : Held) (style : Style) (name b c : List ℕ) (status : ℕ) → IsHeld held name b → IsFormatted style b c → Tells held name (Stops status) → ⊥
-stays None style name b c status h made s = s
-stays (Some at) style name b c status h made (inl s) = let wrong : Some b ≡ None = sym h ∙ s.0 in cc
-stays (Some at) style name b c status h made (inr s) = not_bad style b c made (subst (IsThere IsBadText) h s.0)
+stays : (held : Held) (options : Options) (name b c : List ℕ) (status : ℕ) → IsHeld held name b → IsFormatted options b c → Tells held name (Stops status) → ⊥
+stays None options name b c status h made s = s
+stays (Some at) options name b c status h made (inl s) = let wrong : Some b ≡ None = sym h ∙ s.0 in cc
+stays (Some at) options name b c status h made (inr s) = not_bad options b c made (subst (IsThere IsBadText) h s.0)
 
 -- bytes that are there can only be refused with 4
 four : (held : Held) (name : List ℕ) (status : ℕ) (P : Option (List ℕ) → Type 0) → HeldAt held name P → (P None → ⊥) → Tells held name (Stops status) → 4 ≡ status
@@ -79,6 +80,7 @@ never_none text wrong = cc
 
 cause_ends : (held : Held) (name : List ℕ) (refusal : Refusal) (status : ℕ) → IsFileCause held name refusal → Tells held name (Stops status) → EndsSo status refusal
 cause_ends held name BadWords status k s = absurd k
+cause_ends held name (BadStates word) status k s = absurd k
 cause_ends held name NoInput status k s = absurd k
 cause_ends held name (UnknownStyle unknown) status k s = absurd k
 cause_ends held name (LongConfiguration file) status k s = absurd k
@@ -104,6 +106,7 @@ not_refused (Some at) name P there never bad h = clash (at name) P there never b
 
 cause_fails : (held : Held) (name : List ℕ) (refusal : Refusal) → IsFileCause held name refusal → Tells held name IsFine → (status_of refusal ≡ 5) ⊎ (status_of refusal ≡ 7)
 cause_fails held name BadWords k h = absurd k
+cause_fails held name (BadStates word) k h = absurd k
 cause_fails held name NoInput k h = absurd k
 cause_fails held name (UnknownStyle unknown) k h = absurd k
 cause_fails held name (LongConfiguration file) k h = absurd k
@@ -124,43 +127,45 @@ cause_fails held name (Missing file) k h = absurd (gone held k.1 h)
     gone (Some at) none h = subst IsFine none h
 cause_fails held name NoMemory k h = inr refl
 
-put_ends : (place : Place) (name b c : List ℕ) (before now : Ends) (refusal : Refusal) → PutFails place name b c before now refusal → status_of refusal ≡ 5
-put_ends Output name b c before now BadWords k = absurd k
-put_ends Output name b c before now NoInput k = absurd k
-put_ends Output name b c before now (UnknownStyle unknown) k = absurd k
-put_ends Output name b c before now (LongConfiguration file) k = absurd k
-put_ends Output name b c before now (BadConfiguration file fault) k = absurd k
-put_ends Output name b c before now (TooLarge its_name) k = absurd k
-put_ends Output name b c before now (OpenComment its_name at) k = absurd k
-put_ends Output name b c before now SourceFailed k = absurd k
-put_ends Output name b c before now (FileFailed file) k = absurd k
-put_ends Output name b c before now OutFailed k = refl
-put_ends Output name b c before now NotesFailed k = absurd k
-put_ends Output name b c before now (Missing file) k = absurd k
-put_ends Output name b c before now NoMemory k = absurd k
-put_ends Itself name b c before now BadWords k = absurd k
-put_ends Itself name b c before now NoInput k = absurd k
-put_ends Itself name b c before now (UnknownStyle unknown) k = absurd k
-put_ends Itself name b c before now (LongConfiguration file) k = absurd k
-put_ends Itself name b c before now (BadConfiguration file fault) k = absurd k
-put_ends Itself name b c before now (TooLarge its_name) k = absurd k
-put_ends Itself name b c before now (OpenComment its_name at) k = absurd k
-put_ends Itself name b c before now SourceFailed k = absurd k
-put_ends Itself name b c before now (FileFailed file) k = refl
-put_ends Itself name b c before now OutFailed k = absurd k
-put_ends Itself name b c before now NotesFailed k = absurd k
-put_ends Itself name b c before now (Missing file) k = absurd k
-put_ends Itself name b c before now NoMemory k = absurd k
+put_ends : (place : Place) (name b c rows : List ℕ) (before now : Ends) (refusal : Refusal) → PutFails place name b c rows before now refusal → (status_of refusal ≡ 5) ⊎ (status_of refusal ≡ 7)
+put_ends Output name b c rows before now BadWords k = absurd k
+put_ends Output name b c rows before now (BadStates word) k = absurd k
+put_ends Output name b c rows before now NoInput k = absurd k
+put_ends Output name b c rows before now (UnknownStyle unknown) k = absurd k
+put_ends Output name b c rows before now (LongConfiguration file) k = absurd k
+put_ends Output name b c rows before now (BadConfiguration file fault) k = absurd k
+put_ends Output name b c rows before now (TooLarge its_name) k = absurd k
+put_ends Output name b c rows before now (OpenComment its_name at) k = absurd k
+put_ends Output name b c rows before now SourceFailed k = absurd k
+put_ends Output name b c rows before now (FileFailed file) k = absurd k
+put_ends Output name b c rows before now OutFailed k = inl refl
+put_ends Output name b c rows before now NotesFailed k = inl refl
+put_ends Output name b c rows before now (Missing file) k = absurd k
+put_ends Output name b c rows before now NoMemory k = absurd k
+put_ends Itself name b c rows before now BadWords k = absurd k
+put_ends Itself name b c rows before now (BadStates word) k = absurd k
+put_ends Itself name b c rows before now NoInput k = absurd k
+put_ends Itself name b c rows before now (UnknownStyle unknown) k = absurd k
+put_ends Itself name b c rows before now (LongConfiguration file) k = absurd k
+put_ends Itself name b c rows before now (BadConfiguration file fault) k = absurd k
+put_ends Itself name b c rows before now (TooLarge its_name) k = absurd k
+put_ends Itself name b c rows before now (OpenComment its_name at) k = absurd k
+put_ends Itself name b c rows before now SourceFailed k = absurd k
+put_ends Itself name b c rows before now (FileFailed file) k = inl refl
+put_ends Itself name b c rows before now OutFailed k = absurd k
+put_ends Itself name b c rows before now NotesFailed k = inl refl
+put_ends Itself name b c rows before now (Missing file) k = absurd k
+put_ends Itself name b c rows before now NoMemory k = inr refl
 
-file_ends : (style : Style) (place : Place) (name : List ℕ) (before now : Ends) (refusal : Refusal) (status : ℕ) → IsFileRefused style place name before now refusal →
+file_ends : (options : Options) (place : Place) (name : List ℕ) (before now : Ends) (refusal : Refusal) (status : ℕ) → IsFileRefused options place name before now refusal →
     Tells before.held name (Stops status) → EndsSo status refusal
-file_ends style place name before now refusal status (inl k) s = cause_ends before.held name refusal status k.1 s
-file_ends style place name before now refusal status (inr k) s = inr (inl (put_ends place name k.0 k.1 before now refusal k.4))
+file_ends options place name before now refusal status (inl k) s = cause_ends before.held name refusal status k.1 s
+file_ends options place name before now refusal status (inr k) s = inr (put_ends place name k.0 k.1 _ before now refusal k.4)
 
-file_fails : (style : Style) (place : Place) (name : List ℕ) (before now : Ends) (refusal : Refusal) → IsFileRefused style place name before now refusal →
+file_fails : (options : Options) (place : Place) (name : List ℕ) (before now : Ends) (refusal : Refusal) → IsFileRefused options place name before now refusal →
     Tells before.held name IsFine → (status_of refusal ≡ 5) ⊎ (status_of refusal ≡ 7)
-file_fails style place name before now refusal (inl k) h = cause_fails before.held name refusal k.1 h
-file_fails style place name before now refusal (inr k) h = inl (put_ends place name k.0 k.1 before now refusal k.4)
+file_fails options place name before now refusal (inl k) h = cause_fails before.held name refusal k.1 h
+file_fails options place name before now refusal (inr k) h = put_ends place name k.0 k.1 _ before now refusal k.4
 
 -- ---- the FILEs
 
@@ -197,10 +202,10 @@ once_behind : (place : Place) (name : List ℕ) (names : List (List ℕ)) → Ar
 once_behind Output name names once = tt
 once_behind Itself name names once = once.1
 
-stop_after : (style : Style) (place : Place) (name : List ℕ) (names : List (List ℕ)) (before between : Ends) (status : ℕ) → IsDone style place name before between →
+stop_after : (options : Options) (place : Place) (name : List ℕ) (names : List (List ℕ)) (before between : Ends) (status : ℕ) → IsDone options place name before between →
     AreOnce place (name ∷ names) → FilesStop before.held names status → FilesStop between.held names status
-stop_after style Output name names before between status k once s = stop_stays names before.held between.held status k.4.1 s
-stop_after style Itself name names before between status k once s = put k.4.1
+stop_after options Output name names before between status k once s = stop_stays names before.held between.held status k.4.1 s
+stop_after options Itself name names before between status k once s = put k.4.1
   where
     put : ((k.1 ≡ k.0) × KeepsAll before.held between.held) ⊎ ((k.1 ≢ k.0) × IsHeld between.held name k.1 × KeepsOthers name before.held between.held) →
         FilesStop between.held names status
@@ -208,19 +213,19 @@ stop_after style Itself name names before between status k once s = put k.4.1
     put (inr p) = stop_others names name before.held between.held status once.0 p.2 s
 
 -- FILEs of which one is refused aren't all done
-pub files_stay : (style : Style) (place : Place) (names : List (List ℕ)) (before now : Ends) (status : ℕ) → AreDone style place names before now → AreOnce place names →
+pub files_stay : (options : Options) (place : Place) (names : List (List ℕ)) (before now : Ends) (status : ℕ) → AreDone options place names before now → AreOnce place names →
     FilesStop before.held names status → ⊥
-files_stay style place [] before now status k once s = s
-files_stay style place (name ∷ names) before now status k once (inl s) = stays before.held style name k.1.0 k.1.1 status k.1.2 k.1.3 s
-files_stay style place (name ∷ names) before now status k once (inr s) =
-    files_stay style place names k.0 now status k.2 (once_behind place name names once) (stop_after style place name names before k.0 status k.1 once s.1)
+files_stay options place [] before now status k once s = s
+files_stay options place (name ∷ names) before now status k once (inl s) = stays before.held options name k.1.0 k.1.1 status k.1.2 k.1.3 s
+files_stay options place (name ∷ names) before now status k once (inr s) =
+    files_stay options place names k.0 now status k.2 (once_behind place name names once) (stop_after options place name names before k.0 status k.1 once s.1)
 
 -- FILEs of which one is refused end so
-pub files_end : (style : Style) (place : Place) (names : List (List ℕ)) (before now : Ends) (refusal : Refusal) (status : ℕ) → AreRefused style place names before now refusal →
+pub files_end : (options : Options) (place : Place) (names : List (List ℕ)) (before now : Ends) (refusal : Refusal) (status : ℕ) → AreRefused options place names before now refusal →
     AreOnce place names → FilesStop before.held names status → EndsSo status refusal
-files_end style place [] before now refusal status k once s = absurd k
-files_end style place (name ∷ names) before now refusal status (inl k) once (inl s) = file_ends style place name before now refusal status k s
-files_end style place (name ∷ names) before now refusal status (inl k) once (inr s) = inr (file_fails style place name before now refusal k s.0)
-files_end style place (name ∷ names) before now refusal status (inr k) once (inl s) = absurd (stays before.held style name k.1.0 k.1.1 status k.1.2 k.1.3 s)
-files_end style place (name ∷ names) before now refusal status (inr k) once (inr s) =
-    files_end style place names k.0 now refusal status k.2 (once_behind place name names once) (stop_after style place name names before k.0 status k.1 once s.1)
+files_end options place [] before now refusal status k once s = absurd k
+files_end options place (name ∷ names) before now refusal status (inl k) once (inl s) = file_ends options place name before now refusal status k s
+files_end options place (name ∷ names) before now refusal status (inl k) once (inr s) = inr (file_fails options place name before now refusal k s.0)
+files_end options place (name ∷ names) before now refusal status (inr k) once (inl s) = absurd (stays before.held options name k.1.0 k.1.1 status k.1.2 k.1.3 s)
+files_end options place (name ∷ names) before now refusal status (inr k) once (inr s) =
+    files_end options place names k.0 now refusal status k.2 (once_behind place name names once) (stop_after options place name names before k.0 status k.1 once s.1)

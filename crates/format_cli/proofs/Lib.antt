@@ -7,5 +7,6 @@ mod Kept
 mod Choice
 mod StyleOrder
 mod InputOrder
+mod Told
 mod Order
 mod Joined

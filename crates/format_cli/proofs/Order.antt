@@ -9,22 +9,26 @@ use Rattle.fmt_ports.specs.Causes.{AppendsPart, Counts, Rose}
 use Rattle.fmt_ports.specs.Files.{Held}
 use Rattle.style_table.specs.declared.style.Style.{Style}
 use Rattle.command_words.specs.declared.read.Words.{Words}
+use Rattle.command_words.specs.Command.{rows_of_words}
 use Rattle.command_words.specs.Said.{Reads}
 use Rattle.format_cli.specs.declared.input.Place.{Place}
 use Rattle.format_cli.specs.declared.refusal.Refusal.{Refusal}
-use Rattle.format_cli.specs.declared.refusal.Refusal.TheVariants.{BadWords, NoInput, UnknownStyle, LongConfiguration, BadConfiguration, TooLarge, OpenComment, SourceFailed, FileFailed, OutFailed, NotesFailed, Missing, NoMemory}
-use Rattle.format_cli.specs.Account.{AreWordsRefused, EndsWell, IsBegun, IsNotPerformed, IsPerformed, IsRefused, World, files_of, place_of}
+use Rattle.format_cli.specs.declared.refusal.Refusal.TheVariants.{BadWords, BadStates, NoInput, UnknownStyle, LongConfiguration, BadConfiguration, TooLarge, OpenComment, SourceFailed, FileFailed, OutFailed, NotesFailed, Missing, NoMemory}
+use Rattle.format_cli.specs.Account.{AreWordsRefused, EndsWell, IsBegun, IsNotPerformed, IsPerformed, IsRefused, World, files_of, options_of, place_of}
 use Rattle.format_cli.specs.Counts.{Faults, Raises}
 use Rattle.format_cli.specs.Notes.{row_of, status_of}
 use Rattle.format_cli.specs.Order.{AreDifferent, FilesStop, HasStyle, InputsStop, IsBadText, IsThere, LacksRows, StopsWith, StyleStops}
 use Rattle.format_cli.proofs.Choice.{has_same, in_force_same, one_dump, one_list, one_place, one_style, stops_same}
 use Rattle.format_cli.proofs.StyleOrder.{EndsSo, goes_on, style_ends, style_fails}
+use Rattle.format_cli.proofs.Statuses.{no_budget}
+use Rattle.format_cli.proofs.Told.{performed_takes, not_performed_takes}
 use Rattle.format_cli.proofs.InputOrder.{AreOnce, files_end, files_stay, source_ends, source_stays, stop_stays}
 
 -- words that say something are refused only for want of memory
 read_words : (words : List (List ℕ)) (said : Words) (refusal : Refusal) → AreWordsRefused words refusal → Reads words (Ok said) → status_of refusal ≡ 7
 read_words words said BadWords k reads = absurd (k reads.0)
-read_words words said NoInput k reads = absurd (reads.1 k.1)
+read_words words said (BadStates word) k reads = absurd (no_budget (rows_of_words words) word.now said k.1 reads.2)
+read_words words said NoInput k reads = absurd (reads.1 k.2)
 read_words words said (UnknownStyle unknown) k reads = absurd k
 read_words words said (LongConfiguration file) k reads = absurd k
 read_words words said (BadConfiguration file fault) k reads = absurd k
@@ -46,11 +50,11 @@ no_names : (names : List (List ℕ)) (held : Held) (status : ℕ) → names ≡ 
 no_names names held status none s = subst (λ (xs : List (List ℕ)). FilesStop held xs status) none s
 
 -- the FILEs of these words, once the style was read, stop as they do at entry
-stop_begun : (words : List (List ℕ)) (before begun : World) (a b : Option (List ℕ)) (said other : Words) (style : Style) (status : ℕ) →
-    IsBegun words before begun a b said style → Reads words (Ok other) → FilesStop before.ends.held (files_of other) status →
+stop_begun : (words : List (List ℕ)) (before begun : World) (said other : Words) (style : Style) (status : ℕ) →
+    IsBegun words before begun said style → Reads words (Ok other) → FilesStop before.ends.held (files_of other) status →
     FilesStop begun.ends.held (files_of said) status
-stop_begun words before begun a b said other style status k reads s =
-    stop_stays (files_of said) before.ends.held begun.ends.held status k.untouched.ends.held
+stop_begun words before begun said other style status k reads s =
+    stop_stays (files_of said) before.ends.held begun.ends.held status k.untouched.held
     (subst (λ (xs : List (List ℕ)). FilesStop before.ends.held xs status) (one_list words other said reads k.reads) s)
 
 once_begun : (words : List (List ℕ)) (said other : Words) → Reads words (Ok said) → Reads words (Ok other) → (IsTrue other.in_place → AreDifferent (files_of other)) →
@@ -60,78 +64,79 @@ once_begun words said other reads its different =
     (λ is. subst AreDifferent (one_list words other said its reads) (different (one_place words said other reads its is)))
 
 -- inputs of which one is refused aren't all done
-inputs_stay : (words : List (List ℕ)) (before begun now : World) (a b : Option (List ℕ)) (said other : Words) (style : Style) (status : ℕ) →
-    IsBegun words before begun a b said style → IsPerformed said style begun now → Reads words (Ok other) → IsFalse other.dump_config →
+inputs_stay : (words : List (List ℕ)) (before begun now : World) (said other : Words) (style : Style) (status : ℕ) →
+    IsBegun words before begun said style → IsPerformed said style begun now → Reads words (Ok other) → IsFalse other.dump_config →
     InputsStop other before.left before.ends.held status → ⊥
-inputs_stay words before begun now a b said other style status k (inl p) reads no_dump i = one_dump words said other k.reads reads p.0 no_dump
-inputs_stay words before begun now a b said other style status k (inr (inl p)) reads no_dump (inl i) =
-    source_stays style begun.left _ _ p.2.done (subst (IsThere IsBadText) (sym k.untouched.left) i.1)
-inputs_stay words before begun now a b said other style status k (inr (inl p)) reads no_dump (inr i) =
+inputs_stay words before begun now said other style status k (inl p) reads no_dump i = one_dump words said other k.reads reads p.0 no_dump
+inputs_stay words before begun now said other style status k (inr (inl p)) reads no_dump (inl i) =
+    source_stays (options_of said style) begun.left _ _ _ _ p.2.done (subst (IsThere IsBadText) (sym k.untouched.left) i.1)
+inputs_stay words before begun now said other style status k (inr (inl p)) reads no_dump (inr i) =
     no_names (files_of other) before.ends.held status (one_list words other said reads k.reads ∙ p.1) i.0
-inputs_stay words before begun now a b said other style status k (inr (inr p)) reads no_dump (inl i) =
+inputs_stay words before begun now said other style status k (inr (inr p)) reads no_dump (inl i) =
     p.1.some (one_list words said other k.reads reads ∙ i.0)
-inputs_stay words before begun now a b said other style status k (inr (inr p)) reads no_dump (inr i) =
-    files_stay style (place_of said.in_place) (files_of said) begun.ends now.ends status p.1.done (once_begun words said other k.reads reads i.1)
-    (stop_begun words before begun a b said other style status k reads i.0)
+inputs_stay words before begun now said other style status k (inr (inr p)) reads no_dump (inr i) =
+    files_stay (options_of said style) (place_of said.in_place) (files_of said) begun.ends now.ends status p.1.done (once_begun words said other k.reads reads i.1)
+    (stop_begun words before begun said other style status k reads i.0)
 
 -- inputs of which one is refused end so
-inputs_end : (words : List (List ℕ)) (before begun now : World) (a b : Option (List ℕ)) (said other : Words) (style : Style) (refusal : Refusal) (status : ℕ) →
-    IsBegun words before begun a b said style → IsNotPerformed said style begun now refusal → Reads words (Ok other) → IsFalse other.dump_config →
+inputs_end : (words : List (List ℕ)) (before begun now : World) (said other : Words) (style : Style) (refusal : Refusal) (status : ℕ) →
+    IsBegun words before begun said style → IsNotPerformed said style begun now refusal → Reads words (Ok other) → IsFalse other.dump_config →
     InputsStop other before.left before.ends.held status → EndsSo status refusal
-inputs_end words before begun now a b said other style refusal status k (inl p) reads no_dump i = absurd (one_dump words said other k.reads reads p.0 no_dump)
-inputs_end words before begun now a b said other style refusal status k (inr (inl p)) reads no_dump (inl i) =
-    subst (λ (n : ℕ). EndsSo n refusal) (sym i.2) (source_ends style begun.left _ _ refusal p.2.refused)
-inputs_end words before begun now a b said other style refusal status k (inr (inl p)) reads no_dump (inr i) =
+inputs_end words before begun now said other style refusal status k (inl p) reads no_dump i = absurd (one_dump words said other k.reads reads p.0 no_dump)
+inputs_end words before begun now said other style refusal status k (inr (inl p)) reads no_dump (inl i) =
+    subst (λ (n : ℕ). EndsSo n refusal) (sym i.2) (source_ends (options_of said style) begun.left _ _ _ _ refusal p.2.refused)
+inputs_end words before begun now said other style refusal status k (inr (inl p)) reads no_dump (inr i) =
     absurd (no_names (files_of other) before.ends.held status (one_list words other said reads k.reads ∙ p.1) i.0)
-inputs_end words before begun now a b said other style refusal status k (inr (inr p)) reads no_dump (inl i) =
+inputs_end words before begun now said other style refusal status k (inr (inr p)) reads no_dump (inl i) =
     absurd (p.1.some (one_list words said other k.reads reads ∙ i.0))
-inputs_end words before begun now a b said other style refusal status k (inr (inr p)) reads no_dump (inr i) =
-    files_end style (place_of said.in_place) (files_of said) begun.ends now.ends refusal status p.1.refused (once_begun words said other k.reads reads i.1)
-    (stop_begun words before begun a b said other style status k reads i.0)
+inputs_end words before begun now said other style refusal status k (inr (inr p)) reads no_dump (inr i) =
+    files_end (options_of said style) (place_of said.in_place) (files_of said) begun.ends now.ends refusal status p.1.refused (once_begun words said other k.reads reads i.1)
+    (stop_begun words before begun said other style status k reads i.0)
 
 -- a call that is to be refused doesn't end well
-pub ends_not_well : (words : List (List ℕ)) (before now : World) (a b : Option (List ℕ)) (status : ℕ) → EndsWell words before now a b →
+pub ends_not_well : (words : List (List ℕ)) (before now : World) (status : ℕ) → EndsWell words before now →
     StopsWith words before.left before.ends.held status → ⊥
-ends_not_well words before now a b status k s = by s.stops
+ends_not_well words before now status k s = by s.stops
   where
     by : StyleStops s.said.style before.ends.held status
         ⊎ (HasStyle s.said.style before.ends.held × IsFalse s.said.dump_config × InputsStop s.said before.left before.ends.held status) → ⊥
     by (inl stops) =
         goes_on k.said.style before.ends.held k.style k.begins.rows status k.begins.in_force
         (stops_same s.said.style k.said.style before.ends.held status (one_style words s.said k.said s.reads k.begins.reads) stops)
-    by (inr i) = inputs_stay words before k.begun now a b k.said s.said k.style status k.begins k.performed s.reads i.1 i.2
+    by (inr i) = inputs_stay words before k.begun now k.said s.said k.style status k.begins k.performed s.reads i.1 i.2
 
 -- a call that is to be refused ends so
-pub ends_so : (words : List (List ℕ)) (before now : World) (a b : Option (List ℕ)) (refusal : Refusal) (status : ℕ) → IsRefused words before now a b refusal →
+pub ends_so : (words : List (List ℕ)) (before now : World) (refusal : Refusal) (status : ℕ) → IsRefused words before now refusal →
     StopsWith words before.left before.ends.held status → EndsSo status refusal
-ends_so words before now a b refusal status (inl k) s = inr (inr (read_words words s.said refusal k.cause s.reads))
-ends_so words before now a b refusal status (inr (inl k)) s = by s.stops
+ends_so words before now refusal status (inl k) s = inr (inr (read_words words s.said refusal k.cause s.reads))
+ends_so words before now refusal status (inr (inl k)) s = by s.stops
   where
     by : StyleStops s.said.style before.ends.held status
         ⊎ (HasStyle s.said.style before.ends.held × IsFalse s.said.dump_config × InputsStop s.said before.left before.ends.held status) → EndsSo status refusal
     by (inl stops) =
-        style_ends k.said.style before.ends.held a b refusal status k.refused
+        style_ends k.said.style before.ends.held before.ends.told now.ends.told refusal status k.refused
         (stops_same s.said.style k.said.style before.ends.held status (one_style words s.said k.said s.reads k.reads) stops)
     by (inr i) =
-        inr (style_fails k.said.style before.ends.held a b refusal k.refused
+        inr (style_fails k.said.style before.ends.held before.ends.told now.ends.told refusal k.refused
         (has_same s.said.style k.said.style before.ends.held (one_style words s.said k.said s.reads k.reads) i.0))
-ends_so words before now a b refusal status (inr (inr k)) s = by s.stops
+ends_so words before now refusal status (inr (inr k)) s = by s.stops
   where
     by : StyleStops s.said.style before.ends.held status
         ⊎ (HasStyle s.said.style before.ends.held × IsFalse s.said.dump_config × InputsStop s.said before.left before.ends.held status) → EndsSo status refusal
     by (inl stops) =
         absurd (goes_on k.said.style before.ends.held k.style k.begins.rows status k.begins.in_force
         (stops_same s.said.style k.said.style before.ends.held status (one_style words s.said k.said s.reads k.begins.reads) stops))
-    by (inr i) = inputs_end words before k.begun now a b k.said s.said k.style refusal status k.begins k.refused s.reads i.1 i.2
+    by (inr i) = inputs_end words before k.begun now k.said s.said k.style refusal status k.begins k.refused s.reads i.1 i.2
 
 -- ---- the rows of the skipped keys
 
 -- a call whose notes lack rows doesn't end well
-pub lacks_not_well : (words : List (List ℕ)) (before now : World) (a b : Option (List ℕ)) → EndsWell words before now a b → LacksRows words before.ends.held a b → ⊥
-lacks_not_well words before now a b k s =
-    s.lacks k.style k.begins.rows []
+pub lacks_not_well : (words : List (List ℕ)) (before now : World) → EndsWell words before now → LacksRows words before.ends.held before.ends.told now.ends.told → ⊥
+lacks_not_well words before now k s =
+    let more = performed_takes k.said k.style k.begun now k.performed in
+    s.lacks k.style k.begins.rows more.0
     (in_force_same k.said.style s.said.style before.ends.held k.style k.begins.rows (one_style words k.said s.said k.begins.reads s.reads) k.begins.in_force)
-    (subst (Appends a b) (sym (append-nil k.begins.rows)) k.begins.told)
+    (Appends-trans before.ends.told k.begun.ends.told now.ends.told k.begins.rows more.0 k.begins.told more.1)
 
 -- what the notes took last: the row of a refusal, or a front of it
 abbrev pub IsToldLast : (told notes' : Option (List ℕ)) (faults faults' : ℕ) → Refusal → Type 0
@@ -142,17 +147,18 @@ some_row told notes' faults faults' refusal (inl k) = (row_of refusal, k)
 some_row told notes' faults faults' refusal (inr k) = (k.1.0, k.1.3)
 
 -- a call whose notes lack rows failed, or memory ran out
-pub lacks_so : (words : List (List ℕ)) (before now : World) (a told b : Option (List ℕ)) (faults faults' : ℕ) (refusal : Refusal) → IsRefused words before now a told refusal →
-    IsToldLast told b faults faults' refusal → LacksRows words before.ends.held a b → (status_of refusal ≡ 5) ⊎ (status_of refusal ≡ 7)
-lacks_so words before now a told b faults faults' refusal (inl k) row s = inr (read_words words s.said refusal k.cause s.reads)
-lacks_so words before now a told b faults faults' refusal (inr (inl k)) row s =
-    style_fails k.said.style before.ends.held a told refusal k.refused
+pub lacks_so : (words : List (List ℕ)) (before now : World) (b : Option (List ℕ)) (faults faults' : ℕ) (refusal : Refusal) → IsRefused words before now refusal →
+    IsToldLast now.ends.told b faults faults' refusal → LacksRows words before.ends.held before.ends.told b → (status_of refusal ≡ 5) ⊎ (status_of refusal ≡ 7)
+lacks_so words before now b faults faults' refusal (inl k) row s = inr (read_words words s.said refusal k.cause s.reads)
+lacks_so words before now b faults faults' refusal (inr (inl k)) row s =
+    style_fails k.said.style before.ends.held before.ends.told now.ends.told refusal k.refused
     (has_same s.said.style k.said.style before.ends.held (one_style words s.said k.said s.reads k.reads) s.has_style)
-lacks_so words before now a told b faults faults' refusal (inr (inr k)) row s =
-    let last = some_row told b faults faults' refusal row in
-    absurd (s.lacks k.style k.begins.rows last.0
+lacks_so words before now b faults faults' refusal (inr (inr k)) row s =
+    let last = some_row now.ends.told b faults faults' refusal row in
+    let more = not_performed_takes k.said k.style k.begun now refusal k.refused in
+    absurd (s.lacks k.style k.begins.rows (more.0 ++ last.0)
     (in_force_same k.said.style s.said.style before.ends.held k.style k.begins.rows (one_style words k.said s.said k.begins.reads s.reads) k.begins.in_force)
-    (Appends-trans a told b k.begins.rows last.0 k.begins.told last.1))
+    (Appends-trans before.ends.told k.begun.ends.told b k.begins.rows (more.0 ++ last.0) k.begins.told (Appends-trans k.begun.ends.told now.ends.told b more.0 last.0 more.1 last.1)))
 
 -- ---- the row of a refusal
 
@@ -165,6 +171,7 @@ rose_since a b c same rose = subst (λ (n : ℕ). Rose n c) same rose
 -- the notes' faults that rose while a refusal was told rose in the call
 notes_rose : (refusal : Refusal) (a b : Faults) (notes : ℕ) → Raises refusal a b → b.notes ≤ notes → Rose b.notes notes → Rose a.notes notes
 notes_rose BadWords a b notes k later rose = rose_since a.notes b.notes notes k.notes rose
+notes_rose (BadStates word) a b notes k later rose = rose_since a.notes b.notes notes k.notes rose
 notes_rose NoInput a b notes k later rose = rose_since a.notes b.notes notes k.notes rose
 notes_rose (UnknownStyle unknown) a b notes k later rose = rose_since a.notes b.notes notes k.notes rose
 notes_rose (LongConfiguration file) a b notes k later rose = rose_since a.notes b.notes notes k.notes rose

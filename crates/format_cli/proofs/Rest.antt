@@ -5,7 +5,8 @@ use Rattle.std.proofs.lemmas.Grind.{common_steps}
 use Rattle.std.specs.declared.result.Result.{Result}
 use Rattle.std.specs.Borrow.{Bor}
 use Rattle.style_config.specs.declared.skipped.SkippedKey.{SkippedKey}
-use Rattle.format_cli.specs.Notes.{skipped_row, skipped_rows}
+use Rattle.run_layout.specs.declared.report.Report.{Report}
+use Rattle.format_cli.specs.Notes.{report_row, report_rows, skipped_row, skipped_rows}
 
 -- the rest begins with the element at its place
 pub rest_step : {A : Type 0} (xs : List A) (i : ℕ) (x : A) → i < length xs → get_or xs i x ≡ x → drop i xs ≡ x ∷ drop (i + 1) xs
@@ -26,6 +27,11 @@ rest_end xs i h = grind (arith, common_steps)
 pub rows_step : (file : List ℕ) (keys : List SkippedKey) (i : ℕ) (key : SkippedKey) → i < length keys → get_or keys i key ≡ key →
     skipped_rows file (drop i keys) ≡ skipped_row file key ++ skipped_rows file (drop (i + 1) keys)
 rows_step file keys i key h e = ap (skipped_rows file) (rest_step keys i key h e)
+
+-- the rows of the reports that are left
+pub reports_step : (name : List ℕ) (budget : ℕ) (reports : List Report) (i : ℕ) (report : Report) → i < length reports → get_or reports i report ≡ report →
+    report_rows name budget (drop i reports) ≡ report_row name budget report ++ report_rows name budget (drop (i + 1) reports)
+reports_step name budget reports i report h e = ap (report_rows name budget) (rest_step reports i report h e)
 
 -- what holds on success, whatever is answered then
 pub on_ok : {T E : Type 0} (P : Type 0) (r : Result T E) → IfOk r (λ _. P) → OnOk r P

@@ -1,17 +1,21 @@
 -- What follows from a refusal and its status.
-use Rattle.std.proofs.Common.{◌≡◌, ◌<◌, ◌≤◌, ◌⊎◌, ℕ, List, [], ◌∷◌, Ok, refl, sym, subst, inl, inr, le_trans, arith}
+use Rattle.std.proofs.Common.{◌≡◌, ◌∙◌, ◌<◌, ◌≤◌, ◌⊎◌, ℕ, List, [], ◌∷◌, Ok, Some, None, refl, sym, ap, subst, inl, inr, le_trans, arith}
 use Rattle.std.specs.Prelude.{⊤}
 use Rattle.std.specs.declared.option.Option.{Option}
 use Rattle.fmt_ports.specs.Causes.{Rose}
 use Rattle.style_table.specs.declared.style.Style.{Style}
+use Rattle.clap.specs.Words.{Row}
+use Rattle.command_words.specs.Budget.{budget_of}
+use Rattle.command_words.specs.Command.{rows_of_words}
 use Rattle.command_words.specs.declared.read.Words.{Words}
-use Rattle.command_words.specs.Said.{Reads}
+use Rattle.command_words.specs.Said.{HasBadStates, Reads, Says}
 use Rattle.fmt_ports.specs.Files.{Held}
+use Rattle.format_cli.specs.declared.input.Options.{Options}
 use Rattle.format_cli.specs.declared.input.Place.{Place}
 use Rattle.format_cli.specs.declared.input.Place.TheVariants.{Output, Itself}
 use Rattle.format_cli.specs.declared.refusal.Refusal.{Refusal}
-use Rattle.format_cli.specs.declared.refusal.Refusal.TheVariants.{BadWords, NoInput, UnknownStyle, LongConfiguration, BadConfiguration, TooLarge, OpenComment, SourceFailed, FileFailed, OutFailed, NotesFailed, Missing, NoMemory}
-use Rattle.format_cli.specs.Account.{World, IsRefused, IsNotPerformed, AreWordsRefused}
+use Rattle.format_cli.specs.declared.refusal.Refusal.TheVariants.{BadWords, BadStates, NoInput, UnknownStyle, LongConfiguration, BadConfiguration, TooLarge, OpenComment, SourceFailed, FileFailed, OutFailed, NotesFailed, Missing, NoMemory}
+use Rattle.format_cli.specs.Account.{World, IsRefused, IsNotPerformed, AreWordsRefused, options_of}
 use Rattle.format_cli.specs.Counts.{Faults, Raises}
 use Rattle.format_cli.specs.Inputs.{Ends, IsFileRefused, AreRefused, IsSourceRefused, IsFileCause, PutFails}
 use Rattle.format_cli.specs.Notes.{status_of}
@@ -19,6 +23,7 @@ use Rattle.format_cli.specs.Statuses.{IsStatus, AreBadWords, HasNoStyle}
 
 pub known : (refusal : Refusal) → IsStatus (status_of refusal)
 known BadWords = inr (inl refl)
+known (BadStates word) = inr (inl refl)
 known NoInput = inr (inl refl)
 known (UnknownStyle unknown) = inr (inr (inl refl))
 known (LongConfiguration file) = inr (inr (inl refl))
@@ -34,6 +39,7 @@ known NoMemory = inr (inr (inr (inr (inr (inr (refl))))))
 
 pub not_zero : (refusal : Refusal) → status_of refusal ≡ 0 → ⊥
 not_zero BadWords is = cc
+not_zero (BadStates word) is = cc
 not_zero NoInput is = cc
 not_zero (UnknownStyle unknown) is = cc
 not_zero (LongConfiguration file) is = cc
@@ -53,6 +59,7 @@ not_zero NoMemory is = cc
 pub failed : (refusal : Refusal) (a b : Faults) (notes : ℕ) → b.notes ≤ notes → status_of refusal ≡ 5 → Raises refusal a b →
     Rose a.source b.source ⊎ Rose a.out b.out ⊎ Rose a.notes notes ⊎ Rose a.files b.files
 failed BadWords a b notes later is k = absurd (cc)
+failed (BadStates word) a b notes later is k = absurd (cc)
 failed NoInput a b notes later is k = absurd (cc)
 failed (UnknownStyle unknown) a b notes later is k = absurd (cc)
 failed (LongConfiguration file) a b notes later is k = absurd (cc)
@@ -69,6 +76,7 @@ failed NoMemory a b notes later is k = absurd (cc)
 -- a greater count of source gives status 5
 pub source_fault : (refusal : Refusal) (a b : Faults) → Raises refusal a b → a.source < b.source → status_of refusal ≡ 5
 source_fault BadWords a b k more = absurd (omega (arith, k.source))
+source_fault (BadStates word) a b k more = absurd (omega (arith, k.source))
 source_fault NoInput a b k more = absurd (omega (arith, k.source))
 source_fault (UnknownStyle unknown) a b k more = absurd (omega (arith, k.source))
 source_fault (LongConfiguration file) a b k more = absurd (omega (arith, k.source))
@@ -85,6 +93,7 @@ source_fault NoMemory a b k more = absurd (omega (arith, k.source))
 -- a greater count of out gives status 5
 pub out_fault : (refusal : Refusal) (a b : Faults) → Raises refusal a b → a.out < b.out → status_of refusal ≡ 5
 out_fault BadWords a b k more = absurd (omega (arith, k.out))
+out_fault (BadStates word) a b k more = absurd (omega (arith, k.out))
 out_fault NoInput a b k more = absurd (omega (arith, k.out))
 out_fault (UnknownStyle unknown) a b k more = absurd (omega (arith, k.out))
 out_fault (LongConfiguration file) a b k more = absurd (omega (arith, k.out))
@@ -101,6 +110,7 @@ out_fault NoMemory a b k more = absurd (omega (arith, k.out))
 -- a greater count of files gives status 5
 pub files_fault : (refusal : Refusal) (a b : Faults) → Raises refusal a b → a.files < b.files → status_of refusal ≡ 5
 files_fault BadWords a b k more = absurd (omega (arith, k.files))
+files_fault (BadStates word) a b k more = absurd (omega (arith, k.files))
 files_fault NoInput a b k more = absurd (omega (arith, k.files))
 files_fault (UnknownStyle unknown) a b k more = absurd (omega (arith, k.files))
 files_fault (LongConfiguration file) a b k more = absurd (omega (arith, k.files))
@@ -117,6 +127,7 @@ files_fault NoMemory a b k more = absurd (omega (arith, k.files))
 -- a greater count of notes gives status 5
 pub notes_fault : (refusal : Refusal) (a b : Faults) → Raises refusal a b → a.notes < b.notes → status_of refusal ≡ 5
 notes_fault BadWords a b k more = absurd (omega (arith, k.notes))
+notes_fault (BadStates word) a b k more = absurd (omega (arith, k.notes))
 notes_fault NoInput a b k more = absurd (omega (arith, k.notes))
 notes_fault (UnknownStyle unknown) a b k more = absurd (omega (arith, k.notes))
 notes_fault (LongConfiguration file) a b k more = absurd (omega (arith, k.notes))
@@ -133,6 +144,7 @@ notes_fault NoMemory a b k more = absurd (omega (arith, k.notes))
 -- status 6 comes where the misses rose
 pub missing : (refusal : Refusal) (a b : Faults) → status_of refusal ≡ 6 → Raises refusal a b → Rose a.misses b.misses
 missing BadWords a b is k = absurd (cc)
+missing (BadStates word) a b is k = absurd (cc)
 missing NoInput a b is k = absurd (cc)
 missing (UnknownStyle unknown) a b is k = absurd (cc)
 missing (LongConfiguration file) a b is k = absurd (cc)
@@ -149,6 +161,7 @@ missing NoMemory a b is k = absurd (cc)
 -- greater misses give status 6
 pub misses : (refusal : Refusal) (a b : Faults) → Raises refusal a b → a.misses < b.misses → status_of refusal ≡ 6
 misses BadWords a b k more = absurd (omega (arith, k.misses))
+misses (BadStates word) a b k more = absurd (omega (arith, k.misses))
 misses NoInput a b k more = absurd (omega (arith, k.misses))
 misses (UnknownStyle unknown) a b k more = absurd (omega (arith, k.misses))
 misses (LongConfiguration file) a b k more = absurd (omega (arith, k.misses))
@@ -167,15 +180,16 @@ misses NoMemory a b k more = absurd (omega (arith, k.misses))
 -- what an input or the output can be refused for
 abbrev OfInputs : Refusal → Type 0
 OfInputs BadWords = ⊥
+OfInputs (BadStates word) = ⊥
 OfInputs NoInput = ⊥
 OfInputs (UnknownStyle unknown) = ⊥
 OfInputs (LongConfiguration file) = ⊥
 OfInputs (BadConfiguration file fault) = ⊥
-OfInputs NotesFailed = ⊥
 OfInputs refusal = ⊤
 
 cause_of_inputs : (h : Held) (name : List ℕ) (refusal : Refusal) → IsFileCause h name refusal → OfInputs refusal
 cause_of_inputs h name BadWords k = absurd k
+cause_of_inputs h name (BadStates word) k = absurd k
 cause_of_inputs h name NoInput k = absurd k
 cause_of_inputs h name (UnknownStyle unknown) k = absurd k
 cause_of_inputs h name (LongConfiguration file) k = absurd k
@@ -189,96 +203,108 @@ cause_of_inputs h name NotesFailed k = absurd k
 cause_of_inputs h name (Missing file) k = tt
 cause_of_inputs h name NoMemory k = tt
 
-put_of_inputs : (place : Place) (name b c : List ℕ) (before now : Ends) (refusal : Refusal) → PutFails place name b c before now refusal → OfInputs refusal
-put_of_inputs Output name b c before now BadWords k = absurd k
-put_of_inputs Output name b c before now NoInput k = absurd k
-put_of_inputs Output name b c before now (UnknownStyle unknown) k = absurd k
-put_of_inputs Output name b c before now (LongConfiguration file) k = absurd k
-put_of_inputs Output name b c before now (BadConfiguration file fault) k = absurd k
-put_of_inputs Output name b c before now (TooLarge its_name) k = absurd k
-put_of_inputs Output name b c before now (OpenComment its_name at) k = absurd k
-put_of_inputs Output name b c before now SourceFailed k = absurd k
-put_of_inputs Output name b c before now (FileFailed file) k = absurd k
-put_of_inputs Output name b c before now OutFailed k = tt
-put_of_inputs Output name b c before now NotesFailed k = absurd k
-put_of_inputs Output name b c before now (Missing file) k = absurd k
-put_of_inputs Output name b c before now NoMemory k = absurd k
-put_of_inputs Itself name b c before now BadWords k = absurd k
-put_of_inputs Itself name b c before now NoInput k = absurd k
-put_of_inputs Itself name b c before now (UnknownStyle unknown) k = absurd k
-put_of_inputs Itself name b c before now (LongConfiguration file) k = absurd k
-put_of_inputs Itself name b c before now (BadConfiguration file fault) k = absurd k
-put_of_inputs Itself name b c before now (TooLarge its_name) k = absurd k
-put_of_inputs Itself name b c before now (OpenComment its_name at) k = absurd k
-put_of_inputs Itself name b c before now SourceFailed k = absurd k
-put_of_inputs Itself name b c before now (FileFailed file) k = tt
-put_of_inputs Itself name b c before now OutFailed k = absurd k
-put_of_inputs Itself name b c before now NotesFailed k = absurd k
-put_of_inputs Itself name b c before now (Missing file) k = absurd k
-put_of_inputs Itself name b c before now NoMemory k = absurd k
+put_of_inputs : (place : Place) (name b c rows : List ℕ) (before now : Ends) (refusal : Refusal) → PutFails place name b c rows before now refusal → OfInputs refusal
+put_of_inputs Output name b c rows before now BadWords k = absurd k
+put_of_inputs Output name b c rows before now (BadStates word) k = absurd k
+put_of_inputs Output name b c rows before now NoInput k = absurd k
+put_of_inputs Output name b c rows before now (UnknownStyle unknown) k = absurd k
+put_of_inputs Output name b c rows before now (LongConfiguration file) k = absurd k
+put_of_inputs Output name b c rows before now (BadConfiguration file fault) k = absurd k
+put_of_inputs Output name b c rows before now (TooLarge its_name) k = absurd k
+put_of_inputs Output name b c rows before now (OpenComment its_name at) k = absurd k
+put_of_inputs Output name b c rows before now SourceFailed k = absurd k
+put_of_inputs Output name b c rows before now (FileFailed file) k = absurd k
+put_of_inputs Output name b c rows before now OutFailed k = tt
+put_of_inputs Output name b c rows before now NotesFailed k = tt
+put_of_inputs Output name b c rows before now (Missing file) k = absurd k
+put_of_inputs Output name b c rows before now NoMemory k = absurd k
+put_of_inputs Itself name b c rows before now BadWords k = absurd k
+put_of_inputs Itself name b c rows before now (BadStates word) k = absurd k
+put_of_inputs Itself name b c rows before now NoInput k = absurd k
+put_of_inputs Itself name b c rows before now (UnknownStyle unknown) k = absurd k
+put_of_inputs Itself name b c rows before now (LongConfiguration file) k = absurd k
+put_of_inputs Itself name b c rows before now (BadConfiguration file fault) k = absurd k
+put_of_inputs Itself name b c rows before now (TooLarge its_name) k = absurd k
+put_of_inputs Itself name b c rows before now (OpenComment its_name at) k = absurd k
+put_of_inputs Itself name b c rows before now SourceFailed k = absurd k
+put_of_inputs Itself name b c rows before now (FileFailed file) k = tt
+put_of_inputs Itself name b c rows before now OutFailed k = absurd k
+put_of_inputs Itself name b c rows before now NotesFailed k = tt
+put_of_inputs Itself name b c rows before now (Missing file) k = absurd k
+put_of_inputs Itself name b c rows before now NoMemory k = tt
 
-source_of_inputs : (style : Style) (input old new : Option (List ℕ)) (refusal : Refusal) → IsSourceRefused style input old new refusal → OfInputs refusal
-source_of_inputs style input old new BadWords k = absurd k.1
-source_of_inputs style input old new NoInput k = absurd k.1
-source_of_inputs style input old new (UnknownStyle unknown) k = absurd k.1
-source_of_inputs style input old new (LongConfiguration file) k = absurd k.1
-source_of_inputs style input old new (BadConfiguration file fault) k = absurd k.1
-source_of_inputs style input old new (TooLarge its_name) k = tt
-source_of_inputs style input old new (OpenComment its_name at) k = tt
-source_of_inputs style input old new SourceFailed k = tt
-source_of_inputs style input old new (FileFailed file) k = absurd k.1
-source_of_inputs style input old new OutFailed k = tt
-source_of_inputs style input old new NotesFailed k = absurd k.1
-source_of_inputs style input old new (Missing file) k = absurd k.1
-source_of_inputs style input old new NoMemory k = tt
+source_of_inputs : (options : Options) (input old new told now : Option (List ℕ)) (refusal : Refusal) → IsSourceRefused options input old new told now refusal → OfInputs refusal
+source_of_inputs options input old new told now BadWords k = absurd k.1
+source_of_inputs options input old new told now (BadStates word) k = absurd k.1
+source_of_inputs options input old new told now NoInput k = absurd k.1
+source_of_inputs options input old new told now (UnknownStyle unknown) k = absurd k.1
+source_of_inputs options input old new told now (LongConfiguration file) k = absurd k.1
+source_of_inputs options input old new told now (BadConfiguration file fault) k = absurd k.1
+source_of_inputs options input old new told now (TooLarge its_name) k = tt
+source_of_inputs options input old new told now (OpenComment its_name at) k = tt
+source_of_inputs options input old new told now SourceFailed k = tt
+source_of_inputs options input old new told now (FileFailed file) k = absurd k.1
+source_of_inputs options input old new told now OutFailed k = tt
+source_of_inputs options input old new told now NotesFailed k = tt
+source_of_inputs options input old new told now (Missing file) k = absurd k.1
+source_of_inputs options input old new told now NoMemory k = tt
 
-file_of_inputs : (style : Style) (place : Place) (name : List ℕ) (before now : Ends) (refusal : Refusal) → IsFileRefused style place name before now refusal → OfInputs refusal
-file_of_inputs style place name before now refusal (inl k) = cause_of_inputs before.held name refusal k.1
-file_of_inputs style place name before now refusal (inr k) = put_of_inputs place name k.0 k.1 before now refusal k.4
+file_of_inputs : (options : Options) (place : Place) (name : List ℕ) (before now : Ends) (refusal : Refusal) → IsFileRefused options place name before now refusal → OfInputs refusal
+file_of_inputs options place name before now refusal (inl k) = cause_of_inputs before.held name refusal k.1
+file_of_inputs options place name before now refusal (inr k) = put_of_inputs place name k.0 k.1 _ before now refusal k.4
 
-files_of_inputs : (style : Style) (place : Place) (names : List (List ℕ)) (before now : Ends) (refusal : Refusal) → AreRefused style place names before now refusal → OfInputs refusal
-files_of_inputs style place [] before now refusal k = absurd k
-files_of_inputs style place (name ∷ names) before now refusal (inl k) = file_of_inputs style place name before now refusal k
-files_of_inputs style place (name ∷ names) before now refusal (inr k) = files_of_inputs style place names k.0 now refusal k.2
+files_of_inputs : (options : Options) (place : Place) (names : List (List ℕ)) (before now : Ends) (refusal : Refusal) → AreRefused options place names before now refusal → OfInputs refusal
+files_of_inputs options place [] before now refusal k = absurd k
+files_of_inputs options place (name ∷ names) before now refusal (inl k) = file_of_inputs options place name before now refusal k
+files_of_inputs options place (name ∷ names) before now refusal (inr k) = files_of_inputs options place names k.0 now refusal k.2
 
 of_inputs : (said : Words) (style : Style) (before now : World) (refusal : Refusal) → IsNotPerformed said style before now refusal → OfInputs refusal
 of_inputs said style before now refusal (inl k) = subst OfInputs (sym k.1.cause) tt
-of_inputs said style before now refusal (inr (inl k)) = source_of_inputs style before.left before.ends.taken now.ends.taken refusal k.2.refused
-of_inputs said style before now refusal (inr (inr k)) = files_of_inputs style _ _ before.ends now.ends refusal k.1.refused
+of_inputs said style before now refusal (inr (inl k)) = source_of_inputs (options_of said style) before.left before.ends.taken now.ends.taken before.ends.told now.ends.told refusal k.2.refused
+of_inputs said style before now refusal (inr (inr k)) = files_of_inputs (options_of said style) _ _ before.ends now.ends refusal k.1.refused
 
 -- status 2 comes for the words
-pub bad_words : (words : List (List ℕ)) (before now : World) (a b : Option (List ℕ)) (refusal : Refusal) → status_of refusal ≡ 2 →
-    IsRefused words before now a b refusal → AreBadWords words
-bad_words words before now a b BadWords is (inl k) = inl k.cause
-bad_words words before now a b BadWords is (inr (inl k)) = absurd k.refused.1
-bad_words words before now a b BadWords is (inr (inr k)) = absurd (of_inputs k.said k.style k.begun now BadWords k.refused)
-bad_words words before now a b NoInput is (inl k) = inr k.cause
-bad_words words before now a b NoInput is (inr (inl k)) = absurd k.refused.1
-bad_words words before now a b NoInput is (inr (inr k)) = absurd (of_inputs k.said k.style k.begun now NoInput k.refused)
-bad_words words before now a b (UnknownStyle unknown) is k = absurd (cc)
-bad_words words before now a b (LongConfiguration file) is k = absurd (cc)
-bad_words words before now a b (BadConfiguration file fault) is k = absurd (cc)
-bad_words words before now a b (TooLarge its_name) is k = absurd (cc)
-bad_words words before now a b (OpenComment its_name at) is k = absurd (cc)
-bad_words words before now a b SourceFailed is k = absurd (cc)
-bad_words words before now a b (FileFailed file) is k = absurd (cc)
-bad_words words before now a b OutFailed is k = absurd (cc)
-bad_words words before now a b NotesFailed is k = absurd (cc)
-bad_words words before now a b (Missing file) is k = absurd (cc)
-bad_words words before now a b NoMemory is k = absurd (cc)
+pub bad_words : (words : List (List ℕ)) (before now : World) (refusal : Refusal) → status_of refusal ≡ 2 →
+    IsRefused words before now refusal → AreBadWords words
+bad_words words before now BadWords is (inl k) = inl k.cause
+bad_words words before now BadWords is (inr (inl k)) = absurd k.refused.1
+bad_words words before now BadWords is (inr (inr k)) = absurd (of_inputs k.said k.style k.begun now BadWords k.refused)
+bad_words words before now (BadStates word) is (inl k) = inr (inl (k.cause.0, (word.now, k.cause.1)))
+bad_words words before now NoInput is (inl k) = inr (inr k.cause)
+bad_words words before now (BadStates word) is (inr (inl k)) = absurd k.refused.1
+bad_words words before now NoInput is (inr (inl k)) = absurd k.refused.1
+bad_words words before now (BadStates word) is (inr (inr k)) = absurd (of_inputs k.said k.style k.begun now (BadStates word) k.refused)
+bad_words words before now NoInput is (inr (inr k)) = absurd (of_inputs k.said k.style k.begun now NoInput k.refused)
+bad_words words before now (UnknownStyle unknown) is k = absurd (cc)
+bad_words words before now (LongConfiguration file) is k = absurd (cc)
+bad_words words before now (BadConfiguration file fault) is k = absurd (cc)
+bad_words words before now (TooLarge its_name) is k = absurd (cc)
+bad_words words before now (OpenComment its_name at) is k = absurd (cc)
+bad_words words before now SourceFailed is k = absurd (cc)
+bad_words words before now (FileFailed file) is k = absurd (cc)
+bad_words words before now OutFailed is k = absurd (cc)
+bad_words words before now NotesFailed is k = absurd (cc)
+bad_words words before now (Missing file) is k = absurd (cc)
+bad_words words before now NoMemory is k = absurd (cc)
+
+-- a value that tells no budget isn't said
+pub no_budget : (rows : List Row) (word : List ℕ) (said : Words) → HasBadStates rows word → Says rows said → ⊥
+no_budget rows word said bad says = let e : Some said.budget ≡ None = sym says.budget ∙ (ap budget_of bad.given ∙ bad.bad) in cc
 
 -- bad words say nothing
 pub not_read : (words : List (List ℕ)) (said : Words) → AreBadWords words → Reads words (Ok said) → ⊥
 not_read words said (inl bad) reads = bad reads.0
-not_read words said (inr bad) reads = reads.1 bad.1
+not_read words said (inr (inl bad)) reads = no_budget (rows_of_words words) bad.1.0 said bad.1.1 reads.2
+not_read words said (inr (inr bad)) reads = reads.1 bad.2
 
 -- bad words give status 2, or memory ran out
-pub form : (words : List (List ℕ)) (before now : World) (a b : Option (List ℕ)) (refusal : Refusal) → AreBadWords words →
-    IsRefused words before now a b refusal → (status_of refusal ≡ 2) ⊎ (status_of refusal ≡ 7)
-form words before now a b refusal bad (inl k) = of_words refusal k.cause
+pub form : (words : List (List ℕ)) (before now : World) (refusal : Refusal) → AreBadWords words →
+    IsRefused words before now refusal → (status_of refusal ≡ 2) ⊎ (status_of refusal ≡ 7)
+form words before now refusal bad (inl k) = of_words refusal k.cause
   where
     of_words : (r : Refusal) → AreWordsRefused words r → (status_of r ≡ 2) ⊎ (status_of r ≡ 7)
     of_words BadWords k = inl refl
+    of_words (BadStates word) k = inl refl
     of_words NoInput k = inl refl
     of_words (UnknownStyle unknown) k = absurd k
     of_words (LongConfiguration file) k = absurd k
@@ -291,28 +317,29 @@ form words before now a b refusal bad (inl k) = of_words refusal k.cause
     of_words NotesFailed k = absurd k
     of_words (Missing file) k = absurd k
     of_words NoMemory k = inr refl
-form words before now a b refusal bad (inr (inl k)) = absurd (not_read words k.said bad k.reads)
-form words before now a b refusal bad (inr (inr k)) = absurd (not_read words k.said bad k.begins.reads)
+form words before now refusal bad (inr (inl k)) = absurd (not_read words k.said bad k.reads)
+form words before now refusal bad (inr (inr k)) = absurd (not_read words k.said bad k.begins.reads)
 
 -- status 3 comes where no style is in force
-pub no_style : (words : List (List ℕ)) (before now : World) (a b : Option (List ℕ)) (refusal : Refusal) → status_of refusal ≡ 3 →
-    IsRefused words before now a b refusal → HasNoStyle words before.ends.held 3
-no_style words before now a b BadWords is k = absurd (cc)
-no_style words before now a b NoInput is k = absurd (cc)
-no_style words before now a b (UnknownStyle unknown) is (inl k) = absurd k.cause
-no_style words before now a b (UnknownStyle unknown) is (inr (inl k)) = record { said = k.said; reads = k.reads; refusal = (UnknownStyle unknown); is_its = refl; cause = k.refused.1 }
-no_style words before now a b (UnknownStyle unknown) is (inr (inr k)) = absurd (of_inputs k.said k.style k.begun now (UnknownStyle unknown) k.refused)
-no_style words before now a b (LongConfiguration file) is (inl k) = absurd k.cause
-no_style words before now a b (LongConfiguration file) is (inr (inl k)) = record { said = k.said; reads = k.reads; refusal = (LongConfiguration file); is_its = refl; cause = k.refused.1 }
-no_style words before now a b (LongConfiguration file) is (inr (inr k)) = absurd (of_inputs k.said k.style k.begun now (LongConfiguration file) k.refused)
-no_style words before now a b (BadConfiguration file fault) is (inl k) = absurd k.cause
-no_style words before now a b (BadConfiguration file fault) is (inr (inl k)) = record { said = k.said; reads = k.reads; refusal = (BadConfiguration file fault); is_its = refl; cause = k.refused.1 }
-no_style words before now a b (BadConfiguration file fault) is (inr (inr k)) = absurd (of_inputs k.said k.style k.begun now (BadConfiguration file fault) k.refused)
-no_style words before now a b (TooLarge its_name) is k = absurd (cc)
-no_style words before now a b (OpenComment its_name at) is k = absurd (cc)
-no_style words before now a b SourceFailed is k = absurd (cc)
-no_style words before now a b (FileFailed file) is k = absurd (cc)
-no_style words before now a b OutFailed is k = absurd (cc)
-no_style words before now a b NotesFailed is k = absurd (cc)
-no_style words before now a b (Missing file) is k = absurd (cc)
-no_style words before now a b NoMemory is k = absurd (cc)
+pub no_style : (words : List (List ℕ)) (before now : World) (refusal : Refusal) → status_of refusal ≡ 3 →
+    IsRefused words before now refusal → HasNoStyle words before.ends.held 3
+no_style words before now BadWords is k = absurd (cc)
+no_style words before now (BadStates word) is k = absurd (cc)
+no_style words before now NoInput is k = absurd (cc)
+no_style words before now (UnknownStyle unknown) is (inl k) = absurd k.cause
+no_style words before now (UnknownStyle unknown) is (inr (inl k)) = record { said = k.said; reads = k.reads; refusal = (UnknownStyle unknown); is_its = refl; cause = k.refused.1 }
+no_style words before now (UnknownStyle unknown) is (inr (inr k)) = absurd (of_inputs k.said k.style k.begun now (UnknownStyle unknown) k.refused)
+no_style words before now (LongConfiguration file) is (inl k) = absurd k.cause
+no_style words before now (LongConfiguration file) is (inr (inl k)) = record { said = k.said; reads = k.reads; refusal = (LongConfiguration file); is_its = refl; cause = k.refused.1 }
+no_style words before now (LongConfiguration file) is (inr (inr k)) = absurd (of_inputs k.said k.style k.begun now (LongConfiguration file) k.refused)
+no_style words before now (BadConfiguration file fault) is (inl k) = absurd k.cause
+no_style words before now (BadConfiguration file fault) is (inr (inl k)) = record { said = k.said; reads = k.reads; refusal = (BadConfiguration file fault); is_its = refl; cause = k.refused.1 }
+no_style words before now (BadConfiguration file fault) is (inr (inr k)) = absurd (of_inputs k.said k.style k.begun now (BadConfiguration file fault) k.refused)
+no_style words before now (TooLarge its_name) is k = absurd (cc)
+no_style words before now (OpenComment its_name at) is k = absurd (cc)
+no_style words before now SourceFailed is k = absurd (cc)
+no_style words before now (FileFailed file) is k = absurd (cc)
+no_style words before now OutFailed is k = absurd (cc)
+no_style words before now NotesFailed is k = absurd (cc)
+no_style words before now (Missing file) is k = absurd (cc)
+no_style words before now NoMemory is k = absurd (cc)

@@ -8,33 +8,42 @@ use Rattle.c_chars.specs.declared.Dialect.TheVariants.{C11}
 use Rattle.c_lexer.specs.Fault.{IsOpenAt}
 use Rattle.c_grammar.specs.Twin.{IsTwin}
 use Rattle.pp_model.specs.Alike.{Alike}
+use Rattle.run_layout.specs.declared.report.Report.{Report}
 use Rattle.format_core.specs.Formats.{Formats}
-use Rattle.style_table.specs.declared.style.Style.{Style}
+use Rattle.format_cli.specs.declared.input.Options.{Options}
+use Rattle.format_cli.specs.Notes.{report_rows}
 use Rattle.format_cli.specs.declared.input.Place.{Place}
 use Rattle.format_cli.specs.declared.input.Place.TheVariants.{Output, Itself}
 use Rattle.format_cli.specs.declared.refusal.Refusal.{Refusal}
-use Rattle.format_cli.specs.declared.refusal.Refusal.TheVariants.{TooLarge, OpenComment, SourceFailed, FileFailed, OutFailed, Missing, NoMemory}
+use Rattle.format_cli.specs.declared.refusal.Refusal.TheVariants.{TooLarge, OpenComment, SourceFailed, FileFailed, OutFailed, NotesFailed, Missing, NoMemory}
 use Rattle.format_cli.specs.InForce.{IsHeld, IsLonger, IsMissing}
 
--- The second text is the formatted text of the first, which is within the limit: a twin of it that preprocesses alike.
-pub record IsFormatted (style : Style) (b c : List ℕ) : Type 0 where
+-- The second text is the formatted text of the first, which is within the limit, with these reports: a twin of it that preprocesses alike.
+pub record IsFormatted (options : Options) (b c : List ℕ) : Type 0 where
   pub fits : length b ≤ LIMIT
-  pub formats : Formats style C11 b c
+  pub reports : List Report
+  pub formats : Formats options.style options.budget C11 b c reports
   pub twins : IsTwin C11 b c
   pub alike : Alike C11 b c
 
--- what the output has taken, and the files
+-- what the output has taken, the files, and what the notes have taken
 pub record Ends : Type 0 where
   pub taken : Option (List ℕ)
   pub held : Held
+  pub told : Option (List ℕ)
 
-abbrev pub ends : Option (List ℕ) → Held → Ends
-ends taken held = record { taken = taken; held = held }
+abbrev pub ends : Option (List ℕ) → Held → Option (List ℕ) → Ends
+ends taken held told = record { taken = taken; held = held; told = told }
 
 -- nothing was written
 pub record Stays (before now : Ends) : Type 0 where
   pub taken : Keeps before.taken now.taken
   pub held : KeepsAll before.held now.held
+  pub told : Keeps before.told now.told
+
+-- the rows of what an input of this name has of reports
+abbrev pub rows_told : {options : Options} {b c : List ℕ} → List ℕ → IsFormatted options b c → List ℕ
+rows_told {options} name made = report_rows name options.budget made.reports
 
 -- why a text of this name isn't formatted
 abbrev pub IsTextCause : List ℕ → List ℕ → Refusal → Type 0
@@ -49,9 +58,10 @@ IsTextCause name text refusal = ⊥
 abbrev pub IsTold : Option (List ℕ) → List ℕ → Type 0
 IsTold input bytes = IfSome input (λ b. bytes ≡ b)
 
--- the output took the formatted text of standard input
-abbrev pub IsSourceDone : Style → Option (List ℕ) → Option (List ℕ) → Option (List ℕ) → Type 0
-IsSourceDone style input old new = (b : List ℕ) × (c : List ℕ) × IsTold input b × IsFormatted style b c × Appends old new c
+-- the notes took the reports of standard input, and the output its formatted text
+abbrev pub IsSourceDone : Options → (input old new told told' : Option (List ℕ)) → Type 0
+IsSourceDone options input old new told told' =
+    (b : List ℕ) × (c : List ℕ) × IsTold input b × (made : IsFormatted options b c) × Appends old new c × Appends told told' (rows_told (codes "<stdin>") made)
 
 -- why standard input isn't done, where nothing of it was written
 abbrev pub IsSourceCause : Option (List ℕ) → Refusal → Type 0
@@ -61,10 +71,13 @@ IsSourceCause input SourceFailed = ⊤
 IsSourceCause input NoMemory = ⊤
 IsSourceCause input refusal = ⊥
 
--- Standard input was refused: a front of its formatted text was written, or nothing for this cause.
-abbrev pub IsSourceRefused : Style → Option (List ℕ) → Option (List ℕ) → Option (List ℕ) → Refusal → Type 0
-IsSourceRefused style input old new OutFailed = (b : List ℕ) × (c : List ℕ) × IsTold input b × IsFormatted style b c × AppendsPart old new c
-IsSourceRefused style input old new refusal = Keeps old new × IsSourceCause input refusal
+-- Standard input was refused: behind its reports a front of its formatted text was written, or a front of its reports, or nothing for this cause.
+abbrev pub IsSourceRefused : Options → (input old new told told' : Option (List ℕ)) → Refusal → Type 0
+IsSourceRefused options input old new told told' OutFailed =
+    (b : List ℕ) × (c : List ℕ) × IsTold input b × (made : IsFormatted options b c) × AppendsPart old new c × Appends told told' (rows_told (codes "<stdin>") made)
+IsSourceRefused options input old new told told' NotesFailed =
+    (b : List ℕ) × (c : List ℕ) × IsTold input b × (made : IsFormatted options b c) × Keeps old new × AppendsPart told told' (rows_told (codes "<stdin>") made)
+IsSourceRefused options input old new told told' refusal = Keeps old new × IsSourceCause input refusal × Keeps told told'
 
 -- ---- a FILE
 
@@ -75,10 +88,11 @@ Puts Itself name b c before now =
     Keeps before.taken now.taken
     × (((c ≡ b) × KeepsAll before.held now.held) ⊎ ((c ≢ b) × IsHeld now.held name c × KeepsOthers name before.held now.held))
 
--- a FILE was done
-abbrev pub IsDone : Style → Place → List ℕ → Ends → Ends → Type 0
-IsDone style place name before now =
-    (b : List ℕ) × (c : List ℕ) × IsHeld before.held name b × IsFormatted style b c × Puts place name b c before now
+-- a FILE was done: behind its reports its text was put in its place
+abbrev pub IsDone : Options → Place → List ℕ → Ends → Ends → Type 0
+IsDone options place name before now =
+    (b : List ℕ) × (c : List ℕ) × IsHeld before.held name b × (made : IsFormatted options b c) × Puts place name b c before now
+    × Appends before.told now.told (rows_told name made)
 
 -- why a FILE isn't done, where nothing of it was written
 abbrev pub IsFileCause : Held → List ℕ → Refusal → Type 0
@@ -95,30 +109,33 @@ IsWriteRefused name old new (FileFailed file) = (file.now ≡ name) × KeepsOthe
 IsWriteRefused name old new NoMemory = KeepsAll old new
 IsWriteRefused name old new refusal = ⊥
 
--- A write of a text failed: the output took a front of it, or with `-i` the file, whose text changes, is unknown.
-abbrev pub PutFails : Place → List ℕ → (b c : List ℕ) → Ends → Ends → Refusal → Type 0
-PutFails Output name b c before now OutFailed = AppendsPart before.taken now.taken c × KeepsAll before.held now.held
-PutFails Itself name b c before now (FileFailed file) =
-    (file.now ≡ name) × (c ≢ b) × Keeps before.taken now.taken × KeepsOthers name before.held now.held
-PutFails place name b c before now refusal = ⊥
+-- Behind these rows a write of a text failed: the output took a front of it, or with `-i` the file, whose text changes, is unknown, or no file changed. Or the notes failed and took a front of the rows.
+abbrev pub PutFails : Place → (name b c rows : List ℕ) → Ends → Ends → Refusal → Type 0
+PutFails Output name b c rows before now OutFailed = AppendsPart before.taken now.taken c × KeepsAll before.held now.held × Appends before.told now.told rows
+PutFails Output name b c rows before now NotesFailed = Keeps before.taken now.taken × KeepsAll before.held now.held × AppendsPart before.told now.told rows
+PutFails Itself name b c rows before now (FileFailed file) =
+    (file.now ≡ name) × (c ≢ b) × Keeps before.taken now.taken × KeepsOthers name before.held now.held × Appends before.told now.told rows
+PutFails Itself name b c rows before now NotesFailed = Keeps before.taken now.taken × KeepsAll before.held now.held × AppendsPart before.told now.told rows
+PutFails Itself name b c rows before now NoMemory = Keeps before.taken now.taken × KeepsAll before.held now.held × Appends before.told now.told rows
+PutFails place name b c rows before now refusal = ⊥
 
--- a FILE was refused: nothing was written, for a cause, or its write failed
-abbrev pub IsFileRefused : Style → Place → List ℕ → Ends → Ends → Refusal → Type 0
-IsFileRefused style place name before now refusal =
+-- a FILE was refused: nothing was written, for a cause, or a write failed
+abbrev pub IsFileRefused : Options → Place → List ℕ → Ends → Ends → Refusal → Type 0
+IsFileRefused options place name before now refusal =
     (Stays before now × IsFileCause before.held name refusal)
-    ⊎ ((b : List ℕ) × (c : List ℕ) × IsHeld before.held name b × IsFormatted style b c × PutFails place name b c before now refusal)
+    ⊎ ((b : List ℕ) × (c : List ℕ) × IsHeld before.held name b × (made : IsFormatted options b c) × PutFails place name b c (rows_told name made) before now refusal)
 
 -- ---- the FILEs
 
 -- every FILE was done, one after another
-abbrev pub AreDone : Style → Place → List (List ℕ) → Ends → Ends → Type 0
-AreDone style place [] before now = Stays before now
-AreDone style place (name ∷ names) before now =
-    (between : Ends) × IsDone style place name before between × AreDone style place names between now
+abbrev pub AreDone : Options → Place → List (List ℕ) → Ends → Ends → Type 0
+AreDone options place [] before now = Stays before now
+AreDone options place (name ∷ names) before now =
+    (between : Ends) × IsDone options place name before between × AreDone options place names between now
 
 -- The first FILE was refused so and no later one was begun; or it was done, and this holds of the others.
-abbrev pub AreRefused : Style → Place → List (List ℕ) → Ends → Ends → Refusal → Type 0
-AreRefused style place [] before now refusal = ⊥
-AreRefused style place (name ∷ names) before now refusal =
-    IsFileRefused style place name before now refusal
-    ⊎ ((between : Ends) × IsDone style place name before between × AreRefused style place names between now refusal)
+abbrev pub AreRefused : Options → Place → List (List ℕ) → Ends → Ends → Refusal → Type 0
+AreRefused options place [] before now refusal = ⊥
+AreRefused options place (name ∷ names) before now refusal =
+    IsFileRefused options place name before now refusal
+    ⊎ ((between : Ends) × IsDone options place name before between × AreRefused options place names between now refusal)

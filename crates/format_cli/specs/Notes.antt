@@ -1,13 +1,12 @@
 -- The rows that the command writes on standard error, and its statuses: README.md, "Use".
 use Rattle.std.specs.Prelude.{ℕ, List, [], ◌++◌, codes, decimal, map}
 use Rattle.std.specs.List.{concat}
-use Rattle.command_words.specs.Notes.{note_of}
-use Rattle.command_words.specs.declared.fault.WordsFault.TheVariants as Words
 use Rattle.style_config.specs.declared.fault.ConfigFault.{ConfigFault}
 use Rattle.style_config.specs.declared.fault.ConfigFault.TheVariants as Config
 use Rattle.style_config.specs.declared.skipped.SkippedKey.{SkippedKey}
+use Rattle.run_layout.specs.declared.report.Report.{Report}
 use Rattle.format_cli.specs.declared.refusal.Refusal.{Refusal}
-use Rattle.format_cli.specs.declared.refusal.Refusal.TheVariants.{BadWords, NoInput, UnknownStyle, LongConfiguration, BadConfiguration, TooLarge, OpenComment, SourceFailed, FileFailed, OutFailed, NotesFailed, Missing, NoMemory}
+use Rattle.format_cli.specs.declared.refusal.Refusal.TheVariants.{BadWords, BadStates, NoInput, UnknownStyle, LongConfiguration, BadConfiguration, TooLarge, OpenComment, SourceFailed, FileFailed, OutFailed, NotesFailed, Missing, NoMemory}
 
 -- a row with a number in it
 abbrev pub numbered_row : (name before : List ℕ) → ℕ → (end : List ℕ) → List ℕ
@@ -25,8 +24,9 @@ fault_row file Config.NoMemory = codes "clang_format: no memory\n"
 
 -- The row of a refusal, with the new-line that ends it. Notes that have failed take none.
 abbrev pub row_of : Refusal → List ℕ
-row_of BadWords = note_of Words.Form ++ codes "\n"
-row_of NoInput = note_of Words.NoInput ++ codes "\n"
+row_of BadWords = codes "usage: clang_format [--style S] [--states N] [-i] [--dump-config] [FILE ..]" ++ codes "\n"
+row_of (BadStates word) = codes "clang_format: --states " ++ word.now ++ codes ": not 1 to 16000000\n"
+row_of NoInput = codes "clang_format: -i needs a file\n"
 row_of (UnknownStyle name) = codes "clang_format: style " ++ name.now ++ codes ": unknown name\n"
 row_of (LongConfiguration file) = file.now ++ codes ": more than 1048576 bytes\n"
 row_of (BadConfiguration file fault) = fault_row file.now fault
@@ -42,6 +42,7 @@ row_of NoMemory = codes "clang_format: no memory\n"
 -- the exit status of a refusal
 abbrev pub status_of : Refusal → ℕ
 status_of BadWords = 2
+status_of (BadStates word) = 2
 status_of NoInput = 2
 status_of (UnknownStyle name) = 3
 status_of (LongConfiguration file) = 3
@@ -62,3 +63,13 @@ skipped_row file key = numbered_row file (codes ":") key.line (codes ": skipped 
 -- the rows of the keys that a configuration has and no style
 abbrev pub skipped_rows : List ℕ → List SkippedKey → List ℕ
 skipped_rows file keys = concat (map (skipped_row file) keys)
+
+-- the row of a line that is reported, in an input of this name
+abbrev pub report_row : List ℕ → ℕ → Report → List ℕ
+report_row name budget report =
+    numbered_row name (codes ":") report.line (codes ": run ")
+    ++ (numbered_row [] [] report.run (codes ": not searched within ") ++ numbered_row [] [] budget (codes " cells\n"))
+
+-- the rows of the lines of an input that are reported
+abbrev pub report_rows : List ℕ → ℕ → List Report → List ℕ
+report_rows name budget reports = concat (map (report_row name budget) reports)

@@ -1,11 +1,12 @@
 -- What a status says of the words, the style and the inputs: README.md, "Use".
-use Rattle.std.specs.Prelude.{◌≡◌, ◌⊎◌, ℕ, List, [], ◌∷◌, Option, Ok, IsFalse, codes}
+use Rattle.std.specs.Prelude.{◌≡◌, ◌⊎◌, ℕ, List, [], ◌∷◌, Option, Ok, IsFalse, IsSome, codes}
 use Rattle.fmt_ports.specs.Files.{Held}
 use Rattle.command_words.specs.declared.read.Words.{Words}
 use Rattle.command_words.specs.declared.read.StyleChoice.{StyleChoice}
 use Rattle.command_words.specs.declared.read.StyleChoice.TheVariants.{FileAt}
-use Rattle.command_words.specs.Command.{Gives, IsOfForm, rows_of_words}
-use Rattle.command_words.specs.Said.{LacksFile, Reads}
+use Rattle.command_words.specs.Budget.{budget_of}
+use Rattle.command_words.specs.Command.{Gives, IsOfForm, rows_of_words, states_word}
+use Rattle.command_words.specs.Said.{HasBadStates, LacksFile, Reads}
 use Rattle.format_cli.specs.declared.refusal.Refusal.{Refusal}
 use Rattle.format_cli.specs.Account.{files_of}
 use Rattle.format_cli.specs.InForce.{IsMissing, IsStyleCause}
@@ -16,9 +17,12 @@ use Rattle.format_cli.specs.Notes.{status_of}
 abbrev pub IsStatus : ℕ → Type 0
 IsStatus status = (status ≡ 0) ⊎ (status ≡ 2) ⊎ (status ≡ 3) ⊎ (status ≡ 4) ⊎ (status ≡ 5) ⊎ (status ≡ 6) ⊎ (status ≡ 7)
 
--- the words aren't of the command's form, or `-i` lacks its FILE
+-- the words aren't of the command's form, `--states` tells no budget, or `-i` lacks its FILE
 abbrev pub AreBadWords : List (List ℕ) → Type 0
-AreBadWords words = (¬ IsOfForm words) ⊎ (IsOfForm words × LacksFile (rows_of_words words))
+AreBadWords words =
+    (¬ IsOfForm words)
+    ⊎ (IsOfForm words × ((word : List ℕ) × HasBadStates (rows_of_words words) word))
+    ⊎ (IsOfForm words × IsSome (budget_of (states_word (rows_of_words words))) × LacksFile (rows_of_words words))
 
 -- The words choose a style, and it isn't in force, for a cause of this status.
 pub record HasNoStyle (words : List (List ℕ)) (held : Held) (status : ℕ) : Type 0 where

@@ -1,6 +1,6 @@
 //! The top call.
 
-ghost use Rattle.std.specs.Prelude.{◌≡◌, ◌≢◌, ◌⊎◌, ◌<◌, ℕ, IfErr, IfOk, map, string_bytes};
+ghost use Rattle.std.specs.Prelude.{◌≡◌, ◌≢◌, ◌⊎◌, ◌<◌, ◌≤◌, ℕ, IfErr, IfOk, map, string_bytes};
 ghost use Rattle.std.specs.Io.KnownBytes.{Keeps};
 ghost use Rattle.fmt_ports.specs.Causes.{Rose};
 ghost use Rattle.fmt_ports.specs.Files.{KeepsAll};
@@ -11,7 +11,7 @@ ghost use Rattle.format_cli.specs.Statuses.{AreBadWords, HasNoStyle, HasRefusedI
 ghost use Rattle.format_cli.specs.Order.{LacksRows, StopsWith};
 
 use crate::in_force::style_in_force;
-use crate::input::{Place, format_files, format_source};
+use crate::input::{Options, Place, format_files, format_source};
 use crate::refusal::{Refusal, status_of, tell};
 use command_words::{Words, WordsFault, read_words};
 use fmt_ports::{Failed, Files, Sink, Source};
@@ -30,18 +30,20 @@ fn place_of(in_place: bool) -> Place
 }
 
 /// Does what the words ask for: dumps the style, or formats each input.
-fn perform<'w, S: Source, K: Sink, F: Files>(
+fn perform<'w, S: Source, K: Sink, E: Sink, F: Files>(
     alloc: Global,
     said: &Words<'w>,
     style: &Style,
     source: &mut S,
     out: &mut K,
+    notes: &mut E,
     files: &mut F,
 ) -> Result<(), Refusal<'w>>
     requires range { IsInRange style.now }
-    ensures done { IfOk result (λ _. IsPerformed said.now style.now (world (S.left source.old) (K.taken out.old) (F.holds files.old)) (world (S.left source.new) (K.taken out.new) (F.holds files.new))) }
-    ensures refused { IfErr result (IsNotPerformed said.now style.now (world (S.left source.old) (K.taken out.old) (F.holds files.old)) (world (S.left source.new) (K.taken out.new) (F.holds files.new))) }
-    ensures counts { (f : Faults) → Counted (record f { source = S.faults source.old; out = K.faults out.old; files = F.faults files.old; misses = F.misses files.old }) (record f { source = S.faults source.new; out = K.faults out.new; files = F.faults files.new; misses = F.misses files.new }) result }
+    requires budget { said.now.budget ≤ 16000000 }
+    ensures done { IfOk result (λ _. IsPerformed said.now style.now (world (S.left source.old) (K.taken out.old) (F.holds files.old) (E.taken notes.old)) (world (S.left source.new) (K.taken out.new) (F.holds files.new) (E.taken notes.new))) }
+    ensures refused { IfErr result (IsNotPerformed said.now style.now (world (S.left source.old) (K.taken out.old) (F.holds files.old) (E.taken notes.old)) (world (S.left source.new) (K.taken out.new) (F.holds files.new) (E.taken notes.new))) }
+    ensures counts { (f : Faults) → Counted (record f { source = S.faults source.old; out = K.faults out.old; notes = E.faults notes.old; files = F.faults files.old; misses = F.misses files.old }) (record f { source = S.faults source.new; out = K.faults out.new; notes = E.faults notes.new; files = F.faults files.new; misses = F.misses files.new }) result }
 {
     if said.dump_config {
         return match dump(style, out) {
@@ -49,11 +51,15 @@ fn perform<'w, S: Source, K: Sink, F: Files>(
             Err(Failed) => Err(Refusal::OutFailed),
         };
     }
+    let options = Options {
+        style: *style,
+        budget: said.budget,
+    };
     if said.files.is_empty() {
-        return format_source(alloc, style, source, out);
+        return format_source(alloc, &options, source, out, notes);
     }
     let place = place_of(said.in_place);
-    format_files(alloc, style, place, &said.files, out, files)
+    format_files(alloc, &options, place, &said.files, out, notes, files)
 }
 
 /// Reads the words and the style, and does what they ask for.
@@ -65,18 +71,19 @@ fn run<'w, S: Source, K: Sink, E: Sink, F: Files>(
     notes: &mut E,
     files: &mut F,
 ) -> Result<(), Refusal<'w>>
-    ensures done { IfOk result (λ _. EndsWell (map string_bytes words.entry.now) (world (S.left source.old) (K.taken out.old) (F.holds files.old)) (world (S.left source.new) (K.taken out.new) (F.holds files.new)) (E.taken notes.old) (E.taken notes.new)) }
-    ensures refused { IfErr result (IsRefused (map string_bytes words.entry.now) (world (S.left source.old) (K.taken out.old) (F.holds files.old)) (world (S.left source.new) (K.taken out.new) (F.holds files.new)) (E.taken notes.old) (E.taken notes.new)) }
+    ensures done { IfOk result (λ _. EndsWell (map string_bytes words.entry.now) (world (S.left source.old) (K.taken out.old) (F.holds files.old) (E.taken notes.old)) (world (S.left source.new) (K.taken out.new) (F.holds files.new) (E.taken notes.new))) }
+    ensures refused { IfErr result (IsRefused (map string_bytes words.entry.now) (world (S.left source.old) (K.taken out.old) (F.holds files.old) (E.taken notes.old)) (world (S.left source.new) (K.taken out.new) (F.holds files.new) (E.taken notes.new))) }
     ensures counts { Counted (record { source = S.faults source.old; out = K.faults out.old; notes = E.faults notes.old; files = F.faults files.old; misses = F.misses files.old }) (record { source = S.faults source.new; out = K.faults out.new; notes = E.faults notes.new; files = F.faults files.new; misses = F.misses files.new }) result }
 {
     let said = match read_words(alloc, words) {
         Ok(said) => said,
         Err(WordsFault::Form) => return Err(Refusal::BadWords),
+        Err(WordsFault::BadStates(word)) => return Err(Refusal::BadStates(word)),
         Err(WordsFault::NoInput) => return Err(Refusal::NoInput),
         Err(WordsFault::NoMemory) => return Err(Refusal::NoMemory),
     };
     let style = style_in_force(alloc, said.style, notes, files)?;
-    perform(alloc, &said, &style, source, out, files)
+    perform(alloc, &said, &style, source, out, notes, files)
 }
 
 /// Formats the inputs that the words name, in the style that they choose, and answers the exit status.
@@ -84,7 +91,8 @@ fn run<'w, S: Source, K: Sink, E: Sink, F: Files>(
 /// Without a FILE the input is `source`; the texts go to `out`, or with `-i` back into their files where they
 /// change. `--dump-config` writes the style to `out` and reads no input. The first refusal ends the call, in this
 /// order: the words, the style, and then each input. Its row is told last in `notes`, behind the rows of the
-/// keys of the configuration that no style has.
+/// keys of the configuration that no style has, and those of the lines that are reported, which are told of each
+/// input before its text is written.
 ///
 /// 0: all was done. 2: the words. 3: the style. 4: an input is past the limit or has a comment without an end.
 /// 5: a port failed. 6: a file isn't there. 7: memory ran out. Inputs before a refusal stay done.
@@ -97,14 +105,15 @@ pub fn format_command<S: Source, K: Sink, E: Sink, F: Files>(
     files: &mut F,
 ) -> u8
     // All that the words ask for was done, in the style in force: each input has a formatted text, its twin that
-    // preprocesses alike, which stands in its place; and the notes took the rows of the skipped keys.
-    ensures done { result ≡ 0 → EndsWell (map string_bytes words.now) (world (S.left source.old) (K.taken out.old) (F.holds files.old)) (world (S.left source.new) (K.taken out.new) (F.holds files.new)) (E.taken notes.old) (E.taken notes.new) }
+    // preprocesses alike, which stands in its place; and the notes took the rows of the skipped keys and then those of
+    // each input's reports.
+    ensures done { result ≡ 0 → EndsWell (map string_bytes words.now) (world (S.left source.old) (K.taken out.old) (F.holds files.old) (E.taken notes.old)) (world (S.left source.new) (K.taken out.new) (F.holds files.new) (E.taken notes.new)) }
 
     // What was done before a refusal, its cause, and what the notes took.
-    ensures refused { result ≢ 0 → IsRefusedWith (map string_bytes words.now) (world (S.left source.old) (K.taken out.old) (F.holds files.old)) (world (S.left source.new) (K.taken out.new) (F.holds files.new)) (E.taken notes.old) (E.taken notes.new) (E.faults notes.old) (E.faults notes.new) result }
+    ensures refused { result ≢ 0 → IsRefusedWith (map string_bytes words.now) (world (S.left source.old) (K.taken out.old) (F.holds files.old) (E.taken notes.old)) (world (S.left source.new) (K.taken out.new) (F.holds files.new) (E.taken notes.new)) (E.faults notes.old) (E.faults notes.new) result }
     ensures known { IsStatus result }
 
-    // 2 exactly where the words aren't of the form or `-i` lacks its FILE, want of memory aside.
+    // 2 exactly where the words aren't of the form, `--states` tells no budget or `-i` lacks its FILE, want of memory aside.
     ensures usage { result ≡ 2 → AreBadWords (map string_bytes words.now) }
     ensures form { AreBadWords (map string_bytes words.now) → (result ≡ 2) ⊎ (result ≡ 7) }
 

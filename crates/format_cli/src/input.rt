@@ -1,6 +1,6 @@
 //! The inputs: each is read, formatted and put in its place.
 
-ghost use Rattle.std.specs.Prelude.{◌≡◌, IfErr, IfOk, map, not};
+ghost use Rattle.std.specs.Prelude.{◌≡◌, ◌≤◌, IfErr, IfOk, map, not};
 ghost use Rattle.fmt_ports.specs.Files.{KeepsAll, KeepsOthers};
 ghost use Rattle.c_grammar.specs.Grammar.{is_same};
 ghost use Rattle.style_table.specs.Range.{IsInRange};
@@ -9,12 +9,22 @@ ghost use Rattle.format_cli.specs.InForce.{IsHeld};
 ghost use Rattle.format_cli.specs.Inputs.{AreDone, AreRefused, IsDone, IsFileCause, IsFileRefused, IsFormatted, IsSourceDone, IsSourceRefused, IsTextCause, IsWriteRefused, ends};
 
 use crate::refusal::{Refusal, STANDARD_INPUT};
+use crate::reports::tell_reports;
 use bumpalo::Bump;
-use c_chars::LIMIT;
+use c_chars::{Dialect, LIMIT};
 use fmt_ports::{Failed, FileFault, Files, InFault, Sink, Source, read_all};
-use format_core::{FormatFault, Formatted, format};
+use format_core::{FormatFault, Formatted, Job, format};
 use std::alloc::Global;
 use style_table::Style;
+
+/// How texts are formatted.
+#[derive(Clone, Copy)]
+pub struct Options {
+    /// The style in force.
+    pub style: Style,
+    /// How many cells the search of a line may have.
+    pub budget: u64,
+}
 
 /// Where the texts of FILEs go.
 #[derive(Clone, Copy, Debug)]
@@ -29,17 +39,22 @@ pub enum Place {
 fn formatted<'a, 's, 'w>(
     alloc: Global,
     bump: &'a Bump,
-    style: &Style,
+    options: &Options,
     name: &'w str,
     text: &'s [u8],
 ) -> Result<Formatted<'a, 's>, Refusal<'w>>
-    requires range { IsInRange style.now }
-    ensures formats { IfOk result (λ made. IsFormatted style.now text.now made.text.items) }
+    requires range { IsInRange options.now.style }
+    requires budget { options.now.budget ≤ 16000000 }
+    ensures formats { IfOk result (λ made. (is : IsFormatted options.now text.now made.text.items) × (made.reports.now ≡ is.reports)) }
     ensures changed { IfOk result (λ made. made.changed ≡ not (is_same made.text.items text.now)) }
     ensures refused { IfErr result (IsTextCause name.entry.now text.now) }
     ensures counts { (f : Faults) → Counted f f result }
 {
-    match format(alloc, bump, text, style) {
+    let job = Job {
+        budget: options.budget,
+        dialect: Dialect::C11,
+    };
+    match format(alloc, bump, text, &options.style, &job) {
         Ok(formatted) => Ok(formatted),
         Err(FormatFault::UnterminatedComment { start }) => Err(Refusal::OpenComment {
             input: name,
@@ -50,17 +65,19 @@ fn formatted<'a, 's, 'w>(
     }
 }
 
-/// Formats standard input, and writes its text.
-pub fn format_source<S: Source, K: Sink>(
+/// Formats standard input: tells its reports, and writes its text.
+pub fn format_source<S: Source, K: Sink, E: Sink>(
     alloc: Global,
-    style: &Style,
+    options: &Options,
     source: &mut S,
     out: &mut K,
+    notes: &mut E,
 ) -> Result<(), Refusal<'static>>
-    requires range { IsInRange style.now }
-    ensures done { IfOk result (λ _. IsSourceDone style.now (S.left source.old) (K.taken out.old) (K.taken out.new)) }
-    ensures refused { IfErr result (IsSourceRefused style.now (S.left source.old) (K.taken out.old) (K.taken out.new)) }
-    ensures counts { (f : Faults) → Counted (record f { source = S.faults source.old; out = K.faults out.old }) (record f { source = S.faults source.new; out = K.faults out.new }) result }
+    requires range { IsInRange options.now.style }
+    requires budget { options.now.budget ≤ 16000000 }
+    ensures done { IfOk result (λ _. IsSourceDone options.now (S.left source.old) (K.taken out.old) (K.taken out.new) (E.taken notes.old) (E.taken notes.new)) }
+    ensures refused { IfErr result (IsSourceRefused options.now (S.left source.old) (K.taken out.old) (K.taken out.new) (E.taken notes.old) (E.taken notes.new)) }
+    ensures counts { (f : Faults) → Counted (record f { source = S.faults source.old; out = K.faults out.old; notes = E.faults notes.old }) (record f { source = S.faults source.new; out = K.faults out.new; notes = E.faults notes.new }) result }
 {
     let text = match read_all(alloc, source, LIMIT as u64) {
         Ok(text) => text,
@@ -69,7 +86,11 @@ pub fn format_source<S: Source, K: Sink>(
         Err(InFault::NoMemory) => return Err(Refusal::NoMemory),
     };
     let bump = Bump::new(alloc);
-    let formatted = formatted(alloc, &bump, style, STANDARD_INPUT, &text)?;
+    let formatted = formatted(alloc, &bump, options, STANDARD_INPUT, &text)?;
+    match tell_reports(STANDARD_INPUT, options.budget, formatted.reports, notes) {
+        Ok(()) => {}
+        Err(Failed) => return Err(Refusal::NotesFailed),
+    }
     match formatted.write(out) {
         Ok(()) => Ok(()),
         Err(Failed) => Err(Refusal::OutFailed),
@@ -107,23 +128,29 @@ fn write_back<'w, F: Files>(name: &'w str, text: &[u8], files: &mut F) -> Result
     }
 }
 
-/// Formats a FILE, and puts its text in its place. A text that stays as it was isn't written back.
-fn format_file<'w, K: Sink, F: Files>(
+/// Formats a FILE: tells its reports, and puts its text in its place. A text that stays as it was isn't written back.
+fn format_file<'w, K: Sink, E: Sink, F: Files>(
     alloc: Global,
-    style: &Style,
+    options: &Options,
     place: Place,
     name: &'w str,
     out: &mut K,
+    notes: &mut E,
     files: &mut F,
 ) -> Result<(), Refusal<'w>>
-    requires range { IsInRange style.now }
-    ensures done { IfOk result (λ _. IsDone style.now place name.entry.now (ends (K.taken out.old) (F.holds files.old)) (ends (K.taken out.new) (F.holds files.new))) }
-    ensures refused { IfErr result (IsFileRefused style.now place name.entry.now (ends (K.taken out.old) (F.holds files.old)) (ends (K.taken out.new) (F.holds files.new))) }
-    ensures counts { (f : Faults) → Counted (record f { out = K.faults out.old; files = F.faults files.old; misses = F.misses files.old }) (record f { out = K.faults out.new; files = F.faults files.new; misses = F.misses files.new }) result }
+    requires range { IsInRange options.now.style }
+    requires budget { options.now.budget ≤ 16000000 }
+    ensures done { IfOk result (λ _. IsDone options.now place name.entry.now (ends (K.taken out.old) (F.holds files.old) (E.taken notes.old)) (ends (K.taken out.new) (F.holds files.new) (E.taken notes.new))) }
+    ensures refused { IfErr result (IsFileRefused options.now place name.entry.now (ends (K.taken out.old) (F.holds files.old) (E.taken notes.old)) (ends (K.taken out.new) (F.holds files.new) (E.taken notes.new))) }
+    ensures counts { (f : Faults) → Counted (record f { out = K.faults out.old; notes = E.faults notes.old; files = F.faults files.old; misses = F.misses files.old }) (record f { out = K.faults out.new; notes = E.faults notes.new; files = F.faults files.new; misses = F.misses files.new }) result }
 {
     let text = read_file(name, files)?;
     let bump = Bump::new(alloc);
-    let formatted = formatted(alloc, &bump, style, name, &text)?;
+    let formatted = formatted(alloc, &bump, options, name, &text)?;
+    match tell_reports(name, options.budget, formatted.reports, notes) {
+        Ok(()) => {}
+        Err(Failed) => return Err(Refusal::NotesFailed),
+    }
     match place {
         Place::Output => match formatted.write(out) {
             Ok(()) => Ok(()),
@@ -140,21 +167,23 @@ fn format_file<'w, K: Sink, F: Files>(
 }
 
 /// Formats the FILEs in order. The first refusal ends it; those before stay done.
-pub fn format_files<'w, K: Sink, F: Files>(
+pub fn format_files<'w, K: Sink, E: Sink, F: Files>(
     alloc: Global,
-    style: &Style,
+    options: &Options,
     place: Place,
     names: &[&'w str],
     out: &mut K,
+    notes: &mut E,
     files: &mut F,
 ) -> Result<(), Refusal<'w>>
-    requires range { IsInRange style.now }
-    ensures done { IfOk result (λ _. AreDone style.now place (map (λ name. name.now) names.now) (ends (K.taken out.old) (F.holds files.old)) (ends (K.taken out.new) (F.holds files.new))) }
-    ensures refused { IfErr result (AreRefused style.now place (map (λ name. name.now) names.now) (ends (K.taken out.old) (F.holds files.old)) (ends (K.taken out.new) (F.holds files.new))) }
-    ensures counts { (f : Faults) → Counted (record f { out = K.faults out.old; files = F.faults files.old; misses = F.misses files.old }) (record f { out = K.faults out.new; files = F.faults files.new; misses = F.misses files.new }) result }
+    requires range { IsInRange options.now.style }
+    requires budget { options.now.budget ≤ 16000000 }
+    ensures done { IfOk result (λ _. AreDone options.now place (map (λ name. name.now) names.now) (ends (K.taken out.old) (F.holds files.old) (E.taken notes.old)) (ends (K.taken out.new) (F.holds files.new) (E.taken notes.new))) }
+    ensures refused { IfErr result (AreRefused options.now place (map (λ name. name.now) names.now) (ends (K.taken out.old) (F.holds files.old) (E.taken notes.old)) (ends (K.taken out.new) (F.holds files.new) (E.taken notes.new))) }
+    ensures counts { (f : Faults) → Counted (record f { out = K.faults out.old; notes = E.faults notes.old; files = F.faults files.old; misses = F.misses files.old }) (record f { out = K.faults out.new; notes = E.faults notes.new; files = F.faults files.new; misses = F.misses files.new }) result }
 {
     for name in names {
-        format_file(alloc, style, place, name, out, files)?;
+        format_file(alloc, options, place, name, out, notes, files)?;
     }
     Ok(())
 }

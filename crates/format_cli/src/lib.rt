@@ -1,6 +1,6 @@
 //! The command: `format_command` is the whole program, over any ports.
 //!
-//! It reads the words, chooses the style, formats each input and puts its text in its place. The first refusal ends
+//! It reads the words, chooses the style, formats each input, tells its reports and puts its text in its place. The first refusal ends
 //! it, with a row that tells the cause and a status. It looks at nothing but its words and ports.
 #![tactic(auto)]
 
@@ -9,6 +9,7 @@ mod in_force;
 mod input;
 mod laws;
 mod refusal;
+mod reports;
 
 pub use command::format_command;
 pub use laws::outputs_are_joined;

@@ -5,7 +5,7 @@ ghost use Rattle.std.specs.Io.KnownBytes.{Appends};
 ghost use Rattle.fmt_ports.specs.Causes.{AppendsPart, Counts};
 ghost use Rattle.format_cli.specs.Notes.{fault_row, row_of, status_of};
 
-use command_words::{USAGE, WordsFault};
+use command_words::USAGE;
 use fmt_ports::{Failed, Sink, write_all};
 use itoa::Buffer;
 use style_config::ConfigFault;
@@ -18,6 +18,8 @@ pub const STANDARD_INPUT: &str = "<stdin>";
 pub enum Refusal<'w> {
     /// The words aren't of the command's form.
     BadWords,
+    /// This value of `--states` tells no budget.
+    BadStates(&'w str),
     /// `-i` has no FILE.
     NoInput,
     /// No style has this name.
@@ -49,7 +51,7 @@ pub fn status_of(refusal: Refusal) -> u8
     ensures { result ≡ status_of refusal.entry }
 {
     match refusal {
-        Refusal::BadWords | Refusal::NoInput => 2,
+        Refusal::BadWords | Refusal::BadStates(_) | Refusal::NoInput => 2,
         Refusal::UnknownStyle(_)
         | Refusal::LongConfiguration(_)
         | Refusal::BadConfiguration { .. } => 3,
@@ -71,7 +73,13 @@ pub fn tell<E: Sink>(refusal: Refusal, notes: &mut E) -> Result<(), Failed>
 {
     match refusal {
         Refusal::BadWords => write_two(USAGE, "\n", notes),
-        Refusal::NoInput => write_two(WordsFault::NoInput.note(), "\n", notes),
+        Refusal::BadStates(word) => write_three(
+            "clang_format: --states ",
+            word,
+            ": not 1 to 16000000\n",
+            notes,
+        ),
+        Refusal::NoInput => write_all(notes, b"clang_format: -i needs a file\n"),
         Refusal::UnknownStyle(name) => {
             write_three("clang_format: style ", name, ": unknown name\n", notes)
         }

@@ -1,7 +1,6 @@
--- Every gap of a text is decided in its plan.
+-- What the runs are left to decide.
 use Rattle.std.proofs.Common.{◌≡◌, ◌∙◌, ◌||◌, ◌&&◌, ℕ, zero, suc, ◌+◌, ◌<◌, ◌≤◌, nat_lt, ◌⊎◌, inl, inr, Bool, true, false, Option, Some, None, List, [], length, get_or, replicate, refl, sym, subst, arith}
-use Rattle.std.specs.Prelude.{All, IsSome, if◌then◌else◌, slice_get}
-use Rattle.std.specs.List.{Contains}
+use Rattle.std.specs.Prelude.{All, if◌then◌else◌, slice_get}
 use Rattle.std.proofs.lemmas.List.{length-replicate}
 use Rattle.std.proofs.lemmas.Option.{slice_get_within}
 use Rattle.style_table.specs.declared.style.Style.{Style}
@@ -15,28 +14,20 @@ use Rattle.branch_runs.specs.Cut.{end_of}
 use Rattle.branch_runs.specs.Dead.{is_dead}
 use Rattle.branch_runs.specs.Reading.{effects}
 use Rattle.branch_runs.proofs.Bridge.{marks_cut, marks_end}
-use Rattle.branch_runs.proofs.Live.{is_covered}
 use Rattle.branch_runs.proofs.Order.{effects_cut}
 use Rattle.branch_runs.proofs.Within.{view_within, effects_end}
-use Rattle.brackets.specs.Partners.{partners_of}
 use Rattle.brackets.specs.Viewed.{classes_of}
-use Rattle.unwrapped_lines.proofs.Started.{lines_cut_views}
 use Rattle.gap_text.specs.declared.Decision.{Decision}
 use Rattle.gap_text.specs.declared.Decision.TheVariants.{Old}
 use Rattle.replacements.specs.declared.slot.Slot.{Slot}
 use Rattle.replacements.specs.declared.stance.Stance.{Stance}
 use Rattle.replacements.specs.declared.stance.Stance.TheVariants.{OfText, Leads, Within}
-use Rattle.replacements.specs.Decisions.{slot_of}
 use Rattle.replacements.specs.Stances.{stance_in}
-use Rattle.run_layout.specs.Run.{run_decisions}
 use Rattle.format_core.specs.BeforeRuns.{is_behind_dead, is_beside_dead, item_decision, decision_before, early_decision, made_at, early_from, early_decisions}
 use Rattle.brackets.specs.Kept.{kept_gaps_of}
 use Rattle.format_core.specs.KeptGaps.{kept_decisions}
-use Rattle.format_core.specs.Runs.{toks_of_items, runs_of, seen_by, lines_of_items, after_kept, after_items, after_runs, early_plan, plan_of}
-use Rattle.format_core.specs.Laws.{EveryGapIsDecided}
-use Rattle.format_core.proofs.OfTexts.{text_mark}
-use Rattle.format_core.proofs.Stays.{runs_keep}
-use Rattle.format_core.proofs.Decided.{IsMadeFor, IsDecided, made-left, made-right, is_some-decided, decided-is_some, length-decided_all, made_decided, here_or_later, run_decides}
+use Rattle.format_core.specs.Runs.{seen_by, after_kept, early_plan}
+use Rattle.format_core.proofs.Decided.{IsMadeFor, IsDecided, made-left, made-right, length-decided_all, made_decided, here_or_later}
 
 -- ## Before the runs
 
@@ -122,56 +113,3 @@ seen_within arena run = λ k d below.
 -- a run makes the plan no longer
 pub length-kept : (style : Style) (arena : Contents) (plan : List (Option Slot)) (ids : List ℕ) → length (after_kept style arena plan ids) ≡ length plan
 length-kept style arena plan ids = length-decided_all plan (kept_decisions style arena 0 ids (kept_gaps_of (classes_of arena ids)))
-
-length-items : (style : Style) (arena : Contents) (plan : List (Option Slot)) (ids : List ℕ) → length (after_items style arena plan ids) ≡ length plan
-length-items style arena plan ids =
-    let kept : List (Option Slot) = after_kept style arena plan ids in
-    length-decided_all kept (run_decisions style arena ids (toks_of_items style arena ids) kept (lines_of_items style arena ids)) ∙ length-kept style arena plan ids
-
--- behind a run each gap of an item that it sees is decided
-seen_decided : (style : Style) (arena : Contents) (plan : List (Option Slot)) (run id : ℕ) → length plan ≡ length arena.tokens + 1 → Contains (seen_by arena run) id
-    → IsDecided (after_items style arena plan (seen_by arena run)) id
-seen_decided style arena plan run id long (k, below, is) =
-    let ids = seen_by arena run in
-    let kept : List (Option Slot) = after_kept style arena plan ids in
-    let cut = lines_cut_views style arena ids (partners_of (classes_of arena ids)) in
-    let after : List (Option Slot) = after_items style arena plan ids in
-    let same : length kept ≡ length plan = length-kept style arena plan ids in
-    let within : All (λ i. i < length kept) ids = λ j d low. (let w = seen_within arena run j d low in omega (arith, w, long, same)) in
-    let here : IsSome (slot_of after (get_or ids k id)) = run_decides style arena ids (toks_of_items style arena ids) kept (lines_of_items style arena ids) cut within k id below in
-    decided-is_some after id (subst (λ i. IsSome (slot_of after i)) is here)
-
--- the runs keep what is decided
-all_keep : (style : Style) (arena : Contents) (plan : List (Option Slot)) (run count place : ℕ) → IsDecided plan place → IsDecided (after_runs style arena plan run count) place
-all_keep style arena plan run count place h = (h.0, runs_keep style arena plan run count place h.0 h.1)
-
--- what one of the runs sees is decided behind all of them
-runs_decide : (style : Style) (arena : Contents) (plan : List (Option Slot)) (from count run id : ℕ) → length plan ≡ length arena.tokens + 1 → from ≤ run → run < from + count
-    → Contains (seen_by arena run) id → IsDecided (after_runs style arena plan from count) id
-runs_decide style arena plan from zero run id long low high sees = absurd (omega (arith, low, high))
-runs_decide style arena plan from (suc count) run id long low high sees =
-    let ids = seen_by arena from in
-    let after : List (Option Slot) = after_items style arena plan ids in
-    elim (here_or_later from run low) [
-      | inl e ↦ all_keep style arena after (from + 1) count id (seen_decided style arena plan from id long (subst (λ r. Contains (seen_by arena r) id) (sym e) sees))
-      | inr later ↦
-          let still : length after ≡ length arena.tokens + 1 = length-items style arena plan ids ∙ long in
-          runs_decide style arena after (from + 1) count run id still later (omega (arith, high)) sees
-    ]
-
--- ## All gaps
-
-left_decided : (style : Style) (arena : Contents) (place : ℕ) → IsLeft arena place → IsDecided (after_runs style arena (early_plan style arena) 0 (runs_of arena)) place
-left_decided style arena place (within, of_text, alive) =
-    let text = text_mark arena 0 (length arena.tokens) (sections_of arena) place (sections_are_cut arena) (omega arith) within of_text in
-    let covered = is_covered (marks_of arena) place text alive in
-    runs_decide style arena (early_plan style arena) 0 (runs_of arena) covered.0 place (length-early style arena) (omega arith) (omega (arith, covered.1)) covered.2
-
-pub every_gap_is_decided : EveryGapIsDecided
-unfolding plan_of
-every_gap_is_decided style arena place within =
-    let plan : List (Option Slot) = after_runs style arena (early_plan style arena) 0 (runs_of arena) in
-    is_some-decided plan place (elim (early_or_left style arena place (is_beside_dead arena place) refl) [
-      | inl (decision, is) ↦ all_keep style arena (early_plan style arena) 0 (runs_of arena) place (early_decided style arena place decision within is)
-      | inr left ↦ left_decided style arena place left
-    ])

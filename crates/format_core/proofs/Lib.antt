@@ -10,5 +10,4 @@ pub mod EveryGap
 pub mod SoundPlan
 pub mod NothingNew
 pub mod RowsDecided
-pub mod SoundPlans
 pub mod RunsTold

@@ -1,4 +1,4 @@
--- The plan of a text, run by run.
+-- Kept gaps, and the text of a plan.
 use Rattle.std.proofs.Common.{◌≡◌, ◌∙◌, ℕ, suc, ◌+◌, Bool, true, false, Option, List, [], ◌∷◌, drop, get_or, length, ◌<◌, refl, sym, ap, arith}
 use Rattle.std.specs.Prelude.{if◌then◌else◌}
 use Rattle.std.specs.List.{list_any}
@@ -14,14 +14,6 @@ use Rattle.directives.specs.declared.Section.{Section}
 use Rattle.directives.specs.Sections.{sections_of}
 use Rattle.replacements.specs.Written.{written}
 use Rattle.format_core.specs.LineEnds.{ends_by}
-use Rattle.format_core.specs.Runs.{seen_by, after_items, after_runs, plan_of}
-
--- ## Runs
-
--- a run, and those behind it
-pub next_run : (style : Style) (arena : Contents) (plan after : List (Option Slot)) (run rest count : ℕ) → count ≡ suc rest → after ≡ after_items style arena plan (seen_by arena run)
-    → after_runs style arena after (run + 1) rest ≡ after_runs style arena plan run count
-next_run style arena plan after run rest count more is = rw (more, is) refl
 
 -- ## Kept gaps
 
@@ -58,10 +50,9 @@ next_kept style arena plan after column start next k id ids mark marks within lo
 
 -- what was written is the text of the plan
 pub laid_is : (style : Style) (arena : Contents) (crlf : Bool) (sections : List Section) (plan : List (Option Slot)) (text laid : List ℕ) →
-    laid ≡ written style crlf arena sections plan → crlf ≡ ends_by style.line_ending text → sections ≡ sections_of arena → plan ≡ plan_of style arena → arena.text ≡ text →
-    laid ≡ written style (ends_by style.line_ending arena.text) arena (sections_of arena) (plan_of style arena)
-laid_is style arena crlf sections plan text laid is ends cut planned same =
+    laid ≡ written style crlf arena sections plan → crlf ≡ ends_by style.line_ending text → sections ≡ sections_of arena → arena.text ≡ text →
+    laid ≡ written style (ends_by style.line_ending arena.text) arena (sections_of arena) plan
+laid_is style arena crlf sections plan text laid is ends cut same =
     is
     ∙ (ap (λ (b : Bool). written style b arena sections plan) (ends ∙ ap (λ (z : List ℕ). ends_by style.line_ending z) (sym same))
-    ∙ (ap (λ (s : List Section). written style (ends_by style.line_ending arena.text) arena s plan) cut
-    ∙ ap (λ (p : List (Option Slot)). written style (ends_by style.line_ending arena.text) arena (sections_of arena) p) planned))
+    ∙ ap (λ (s : List Section). written style (ends_by style.line_ending arena.text) arena s plan) cut)

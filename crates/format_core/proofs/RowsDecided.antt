@@ -9,7 +9,7 @@ use Rattle.token_views.specs.declared.view.Segment.{Segment}
 use Rattle.token_views.specs.Segments.{ids_of, segment_bounds}
 use Rattle.replacements.specs.declared.slot.Slot.{Slot}
 use Rattle.replacements.specs.Decisions.{slot_of}
-use Rattle.run_layout.specs.Run.{IsRowDecided}
+use Rattle.run_layout.specs.OpenGaps.{IsRowDecided}
 use Rattle.format_core.specs.Runs.{AreDecided}
 
 in_or_past : (place n : ℕ) → (place < n) ⊎ (n ≤ place)

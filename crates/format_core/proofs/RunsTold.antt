@@ -1,5 +1,5 @@
 -- Runs, one after another, with what is told of their lines.
-use Rattle.std.proofs.Common.{◌≡◌, ◌∙◌, ℕ, zero, suc, ◌+◌, ◌<◌, ◌≤◌, Option, List, [], ◌∷◌, ◌++◌, length, get_or, append_assoc, refl, sym, ap, arith, subst}
+use Rattle.std.proofs.Common.{◌≡◌, ◌∙◌, ℕ, suc, ◌+◌, ◌<◌, Option, List, [], ◌∷◌, ◌++◌, length, append_assoc, refl, sym, ap, arith, subst}
 use Rattle.std.proofs.lemmas.List.{append-nil}
 use Rattle.style_table.specs.declared.style.Style.{Style}
 use Rattle.line_tokens.specs.declared.LineTok.{LineTok}
@@ -13,11 +13,11 @@ use Rattle.unwrapped_lines.proofs.Started.{lines_cut_views}
 use Rattle.replacements.specs.declared.slot.Slot.{Slot}
 use Rattle.run_layout.specs.Outcomes.{Kept, LaidLine, AfterLines, row_of}
 use Rattle.run_layout.specs.Reports.{report_by, reports_of, searched_of, cost_of}
-use Rattle.run_layout.specs.RunsLaid.{IsToldOf, IsRunLaid}
+use Rattle.run_layout.specs.RunsLaid.{IsRunLaid}
 use Rattle.run_layout.specs.declared.report.Report.{Report}
 use Rattle.run_layout.specs.declared.report.Tally.{Tally}
 use Rattle.run_layout.proofs.Walked.{cut_within}
-use Rattle.format_core.specs.Plans.{AfterItems, AfterRuns}
+use Rattle.format_core.specs.Plans.{AfterRuns}
 use Rattle.format_core.specs.Runs.{AreDecided, seen_by, lines_of_items, after_kept, toks_of_items}
 use Rattle.format_core.specs.RunsTold.{AreItemsTold, AreRunsTold}
 use Rattle.format_core.proofs.NothingNew.{kept_nothing}

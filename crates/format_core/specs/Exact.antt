@@ -3,8 +3,9 @@ use Rattle.std.specs.Prelude.{ℕ, List}
 use Rattle.c_chars.specs.declared.Dialect.{Dialect}
 use Rattle.c_lexer.specs.Fault.{IsOpenAt}
 use Rattle.style_table.specs.declared.style.Style.{Style}
+use Rattle.run_layout.specs.declared.report.Report.{Report}
 use Rattle.format_core.specs.Formats.{Formats}
 
 -- No text has both a layout and a block comment that nothing ends.
 abbrev pub OpenTextsHaveNoLayout : Type 0
-OpenTextsHaveNoLayout = (style : Style) (d : Dialect) (b c : List ℕ) (at : ℕ) → Formats style d b c → IsOpenAt d b at → ⊥
+OpenTextsHaveNoLayout = (style : Style) (budget : ℕ) (d : Dialect) (b c : List ℕ) (reports : List Report) (at : ℕ) → Formats style budget d b c reports → IsOpenAt d b at → ⊥

@@ -1,7 +1,7 @@
 -- Why a text isn't formatted.
 use Rattle.std.specs.Prelude.{◌≡◌, ◌≤◌, ◌<◌, ℕ, List, length}
 use Rattle.c_chars.specs.declared.TheConstants.{LIMIT}
-use Rattle.c_chars.specs.declared.Dialect.TheVariants.{C11}
+use Rattle.c_chars.specs.declared.Dialect.{Dialect}
 use Rattle.c_lexer.specs.Fault.{IsOpenAt}
 use Rattle.format_core.specs.declared.fault.FormatFault.{FormatFault}
 use Rattle.format_core.specs.declared.fault.FormatFault.TheVariants as Format
@@ -14,8 +14,8 @@ fault_of (UnterminatedComment start) = Format.UnterminatedComment start
 fault_of (TooLarge bytes) = Format.TooLarge bytes
 fault_of NoMemory = Format.NoMemory
 
--- Why a text isn't formatted. Its size is tested first.
-abbrev pub IsCause : List ℕ → FormatFault → Type 0
-IsCause text (Format.UnterminatedComment start) = (length text ≤ LIMIT) × IsOpenAt C11 text start
-IsCause text (Format.TooLarge bytes) = (LIMIT < length text) × (bytes ≡ length text)
-IsCause text Format.NoMemory = length text ≤ LIMIT
+-- Why a text in this dialect isn't formatted. Its size is tested first.
+abbrev pub IsCause : Dialect → List ℕ → FormatFault → Type 0
+IsCause d text (Format.UnterminatedComment start) = (length text ≤ LIMIT) × IsOpenAt d text start
+IsCause d text (Format.TooLarge bytes) = (LIMIT < length text) × (bytes ≡ length text)
+IsCause d text Format.NoMemory = length text ≤ LIMIT

@@ -1,4 +1,4 @@
--- What holds of the plan of a text.
+-- What holds of the plans of a text, whichever lines are reported.
 use Rattle.std.specs.Prelude.{◌≡◌, ◌≤◌, ℕ, Bool, List, Option, Some, IsSome, length}
 use Rattle.c_grammar.specs.Twin.{IsTwin}
 use Rattle.style_table.specs.declared.style.Style.{Style}
@@ -12,37 +12,21 @@ use Rattle.format_core.specs.BeforeRuns.{early_decision}
 use Rattle.replacements.specs.declared.slot.Slot.{Slot}
 use Rattle.run_layout.specs.Outcomes.{LaidLine}
 use Rattle.format_core.specs.Plans.{IsPlanOf}
-use Rattle.format_core.specs.Runs.{plan_of}
-
--- The text of the plan of a text is a twin of it, in every style and with either line end.
-abbrev pub PlannedTextsAreTwins : Type 0
-PlannedTextsAreTwins = (style : Style) (crlf : Bool) (arena : Contents) → HoldsItems arena → IsTwin arena.dialect arena.text (written style crlf arena (sections_of arena) (plan_of style arena))
-
--- No run changes what is decided before the runs: the bytes beside the items of a literal `#if 0` stay, and so do those inside directives.
-abbrev pub EarlyDecisionsStay : Type 0
-EarlyDecisionsStay = (style : Style) (arena : Contents) (place : ℕ) (decision : Decision) → place ≤ length arena.tokens
-    → early_decision style arena place ≡ Some decision → decision_at (plan_of style arena) place ≡ decision
-
--- Each gap of a text is decided: before the runs, or by the first run that sees it. docs/PROFILE.md, "Runs".
-abbrev pub EveryGapIsDecided : Type 0
-EveryGapIsDecided = (style : Style) (arena : Contents) (place : ℕ) → place ≤ length arena.tokens → IsSome (slot_of (plan_of style arena) place)
-
--- ## Plans with breaks that are searched
 
 -- The text of a plan is a twin of the text, in every style and with either line end, whichever lines are reported.
-abbrev pub PlansAreTwins : Type 0
-PlansAreTwins =
+abbrev pub PlannedTextsAreTwins : Type 0
+PlannedTextsAreTwins =
     (style : Style) (budget : ℕ) (crlf : Bool) (arena : Contents) (plan : List (Option Slot)) (done : List LaidLine)
     → HoldsItems arena → IsPlanOf style budget arena plan done → IsTwin arena.dialect arena.text (written style crlf arena (sections_of arena) plan)
 
--- No run changes what is decided before the runs.
-abbrev pub EarlyDecisionsStayInPlans : Type 0
-EarlyDecisionsStayInPlans =
+-- No run changes what is decided before the runs: the bytes beside the items of a literal `#if 0` stay, and so do those inside directives.
+abbrev pub EarlyDecisionsStay : Type 0
+EarlyDecisionsStay =
     (style : Style) (budget : ℕ) (arena : Contents) (plan : List (Option Slot)) (done : List LaidLine) (place : ℕ) (decision : Decision)
     → IsPlanOf style budget arena plan done → place ≤ length arena.tokens → early_decision style arena place ≡ Some decision → decision_at plan place ≡ decision
 
--- Each gap of a text is decided in each of its plans.
-abbrev pub PlansAreWhole : Type 0
-PlansAreWhole =
+-- Each gap of a text is decided in each of its plans: before the runs, or by the first run that sees it. docs/PROFILE.md, "Runs".
+abbrev pub EveryGapIsDecided : Type 0
+EveryGapIsDecided =
     (style : Style) (budget : ℕ) (arena : Contents) (plan : List (Option Slot)) (done : List LaidLine) (place : ℕ)
     → IsPlanOf style budget arena plan done → place ≤ length arena.tokens → IsSome (slot_of plan place)

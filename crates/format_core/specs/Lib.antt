@@ -5,7 +5,6 @@ pub mod KeptGaps
 pub mod Runs
 pub mod Plans
 pub mod Reports
-pub mod FormatsWithin
 pub mod RunsTold
 pub mod Formats
 pub mod Exact

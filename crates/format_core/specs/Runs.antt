@@ -1,5 +1,5 @@
--- The plan of a text: what is decided before the runs, and then run by run. docs/PROFILE.md, "Runs", says what a run sees.
-use Rattle.std.specs.Prelude.{◌≡◌, ◌<◌, ℕ, zero, suc, ◌+◌, Option, None, IsSome, List, get_or, length, replicate}
+-- What a run sees: docs/PROFILE.md, "Runs".
+use Rattle.std.specs.Prelude.{◌≡◌, ◌<◌, ℕ, ◌+◌, Option, None, IsSome, List, get_or, length, replicate}
 use Rattle.style_table.specs.declared.style.Style.{Style}
 use Rattle.token_arena.specs.Gaps.{Contents}
 use Rattle.branch_runs.specs.Marks.{marks_of}
@@ -16,7 +16,6 @@ use Rattle.unwrapped_lines.specs.declared.line.ULine.{ULine}
 use Rattle.unwrapped_lines.specs.Lines.{unwrapped_lines_of}
 use Rattle.replacements.specs.Decisions.{slot_of, decided_all}
 use Rattle.replacements.specs.declared.slot.Slot.{Slot}
-use Rattle.run_layout.specs.Run.{run_decisions}
 use Rattle.format_core.specs.BeforeRuns.{early_decisions}
 use Rattle.format_core.specs.KeptGaps.{kept_decisions}
 
@@ -45,23 +44,10 @@ toks_of_items style arena ids = roles_of arena ids (partners_of (classes_of aren
 abbrev pub after_kept : Style → Contents → List (Option Slot) → List ℕ → List (Option Slot)
 after_kept style arena plan ids = decided_all plan (kept_decisions style arena 0 ids (kept_gaps_of (classes_of arena ids)))
 
--- the plan after these items are laid out: first what stays is decided, then their lines
-abbrev pub after_items : Style → Contents → List (Option Slot) → List ℕ → List (Option Slot)
-after_items style arena plan ids = let kept = after_kept style arena plan ids in decided_all kept (run_decisions style arena ids (toks_of_items style arena ids) kept (lines_of_items style arena ids))
-
 -- the gap before each of these items is decided
 abbrev pub AreDecided : List (Option Slot) → List ℕ → Type 0
 AreDecided plan ids = (place : ℕ) → place < length ids → IsSome (slot_of plan (get_or ids place 0))
 
--- the plan after so many runs from this one on
-abbrev pub after_runs : Style → Contents → List (Option Slot) → ℕ → ℕ → List (Option Slot)
-after_runs style arena plan run zero = plan
-after_runs style arena plan run (suc count) = after_runs style arena (after_items style arena plan (seen_by arena run)) (run + 1) count
-
 -- the plan before the runs
 abbrev pub early_plan : Style → Contents → List (Option Slot)
 early_plan style arena = decided_all (replicate (length arena.tokens + 1) None) (early_decisions style arena)
-
--- The plan of a text: what is decided before the runs, and then by each of its runs in order. A gap keeps what is decided for it first.
-unfoldable pub plan_of : Style → Contents → List (Option Slot)
-plan_of style arena = after_runs style arena (early_plan style arena) 0 (runs_of arena)

@@ -2,29 +2,38 @@
 
 ghost use Rattle.std.specs.Prelude.{◌≡◌, ◌≤◌, ◌+◌, not, length, IfOk, IfErr, OnOk};
 ghost use Rattle.std.specs.Io.KnownBytes.{Appends};
-ghost use Rattle.fmt_ports.specs.Causes.{AppendsPart, Counts};
-ghost use Rattle.c_chars.specs.declared.Dialect.TheVariants.{C11};
+ghost use Rattle.fmt_ports.specs.Causes.{AppendsPart, Counts as FaultCounts};
 ghost use Rattle.c_chars.specs.declared.TheConstants.{LIMIT};
 ghost use Rattle.c_grammar.specs.Grammar.{is_same};
 ghost use Rattle.c_grammar.specs.Twin.{IsTwin};
 ghost use Rattle.style_table.specs.Range.{IsInRange};
 ghost use Rattle.format_core.specs.Faults.{IsCause};
-ghost use Rattle.format_core.specs.Formats.{Formats};
-ghost use Rattle.format_core.specs.Runs.{plan_of};
+ghost use Rattle.format_core.specs.Formats.{IsFormatted};
 ghost use Rattle.replacements.specs.Written.{written};
 
 use crate::FormatFault;
 use crate::line_ends::ends_by;
 use crate::runs::plan_of;
 use bumpalo::Bump;
+use bumpalo::collections::into_bump_slice;
 use c_chars::{Dialect, LIMIT};
 use directives::{Section, sections};
 use fmt_ports::{Failed, Sink, TextSink, write_all};
 use line_tokens::NoMemory;
 use replacements::{Plan, write_out};
+use run_layout::{Counts, Report};
 use std::alloc::Global;
 use style_table::Style;
 use token_arena::{TokenArena, build};
+
+/// What a text is formatted by, beside a style.
+#[derive(Clone, Copy, Debug, PartialEq, Eq)]
+pub struct Job {
+    /// How many cells the search of a line may have. A line that has more may be reported.
+    pub budget: u64,
+    /// The dialect that the text is read in.
+    pub dialect: Dialect,
+}
 
 /// A formatted text.
 #[derive(Drop)]
@@ -33,6 +42,11 @@ pub struct Formatted<'a, 's> {
     pub arena: TokenArena<'a, 's>,
     /// The formatted text.
     pub text: Vec<u8>,
+    /// The lines whose inner gaps keep their bytes, since they have more cells than the budget; in order of runs and
+    /// lines.
+    pub reports: &'a [Report],
+    /// What its lines came to.
+    pub counts: Counts,
     /// It isn't the input.
     pub changed: bool,
 }
@@ -65,29 +79,44 @@ fn is_same(a: &[u8], b: &[u8]) -> bool
     a == b
 }
 
-/// Formats a text of at most [`LIMIT`] bytes in a style, read as C11.
+/// Formats a text of at most [`LIMIT`] bytes in a style.
 pub fn format<'a, 's>(
     alloc: Global,
     bump: &'a Bump,
     text: &'s [u8],
     style: &Style,
+    job: &Job,
 ) -> Result<Formatted<'a, 's>, FormatFault>
     requires range { IsInRange style.now }
-    ensures formats { IfOk result (λ f. Formats style.now C11 text.now f.text.items) }
-    ensures twins { IfOk result (λ f. IsTwin C11 text.now f.text.items) }
+    requires budget { job.now.budget ≤ 16000000 }
+    ensures formats { IfOk result (λ f. IsFormatted style.now job.now.budget job.now.dialect text.now f.text.items f.reports.now f.counts) }
+    ensures twins { IfOk result (λ f. IsTwin job.now.dialect text.now f.text.items) }
     ensures changed { IfOk result (λ f. f.changed ≡ not (is_same f.text.items text.now)) }
     ensures fits { IfOk result (λ _. length text.now ≤ LIMIT) }
-    ensures fault { IfErr result (IsCause text.now) }
+    ensures fault { IfErr result (IsCause job.now.dialect text.now) }
 {
-    let arena = build(bump, text, Dialect::C11)?;
+    let arena = build(bump, text, job.dialect)?;
     let sections = sections(&arena, bump)?;
-    let plan = plan_of(alloc, bump, style, &arena, sections)?;
+    let made = plan_of(alloc, bump, style, job.budget, &arena, sections)?;
     let crlf = ends_by(style.line_ending, text);
-    let laid_out = text_of(alloc, style, crlf, &arena, sections, &plan, text.len())?;
+    let laid_out = text_of(alloc, style, crlf, &arena, sections, &made.plan, text.len())?;
     let changed = !is_same(&laid_out, text);
+    let runs = made.runs;
+    let tally = made.tally;
+    let searched = tally.searched;
+    let cost = tally.cost;
+    let reports = into_bump_slice(tally.reports);
+    let counts = Counts {
+        runs,
+        searched,
+        over: reports.len() as u64,
+        cost,
+    };
     Ok(Formatted {
         arena,
         text: laid_out,
+        reports,
+        counts,
         changed,
     })
 }
@@ -97,7 +126,7 @@ impl<'a, 's> Formatted<'a, 's> {
     pub fn write<K: Sink>(&self, sink: &mut K) -> Result<(), Failed>
         ensures ok { OnOk result (Appends (K.taken sink.old) (K.taken sink.new) self.now.text.items) }
         ensures part { AppendsPart (K.taken sink.old) (K.taken sink.new) self.now.text.items }
-        ensures counts { Counts (K.faults sink.old) (K.faults sink.new) result }
+        ensures counts { FaultCounts (K.faults sink.old) (K.faults sink.new) result }
     {
         write_all(sink, &self.text)
     }

@@ -4,39 +4,15 @@ ghost use Rattle.std.specs.Prelude.{◌≡◌, ◌<◌, ◌≤◌, ◌+◌, ◌�
 ghost use Rattle.std.specs.List.{list_any};
 ghost use Rattle.brackets.specs.Viewed.{AreWithin};
 ghost use Rattle.replacements.specs.Decisions.{decided_all};
-ghost use Rattle.format_core.specs.KeptGaps.{column_past, column_through, input_column, kept_decisions, kept_slot};
+ghost use Rattle.format_core.specs.KeptGaps.{kept_decisions, kept_slot};
 
 use gap_text::Decision;
 use line_tokens::TokenId;
 use replacements::Plan;
-use run_layout::column_behind;
+use run_layout::{column_behind, column_through};
 use style_table::Style;
 use token_arena::TokenArena;
 use token_views::View;
-
-/// The column behind a byte of white space that stands at a column.
-fn column_past(tab: u32, column: u32, byte: u8) -> u32
-    requires { 1 ≤ tab }
-    ensures { result ≡ column_past tab column byte }
-{
-    match byte {
-        b'\n' => 0,
-        b'\t' => column.saturating_add(tab - column % tab),
-        _ => column.saturating_add(1),
-    }
-}
-
-/// The column behind the bytes of a gap that begins at a column.
-fn column_through(tab: u32, column: u32, gap: &[u8]) -> u32
-    requires { 1 ≤ tab }
-    ensures { result ≡ column_through tab column gap.now }
-{
-    let mut at = column;
-    for byte in gap {
-        at = column_past(tab, at, *byte);
-    }
-    at
-}
 
 /// Keeps the bytes of a gap, if it is marked and open; the item behind it starts at a column.
 fn keep(plan: &mut Plan<'_>, id: TokenId, mark: bool, column: u32)

@@ -1,41 +1,26 @@
 //! The laws of the layout. Each stands on the contract of a function that does nothing.
 
 ghost use Rattle.format_core.specs.Exact.{OpenTextsHaveNoLayout};
-ghost use Rattle.format_core.specs.Laws.{EarlyDecisionsStay, EarlyDecisionsStayInPlans, EveryGapIsDecided, PlannedTextsAreTwins, PlansAreTwins, PlansAreWhole};
+ghost use Rattle.format_core.specs.Laws.{EarlyDecisionsStay, EveryGapIsDecided, PlannedTextsAreTwins};
 
 /// No text has both a layout and a block comment that nothing ends: so such a text is always refused.
 pub fn open_texts_have_no_layout()
     ensures { OpenTextsHaveNoLayout }
 {}
 
-/// The text of the plan of a text is a twin of it, in every style.
+/// The text of a plan is a twin of the text, in every style, whichever lines are reported.
 pub fn planned_texts_are_twins()
     ensures { PlannedTextsAreTwins }
 {}
 
-/// What is decided before the runs stays: so the bytes beside each item in the group of a literal `#if 0` are those
-/// of the input, and so are those inside directives.
+/// No run changes what is decided before the runs: so the bytes beside each item in the group of a literal `#if 0` are
+/// those of the input, and so are those inside directives.
 pub fn early_decisions_stay()
     ensures { EarlyDecisionsStay }
 {}
 
-/// Each gap of a text is decided in its plan, before the runs or by one of them: no gap keeps its bytes for want of
-/// a decision.
+/// Each gap of a text is decided in each of its plans, before the runs or by one of them: no gap keeps its bytes for want
+/// of a decision.
 pub fn every_gap_is_decided()
     ensures { EveryGapIsDecided }
-{}
-
-/// The text of a plan is a twin of the text, in every style, whichever lines are reported.
-pub fn plans_are_twins()
-    ensures { PlansAreTwins }
-{}
-
-/// No run changes what is decided before the runs.
-pub fn early_decisions_stay_in_plans()
-    ensures { EarlyDecisionsStayInPlans }
-{}
-
-/// Each gap of a text is decided in each of its plans.
-pub fn plans_are_whole()
-    ensures { PlansAreWhole }
 {}

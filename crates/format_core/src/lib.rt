@@ -1,8 +1,9 @@
 //! The formatted text of a text.
 //!
 //! [`format`] reads a text into an arena and decides its gaps: first those that no run decides, and then run by run, so
-//! that every branch of `#if` is laid out. It takes all the memory that is needed, so that [`Formatted::write`] takes
-//! none. The text that it writes has the same items as its input.
+//! that every branch of `#if` is laid out. Each line is broken at its least breaking, or it is reported and keeps the
+//! bytes inside it. [`format`] takes all the memory that is needed, so that [`Formatted::write`] takes none. The text
+//! that it writes has the same items as its input.
 #![tactic(auto)]
 
 mod early;
@@ -12,13 +13,10 @@ mod kept;
 mod laws;
 mod line_ends;
 mod runs;
-mod searched;
 
 pub use fault::FormatFault;
-pub use formatted::{Formatted, format};
+pub use formatted::{Formatted, Job, format};
 pub use laws::{
-    early_decisions_stay, early_decisions_stay_in_plans, every_gap_is_decided,
-    open_texts_have_no_layout, planned_texts_are_twins, plans_are_twins, plans_are_whole,
+    early_decisions_stay, every_gap_is_decided, open_texts_have_no_layout, planned_texts_are_twins,
 };
 pub use run_layout::{Counts, Report};
-pub use searched::lay_out_searched_runs;

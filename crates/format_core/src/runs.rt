@@ -1,11 +1,13 @@
 //! The plan of a text, run by run over one store of items.
 
-ghost use Rattle.std.specs.Prelude.{◌≡◌, ◌<◌, ◌≤◌, ◌+◌, All, IfOk, IsTrue, OnOk, length};
+ghost use Rattle.std.specs.Prelude.{◌≡◌, ◌<◌, ◌≤◌, ◌+◌, ◌*◌, ◌^◌, All, IfOk, IsTrue, OnOk, length};
 ghost use Rattle.c_chars.specs.declared.TheConstants.{LIMIT};
 ghost use Rattle.style_table.specs.Range.{IsInRange};
 ghost use Rattle.brackets.specs.Viewed.{AreWithin, item_classes};
 ghost use Rattle.directives.specs.Sections.{sections_of, IsCut};
-ghost use Rattle.format_core.specs.Runs.{AreDecided, IsTreeOf, runs_of, seen_by, after_items, after_runs, plan_of};
+ghost use Rattle.run_layout.specs.Counted.{IsCounted};
+ghost use Rattle.format_core.specs.Runs.{AreDecided, IsTreeOf, runs_of, seen_by};
+ghost use Rattle.format_core.specs.RunsTold.{AreItemsTold, AreRunsTold, IsPlanned};
 
 use crate::early::decide_early;
 use crate::kept::keep_gaps;
@@ -16,41 +18,68 @@ use bumpalo::Bump;
 use directives::Section;
 use line_tokens::NoMemory;
 use replacements::Plan;
-use run_layout::{is_row_decided, lay_out_run};
+use run_layout::{Tally, is_row_decided, lay_out_lines};
 use std::alloc::Global;
 use style_table::Style;
 use token_arena::TokenArena;
 use token_views::View;
 use unwrapped_lines::lines_of_classes;
 
+/// The plan of a text, and what is told of its lines.
+#[derive(Drop)]
+pub(crate) struct Planned<'a> {
+    /// What is decided for each gap.
+    pub plan: Plan<'a>,
+    /// How many runs the text has.
+    pub runs: u32,
+    /// What came of the lines of all runs.
+    pub tally: Tally<'a>,
+}
+
 /// Decides the gaps of the items that a run sees, where they are open: first those that stay as they are. `all` are
 /// the classes of all items of the text.
 fn lay_out_items(
+    alloc: Global,
     style: &Style,
+    budget: u64,
     arena: &TokenArena<'_, '_>,
     all: &[TokenClass],
+    number: u32,
     view: &View<'_>,
     plan: &mut Plan<'_>,
+    tally: &mut Tally<'_>,
     run: &Bump,
 ) -> Result<(), NoMemory>
     requires range { IsInRange style.now }
+    requires budget { budget ≤ 16000000 }
     requires all { all.now ≡ item_classes arena.now }
     requires within { AreWithin arena.now view.now }
     requires whole { length plan.old ≡ length arena.now.tokens + 1 }
-    ensures plan { OnOk result (plan.new ≡ after_items style.now arena.now plan.old view.now) }
+    requires room { tally.old.searched ≤ 2 ^ 59 }
+    requires cheap { tally.old.cost ≤ tally.old.searched * 18446744073709551615 }
+    requires counted { IsCounted arena.now tally.old.lines }
+    ensures told { OnOk result (AreItemsTold style.now budget arena.now number plan.old view.now plan.new tally.old tally.new) }
     ensures len { OnOk result (length plan.new ≡ length plan.old) }
+    ensures room { OnOk result (tally.new.searched ≤ tally.old.searched + 33554432) }
+    ensures cheap { OnOk result (tally.new.cost ≤ tally.new.searched * 18446744073709551615) }
+    ensures counted { OnOk result (IsCounted arena.now tally.new.lines) }
 {
+    let items = arena.len();
+    let count = view.len();
+    prove!(count <= items);
     let classes = classes_among(all, arena, view, run)?;
     let facts = bracket_facts(classes, run)?;
     keep_gaps(style, arena, view, facts.kept, plan);
     let lines = lines_of_classes(style, arena, view, classes, facts.partners, run)?;
     let toks = roles_of_classes(arena, view, classes, facts.partners, lines, run)?;
-    lay_out_run(style, arena, view, classes, toks, lines, plan);
+    lay_out_lines(
+        alloc, style, budget, arena, view, classes, toks, number, lines, plan, tally, run,
+    )?;
     Ok(())
 }
 
 /// Whether the gap before each item of a view is decided.
-pub(crate) fn are_decided(view: &View<'_>, plan: &Plan<'_>) -> bool
+fn are_decided(view: &View<'_>, plan: &Plan<'_>) -> bool
     requires { All (λ id. id < length plan.now) view.now }
     ensures { IsTrue result → AreDecided plan.now view.now }
 {
@@ -65,49 +94,70 @@ pub(crate) fn are_decided(view: &View<'_>, plan: &Plan<'_>) -> bool
 /// Decides the gaps of the items that the run with this number sees, where they are open. A run of branches without
 /// text sees nothing new, and its lines aren't asked for.
 fn lay_out_seen(
+    alloc: Global,
     style: &Style,
+    budget: u64,
     arena: &TokenArena<'_, '_>,
     all: &[TokenClass],
     tree: &CondTree<'_>,
     number: u32,
     plan: &mut Plan<'_>,
+    tally: &mut Tally<'_>,
     run: &Bump,
 ) -> Result<(), NoMemory>
     requires range { IsInRange style.now }
+    requires budget { budget ≤ 16000000 }
     requires all { all.now ≡ item_classes arena.now }
     requires tree { IsTreeOf arena.now tree.now }
     requires number { number < runs_of arena.now }
     requires whole { length plan.old ≡ length arena.now.tokens + 1 }
-    ensures plan { OnOk result (plan.new ≡ after_items style.now arena.now plan.old (seen_by arena.now number)) }
+    requires room { tally.old.searched ≤ 2 ^ 59 }
+    requires cheap { tally.old.cost ≤ tally.old.searched * 18446744073709551615 }
+    requires counted { IsCounted arena.now tally.old.lines }
+    ensures told { OnOk result (AreItemsTold style.now budget arena.now number plan.old (seen_by arena.now number) plan.new tally.old tally.new) }
     ensures len { OnOk result (length plan.new ≡ length plan.old) }
+    ensures room { OnOk result (tally.new.searched ≤ tally.old.searched + 33554432) }
+    ensures cheap { OnOk result (tally.new.cost ≤ tally.new.searched * 18446744073709551615) }
+    ensures counted { OnOk result (IsCounted arena.now tally.new.lines) }
 {
     let view = tree.view(number, run)?;
     if are_decided(&view, plan) {
         return Ok(());
     }
-    lay_out_items(style, arena, all, &view, plan, run)
+    lay_out_items(
+        alloc, style, budget, arena, all, number, &view, plan, tally, run,
+    )?;
+    Ok(())
 }
 
 /// Decides the gaps of all items of texts, run by run. What a run takes of memory serves the next one too.
 fn lay_out_runs(
     alloc: Global,
     style: &Style,
+    budget: u64,
     arena: &TokenArena<'_, '_>,
     all: &[TokenClass],
     tree: &CondTree<'_>,
     plan: &mut Plan<'_>,
+    tally: &mut Tally<'_>,
 ) -> Result<(), NoMemory>
     requires range { IsInRange style.now }
+    requires budget { budget ≤ 16000000 }
     requires all { all.now ≡ item_classes arena.now }
     requires tree { IsTreeOf arena.now tree.now }
     requires whole { length plan.old ≡ length arena.now.tokens + 1 }
-    ensures plan { OnOk result (plan.new ≡ after_runs style.now arena.now plan.old 0 (runs_of arena.now)) }
+    requires none { tally.old.searched ≡ 0 }
+    requires free { tally.old.cost ≡ 0 }
+    requires counted { IsCounted arena.now tally.old.lines }
+    ensures told { OnOk result (AreRunsTold style.now budget arena.now plan.old 0 (runs_of arena.now) plan.new tally.old tally.new) }
     ensures len { OnOk result (length plan.new ≡ length plan.old) }
 {
     let mut run = Bump::new(alloc);
     let count = tree.runs();
     for number in 0..count {
-        lay_out_seen(style, arena, all, tree, number, plan, &run)?;
+        lay_out_seen(
+            alloc, style, budget, arena, all, tree, number, plan, tally, &run,
+        )?;
         if run.reset().is_err() {
             run = Bump::new(alloc);
         }
@@ -120,20 +170,29 @@ pub(crate) fn plan_of<'a>(
     alloc: Global,
     bump: &'a Bump,
     style: &Style,
+    budget: u64,
     arena: &TokenArena<'_, '_>,
     sections: &[Section],
-) -> Result<Plan<'a>, NoMemory>
+) -> Result<Planned<'a>, NoMemory>
     requires range { IsInRange style.now }
+    requires budget { budget ≤ 16000000 }
     requires fits { length arena.now.text ≤ LIMIT }
     requires sections { sections.now ≡ sections_of arena.now }
     requires cut { IsCut 0 (length arena.now.tokens) sections.now }
-    ensures plan { IfOk result (λ plan. plan ≡ plan_of style.now arena.now) }
-    ensures len { IfOk result (λ plan. length plan ≡ length arena.now.tokens + 1) }
+    ensures plan { IfOk result (IsPlanned style.now budget arena.now) }
+    ensures len { IfOk result (λ made. length made.plan ≡ length arena.now.tokens + 1) }
 {
     let tree = CondTree::build(arena, sections, bump)?;
     let mut plan = Plan::make(arena, bump)?;
     decide_early(style, arena, sections, &tree, &mut plan);
     let all = item_classes(arena, bump)?;
-    lay_out_runs(alloc, style, arena, all, &tree, &mut plan)?;
-    Ok(plan)
+    let mut tally = Tally::new(bump);
+    lay_out_runs(
+        alloc, style, budget, arena, all, &tree, &mut plan, &mut tally,
+    )?;
+    Ok(Planned {
+        plan,
+        runs: tree.runs(),
+        tally,
+    })
 }

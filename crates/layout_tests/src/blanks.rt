@@ -1,36 +1,13 @@
-use spacing::spaces_before;
-use line_tokens::{GapFacts, ItemKind, LineTok, Role, TokenId};
-use std::test::Fail;
-use style_table::Style;
+//! Blanks between two tokens of a row, as `docs/PROFILE.md` says under "Spaces without a break".
 
-/// A token of this role, behind a gap that is empty or a blank.
-fn token(role: Role, empty: bool, touch: bool) -> LineTok {
-    LineTok {
-        id: TokenId(0),
-        role,
-        power: 0,
-        depth: 0,
-        trailing_list: false,
-        held: false,
-        touch,
-        directive: false,
-        gap: GapFacts {
-            lines: 0,
-            empty,
-            white: !empty,
-            splice: false,
-            began: false,
-        },
-        kind: ItemKind::Punct,
-        rows: 1,
-        first_width: 1,
-        last_width: 1,
-    }
-}
+use crate::fixtures::{style, token};
+use line_tokens::{LineTok, Role};
+use spacing::spaces_before;
+use std::test::Fail;
 
 #[test]
 fn spaces_a_line(rt: HostRuntime) -> Result<(), Fail> {
-    let style = Style::named("LLVM").ok_or("a style")?;
+    let style = style("LLVM")?;
     for (text, left, right, touch, want) in [
         ("if (", Role::Word, Role::CtrlOpen, true, 1),
         ("f(", Role::Word, Role::CallOpen, true, 0),
@@ -47,8 +24,15 @@ fn spaces_a_line(rt: HostRuntime) -> Result<(), Fail> {
         (") {", Role::CtrlClose, Role::BlockOpen, true, 1),
         ("p->", Role::Word, Role::Member, true, 0),
     ] {
-        let (left, right) = (token(left, false, true), token(right, false, touch));
-        assert_eq!(rt; spaces_before(&style, &left, &right), want, "{text}");
+        let right = LineTok {
+            touch,
+            ..token(right, 0, 1)
+        };
+        assert_eq!(rt;
+            spaces_before(&style, &token(left, 0, 1), &right),
+            want,
+            "{text}"
+        );
     }
     Ok(())
 }

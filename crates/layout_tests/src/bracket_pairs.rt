@@ -1,49 +1,16 @@
-//! Pairs of brackets, gaps that are kept, the classes of words, and the classes of items and views.
+//! Classes, partners and kept gaps, as `docs/PROFILE.md` says under "Statements and lines".
 
+use crate::fixtures::{all_items, items_around};
 use brackets::TokenClass::{
-    self, CloseBrace, CloseRound, CloseSquare, OpenBrace, OpenRound, OpenSquare,
+    self, CallWord, CapitalWord, CloseBrace, CloseRound, CloseSquare, Comma, Equals, Hash, If,
+    Literal, OpenBrace, OpenRound, OpenSquare, PlainWord, Semicolon, Sign, TypeWord,
 };
-use brackets::{
-    Partner, bracket_facts, classes_among, item_classes, partners_of_classes, spelling, words,
-};
+use brackets::{bracket_facts, classes_among, item_class, item_classes, partners_of_classes};
 use bumpalo::Bump;
-use c_chars::Dialect;
+use line_tokens::TokenId;
+use std::alloc::{AllocError, Global};
 use std::test::Fail;
-use token_arena::build;
-use token_views::View;
-
-#[test]
-fn pairs_brackets(rt: HostRuntime) -> Result<(), Fail> {
-    let run = Bump::new(rt.alloc());
-    let none = Partner::none();
-    for (classes, want) in [
-        (
-            [OpenRound, OpenSquare, CloseRound, CloseSquare],
-            [none, Partner::at(3), none, Partner::at(1)],
-        ),
-        (
-            [OpenBrace, OpenRound, CloseBrace, CloseRound],
-            [Partner::at(2), none, Partner::at(0), none],
-        ),
-        (
-            [CloseBrace, OpenRound, CloseBrace, CloseRound],
-            [none, Partner::at(3), none, Partner::at(1)],
-        ),
-        (
-            [OpenBrace, OpenBrace, CloseBrace, CloseBrace],
-            [
-                Partner::at(3),
-                Partner::at(2),
-                Partner::at(1),
-                Partner::at(0),
-            ],
-        ),
-    ] {
-        let found = partners_of_classes(&classes, &run)?;
-        assert_eq!(rt; found, want.as_slice());
-    }
-    Ok(())
-}
+use token_arena::{Dialect, build};
 
 /// The class of a token of one letter.
 fn letter_class(letter: u8) -> TokenClass {
@@ -54,11 +21,48 @@ fn letter_class(letter: u8) -> TokenClass {
         b']' => CloseSquare,
         b'{' => OpenBrace,
         b'}' => CloseBrace,
-        b';' => TokenClass::Semicolon,
-        b',' => TokenClass::Comma,
-        b'=' => TokenClass::Equals,
-        _ => TokenClass::PlainWord,
+        b';' => Semicolon,
+        b',' => Comma,
+        b'=' => Equals,
+        _ => PlainWord,
     }
+}
+
+/// The classes of tokens of one letter.
+fn letter_classes(alloc: Global, letters: &[u8]) -> Result<Vec<TokenClass>, AllocError> {
+    letters
+        .iter()
+        .map(|letter| letter_class(*letter))
+        .collect(alloc)
+}
+
+#[test]
+fn pairs_brackets(rt: HostRuntime) -> Result<(), Fail> {
+    let run = Bump::new(rt.alloc());
+    let rows: [(&str, &[u8], &[Option<u32>]); 4] = [
+        ("crossing", b"([)]", &[None, Some(3), None, Some(1)]),
+        (
+            "a brace ends a bracket",
+            b"{(})",
+            &[Some(2), None, Some(0), None],
+        ),
+        (
+            "a brace that closes none",
+            b"}(})",
+            &[None, Some(3), None, Some(1)],
+        ),
+        ("nested", b"{{}}", &[Some(3), Some(2), Some(1), Some(0)]),
+    ];
+    for (name, letters, want) in rows {
+        let classes = letter_classes(rt.alloc(), letters)?;
+        assert!(rt; classes.len() < 100);
+        let found = partners_of_classes(&classes, &run)?;
+        assert_eq!(rt; found.len(), want.len(), "{name}");
+        for (k, (partner, place)) in found.iter().zip(want).enumerate() {
+            assert_eq!(rt; partner.place(), *place, "{name}, {k}");
+        }
+    }
+    Ok(())
 }
 
 #[test]
@@ -81,11 +85,8 @@ fn keeps_the_gaps_of_statement_braces(rt: HostRuntime) -> Result<(), Fail> {
         ("a bracket without partner", b"({a;}", b"..^^^"),
         ("a brace without partner", b"({a;)", b"....."),
     ];
-    for (name, tokens, want) in rows {
-        let classes: Vec<TokenClass, _> = tokens
-            .iter()
-            .map(|letter| letter_class(*letter))
-            .collect(rt.alloc())?;
+    for (name, letters, want) in rows {
+        let classes = letter_classes(rt.alloc(), letters)?;
         assert!(rt; classes.len() < 100);
         let facts = bracket_facts(&classes, &run)?;
         assert_eq!(rt;
@@ -111,7 +112,7 @@ fn keeps_the_gaps_of_many_statement_braces(rt: HostRuntime) -> Result<(), Fail> 
     classes.push(OpenRound)?;
     for _ in 0..depth {
         classes.push(OpenBrace)?;
-        classes.push(TokenClass::Semicolon)?;
+        classes.push(Semicolon)?;
     }
     for _ in 0..depth {
         classes.push(CloseBrace)?;
@@ -126,35 +127,31 @@ fn keeps_the_gaps_of_many_statement_braces(rt: HostRuntime) -> Result<(), Fail> 
 }
 
 #[test]
-fn tells_words_apart(rt: HostRuntime) -> Result<(), Fail> {
+fn tells_the_classes_of_items(rt: HostRuntime) -> Result<(), Fail> {
     let run = Bump::new(rt.alloc());
-    let rows: [(&[u8], TokenClass); 11] = [
-        (b"if", TokenClass::If),
-        (b"i\\\nf", TokenClass::If),
-        (b"__attribute__", TokenClass::CallWord),
-        (b"unsigned", TokenClass::TypeWord),
-        (b"size_t", TokenClass::TypeWord),
-        (b"struc", TokenClass::PlainWord),
-        (b"structs", TokenClass::PlainWord),
-        (b"FOO_1", TokenClass::CapitalWord),
-        (b"X", TokenClass::PlainWord),
-        (b"Foo", TokenClass::PlainWord),
-        (b"if_", TokenClass::PlainWord),
-    ];
-    for (raw, class) in rows {
-        let spelled = spelling::spelling(Dialect::C11, raw, &run)?;
-        assert!(rt; words::word_class(spelled) == class);
-    }
-    let marks: [(&[u8], TokenClass); 5] = [
+    let rows: [(&[u8], TokenClass); 16] = [
+        (b"if", If),
+        (b"i\\\nf", If),
+        (b"__attribute__", CallWord),
+        (b"unsigned", TypeWord),
+        (b"size_t", TypeWord),
+        (b"struc", PlainWord),
+        (b"structs", PlainWord),
+        (b"FOO_1", CapitalWord),
+        (b"X", PlainWord),
+        (b"Foo", PlainWord),
+        (b"if_", PlainWord),
         (b"{", OpenBrace),
         (b"<%", OpenBrace),
         (b"??<", OpenBrace),
         (b":>", CloseSquare),
-        (b"+", TokenClass::Sign),
+        (b"+", Sign),
     ];
-    for (raw, class) in marks {
-        let spelled = spelling::spelling(Dialect::C11, raw, &run)?;
-        assert!(rt; words::punctuator_class(spelled) == class);
+    for (text, want) in rows {
+        let arena = build(&run, text, Dialect::C11)?;
+        assert!(rt; arena.len() == 1, "{text:?}");
+        let found = item_class(&arena, TokenId(0), &run)?;
+        assert_eq!(rt; found, want, "{text:?}");
     }
     Ok(())
 }
@@ -162,42 +159,38 @@ fn tells_words_apart(rt: HostRuntime) -> Result<(), Fail> {
 #[test]
 fn takes_the_classes_of_views(rt: HostRuntime) -> Result<(), Fail> {
     let run = Bump::new(rt.alloc());
-    let arena = build(&run, b"if (x) y[0];", Dialect::C11)?;
+    let arena = build(&run, b"if (x)\n#undef y\ny[0];", Dialect::C11)?;
     let all = item_classes(&arena, &run)?;
-    // From one item of the text to its last.
-    let rows: [(&str, u32, &[TokenClass]); 4] = [
-        (
-            "all",
-            0,
-            &[
-                TokenClass::If,
-                OpenRound,
-                TokenClass::PlainWord,
-                CloseRound,
-                TokenClass::PlainWord,
-                OpenSquare,
-                TokenClass::Literal,
-                CloseSquare,
-                TokenClass::Semicolon,
-            ],
-        ),
-        (
-            "behind the group",
-            5,
-            &[
-                OpenSquare,
-                TokenClass::Literal,
-                CloseSquare,
-                TokenClass::Semicolon,
-            ],
-        ),
-        ("the last", 8, &[TokenClass::Semicolon]),
-        ("none", 9, &[]),
+    let want = [
+        If,
+        OpenRound,
+        PlainWord,
+        CloseRound,
+        Hash,
+        PlainWord,
+        PlainWord,
+        PlainWord,
+        OpenSquare,
+        Literal,
+        CloseSquare,
+        Semicolon,
     ];
-    for (name, first, want) in rows {
-        let view = View::of(first, arena.len(), &run)?;
-        let found = classes_among(all, &arena, &view, &run)?;
-        assert_eq!(rt; found, want, "{name}");
-    }
+    let whole = all_items(&arena, &run)?;
+    let found = classes_among(all, &arena, &whole, &run)?;
+    assert_eq!(rt; found, want.as_slice(), "all");
+    let want = [
+        If,
+        OpenRound,
+        PlainWord,
+        CloseRound,
+        PlainWord,
+        OpenSquare,
+        Literal,
+        CloseSquare,
+        Semicolon,
+    ];
+    let around = items_around(&rt, &arena, 4, 7, &run)?;
+    let found = classes_among(all, &arena, &around, &run)?;
+    assert_eq!(rt; found, want.as_slice(), "around a directive");
     Ok(())
 }

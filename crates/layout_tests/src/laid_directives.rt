@@ -1,13 +1,14 @@
 //! Directives as they are laid out, their items having no roles.
 
-use directive_layout::lay;
+use crate::fixtures::style;
 use bumpalo::Bump;
+use directive_layout::lay;
 use directives::{Section, sections};
 use fmt_ports::MemSink;
 use replacements::{Plan, write_out};
 use std::alloc::Global;
 use std::test::Fail;
-use style_table::{AlignEscapedNewlines, Style};
+use style_table::AlignEscapedNewlines;
 use token_arena::{Dialect, build};
 
 /// A directive, and what becomes of it in the LLVM style with 20 columns.
@@ -131,7 +132,7 @@ const ROWS: [Row; 18] = [
 
 /// The text of a row's directives, laid out.
 fn laid(alloc: Global, bump: &Bump, row: &Row) -> Result<Vec<u8>, Fail> {
-    let mut style = Style::named("LLVM").ok_or("a style")?;
+    let mut style = style("LLVM")?;
     style.column_limit = 20;
     style.align_escaped_newlines = row.align;
     let arena = build(bump, row.input, Dialect::C11)?;

@@ -1,21 +1,20 @@
 //! The decisions for whole texts, as `docs/PROFILE.md` says under "Layout of lines".
 
-ghost use Rattle.std.specs.Prelude.{◌≡◌, ◌+◌, length};
+ghost use Rattle.std.specs.Prelude.{◌≡◌, ◌+◌, ◌≤◌, length, IfOk, OnOk};
 ghost use Rattle.brackets.specs.Viewed.{AreWithin};
+ghost use Rattle.style_table.specs.Range.{IsInRange};
 
-use run_layout::lay_out_run;
-use annotator::roles_of_classes;
-use brackets::{classes, partners_of_classes};
+use crate::fixtures::{all_items, items_around, read_view, style};
 use bumpalo::Bump;
 use gap_text::Decision;
 use replacements::{Decided, Plan};
+use run_layout::{Report, Tally, lay_out_lines};
 use std::alloc::Global;
 use std::process::Abort;
 use std::test::Fail;
 use style_table::Style;
 use token_arena::{Dialect, TokenArena, build};
-use token_views::{Stretch, View};
-use unwrapped_lines::lines_of_classes;
+use token_views::View;
 
 /// A text with the text of its items and decisions in a style.
 type Case = (&'static str, &'static str, &'static str, &'static str);
@@ -117,16 +116,18 @@ fn push_times(text: &mut Vec<u8>, byte: u8, count: u32) -> Result<(), Fail> {
     Ok(())
 }
 
-/// Adds the white space of a decision.
-fn push_gap(text: &mut Vec<u8>, decision: Decision) -> Result<(), Fail> {
+/// Adds the white space of a decision for a gap with these bytes.
+fn push_gap(text: &mut Vec<u8>, decision: Decision, old: &[u8]) -> Result<(), Fail> {
     match decision {
-        Decision::Spaces(count) => push_times(text, b' ', count),
+        Decision::Old => text.extend_from_slice(old)?,
+        Decision::Spaces(count) => push_times(text, b' ', count)?,
         Decision::Lines { count, column, .. } => {
             push_times(text, b'\n', count)?;
-            push_times(text, b' ', column)
+            push_times(text, b' ', column)?;
         }
-        Decision::Old | Decision::Splice { .. } => Ok(()),
+        Decision::Splice { .. } => {}
     }
+    Ok(())
 }
 
 /// How many bytes stand behind the last new-line.
@@ -149,11 +150,51 @@ fn drawn(
         let id = view.at(k);
         assert!(rt; id.0 < arena.len());
         let slot = plan.slot(id.0).ok_or("a decision")?;
-        push_gap(&mut text, slot.decision)?;
+        push_gap(&mut text, slot.decision, arena.gap(id.0))?;
         assert_eq!(rt; column_of(&text), slot.end as usize);
         text.extend_from_slice(arena.get(id).item.raw)?;
     }
     Ok(text)
+}
+
+/// The budget of a line, where none passes it.
+const BUDGET: u64 = 1_000;
+
+/// Lays out the lines of a view as those of run 5, and tells what came of them.
+fn lay_out<'r>(
+    rt: &impl Abort,
+    alloc: Global,
+    style: &Style,
+    budget: u64,
+    arena: &TokenArena<'_, '_>,
+    view: &View<'_>,
+    plan: &mut Plan<'_>,
+    run: &'r Bump,
+) -> Result<Tally<'r>, Fail>
+    requires range { IsInRange style.now }
+    requires budget { budget ≤ 16000000 }
+    requires within { AreWithin arena.now view.now }
+    requires whole { length plan.old ≡ length arena.now.tokens + 1 }
+    ensures len { OnOk result (length plan.new ≡ length plan.old) }
+{
+    let told = read_view(style, arena, view, run)?;
+    assert!(rt; told.lines.len() < 1_000);
+    let mut tally = Tally::new(run);
+    lay_out_lines(
+        alloc,
+        style,
+        budget,
+        arena,
+        view,
+        told.classes,
+        told.tokens,
+        5,
+        told.lines,
+        plan,
+        &mut tally,
+        run,
+    )?;
+    Ok(tally)
 }
 
 /// The run of a view is laid out as this text.
@@ -167,14 +208,10 @@ fn is_laid_out(
 ) -> Result<(), Fail>
     requires { AreWithin arena.now view.now }
 {
-    let (name, style, _, want) = *case;
-    let style = Style::named(style).ok_or("a style")?;
-    let classes = classes(arena, view, run)?;
-    let partners = partners_of_classes(classes, run)?;
-    let lines = lines_of_classes(&style, arena, view, classes, partners, run)?;
-    let toks = roles_of_classes(arena, view, classes, partners, lines, run)?;
+    let (name, named, _, want) = *case;
+    let style = style(named)?;
     let mut plan = Plan::make(arena, run)?;
-    lay_out_run(&style, arena, view, classes, toks, lines, &mut plan);
+    lay_out(rt, alloc, &style, BUDGET, arena, view, &mut plan, run)?;
     let text = drawn(rt, alloc, arena, view, &plan)?;
     assert!(rt; text.as_slice() == want.as_bytes(), "{name}");
     Ok(())
@@ -185,7 +222,7 @@ fn lays_out_lines(rt: HostRuntime) -> Result<(), Fail> {
     let run = Bump::new(rt.alloc());
     for case in &CASES {
         let arena = build(&run, case.2.as_bytes(), Dialect::C11)?;
-        let view = View::of(0, arena.len(), &run)?;
+        let view = all_items(&arena, &run)?;
         is_laid_out(&rt, rt.alloc(), &run, &arena, &view, case)?;
     }
     Ok(())
@@ -201,31 +238,149 @@ fn breaks_behind_directives(rt: HostRuntime) -> Result<(), Fail> {
         "int a =\n\n    1;",
     );
     let arena = build(&run, case.2.as_bytes(), Dialect::C11)?;
-    assert_eq!(rt; arena.len(), 9);
-    let stretches = [Stretch { first: 0, end: 3 }, Stretch { first: 7, end: 9 }];
-    let view = View::of_stretches(&stretches, &run)?;
+    let view = items_around(&rt, &arena, 3, 7, &run)?;
     is_laid_out(&rt, rt.alloc(), &run, &arena, &view, &case)
 }
 
 #[test]
 fn goes_on_from_what_is_decided(rt: HostRuntime) -> Result<(), Fail> {
     let run = Bump::new(rt.alloc());
-    let style = Style::named("LLVM").ok_or("a style")?;
+    let style = style("LLVM")?;
     let arena = build(&run, b"a b c", Dialect::C11)?;
     assert_eq!(rt; arena.len(), 3);
-    let view = View::of(0, 3, &run)?;
-    let classes = classes(&arena, &view, &run)?;
-    let partners = partners_of_classes(classes, &run)?;
-    let lines = lines_of_classes(&style, &arena, &view, classes, partners, &run)?;
-    let toks = roles_of_classes(&arena, &view, classes, partners, lines, &run)?;
+    let view = all_items(&arena, &run)?;
     let mut plan = Plan::make(&arena, &run)?;
     assert_eq!(rt; plan.decide(1, Decision::Old, 9), Decided::New);
-    lay_out_run(&style, &arena, &view, classes, toks, lines, &mut plan);
-    let kept = plan.slot(1).ok_or("a decision")?;
-    assert_eq!(rt; kept.decision, Decision::Old);
-    assert_eq!(rt; kept.end, 9);
-    let next = plan.slot(2).ok_or("a decision")?;
-    assert_eq!(rt; next.decision, Decision::Spaces(1));
-    assert_eq!(rt; next.end, 11);
+    lay_out(
+        &rt,
+        rt.alloc(),
+        &style,
+        BUDGET,
+        &arena,
+        &view,
+        &mut plan,
+        &run,
+    )?;
+    for (place, decision, end) in [(1, Decision::Old, 9), (2, Decision::Spaces(1), 11)] {
+        let slot = plan.slot(place).ok_or("a decision")?;
+        assert_eq!(rt; slot.decision, decision, "{place}");
+        assert_eq!(rt; slot.end, end, "{place}");
+    }
+    Ok(())
+}
+
+/// A text in the LLVM style with a limit of columns and a budget of cells, and what comes of its lines in run 5.
+struct Searched {
+    name: &'static str,
+    limit: u32,
+    budget: u64,
+    input: &'static str,
+    output: &'static str,
+    searched: u64,
+    cost: u128,
+    reports: &'static [Report],
+}
+
+const SEARCHED: [Searched; 6] = [
+    Searched {
+        name: "a line that stays on a row",
+        limit: 30,
+        budget: 1_000,
+        input: "x=\nf( a,b );",
+        output: "x = f(a, b);",
+        searched: 1,
+        cost: 0,
+        reports: &[],
+    },
+    Searched {
+        name: "a call that breaks behind its comma",
+        limit: 30,
+        budget: 1_000,
+        input: "call(first_argument,second_argument);",
+        output: "call(first_argument,\n     second_argument);",
+        searched: 1,
+        cost: 1,
+        reports: &[],
+    },
+    Searched {
+        name: "the line of a block",
+        limit: 30,
+        budget: 1_000,
+        input: "void f(void){\n\n\ncall(first_argument,second_arg);}",
+        output: "void f(void) {\n\n  call(first_argument,\n       second_arg);\n}",
+        searched: 3,
+        cost: 1,
+        reports: &[],
+    },
+    Searched {
+        name: "no limit of columns",
+        limit: 0,
+        budget: 1_000,
+        input: "x =  a\n+ b;",
+        output: "x = a\n    + b;",
+        searched: 0,
+        cost: 0,
+        reports: &[],
+    },
+    Searched {
+        name: "columns past the limit",
+        limit: 4,
+        budget: 1_000,
+        input: "return  12345;",
+        output: "return 12345;",
+        searched: 1,
+        cost: 9_000_000,
+        reports: &[],
+    },
+    Searched {
+        name: "a line over the budget",
+        limit: 30,
+        budget: 11,
+        input: "a ;\n\n\nf( a,\n  b);",
+        output: "a;\n\nf( a,\n  b);",
+        searched: 1,
+        cost: 0,
+        reports: &[Report {
+            run: 5,
+            line: 4,
+            cells: 12,
+        }],
+    },
+];
+
+/// The LLVM style with a limit of columns.
+fn limited(limit: u32) -> Result<Style, Fail>
+    requires { limit ≤ 1000 }
+    ensures { IfOk result IsInRange }
+{
+    let llvm = style("LLVM")?;
+    Ok(Style {
+        column_limit: limit,
+        ..llvm
+    })
+}
+
+/// This comes of the lines of a text.
+fn is_searched(rt: &impl Abort, alloc: Global, run: &Bump, row: &Searched) -> Result<(), Fail> {
+    assert!(rt; row.limit <= 1_000 && row.budget <= 16_000_000);
+    let style = limited(row.limit)?;
+    let arena = build(run, row.input.as_bytes(), Dialect::C11)?;
+    let view = all_items(&arena, run)?;
+    let mut plan = Plan::make(&arena, run)?;
+    let tally = lay_out(rt, alloc, &style, row.budget, &arena, &view, &mut plan, run)?;
+    let text = drawn(rt, alloc, &arena, &view, &plan)?;
+    assert!(rt; text.as_slice() == row.output.as_bytes(), "{}", row.name);
+    assert_eq!(rt; tally.searched, row.searched, "{}", row.name);
+    assert_eq!(rt; tally.cost, row.cost, "{}", row.name);
+    assert_eq!(rt; tally.reports.as_slice(), row.reports, "{}", row.name);
+    Ok(())
+}
+
+#[test]
+fn searches_lines(rt: HostRuntime) -> Result<(), Fail> {
+    let run = Bump::new(rt.alloc());
+    for row in &SEARCHED {
+        is_searched(&rt, rt.alloc(), &run, row)?;
+    }
     Ok(())
 }

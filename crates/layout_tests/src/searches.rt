@@ -3,39 +3,15 @@
 ghost use Rattle.std.specs.Prelude.{◌≡◌, ◌<◌, ◌≤◌, length};
 ghost use Rattle.style_table.specs.Range.{IsInRange};
 
-use break_search::{Outcome, search};
+use crate::fixtures::{style, token};
+use break_search::{Outcome, least_breaks, search, starts};
 use bumpalo::Bump;
 use line_state::{allowed, start, step};
-use line_tokens::{Fixed, GapFacts, ItemKind, LineTok, Role, TokenId};
+use line_tokens::{Fixed, LineTok, Role};
 use std::alloc::Global;
 use std::process::Abort;
 use std::test::Fail;
 use style_table::{AlignAfterOpenBracket, Style};
-
-/// A token of this role, depth and width, behind a blank.
-fn token(role: Role, depth: u32, width: u32) -> LineTok {
-    LineTok {
-        id: TokenId(0),
-        role,
-        power: 4,
-        depth,
-        trailing_list: false,
-        held: false,
-        touch: true,
-        directive: false,
-        gap: GapFacts {
-            lines: 0,
-            empty: false,
-            white: true,
-            splice: false,
-            began: false,
-        },
-        kind: ItemKind::Identifier,
-        rows: 1,
-        first_width: width,
-        last_width: width,
-    }
-}
 
 /// A call of two arguments, with the widths of its name and its arguments.
 fn call(name: u32, first: u32, second: u32) -> [LineTok; 7] {
@@ -52,7 +28,7 @@ fn call(name: u32, first: u32, second: u32) -> [LineTok; 7] {
 
 #[test]
 fn breaks_calls_at_their_least_cost(rt: HostRuntime) -> Result<(), Fail> {
-    let style = Style::named("LLVM").ok_or("a style")?;
+    let style = style("LLVM")?;
     let run = Bump::new(rt.alloc());
     let free = [None; 7];
     let behind_comma = [false, false, false, true, false, false];
@@ -76,6 +52,66 @@ fn breaks_calls_at_their_least_cost(rt: HostRuntime) -> Result<(), Fail> {
     match search(rt.alloc(), &style, &call(4, 50, 36), 0, &free, 1, &run)? {
         Outcome::Found { breaks: _, cost: _ } => assert!(rt; false, "within one cell"),
         Outcome::OverBudget { cells } => assert!(rt; cells > 1, "over one cell"),
+    }
+    Ok(())
+}
+
+/// A line that begins at column 2, what is decided of its gaps, its breaking with the fewest breaks, and where the tokens
+/// behind its first one start.
+type Row = (
+    &'static str,
+    [LineTok; 7],
+    [Option<Fixed>; 7],
+    [bool; 6],
+    [u32; 6],
+);
+
+/// Lines that break nowhere, behind a directive, and where a gap is decided.
+fn rows() -> [Row; 3] {
+    let line = call(4, 50, 36);
+    let free = [None; 7];
+    let mut behind_directive = line;
+    behind_directive[4].directive = true;
+    let mut decided = free;
+    decided[4] = Some(Fixed {
+        column: 9,
+        broken: true,
+    });
+    let behind_comma = [false, false, false, true, false, false];
+    [
+        (
+            "no gap has to",
+            line,
+            free,
+            [false; 6],
+            [6, 7, 57, 59, 95, 96],
+        ),
+        (
+            "a directive",
+            behind_directive,
+            free,
+            behind_comma,
+            [6, 7, 57, 7, 43, 44],
+        ),
+        (
+            "a decided gap",
+            line,
+            decided,
+            behind_comma,
+            [6, 7, 57, 9, 45, 46],
+        ),
+    ]
+}
+
+#[test]
+fn breaks_only_where_it_has_to(rt: HostRuntime) -> Result<(), Fail> {
+    let style = style("LLVM")?;
+    let run = Bump::new(rt.alloc());
+    for (name, line, fixed, want, places) in rows() {
+        let breaks = least_breaks(rt.alloc(), &style, &line, 2, &fixed, &run)?;
+        assert_eq!(rt; breaks, want.as_slice(), "{name}");
+        let found = starts(rt.alloc(), &style, &line, 2, &fixed, breaks, &run)?;
+        assert_eq!(rt; found, places.as_slice(), "{name}");
     }
     Ok(())
 }
@@ -202,72 +238,71 @@ fn compare_lines(
     Ok(())
 }
 
+/// Compares all lines of at most so many tokens out of these shapes.
+fn compare_up_to(
+    rt: &impl Abort,
+    alloc: Global,
+    style: &Style,
+    shapes: &[(Role, u32)],
+    fixed: &[Option<Fixed>],
+    longest: u32,
+) -> Result<(), Fail>
+    requires range { IsInRange style.now }
+    requires some { 0 < length shapes.now }
+{
+    assert!(rt; shapes.len() < 10);
+    let mut lines: u32 = 1;
+    for len in 1..=longest {
+        lines = lines.saturating_mul(shapes.len() as u32);
+        compare_lines(rt, alloc, style, shapes, fixed, len, lines)?;
+    }
+    Ok(())
+}
+
+/// Words, calls and an operator.
+const MIXED: [(Role, u32); 5] = [
+    (Role::Word, 3),
+    (Role::Comma, 1),
+    (Role::CallOpen, 1),
+    (Role::CallClose, 1),
+    (Role::Binary, 2),
+];
+
 #[test]
-fn finds_the_least_of_all_breakings_of_five_tokens(rt: HostRuntime) -> Result<(), Fail> {
-    let llvm = Style::named("LLVM").ok_or("a style")?;
-    let shapes = [
-        (Role::Word, 3),
-        (Role::Comma, 1),
-        (Role::CallOpen, 1),
-        (Role::CallClose, 1),
-        (Role::Binary, 2),
-    ];
-    let decision = Fixed {
+fn finds_the_least_of_all_breakings_of_four_tokens(rt: HostRuntime) -> Result<(), Fail> {
+    let llvm = style("LLVM")?;
+    let mut decided = [None; 4];
+    decided[2] = Some(Fixed {
         column: 5,
         broken: true,
-    };
-    let decided = [None, None, Some(decision), None, None];
+    });
     for (align, pack) in [
         (AlignAfterOpenBracket::Align, true),
         (AlignAfterOpenBracket::DontAlign, false),
         (AlignAfterOpenBracket::AlwaysBreak, false),
     ] {
         let style = narrow(llvm, align, pack);
-        for (len, lines) in [(1, 5), (2, 25), (3, 125), (4, 625), (5, 3_125)] {
-            compare_lines(&rt, rt.alloc(), &style, &shapes, &[None; 5], len, lines)?;
-            compare_lines(&rt, rt.alloc(), &style, &shapes, &decided, len, lines)?;
-        }
-    }
-    Ok(())
-}
-
-/// Compares all lines of at most eight tokens out of three shapes, with no decision.
-fn compare_three_shapes(
-    rt: &impl Abort,
-    alloc: Global,
-    style: &Style,
-    shapes: &[(Role, u32)],
-) -> Result<(), Fail>
-    requires range { IsInRange style.now }
-    requires some { length shapes.now ≡ 3 }
-{
-    for (len, lines) in [
-        (1, 3),
-        (2, 9),
-        (3, 27),
-        (4, 81),
-        (5, 243),
-        (6, 729),
-        (7, 2_187),
-        (8, 6_561),
-    ] {
-        compare_lines(rt, alloc, style, shapes, &[None; 8], len, lines)?;
+        compare_up_to(&rt, rt.alloc(), &style, &MIXED, &[None; 4], 4)?;
+        compare_up_to(&rt, rt.alloc(), &style, &MIXED, &decided, 4)?;
     }
     Ok(())
 }
 
 #[test]
-fn finds_the_least_of_all_breakings_of_eight_tokens(rt: HostRuntime) -> Result<(), Fail> {
-    let llvm = Style::named("LLVM").ok_or("a style")?;
-    let aligned = narrow(llvm, AlignAfterOpenBracket::Align, true);
+fn finds_the_least_of_all_breakings_of_six_tokens(rt: HostRuntime) -> Result<(), Fail> {
+    let llvm = style("LLVM")?;
     let words = [(Role::Word, 3), (Role::Comma, 1), (Role::CallOpen, 1)];
-    compare_three_shapes(&rt, rt.alloc(), &aligned, &words)?;
-    let unaligned = narrow(llvm, AlignAfterOpenBracket::DontAlign, false);
     let calls = [(Role::Comma, 1), (Role::CallOpen, 1), (Role::CallClose, 1)];
-    compare_three_shapes(&rt, rt.alloc(), &unaligned, &calls)?;
-    let broken = narrow(llvm, AlignAfterOpenBracket::AlwaysBreak, false);
     let lists = [(Role::Comma, 1), (Role::ListOpen, 1), (Role::Binary, 2)];
-    compare_three_shapes(&rt, rt.alloc(), &broken, &lists)
+    for (align, pack, shapes) in [
+        (AlignAfterOpenBracket::Align, true, words),
+        (AlignAfterOpenBracket::DontAlign, false, calls),
+        (AlignAfterOpenBracket::AlwaysBreak, false, lists),
+    ] {
+        let style = narrow(llvm, align, pack);
+        compare_up_to(&rt, rt.alloc(), &style, &shapes, &[None; 6], 6)?;
+    }
+    Ok(())
 }
 
 /// Two words that can't both stay on the first row, and behind them closers and points that take no column and break at
@@ -288,7 +323,7 @@ fn two_ways(alloc: Global, len: u32) -> Result<Vec<LineTok>, Fail> {
 
 #[test]
 fn takes_the_first_of_two_ways_of_one_cost(rt: HostRuntime) -> Result<(), Fail> {
-    let style = Style::named("LLVM").ok_or("a style")?;
+    let style = style("LLVM")?;
     for (name, len) in [
         ("no closer", 5),
         ("one closer", 6),
@@ -318,7 +353,7 @@ fn takes_the_first_of_two_ways_of_one_cost(rt: HostRuntime) -> Result<(), Fail> 
 
 #[test]
 fn breaks_a_long_initialiser_into_rows(rt: HostRuntime) -> Result<(), Fail> {
-    let style = Style::named("LLVM").ok_or("a style")?;
+    let style = style("LLVM")?;
     let run = Bump::new(rt.alloc());
     let mut tokens = vec![in rt.alloc();
         token(Role::Word, 0, 8),

@@ -1,20 +1,17 @@
 //! The lines of whole texts, as `docs/PROFILE.md` says under "Statements and lines".
 
-ghost use Rattle.std.specs.Prelude.{◌≤◌, ◌<◌, length};
-
-use unwrapped_lines::LineKind::{
-    Brace, CaseLabel, Close, Comment, Control, EnumHead, Enumerator, ExternHead, FuncHead,
-    GotoLabel, MacroLine, Simple, StructHead,
-};
-use unwrapped_lines::{LineKind, ULine, lines};
+use crate::fixtures::{all_items, style};
 use brackets::partners;
 use bumpalo::Bump;
 use std::alloc::Global;
 use std::process::Abort;
 use std::test::Fail;
-use style_table::Style;
 use token_arena::{Dialect, TokenArena, TokenId, build};
-use token_views::View;
+use unwrapped_lines::LineKind::{
+    Brace, CaseLabel, Close, Comment, Control, EnumHead, Enumerator, ExternHead, FuncHead,
+    GotoLabel, MacroLine, Simple, StructHead,
+};
+use unwrapped_lines::{LineKind, ULine, lines};
 
 /// A line: its text, its level and its kind.
 type Row = (&'static str, u32, LineKind);
@@ -22,7 +19,7 @@ type Row = (&'static str, u32, LineKind);
 /// A text with its lines in a style.
 type Case = (&'static str, &'static str, &'static str, &'static [Row]);
 
-const STATEMENTS: [Case; 13] = [
+const STATEMENTS: [Case; 16] = [
     (
         "branches",
         "LLVM",
@@ -83,6 +80,19 @@ const STATEMENTS: [Case; 13] = [
         ],
     ),
     (
+        "a tail behind an inner if",
+        "LLVM",
+        "do if(a)b;else c;while(d);",
+        &[
+            ("do", 0, Control),
+            ("if(a)", 1, Control),
+            ("b;", 2, Simple),
+            ("else", 1, Control),
+            ("c;", 2, Simple),
+            ("while(d);", 0, Control),
+        ],
+    ),
+    (
         "labels of a switch",
         "LLVM",
         "void f(int x){switch(x){case 1:{a();}default:b();}}",
@@ -111,6 +121,19 @@ const STATEMENTS: [Case; 13] = [
             ("default:", 2, CaseLabel),
             ("b();", 3, Simple),
             ("}", 1, Close),
+            ("}", 0, Close),
+        ],
+    ),
+    (
+        "cases whose colons come late or not",
+        "LLVM",
+        "switch(x){case a?b:c:d;case e;case f}",
+        &[
+            ("switch(x){", 0, Control),
+            ("case a?b:c:", 0, CaseLabel),
+            ("d;", 1, Simple),
+            ("case e;", 1, Simple),
+            ("case f", 1, Simple),
             ("}", 0, Close),
         ],
     ),
@@ -150,6 +173,17 @@ const STATEMENTS: [Case; 13] = [
         ],
     ),
     (
+        "an enumerator without a comma",
+        "LLVM",
+        "enum{a,b};",
+        &[
+            ("enum{", 0, EnumHead),
+            ("a,", 1, Enumerator),
+            ("b", 1, Enumerator),
+            ("};", 0, Close),
+        ],
+    ),
+    (
         "lists of values",
         "LLVM",
         "int a[]={1,{2,3}};int b;",
@@ -173,7 +207,7 @@ const STATEMENTS: [Case; 13] = [
     ),
 ];
 
-const COMMENTS: [Case; 4] = [
+const COMMENTS: [Case; 5] = [
     (
         "comments behind and between lines",
         "LLVM",
@@ -204,6 +238,17 @@ const COMMENTS: [Case; 4] = [
         &[("int/* x */a;", 0, Simple)],
     ),
     (
+        "comments around the body of a branch",
+        "LLVM",
+        "if(x)\n// own\ny;// trailing\n// own",
+        &[
+            ("if(x)", 0, Control),
+            ("// own", 1, Comment),
+            ("y;// trailing", 1, Simple),
+            ("// own", 0, Comment),
+        ],
+    ),
+    (
         "a comment at the end of an open block",
         "LLVM",
         "void f(void){g();\n/* x */",
@@ -215,12 +260,18 @@ const COMMENTS: [Case; 4] = [
     ),
 ];
 
-const UNBALANCED: [Case; 6] = [
+const UNBALANCED: [Case; 7] = [
     (
         "a brace that opens nothing",
         "LLVM",
         "a;}b;",
         &[("a;", 0, Simple), ("}", 0, Close), ("b;", 0, Simple)],
+    ),
+    (
+        "a brace that opens nothing and its end",
+        "LLVM",
+        "};",
+        &[("}", 0, Close), (";", 0, Simple)],
     ),
     (
         "a brace too many",
@@ -262,53 +313,41 @@ const UNBALANCED: [Case; 6] = [
 
 /// The lines of a text in a style.
 fn lines_of<'r>(
-    style: &str,
+    name: &str,
     arena: &TokenArena<'_, '_>,
     run: &'r Bump,
 ) -> Result<&'r [ULine], Fail> {
-    let style = Style::named(style).ok_or("a style")?;
-    let view = View::of(0, arena.len(), run)?;
+    let style = style(name)?;
+    let view = all_items(arena, run)?;
     let partners = partners(arena, &view, run)?;
     Ok(lines(&style, arena, &view, partners, run)?)
 }
 
-/// Where the item with a number begins, and where it ends.
-fn span_of(rt: &impl Abort, arena: &TokenArena<'_, '_>, id: u32) -> (usize, usize) {
-    assert!(rt; id < arena.len());
-    let item = arena.get(TokenId(id)).item;
-    let start = item.start as usize;
-    (start, start.saturating_add(item.raw.len()))
-}
-
-/// The texts have these lines.
-fn have_lines(rt: &impl Abort, run: &Bump, cases: &[Case]) -> Result<(), Fail> {
-    for case in cases {
-        let (name, style, text, want) = *case;
-        has_lines(rt, run, style, text.as_bytes(), want, name)?;
-    }
-    Ok(())
-}
-
-/// The text has these lines.
-fn has_lines(
+/// The text from one item up to another one's end.
+fn text_of<'s>(
     rt: &impl Abort,
-    run: &Bump,
-    style: &str,
-    text: &[u8],
-    want: &[Row],
-    name: &str,
-) -> Result<(), Fail> {
-    let arena = build(run, text, Dialect::C11)?;
+    arena: &TokenArena<'_, 's>,
+    first: u32,
+    last: u32,
+) -> Result<&'s [u8], Fail> {
+    assert!(rt; first < arena.len() && last < arena.len());
+    let from = arena.get(TokenId(first)).item.start as usize;
+    let item = arena.get(TokenId(last)).item;
+    let to = (item.start as usize).saturating_add(item.raw.len());
+    let text = arena.text().get(from..to).ok_or("a stretch of the text")?;
+    Ok(text)
+}
+
+/// The text has these lines in a style.
+fn has_lines(rt: &impl Abort, run: &Bump, case: &Case) -> Result<(), Fail> {
+    let (name, style, text, want) = *case;
+    let arena = build(run, text.as_bytes(), Dialect::C11)?;
     let found = lines_of(style, &arena, run)?;
     assert_eq!(rt; found.len(), want.len(), "{name}");
     for (line, row) in found.iter().zip(want) {
         let (code, level, kind) = *row;
-        let (from, _) = span_of(rt, &arena, line.first);
-        let (_, to) = span_of(rt, &arena, line.last);
-        assert!(rt;
-            text.get(from..to) == Some(code.as_bytes()),
-            "{name}: {code}"
-        );
+        let text = text_of(rt, &arena, line.first, line.last)?;
+        assert_eq!(rt; text, code.as_bytes(), "{name}: {code}");
         assert_eq!(rt; line.level, level, "{name}: {code}");
         assert_eq!(rt; line.kind, kind, "{name}: {code}");
     }
@@ -318,19 +357,10 @@ fn has_lines(
 #[test]
 fn cuts_texts_into_lines(rt: HostRuntime) -> Result<(), Fail> {
     let run = Bump::new(rt.alloc());
-    have_lines(&rt, &run, &STATEMENTS)
-}
-
-#[test]
-fn puts_comments_of_texts_into_lines(rt: HostRuntime) -> Result<(), Fail> {
-    let run = Bump::new(rt.alloc());
-    have_lines(&rt, &run, &COMMENTS)
-}
-
-#[test]
-fn cuts_unbalanced_texts(rt: HostRuntime) -> Result<(), Fail> {
-    let run = Bump::new(rt.alloc());
-    have_lines(&rt, &run, &UNBALANCED)
+    for case in STATEMENTS.iter().chain(&COMMENTS).chain(&UNBALANCED) {
+        has_lines(&rt, &run, case)?;
+    }
+    Ok(())
 }
 
 /// A text that begins so, goes on with so many times a piece, and ends so.

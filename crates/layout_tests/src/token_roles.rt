@@ -1,7 +1,6 @@
 //! The roles of whole texts, as `docs/PROFILE.md` says under "Roles".
 
-ghost use Rattle.std.specs.Prelude.{◌≤◌, ◌<◌, length};
-
+use crate::fixtures::{all_items, style};
 use annotator::roles;
 use brackets::partners;
 use bumpalo::Bump;
@@ -15,7 +14,6 @@ use line_tokens::Role::{
 };
 use std::process::Abort;
 use std::test::Fail;
-use style_table::Style;
 use token_arena::{Dialect, build};
 use token_views::View;
 use unwrapped_lines::{LineKind, ULine, lines};
@@ -23,7 +21,7 @@ use unwrapped_lines::{LineKind, ULine, lines};
 /// A text with the roles of its items.
 type Case = (&'static str, &'static str, &'static [Role]);
 
-const CASES: [Case; 37] = [
+const CASES: [Case; 43] = [
     (
         "declarators",
         "int *p, *q;",
@@ -259,6 +257,47 @@ const CASES: [Case; 37] = [
         ],
     ),
     (
+        "an attribute",
+        "__attribute__((packed)) int x;",
+        &[
+            Word, CallOpen, GroupOpen, Word, GroupClose, CallClose, Word, Word, Semi,
+        ],
+    ),
+    (
+        "a conditional in another",
+        "x = a ? b ? c : d : e;",
+        &[
+            Word, Assign, Word, Question, Word, Question, Word, TernColon, Word, TernColon, Word,
+            Semi,
+        ],
+    ),
+    (
+        "a macro without a semicolon",
+        "FOO(x)\nint y;",
+        &[Word, CallOpen, Word, CallClose, Word, Word, Semi],
+    ),
+    (
+        "a cast before a cast",
+        "x = (int)(char)c;",
+        &[
+            Word, Assign, CastOpen, Word, CastClose, CastOpen, Word, CastClose, Word, Semi,
+        ],
+    ),
+    (
+        "a function that gives a pointer",
+        "struct s *f(void);",
+        &[
+            Word, Word, Pointer, DeclName, DeclOpen, Word, DeclClose, Semi,
+        ],
+    ),
+    (
+        "a bit-field without a name",
+        "struct s { unsigned : 3; };",
+        &[
+            Word, Word, BlockOpen, Word, FieldColon, Literal, Semi, BlockClose, Semi,
+        ],
+    ),
+    (
         "brackets without partners",
         ") ] }",
         &[GroupClose, IndexClose, BlockClose],
@@ -275,8 +314,8 @@ const CASES: [Case; 37] = [
 /// The tokens of a text.
 fn tokens_of<'r>(text: &[u8], run: &'r Bump) -> Result<&'r [LineTok], Fail> {
     let arena = build(run, text, Dialect::C11)?;
-    let style = Style::named("LLVM").ok_or("a style")?;
-    let view = View::of(0, arena.len(), run)?;
+    let style = style("LLVM")?;
+    let view = all_items(&arena, run)?;
     let partners = partners(&arena, &view, run)?;
     let lines = lines(&style, &arena, &view, partners, run)?;
     Ok(roles(&arena, &view, partners, lines, run)?)

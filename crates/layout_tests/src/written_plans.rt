@@ -1,16 +1,15 @@
 //! Plans of small texts, and the text that is written of them.
 
-ghost use Rattle.std.specs.Prelude.{◌≡◌, ◌≤◌, ◌+◌, length, IfOk};
-ghost use Rattle.c_chars.specs.declared.TheConstants.{LIMIT};
+ghost use Rattle.std.specs.Prelude.{◌≡◌, ◌+◌, length, IfOk};
 
-use replacements::{Decision, Plan, write_out};
+use crate::fixtures::style;
 use bumpalo::Bump;
 use directives::sections;
 use fmt_ports::MemSink;
 use line_tokens::NoMemory;
+use replacements::{Decision, Plan, write_out};
 use std::alloc::Global;
 use std::test::Fail;
-use style_table::Style;
 use token_arena::{Dialect, TokenArena, build};
 
 /// A text, what is decided for its gaps, and the text of that plan in the LLVM style.
@@ -190,7 +189,7 @@ fn written(
     row: &Row,
     failing: Vec<u64>,
 ) -> Result<(Vec<u8>, bool), Fail> {
-    let style = Style::named("LLVM").ok_or("a style")?;
+    let style = style("LLVM")?;
     let arena = build(bump, row.input, Dialect::C11)?;
     let sections = sections(&arena, bump)?;
     let plan = planned(&arena, bump, row.decisions)?;

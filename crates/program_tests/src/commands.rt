@@ -1,5 +1,6 @@
 //! The table of calls, and the rows of words, styles, ports and files.
 
+use crate::broken_lines::{BROKEN_LINES, BUDGETS};
 use crate::formatted_texts::{BRANCHES, DIRECTIVES, GAPS, ITEMS, STATEMENTS, STYLES};
 use c_chars::LIMIT;
 use fmt_ports::{MemFiles, MemSink, MemSource};
@@ -106,7 +107,7 @@ const WORDS_AND_STYLES: &[Row] = &[
         words: &["--lines", "1:2"],
         input: b"a",
         status: 2,
-        notes: b"usage: clang_format [--style S] [-i] [--dump-config] [FILE ..]\n",
+        notes: b"usage: clang_format [--style S] [--states N] [-i] [--dump-config] [FILE ..]\n",
         ..QUIET
     },
     Row {
@@ -423,7 +424,7 @@ fn check(rt: &impl Abort, alloc: Global, row: &Row, input: Vec<u8>) -> Result<()
 #[test]
 fn does_what_the_words_ask_for(rt: HostRuntime) -> Result<(), Fail> {
     let alloc = rt.alloc();
-    for rows in [WORDS_AND_STYLES, DUMPS, INPUTS, FAILING_PORTS] {
+    for rows in [WORDS_AND_STYLES, DUMPS, INPUTS, FAILING_PORTS, BUDGETS] {
         for row in rows {
             check(&rt, alloc, row, row.input.to_vec(alloc)?)?;
         }
@@ -435,7 +436,9 @@ fn does_what_the_words_ask_for(rt: HostRuntime) -> Result<(), Fail> {
 #[test]
 fn lays_out_texts(rt: HostRuntime) -> Result<(), Fail> {
     let alloc = rt.alloc();
-    for rows in [GAPS, ITEMS, DIRECTIVES, STATEMENTS, BRANCHES, STYLES] {
+    for rows in [
+        GAPS, ITEMS, DIRECTIVES, STATEMENTS, BRANCHES, STYLES, BROKEN_LINES,
+    ] {
         for row in rows {
             check(&rt, alloc, row, row.input.to_vec(alloc)?)?;
             check(&rt, alloc, row, row.out.to_vec(alloc)?)?;

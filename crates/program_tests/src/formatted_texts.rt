@@ -275,7 +275,7 @@ pub const BRANCHES: &[Row] = &[
     Row {
         name: "branches inside a line",
         input: b"f(a,\n#ifdef X\nb ,\n#else\nc ,\n#endif\nd);\n",
-        out: b"f(a,\n#ifdef X\n    b,\n#else\n    c,\n#endif\n    d);\n",
+        out: b"f(a,\n#ifdef X\n  b,\n#else\n  c,\n#endif\n  d);\n",
         ..QUIET
     },
     Row {

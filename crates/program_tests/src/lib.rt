@@ -1,9 +1,12 @@
 //! Tests of the program: worked rows of `format_cli::format_command`, over ends in memory.
 //!
+//! - `broken_lines`: the rows of long lines, budgets and reports.
 //! - `commands`: the one table of calls, and the rows of words, styles, ports and files.
 //! - `formatted_texts`: the rows of texts and their layout.
 #![tactic(auto)]
 
+#[cfg(test)]
+mod broken_lines;
 #[cfg(test)]
 mod commands;
 #[cfg(test)]

@@ -16,40 +16,24 @@ use Rattle.brackets.specs.Viewed.{AreWithin}
 use Rattle.unwrapped_lines.specs.declared.line.ULine.{ULine}
 use Rattle.unwrapped_lines.specs.Lines.{CutPlaces}
 use Rattle.gap_text.specs.declared.Decision.TheVariants.{Old}
-use Rattle.token_arena.specs.Stored.{Stored}
-use Rattle.c_chars.specs.declared.Dialect.{Dialect}
-use Rattle.c_grammar.specs.Items.{Place}
 use Rattle.replacements.specs.declared.slot.Slot.{Slot}
-use Rattle.replacements.specs.declared.stance.Stance.{Stance}
 use Rattle.replacements.specs.Breaks.{fixed_by}
 use Rattle.replacements.specs.Decisions.{slot_of, decided_all}
-use Rattle.replacements.specs.Places.{place_in}
-use Rattle.replacements.specs.Sound.{MayStandBetween, MayStand, IsSound, item_before, stance_before, place_before}
-use Rattle.replacements.specs.Stances.{stance_in}
-use Rattle.directives.specs.Sections.{sections_of}
+use Rattle.replacements.specs.Sound.{MayStand, IsSound}
 use Rattle.replacements.proofs.Firsts.{stay}
 use Rattle.run_layout.specs.Tells.{StandForItems}
 use Rattle.run_layout.specs.Rows as rows
-use Rattle.run_layout.specs.Run.{AreDecided}
+use Rattle.run_layout.specs.OpenGaps.{AreDecided}
 use Rattle.run_layout.specs.InputColumns.{input_before, input_column, input_behind, old_from}
 use Rattle.run_layout.specs.Broken.{of_line, broken_line, first_made, broken_made, inside_slot, made_if_open, made_at, inside_made}
 use Rattle.run_layout.specs.Outcomes.{LineOutcome, Kept, Only, Least, Over, LaidLine, ComesOf, reported_made, outcome_made, AfterLines}
 use Rattle.run_layout.specs.Laws.{AreOfTexts, LinesStaySound, LinesKeep, LinesDecide}
 use Rattle.run_layout.proofs.Walked.{cut_within}
-use Rattle.run_layout.proofs.Stands.{MadeStand, all_sound, first_stands}
+use Rattle.run_layout.proofs.Stands.{MadeStand, all_sound, old_stands, first_stands}
 use Rattle.run_layout.proofs.BrokenLines.{choices_stand, gaps_tell, get_or_of_line, length_of_line}
 use Rattle.run_layout.proofs.MadeFor.{IsMadeFor, IsDecided, open_or_decided, is_some-decided, decided-is_some, stays_decided, length-decided_all, made_decided}
 
 -- ## Each decision may stand
-
-old_between : (d : Dialect) (stood : Place) (before : Stance) (left : Option Stored) (here : Stance) (token : Option Stored) → MayStandBetween d stood before left here token Old
-old_between d stood before left here None = tt
-old_between d stood before None here (Some token) = tt
-old_between d stood before (Some l) here (Some token) = tt
-
--- what stood before an item may stay
-pub old_stands : (arena : Contents) (id : ℕ) → MayStand arena id Old
-old_stands arena id = old_between arena.dialect (place_before (place_in arena) id) (stance_before (stance_in (sections_of arena)) id) (item_before arena.tokens id) (stance_in (sections_of arena) id) (slice_get arena.tokens id)
 
 olds_stand : (style : Style) (arena : Contents) (ids : List ℕ) (column k count : ℕ) → MadeStand arena (old_from style arena ids column k count)
 olds_stand style arena ids column k zero = tt

@@ -1,5 +1,5 @@
 pub mod Items
-pub mod Classes
+pub mod Counting
 pub mod Walked
 pub mod Stands
 pub mod Telling

@@ -15,7 +15,7 @@ use Rattle.replacements.specs.Decisions.{decided_all}
 use Rattle.run_layout.specs.Tells.{StandForItems}
 use Rattle.run_layout.specs.Broken.{number, fixed_of_token, of_line, broken_line, broken_made, first_made, inside_made}
 use Rattle.run_layout.specs.Outcomes.{Only, Least, Over, Kept, IsOpen, reported_made}
-use Rattle.run_layout.specs.Run.{AreDecided}
+use Rattle.run_layout.specs.OpenGaps.{AreDecided}
 use Rattle.run_layout.specs.Told.{IsLaid}
 use Rattle.run_layout.specs.OneRow.{IsRow, stays}
 use Rattle.run_layout.specs.declared.laid.Laid.TheVariants as laid

@@ -1,5 +1,7 @@
 -- The lines of a run, one after another.
+use Rattle.std.specs.Prelude.{Some, slice_get}
 use Rattle.std.proofs.lemmas.List.{append-nil}
+use Rattle.std.proofs.lemmas.Option.{get_or_from_slice_get}
 use Rattle.std.proofs.Common.{◌≡◌, ◌∙◌, ℕ, suc, ◌+◌, ◌*◌, ◌<◌, ◌≤◌, Option, List, [], ◌∷◌, ◌++◌, length, get_or, drop, append_assoc, refl, sym, ap, arith, subst}
 use Rattle.std.proofs.Math.Seq.{drop-cons}
 use Rattle.style_table.specs.declared.style.Style.{Style}
@@ -11,6 +13,9 @@ use Rattle.unwrapped_lines.specs.Lines.{CutPlaces}
 use Rattle.replacements.specs.declared.slot.Slot.{Slot}
 use Rattle.replacements.specs.Decisions.{decided_all}
 use Rattle.run_layout.specs.InputColumns.{input_before}
+use Rattle.run_layout.specs.Rows.{no_tok}
+use Rattle.run_layout.specs.Tells.{StandForItems}
+use Rattle.run_layout.proofs.Walked.{cut_before}
 use Rattle.run_layout.specs.Outcomes.{LineOutcome, Kept, Only, Least, Over, LaidLine, AfterLines, outcome_made, row_of}
 use Rattle.run_layout.specs.Reports.{report_by, searched_by, cost_by, reports_of, searched_of, cost_of, report_told, searched_told, cost_told}
 use Rattle.run_layout.specs.RunsLaid.{IsToldOf, IsRunLaid}
@@ -155,18 +160,10 @@ pub record NextNeeds (style : Style) (arena : Contents) (ids : List ℕ) (place 
   pub within : line.last < length ids
   pub before : place ≤ line.first
 
-cut_below : (at count : ℕ) (lines : List ULine) → CutPlaces at count lines → at ≤ count
-cut_below at count [] cut = omega (arith, cut)
-cut_below at count (line ∷ lines) cut =
-    let rest : line.last + 1 ≤ count = cut_below (line.last + 1) count lines cut.1.1 in
-    let from : line.first ≡ at = cut.0 in
-    let some : line.first ≤ line.last = cut.1.0 in
-    omega arith
-
 pub next_needs : (style : Style) (arena : Contents) (ids : List ℕ) (place column : ℕ) (lines : List ULine) (i : ℕ) (d : ULine) → i < length lines → IsAhead style arena ids place column (drop i lines) → NextNeeds style arena ids place (get_or lines i d)
 next_needs style arena ids place column lines i d within a =
     let n = next_line a.at (length ids) lines i d within a.cut in
-    let below : (get_or lines i d).last + 1 ≤ length ids = cut_below ((get_or lines i d).last + 1) (length ids) (drop (i + 1) lines) n.rest in
+    let below : (get_or lines i d).last + 1 ≤ length ids = cut_before ((get_or lines i d).last + 1) (length ids) (drop (i + 1) lines) n.rest in
     record { some = n.some; within = omega (arith, below); before = omega (arith, a.before, n.first) }
 
 pub first_within : (style : Style) (arena : Contents) (ids : List ℕ) (place column : ℕ) (lines : List ULine) (i : ℕ) (d : ULine) → i < length lines → IsAhead style arena ids place column (drop i lines) → (get_or lines i d).first < length ids
@@ -174,12 +171,23 @@ first_within style arena ids place column lines i d within a =
     let n = next_needs style arena ids place column lines i d within a in
     omega (arith, n.some, n.within)
 
+-- and of their tokens
+pub first_among : (style : Style) (arena : Contents) (ids : List ℕ) (toks : List LineTok) (place column : ℕ) (lines : List ULine) (i : ℕ) (d : ULine) → length toks ≡ length ids → i < length lines
+    → IsAhead style arena ids place column (drop i lines) → (get_or lines i d).first < length toks
+first_among style arena ids toks place column lines i d many within a = omega (arith, first_within style arena ids place column lines i d within a, many)
+
 -- so its first item is one of the text
-pub first_there : (style : Style) (arena : Contents) (ids : List ℕ) (place column : ℕ) (lines : List ULine) (i : ℕ) (d : ULine) (id count : ℕ) → i < length lines → IsAhead style arena ids place column (drop i lines) → AreWithin arena ids
-    → ((e : ℕ) → get_or ids (get_or lines i d).first e ≡ id) → count ≡ length arena.tokens → count ≤ id → ⊥
-first_there style arena ids place column lines i d id count within a items at counts past =
+pub first_there : (style : Style) (arena : Contents) (ids : List ℕ) (place column : ℕ) (lines : List ULine) (i : ℕ) (d : ULine) (id : ℕ) → i < length lines → IsAhead style arena ids place column (drop i lines) → AreWithin arena ids
+    → id ≡ get_or ids (get_or lines i d).first 0 → id < length arena.tokens
+first_there style arena ids place column lines i d id within a items at =
     let small : get_or ids (get_or lines i d).first 0 < length arena.tokens = items (get_or lines i d).first 0 (first_within style arena ids place column lines i d within a) in
-    omega (arith, small, at 0, counts, past)
+    omega (arith, small, at)
+
+-- its token tells its number
+pub first_told : (arena : Contents) (ids : List ℕ) (toks : List LineTok) (k : ℕ) (token : LineTok) → StandForItems arena ids toks → k < length ids → slice_get toks k ≡ Some token → token.id.0 ≡ get_or ids k 0
+first_told arena ids toks k token tell within at =
+    let is : get_or toks k no_tok ≡ token = get_or_from_slice_get toks k token no_tok at in
+    ap (λ (t : LineTok). t.id.0) (sym is) ∙ (tell.items k within).number
 
 -- there are no more lines than places
 pub cut_count : (at count : ℕ) (lines : List ULine) → CutPlaces at count lines → at + length lines ≤ count

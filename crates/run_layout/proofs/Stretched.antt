@@ -10,7 +10,7 @@ use Rattle.brackets.specs.Viewed.{AreWithin}
 use Rattle.replacements.specs.declared.slot.Slot.{Slot}
 use Rattle.replacements.specs.Decisions.{slot_of}
 use Rattle.unwrapped_lines.specs.declared.line.ULine.{ULine}
-use Rattle.run_layout.specs.Run.{IsOpen, IsRowDecided, IsRowOpen}
+use Rattle.run_layout.specs.OpenGaps.{IsOpen, IsRowDecided, IsRowOpen}
 use Rattle.run_layout.specs.Stretches.{AreFrom, IsRest}
 
 -- in a segment items follow one another

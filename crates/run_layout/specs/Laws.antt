@@ -1,16 +1,14 @@
--- A run's decisions may stand.
+-- What holds behind a run.
 use Rattle.std.specs.Prelude.{◌≡◌, ◌<◌, ℕ, All, Bool, List, Option, Some, IsSome, length}
 use Rattle.style_table.specs.declared.style.Style.{Style}
 use Rattle.token_arena.specs.Gaps.{Contents}
 use Rattle.line_tokens.specs.declared.LineTok.{LineTok}
 use Rattle.brackets.specs.Viewed.{AreWithin}
-use Rattle.annotator.specs.Tokens.{TellItems}
 use Rattle.directives.specs.Sections.{sections_of}
 use Rattle.unwrapped_lines.specs.declared.line.ULine.{ULine}
 use Rattle.unwrapped_lines.specs.Lines.{CutPlaces}
 use Rattle.replacements.specs.declared.slot.Slot.{Slot}
 use Rattle.replacements.specs.declared.stance.Stance.TheVariants.{OfText}
-use Rattle.replacements.specs.Decisions.{decided_all}
 use Rattle.replacements.specs.Sound.{IsSound}
 use Rattle.replacements.specs.Stances.{stance_in}
 use Rattle.least_breaking.specs.Choices.{Leads}
@@ -19,20 +17,12 @@ use Rattle.line_state.specs.Line.{Line, Step}
 use Rattle.replacements.specs.Decisions.{slot_of}
 use Rattle.run_layout.specs.Outcomes.{AfterLines, LaidLine}
 use Rattle.run_layout.specs.Tells.{StandForItems}
-use Rattle.run_layout.specs.Run.{run_decisions}
 
 -- the items with these numbers stand in texts, not in directives
 abbrev pub AreOfTexts : Contents → List ℕ → Type 0
 AreOfTexts arena ids = All (λ id. stance_in (sections_of arena) id ≡ OfText) ids
 
--- A plan that decides only what may stand is such a plan after a run too, in every style, for any view of items of texts and what its tokens are told to do.
-abbrev pub RunsStaySound : Type 0
-RunsStaySound =
-    (style : Style) (arena : Contents) (ids : List ℕ) (toks : List LineTok) (lines : List ULine) (plan : List (Option Slot)) →
-    AreWithin arena ids → AreOfTexts arena ids → length toks ≡ length ids → TellItems arena ids toks → CutPlaces 0 (length ids) lines →
-    IsSound arena plan → IsSound arena (decided_all plan (run_decisions style arena ids toks plan lines))
-
--- The same of the lines of a run, whatever roles their tokens have and whichever of them are reported.
+-- A plan that decides only what may stand is such a plan after a run too, in every style, for any view of items of texts, whatever roles its tokens have and whichever lines are reported.
 abbrev pub LinesStaySound : Type 0
 LinesStaySound =
     (style : Style) (budget : ℕ) (arena : Contents) (ids : List ℕ) (toks : List LineTok) (run : ℕ) (plan : List (Option Slot)) (lines : List ULine) (final : List (Option Slot)) (done : List LaidLine) →

@@ -9,7 +9,7 @@ use Rattle.unwrapped_lines.specs.declared.line.ULine.{ULine}
 use Rattle.replacements.specs.declared.slot.Slot.{Slot}
 use Rattle.replacements.specs.Decisions.{slot_of, decided_all}
 use Rattle.run_layout.specs.Rows.{item_at}
-pub use Rattle.run_layout.specs.Run.{AreDecided, IsOpen}
+pub use Rattle.run_layout.specs.OpenGaps.{AreDecided, IsOpen}
 use Rattle.run_layout.specs.InputColumns.{input_before, input_behind, old_from}
 use Rattle.run_layout.specs.Broken.{broken_line, broken_made, first_made}
 

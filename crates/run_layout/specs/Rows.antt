@@ -44,26 +44,6 @@ abbrev pub item_before : List ℕ → ℕ → Option ℕ
 item_before ids zero = None
 item_before ids (suc k) = Some (get_or ids k 0)
 
--- An item comes next in the text behind the one before it in the view: no directive stands between them.
-abbrev pub follows : Option ℕ → ℕ → Bool
-follows None id = false
-follows (Some before) id = id == before + 1
-
--- ## Where lines end
-
--- the item before takes the rest of its line
-abbrev pub takes_row : Contents → Option ℕ → Bool
-takes_row arena None = false
-takes_row arena (Some id) = takes_line (item_at arena id).kind
-
--- a comment that began its line
-abbrev pub is_begun_comment : Stored → Bool
-is_begun_comment token = is_comment token.kind && token.gap.began
-
--- Inside a line a row ends behind what takes its line, before a comment that began its line, and where a directive stands between.
-abbrev pub row_ends : Contents → Option ℕ → ℕ → Bool
-row_ends arena before id = not (follows before id) || (takes_row arena before || is_begun_comment (item_at arena id))
-
 -- ## Empty lines
 
 -- an item as the rule on empty lines sees it: its number, its role and its gap
@@ -104,10 +84,6 @@ empty_rows style line opened token = if opened && not style.keep_empty_lines_at_
 
 -- ## Decisions
 
--- the column of a further row of a line
-abbrev pub continuation_column : Style → ULine → ℕ
-continuation_column style line = min (start_column style line + style.continuation_indent_width) most_column
-
 -- before the first item of a line, of this class and behind a `{` or not, stand its empty lines; before the file's first item nothing
 abbrev pub first_of_line : Style → Contents → ULine → Bool → TokenClass → ℕ → Decision
 first_of_line style arena line opened class id =
@@ -117,10 +93,6 @@ first_of_line style arena line opened class id =
 -- before the first item of a line
 abbrev pub first_decision : Style → Contents → ULine → Option ℕ → ℕ → Decision
 first_decision style arena line before id = first_of_line style arena line (is_behind_brace arena before) (item_class arena id) id
-
--- the empty lines before a further row: only behind a directive are there any
-abbrev pub empty_further : Style → Contents → ULine → Option ℕ → ℕ → ℕ
-empty_further style arena line before id = if follows before id then 0 else empty_rows style line false (row_token arena id Word)
 
 -- what a list of tokens has past its end
 abbrev pub no_tok : LineTok
@@ -139,32 +111,6 @@ no_tok = record {
   first_width = 0;
   last_width = 0;
 }
-
--- the token at a place of a view
-abbrev pub tok_at : List LineTok → ℕ → LineTok
-tok_at toks k = get_or toks k no_tok
-
--- the blanks between the token before a place and the one at it
-abbrev pub blanks : Style → List LineTok → ℕ → ℕ
-blanks style toks k = spaces_before style (tok_at toks (k - 1)) (tok_at toks k)
-
--- before any other item of a line, at this place
-abbrev pub inner_decision : Style → Contents → List LineTok → ULine → ℕ → Option ℕ → ℕ → Decision
-inner_decision style arena toks line k before id =
-    if row_ends arena before id then Lines (1 + empty_further style arena line before id) (continuation_column style line) line.level
-    else Spaces (blanks style toks k)
-
--- before such an item that comes next in the text behind one that takes its line or doesn't, with so many blanks
-abbrev pub next_decision : Style → ULine → Bool → ℕ → Stored → Decision
-next_decision style line takes count token = if takes || is_begun_comment token then Lines 1 (continuation_column style line) line.level else Spaces count
-
--- before an item that begins its line or doesn't
-abbrev pub item_decision : Style → Contents → List LineTok → ULine → ℕ → Bool → Option ℕ → ℕ → Decision
-item_decision style arena toks line k begins before id = if begins then first_decision style arena line before id else inner_decision style arena toks line k before id
-
--- What stands before the item at a place of a line.
-abbrev pub decision_at : Style → Contents → List ℕ → List LineTok → ULine → ℕ → Decision
-decision_at style arena ids toks line k = item_decision style arena toks line k (k == line.first) (item_before ids k) (get_or ids k 0)
 
 -- ## Columns
 

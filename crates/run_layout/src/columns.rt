@@ -2,21 +2,11 @@
 
 ghost use Rattle.std.specs.Prelude.{◌≡◌, ◌<◌, ◌^◌, length};
 ghost use Rattle.token_arena.specs.Entries.{told_by};
-ghost use Rattle.run_layout.specs.Rows.{item_at, continuation_column, start_behind, column_behind};
+ghost use Rattle.run_layout.specs.Rows.{item_at, start_behind, column_behind};
 
 use crate::item::item;
 use gap_text::Decision;
-use indenter::start_column;
-use style_table::Style;
 use token_arena::{Token, TokenArena};
-use unwrapped_lines::ULine;
-
-/// The column of a further row of a line.
-pub(crate) fn continuation_column(style: &Style, line: &ULine) -> u32
-    ensures { result ≡ continuation_column style.now line.now }
-{
-    start_column(style, line).saturating_add(style.continuation_indent_width)
-}
 
 /// Where an item starts behind a decision, where what stands before the gap ends at `column`.
 pub(crate) fn start_behind(column: u32, decision: Decision) -> u32

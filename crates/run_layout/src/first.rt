@@ -1,20 +1,99 @@
-//! The gap before a line's first item.
+//! What stands before a line's first item.
 
 ghost use Rattle.std.specs.Prelude.{◌≡◌, ◌<◌, ◌+◌, length, get_or};
 ghost use Rattle.brackets.specs.Viewed.{AreWithin, classes_of};
 ghost use Rattle.replacements.specs.Decisions.{decided};
-ghost use Rattle.run_layout.specs.Rows.{item_before, first_decision};
+ghost use Rattle.run_layout.specs.Rows.{item_before, row_token, first_role, opens_before, empty_rows, first_of_line, first_decision};
 ghost use Rattle.run_layout.specs.Broken.{first_slot};
 
 use crate::columns::start_behind;
-use crate::rows::{first_of_line, opens_before};
+use crate::item::item;
 use brackets::TokenClass;
 use gap_text::Decision;
+use indenter::{empty_lines, start_column};
+use line_tokens::{LineTok, Role, TokenId};
 use replacements::Plan;
 use style_table::Style;
 use token_arena::TokenArena;
 use token_views::View;
 use unwrapped_lines::ULine;
+
+/// An item as the rule on empty lines sees it.
+fn row_token(arena: &TokenArena<'_, '_>, id: u32, role: Role) -> LineTok
+    requires { id < length arena.now.tokens }
+    ensures { result ≡ row_token arena.now id role }
+{
+    let token = item(arena, id);
+    LineTok {
+        id: TokenId(id),
+        role,
+        power: 0,
+        depth: 0,
+        trailing_list: false,
+        held: false,
+        touch: false,
+        directive: false,
+        gap: token.gap,
+        kind: token.item.kind,
+        rows: 1,
+        first_width: 0,
+        last_width: 0,
+    }
+}
+
+/// The role of an item that begins a line.
+fn first_role(class: TokenClass) -> Role
+    ensures { result ≡ first_role class }
+{
+    if class.is_close_brace() {
+        Role::BlockClose
+    } else {
+        Role::Word
+    }
+}
+
+/// Whether a `{` stands before a place, where the places have these classes.
+fn opens_before(classes: &[TokenClass], k: u32) -> bool
+    requires { k < length classes.now }
+    ensures { result ≡ opens_before classes.now k }
+{
+    k > 0 && classes[k as usize - 1].is_open_brace()
+}
+
+/// The empty lines before an item, where the `{` of a block stands directly before it or doesn't.
+fn empty_rows(style: &Style, line: &ULine, opened: bool, token: &LineTok) -> u32
+    ensures { result ≡ empty_rows style.now line.now opened token.now }
+{
+    if opened {
+        let mut brace = *token;
+        brace.role = Role::BlockOpen;
+        return empty_lines(style, Some(&brace), line, token);
+    }
+    empty_lines(style, None, line, token)
+}
+
+/// What stands before the first item of a line, behind a `{` or not.
+fn first_of_line(
+    style: &Style,
+    arena: &TokenArena<'_, '_>,
+    line: &ULine,
+    opened: bool,
+    class: TokenClass,
+    id: u32,
+) -> Decision
+    requires { id < length arena.now.tokens }
+    ensures { result ≡ first_of_line style.now arena.now line.now opened class id }
+{
+    if id == 0 {
+        return Decision::Spaces(0);
+    }
+    let token = row_token(arena, id, first_role(class));
+    Decision::Lines {
+        count: 1 + empty_rows(style, line, opened, &token),
+        column: start_column(style, line),
+        level: line.level,
+    }
+}
 
 /// What stands before the first item of a line.
 fn first_decision(

@@ -1,14 +1,9 @@
 //! The laws of a run's decisions. Each stands on the contract of a function that does nothing.
 
-ghost use Rattle.run_layout.specs.Laws.{LinesDecide, LinesKeep, LinesStaySound, OneBreakingIsAdmissible, RunsStaySound};
+ghost use Rattle.run_layout.specs.Laws.{LinesDecide, LinesKeep, LinesStaySound, OneBreakingIsAdmissible};
 
-/// Each decision that a run makes may stand for its gap: a plan that decides only what may stand is such a plan after a
-/// run too, in every style, for any view of items of texts.
-pub fn runs_stay_sound()
-    ensures { RunsStaySound }
-{}
-
-/// The same of the lines of a run that are broken, whatever roles their tokens have and whichever lines are reported.
+/// Each decision that a run makes may stand: a plan that decides only what may stand is such a plan after a run too, in
+/// every style, for any view of items of texts, whatever roles its tokens have and whichever lines are reported.
 pub fn lines_stay_sound()
     ensures { LinesStaySound }
 {}

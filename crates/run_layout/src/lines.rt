@@ -4,9 +4,11 @@ ghost use Rattle.std.specs.Prelude.{◌≡◌, ◌+◌, ◌*◌, ◌^◌, ◌<�
 ghost use Rattle.std.specs.Bool.{OnFalse, OnTrue};
 ghost use Rattle.style_table.specs.Range.{IsInRange};
 ghost use Rattle.brackets.specs.Viewed.{AreWithin, classes_of};
+ghost use Rattle.annotator.specs.Tokens.{TellItems};
 ghost use Rattle.line_state.specs.Line.{gaps};
 ghost use Rattle.run_layout.specs.Tells.{StandForItems};
 ghost use Rattle.replacements.specs.Decisions.{decided_all, slot_of};
+ghost use Rattle.run_layout.specs.Counted.{IsCounted};
 ghost use Rattle.run_layout.specs.Broken.{broken_line, broken_made, of_line};
 ghost use Rattle.run_layout.specs.InputColumns.{input_before};
 ghost use Rattle.run_layout.specs.OneRow.{AreOpenInside, IsRow, stays};
@@ -16,13 +18,12 @@ ghost use Rattle.run_layout.specs.RunsLaid.{IsRunLaid};
 ghost use Rattle.run_layout.specs.Told.{IsLaid};
 
 use crate::broken::{fixed_of, write_broken};
+use crate::decided::is_decided;
 use crate::first::decide_first;
-use crate::item::item;
 use crate::laid::Laid;
 use crate::report::{Tally, note_line};
 use crate::reported::{InputCursor, report_line};
 use crate::row::{end_of, first_start, is_row, token_at, write_row};
-use crate::run::is_decided;
 use brackets::TokenClass;
 use break_search::{Outcome, least_breaks, search};
 use bumpalo::Bump;
@@ -221,17 +222,19 @@ pub fn lay_out_lines(
     requires budget { budget ≤ 16000000 }
     requires within { AreWithin arena.now view.now }
     requires classes { classes.now ≡ classes_of arena.now view.now }
-    requires tell { StandForItems arena.now view.now toks.now }
+    requires count { length toks.now ≡ length view.now }
+    requires tell { TellItems arena.now view.now toks.now }
     requires cut { CutPlaces 0 (length view.now) lines.now }
     requires whole { length plan.old ≡ length arena.now.tokens + 1 }
     requires room { tally.old.searched + length lines.now < 2 ^ 60 }
     requires cheap { tally.old.cost ≤ tally.old.searched * 18446744073709551615 }
+    requires counted { IsCounted arena.now tally.old.lines }
     ensures laid { OnOk result (IsRunLaid style.now budget arena.now view.now toks.now number plan.old lines.now plan.new tally.old tally.new) }
     ensures len { OnOk result (length plan.new ≡ length plan.old) }
     ensures room { OnOk result (tally.new.searched ≤ tally.old.searched + length lines.now) }
     ensures cheap { OnOk result (tally.new.cost ≤ tally.new.searched * 18446744073709551615) }
+    ensures counted { OnOk result (IsCounted arena.now tally.new.lines) }
 {
-    let items = arena.len();
     let mut segment = 0;
     let mut cursor = InputCursor {
         place: 0,
@@ -252,10 +255,8 @@ pub fn lay_out_lines(
             plan,
             run,
         )?;
-        let id = view.at(line.first).0;
-        prove!(id < items);
-        let row = item(arena, id).line() as u64;
-        note_line(number, row, laid, tally)?;
+        let id = token_at(toks, line.first as usize).id.0;
+        note_line(arena, number, id, laid, tally)?;
     }
     Ok(())
 }

@@ -1,11 +1,16 @@
 //! What came of the lines of a text.
 
-ghost use Rattle.std.specs.Prelude.{◌≡◌, ◌++◌, ◌+◌, ◌*◌, ◌<◌, ◌≤◌, ◌^◌, OnOk};
+ghost use Rattle.std.specs.Prelude.{◌≡◌, ◌++◌, ◌+◌, ◌*◌, ◌<◌, ◌≤◌, ◌^◌, [], OnOk, length};
+ghost use Rattle.token_arena.specs.Gaps.{Contents};
+ghost use Rattle.run_layout.specs.Counted.{IsCounted};
 ghost use Rattle.run_layout.specs.Reports.{cost_told, report_told, searched_told};
+ghost use Rattle.run_layout.specs.Rows.{item_at};
 
 use crate::laid::Laid;
+use crate::line_count::{LineCount, line_of};
 use bumpalo::Bump;
 use line_tokens::NoMemory;
+use token_arena::TokenArena;
 
 /// A line that has more cells than the budget: its inner gaps keep their bytes.
 #[derive(Clone, Copy, Debug, PartialEq, Eq)]
@@ -13,7 +18,7 @@ pub struct Report {
     /// The run, from 0.
     pub run: u32,
     /// The physical line of its first item, from 1.
-    pub line: u64,
+    pub line: u32,
     /// A number of cells above the budget, and not above the line's.
     pub cells: u64,
 }
@@ -40,22 +45,48 @@ pub struct Tally<'a> {
     pub searched: u64,
     /// What these cost together.
     pub cost: u128,
+    /// Up to where the physical lines are counted.
+    pub lines: LineCount,
 }
 
-/// Notes what came of a line.
+impl<'a> Tally<'a> {
+    /// Nothing is told yet.
+    pub fn new(bump: &'a Bump) -> Tally<'a>
+        ensures reports { result.reports.items ≡ [] }
+        ensures searched { result.searched ≡ 0 }
+        ensures cost { result.cost ≡ 0 }
+        ensures counted { (arena : Contents) → IsCounted arena result.lines }
+    {
+        Tally {
+            reports: Vec::new(bump),
+            searched: 0,
+            cost: 0,
+            lines: LineCount {
+                offset: 0,
+                feeds: 0,
+            },
+        }
+    }
+}
+
+/// Notes what came of a line, which begins with the item with this number.
 pub(crate) fn note_line(
+    arena: &TokenArena<'_, '_>,
     run: u32,
-    row: u64,
+    id: u32,
     laid: Laid,
     tally: &mut Tally<'_>,
 ) -> Result<(), NoMemory>
+    requires within { id < length arena.now.tokens }
     requires room { tally.old.searched < 2 ^ 60 }
     requires cheap { tally.old.cost ≤ tally.old.searched * 18446744073709551615 }
-    ensures reports { OnOk result (tally.new.reports.items ≡ tally.old.reports.items ++ report_told run row laid) }
+    requires counted { IsCounted arena.now tally.old.lines }
+    ensures reports { OnOk result (tally.new.reports.items ≡ tally.old.reports.items ++ report_told run (item_at arena.now id).line laid) }
     ensures searched { OnOk result (tally.new.searched ≡ tally.old.searched + searched_told laid) }
     ensures cost { OnOk result (tally.new.cost ≡ tally.old.cost + cost_told laid) }
     ensures room { OnOk result (tally.new.searched ≤ tally.old.searched + 1) }
     ensures cheap { OnOk result (tally.new.cost ≤ tally.new.searched * 18446744073709551615) }
+    ensures counted { OnOk result (IsCounted arena.now tally.new.lines) }
 {
     match laid {
         Laid::Unsearched => {}
@@ -64,11 +95,8 @@ pub(crate) fn note_line(
             tally.cost += u128::from(cost);
         }
         Laid::Over { cells } => {
-            tally.reports.push(Report {
-                run,
-                line: row,
-                cells,
-            })?;
+            let line = line_of(arena, id, &mut tally.lines);
+            tally.reports.push(Report { run, line, cells })?;
         }
     }
     Ok(())

@@ -20,26 +20,26 @@ pub returns-in-Err-clause-known : goal.returns-in-Err-clause-known
 returns-in-Err-clause-known g c = rw c.status_of.ensures (known c.in-Err.refusal)
 
 pub returns-in-Err-clause-usage : goal.returns-in-Err-clause-usage
-returns-in-Err-clause-usage g c is = bad_words _ _ _ _ _ c.in-Err.refusal (sym c.status_of.ensures ∙ is) c.in-Err.ensures.refused
+returns-in-Err-clause-usage g c is = bad_words _ _ _ c.in-Err.refusal (sym c.status_of.ensures ∙ is) c.in-Err.ensures.refused
 
 pub returns-in-Err-clause-form : goal.returns-in-Err-clause-form
-returns-in-Err-clause-form g c bad = rw c.status_of.ensures (form _ _ _ _ _ c.in-Err.refusal bad c.in-Err.ensures.refused)
+returns-in-Err-clause-form g c bad = rw c.status_of.ensures (form _ _ _ c.in-Err.refusal bad c.in-Err.ensures.refused)
 
 pub returns-in-Err-clause-style : goal.returns-in-Err-clause-style
-returns-in-Err-clause-style g c is = no_style _ _ _ _ _ c.in-Err.refusal (sym c.status_of.ensures ∙ is) c.in-Err.ensures.refused
+returns-in-Err-clause-style g c is = no_style _ _ _ c.in-Err.refusal (sym c.status_of.ensures ∙ is) c.in-Err.ensures.refused
 
 pub returns-in-Ok-clause-first : goal.returns-in-Ok-clause-first
-returns-in-Ok-clause-first g c = λ status stops. absurd (ends_not_well _ _ _ _ _ status c.in-Ok.ensures.done stops)
+returns-in-Ok-clause-first g c = λ status stops. absurd (ends_not_well _ _ _ status c.in-Ok.ensures.done stops)
 
 pub returns-in-Err-clause-first : goal.returns-in-Err-clause-first
-returns-in-Err-clause-first g c = λ status stops. rw c.status_of.ensures (ends_so _ _ _ _ _ c.in-Err.refusal status c.in-Err.ensures.refused stops)
+returns-in-Err-clause-first g c = λ status stops. rw c.status_of.ensures (ends_so _ _ _ c.in-Err.refusal status c.in-Err.ensures.refused stops)
 
 pub returns-in-Ok-clause-skipped : goal.returns-in-Ok-clause-skipped
-returns-in-Ok-clause-skipped g c lacks = absurd (lacks_not_well _ _ _ _ _ c.in-Ok.ensures.done lacks)
+returns-in-Ok-clause-skipped g c lacks = absurd (lacks_not_well _ _ _ c.in-Ok.ensures.done lacks)
 
 pub returns-in-Err-clause-skipped : goal.returns-in-Err-clause-skipped
 returns-in-Err-clause-skipped g c lacks =
-    rw c.status_of.ensures (lacks_so _ _ _ _ _ _ _ _ c.in-Err.refusal c.in-Err.ensures.refused
+    rw c.status_of.ensures (lacks_so _ _ _ _ _ _ c.in-Err.refusal c.in-Err.ensures.refused
     (row_told c.in-Err.refusal _ _ _ _ _ c.tell.result c.in-Err.ensures.counts c.tell.ensures.counts c.tell.ensures.ok c.tell.ensures.part) lacks)
 
 pub returns-in-Err-clause-failed : goal.returns-in-Err-clause-failed
@@ -64,19 +64,19 @@ pub returns-in-Err-clause-misses : goal.returns-in-Err-clause-misses
 returns-in-Err-clause-misses g c more = c.status_of.ensures ∙ misses c.in-Err.refusal _ _ c.in-Err.ensures.counts more
 
 pub returns-in-Ok-clause-out_kept : goal.returns-in-Ok-clause-out_kept
-returns-in-Ok-clause-out_kept g c back = out_kept_well _ _ _ _ _ back c.in-Ok.ensures.done
+returns-in-Ok-clause-out_kept g c back = out_kept_well _ _ _ back c.in-Ok.ensures.done
 
 pub returns-in-Err-clause-out_kept : goal.returns-in-Err-clause-out_kept
-returns-in-Err-clause-out_kept g c back = out_kept _ _ _ _ _ c.in-Err.refusal back c.in-Err.ensures.refused
+returns-in-Err-clause-out_kept g c back = out_kept _ _ _ c.in-Err.refusal back c.in-Err.ensures.refused
 
 pub returns-in-Ok-clause-files_kept : goal.returns-in-Ok-clause-files_kept
-returns-in-Ok-clause-files_kept g c forth = files_kept_well _ _ _ _ _ forth c.in-Ok.ensures.done
+returns-in-Ok-clause-files_kept g c forth = files_kept_well _ _ _ forth c.in-Ok.ensures.done
 
 pub returns-in-Err-clause-files_kept : goal.returns-in-Err-clause-files_kept
-returns-in-Err-clause-files_kept g c forth = files_kept _ _ _ _ _ c.in-Err.refusal forth c.in-Err.ensures.refused
+returns-in-Err-clause-files_kept g c forth = files_kept _ _ _ c.in-Err.refusal forth c.in-Err.ensures.refused
 
 pub returns-in-Err-clause-missing_name : goal.returns-in-Err-clause-missing_name
-returns-in-Err-clause-missing_name g c is = missing_name _ _ _ _ _ c.in-Err.refusal (sym c.status_of.ensures ∙ is) c.in-Err.ensures.refused
+returns-in-Err-clause-missing_name g c is = missing_name _ _ _ c.in-Err.refusal (sym c.status_of.ensures ∙ is) c.in-Err.ensures.refused
 
 pub returns-in-Err-clause-input : goal.returns-in-Err-clause-input
-returns-in-Err-clause-input g c is forth = refused_input _ _ _ _ _ c.in-Err.refusal (sym c.status_of.ensures ∙ is) forth c.in-Err.ensures.refused
+returns-in-Err-clause-input g c is forth = refused_input _ _ _ c.in-Err.refusal (sym c.status_of.ensures ∙ is) forth c.in-Err.ensures.refused

@@ -13,7 +13,7 @@ returns-in_err-style-clause-refused g c =
       said = c.in-Ok.said;
       reads = c.in-Ok.ensures;
       refused = c.in_err-style.ensures.refused;
-      untouched = record { ends = record { taken = keeps_self _; held = c.in_err-style.ensures.same }; left = refl };
+      untouched = record { taken = keeps_self _; held = c.in_err-style.ensures.same; left = refl };
     })))
 
 pub returns-in_err-style-clause-counts : goal.returns-in_err-style-clause-counts
@@ -27,13 +27,13 @@ returns-clause-done g c =
     (λ performed. record {
       said = c.in-Ok.said;
       style = c.in_ok-style.style;
-      begun = world (g.S.Source.left c.args.source.now) (g.K.Sink.taken c.args.out.now) (g.F.Files.holds c.style_in_force.new.files);
+      begun = world (g.S.Source.left c.args.source.now) (g.K.Sink.taken c.args.out.now) (g.F.Files.holds c.style_in_force.new.files) (g.E.Sink.taken c.style_in_force.new.notes);
       begins = record {
         reads = c.in-Ok.ensures;
         rows = c.in_ok-style.ensures.chosen.0;
         in_force = c.in_ok-style.ensures.chosen.1;
         told = c.in_ok-style.ensures.chosen.2;
-        untouched = record { ends = record { taken = keeps_self _; held = c.in_ok-style.ensures.same }; left = refl };
+        untouched = record { taken = keeps_self _; held = c.in_ok-style.ensures.same; left = refl };
       };
       performed = performed;
     })
@@ -45,13 +45,13 @@ returns-clause-refused g c =
     (λ refusal refused. inr (inr (record {
       said = c.in-Ok.said;
       style = c.in_ok-style.style;
-      begun = world (g.S.Source.left c.args.source.now) (g.K.Sink.taken c.args.out.now) (g.F.Files.holds c.style_in_force.new.files);
+      begun = world (g.S.Source.left c.args.source.now) (g.K.Sink.taken c.args.out.now) (g.F.Files.holds c.style_in_force.new.files) (g.E.Sink.taken c.style_in_force.new.notes);
       begins = record {
         reads = c.in-Ok.ensures;
         rows = c.in_ok-style.ensures.chosen.0;
         in_force = c.in_ok-style.ensures.chosen.1;
         told = c.in_ok-style.ensures.chosen.2;
-        untouched = record { ends = record { taken = keeps_self _; held = c.in_ok-style.ensures.same }; left = refl };
+        untouched = record { taken = keeps_self _; held = c.in_ok-style.ensures.same; left = refl };
       };
       refused = refused;
     })))
@@ -60,5 +60,4 @@ returns-clause-refused g c =
 pub returns-clause-counts : goal.returns-clause-counts
 returns-clause-counts g c =
     let all : Faults = record { source = g.S.Source.faults c.args.source.now; out = g.K.Sink.faults c.args.out.now; notes = 0; files = 0; misses = 0 } in
-    let notes : Faults = record { source = 0; out = 0; notes = g.E.Sink.faults c.style_in_force.new.notes; files = 0; misses = 0 } in
-    counted_after _ c.perform.result _ _ _ (c.in_ok-style.ensures.counts all) (c.perform.ensures.counts notes)
+    counted_after _ c.perform.result _ _ _ (c.in_ok-style.ensures.counts all) (c.perform.ensures.counts all)

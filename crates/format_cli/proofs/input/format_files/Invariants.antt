@@ -6,12 +6,13 @@ use Rattle.format_cli.proofs.input.format_files.Given as goal
 -- what is done with the other FILEs is, with what was done, what is done with all
 abbrev pub invariant-loop-name : goal.invariant-loop-name
 invariant-loop-name g l = record {
-  done : (end : Ends) → AreDone l.style l.place (map (λ name. name.now) (drop l.name-index l.names)) (ends (g.K.Sink.taken l.out) (g.F.Files.holds l.files)) end
-      → AreDone l.style l.place (map (λ name. name.now) l.names) (ends (g.K.Sink.taken l.initial.out) (g.F.Files.holds l.initial.files)) end;
+  done : (end : Ends) → AreDone l.options l.place (map (λ name. name.now) (drop l.name-index l.names)) (ends (g.K.Sink.taken l.out) (g.F.Files.holds l.files) (g.E.Sink.taken l.notes)) end
+      → AreDone l.options l.place (map (λ name. name.now) l.names) (ends (g.K.Sink.taken l.initial.out) (g.F.Files.holds l.initial.files) (g.E.Sink.taken l.initial.notes)) end;
   refused : (end : Ends) (refusal : Refusal)
-      → AreRefused l.style l.place (map (λ name. name.now) (drop l.name-index l.names)) (ends (g.K.Sink.taken l.out) (g.F.Files.holds l.files)) end refusal
-      → AreRefused l.style l.place (map (λ name. name.now) l.names) (ends (g.K.Sink.taken l.initial.out) (g.F.Files.holds l.initial.files)) end refusal;
+      → AreRefused l.options l.place (map (λ name. name.now) (drop l.name-index l.names)) (ends (g.K.Sink.taken l.out) (g.F.Files.holds l.files) (g.E.Sink.taken l.notes)) end refusal
+      → AreRefused l.options l.place (map (λ name. name.now) l.names) (ends (g.K.Sink.taken l.initial.out) (g.F.Files.holds l.initial.files) (g.E.Sink.taken l.initial.notes)) end refusal;
   out : g.K.Sink.faults l.out ≡ g.K.Sink.faults l.initial.out;
+  notes : g.E.Sink.faults l.notes ≡ g.E.Sink.faults l.initial.notes;
   files : g.F.Files.faults l.files ≡ g.F.Files.faults l.initial.files;
   misses : g.F.Files.misses l.files ≡ g.F.Files.misses l.initial.files;
 }

@@ -1,11 +1,16 @@
+use Rattle.std.proofs.Common.{refl}
 use Rattle.c_chars.specs.declared.Dialect.TheVariants.{C11}
 use Rattle.pp_model.proofs.Alike.{alike}
 use Rattle.format_cli.proofs.input.formatted.Goals as goal
 
 pub returns-in-Ok-clause-formats : goal.returns-in-Ok-clause-formats
-returns-in-Ok-clause-formats c = record {
-  fits = c.in-Ok.ensures.fits;
-  formats = c.in-Ok.ensures.formats;
-  twins = c.in-Ok.ensures.twins;
-  alike = alike C11 _ _ c.in-Ok.ensures.twins;
-}
+returns-in-Ok-clause-formats c = (
+  record {
+    fits = c.in-Ok.ensures.fits;
+    reports = c.in-Ok.formatted.reports.now;
+    formats = c.in-Ok.ensures.formats.formats;
+    twins = c.in-Ok.ensures.twins;
+    alike = alike C11 _ _ c.in-Ok.ensures.twins;
+  },
+  refl,
+)

@@ -1,6 +1,7 @@
-use Rattle.std.proofs.Common.{sym}
+use Rattle.std.proofs.Common.{◌∙◌, List, length, sym, ap}
+use Rattle.run_layout.specs.declared.report.Report.{Report}
 use Rattle.format_core.proofs.Planned.{laid_is}
-use Rattle.format_core.proofs.SoundPlan.{planned_twin, twin_along}
+use Rattle.format_core.proofs.SoundPlan.{planned_texts_are_twins, twin_along}
 use Rattle.format_core.specs.LineEnds.{ends_by}
 use Rattle.format_core.proofs.formatted.format.Goals as goal
 
@@ -8,13 +9,26 @@ pub returns-clause-formats : goal.returns-clause-formats
 returns-clause-formats c =
     let arena = c.in_ok-arena.arena in
     let is = c.in_ok-arena.ensures.arena in
+    let made = c.in_ok-made.ensures.plan in
     record {
-      contents = arena;
-      text = is.text_is;
-      dialect = is.dialect_is;
-      holds = is.holds;
-      planned = laid_is c.args.style.now arena c.ends_by-crlf.result c.in_ok-sections.sections.now c.in_ok-plan.plan c.args.text.now c.in_ok-laid_out.laid_out.items c.in_ok-laid_out.ensures c.ends_by-crlf.ensures
-          c.in_ok-sections.ensures.sections c.in_ok-plan.ensures.plan is.text_is;
+      formats = record {
+        contents = arena;
+        text = is.text_is;
+        dialect = is.dialect_is;
+        holds = is.holds;
+        plan = c.in_ok-made.made.plan;
+        done = made.done;
+        planned = made.planned;
+        written_so = laid_is c.args.style.now arena c.ends_by-crlf.result c.in_ok-sections.sections.now c.in_ok-made.made.plan c.args.text.now c.in_ok-laid_out.laid_out.items c.in_ok-laid_out.ensures
+            c.ends_by-crlf.ensures c.in_ok-sections.ensures.sections is.text_is;
+        reported = c.into_bump_slice-reports.ensures ∙ made.reports;
+      };
+      counted = record {
+        runs = made.runs;
+        searched = made.searched;
+        over = ap (λ (xs : List Report). length xs) (c.into_bump_slice-reports.ensures ∙ made.reports);
+        cost = made.cost;
+      };
     }
 
 pub returns-clause-twins : goal.returns-clause-twins
@@ -22,6 +36,8 @@ returns-clause-twins c =
     let style = c.args.style.now in
     let arena = c.in_ok-arena.arena in
     let is = c.in_ok-arena.ensures.arena in
-    let laid = laid_is style arena c.ends_by-crlf.result c.in_ok-sections.sections.now c.in_ok-plan.plan c.args.text.now c.in_ok-laid_out.laid_out.items c.in_ok-laid_out.ensures c.ends_by-crlf.ensures
-    c.in_ok-sections.ensures.sections c.in_ok-plan.ensures.plan is.text_is in
-    twin_along _ _ _ _ _ _ is.dialect_is is.text_is (sym laid) (planned_twin style (ends_by style.line_ending arena.text) arena is.holds)
+    let made = c.in_ok-made.ensures.plan in
+    let crlf = ends_by style.line_ending arena.text in
+    let laid = laid_is style arena c.ends_by-crlf.result c.in_ok-sections.sections.now c.in_ok-made.made.plan c.args.text.now c.in_ok-laid_out.laid_out.items c.in_ok-laid_out.ensures c.ends_by-crlf.ensures
+    c.in_ok-sections.ensures.sections is.text_is in
+    twin_along _ _ _ _ _ _ is.dialect_is is.text_is (sym laid) (planned_texts_are_twins style c.args.job.now.budget crlf arena c.in_ok-made.made.plan made.done is.holds made.planned)

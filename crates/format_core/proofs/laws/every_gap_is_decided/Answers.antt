@@ -1,4 +1,4 @@
-use Rattle.format_core.proofs.EveryGap.{every_gap_is_decided}
+use Rattle.format_core.proofs.SoundPlan.{every_gap_is_decided}
 use Rattle.format_core.proofs.laws.every_gap_is_decided.Goals as goal
 
 pub returns : goal.returns

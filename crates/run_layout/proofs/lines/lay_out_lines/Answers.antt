@@ -1,21 +1,26 @@
 use Rattle.std.proofs.Common.{◌≡◌, ◌∙◌, ◌+◌, ◌<◌, ◌≤◌, ℕ, List, length, get_or, drop, sym, ap, arith}
 use Rattle.std.proofs.Math.ListN.{drop_of_length-le}
-use Rattle.token_arena.specs.Stored.{Stored}
 use Rattle.run_layout.specs.Rows.{item_at}
-use Rattle.run_layout.proofs.RunSteps.{lines_begin, line_done, lines_end, ahead_more, next_needs, first_within, first_there}
+use Rattle.run_layout.proofs.Telling.{stand_for_items}
+use Rattle.run_layout.proofs.RunSteps.{lines_begin, line_done, lines_end, ahead_more, next_needs, first_within, first_among, first_there, first_told}
 use Rattle.run_layout.proofs.lines.lay_out_lines.Goals as goal
 
 pub lay_out_line-requires-clause-places : goal.lay_out_line-requires-clause-places
 lay_out_line-requires-clause-places c =
     (next_needs c.args.style.now c.args.arena.now c.args.view.now c.loop-line.cursor.place c.loop-line.cursor.column c.args.lines.now c.loop-line.line-index _ c.loop-line-test.true c.loop-line.invariant.ahead).within
 
-pub at-id-requires : goal.at-id-requires
-at-id-requires c = first_within c.args.style.now c.args.arena.now c.args.view.now c.loop-line.cursor.place c.loop-line.cursor.column c.args.lines.now c.loop-line.line-index _ c.loop-line-test.true c.loop-line.invariant.ahead
+pub lay_out_line-requires-clause-tell : goal.lay_out_line-requires-clause-tell
+lay_out_line-requires-clause-tell c = stand_for_items c.args.arena.now c.args.view.now c.args.toks.now c.requires.count c.requires.tell
 
-pub prove-unreachable-requires : goal.prove-unreachable-requires
-prove-unreachable-requires c =
-    first_there c.args.style.now c.args.arena.now c.args.view.now c.loop-line.cursor.place c.loop-line.cursor.column c.args.lines.now c.loop-line.line-index _ c.at-id.result.0 c.len-items.result c.loop-line-test.true c.loop-line.invariant.ahead
-    c.requires.within c.at-id.ensures c.len-items.ensures.count c.if-prove.true
+pub token_at-requires : goal.token_at-requires
+token_at-requires c =
+    first_among c.args.style.now c.args.arena.now c.args.view.now c.args.toks.now c.loop-line.cursor.place c.loop-line.cursor.column c.args.lines.now c.loop-line.line-index _ c.requires.count c.loop-line-test.true c.loop-line.invariant.ahead
+
+pub note_line-requires-clause-within : goal.note_line-requires-clause-within
+note_line-requires-clause-within c =
+    let within = first_within c.args.style.now c.args.arena.now c.args.view.now c.loop-line.cursor.place c.loop-line.cursor.column c.args.lines.now c.loop-line.line-index _ c.loop-line-test.true c.loop-line.invariant.ahead in
+    first_there c.args.style.now c.args.arena.now c.args.view.now c.loop-line.cursor.place c.loop-line.cursor.column c.args.lines.now c.loop-line.line-index _ c.token_at.result.now.id.0 c.loop-line-test.true c.loop-line.invariant.ahead
+    c.requires.within (first_told c.args.arena.now c.args.view.now c.args.toks.now _ c.token_at.result.now (stand_for_items c.args.arena.now c.args.view.now c.args.toks.now c.requires.count c.requires.tell) within c.token_at.ensures)
 
 pub loop-line-preserved : goal.loop-line-preserved
 loop-line-preserved c =
@@ -23,15 +28,17 @@ loop-line-preserved c =
     let i = c.loop-line.line-index in
     let made = c.in_ok-laid.ensures in
     let told = c.in_ok-note_line.ensures in
+    let within = first_within c.args.style.now c.args.arena.now c.args.view.now c.loop-line.cursor.place c.loop-line.cursor.column c.args.lines.now i _ c.loop-line-test.true v.ahead in
     record {
       len = made.len ∙ v.len;
       ahead = ahead_more c.args.style.now c.args.arena.now c.args.view.now c.loop-line.cursor.place c.loop-line.cursor.column c.lay_out_line.new.cursor.place c.lay_out_line.new.cursor.column c.args.lines.now i _ c.loop-line-test.true v.ahead
           made.before made.column;
       room = omega (arith, told.room, v.room);
       cheap = told.cheap;
+      counted = told.counted;
       on = line_done c.args.style.now c.args.budget c.args.arena.now c.args.view.now c.args.toks.now c.args.number c.args.plan.now c.args.lines.now c.args.tally.now c.loop-line.tally c.note_line.new.tally c.loop-line.plan c.lay_out_line.new.plan i _
-          c.line-row.result c.in_ok-laid.laid c.loop-line-test.true v.on made.laid
-          (c.line-row.ensures ∙ (ap (λ (t : Stored). t.line) c.item.ensures.is ∙ ap (λ x. (item_at c.args.arena.now x).line) (sym (c.at-id.ensures 0))))
+          (item_at c.args.arena.now c.token_at.result.now.id.0).line c.in_ok-laid.laid c.loop-line-test.true v.on made.laid
+          (ap (λ x. (item_at c.args.arena.now x).line) (first_told c.args.arena.now c.args.view.now c.args.toks.now _ c.token_at.result.now (stand_for_items c.args.arena.now c.args.view.now c.args.toks.now c.requires.count c.requires.tell) within c.token_at.ensures))
           told.reports told.searched told.cost;
     }
 

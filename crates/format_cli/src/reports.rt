@@ -1,0 +1,55 @@
+//! Lines that are reported, and how they are told.
+
+ghost use Rattle.std.specs.Prelude.{◌≡◌, ◌≤◌, ◌++◌, [], OnOk, codes};
+ghost use Rattle.std.specs.Io.KnownBytes.{Appends};
+ghost use Rattle.fmt_ports.specs.Causes.{AppendsPart, Counts};
+ghost use Rattle.format_cli.specs.Notes.{numbered_row, report_row, report_rows};
+
+use crate::refusal::write_number;
+use fmt_ports::{Failed, Sink};
+use format_core::Report;
+
+/// Tells the lines of an input that are reported, a row each. It takes no memory.
+pub fn tell_reports<E: Sink>(
+    name: &str,
+    budget: u64,
+    reports: &[Report],
+    notes: &mut E,
+) -> Result<(), Failed>
+    requires { budget ≤ 16000000 }
+    ensures ok { OnOk result (Appends (E.taken notes.old) (E.taken notes.new) (report_rows name.now budget reports.now)) }
+    ensures part { AppendsPart (E.taken notes.old) (E.taken notes.new) (report_rows name.now budget reports.now) }
+    ensures counts { Counts (E.faults notes.old) (E.faults notes.new) result }
+{
+    for report in reports {
+        tell_report(name, budget, report, notes)?;
+    }
+    Ok(())
+}
+
+/// Tells a line that is reported.
+fn tell_report<E: Sink>(
+    name: &str,
+    budget: u64,
+    report: &Report,
+    notes: &mut E,
+) -> Result<(), Failed>
+    requires { budget ≤ 16000000 }
+    ensures ok { OnOk result (Appends (E.taken notes.old) (E.taken notes.new) (report_row name.now budget report.now)) }
+    ensures part { AppendsPart (E.taken notes.old) (E.taken notes.new) (report_row name.now budget report.now) }
+    ensures counts { Counts (E.faults notes.old) (E.faults notes.new) result }
+{
+    write_number(name, ":", report.line, ": run ", notes)?;
+    tell_run(report.run, budget, notes)
+}
+
+/// Tells in which run a line is reported, and for how many cells.
+fn tell_run<E: Sink>(run: u32, budget: u64, notes: &mut E) -> Result<(), Failed>
+    requires { budget ≤ 16000000 }
+    ensures ok { OnOk result (Appends (E.taken notes.old) (E.taken notes.new) (numbered_row [] [] run (codes ": not searched within ") ++ numbered_row [] [] budget (codes " cells\n"))) }
+    ensures part { AppendsPart (E.taken notes.old) (E.taken notes.new) (numbered_row [] [] run (codes ": not searched within ") ++ numbered_row [] [] budget (codes " cells\n")) }
+    ensures counts { Counts (E.faults notes.old) (E.faults notes.new) result }
+{
+    write_number("", "", run, ": not searched within ", notes)?;
+    write_number("", "", budget as u32, " cells\n", notes)
+}
