@@ -7,21 +7,15 @@ use Rattle.c_chars.specs.declared.Dialect.{Dialect}
 use Rattle.c_chars.specs.declared.Dialect.TheVariants.{C11, C23}
 use Rattle.c_grammar.proofs.White.{unit_plain}
 use Rattle.brackets.specs.Words.{is_itself}
-use Rattle.c_chars.proofs.FirstUnits.{step_last, step_plain, step_kept, step_splice}
+use Rattle.c_chars.proofs.FirstUnits.{step_last, step_plain}
 use Rattle.c_grammar.specs.Rewritten.{read_alone}
-use Rattle.c_grammar.proofs.ItemBytes.{bytes_at}
+use Rattle.c_chars.proofs.Moved.{bytes_at}
 
-pub read_plain : (d : Dialect) (s rest : List ℕ) (b n : ℕ) → IsUnit d s b n → rest ≡ drop n s → (b == 92) ≡ false → read_alone d s ≡ b ∷ read_alone d rest
+read_plain : (d : Dialect) (s rest : List ℕ) (b n : ℕ) → IsUnit d s b n → rest ≡ drop n s → (b == 92) ≡ false → read_alone d s ≡ b ∷ read_alone d rest
 read_plain d s rest b n u e p = ap bytes_of (step_plain d s rest b n 0 u e p) ∙ ap (λ z. b ∷ z) (bytes_at d (0 + n) rest)
 
-pub read_last : (d : Dialect) (s rest : List ℕ) (b n : ℕ) → IsUnit d s b n → rest ≡ drop n s → length rest ≡ 0 → read_alone d s ≡ b ∷ read_alone d rest
+read_last : (d : Dialect) (s rest : List ℕ) (b n : ℕ) → IsUnit d s b n → rest ≡ drop n s → length rest ≡ 0 → read_alone d s ≡ b ∷ read_alone d rest
 read_last d s rest b n u e l = ap bytes_of (step_last d s rest b n 0 u e l) ∙ ap (λ z. b ∷ z) (bytes_at d (0 + n) rest)
-
-pub read_kept : (d : Dialect) (s rest : List ℕ) (b n c m : ℕ) → IsUnit d s b n → rest ≡ drop n s → IsUnit d rest c m → (c == 10) ≡ false → read_alone d s ≡ b ∷ read_alone d rest
-read_kept d s rest b n c m u e v p = ap bytes_of (step_kept d s rest b n c m 0 u e v p) ∙ ap (λ z. b ∷ z) (bytes_at d (0 + n) rest)
-
-pub read_splice : (d : Dialect) (s rest after : List ℕ) (b n c m : ℕ) → IsUnit d s b n → rest ≡ drop n s → IsUnit d rest c m → after ≡ drop m rest → b ≡ 92 → c ≡ 10 → read_alone d s ≡ read_alone d after
-read_splice d s rest after b n c m u e v a p q = ap bytes_of (step_splice d s rest after b n c m 0 u e v a p q) ∙ bytes_at d (0 + (n + m)) after
 
 not_either : (b : ℕ) → is_itself b ≡ true → ((b == 63) ≡ false) × ((b == 13) ≡ false) × ((b == 92) ≡ false)
 not_either b h =

@@ -2,7 +2,6 @@
 //! cut into lines depend on it.
 #![tactic(auto)]
 
-mod characters;
 mod class;
 mod class_sets;
 mod kept;

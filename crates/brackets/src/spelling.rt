@@ -5,10 +5,9 @@ ghost use Rattle.std.specs.List.{list_all};
 ghost use Rattle.c_grammar.specs.Rewritten.{read_alone};
 ghost use Rattle.brackets.specs.Words.{is_itself};
 
-use crate::characters;
 use bumpalo::Bump;
 use bumpalo::collections::into_bump_slice;
-use c_chars::Dialect;
+use c_chars::{Dialect, next_character};
 use line_tokens::NoMemory;
 
 /// Whether a byte begins neither a trigraph nor a splice nor a line end. The letters that most words are made of
@@ -35,7 +34,7 @@ pub(crate) fn joined<'t>(dialect: Dialect, raw: &[u8], run: &'t Bump) -> Result<
 {
     let mut spelled = Vec::new(run);
     let mut rest = raw;
-    while let Some((byte, behind)) = characters::next(dialect, rest) {
+    while let Some((byte, behind)) = next_character(dialect, rest) {
         spelled.push(byte)?;
         rest = behind;
     }

@@ -1,5 +1,5 @@
 -- The effects of sections.
-use Rattle.std.proofs.Common.{◌≡◌, ℕ, List, [], ◌∷◌, length, map, refl, sym, subst, arith, ◌<◌}
+use Rattle.std.proofs.Common.{◌≡◌, ℕ, List, [], ◌∷◌, length, map, refl, sym, subst, arith, ◌≤◌}
 use Rattle.branch_runs.specs.declared.mark.Mark.{Mark}
 use Rattle.branch_runs.specs.declared.mark.Open.{Open}
 use Rattle.branch_runs.specs.declared.node.Node.{Node}
@@ -13,7 +13,7 @@ pub length_effects : (marks : List Mark) (stack : List Open) → length (effects
 length_effects [] stack = refl
 length_effects (m ∷ marks) stack = let h = length_effects marks (open_after (kind_in m.kind stack) stack) in omega (arith, h)
 
-pub small_effects : (marks : List Mark) (n : ℕ) → length marks < n → length (effects marks) < n
+pub small_effects : (marks : List Mark) (n : ℕ) → length marks ≤ n → length (effects marks) ≤ n
 small_effects marks n h = rw (length_effects marks []) h
 
 -- what the nodes have to keep, from what was read
@@ -28,5 +28,5 @@ keeps nodes count marks is fit need_is = record {
   need_is = subst (λ ms. count ≡ need (rest_of ms).0) (sym is) need_is;
 }
 
-pub small_nodes : (nodes : List Node) (marks : List Mark) (n : ℕ) → map node_mark nodes ≡ marks → length marks < n → length nodes < n
+pub small_nodes : (nodes : List Node) (marks : List Mark) (n : ℕ) → map node_mark nodes ≡ marks → length marks ≤ n → length nodes ≤ n
 small_nodes nodes marks n is h = rw (← length-map nodes node_mark, is) h

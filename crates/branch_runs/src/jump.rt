@@ -4,7 +4,8 @@
 //! branches at once. The lengths of the jumps are those of the links of a skew binary list, so that the way from
 //! one branch to another has a number of steps that grows as the digits of the number of branches between.
 
-ghost use Rattle.std.specs.Prelude.{◌≡◌, ◌<◌, ◌≤◌, ◌+◌, ◌^◌, ℕ, length, map, IfOk, slice_index_or};
+ghost use Rattle.std.specs.Prelude.{◌≡◌, ◌<◌, ◌≤◌, ◌+◌, ℕ, length, map, IfOk, slice_index_or};
+ghost use Rattle.c_chars.specs.declared.TheConstants.{LIMIT};
 ghost use Rattle.branch_runs.specs.Links.{node_mark};
 ghost use Rattle.branch_runs.specs.Fits.{FitNodes};
 ghost use Rattle.branch_runs.specs.Jumps.{FitJumpsFrom, FitJumps, FitsJump};
@@ -26,7 +27,7 @@ pub(crate) struct Jump {
 // The jump of a section, where those behind it have theirs.
 fn jump_from(nodes: &[Node], jumps: &[Jump], at: u32) -> Jump
     requires fit { FitNodes (map node_mark nodes.now) 0 nodes.now }
-    requires small { length nodes.now < 2 ^ 24 }
+    requires small { length nodes.now ≤ LIMIT }
     requires count { length jumps.now ≡ length nodes.now }
     requires within { at < length nodes.now }
     requires later { FitJumpsFrom (at + 1) (map node_mark nodes.now) jumps.now }
@@ -65,7 +66,7 @@ fn no_jumps<'a>(count: u32, bump: &'a Bump) -> Result<&'a mut [Jump], NoMemory>
 /// The jumps of all sections.
 pub(crate) fn jumps_of<'a>(nodes: &[Node], bump: &'a Bump) -> Result<&'a [Jump], NoMemory>
     requires fit { FitNodes (map node_mark nodes.now) 0 nodes.now }
-    requires small { length nodes.now < 2 ^ 24 }
+    requires small { length nodes.now ≤ LIMIT }
     ensures { IfOk result (λ jumps. FitJumps (map node_mark nodes.now) jumps.now) }
 {
     let mut at = nodes.len() as u32;

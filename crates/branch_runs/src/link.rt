@@ -1,6 +1,7 @@
 //! From marks to nodes, in one pass from the end.
 
-ghost use Rattle.std.specs.Prelude.{◌≡◌, ◌<◌, ◌≤◌, ◌+◌, ◌^◌, map, length, IfOk};
+ghost use Rattle.std.specs.Prelude.{◌≡◌, ◌<◌, ◌≤◌, ◌+◌, map, length, IfOk};
+ghost use Rattle.c_chars.specs.declared.TheConstants.{LIMIT};
 ghost use Rattle.branch_runs.specs.Links.{node_mark};
 ghost use Rattle.branch_runs.specs.Fits.{FitNodes};
 ghost use Rattle.branch_runs.specs.Reading.{rest_of};
@@ -13,7 +14,7 @@ use bumpalo::Bump;
 
 /// The nodes of sections that do what their marks say, and how many runs they need.
 pub(crate) fn nodes_of<'a>(marks: &[Mark], bump: &'a Bump) -> Result<(&'a [Node], u32), NoMemory>
-    requires { length marks.now < 2 ^ 24 }
+    requires { length marks.now ≤ LIMIT }
     ensures marks { IfOk result (λ r. map node_mark r.0.now ≡ marks.now) }
     ensures fit { IfOk result (λ r. FitNodes marks.now 0 r.0.now) }
     ensures need { IfOk result (λ r. r.1 ≡ need (rest_of marks.now).0) }

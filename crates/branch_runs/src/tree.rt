@@ -1,6 +1,7 @@
 //! The conditionals of a text, and what each run sees.
 
-ghost use Rattle.std.specs.Prelude.{◌≡◌, ◌<◌, ◌≤◌, ◌^◌, [], All, IfOk, length, map};
+ghost use Rattle.std.specs.Prelude.{◌≡◌, ◌<◌, ◌≤◌, [], All, IfOk, length, map};
+ghost use Rattle.c_chars.specs.declared.TheConstants.{LIMIT};
 ghost use Rattle.token_views.specs.Ids.{Increase};
 ghost use Rattle.directives.specs.Sections.{sections_of, IsCut};
 ghost use Rattle.branch_runs.specs.Marks.{marks_of};
@@ -33,7 +34,8 @@ pub struct CondTree<'a> {
 }
 
 impl<'a> Model for CondTree<'a> {
-    ghost use Rattle.std.specs.Prelude.{◌≡◌, ◌<◌, ◌^◌, List, [], map, length};
+    ghost use Rattle.std.specs.Prelude.{◌≡◌, ◌≤◌, List, [], map, length};
+    ghost use Rattle.c_chars.specs.declared.TheConstants.{LIMIT};
     ghost use Rattle.branch_runs.specs.declared.mark.Mark.{Mark};
     ghost use Rattle.branch_runs.specs.Reading.{read};
     ghost use Rattle.branch_runs.specs.Links.{node_mark};
@@ -47,7 +49,7 @@ impl<'a> Model for CondTree<'a> {
 
     ghost view = { λ t. map node_mark t.nodes.now };
 
-    ghost invariant = { λ t. record { fit : FitNodes (map node_mark t.nodes.now) 0 t.nodes.now; jumps : FitJumps (map node_mark t.nodes.now) t.jumps.now; need_is : t.count ≡ need (read (map node_mark t.nodes.now)); small : length t.nodes.now < 2 ^ 24; cut : IsCutFrom 0 (map node_mark t.nodes.now); flags : t.dead.now ≡ flags_in [] (map node_mark t.nodes.now) } };
+    ghost invariant = { λ t. record { fit : FitNodes (map node_mark t.nodes.now) 0 t.nodes.now; jumps : FitJumps (map node_mark t.nodes.now) t.jumps.now; need_is : t.count ≡ need (read (map node_mark t.nodes.now)); small : length t.nodes.now ≤ LIMIT; cut : IsCutFrom 0 (map node_mark t.nodes.now); flags : t.dead.now ≡ flags_in [] (map node_mark t.nodes.now) } };
 }
 
 impl<'a> CondTree<'a> {
@@ -77,7 +79,7 @@ impl<'a> CondTree<'a> {
         bump: &'a Bump,
     ) -> Result<CondTree<'a>, NoMemory>
         requires small { length marks.now ≤ items }
-        requires limit { items < 2 ^ 24 }
+        requires limit { items ≤ LIMIT }
         requires cut { IsCutFrom 0 marks.now }
         ensures marks { IfOk result (λ tree. tree ≡ effects marks.now) }
         ensures end { IfOk result (λ tree. end_of 0 tree ≡ end_of 0 marks.now) }

@@ -1,6 +1,7 @@
 //! The texts that a run sees.
 
-ghost use Rattle.std.specs.Prelude.{◌≡◌, ◌<◌, ◌≤◌, ◌+◌, ◌^◌, ℕ, List, [], ◌∷◌, ◌++◌, map, length, IfOk, MatchOption, slice_index_or, ◌≢◌};
+ghost use Rattle.std.specs.Prelude.{◌≡◌, ◌<◌, ◌≤◌, ◌+◌, ℕ, List, [], ◌∷◌, ◌++◌, map, length, IfOk, MatchOption, slice_index_or, ◌≢◌};
+ghost use Rattle.c_chars.specs.declared.TheConstants.{LIMIT};
 ghost use Rattle.token_views.specs.Segments.{bounds_of};
 ghost use Rattle.branch_runs.specs.Runs.{texts};
 ghost use Rattle.branch_runs.specs.declared.mark.MarkKind.TheVariants as MarkKind;
@@ -21,7 +22,7 @@ use token_views::Stretch;
 fn choose(nodes: &[Node], jumps: &[Jump], mut at: u32, mut local: u32) -> (u32, u32)
     requires fit { FitNodes (map node_mark nodes.now) 0 nodes.now }
     requires jumps { FitJumps (map node_mark nodes.now) jumps.now }
-    requires small { length nodes.now < 2 ^ 24 }
+    requires small { length nodes.now ≤ LIMIT }
     requires within { at < length nodes.now }
     ensures takes { Takes (map node_mark nodes.now) (branches_at (map node_mark nodes.now) at) (rest_at (map node_mark nodes.now) (at + 1)).1 local result.0 result.1 }
     ensures after { at < result.0 }
@@ -54,7 +55,7 @@ fn step(
 ) -> Result<(u32, u32), NoMemory>
     requires fit { FitNodes (map node_mark nodes.now) 0 nodes.now }
     requires jumps { FitJumps (map node_mark nodes.now) jumps.now }
-    requires small { length nodes.now < 2 ^ 24 }
+    requires small { length nodes.now ≤ LIMIT }
     requires within { at < length nodes.now }
     requires directive { (slice_index_or nodes.now at no_node).kind ≢ MarkKind.Text }
     ensures left { IfOk result (λ p. left (rest_at (map node_mark nodes.now) p.0) p.1 outer.new ≡ left (rest_at (map node_mark nodes.now) at) local outer.old) }
@@ -96,7 +97,7 @@ pub(crate) fn stretches_of<'r>(
 ) -> Result<&'r [Stretch], NoMemory>
     requires fit { FitNodes (map node_mark nodes.now) 0 nodes.now }
     requires jumps { FitJumps (map node_mark nodes.now) jumps.now }
-    requires small { length nodes.now < 2 ^ 24 }
+    requires small { length nodes.now ≤ LIMIT }
     ensures { IfOk result (λ stretches. map bounds_of stretches.now ≡ texts (rest_at (map node_mark nodes.now) 0).0 r) }
 {
     let mut stretches = Vec::new(run);

@@ -5,3 +5,4 @@ pub mod Splits
 pub mod Ends
 pub mod Runs
 pub mod Tables
+pub mod Moved

@@ -1,2 +1,3 @@
 pub mod Characters
+pub mod Alone
 pub mod Coming

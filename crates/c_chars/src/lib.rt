@@ -4,9 +4,11 @@
 //! that is left keeps the span of its own raw bytes.
 #![tactic(auto)]
 
+mod alone;
 mod reader;
 mod units;
 
+pub use alone::next_character;
 pub use reader::Chars;
 pub use units::is_word_byte;
 

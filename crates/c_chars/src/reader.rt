@@ -4,7 +4,8 @@ ghost use Rattle.std.specs.Prelude.{◌≡◌, ◌+◌, ◌<◌, ◌≤◌, ◌^
 ghost use Rattle.c_chars.specs.Characters.{chars, logical, mark_len, is_word_byte};
 ghost use Rattle.c_chars.specs.Coming.{AreBetween, ArePassed, AreSpacesPassed};
 
-use crate::units::{is_plain, space_len, unit, word_len};
+use crate::alone::first_character;
+use crate::units::{is_plain, space_len, word_len};
 use crate::{Dialect, LIMIT, LogicalChar};
 use std::marker::Model;
 
@@ -88,26 +89,9 @@ impl<'s> Cursor<'s> {
             ((chars self.old.dialect self.old.at self.old.rest.now ≡ []) × (self.new.at ≡ self.old.at) × (self.new.rest.now ≡ self.old.rest.now))
             (λ c. (chars self.old.dialect self.old.at self.old.rest.now ≡ c ∷ chars self.new.dialect self.new.at self.new.rest.now) × (self.new.at ≡ c.to)) }
     {
-        let mut rest = self.rest;
-        let mut at = self.at;
-        while !rest.is_empty() {
-            let (byte, len) = unit(self.dialect, rest);
-            let (_, behind) = rest.split_at(len);
-            if byte != b'\\' {
-                return Some(self.take_unit(byte, at, len, behind));
-            }
-            if behind.is_empty() {
-                return Some(self.take_unit(byte, at, len, behind));
-            }
-            let (next, next_len) = unit(self.dialect, behind);
-            if next != b'\n' {
-                return Some(self.take_unit(byte, at, len, behind));
-            }
-            let (_, after) = behind.split_at(next_len);
-            rest = after;
-            at += len + next_len;
-        }
-        None
+        let first = first_character(self.dialect, self.rest)?;
+        let (_, behind) = self.rest.split_at(first.before + first.len);
+        Some(self.take_unit(first.byte, self.at + first.before, first.len, behind))
     }
 
     /// Steps behind a character of this byte, that so many bytes at this offset are.

@@ -1,4 +1,4 @@
--- Other gaps before all items, and another last gap, leave the items.
+-- Another first gap and another last gap leave the items.
 use Rattle.std.proofs.Common.{◌≡◌, not, ℕ, true, false, List, [], ◌∷◌, ◌++◌, refl, sym, ◌∙◌, ap, subst, inl, inr, append_assoc}
 use Rattle.std.specs.List.{list_any}
 use Rattle.std.proofs.lemmas.Bool.{and_parts, cases_Bool, not-true}
@@ -7,7 +7,7 @@ use Rattle.c_grammar.specs.declared.ItemKind.{ItemKind}
 use Rattle.c_grammar.specs.Grammar.{is_new_line}
 use Rattle.c_grammar.specs.Items.{Place, LineStart, past_gap, past_item, is_gap, IsNext, BeginsHeader, Piece, Reads, written}
 use Rattle.c_grammar.specs.Touch.{takes_line, regapped}
-use Rattle.c_grammar.specs.Regapping.{IsLikeGap, IsSameItem, HaveLikeGaps, none_takes_line, KeepsItemsOverAllGaps}
+use Rattle.c_grammar.specs.Regapping.{IsSameItem}
 use Rattle.c_grammar.proofs.Lists.{two_cuts}
 use Rattle.c_grammar.proofs.Firsts.{starts_or_empty}
 use Rattle.c_grammar.proofs.Unique.{is_blank}
@@ -36,47 +36,11 @@ gap_may_follow last end w = record { blank = gap_starts end w; header = λ f S h
 pub onward : (xs : List Piece) (l : Piece) (ps : List Piece) → (xs ++ l ∷ []) ++ ps ≡ xs ++ l ∷ ps
 onward xs l ps = append_assoc xs (l ∷ []) ps
 
-other_last : (d : Dialect) (place : Place) (xs : List Piece) (l : Piece) (ps : List Piece) (last end : List ℕ) → Reads d place (xs ++ l ∷ ps) last →
-    takes_line l.kind ≡ false → none_takes_line ps ≡ true → is_gap end ≡ true → Reads d place (xs ++ l ∷ ps) end
-other_last d place xs l [] last end h t n w = other_rest d place xs l [] [] last end h (gap_may_follow last end w) t (λ behind k. w)
-other_last d place xs l (p ∷ ps) last end h t n w =
-    let parts = and_parts (not (takes_line p.kind)) (none_takes_line ps) n in
-    let there : Reads d place ((xs ++ l ∷ []) ++ p ∷ ps) last = subst (λ z. Reads d place z last) (sym (onward xs l (p ∷ ps))) h in
-    subst (λ z. Reads d place z end) (onward xs l (p ∷ ps)) (other_last d place (xs ++ l ∷ []) p ps last end there (not-true _ parts.0) parts.1 w)
-
--- One gap like the old one
-
 pub piece_is : (p q : Piece) → IsSameItem p q → regapped q.gap p ≡ q
 piece_is p q s = made p.kind q.kind p.spelling q.spelling (sym s.kind) (sym s.spelling)
   where
     made : (k l : ItemKind) (s t : List ℕ) → k ≡ l → s ≡ t → ◌≡◌ {A = Piece} (record { gap = q.gap; kind = k; spelling = s }) (record { gap = q.gap; kind = l; spelling = t })
     made k l s t e f = cc
-
-like_gap : (d : Dialect) (place : Place) (xs : List Piece) (l p : Piece) (ps : List Piece) (last g : List ℕ) → Reads d place (xs ++ l ∷ p ∷ ps) last →
-    takes_line l.kind ≡ false → IsLikeGap p.gap g → Reads d place (xs ++ l ∷ regapped g p ∷ ps) last
-like_gap d place xs l p ps last g h t like = by_gap g p.gap refl like
-  where
-    by_gap : (g o : List ℕ) → p.gap ≡ o → IsLikeGap o g → Reads d place (xs ++ l ∷ regapped g p ∷ ps) last
-    by_gap [] [] e like = subst (λ z. Reads d place (xs ++ l ∷ record { gap = z; kind = p.kind; spelling = p.spelling } ∷ ps) last) e h
-    by_gap [] (x ∷ o) e like = let f = like.empty in cc
-    by_gap (b ∷ g) [] e like = let f = like.empty in cc
-    by_gap (b ∷ g) (x ∷ o) e like =
-        let old : is_gap p.gap ≡ true = gap_at d place xs l p ps last h in
-        other_gap d place xs l p ps last (b ∷ g) h
-        (like_gaps (b ∷ g) p.gap like.white old (λ z. cc) (λ z. let f : x ∷ o ≡ [] = sym e ∙ z in cc) (like.lines ∙ ap (list_any is_new_line) (sym e))) t
-
-other_gaps : (d : Dialect) (place : Place) (xs : List Piece) (l : Piece) (ps qs : List Piece) (last : List ℕ) → Reads d place (xs ++ l ∷ ps) last →
-    takes_line l.kind ≡ false → none_takes_line ps ≡ true → HaveLikeGaps ps qs → Reads d place (xs ++ l ∷ qs) last
-other_gaps d place xs l [] [] last h t n like = h
-other_gaps d place xs l [] (q ∷ qs) last h t n like = absurd like
-other_gaps d place xs l (p ∷ ps) [] last h t n like = absurd like
-other_gaps d place xs l (p ∷ ps) (q ∷ qs) last h t n like =
-    let parts = and_parts (not (takes_line p.kind)) (none_takes_line ps) n in
-    let same : IsSameItem p q = like.0 in
-    let one : Reads d place (xs ++ l ∷ q ∷ ps) last = subst (λ z. Reads d place (xs ++ l ∷ z ∷ ps) last) (piece_is p q same) (like_gap d place xs l p ps last q.gap h t like.1) in
-    let there : Reads d place ((xs ++ l ∷ []) ++ q ∷ ps) last = subst (λ z. Reads d place z last) (sym (onward xs l (q ∷ ps))) one in
-    let line : takes_line q.kind ≡ false = ap takes_line same.kind ∙ not-true _ parts.0 in
-    subst (λ z. Reads d place z last) (onward xs l (q ∷ qs)) (other_gaps d place (xs ++ l ∷ []) q ps qs last there line parts.1 like.2)
 
 -- The first gap
 
@@ -93,15 +57,3 @@ other_first d p q ps last h same w =
       subst (λ z. Reads d (past_item d z p.kind p.spelling) ps last) places h.2,
     ) in
     subst (λ z. Reads d LineStart (z ∷ ps) last) to_q here
-
-pub keeps_items_over_all_gaps : KeepsItemsOverAllGaps
-keeps_items_over_all_gaps d text [] [] last end h like n w = record { whole = refl; reads = w }
-keeps_items_over_all_gaps d text [] (q ∷ qs) last end h like n w = absurd like
-keeps_items_over_all_gaps d text (p ∷ ps) [] last end h like n w = absurd like
-keeps_items_over_all_gaps d text (p ∷ ps) (q ∷ qs) last end h like n w =
-    let parts = and_parts (not (takes_line p.kind)) (none_takes_line ps) n in
-    let same : IsSameItem p q = like.0 in
-    let line : takes_line q.kind ≡ false = ap takes_line same.kind ∙ not-true _ parts.0 in
-    let first = other_first d p q ps last h.reads same like.1 in
-    let last_first = other_last d LineStart [] q ps last end first line parts.1 w in
-    record { whole = refl; reads = other_gaps d LineStart [] q ps qs end last_first line parts.1 like.2 }

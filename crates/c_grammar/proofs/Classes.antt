@@ -35,10 +35,6 @@ pub mark_not_letter_start : (c : ℕ) → is_mark c ≡ true → is_letter_start
 unfolding is_mark is_letter_start is_letter
 mark_not_letter_start c h = not_of is_letter_start (codes "[](){}.-+&*~!/%<>=^|?:;,#") refl c h
 
-pub mark_not_digit : (c : ℕ) → is_mark c ≡ true → is_digit c ≡ false
-unfolding is_mark is_digit
-mark_not_digit c h = not_of is_digit (codes "[](){}.-+&*~!/%<>=^|?:;,#") refl c h
-
 pub mark_not_quote : (c : ℕ) → is_mark c ≡ true → is_quote c ≡ false
 unfolding is_mark is_quote
 mark_not_quote c h = not_of is_quote (codes "[](){}.-+&*~!/%<>=^|?:;,#") refl c h

@@ -6,7 +6,8 @@ use Rattle.c_chars.specs.Characters.{placed, chars, bytes_of, moved}
 use Rattle.c_chars.specs.declared.Dialect.{Dialect}
 use Rattle.c_chars.specs.declared.Dialect.TheVariants.{C11, C23}
 use Rattle.c_chars.specs.declared.LogicalChar.{LogicalChar}
-use Rattle.c_chars.proofs.Cuts.{IsCleanCut, units, phase_over, trigraph_over, starts_third, starts_inner, chars_moved, units_moved}
+use Rattle.c_chars.proofs.Moved.{bytes_moved, chars_at, bytes_at}
+use Rattle.c_chars.proofs.Cuts.{IsCleanCut, units, phase_over, trigraph_over, starts_third, starts_inner, units_moved}
 use Rattle.c_chars.proofs.Spans.{finish_from}
 use Rattle.c_chars.proofs.Splits.{head_of, last_of}
 use Rattle.c_chars.proofs.Ends.{from_of, units_from, units_finish, same_finish, same_from, last_byte, same_last, moved_last, Middle, middle}
@@ -37,26 +38,11 @@ unfolding finish_from
 finish_is at c [] = refl
 finish_is at c (e ∷ s) = finish_is c.to e s
 
-pub bytes_moved : (n : ℕ) (s : List LogicalChar) → bytes_of (map (moved n) s) ≡ bytes_of s
-bytes_moved n [] = refl
-bytes_moved n (c ∷ s) = ap (λ z. c.byte ∷ z) (bytes_moved n s)
-
--- characters of bytes that begin elsewhere
-pub chars_at : (d : Dialect) (n : ℕ) (s : List ℕ) → chars d n s ≡ map (moved n) (chars d 0 s)
-chars_at d n s = let e : n ≡ 0 + n = omega arith in ap (λ z. chars d z s) e ∙ chars_moved d n 0 s
-
--- bytes read the same wherever they begin
-pub bytes_at : (d : Dialect) (at : ℕ) (s : List ℕ) → bytes_of (chars d at s) ≡ bytes_of (chars d 0 s)
-bytes_at d at s = ap bytes_of (chars_at d at s) ∙ bytes_moved at (chars d 0 s)
-
 units_at : (d : Dialect) (n : ℕ) (s : List ℕ) → units d n s ≡ map (moved n) (units d 0 s)
 units_at d n s = let e : n ≡ 0 + n = omega arith in ap (λ z. units d z s) e ∙ units_moved d n 0 s
 
 pub last_at : (d : Dialect) (n : ℕ) (s : List ℕ) → last_byte 0 (units d n s) ≡ last_byte 0 (units d 0 s)
 last_at d n s = ap (last_byte 0) (units_at d n s) ∙ moved_last n 0 (units d 0 s)
-
-begin_moved : (n : ℕ) (c : LogicalChar) (s : List LogicalChar) → begin_of (map (moved n) (c ∷ s)) ≡ begin_of (c ∷ s) + n
-begin_moved n c s = refl
 
 finish_moved : (n : ℕ) (c : LogicalChar) (s : List LogicalChar) → finish_of (map (moved n) (c ∷ s)) ≡ finish_of (c ∷ s) + n
 finish_moved n c [] = refl

@@ -14,13 +14,7 @@ pub mod Before
 pub mod Items
 pub mod OtherGap
 pub mod Reading
-pub mod Built
 pub mod AllGaps
-pub mod Own
-pub mod Placed
-pub mod RegappedText
-pub mod LikeGaps
-pub mod Twins
 pub mod LineGaps
 pub mod Apart
 pub mod FitGaps

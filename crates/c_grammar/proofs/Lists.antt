@@ -1,7 +1,7 @@
 -- Lists of characters, apart from any grammar.
-use Rattle.std.proofs.Common.{not, false, ◌≡◌, ◌==◌, ◌&&◌, ℕ, Bool, true, List, [], ◌∷◌, ◌++◌, refl, sym, arith, inl, inr, ◌⊎◌}
+use Rattle.std.proofs.Common.{not, false, ◌≡◌, ◌==◌, ◌&&◌, ℕ, suc, Bool, true, List, [], ◌∷◌, ◌++◌, length, refl, sym, arith, inl, inr, ◌⊎◌}
 use Rattle.std.specs.List.{list_any, list_all}
-use Rattle.std.proofs.lemmas.Bool.{not-true, both_ways, false_from_ne_true, and_parts, or_cases, and_from, eqb-true, cases_Bool}
+use Rattle.std.proofs.lemmas.Bool.{not-true, both_ways, false_from_ne_true, and_parts, or_cases, and_from, eqb-true, ne_eqb, cases_Bool}
 use Rattle.c_grammar.specs.Grammar.{is_same, is_of, joined, AreUnits, is_one}
 
 -- Two ways to cut one list: one front is the other and more.
@@ -102,3 +102,8 @@ pub passes_at : (p : ℕ → Bool) (s : List ℕ) (c : ℕ) (t : List ℕ) → l
 passes_at p s c t h =
     let both : (list_all p s && list_all p (c ∷ t)) ≡ true = rw all_append at h in
     (and_parts (p c) (list_all p t) (and_parts (list_all p s) (list_all p (c ∷ t)) both).1).0
+
+-- a length of none
+pub length_none : (g : List ℕ) → (length g == 0) ≡ is_same g []
+length_none [] = refl
+length_none (c ∷ g) = ne_eqb (suc (length g)) 0 (λ e. omega arith)

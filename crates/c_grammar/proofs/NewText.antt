@@ -17,7 +17,8 @@ use Rattle.c_grammar.specs.Regapping.{regapped_text}
 use Rattle.c_grammar.specs.Rewritten.{read_alone, IsGuarded, FitBehind, FitText}
 use Rattle.c_grammar.proofs.Unique.{is_blank}
 use Rattle.c_grammar.proofs.GapBytes.{third_byte, inner_byte, third_placed, inner_placed, OpensNone, gap_opens, gap_cut, units_no_line, black_no_line, black_no_end}
-use Rattle.c_grammar.proofs.ItemBytes.{ReadAs, AreParted, last_at, bytes_moved, chars_at}
+use Rattle.c_chars.proofs.Moved.{bytes_moved, chars_at}
+use Rattle.c_grammar.proofs.ItemBytes.{ReadAs, AreParted, last_at}
 
 -- bytes alone read as they read anywhere
 pub read_at : (d : Dialect) (at : ℕ) (s : List ℕ) → bytes_of (chars d at s) ≡ read_alone d s

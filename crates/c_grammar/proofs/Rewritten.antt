@@ -17,7 +17,8 @@ use Rattle.c_grammar.specs.Fitting.{in_directive, IsFitGap, HaveFitGaps, AreFit,
 use Rattle.c_grammar.specs.Rewritten.{read_alone, FitBehind, FitText, RewritesGaps}
 use Rattle.c_grammar.proofs.AllGaps.{first_place}
 use Rattle.c_grammar.proofs.FitGaps.{keeps_items_over_fit_gaps}
-use Rattle.c_grammar.proofs.ItemBytes.{ReadAs, AreParted, parted, next_black, chars_at}
+use Rattle.c_chars.proofs.Moved.{chars_at}
+use Rattle.c_grammar.proofs.ItemBytes.{ReadAs, AreParted, parted, next_black}
 use Rattle.c_grammar.proofs.NewText.{read_at, new_items, new_end, text_chars}
 
 -- Pieces

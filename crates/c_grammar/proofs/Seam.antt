@@ -121,12 +121,3 @@ no_crossing d StrayQuote k l right c r more s g h i t = cc
 no_crossing d Other k l right c r more s g h i t = cc
 no_crossing d BlockComment k l right c r more s g h i t = cc
 no_crossing d LineComment k l right c r more s g h i t = cc
-
-pub left_stays : (d : Dialect) (left right : ItemKind) (l : List ℕ) (c : ℕ) (r rest old : List ℕ) → is_code left ≡ true → item_begin d right c ≡ true → may_touch left l right (c ∷ r) ≡ true → IsLongest d (Whole left) l old → IsLongest d (Whole left) l ((c ∷ r) ++ rest)
-left_stays d left right l c r rest old code begins_so touch was =
-    record {
-      spells = was.spells;
-      longest = λ k e more left' cut h.
-          let heads : e ≡ c = cc in
-          no_crossing d left k l right c r more code was.spells (subst (λ x. Spells d k (l ++ x ∷ more)) heads h) begins_so (touch_parts left l right (c ∷ r) touch);
-    }

@@ -7,7 +7,7 @@ use Rattle.c_chars.specs.declared.Dialect.TheVariants.{C11, C23}
 use Rattle.c_chars.proofs.Cuts.{starts_in, units}
 use Rattle.c_chars.proofs.FirstUnits.{at_plain, at_return, return_unit, step_plain, step_splice}
 use Rattle.c_grammar.specs.Rewritten.{read_alone, Blank, Tab, LineEnd, Splice, white_bytes, WhiteReadsSo}
-use Rattle.c_grammar.proofs.ItemBytes.{bytes_at}
+use Rattle.c_chars.proofs.Moved.{bytes_at}
 
 no_trigraph : (d : Dialect) (b : ℕ) (s : List ℕ) → (b == 63) ≡ false → (has_trigraphs d && begins_trigraph (b ∷ s)) ≡ false
 no_trigraph C23 b s h = refl

@@ -4,6 +4,5 @@ pub mod Touch
 pub mod Text
 pub mod Twin
 pub mod Regapping
-pub mod Built
 pub mod Fitting
 pub mod Rewritten

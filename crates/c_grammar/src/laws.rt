@@ -1,8 +1,6 @@
 //! The laws of the grammar. Each stands on the contract of a function that does nothing.
 
-ghost use Rattle.c_grammar.specs.Built.{BuiltTextsAreTheirBytes};
 ghost use Rattle.c_grammar.specs.Fitting.{KeepsItemsApart, KeepsItemsOverFitGaps, KeepsItemsOverLines};
-ghost use Rattle.c_grammar.specs.Regapping.{KeepsItemsOverAllGaps, RegapsBuiltTexts};
 ghost use Rattle.c_grammar.specs.Rewritten.{KeptBytesFit, RewritesGaps, WhiteReadsSo};
 ghost use Rattle.c_grammar.specs.Text.{TextHasOneList};
 ghost use Rattle.c_grammar.specs.Touch.{HasOneList, KeepsItems, KeepsItemsOverGaps};
@@ -29,12 +27,6 @@ pub fn keeps_items_over_gaps()
     ensures { KeepsItemsOverGaps }
 {}
 
-/// Other gaps in the place of all gaps leave all items as they were: each but the first and the last
-/// is empty where the old one is and has a new-line where the old one has, and no item takes its line.
-pub fn keeps_items_over_all_gaps()
-    ensures { KeepsItemsOverAllGaps }
-{}
-
 /// In a text, white space may come between two items with nothing between them, behind an item that
 /// doesn't take its line. All items stay.
 pub fn keeps_items_apart()
@@ -51,16 +43,6 @@ pub fn keeps_items_over_lines()
 /// behind items that take the rest of their line.
 pub fn keeps_items_over_fit_gaps()
     ensures { KeepsItemsOverFitGaps }
-{}
-
-/// The logical characters of a built text are its bytes.
-pub fn built_texts_are_their_bytes()
-    ensures { BuiltTextsAreTheirBytes }
-{}
-
-/// Other gaps of blanks and new-lines in a built text, like the old ones, give a twin of it.
-pub fn regaps_built_texts()
-    ensures { RegapsBuiltTexts }
 {}
 
 /// Other bytes between the items of a text give a twin of it, where they read by themselves as gaps that

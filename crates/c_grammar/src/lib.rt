@@ -33,8 +33,6 @@ pub enum ItemKind {
 mod laws;
 
 pub use laws::{
-    built_texts_are_their_bytes, has_one_list, keeps_items, keeps_items_apart,
-    keeps_items_over_all_gaps, keeps_items_over_fit_gaps, keeps_items_over_gaps,
-    keeps_items_over_lines, kept_bytes_fit, regaps_built_texts, rewrites_gaps, text_has_one_list,
-    white_reads_so,
+    has_one_list, keeps_items, keeps_items_apart, keeps_items_over_fit_gaps, keeps_items_over_gaps,
+    keeps_items_over_lines, kept_bytes_fit, rewrites_gaps, text_has_one_list, white_reads_so,
 };

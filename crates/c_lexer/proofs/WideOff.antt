@@ -53,7 +53,7 @@ one_there bs rest c u w n past =
     and_from (is_utf8 bs) (is_one (λ z. nat_le 128 z && (z == c)) (chars bs)) (is_utf8-from_IsUtf8 bs u) (subst (λ z. is_one (λ k. nat_le 128 k && (k == c)) z ≡ true) (sym decoded) passes)
 
 -- how many bytes a character has whose first one is this
-abbrev IsOfLen : List ℕ → Type 0
+abbrev pub IsOfLen : List ℕ → Type 0
 IsOfLen u = (f : ℕ) (v : List ℕ) → u ≡ f ∷ v → length u ≡ continuation_len f + 1
 
 encode_len : (c : ℕ) → 128 ≤ c → IsOfLen (encode_utf8 c)
@@ -79,7 +79,7 @@ encode_len c h =
     four_bytes : (b : ℕ) → 240 ≤ b → 4 ≡ continuation_len b + 1
     four_bytes b l = grind (arith, nat_tests)
 
-wide_len : (p : ℕ → Bool) (u : List ℕ) → is_wide p u ≡ true → IsOfLen u
+pub wide_len : (p : ℕ → Bool) (u : List ℕ) → is_wide p u ≡ true → IsOfLen u
 wide_len p u h = let w = wide_parts p u h in subst IsOfLen (sym (wide_bytes p u w)) (encode_len w.code (leb-true 128 w.code w.past))
 
 -- Bytes that are read one by one

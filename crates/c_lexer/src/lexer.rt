@@ -3,7 +3,7 @@
 ghost use Rattle.std.specs.Prelude.{◌≡◌, ◌≤◌, ◌<◌, ◌-◌, length, take, drop, get_or, IsFalse, IsTrue, IfSome, IfNone, IfOk, IfErr, MatchOption, ⊤};
 ghost use Rattle.c_grammar.specs.Items.{is_gap, LineStart};
 ghost use Rattle.c_chars.specs.Characters.{logical, bytes_of};
-ghost use Rattle.c_lexer.specs.Place.{IsSpanned};
+ghost use Rattle.c_lexer.specs.Place.{IsSpanned, place_of};
 ghost use Rattle.c_lexer.specs.Reading.{IsNextItem, IsNextLexeme, AreSlashed, BeforeLeft, ends_backslash, ends_in_backslash};
 ghost use Rattle.c_lexer.specs.Fault.{IsFault};
 
@@ -123,6 +123,13 @@ impl<'s> Lexer<'s> {
         }
     }
 
+    /// Where what is left of the text stands: behind the last item that was read, or at the text's start.
+    pub fn standing(&self) -> Standing
+        ensures { place_of result ≡ self.now.left.place }
+    {
+        self.standing
+    }
+
     /// The next item, with what it and its gap tell, where plain bytes tell all of it; none elsewhere,
     /// where it stays. Where `again` is false no character is read again, and nothing is called.
     #[inline(always)]
@@ -135,7 +142,7 @@ impl<'s> Lexer<'s> {
         let Some(begun) = line::begin_plain(&self.chars) else {
             return None;
         };
-        let standing = place::past_gap(self.standing, begun.lines != 0);
+        let standing = self.standing.past_gap(begun.lines != 0);
         let Some((kind, left)) = next::cut_plain(self.dialect, standing, &begun) else {
             return None;
         };
@@ -184,7 +191,7 @@ impl<'s> Lexer<'s> {
         let Some(first) = gap.rest.peek(0) else {
             return Ok(None);
         };
-        let standing = place::past_gap(self.standing, gap.lines != 0);
+        let standing = self.standing.past_gap(gap.lines != 0);
         match next::cut_next(self.dialect, standing, &gap.rest, first.byte) {
             Ok((kind, left)) => {
                 let raw = between(self.text, first.from as usize, left.at());

@@ -17,7 +17,7 @@ use c_grammar::ItemKind;
 
 /// Where an item stands.
 #[derive(Clone, Copy, Debug)]
-pub(crate) enum Standing {
+pub enum Standing {
     /// First in its line, comments aside.
     FirstInLine,
     /// Behind the `#` of a directive.
@@ -32,6 +32,19 @@ pub(crate) enum Standing {
     WithinDirective,
     /// In a text line.
     WithinText,
+}
+
+impl Standing {
+    /// Behind a gap with a new-line or without one.
+    pub fn past_gap(self, new_line: bool) -> Standing
+        ensures { place_of result ≡ if new_line then LineStart else place_of self }
+    {
+        if new_line {
+            Standing::FirstInLine
+        } else {
+            self
+        }
+    }
 }
 
 /// Whether the characters of the text up to what is left of it are these.
@@ -238,16 +251,5 @@ pub(crate) fn past_begun(
     match past_plain(dialect, standing, kind, first) {
         Some(past) => Some(past),
         None => None,
-    }
-}
-
-/// Behind a gap with a new-line or without one.
-pub(crate) fn past_gap(standing: Standing, new_line: bool) -> Standing
-    ensures { place_of result ≡ if new_line then LineStart else place_of standing }
-{
-    if new_line {
-        Standing::FirstInLine
-    } else {
-        standing
     }
 }

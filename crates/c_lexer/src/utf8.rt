@@ -9,8 +9,8 @@ ghost use Rattle.c_lexer.specs.Unit.{BeginsUnit, IsUnitOff, any_char, only};
 use crate::front;
 use c_chars::Chars;
 
-/// The one character past ASCII that the bytes are; none where they are none.
-fn only_char(bytes: &[u8]) -> Option<char>
+/// The one character past ASCII that the bytes are, in UTF-8; none where they are none.
+pub fn only_char(bytes: &[u8]) -> Option<char>
     ensures { MatchOption result
         (IsFalse (is_wide any_char bytes.now))
         (λ c. IsTrue (is_wide (only c) bytes.now)) }
@@ -31,8 +31,8 @@ fn only_char(bytes: &[u8]) -> Option<char>
     }
 }
 
-/// How many bytes a character has that begins with this one.
-fn char_len(b: u8) -> usize
+/// How many bytes a character has in UTF-8 that begins with this one.
+pub fn char_len(b: u8) -> usize
     ensures len { result ≡ continuation_len b + 1 }
     ensures within { result ≤ 4 }
 {

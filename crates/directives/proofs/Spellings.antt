@@ -1,24 +1,7 @@
--- How bytes are read, character by character.
-use Rattle.std.proofs.Common.{◌≡◌, ◌==◌, ◌&&◌, ℕ, ◌+◌, arith, length, true, false, List, [], ◌∷◌, ◌++◌, drop, refl, sym, ◌∙◌, ap}
-use Rattle.c_chars.specs.Characters.{bytes_of, IsUnit}
-use Rattle.c_chars.specs.declared.Dialect.{Dialect}
-use Rattle.c_chars.proofs.FirstUnits.{step_last, step_plain, step_kept, step_splice}
+-- Words at the front of what is spelled.
+use Rattle.std.proofs.Common.{◌≡◌, ◌==◌, ◌&&◌, ℕ, arith, true, false, List, [], ◌∷◌, ◌++◌, refl, sym, ◌∙◌}
 use Rattle.c_grammar.specs.Grammar.{is_same}
 use Rattle.c_grammar.specs.Touch.{is_front}
-use Rattle.c_grammar.specs.Rewritten.{read_alone}
-use Rattle.c_grammar.proofs.ItemBytes.{bytes_at}
-
-pub read_plain : (d : Dialect) (s rest : List ℕ) (b n : ℕ) → IsUnit d s b n → rest ≡ drop n s → (b == 92) ≡ false → read_alone d s ≡ b ∷ read_alone d rest
-read_plain d s rest b n u e p = ap bytes_of (step_plain d s rest b n 0 u e p) ∙ ap (λ z. b ∷ z) (bytes_at d (0 + n) rest)
-
-pub read_last : (d : Dialect) (s rest : List ℕ) (b n : ℕ) → IsUnit d s b n → rest ≡ drop n s → length rest ≡ 0 → read_alone d s ≡ b ∷ read_alone d rest
-read_last d s rest b n u e l = ap bytes_of (step_last d s rest b n 0 u e l) ∙ ap (λ z. b ∷ z) (bytes_at d (0 + n) rest)
-
-pub read_kept : (d : Dialect) (s rest : List ℕ) (b n c m : ℕ) → IsUnit d s b n → rest ≡ drop n s → IsUnit d rest c m → (c == 10) ≡ false → read_alone d s ≡ b ∷ read_alone d rest
-read_kept d s rest b n c m u e v p = ap bytes_of (step_kept d s rest b n c m 0 u e v p) ∙ ap (λ z. b ∷ z) (bytes_at d (0 + n) rest)
-
-pub read_splice : (d : Dialect) (s rest after : List ℕ) (b n c m : ℕ) → IsUnit d s b n → rest ≡ drop n s → IsUnit d rest c m → after ≡ drop m rest → b ≡ 92 → c ≡ 10 → read_alone d s ≡ read_alone d after
-read_splice d s rest after b n c m u e v a p q = ap bytes_of (step_splice d s rest after b n c m 0 u e v a p q) ∙ bytes_at d (0 + (n + m)) after
 
 -- one more character of the word
 pub front_more : (b : ℕ) (word s more left : List ℕ) → word ≡ b ∷ more → s ≡ b ∷ left → is_front word s ≡ is_front more left

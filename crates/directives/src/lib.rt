@@ -17,7 +17,7 @@ pub use keeping::kept_after_name;
 pub use laws::sections_say_how_items_stand;
 pub use line_tokens::{NoMemory, TokenId};
 pub use nesting::{Nesting, nesting_of};
-pub use spelling::{begins_with, is_spelled};
+pub use spelling::{begins_with, behind_word, is_spelled};
 
 /// What a directive is, by its name (C11 6.10p1).
 #[derive(Clone, Copy, Debug, PartialEq, Eq)]

@@ -11,8 +11,8 @@ ghost use Rattle.directives.specs.declared.DirectiveKind.TheVariants.{Unknown};
 ghost use Rattle.directives.specs.Directives.{spelling, is_hash_token, is_opening, kind_named, kind_behind, past_comments, opens_parameters, heads_function, defines_function};
 
 use crate::DirectiveKind;
-use crate::spelling::{is_spelled, next};
-use c_chars::Dialect;
+use crate::spelling::is_spelled;
+use c_chars::{Dialect, next_character};
 use line_tokens::{ItemKind, TokenId};
 use token_arena::{Token, TokenArena};
 
@@ -130,7 +130,7 @@ fn kind_if(rest: &[u8], dialect: Dialect, word: &[u8], kind: DirectiveKind) -> D
 fn kind_named(name: &Token<'_>, dialect: Dialect) -> DirectiveKind
     ensures { result ≡ kind_named (spelling dialect (told_by name.now)) }
 {
-    let Some((first, rest)) = next(dialect, name.item.raw) else {
+    let Some((first, rest)) = next_character(dialect, name.item.raw) else {
         return DirectiveKind::Unknown;
     };
     if first == b'i' {

@@ -16,7 +16,8 @@ use Rattle.c_grammar.specs.Text.{ReadItem, piece_of, raw_of, start_of, end_of, c
 use Rattle.c_grammar.specs.Regapping.{regapped_text}
 use Rattle.c_grammar.specs.Rewritten.{read_alone}
 use Rattle.c_grammar.proofs.AllGaps.{first_place}
-use Rattle.c_grammar.proofs.ItemBytes.{AreParted, parted, bytes_at}
+use Rattle.c_chars.proofs.Moved.{bytes_at}
+use Rattle.c_grammar.proofs.ItemBytes.{AreParted, parted}
 use Rattle.c_grammar.proofs.Rewritten.{HasMark, mark_of}
 use Rattle.c_grammar.proofs.Unique.{is_blank}
 use Rattle.touching.proofs.Marks.{high_step}

@@ -15,7 +15,8 @@ use Rattle.c_grammar.specs.Regapping.{IsSameItem, regapped_text}
 use Rattle.c_grammar.specs.Fitting.{IsFitGap, IsFitEnd}
 use Rattle.c_grammar.specs.Rewritten.{read_alone}
 use Rattle.c_grammar.proofs.Lists.{same_is}
-use Rattle.c_grammar.proofs.ItemBytes.{ReadAs, AreParted, parted, next_black, chars_at}
+use Rattle.c_chars.proofs.Moved.{chars_at}
+use Rattle.c_grammar.proofs.ItemBytes.{ReadAs, AreParted, parted, next_black}
 use Rattle.c_grammar.proofs.NewText.{read_at, new_items, new_end}
 use Rattle.c_grammar.proofs.Rewritten.{HasMark, mark_of}
 use Rattle.touching.specs.Spelling.{spelling}

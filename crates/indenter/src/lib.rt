@@ -4,7 +4,6 @@
 ghost use Rattle.std.specs.Prelude.{◌≡◌};
 ghost use Rattle.indenter.specs.Rows.{start_column, is_close, begins_with_close, opens_block, keeps_none, empty_lines};
 
-
 use line_tokens::LineTok;
 use style_table::Style;
 use unwrapped_lines::{LineKind, ULine};

@@ -1,39 +1,46 @@
-//! Items with universal character names and characters past ASCII, and numbers before quotes.
+//! Items of texts, by C11 6.4.
 
-use c_lexer::{Dialect, ItemKind, LIMIT, Lexer};
+use c_lexer::{Dialect, ItemKind, LIMIT, LexFault, Lexer};
 use std::process::Abort;
 use std::test::Fail;
 
 /// A text in one of the two dialects, and the kind and the bytes of each of its items.
-type Row<'s> = (&'s [u8], Dialect, &'s [(ItemKind, &'s [u8])]);
+type Case<'s> = (&'s str, Dialect, &'s [u8], &'s [(ItemKind, &'s [u8])]);
 
-/// Whether the rows' texts have these items.
-fn check(rt: &impl Abort, rows: &[Row]) -> Result<(), Fail> {
-    for (text, dialect, items) in rows {
+/// Compares the items of each case's text.
+fn compare(rt: &impl Abort, cases: &[Case]) -> Result<(), Fail> {
+    for (name, dialect, text, items) in cases {
         assert!(rt; text.len() <= LIMIT);
         let mut lexer = Lexer::new(text, *dialect);
         for (kind, raw) in *items {
             let item = lexer.next_item()?.ok_or("an item")?;
-            assert_eq!(rt; item.kind, *kind, "in {text:?}");
-            assert_eq!(rt; item.raw, *raw, "in {text:?}");
+            assert_eq!(rt; item.kind, *kind, "{name}");
+            assert_eq!(rt; item.raw, *raw, "{name}");
         }
-        assert!(rt; lexer.next_item()?.is_none(), "behind {text:?}");
+        assert!(rt; lexer.next_item()?.is_none(), "{name}");
     }
     Ok(())
 }
 
-/// C11 6.4.2.1, 6.4.3 and 6.4.8, and a backslash that begins no name.
 #[test]
-fn reads_words_and_numbers(rt: HostRuntime) -> Result<(), Fail> {
-    let rows: [Row; 10] = [
+fn reads_words(rt: HostRuntime) -> Result<(), Fail> {
+    let cases: [Case; 7] = [
         (
-            b"\\u00e4b1",
+            "a universal character name, 6.4.3",
             Dialect::C23,
+            b"\\u00e4b1",
             &[(ItemKind::Identifier, b"\\u00e4b1")],
         ),
         (
-            b"\xc3\xa4 = 1",
+            "one whose backslash is spelled by a trigraph",
+            Dialect::C11,
+            b"??/u00e4",
+            &[(ItemKind::Identifier, b"??/u00e4")],
+        ),
+        (
+            "a letter past ASCII",
             Dialect::C23,
+            b"\xc3\xa4 = 1",
             &[
                 (ItemKind::Identifier, b"\xc3\xa4"),
                 (ItemKind::Punct, b"="),
@@ -41,19 +48,31 @@ fn reads_words_and_numbers(rt: HostRuntime) -> Result<(), Fail> {
             ],
         ),
         (
-            b"1\xc3\xa4",
+            "splices within characters",
             Dialect::C11,
-            &[(ItemKind::Number, b"1\xc3\xa4")],
+            b"\xc3\\\n\xa4\\u0\\\n0e4",
+            &[(ItemKind::Identifier, b"\xc3\\\n\xa4\\u0\\\n0e4")],
         ),
         (
-            b"1\\U000000e4e+",
+            "a character of no word between two words",
             Dialect::C11,
-            &[(ItemKind::Number, b"1\\U000000e4e+")],
+            b"a\xef\xbb\xbfb",
+            &[
+                (ItemKind::Identifier, b"a"),
+                (ItemKind::Other, b"\xef\xbb\xbf"),
+                (ItemKind::Identifier, b"b"),
+            ],
         ),
-        (b"\\", Dialect::C11, &[(ItemKind::Other, b"\\")]),
         (
+            "a lone backslash",
+            Dialect::C11,
+            b"\\",
+            &[(ItemKind::Other, b"\\")],
+        ),
+        (
+            "backslashes that begin no name",
+            Dialect::C11,
             b"\\x\\u12",
-            Dialect::C11,
             &[
                 (ItemKind::Other, b"\\"),
                 (ItemKind::Identifier, b"x"),
@@ -61,39 +80,67 @@ fn reads_words_and_numbers(rt: HostRuntime) -> Result<(), Fail> {
                 (ItemKind::Identifier, b"u12"),
             ],
         ),
+    ];
+    compare(&rt, &cases)
+}
+
+#[test]
+fn reads_numbers(rt: HostRuntime) -> Result<(), Fail> {
+    let cases: [Case; 5] = [
         (
-            b"1'a'",
+            "a letter past ASCII in a number, 6.4.8",
             Dialect::C11,
+            b"1\xc3\xa4",
+            &[(ItemKind::Number, b"1\xc3\xa4")],
+        ),
+        (
+            "a universal character name and a sign",
+            Dialect::C11,
+            b"1\\U000000e4e+",
+            &[(ItemKind::Number, b"1\\U000000e4e+")],
+        ),
+        (
+            "a number and a character constant",
+            Dialect::C11,
+            b"1'a'",
             &[(ItemKind::Number, b"1"), (ItemKind::CharConst, b"'a'")],
         ),
-        (b"1'000'0", Dialect::C23, &[(ItemKind::Number, b"1'000'0")]),
         (
-            b"1''",
+            "digit separators of C23",
             Dialect::C23,
+            b"1'000'0",
+            &[(ItemKind::Number, b"1'000'0")],
+        ),
+        (
+            "quotes that separate no digits",
+            Dialect::C23,
+            b"1''",
             &[(ItemKind::Number, b"1"), (ItemKind::StrayQuote, b"''")],
         ),
-        (
-            b"??/u00e4",
-            Dialect::C11,
-            &[(ItemKind::Identifier, b"??/u00e4")],
-        ),
     ];
-    check(&rt, &rows)
+    compare(&rt, &cases)
 }
 
 /// A character past ASCII is one item, and a byte of none is one by itself.
 #[test]
 fn reads_other_characters(rt: HostRuntime) -> Result<(), Fail> {
-    let rows: [Row; 8] = [
+    let cases: [Case; 6] = [
         (
-            b"\xe2\x82\xac",
+            "a character of three bytes",
             Dialect::C11,
+            b"\xe2\x82\xac",
             &[(ItemKind::Other, b"\xe2\x82\xac")],
         ),
-        (b"\xff", Dialect::C11, &[(ItemKind::Other, b"\xff")]),
         (
-            b"\xc3 \xc0\x80",
+            "a byte of no character",
+            Dialect::C11,
+            b"\xff",
+            &[(ItemKind::Other, b"\xff")],
+        ),
+        (
+            "a character cut off, and one that is too long",
             Dialect::C23,
+            b"\xc3 \xc0\x80",
             &[
                 (ItemKind::Other, b"\xc3"),
                 (ItemKind::Other, b"\xc0"),
@@ -101,94 +148,109 @@ fn reads_other_characters(rt: HostRuntime) -> Result<(), Fail> {
             ],
         ),
         (
-            b"\xe2\x82",
+            "a character cut off at the end",
             Dialect::C11,
+            b"\xe2\x82",
             &[(ItemKind::Other, b"\xe2"), (ItemKind::Other, b"\x82")],
         ),
         (
-            b"a\xef\xbb\xbfb",
+            "a surrogate",
             Dialect::C11,
-            &[
-                (ItemKind::Identifier, b"a"),
-                (ItemKind::Other, b"\xef\xbb\xbf"),
-                (ItemKind::Identifier, b"b"),
-            ],
-        ),
-        (b"\0", Dialect::C11, &[(ItemKind::Other, b"\0")]),
-        (
-            b"\xc3\\\n\xa4\\u0\\\n0e4",
-            Dialect::C11,
-            &[(ItemKind::Identifier, b"\xc3\\\n\xa4\\u0\\\n0e4")],
-        ),
-        (
             b"\xed\xa0\x80",
-            Dialect::C11,
             &[
                 (ItemKind::Other, b"\xed"),
                 (ItemKind::Other, b"\xa0"),
                 (ItemKind::Other, b"\x80"),
             ],
         ),
+        (
+            "the character 0",
+            Dialect::C11,
+            b"\0",
+            &[(ItemKind::Other, b"\0")],
+        ),
     ];
-    check(&rt, &rows)
+    compare(&rt, &cases)
 }
 
-// ---- from crates/c_lexer/src/lexer.rt
-use super::*;
-use c_grammar::ItemKind;
-use std::test::Fail;
-
-/// An item of each kind, with a splice and a trigraph, and a comment without an end.
 #[test]
 fn reads_each_kind(rt: HostRuntime) -> Result<(), Fail> {
     let text = b"#include <a\\\nb.h>\n/* x */ u8\"s\\\"\" L'c' 'z\n1.5e+3 ??( @ // end  \n/*";
     let mut lexer = Lexer::new(text, Dialect::C11);
-    let expected: [(ItemKind, &[u8], u32); 11] = [
-        (ItemKind::Punct, b"#", 0),
-        (ItemKind::Identifier, b"include", 1),
-        (ItemKind::HeaderName, b"<a\\\nb.h>", 9),
-        (ItemKind::BlockComment, b"/* x */", 18),
-        (ItemKind::StringLit, b"u8\"s\\\"\"", 26),
-        (ItemKind::CharConst, b"L'c'", 34),
-        (ItemKind::StrayQuote, b"'z", 39),
-        (ItemKind::Number, b"1.5e+3", 42),
-        (ItemKind::Punct, b"??(", 49),
-        (ItemKind::Other, b"@", 53),
-        (ItemKind::LineComment, b"// end", 55),
+    let cases: [(&str, ItemKind, &[u8], u32); 11] = [
+        ("a #", ItemKind::Punct, b"#", 0),
+        ("a name", ItemKind::Identifier, b"include", 1),
+        ("a header name", ItemKind::HeaderName, b"<a\\\nb.h>", 9),
+        ("a comment", ItemKind::BlockComment, b"/* x */", 18),
+        ("a string", ItemKind::StringLit, b"u8\"s\\\"\"", 26),
+        ("a constant", ItemKind::CharConst, b"L'c'", 34),
+        ("an open quote", ItemKind::StrayQuote, b"'z", 39),
+        ("a number", ItemKind::Number, b"1.5e+3", 42),
+        ("a trigraph", ItemKind::Punct, b"??(", 49),
+        ("another character", ItemKind::Other, b"@", 53),
+        ("a line's comment", ItemKind::LineComment, b"// end", 55),
     ];
-    for (kind, raw, start) in expected {
+    for (name, kind, raw, start) in cases {
         let item = lexer.next_item()?.ok_or("an item")?;
-        assert_eq!(rt; item.kind, kind);
-        assert_eq!(rt; item.raw, raw);
-        assert_eq!(rt; item.start, start);
+        assert_eq!(rt; item.kind, kind, "{name}");
+        assert_eq!(rt; item.raw, raw, "{name}");
+        assert_eq!(rt; item.start, start, "{name}");
     }
-    for _ in 0..2 {
+    // A comment without an end: each call tells of it.
+    for call in ["the first call", "the next call"] {
         let open = lexer.next_item().err();
-        assert_eq!(rt; open, Some(LexFault::UnterminatedComment { start: 64 }));
+        assert_eq!(rt;
+            open,
+            Some(LexFault::UnterminatedComment { start: 64 }),
+            "{call}"
+        );
     }
     Ok(())
 }
 
-/// What is told beside each item: new-lines and bytes of the gap, whether it has a character, and whether a backslash ends the item.
+/// What is told of each gap: its new-lines, how many bytes its characters are, and whether it has one.
 #[test]
-fn tells_of_gaps_and_ends(rt: HostRuntime) -> Result<(), Fail> {
-    let text = b"a\\\n/ \\\r\n\r\n\tb\\\n \n /* */ // ??/";
-    let mut lexer = Lexer::new(text, Dialect::C11);
-    let expected: [(&[u8], u32, u32, bool, bool); 5] = [
-        (b"a", 0, 0, false, false),
-        (b"/", 0, 0, false, false),
-        (b"b", 1, 4, true, false),
-        (b"/* */", 1, 3, true, false),
-        (b"// ??/", 0, 1, true, true),
+fn tells_of_gaps(rt: HostRuntime) -> Result<(), Fail> {
+    let mut lexer = Lexer::new(b"a\\\n/ \\\r\n\r\n\tb\\\n \n /* */ c", Dialect::C11);
+    let cases: [(&str, u32, u32, bool); 5] = [
+        ("the first item", 0, 0, false),
+        ("behind a splice alone", 0, 0, false),
+        ("behind a blank, a splice and a line end", 1, 4, true),
+        ("behind a splice and a line end", 1, 3, true),
+        ("behind a blank", 0, 1, true),
     ];
-    for (raw, lines, bytes, white, back) in expected {
+    for (name, lines, bytes, white) in cases {
         let lexeme = lexer.next_lexeme()?.ok_or("an item")?;
-        assert_eq!(rt; lexeme.item.raw, raw);
-        assert_eq!(rt; lexeme.lines, lines, "lines before {raw:?}");
-        assert_eq!(rt; lexeme.bytes, bytes, "bytes before {raw:?}");
-        assert_eq!(rt; lexeme.white, white, "white space before {raw:?}");
-        assert_eq!(rt; lexeme.back, back, "the end of {raw:?}");
+        assert_eq!(rt; lexeme.lines, lines, "{name}");
+        assert_eq!(rt; lexeme.bytes, bytes, "{name}");
+        assert_eq!(rt; lexeme.white, white, "{name}");
     }
     assert!(rt; lexer.next_lexeme()?.is_none());
+    Ok(())
+}
+
+#[test]
+fn tells_a_backslash_at_the_end(rt: HostRuntime) -> Result<(), Fail> {
+    let cases: [(&str, Dialect, &[u8], bool); 9] = [
+        ("a trigraph", Dialect::C11, b"// a ??/", true),
+        ("no trigraph in C23", Dialect::C23, b"// a ??/", false),
+        ("a backslash", Dialect::C23, b"// a \\", true),
+        (
+            "a backslash and a splice",
+            Dialect::C11,
+            b"// a \\\\\n\n",
+            true,
+        ),
+        ("a slash", Dialect::C11, b"// a /", false),
+        ("an open quote", Dialect::C11, b"'\\", true),
+        ("a block comment", Dialect::C11, b"/* \\*/", false),
+        ("a closed quote", Dialect::C11, b"'\\\\'", false),
+        ("a word", Dialect::C11, b"a", false),
+    ];
+    for (name, dialect, text, back) in cases {
+        assert!(rt; text.len() <= LIMIT);
+        let lexeme = Lexer::new(text, dialect).next_lexeme()?.ok_or("an item")?;
+        assert_eq!(rt; lexeme.back, back, "{name}");
+    }
     Ok(())
 }

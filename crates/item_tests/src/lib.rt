@@ -1,4 +1,15 @@
-//! Tests.
+//! Tests of the layers from the characters of a text to its runs, each by its public calls alone.
+//!
+//! They stand above the libraries, so that a library is proved once. A case has what no contract says: that a
+//! contract means what the C standard and docs/PROFILE.md do, and that calls succeed with ample memory.
+//!
+//! - `characters`: the characters of a text, and the words and blanks that are passed at once (`c_chars`).
+//! - `items`: the items of a text, their gaps and their last characters (`c_lexer`).
+//! - `touching_items`: the table of the items that may touch (`touching`).
+//! - `views`: the places of a view (`token_views`).
+//! - `arena`: what the store keeps of a text, and which texts it refuses (`token_arena`).
+//! - `sections`: texts and directives, the gaps that directives keep, and spellings (`directives`).
+//! - `runs`: what each run sees, which items are dead, and long texts (`branch_runs`).
 #![tactic(auto)]
 
 #[cfg(test)]

@@ -1,211 +1,196 @@
-//! Runs and views, counted by hand.
+//! Runs and what they see, by docs/PROFILE.md, "Runs". Each text's items are one word where they are no directive's.
 
-ghost use Rattle.std.specs.Prelude.{◌≡◌, ◌<◌, ◌≤◌, ◌^◌, IfOk, length};
-ghost use Rattle.branch_runs.specs.Cut.{IsCutFrom, end_of};
+ghost use Rattle.std.specs.Prelude.{◌≡◌, length};
+ghost use Rattle.branch_runs.specs.Cut.{end_of};
 
-use branch_runs::mark::{Mark, MarkKind};
-use branch_runs::stack::Stack;
-use branch_runs::tree::CondTree;
+use branch_runs::{CondTree, TokenId};
 use bumpalo::Bump;
-use std::alloc::Global;
+use directives::sections;
+use std::alloc::{AllocError, Global};
 use std::process::Abort;
+use std::str::from_utf8;
 use std::test::Fail;
-use token_views::TokenId;
+use token_arena::{Dialect, TokenArena, build};
 
-const TEXT: MarkKind = MarkKind::Text;
-
-const IF: MarkKind = MarkKind::Opens;
-
-const IF_ZERO: MarkKind = MarkKind::IfZero;
-
-const ELIF: MarkKind = MarkKind::Branch;
-
-const ELSE: MarkKind = MarkKind::LastBranch;
-
-const END: MarkKind = MarkKind::Ends;
-
-const OTHER: MarkKind = MarkKind::Flat;
-
-/// The marks of sections of these kinds, each of one item; no text stands behind a text.
-fn marks<'a>(kinds: &[MarkKind], bump: &'a Bump) -> Result<&'a [Mark], Fail>
-    requires { length kinds.now < 2 ^ 20 }
-    ensures cut { IfOk result (λ marks. IsCutFrom 0 marks.now) }
-    ensures end { IfOk result (λ marks. end_of 0 marks.now ≡ length kinds.now) }
-    ensures count { IfOk result (λ marks. length marks.now ≡ length kinds.now) }
-{
-    let mut marks = Stack::new(bump);
-    let mut at = kinds.len() as u32;
-    let mut before_text = false;
-    while at > 0 {
-        let kind = kinds[at as usize - 1];
-        let is_text = matches!(kind, MarkKind::Text);
-        if is_text && before_text {
-            return Err("a text behind a text".into());
-        }
-        marks.push(Mark {
-            first: at - 1,
-            end: at,
-            kind,
-        })?;
-        before_text = is_text;
-        at -= 1;
+/// Adds the bytes of an item, and a blank before them where another stands there.
+fn push_item(out: &mut String, raw: &[u8]) -> Result<(), AllocError> {
+    if !out.is_empty() {
+        out.push_str(" ")?;
     }
-    Ok(marks.into_slice())
+    match from_utf8(raw) {
+        Ok(text) => out.push_str(text),
+        Err(_) => out.push_str("?"),
+    }
 }
 
-/// Run r sees the items of these numbers.
-fn sees(
+/// The items that a run sees.
+fn seen(
     rt: &impl Abort,
     alloc: Global,
+    arena: &TokenArena<'_, '_>,
     tree: &CondTree<'_>,
     r: u32,
-    want: &[u32],
-) -> Result<(), Fail> {
+) -> Result<String, Fail> {
     assert!(rt; r < tree.runs());
     let run = Bump::new(alloc);
     let view = tree.view(r, &run)?;
-    assert_eq!(rt; view.len() as usize, want.len(), "run {r}");
-    let mut k = 0;
-    for id in want {
-        assert!(rt; k < view.len());
-        assert_eq!(rt; view.at(k).0, *id, "run {r}");
-        k += 1;
+    let mut out = String::new(alloc);
+    for k in 0..view.len() {
+        let id = view.at(k);
+        assert!(rt; id.0 < arena.len());
+        push_item(&mut out, arena.get(id).item.raw)?;
     }
-    Ok(())
+    Ok(out)
 }
 
-/// A text of sections of these kinds has these views, one for each run.
-fn has_views(
-    rt: &impl Abort,
-    alloc: Global,
-    kinds: &[MarkKind],
-    want: &[&[u32]],
-) -> Result<(), Fail> {
-    assert!(rt; kinds.len() < 1_000_000);
-    let bump = Bump::new(alloc);
-    let marks = marks(kinds, &bump)?;
-    let tree = CondTree::of_marks(marks, marks.len() as u32, &bump)?;
-    assert_eq!(rt; tree.runs() as usize, want.len());
-    let mut r = 0;
-    for ids in want {
-        sees(rt, alloc, &tree, r, ids)?;
-        r = r.saturating_add(1);
-    }
-    Ok(())
-}
-
+/// What each run sees of a text.
 #[test]
 fn takes_one_branch_of_each_conditional(rt: HostRuntime) -> Result<(), Fail> {
-    let alloc = rt.alloc();
-    let two = [
-        IF, TEXT, ELSE, TEXT, END, TEXT, IF, TEXT, ELIF, TEXT, ELIF, TEXT, END,
+    let cases: [(&str, &str, &[&str]); 10] = [
+        ("no item", "", &[""]),
+        ("no conditional", "a\n#define X\nb", &["a b"]),
+        ("a conditional without an end", "a\n#if A\nb", &["a b"]),
+        (
+            "the example of docs/PROFILE.md",
+            "#ifdef A\na\n#ifdef B\nb\n#else\nc\n#endif\n#else\nd\n#endif\n#ifdef E\ne\n#endif",
+            &["a b e", "a c e", "d e"],
+        ),
+        (
+            "two conditionals",
+            "#if A\na\n#else\nb\n#endif\nc\n#if B\nd\n#elif C\ne\n#elif D\nf\n#endif",
+            &["a c d", "b c e", "b c f"],
+        ),
+        (
+            "one in the first branch of another",
+            "#if A\na\n#if B\nb\n#elif C\nc\n#else\nd\n#endif\n#else\ne\n#endif",
+            &["a b", "a c", "a d", "e"],
+        ),
+        (
+            "what fits no conditional",
+            "#endif\na\n#else\nb\n#if A\nc\n#else\nd\n#elif B\ne\n#else\nf",
+            &["a b c", "a b d e f"],
+        ),
+        ("a dead group alone", "#if 0\na\n#endif", &[""]),
+        (
+            "a dead group and its #else",
+            "a\n#if 0\nb\n#if A\nc\n#endif\n#else\nd\n#endif",
+            &["a d"],
+        ),
+        (
+            "an #elif of 0 is live",
+            "#if A\na\n#elif 0\nb\n#endif",
+            &["a", "b"],
+        ),
     ];
-    has_views(&rt, alloc, &two, &[&[1, 5, 7], &[3, 5, 9], &[3, 5, 11]])?;
-    let inner = [
-        IF, TEXT, IF, TEXT, ELIF, TEXT, ELSE, TEXT, END, ELSE, TEXT, END,
-    ];
-    has_views(&rt, alloc, &inner, &[&[1, 3], &[1, 5], &[1, 7], &[10]])?;
-    has_views(&rt, alloc, &[TEXT, OTHER, TEXT], &[&[0, 2]])?;
-    has_views(&rt, alloc, &[TEXT, IF, TEXT], &[&[0, 2]])?;
-    has_views(&rt, alloc, &[], &[&[]])
-}
-
-#[test]
-fn leaves_what_fits_nothing_without_effect(rt: HostRuntime) -> Result<(), Fail> {
-    let loose = [
-        END, TEXT, ELSE, TEXT, IF, TEXT, ELSE, TEXT, ELIF, TEXT, ELSE, TEXT,
-    ];
-    has_views(&rt, rt.alloc(), &loose, &[&[1, 3, 5], &[1, 3, 7, 9, 11]])
-}
-
-#[test]
-fn leaves_out_the_groups_of_if_zero(rt: HostRuntime) -> Result<(), Fail> {
-    let alloc = rt.alloc();
-    has_views(&rt, alloc, &[IF_ZERO, TEXT, END], &[&[]])?;
-    let kinds = [TEXT, IF_ZERO, TEXT, IF, TEXT, END, ELSE, TEXT, END];
-    has_views(&rt, alloc, &kinds, &[&[0, 7]])?;
-    let bump = Bump::new(alloc);
-    let tree = CondTree::of_marks(marks(&kinds, &bump)?, 9, &bump)?;
-    let mut id = 0;
-    for dead in [false, false, true, true, true, true, false, false, false] {
-        assert!(rt; id < 9);
-        assert_eq!(rt; tree.is_dead(TokenId(id)), dead, "item {id}");
-        id += 1;
+    for (name, text, views) in cases {
+        let bump = Bump::new(rt.alloc());
+        let arena = build(&bump, text.as_bytes(), Dialect::C11)?;
+        let tree = CondTree::build(&arena, sections(&arena, &bump)?, &bump)?;
+        assert_eq!(rt; tree.runs() as usize, views.len(), "{name}");
+        for (r, items) in (0..tree.runs()).zip(views) {
+            let told = seen(&rt, rt.alloc(), &arena, &tree, r)?;
+            assert_eq!(rt; told.as_str(), *items, "{name}, run {r}");
+        }
     }
     Ok(())
 }
 
+/// The items in the groups of a literal `#if 0`.
+fn dead(
+    alloc: Global,
+    arena: &TokenArena<'_, '_>,
+    tree: &CondTree<'_>,
+) -> Result<String, AllocError>
+    requires { end_of 0 tree.now ≡ length arena.now.tokens }
+{
+    let mut out = String::new(alloc);
+    for id in 0..arena.len() {
+        if tree.is_dead(TokenId(id)) {
+            push_item(&mut out, arena.get(TokenId(id)).item.raw)?;
+        }
+    }
+    Ok(out)
+}
+
+#[test]
+fn tells_which_items_are_dead(rt: HostRuntime) -> Result<(), Fail> {
+    let cases = [
+        (
+            "a conditional in a dead group",
+            "a\n#if 0\nb\n#if A\nc\n#endif\n#else\nd\n#endif",
+            "b # if A c # endif",
+        ),
+        (
+            "comments beside the 0",
+            "#if /* c */ 0 // d\na\n#endif",
+            "a",
+        ),
+        ("a 0 that is spliced", "#i\\\nf \\\n0\na\n#endif", "a"),
+        ("another number", "#if 00\na\n#endif", ""),
+        ("more behind the 0", "#if 0 + 1\na\n#endif", ""),
+        ("no operand", "#if\na\n#endif", ""),
+        ("an #ifdef", "#ifdef 0\na\n#endif", ""),
+        ("an #elif", "#if A\na\n#elif 0\nb\n#endif", ""),
+    ];
+    for (name, text, items) in cases {
+        let bump = Bump::new(rt.alloc());
+        let arena = build(&bump, text.as_bytes(), Dialect::C11)?;
+        let tree = CondTree::build(&arena, sections(&arena, &bump)?, &bump)?;
+        let told = dead(rt.alloc(), &arena, &tree)?;
+        assert_eq!(rt; told.as_str(), items, "{name}");
+    }
+    Ok(())
+}
+
+/// Adds lines so many times.
+fn push_lines(text: &mut Vec<u8>, lines: &[u8], times: usize) -> Result<(), AllocError> {
+    for _turn in 0..times {
+        text.extend_from_slice(lines)?;
+    }
+    Ok(())
+}
+
+/// Each run leaves one conditional more, from the innermost on, by its `#else`.
 #[test]
 fn reads_a_hundred_thousand_conditionals_in_one_another(rt: HostRuntime) -> Result<(), Fail> {
-    let mut kinds = Vec::new(rt.alloc());
-    for _ in 0..100_000 {
-        kinds.push(IF)?;
-        kinds.push(TEXT)?;
-    }
-    for _ in 0..100_000 {
-        kinds.push(ELSE)?;
-        kinds.push(TEXT)?;
-        kinds.push(END)?;
-    }
+    let mut text = Vec::new(rt.alloc());
+    push_lines(&mut text, b"#if A\na\n", 100_000)?;
+    push_lines(&mut text, b"#else\nb\n#endif\n", 100_000)?;
     let bump = Bump::new(rt.alloc());
-    assert!(rt; kinds.len() < 1_000_000);
-    let marks = marks(&kinds, &bump)?;
-    let tree = CondTree::of_marks(marks, marks.len() as u32, &bump)?;
+    let arena = build(&bump, text.as_slice(), Dialect::C11)?;
+    let tree = CondTree::build(&arena, sections(&arena, &bump)?, &bump)?;
     assert_eq!(rt; tree.runs(), 100_001);
-    for (r, places) in [
-        (0, 100_000),
-        (1, 100_000),
-        (2, 99_999),
-        (99_999, 2),
-        (100_000, 1),
-    ] {
+    let cases = [
+        ("the first run", 0, 100_000),
+        ("the innermost #else", 1, 100_000),
+        ("the next one", 2, 99_999),
+        ("the last but one", 99_999, 2),
+        ("the outermost #else", 100_000, 1),
+    ];
+    for (name, r, places) in cases {
         assert!(rt; r < tree.runs());
         let run = Bump::new(rt.alloc());
-        assert_eq!(rt; tree.view(r, &run)?.len(), places, "run {r}");
+        assert_eq!(rt; tree.view(r, &run)?.len(), places, "{name}");
     }
     Ok(())
 }
 
-#[test]
-fn reads_a_hundred_thousand_branches_in_a_row(rt: HostRuntime) -> Result<(), Fail> {
-    let mut kinds = Vec::new(rt.alloc());
-    kinds.push(IF)?;
-    for _ in 0..100_000 {
-        kinds.push(TEXT)?;
-        kinds.push(ELIF)?;
-    }
-    kinds.push(TEXT)?;
-    kinds.push(END)?;
-    let bump = Bump::new(rt.alloc());
-    assert!(rt; kinds.len() < 1_000_000);
-    let marks = marks(&kinds, &bump)?;
-    let tree = CondTree::of_marks(marks, marks.len() as u32, &bump)?;
-    assert_eq!(rt; tree.runs(), 100_001);
-    for r in [0, 1, 50_000, 99_999, 100_000] {
-        sees(&rt, rt.alloc(), &tree, r, &[2 * r + 1])?;
-    }
-    Ok(())
-}
-
-/// Each run of a conditional of so many branches sees its own branch alone: all views together take no more steps than there are
-/// branches, times the steps of a search among them.
+/// Each run of a conditional of so many branches sees its own branch alone: all views together take no more steps
+/// than there are branches, times the steps of a search among them.
 #[test]
 fn takes_each_of_a_hundred_thousand_branches(rt: HostRuntime) -> Result<(), Fail> {
-    let mut kinds = Vec::new(rt.alloc());
-    kinds.push(IF)?;
-    for _ in 0..100_000 {
-        kinds.push(TEXT)?;
-        kinds.push(ELIF)?;
-    }
-    kinds.push(TEXT)?;
-    kinds.push(END)?;
+    let mut text = Vec::new(rt.alloc());
+    push_lines(&mut text, b"#if A\na\n", 1)?;
+    push_lines(&mut text, b"#elif B\nb\n", 100_000)?;
     let bump = Bump::new(rt.alloc());
-    assert!(rt; kinds.len() < 1_000_000);
-    let marks = marks(&kinds, &bump)?;
-    let tree = CondTree::of_marks(marks, marks.len() as u32, &bump)?;
+    let arena = build(&bump, text.as_slice(), Dialect::C11)?;
+    let tree = CondTree::build(&arena, sections(&arena, &bump)?, &bump)?;
     assert_eq!(rt; tree.runs(), 100_001);
-    for r in 0..100_001 {
-        sees(&rt, rt.alloc(), &tree, r, &[2 * r + 1])?;
+    for r in 0..tree.runs() {
+        let run = Bump::new(rt.alloc());
+        let view = tree.view(r, &run)?;
+        assert_eq!(rt; view.len(), 1, "run {r}");
+        assert_eq!(rt; view.at(0).0 / 4, r, "run {r}");
     }
     Ok(())
 }

@@ -3,82 +3,104 @@
 ghost use Rattle.std.specs.Prelude.{◌≡◌};
 ghost use Rattle.directives.specs.Sections.{sections_of};
 
+use bumpalo::Bump;
 use directives::{
     Dialect, Directive, DirectiveKind, Section, TokenId, begins_with, is_spelled, kept_after_name,
-    sections, sections_say_how_items_stand,
+    sections,
 };
-use bumpalo::Bump;
 use std::test::Fail;
 use token_arena::{TokenArena, build};
 
 /// A directive without comments before its `#`.
-fn directive(hash: u32, end: u32, kind: DirectiveKind, function_like: bool) -> Section {
+fn directive(hash: u32, end: u32, kind: DirectiveKind) -> Section {
     Section::Dir(Directive {
         first: hash,
         hash: TokenId(hash),
         end,
         kind,
-        function_like,
+        function_like: false,
+    })
+}
+
+/// A directive that begins a text and defines a function-like macro.
+fn function_like(end: u32) -> Section {
+    Section::Dir(Directive {
+        first: 0,
+        hash: TokenId(0),
+        end,
+        kind: DirectiveKind::Define,
+        function_like: true,
     })
 }
 
 #[test]
 fn cuts_texts_into_sections(rt: HostRuntime) -> Result<(), Fail> {
-    sections_say_how_items_stand();
+    use DirectiveKind::{Define, Else, Endif, If, Include, Null, Unknown};
     let behind_comment = Section::Dir(Directive {
         first: 0,
         hash: TokenId(1),
         end: 7,
-        kind: DirectiveKind::Define,
+        kind: Define,
         function_like: false,
     });
-    let rows: [(&[u8], &[Section]); 12] = [
-        (b" \n", &[]),
-        (b"/* c */ #define X (a)", &[behind_comment]),
+    let cases: [(&str, &str, &[Section]); 12] = [
+        ("no item", " \n", &[]),
         (
-            b"#define F(x) x",
-            &[directive(0, 7, DirectiveKind::Define, true)],
+            "a comment before the #",
+            "/* c */ #define X (a)",
+            &[behind_comment],
         ),
         (
-            b"#define F\\\n(x) x",
-            &[directive(0, 7, DirectiveKind::Define, true)],
+            "parameters, 6.10.3p10",
+            "#define F(x) x",
+            &[function_like(7)],
         ),
         (
-            b"#define F/**/(x)",
-            &[directive(0, 7, DirectiveKind::Define, false)],
+            "parameters behind a splice",
+            "#define F\\\n(x) x",
+            &[function_like(7)],
         ),
         (
-            b"%:include <a.h>",
-            &[directive(0, 3, DirectiveKind::Include, false)],
+            "no parameters behind a comment",
+            "#define F/**/(x)",
+            &[directive(0, 7, Define)],
         ),
-        (b"??=if 1", &[directive(0, 3, DirectiveKind::If, false)]),
-        (b"#", &[directive(0, 1, DirectiveKind::Null, false)]),
         (
-            b"# 33 \"f\"",
-            &[directive(0, 3, DirectiveKind::Unknown, false)],
+            "a digraph of #",
+            "%:include <a.h>",
+            &[directive(0, 3, Include)],
         ),
-        (b"int x; #y", &[Section::Text { first: 0, end: 5 }]),
+        ("a trigraph of #", "??=if 1", &[directive(0, 3, If)]),
+        ("a null directive, 6.10.7", "#", &[directive(0, 1, Null)]),
+        ("no name", "# 33 \"f\"", &[directive(0, 3, Unknown)]),
         (
-            b"#if A\n#else\n#endif",
+            "a # further on",
+            "int x; #y",
+            &[Section::Text { first: 0, end: 5 }],
+        ),
+        (
+            "directives alone",
+            "#if A\n#else\n#endif",
             &[
-                directive(0, 3, DirectiveKind::If, false),
-                directive(3, 5, DirectiveKind::Else, false),
-                directive(5, 7, DirectiveKind::Endif, false),
+                directive(0, 3, If),
+                directive(3, 5, Else),
+                directive(5, 7, Endif),
             ],
         ),
         (
-            b"a\n#if __has_include(<x>)\nb\nc",
+            "texts around a directive",
+            "a\n#if __has_include(<x>)\nb\nc",
             &[
                 Section::Text { first: 0, end: 1 },
-                directive(1, 9, DirectiveKind::If, false),
+                directive(1, 9, If),
                 Section::Text { first: 9, end: 11 },
             ],
         ),
     ];
-    for (text, expected) in rows {
+    for (name, text, expected) in cases {
         let bump = Bump::new(rt.alloc());
-        let arena = build(&bump, text, Dialect::C11)?;
-        assert_eq!(rt; sections(&arena, &bump)?, expected, "of {text:?}");
+        let arena = build(&bump, text.as_bytes(), Dialect::C11)?;
+        assert_eq!(rt; sections(&arena, &bump)?, expected, "{name}");
     }
     Ok(())
 }
@@ -93,53 +115,90 @@ fn first_is_kept(arena: &TokenArena<'_, '_>, sections: &[Section]) -> bool
     }
 }
 
+/// Each case is named by its text.
 #[test]
 fn keeps_gaps_behind_names(rt: HostRuntime) -> Result<(), Fail> {
-    let rows: [(&[u8], bool); 16] = [
-        (b"#include <a.h>", false),
-        (b"#include /* c */ \"a.h\" // d", false),
-        (b"#include NAME", true),
-        (b"#include <a.h> x", true),
-        (b"#include", true),
-        (b"#pragma once", true),
-        (b"#error x", true),
-        (b"#line 3", true),
-        (b"# 33 \"f\"", true),
-        (b"#ifdef __has_include", true),
-        (b"#elif 1 && __ha\\\ns_embed(<x>)", true),
-        (b"#if __has", false),
-        (b"#if A /* __has_include */", false),
-        (b"#define __has_x 1", false),
-        (b"#undef  X", false),
-        (b"#", false),
+    let cases = [
+        ("#include <a.h>", false),
+        ("#include /* c */ \"a.h\" // d", false),
+        ("#include NAME", true),
+        ("#include <a.h> x", true),
+        ("#include", true),
+        ("#pragma once", true),
+        ("#error x", true),
+        ("#line 3", true),
+        ("# 33 \"f\"", true),
+        ("#ifdef __has_include", true),
+        ("#elif 1 && __ha\\\ns_embed(<x>)", true),
+        ("#if __has", false),
+        ("#if A /* __has_include */", false),
+        ("#define __has_x 1", false),
+        ("#undef  X", false),
+        ("#", false),
     ];
-    for (text, expected) in rows {
+    for (text, kept) in cases {
         let bump = Bump::new(rt.alloc());
-        let arena = build(&bump, text, Dialect::C11)?;
+        let arena = build(&bump, text.as_bytes(), Dialect::C11)?;
         let cut = sections(&arena, &bump)?;
-        assert_eq!(rt; first_is_kept(&arena, cut), expected, "of {text:?}");
+        assert_eq!(rt; first_is_kept(&arena, cut), kept, "of {text}");
     }
     Ok(())
 }
 
 #[test]
 fn reads_how_items_are_spelled(rt: HostRuntime) {
-    let rows: [(Dialect, &[u8], &[u8], bool); 11] = [
-        (Dialect::C11, b"#", b"#", true),
-        (Dialect::C11, b"??=", b"#", true),
-        (Dialect::C23, b"??=", b"#", false),
-        (Dialect::C11, b"%\\\n:", b"%:", true),
-        (Dialect::C11, b"i\\\r\n\\\nf", b"if", true),
-        (Dialect::C11, b"i??/\nf", b"if", true),
-        (Dialect::C23, b"i??/\nf", b"if", false),
-        (Dialect::C11, b"ifdef", b"if", false),
-        (Dialect::C11, b"i", b"if", false),
-        (Dialect::C11, b"\xEF\xBB\xBFx", b"x", false),
-        (Dialect::C11, b"\xEF\xBB\xBFx", b"\xEF\xBB\xBFx", true),
+    let cases = [
+        ("itself", Dialect::C11, "#", "#", true),
+        ("a trigraph", Dialect::C11, "??=", "#", true),
+        ("no trigraph in C23", Dialect::C23, "??=", "#", false),
+        ("a spliced digraph", Dialect::C11, "%\\\n:", "%:", true),
+        ("two splices", Dialect::C11, "i\\\r\n\\\nf", "if", true),
+        (
+            "a splice by a trigraph",
+            Dialect::C11,
+            "i??/\nf",
+            "if",
+            true,
+        ),
+        (
+            "no such splice in C23",
+            Dialect::C23,
+            "i??/\nf",
+            "if",
+            false,
+        ),
+        ("a longer word", Dialect::C11, "ifdef", "if", false),
+        ("a shorter word", Dialect::C11, "i", "if", false),
+        (
+            "a mark within a text",
+            Dialect::C11,
+            "\u{feff}x",
+            "x",
+            false,
+        ),
+        (
+            "a mark that is spelled",
+            Dialect::C11,
+            "\u{feff}x",
+            "\u{feff}x",
+            true,
+        ),
     ];
-    for (dialect, raw, word, expected) in rows {
-        assert_eq!(rt; is_spelled(dialect, raw, word), expected, "of {raw:?}");
+    for (name, dialect, raw, word, expected) in cases {
+        let spelled = is_spelled(dialect, raw.as_bytes(), word.as_bytes());
+        assert_eq!(rt; spelled, expected, "{name}");
     }
-    assert!(rt; begins_with(Dialect::C11, b"__ha\\\ns_x", b"__has_"));
-    assert!(rt; !begins_with(Dialect::C11, b"__has", b"__has_"));
+}
+
+#[test]
+fn reads_how_items_begin(rt: HostRuntime) {
+    let cases = [
+        ("a longer word", "__ha\\\ns_x", true),
+        ("itself", "__has_", true),
+        ("a shorter word", "__has", false),
+    ];
+    for (name, raw, expected) in cases {
+        let begins = begins_with(Dialect::C11, raw.as_bytes(), b"__has_");
+        assert_eq!(rt; begins, expected, "{name}");
+    }
 }

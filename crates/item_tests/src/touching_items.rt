@@ -1,70 +1,149 @@
 //! The table of docs/DEFINITIONS.md, "Items that may touch", row by row.
 
-use touching::may_touch;
-use c_chars::Dialect;
-use c_grammar::ItemKind;
-use c_lexer::Item;
+use c_lexer::{Dialect, Item, ItemKind};
+use touching::{may_touch, near_touch};
 
-/// Two items, each with its kind and bytes, and whether they may touch.
-#[derive(Clone, Copy)]
-struct Row {
-    left: (ItemKind, &'static [u8]),
-    right: (ItemKind, &'static [u8]),
-    touch: bool,
-}
+/// An item's kind and bytes.
+type Side = (ItemKind, &'static [u8]);
 
-fn pair(left: (ItemKind, &'static [u8]), right: (ItemKind, &'static [u8]), touch: bool) -> Row {
-    Row { left, right, touch }
+fn item_of(side: Side) -> Item<'static> {
+    let (kind, raw) = side;
+    Item {
+        kind,
+        raw,
+        start: 0,
+    }
 }
 
 #[test]
 fn each_row_of_the_table(rt: HostRuntime) {
     use ItemKind::{CharConst, Identifier, LineComment, Number, Other, Punct, StringLit};
-    let rows: [Row; 24] = [
-        pair((Identifier, b"a"), (Identifier, b"b"), false),
-        pair((Identifier, b"a"), (Punct, b"("), true),
-        pair((Number, b"1"), (Identifier, b"u"), false),
-        pair((Identifier, b"a"), (StringLit, b"L\"s\""), false),
-        pair((Identifier, b"a"), (StringLit, b"\"s\""), true),
-        pair((Identifier, b"u8"), (StringLit, b"\"s\""), false),
-        pair((Identifier, b"u\\\n8"), (CharConst, b"'c'"), false),
-        pair((Number, b"1"), (Punct, b"."), false),
-        pair((Number, b"1e"), (Punct, b"+"), false),
-        pair((Number, b"0x1F"), (Punct, b"+"), true),
-        pair((Number, b"1"), (CharConst, b"'c'"), false),
-        pair((Punct, b"."), (Number, b"5"), false),
-        pair((Punct, b"+"), (Punct, b"+="), false),
-        pair((Punct, b"-"), (Punct, b">"), false),
-        pair((Punct, b"/"), (Punct, b"*"), false),
-        pair((Punct, b":"), (Punct, b":"), false),
-        pair((Punct, b"??!"), (Punct, b"|"), false),
-        pair((Punct, b"%:"), (Punct, b"%:"), false),
-        pair((Punct, b")"), (Punct, b"("), true),
-        pair((Punct, b"?"), (Punct, b"="), false),
-        pair((Punct, b"?"), (Identifier, b"a"), true),
-        pair((Other, b"@"), (Punct, b";"), false),
-        pair((Punct, b";"), (Other, b"`"), false),
-        pair((LineComment, b"// x"), (Punct, b";"), false),
+    let cases: [(&str, Side, Side, bool); 24] = [
+        ("two words", (Identifier, b"a"), (Identifier, b"b"), false),
+        ("a word and (", (Identifier, b"a"), (Punct, b"("), true),
+        (
+            "a number and a word",
+            (Number, b"1"),
+            (Identifier, b"u"),
+            false,
+        ),
+        (
+            "a word and a prefix",
+            (Identifier, b"a"),
+            (StringLit, b"L\"s\""),
+            false,
+        ),
+        (
+            "a word and a quote",
+            (Identifier, b"a"),
+            (StringLit, b"\"s\""),
+            true,
+        ),
+        (
+            "a prefix and a quote",
+            (Identifier, b"u8"),
+            (StringLit, b"\"s\""),
+            false,
+        ),
+        (
+            "a spliced prefix",
+            (Identifier, b"u\\\n8"),
+            (CharConst, b"'c'"),
+            false,
+        ),
+        ("a number and a point", (Number, b"1"), (Punct, b"."), false),
+        (
+            "an exponent and a sign",
+            (Number, b"1e"),
+            (Punct, b"+"),
+            false,
+        ),
+        (
+            "a number and a sign",
+            (Number, b"0x1F"),
+            (Punct, b"+"),
+            true,
+        ),
+        (
+            "a number and a quote",
+            (Number, b"1"),
+            (CharConst, b"'c'"),
+            false,
+        ),
+        ("a point and a number", (Punct, b"."), (Number, b"5"), false),
+        ("+ and +=", (Punct, b"+"), (Punct, b"+="), false),
+        ("- and >", (Punct, b"-"), (Punct, b">"), false),
+        ("what begins a comment", (Punct, b"/"), (Punct, b"*"), false),
+        ("two colons", (Punct, b":"), (Punct, b":"), false),
+        (
+            "a trigraph of | and |",
+            (Punct, b"??!"),
+            (Punct, b"|"),
+            false,
+        ),
+        ("two digraphs of #", (Punct, b"%:"), (Punct, b"%:"), false),
+        (") and (", (Punct, b")"), (Punct, b"("), true),
+        (
+            "what may begin a trigraph",
+            (Punct, b"?"),
+            (Punct, b"="),
+            false,
+        ),
+        ("? and a word", (Punct, b"?"), (Identifier, b"a"), true),
+        (
+            "another character first",
+            (Other, b"@"),
+            (Punct, b";"),
+            false,
+        ),
+        (
+            "another character behind",
+            (Punct, b";"),
+            (Other, b"`"),
+            false,
+        ),
+        (
+            "a line's comment",
+            (LineComment, b"// x"),
+            (Punct, b";"),
+            false,
+        ),
     ];
-    for row in &rows {
-        let left = Item {
-            kind: row.left.0,
-            raw: row.left.1,
-            start: 0,
-        };
-        let right = Item {
-            kind: row.right.0,
-            raw: row.right.1,
-            start: 9,
-        };
-        assert!(rt; left.raw.len() < 9);
-        assert!(rt; right.raw.len() < 9);
-        assert_eq!(rt;
-            may_touch(Dialect::C11, &left, &right),
-            row.touch,
-            "{:?} {:?}",
-            left.raw,
-            right.raw
-        );
+    for (name, left, right, touch) in cases {
+        let (left, right) = (item_of(left), item_of(right));
+        assert!(rt; left.raw.len() < 9 && right.raw.len() < 9);
+        assert_eq!(rt; may_touch(Dialect::C11, &left, &right), touch, "{name}");
+    }
+}
+
+/// A short way may decline, and tells most pairs.
+#[test]
+fn tells_most_pairs_by_their_first_bytes(rt: HostRuntime) {
+    use ItemKind::{Identifier, Number, Punct};
+    let cases: [(&str, Side, Side, Option<bool>); 5] = [
+        (
+            "two words",
+            (Identifier, b"a"),
+            (Identifier, b"b"),
+            Some(false),
+        ),
+        (
+            "a word and (",
+            (Identifier, b"a"),
+            (Punct, b"("),
+            Some(true),
+        ),
+        ("two plus signs", (Punct, b"+"), (Punct, b"+"), Some(false)),
+        (
+            "a mark of two and a sign",
+            (Punct, b"<<"),
+            (Punct, b"-"),
+            Some(true),
+        ),
+        ("a number and a point", (Number, b"1"), (Punct, b"."), None),
+    ];
+    for (name, (kind, raw), (behind, bytes), touch) in cases {
+        let told = near_touch(Dialect::C11, kind, raw, behind, bytes);
+        assert_eq!(rt; told, touch, "{name}");
     }
 }

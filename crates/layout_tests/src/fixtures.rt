@@ -1,6 +1,6 @@
 //! Named styles, tokens by their roles, views of texts, and what the lower layers tell of a view.
 
-ghost use Rattle.std.specs.Prelude.{◌≡◌, length, IfOk};
+ghost use Rattle.std.specs.Prelude.{◌≡◌, ◌<◌, length, IfOk};
 ghost use Rattle.annotator.specs.Tokens.{TellItems};
 ghost use Rattle.brackets.specs.Viewed.{AreWithin, classes_of};
 ghost use Rattle.style_table.specs.Range.{IsInRange};
@@ -10,7 +10,6 @@ use annotator::roles_of_classes;
 use brackets::{TokenClass, classes, partners_of_classes};
 use bumpalo::Bump;
 use line_tokens::{GapFacts, ItemKind, LineTok, NoMemory, Role, TokenId};
-use std::process::Abort;
 use std::test::Fail;
 use style_table::Style;
 use token_arena::TokenArena;
@@ -50,25 +49,30 @@ pub fn token(role: Role, depth: u32, width: u32) -> LineTok {
     }
 }
 
-/// The view of all items of a text.
-pub fn all_items<'r>(arena: &TokenArena<'_, '_>, run: &'r Bump) -> Result<View<'r>, NoMemory>
+/// The view of a text's items from one on.
+pub fn items_from<'r>(
+    arena: &TokenArena<'_, '_>,
+    first: u32,
+    run: &'r Bump,
+) -> Result<View<'r>, NoMemory>
     ensures { IfOk result (AreWithin arena.now) }
 {
-    View::of(0, arena.len(), run)
+    View::of(first, arena.len(), run)
 }
 
 /// The view of the items before a directive and of those behind it; its items are those from `first` up to `end`.
 pub fn items_around<'r>(
-    rt: &impl Abort,
     arena: &TokenArena<'_, '_>,
     first: u32,
     end: u32,
     run: &'r Bump,
 ) -> Result<View<'r>, NoMemory>
+    requires before { 0 < first }
+    requires some { first < end }
+    requires behind { end < length arena.now.tokens }
     ensures { IfOk result (AreWithin arena.now) }
 {
     let count = arena.len();
-    assert!(rt; 0 < first && first < end && end < count);
     let stretches = [
         Stretch {
             first: 0,
@@ -79,7 +83,19 @@ pub fn items_around<'r>(
             end: count,
         },
     ];
-    View::of_stretches(&stretches, run)
+    let view = View::of_stretches(&stretches, run)?;
+    Ok(view)
+}
+
+/// How many of these hold.
+pub fn count_of(flags: &[bool]) -> u32 {
+    let mut count: u32 = 0;
+    for flag in flags {
+        if *flag {
+            count = count.saturating_add(1);
+        }
+    }
+    count
 }
 
 /// What the lower layers tell of a view.

@@ -144,7 +144,9 @@ fn laid(alloc: Global, bump: &Bump, row: &Row) -> Result<Vec<u8>, Fail> {
         }
     }
     let mut sink = MemSink::new(alloc, Vec::new(alloc));
-    write_out(&style, false, &arena, sections, &plan, &mut sink).map_err(|_| "a write")?;
+    write_out(&style, false, &arena, sections, &plan, &mut sink)
+        .ok()
+        .ok_or("a write")?;
     Ok(sink.taken().to_vec(alloc)?)
 }
 

@@ -1,10 +1,10 @@
 //! The decisions for whole texts, as `docs/PROFILE.md` says under "Layout of lines".
 
-ghost use Rattle.std.specs.Prelude.{◌≡◌, ◌+◌, ◌≤◌, length, IfOk};
+ghost use Rattle.std.specs.Prelude.{◌≡◌, ◌+◌, ◌≤◌, length, IfOk, OnOk};
 ghost use Rattle.brackets.specs.Viewed.{AreWithin};
 ghost use Rattle.style_table.specs.Range.{IsInRange};
 
-use crate::fixtures::{all_items, items_around, read_view, style};
+use crate::fixtures::{items_around, items_from, read_view, style};
 use bumpalo::Bump;
 use gap_text::Decision;
 use replacements::{Decided, Plan};
@@ -131,8 +131,16 @@ fn push_gap(text: &mut Vec<u8>, decision: Decision, old: &[u8]) -> Result<(), Fa
 }
 
 /// How many bytes stand behind the last new-line.
-fn column_of(text: &Vec<u8>) -> usize {
-    text.iter().rev().take_while(|b| **b != b'\n').count()
+fn column_of(text: &[u8]) -> u32 {
+    let mut column: u32 = 0;
+    for byte in text {
+        column = if *byte == b'\n' {
+            0
+        } else {
+            column.saturating_add(1)
+        };
+    }
+    column
 }
 
 /// The text of a view's items behind what a plan decides; each item starts at the column that is told.
@@ -151,10 +159,50 @@ fn drawn(
         assert!(rt; id.0 < arena.len());
         let slot = plan.slot(id.0).ok_or("a decision")?;
         push_gap(&mut text, slot.decision, arena.gap(id.0))?;
-        assert_eq!(rt; column_of(&text), slot.end as usize);
+        assert_eq!(rt; column_of(text.as_slice()), slot.end);
         text.extend_from_slice(arena.get(id).item.raw)?;
     }
     Ok(text)
+}
+
+/// The budget of a line, where none passes it.
+const BUDGET: u64 = 1_000;
+
+/// Lays out the lines of a view as those of run 5, and tells what came of them.
+fn lay_out<'r>(
+    rt: &impl Abort,
+    alloc: Global,
+    style: &Style,
+    budget: u64,
+    arena: &TokenArena<'_, '_>,
+    view: &View<'_>,
+    plan: &mut Plan<'_>,
+    run: &'r Bump,
+) -> Result<Tally<'r>, Fail>
+    requires range { IsInRange style.now }
+    requires budget { budget ≤ 16000000 }
+    requires within { AreWithin arena.now view.now }
+    requires whole { length plan.old ≡ length arena.now.tokens + 1 }
+    ensures len { OnOk result (length plan.new ≡ length plan.old) }
+{
+    let told = read_view(style, arena, view, run)?;
+    assert!(rt; told.lines.len() < 1_000);
+    let mut tally = Tally::new(run);
+    lay_out_lines(
+        alloc,
+        style,
+        budget,
+        arena,
+        view,
+        told.classes,
+        told.tokens,
+        5,
+        told.lines,
+        plan,
+        &mut tally,
+        run,
+    )?;
+    Ok(tally)
 }
 
 /// The run of a view is laid out as this text.
@@ -170,24 +218,8 @@ fn is_laid_out(
 {
     let (name, named, _, want) = *case;
     let style = style(named)?;
-    let told = read_view(&style, arena, view, run)?;
     let mut plan = Plan::make(arena, run)?;
-    assert!(rt; told.lines.len() < 1_000);
-    let mut tally = Tally::new(run);
-    lay_out_lines(
-        alloc,
-        &style,
-        1_000,
-        arena,
-        view,
-        told.classes,
-        told.tokens,
-        0,
-        told.lines,
-        &mut plan,
-        &mut tally,
-        run,
-    )?;
+    lay_out(rt, alloc, &style, BUDGET, arena, view, &mut plan, run)?;
     let text = drawn(rt, alloc, arena, view, &plan)?;
     assert!(rt; text.as_slice() == want.as_bytes(), "{name}");
     Ok(())
@@ -198,7 +230,7 @@ fn lays_out_lines(rt: HostRuntime) -> Result<(), Fail> {
     let run = Bump::new(rt.alloc());
     for case in &CASES {
         let arena = build(&run, case.2.as_bytes(), Dialect::C11)?;
-        let view = all_items(&arena, &run)?;
+        let view = items_from(&arena, 0, &run)?;
         is_laid_out(&rt, rt.alloc(), &run, &arena, &view, case)?;
     }
     Ok(())
@@ -214,7 +246,8 @@ fn breaks_behind_directives(rt: HostRuntime) -> Result<(), Fail> {
         "int a =\n\n    1;",
     );
     let arena = build(&run, case.2.as_bytes(), Dialect::C11)?;
-    let view = items_around(&rt, &arena, 3, 7, &run)?;
+    assert_eq!(rt; arena.len(), 9);
+    let view = items_around(&arena, 3, 7, &run)?;
     is_laid_out(&rt, rt.alloc(), &run, &arena, &view, &case)
 }
 
@@ -224,24 +257,17 @@ fn goes_on_from_what_is_decided(rt: HostRuntime) -> Result<(), Fail> {
     let style = style("LLVM")?;
     let arena = build(&run, b"a b c", Dialect::C11)?;
     assert_eq!(rt; arena.len(), 3);
-    let view = all_items(&arena, &run)?;
-    let told = read_view(&style, &arena, &view, &run)?;
+    let view = items_from(&arena, 0, &run)?;
     let mut plan = Plan::make(&arena, &run)?;
     assert_eq!(rt; plan.decide(1, Decision::Old, 9), Decided::New);
-    assert!(rt; told.lines.len() < 1_000);
-    let mut tally = Tally::new(&run);
-    lay_out_lines(
+    lay_out(
+        &rt,
         rt.alloc(),
         &style,
-        1_000,
+        BUDGET,
         &arena,
         &view,
-        told.classes,
-        told.tokens,
-        0,
-        told.lines,
         &mut plan,
-        &mut tally,
         &run,
     )?;
     for (place, decision, end) in [(1, Decision::Old, 9), (2, Decision::Spaces(1), 11)] {
@@ -348,25 +374,9 @@ fn is_searched(rt: &impl Abort, alloc: Global, run: &Bump, row: &Searched) -> Re
     assert!(rt; row.limit <= 1_000 && row.budget <= 16_000_000);
     let style = limited(row.limit)?;
     let arena = build(run, row.input.as_bytes(), Dialect::C11)?;
-    let view = all_items(&arena, run)?;
-    let told = read_view(&style, &arena, &view, run)?;
-    assert!(rt; told.lines.len() < 1_000);
+    let view = items_from(&arena, 0, run)?;
     let mut plan = Plan::make(&arena, run)?;
-    let mut tally = Tally::new(run);
-    lay_out_lines(
-        alloc,
-        &style,
-        row.budget,
-        &arena,
-        &view,
-        told.classes,
-        told.tokens,
-        5,
-        told.lines,
-        &mut plan,
-        &mut tally,
-        run,
-    )?;
+    let tally = lay_out(rt, alloc, &style, row.budget, &arena, &view, &mut plan, run)?;
     let text = drawn(rt, alloc, &arena, &view, &plan)?;
     assert!(rt; text.as_slice() == row.output.as_bytes(), "{}", row.name);
     assert_eq!(rt; tally.searched, row.searched, "{}", row.name);

@@ -3,7 +3,7 @@
 ghost use Rattle.std.specs.Prelude.{◌≡◌, ◌<◌, ◌≤◌, length};
 ghost use Rattle.style_table.specs.Range.{IsInRange};
 
-use crate::fixtures::{style, token};
+use crate::fixtures::{count_of, style, token};
 use break_search::{Outcome, least_breaks, search, starts};
 use bumpalo::Bump;
 use line_state::{allowed, start, step};
@@ -162,9 +162,10 @@ fn compare(
     let mut least: Option<(u128, u32)> = None;
     for bits in 0..1u32 << (line.len() - 1) {
         if let Some(cost) = cost_of(rt, alloc, style, line, fixed, bits)? {
-            if least.is_none_or(|(least, _)| cost < least) {
-                least = Some((cost, bits));
-            }
+            least = match least {
+                Some((best, _)) if best <= cost => least,
+                _ => Some((cost, bits)),
+            };
         }
     }
     let (want, bits) = least.ok_or("an admissible breaking")?;
@@ -342,8 +343,8 @@ fn takes_the_first_of_two_ways_of_one_cost(rt: HostRuntime) -> Result<(), Fail> 
         match search(rt.alloc(), &style, line, 0, fixed, 2_000_000, &run)? {
             Outcome::Found { breaks, cost } => {
                 assert_eq!(rt; cost, 1, "{name}");
-                assert_eq!(rt; breaks.iter().position(|brk| *brk), Some(3), "{name}");
-                assert_eq!(rt; breaks.iter().filter(|brk| **brk).count(), 1, "{name}");
+                assert_eq!(rt; breaks.get(3), Some(&true), "{name}");
+                assert_eq!(rt; count_of(breaks), 1, "{name}");
             }
             Outcome::OverBudget { cells: _ } => assert!(rt; false, "{name}"),
         }
@@ -379,7 +380,7 @@ fn breaks_a_long_initialiser_into_rows(rt: HostRuntime) -> Result<(), Fail> {
     match search(rt.alloc(), &style, line, 0, fixed, 2_000_000, &run)? {
         Outcome::Found { breaks, cost } => {
             assert_eq!(rt; cost, 351);
-            assert_eq!(rt; breaks.iter().filter(|brk| **brk).count(), 342);
+            assert_eq!(rt; count_of(breaks), 342);
         }
         Outcome::OverBudget { cells: _ } => assert!(rt; false),
     }

@@ -1,6 +1,6 @@
 //! The lines of whole texts, as `docs/PROFILE.md` says under "Statements and lines".
 
-use crate::fixtures::{all_items, style};
+use crate::fixtures::{items_from, style};
 use brackets::partners;
 use bumpalo::Bump;
 use std::alloc::Global;
@@ -318,7 +318,7 @@ fn lines_of<'r>(
     run: &'r Bump,
 ) -> Result<&'r [ULine], Fail> {
     let style = style(name)?;
-    let view = all_items(arena, run)?;
+    let view = items_from(arena, 0, run)?;
     let partners = partners(arena, &view, run)?;
     Ok(lines(&style, arena, &view, partners, run)?)
 }

@@ -1,6 +1,6 @@
 //! The roles of whole texts, as `docs/PROFILE.md` says under "Roles".
 
-use crate::fixtures::{all_items, style};
+use crate::fixtures::{items_from, style};
 use annotator::roles;
 use brackets::partners;
 use bumpalo::Bump;
@@ -15,13 +15,12 @@ use line_tokens::Role::{
 use std::process::Abort;
 use std::test::Fail;
 use token_arena::{Dialect, build};
-use token_views::View;
 use unwrapped_lines::{LineKind, ULine, lines};
 
 /// A text with the roles of its items.
 type Case = (&'static str, &'static str, &'static [Role]);
 
-const CASES: [Case; 37] = [
+const CASES: [Case; 43] = [
     (
         "declarators",
         "int *p, *q;",
@@ -257,6 +256,47 @@ const CASES: [Case; 37] = [
         ],
     ),
     (
+        "an attribute",
+        "__attribute__((packed)) int x;",
+        &[
+            Word, CallOpen, GroupOpen, Word, GroupClose, CallClose, Word, Word, Semi,
+        ],
+    ),
+    (
+        "a conditional in another",
+        "x = a ? b ? c : d : e;",
+        &[
+            Word, Assign, Word, Question, Word, Question, Word, TernColon, Word, TernColon, Word,
+            Semi,
+        ],
+    ),
+    (
+        "a macro without a semicolon",
+        "FOO(x)\nint y;",
+        &[Word, CallOpen, Word, CallClose, Word, Word, Semi],
+    ),
+    (
+        "a cast before a cast",
+        "x = (int)(char)c;",
+        &[
+            Word, Assign, CastOpen, Word, CastClose, CastOpen, Word, CastClose, Word, Semi,
+        ],
+    ),
+    (
+        "a function that gives a pointer",
+        "struct s *f(void);",
+        &[
+            Word, Word, Pointer, DeclName, DeclOpen, Word, DeclClose, Semi,
+        ],
+    ),
+    (
+        "a bit-field without a name",
+        "struct s { unsigned : 3; };",
+        &[
+            Word, Word, BlockOpen, Word, FieldColon, Literal, Semi, BlockClose, Semi,
+        ],
+    ),
+    (
         "brackets without partners",
         ") ] }",
         &[GroupClose, IndexClose, BlockClose],
@@ -274,7 +314,7 @@ const CASES: [Case; 37] = [
 fn tokens_of<'r>(text: &[u8], run: &'r Bump) -> Result<&'r [LineTok], Fail> {
     let arena = build(run, text, Dialect::C11)?;
     let style = style("LLVM")?;
-    let view = all_items(&arena, run)?;
+    let view = items_from(&arena, 0, run)?;
     let partners = partners(&arena, &view, run)?;
     let lines = lines(&style, &arena, &view, partners, run)?;
     Ok(roles(&arena, &view, partners, lines, run)?)
@@ -304,7 +344,7 @@ fn takes_an_operand_for_one_line(rt: HostRuntime) -> Result<(), Fail> {
     let arena = build(&run, b"#define M x=(a);if(b){c;}", Dialect::C11)?;
     let count = arena.len();
     assert!(rt; count == 17);
-    let view = View::of(3, count, &run)?;
+    let view = items_from(&arena, 3, &run)?;
     let partners = partners(&arena, &view, &run)?;
     let line = ULine {
         first: 0,

@@ -32,7 +32,9 @@ fn written(
 ) -> Result<Vec<u8>, Fail> {
     let style = tabbed(use_tab)?;
     let mut sink = TextSink::with_room(alloc, 0)?;
-    write_gap(&style, crlf, decision, old, &mut sink).map_err(|_| "a write")?;
+    write_gap(&style, crlf, decision, old, &mut sink)
+        .ok()
+        .ok_or("a write")?;
     Ok(sink.into_text())
 }
 

@@ -4,7 +4,6 @@
 //! top, and the first row whose condition holds decides.
 #![tactic(auto)]
 
-
 ghost use Rattle.std.specs.Prelude.{◌≡◌, ◌<◌, ◌^◌, IsTrue};
 ghost use Rattle.penalties.specs.Breaks.{ends_its_row, is_string, is_all, is_behind, is_never_first, is_never_last, is_assignment_gap, operator_side, ternary_side, break_by_table, cost_in, gap_rule};
 

@@ -22,7 +22,7 @@ use Rattle.pp_model.proofs.Cuts.{cuts_from, cuts_give, units_found, units_are}
 use Rattle.pp_kinds.specs.Units.{passes, word_len, begins_two, number_len, quoted_len, unit_len, head_len}
 use Rattle.pp_kinds.specs.declared.unit.Units.{Units}
 use Rattle.pp_kinds.specs.declared.unit.Units.TheVariants.{Word, Number, Quoted}
-use Rattle.pp_kinds.proofs.WideUnits.{wide_len}
+use Rattle.c_lexer.proofs.WideOff.{wide_len}
 
 -- Before a sequence of such units a unit has the length that is told of the text.
 abbrev pub HasLen : (List ℕ → Bool) → (List ℕ → Bool) → (List ℕ → ℕ) → Type 0

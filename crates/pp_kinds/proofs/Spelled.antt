@@ -7,8 +7,7 @@ use Rattle.std.proofs.lemmas.Bool.{and_parts, and_from, or_left, or_right, or_ca
 use Rattle.std.proofs.lemmas.List.{append-nil}
 use Rattle.c_chars.specs.declared.Dialect.TheVariants.{C11, C23}
 use Rattle.c_grammar.specs.Grammar.{is_same, is_quoted_unit, is_char_prefix, is_string_prefix}
-use Rattle.c_grammar.proofs.Lists.{same_is, same_refl}
-use Rattle.c_grammar.proofs.LikeGaps.{length_none}
+use Rattle.c_grammar.proofs.Lists.{same_is, same_refl, length_none}
 use Rattle.pp_model.specs.Finding.{cuts, are_units, is_inside, is_quoted}
 use Rattle.pp_model.proofs.Cuts.{cuts_from, cuts_give}
 use Rattle.pp_kinds.specs.Literals.{closes, ends_cut_off, is_open_body}

@@ -1,12 +1,11 @@
 //! Classes of characters (C11 6.4), and spellings of one unit.
 
-ghost use Rattle.std.specs.Prelude.{◌≡◌, ◌==◌, ◌||◌, ◌&&◌, not, nat_le, codes, [], ◌∷◌, IsTrue, IsFalse, MatchOption};
+ghost use Rattle.std.specs.Prelude.{◌≡◌, ◌==◌, ◌||◌, ◌&&◌, not, nat_le, codes, [], ◌∷◌};
 ghost use Rattle.std.specs.List.{list_all};
 ghost use Rattle.unicode_ident.specs.Ident.{is_xid_start, is_xid_continue};
 ghost use Rattle.c_grammar.specs.Grammar.{is_white, is_new_line, is_digit, is_letter, is_hex, is_sign, is_exponent, is_of, is_wide, is_universal_name, is_letter_unit, is_word_unit, is_number_head, is_number_unit, is_quoted_unit, is_separated, is_one, is_two};
-ghost use Rattle.c_lexer.specs.Unit.{any_char, only};
 
-use c_lexer::Dialect;
+use c_lexer::{Dialect, only_char};
 
 #[tactic(auto, unfolding(c_grammar::specs::Grammar::is_white))]
 pub(crate) fn is_white(b: u8) -> bool
@@ -81,33 +80,11 @@ fn is_universal_name(unit: &[u8]) -> bool
     }
 }
 
-/// The one character past ASCII that the bytes are, in UTF-8; none where they are none.
-fn wide_char(bytes: &[u8]) -> Option<char>
-    ensures { MatchOption result
-        (IsFalse (is_wide any_char bytes.now))
-        (λ c. IsTrue (is_wide (only c) bytes.now)) }
-{
-    let Ok(text) = std::str::from_utf8(bytes) else {
-        return None;
-    };
-    let mut chars = text.chars();
-    let Some(c) = chars.next() else {
-        return None;
-    };
-    if (c as u32) < 128 {
-        return None;
-    }
-    match chars.next() {
-        Some(_) => None,
-        None => Some(c),
-    }
-}
-
 /// A character past ASCII that starts an identifier.
 fn starts_word(unit: &[u8]) -> bool
     ensures { result ≡ is_wide is_xid_start unit.now }
 {
-    match wide_char(unit) {
+    match only_char(unit) {
         Some(c) => unicode_ident::is_xid_start(c),
         None => false,
     }
@@ -117,7 +94,7 @@ fn starts_word(unit: &[u8]) -> bool
 pub(crate) fn starts_no_word(unit: &[u8]) -> bool
     ensures { result ≡ is_wide (λ c. not (is_xid_start c)) unit.now }
 {
-    match wide_char(unit) {
+    match only_char(unit) {
         Some(c) => !unicode_ident::is_xid_start(c),
         None => false,
     }
@@ -127,7 +104,7 @@ pub(crate) fn starts_no_word(unit: &[u8]) -> bool
 fn continues_word(unit: &[u8]) -> bool
     ensures { result ≡ is_wide is_xid_continue unit.now }
 {
-    match wide_char(unit) {
+    match only_char(unit) {
         Some(c) => unicode_ident::is_xid_continue(c),
         None => false,
     }

@@ -1,13 +1,12 @@
 //! Sequences of units: what identifiers, numbers and literals are made of (C11 6.4).
 
-ghost use Rattle.std.specs.Prelude.{◌≡◌, ◌≤◌, ◌+◌};
-ghost use Rattle.std.specs.Str.{continuation_len};
+ghost use Rattle.std.specs.Prelude.{◌≡◌, ◌≤◌};
 ghost use Rattle.pp_model.specs.Finding.{are_units, is_headed};
 ghost use Rattle.c_grammar.specs.Grammar.{is_letter_unit, is_word_unit, is_number_head, is_number_unit};
 ghost use Rattle.pp_kinds.specs.Units.{passes, unit_len, word_len, name_len, begins_two, quoted_len, head_len};
 
 use crate::class;
-use c_lexer::Dialect;
+use c_lexer::{Dialect, char_len};
 
 /// Which units a sequence has.
 #[derive(Clone, Copy)]
@@ -18,22 +17,6 @@ pub(crate) enum Units {
     Number(Dialect),
     /// What may stand between two of these quotes.
     Quoted(u8),
-}
-
-/// How many bytes a character has that begins with this one.
-fn char_len(b: u8) -> usize
-    ensures len { result ≡ continuation_len b + 1 }
-    ensures some { 1 ≤ result }
-{
-    if b < 128 {
-        1
-    } else if b < 224 {
-        2
-    } else if b < 240 {
-        3
-    } else {
-        4
-    }
 }
 
 /// How many a universal character name has that begins with a backslash and this.

@@ -9,20 +9,21 @@ use Rattle.c_chars.specs.Coming.{AreBetween}
 use Rattle.c_chars.specs.declared.LogicalChar.{LogicalChar}
 use Rattle.c_chars.specs.declared.Dialect.{Dialect}
 use Rattle.c_grammar.specs.Grammar.{is_same, is_white, is_new_line, Whole}
-use Rattle.c_grammar.specs.Items.{Place, LineStart, past_gap, past_item, IsNext}
+use Rattle.c_grammar.specs.Items.{Place, LineStart, past_gap, IsNext}
 use Rattle.c_grammar.specs.Text.{ReadItem, Left, IsStep, start_of, end_of, raw_of}
 use Rattle.c_grammar.specs.Twin.{Part, part_of}
 use Rattle.c_grammar.specs.declared.ItemKind.{ItemKind}
 use Rattle.c_grammar.proofs.Unique.{spelled_begins}
 use Rattle.c_lexer.specs.Reading.{Reading, IsNextLexeme}
+use Rattle.c_lexer.specs.Place.{place_of}
 use Rattle.c_lexer.specs.declared.item.Lexeme.{Lexeme}
+use Rattle.c_lexer.specs.declared.place.Standing.{Standing}
 use Rattle.pp_model.specs.Finding.{is_comment}
 use Rattle.pp_model.specs.Stream.{Streamed, line_at, line_begun}
-use Rattle.pp_stream.specs.View.{place_shown, part_shown}
+use Rattle.pp_stream.specs.View.{part_shown}
 use Rattle.pp_stream.specs.Walk.{before, past, first_line_end, part_here, IsNextOf, HasNext}
 use Rattle.pp_stream.specs.Reading.{IsRead}
 use Rattle.pp_stream.specs.declared.item.Streamed.{Streamed as StreamedValue}
-use Rattle.pp_stream.specs.declared.place.Place.{Place as PlaceValue}
 use Rattle.pp_stream.specs.declared.reader.Reader.{Reader}
 use Rattle.pp_stream.proofs.Walks.{IsSpread, spread, raw_ends, line_within, begun_is, has_line, is_white_gap, part_told}
 
@@ -63,22 +64,20 @@ streamed_made : (part part2 : Part) (kind kind2 : ItemKind) (text text2 : List �
 streamed_made part part2 kind kind2 text text2 white white2 line line2 begun begun2 a b c d e f = cc
 
 -- What a walk over the item's characters has found.
-pub record IsWalked (text : List ℕ) (old new : Reader) (s : StreamedValue) (lexeme : Lexeme) (place : PlaceValue) : Type 0 where
+pub record IsWalked (text : List ℕ) (old new : Reader) (s : StreamedValue) (lexeme : Lexeme) (stood standing : Standing) : Type 0 where
   pub begun : s.begun ≡ option_map_or (line_at text) (first_line_end (before lexeme.item.start old.chars.chars)) 0
   pub line : s.item.line ≡ line_at text lexeme.item.start
   pub spelling : s.item.text.items ≡ bytes_of (before (lexeme.item.start + length lexeme.item.raw.now) (past lexeme.item.start old.chars.chars))
   pub rest : new.chars.chars ≡ past (lexeme.item.start + length lexeme.item.raw.now) (past lexeme.item.start old.chars.chars)
-  pub place_is : place_shown place ≡ (if not (lexeme.lines == 0) then LineStart else place_shown old.place)
-  pub part : part_shown s.part ≡ part_here (place_shown place) lexeme.white s.item.kind s.item.text.items
-  pub place_behind : place_shown new.place ≡ past_item old.dialect (place_shown place) s.item.kind s.item.text.items
+  pub place_is : place_of standing ≡ (if not (lexeme.lines == 0) then LineStart else place_of stood)
+  pub part : part_shown s.part ≡ part_here (place_of standing) lexeme.white s.item.kind s.item.text.items
   pub white : s.item.white ≡ (old.after_comment || lexeme.white)
   pub kind : s.item.kind ≡ lexeme.item.kind
   pub after : new.after_comment ≡ is_comment lexeme.item.kind
-  pub dialect : new.dialect ≡ old.dialect
 
-pub walked : (text : List ℕ) (old new : Reader) (s : StreamedValue) (lexeme : Lexeme) (place : PlaceValue) → AreBetween old.lines.at old.chars.chars (length text) → IsWalked text old new s lexeme place
-    → (read : ReadItem) (rest : List LogicalChar) → IsNextOf text old.chars.chars lexeme read rest → IsRead text old new s read rest
-walked text old new s lexeme place b w read rest next =
+pub walked : (text : List ℕ) (old new : Reader) (s : StreamedValue) (lexeme : Lexeme) (stood standing : Standing) → AreBetween old.lines.at old.chars.chars (length text) → IsWalked text old new s lexeme stood standing
+    → (read : ReadItem) (rest : List LogicalChar) → IsNextOf text old.chars.chars lexeme read rest → IsRead text (place_of stood) old new s read rest
+walked text old new s lexeme stood standing b w read rest next =
     let chars = old.chars.chars in
     let sp = spread_of text old.lines.at chars lexeme read rest b next in
     let gap = gap_before text old.lines.at chars lexeme read rest b next in
@@ -90,29 +89,23 @@ walked text old new s lexeme place b w read rest next =
     w.rest ∙ (ap (λ k. past k (past lexeme.item.start chars)) end ∙ (ap (past (end_of read)) behind ∙ sp.left)) in
     let kind : s.item.kind ≡ read.kind = w.kind ∙ next.kind_is in
     let lines : not (lexeme.lines == 0) ≡ list_any is_new_line (bytes_of read.gap) = ap (λ n. not (n == 0)) next.lines_are ∙ sym (has_line read.gap) in
-    let here : place_shown place ≡ past_gap (place_shown old.place) (bytes_of read.gap) = w.place_is ∙ ap (λ z. if z then LineStart else place_shown old.place) lines in
+    let here : place_of standing ≡ past_gap (place_of stood) (bytes_of read.gap) = w.place_is ∙ ap (λ z. if z then LineStart else place_of stood) lines in
     let white : lexeme.white ≡ not (is_same (bytes_of read.gap) []) = next.white_is ∙ is_white_gap read.gap in
-    let part : part_shown s.part ≡ part_of (past_gap (place_shown old.place) (bytes_of read.gap)) (bytes_of read.gap) read.kind (bytes_of read.chars) =
+    let part : part_shown s.part ≡ part_of (past_gap (place_of stood) (bytes_of read.gap)) (bytes_of read.gap) read.kind (bytes_of read.chars) =
     w.part
     ∙ (ap (λ p. part_here p lexeme.white s.item.kind s.item.text.items) here
-    ∙ (ap (λ z. part_here (past_gap (place_shown old.place) (bytes_of read.gap)) z s.item.kind s.item.text.items) white
-    ∙ (ap (λ k. part_here (past_gap (place_shown old.place) (bytes_of read.gap)) (not (is_same (bytes_of read.gap) [])) k s.item.text.items) kind
-    ∙ (ap (λ t. part_here (past_gap (place_shown old.place) (bytes_of read.gap)) (not (is_same (bytes_of read.gap) [])) read.kind t) spelling
-    ∙ part_told (past_gap (place_shown old.place) (bytes_of read.gap)) (bytes_of read.gap) read.kind (bytes_of read.chars))))) in
+    ∙ (ap (λ z. part_here (past_gap (place_of stood) (bytes_of read.gap)) z s.item.kind s.item.text.items) white
+    ∙ (ap (λ k. part_here (past_gap (place_of stood) (bytes_of read.gap)) (not (is_same (bytes_of read.gap) [])) k s.item.text.items) kind
+    ∙ (ap (λ t. part_here (past_gap (place_of stood) (bytes_of read.gap)) (not (is_same (bytes_of read.gap) [])) read.kind t) spelling
+    ∙ part_told (past_gap (place_of stood) (bytes_of read.gap)) (bytes_of read.gap) read.kind (bytes_of read.chars))))) in
     let begun : s.begun ≡ line_begun text read.gap = w.begun ∙ (ap (λ g. option_map_or (line_at text) (first_line_end g) 0) gap ∙ sym (begun_is text read.gap)) in
     record {
       item =
-          streamed_made (part_shown s.part) (part_of (past_gap (place_shown old.place) (bytes_of read.gap)) (bytes_of read.gap) read.kind (bytes_of read.chars)) s.item.kind read.kind s.item.text.items (bytes_of read.chars)
+          streamed_made (part_shown s.part) (part_of (past_gap (place_of stood) (bytes_of read.gap)) (bytes_of read.gap) read.kind (bytes_of read.chars)) s.item.kind read.kind s.item.text.items (bytes_of read.chars)
           s.item.white (old.after_comment || not (is_same (bytes_of read.gap) [])) s.item.line (line_at text (start_of read)) s.begun (line_begun text read.gap)
           part kind spelling (w.white ∙ ap (λ z. old.after_comment || z) white) (w.line ∙ ap (line_at text) next.start_is) begun;
       chars = left;
-      place =
-          w.place_behind
-          ∙ (ap (λ p. past_item old.dialect p s.item.kind s.item.text.items) here
-          ∙ (ap (λ k. past_item old.dialect (past_gap (place_shown old.place) (bytes_of read.gap)) k s.item.text.items) kind
-          ∙ ap (past_item old.dialect (past_gap (place_shown old.place) (bytes_of read.gap)) read.kind) spelling));
       after = w.after ∙ ap is_comment next.kind_is;
-      dialect = w.dialect;
     }
 
 -- what is left stands behind the start of the item

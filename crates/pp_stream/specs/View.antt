@@ -1,7 +1,6 @@
 -- What items and sections as values stand for in the model.
 use Rattle.std.specs.Prelude.{List, Option, Some, None, map, Vec}
 use Rattle.std.specs.declared.alloc.Global.{Global}
-use Rattle.c_grammar.specs.Items.{Place}
 use Rattle.c_grammar.specs.Twin.{Part}
 use Rattle.pp_model.specs.Preprocess.{Item, SectionKind, Section, Source, Lexed, NotLexed}
 use Rattle.pp_model.specs.Stream.{Streamed, Inside, InText, InDirective}
@@ -10,7 +9,6 @@ use Rattle.pp_stream.specs.declared.item.PpSection.{PpSection}
 use Rattle.pp_stream.specs.declared.item.Part.{Part as PartValue}
 use Rattle.pp_stream.specs.declared.item.Streamed.{Streamed as StreamedValue}
 use Rattle.pp_stream.specs.declared.item.SectionKind.{SectionKind as KindValue}
-use Rattle.pp_stream.specs.declared.place.Place.{Place as PlaceValue}
 use Rattle.pp_stream.specs.declared.cut.Within.{Within as WithinValue}
 
 -- an item
@@ -62,16 +60,6 @@ part_shown PartValue.OfDirective = Part.OfDirective
 -- an item as it is read
 abbrev pub streamed_shown : StreamedValue → Streamed
 streamed_shown s = record { part = part_shown s.part; kind = s.item.kind; text = s.item.text.items; white = s.item.white; line = s.item.line; begun = s.begun }
-
--- where an item stands
-abbrev pub place_shown : PlaceValue → Place
-place_shown PlaceValue.LineStart = Place.LineStart
-place_shown PlaceValue.AfterHash = Place.AfterHash
-place_shown PlaceValue.AfterInclude = Place.AfterInclude
-place_shown PlaceValue.AfterDefine = Place.AfterDefine
-place_shown PlaceValue.AfterMacroName = Place.AfterMacroName
-place_shown PlaceValue.InDirective = Place.InDirective
-place_shown PlaceValue.InText = Place.InText
 
 -- the section that is read, with its items so far
 abbrev pub within_shown : WithinValue → List Item → Inside

@@ -8,7 +8,7 @@ mod cut;
 mod item;
 mod lines;
 mod name;
-mod place;
+mod part;
 mod reader;
 mod sections;
 

@@ -3,20 +3,19 @@
 ghost use Rattle.std.specs.Prelude.{◌≡◌, ◌≤◌, ◌<◌, ◌∷◌, [], List, false, length, MatchOption, IfOk};
 ghost use Rattle.c_chars.specs.Characters.{bytes_of, logical};
 ghost use Rattle.c_chars.specs.Coming.{AreBetween};
-ghost use Rattle.c_grammar.specs.Items.{LineStart};
 ghost use Rattle.c_grammar.specs.Text.{ReadItem};
 ghost use Rattle.c_chars.specs.declared.LogicalChar.{LogicalChar};
 ghost use Rattle.c_chars.specs.declared.TheConstants.{LIMIT};
+ghost use Rattle.c_lexer.specs.Place.{place_of};
 ghost use Rattle.pp_model.specs.Finding.{is_comment};
-ghost use Rattle.pp_stream.specs.View.{place_shown};
 ghost use Rattle.pp_stream.specs.Walk.{before, past, first_line_end, IsNextOf, HasNext};
 ghost use Rattle.pp_stream.specs.Reading.{IsReaderOf, IsRead};
 
 use crate::item::{PpItem, Streamed};
 use crate::lines::Lines;
-use crate::place::{Place, part_of, past_gap, past_item};
+use crate::part::part_of;
 use c_chars::{Chars, LogicalChar};
-use c_lexer::{Dialect, ItemKind, LIMIT, Lexeme};
+use c_lexer::{Dialect, ItemKind, LIMIT, Lexeme, Standing};
 use std::alloc::{AllocError, Global};
 
 /// The next character, where it begins before this offset.
@@ -73,8 +72,6 @@ fn is_comment(kind: ItemKind) -> bool
 pub(crate) struct Reader<'s> {
     chars: Chars<'s>,
     lines: Lines<'s>,
-    dialect: Dialect,
-    place: Place,
     after_comment: bool,
 }
 
@@ -84,24 +81,25 @@ impl<'s> Reader<'s> {
         requires fits { length text.now ≤ LIMIT }
         ensures reader { IsReaderOf text.now result }
         ensures chars { result.chars.chars ≡ logical dialect text.now }
-        ensures dialect { result.dialect ≡ dialect }
-        ensures place { place_shown result.place ≡ LineStart }
         ensures after { result.after_comment ≡ false }
     {
         Reader {
             chars: Chars::new(text, dialect),
             lines: Lines::new(text),
-            dialect,
-            place: Place::LineStart,
             after_comment: false,
         }
     }
 
-    /// Reads the item of which the lexer has told.
-    pub fn read(&mut self, alloc: Global, lexeme: &Lexeme<'_>) -> Result<Streamed, AllocError>
+    /// Reads the item of which the lexer has told, and before which it stood so.
+    pub fn read(
+        &mut self,
+        alloc: Global,
+        stood: Standing,
+        lexeme: &Lexeme<'_>,
+    ) -> Result<Streamed, AllocError>
         requires reader { IsReaderOf self.old.lines.text.now self.old }
         requires next { HasNext self.old.lines.text.now self.old.chars.chars lexeme.now }
-        ensures read { IfOk result (λ s. (read : ReadItem) (rest : List LogicalChar) → IsNextOf self.old.lines.text.now self.old.chars.chars lexeme.now read rest → IsRead self.old.lines.text.now self.old self.new s read rest) }
+        ensures read { IfOk result (λ s. (read : ReadItem) (rest : List LogicalChar) → IsNextOf self.old.lines.text.now self.old.chars.chars lexeme.now read rest → IsRead self.old.lines.text.now (place_of stood) self.old self.new s read rest) }
         ensures reader { IfOk result (λ s. IsReaderOf self.old.lines.text.now self.new) }
     {
         let start = lexeme.item.start as usize;
@@ -110,9 +108,8 @@ impl<'s> Reader<'s> {
         let line = self.lines.line_of(start);
         let text = read_spelling(alloc, &mut self.chars, start + lexeme.item.raw.len())?;
         let kind = lexeme.item.kind;
-        let place = past_gap(self.place, lexeme.lines != 0);
-        let part = part_of(place, lexeme.white, kind, text.as_slice());
-        self.place = past_item(self.dialect, place, kind, text.as_slice());
+        let standing = stood.past_gap(lexeme.lines != 0);
+        let part = part_of(standing, lexeme.white, kind, text.as_slice());
         let white = self.after_comment || lexeme.white;
         self.after_comment = is_comment(kind);
         Ok(Streamed {

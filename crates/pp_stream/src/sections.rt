@@ -24,8 +24,9 @@ pub fn sections_of(
     let mut reader = Reader::new(text, dialect);
     let mut cutter = Cutter::new(alloc, dialect);
     loop {
+        let stood = lexer.standing();
         match lexer.next_lexeme() {
-            Ok(Some(lexeme)) => cutter.take(reader.read(alloc, &lexeme)?)?,
+            Ok(Some(lexeme)) => cutter.take(reader.read(alloc, stood, &lexeme)?)?,
             Ok(None) => {
                 let sections = cutter.finish()?;
                 return Ok(Some(sections));

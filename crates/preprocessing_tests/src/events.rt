@@ -1,13 +1,13 @@
-// Texts and their events, by the examples of C11 6.10.3 and by its rules of conditionals, includes and lines.
+//! Texts and their events, by the examples of C11 6.10.3 and by its rules of conditionals, includes and lines.
 
-use pp_text::{Dialect, EventsFault, events};
 use pp_directives::{Condition, Event, IncludeText, Setting};
 use pp_events::{PpToken, Spaced, spelling_of};
+use pp_text::{Dialect, EventsFault, events};
 use std::alloc::{AllocError, Global};
 use std::str::from_utf8;
 use std::test::Fail;
 
-// Bytes of a spelling.
+/// Bytes of a spelling.
 fn push_bytes(out: &mut String, bytes: &[u8]) -> Result<(), AllocError> {
     match from_utf8(bytes) {
         Ok(text) => out.push_str(text),
@@ -15,7 +15,7 @@ fn push_bytes(out: &mut String, bytes: &[u8]) -> Result<(), AllocError> {
     }
 }
 
-// A string that `#` made: its tokens, a blank where white space stands before one.
+/// A string that `#` made: its tokens, a blank where white space stands before one.
 fn show_string(out: &mut String, parts: &Vec<Spaced>) -> Result<(), AllocError> {
     out.push_str("str<")?;
     for part in parts {
@@ -27,7 +27,7 @@ fn show_string(out: &mut String, parts: &Vec<Spaced>) -> Result<(), AllocError> 
     out.push_str(">")
 }
 
-// A token: its spelling, `line 7` of a line's number, and `str<x>` of a string that `#` made.
+/// A token: its spelling, `line 7` of a line's number, and `str<x>` of a string that `#` made.
 fn show_token(out: &mut String, token: &PpToken) -> Result<(), AllocError> {
     match token {
         PpToken::Plain { .. } => push_bytes(out, spelling_of(token)),
@@ -37,7 +37,7 @@ fn show_token(out: &mut String, token: &PpToken) -> Result<(), AllocError> {
     }
 }
 
-// Tokens behind a word, in brackets.
+/// Tokens behind a word, in brackets.
 fn show_tokens(out: &mut String, word: &str, tokens: &Vec<PpToken>) -> Result<(), AllocError> {
     out.push_str(word)?;
     out.push_str("[")?;
@@ -48,7 +48,7 @@ fn show_tokens(out: &mut String, word: &str, tokens: &Vec<PpToken>) -> Result<()
     out.push_str(" ]")
 }
 
-// An event: a token as it is, and every other one by a word in capital letters.
+/// An event: a token as it is, and every other one by a word in capital letters.
 fn show_event(out: &mut String, event: &Event) -> Result<(), AllocError> {
     match event {
         Event::Token(token) => show_token(out, token),
@@ -64,7 +64,7 @@ fn show_event(out: &mut String, event: &Event) -> Result<(), AllocError> {
     }
 }
 
-// Events in order, a blank behind each.
+/// Events in order, a blank behind each.
 fn show_events(alloc: Global, found: &Vec<Event>) -> Result<String, AllocError> {
     let mut out = String::new(alloc);
     for event in found {
@@ -74,14 +74,14 @@ fn show_events(alloc: Global, found: &Vec<Event>) -> Result<String, AllocError> 
     Ok(out)
 }
 
-// An item.
+/// An item.
 fn plain(alloc: Global, text: &[u8]) -> Result<PpToken, AllocError> {
     Ok(PpToken::Plain {
         text: text.to_vec(alloc)?,
     })
 }
 
-// Items.
+/// Items.
 fn key_of(alloc: Global, texts: &[&[u8]]) -> Result<Vec<PpToken>, AllocError> {
     let mut key = Vec::new(alloc);
     for text in texts {
@@ -90,7 +90,7 @@ fn key_of(alloc: Global, texts: &[&[u8]]) -> Result<Vec<PpToken>, AllocError> {
     Ok(key)
 }
 
-// A condition that holds.
+/// A condition that holds.
 fn holding(alloc: Global, texts: &[&[u8]]) -> Result<Condition, AllocError> {
     Ok(Condition {
         key: key_of(alloc, texts)?,
@@ -98,7 +98,7 @@ fn holding(alloc: Global, texts: &[&[u8]]) -> Result<Condition, AllocError> {
     })
 }
 
-// The conditions `1`, `2 > 1` and `1 && 0` hold, and no other.
+/// The conditions `1`, `2 > 1` and `1 && 0` hold, and no other.
 fn conditions(alloc: Global) -> Result<Vec<Condition>, AllocError> {
     let mut made = Vec::new(alloc);
     made.push(holding(alloc, &[b"1"])?)?;
@@ -107,7 +107,7 @@ fn conditions(alloc: Global) -> Result<Vec<Condition>, AllocError> {
     Ok(made)
 }
 
-// An include of `"a.h"` finds these bytes.
+/// An include of `"a.h"` finds these bytes.
 fn includes(alloc: Global, bytes: &[u8]) -> Result<Vec<IncludeText>, AllocError> {
     let mut made = Vec::new(alloc);
     made.push(IncludeText {
@@ -117,7 +117,7 @@ fn includes(alloc: Global, bytes: &[u8]) -> Result<Vec<IncludeText>, AllocError>
     Ok(made)
 }
 
-// The events of a text.
+/// The events of a text.
 fn shown(
     alloc: Global,
     header: &[u8],
@@ -173,12 +173,14 @@ fn expands_the_examples_of_6_10_3(rt: HostRuntime) -> Result<(), Fail> {
         ),
         (
             "6.10.3.5 EXAMPLE 5: placemarkers",
-            b"#define t(x,y,z) x ## y ## z\nint j[] = { t(1,2,3), t(,4,5), t(6,,7), t(8,9,),\n t(10,,), t(,11,), t(,,12), t(,,) };\n",
+            b"#define t(x,y,z) x ## y ## z\nint j[] = { t(1,2,3), t(,4,5), t(6,,7), t(8,9,),\n\
+              t(10,,), t(,11,), t(,,12), t(,,) };\n",
             "int j [ ] = { 123 , 45 , 67 , 89 , 10 , 11 , 12 , } ; ",
         ),
         (
             "6.10.3.5 EXAMPLE 6: redefinitions",
-            b"#define OBJ_LIKE (1-1)\n#define OBJ_LIKE /* white space */ (1-1) /* other */\n#define FUNC_LIKE(a)   ( a )\n\
+            b"#define OBJ_LIKE (1-1)\n#define OBJ_LIKE /* white space */ (1-1) /* other */\n\
+              #define FUNC_LIKE(a)   ( a )\n\
               #define FUNC_LIKE( a )( /* note the white space */ \\\n a /* other stuff on this line\n */ )\n\
               OBJ_LIKE FUNC_LIKE(b)\n",
             "( 1 - 1 ) ( b ) ",
@@ -189,7 +191,8 @@ fn expands_the_examples_of_6_10_3(rt: HostRuntime) -> Result<(), Fail> {
               #define report(test, ...) ((test)?puts(#test):\\\n printf(__VA_ARGS__))\n\
               debug(\"Flag\");\ndebug(\"X = %d\\n\", x);\nshowlist(The first, second, and third items.);\n\
               report(x>y, \"x is %d but y is %d\", x, y);\n",
-            "fprintf ( stderr , \"Flag\" ) ; fprintf ( stderr , \"X = %d\\n\" , x ) ; puts ( str<The first, second, and third items.> ) ; \
+            "fprintf ( stderr , \"Flag\" ) ; fprintf ( stderr , \"X = %d\\n\" , x ) ; \
+             puts ( str<The first, second, and third items.> ) ; \
              ( ( x > y ) ? puts ( str<x>y> ) : printf ( \"x is %d but y is %d\" , x , y ) ) ; ",
         ),
     ];
@@ -381,33 +384,36 @@ fn counts_lines_and_tells_of_the_rest(rt: HostRuntime) -> Result<(), Fail> {
     Ok(())
 }
 
+/// The turns, a text and its events.
 #[test]
 fn spends_turns(rt: HostRuntime) -> Result<(), Fail> {
-    let told = shown(rt.alloc(), b"", 0, 2, b"a b c")?;
-    assert_eq!(rt; told.as_str(), "SPENT ");
-    let told = shown(rt.alloc(), b"", 0, 3, b"a b c")?;
-    assert_eq!(rt; told.as_str(), "a b c ");
+    let cases: [(&str, u64, &[u8], &str); 3] = [
+        ("a turn too few", 2, b"a b c", "SPENT "),
+        ("a turn for each token", 3, b"a b c", "a b c "),
+        (
+            "a turn for each item, those of directives and of skipped groups among them",
+            29,
+            b"void g(void){\n#ifdef A\nif(x){\n#else\n  if (y){\n#endif\nf( );\n}\n}\n",
+            "void g ( void ) { if ( y ) { f ( ) ; } } ",
+        ),
+    ];
+    for (name, turns, text, expected) in cases {
+        let told = shown(rt.alloc(), b"", 0, turns, text)?;
+        assert_eq!(rt; told.as_str(), expected, "{name}");
+    }
     Ok(())
 }
 
-#[test]
-fn tells_the_items_outside_of_skipped_groups(rt: HostRuntime) -> Result<(), Fail> {
-    // 29 items are 17 tokens and the items of a skipped group and of three directives. A turn for each suffices.
-    let text: &[u8] = b"void g(void){\n#ifdef A\nif(x){\n#else\n  if (y){\n#endif\nf( );\n}\n}\n";
-    let formatted: &[u8] =
-        b"void g(void) {\n#ifdef A\n  if (x) {\n#else\n  if (y) {\n#endif\n    f();\n  }\n}\n";
-    let tokens = "void g ( void ) { if ( y ) { f ( ) ; } } ";
-    let told = shown(rt.alloc(), b"", 0, 29, text)?;
-    assert_eq!(rt; told.as_str(), tokens);
-    let told = shown(rt.alloc(), b"", 0, 29, formatted)?;
-    assert_eq!(rt; told.as_str(), tokens);
-    Ok(())
-}
-
+/// A text, one of other white space, and the events of both; 6.10.3p10 looks at the white space before a `(`.
 #[test]
 fn tells_the_same_of_a_formatted_text(rt: HostRuntime) -> Result<(), Fail> {
-    // A text, and one of other white space; 6.10.3p10 looks at the white space before a `(`.
-    let cases: [(&str, &[u8], &[u8], &str); 9] = [
+    let cases: [(&str, &[u8], &[u8], &str); 10] = [
+        (
+            "a block that each branch opens",
+            b"void g(void){\n#ifdef A\nif(x){\n#else\n  if (y){\n#endif\nf( );\n}\n}\n",
+            b"void g(void) {\n#ifdef A\n  if (x) {\n#else\n  if (y) {\n#endif\n    f();\n  }\n}\n",
+            "void g ( void ) { if ( y ) { f ( ) ; } } ",
+        ),
         (
             "a parameter list behind a splice, 6.10.3p10",
             b"#define F\\\n(x) x\nF(a)\n",

@@ -1,4 +1,5 @@
-// A macro whose body has its own name, as C11 6.10.3.4 has it.
+//! A macro whose body has its own name, as C11 6.10.3.4 has it.
+
 ghost use Rattle.std.specs.Prelude.{None};
 
 use pp_events::{ItemKind, Macro, Part, PpToken, Spellings, Tok, What, expand};
@@ -6,7 +7,7 @@ use std::alloc::{AllocError, Global};
 use std::collections::VecDeque;
 use std::test::Fail;
 
-// Tells of no spelling that it is an item.
+/// Tells of no spelling that it is an item.
 struct NoItem;
 
 impl Spellings for NoItem {
@@ -17,7 +18,7 @@ impl Spellings for NoItem {
     }
 }
 
-// An identifier with white space before it.
+/// An identifier with white space before it.
 fn word(alloc: Global, text: &[u8]) -> Result<Tok, AllocError> {
     Ok(Tok {
         token: PpToken::Plain {
@@ -30,7 +31,7 @@ fn word(alloc: Global, text: &[u8]) -> Result<Tok, AllocError> {
     })
 }
 
-// `#define z z w`
+/// `#define z z w`
 fn z_macro(alloc: Global) -> Result<Macro, AllocError> {
     let mut body = Vec::new(alloc);
     for text in [b"z", b"w"] {
@@ -54,16 +55,19 @@ fn replaces_a_name_once(rt: HostRuntime) -> Result<(), Fail> {
     let alloc = rt.alloc();
     let mut table = Vec::new(alloc);
     table.push(z_macro(alloc)?)?;
-    for (turns, count) in [(3u64, 2usize), (2, 0)] {
+    let cases = [
+        ("a turn for each name", 3u64, Some((2usize, 0u64))),
+        ("a turn that is left", 4, Some((2, 1))),
+        ("a turn too few", 2, None),
+    ];
+    for (name, turns, expected) in cases {
         let mut text = VecDeque::new(alloc);
         text.push_back(word(alloc, b"z")?)?;
-        match expand(alloc, &NoItem, table.as_slice(), turns, text)? {
-            Some((tokens, left)) => {
-                assert_eq!(rt; tokens.len(), count);
-                assert_eq!(rt; left, 0u64);
-            }
-            None => assert_eq!(rt; count, 0usize),
-        }
+        let told = match expand(alloc, &NoItem, table.as_slice(), turns, text)? {
+            Some((tokens, left)) => Some((tokens.len(), left)),
+            None => None,
+        };
+        assert_eq!(rt; told, expected, "{name}");
     }
     Ok(())
 }

@@ -1,58 +1,60 @@
-// Spellings and their kinds, by C11 6.4.
+//! Spellings and their kinds, by C11 6.4.
 
 use pp_kinds::{Dialect, ItemKind, kind_of};
-use std::test::Fail;
 
 #[test]
-fn tells_the_kind_of_one_item(rt: HostRuntime) -> Result<(), Fail> {
-    let cases: [(&[u8], Option<ItemKind>); 30] = [
-        (b"", None),
-        (b"a", Some(ItemKind::Identifier)),
-        (b"_a1$", Some(ItemKind::Identifier)),
-        (b"\\u00e9a", Some(ItemKind::Identifier)),
-        (b"\\u00e", None),
-        ("d\u{e9}j\u{e0}".as_bytes(), Some(ItemKind::Identifier)),
-        (b"a b", None),
-        (b"1.5e+3", Some(ItemKind::Number)),
-        (b".5", Some(ItemKind::Number)),
-        (b"1+", None),
-        (b"0x1p-2e+", Some(ItemKind::Number)),
-        (b"'a'", Some(ItemKind::CharConst)),
-        (b"L'\\''", Some(ItemKind::CharConst)),
-        (b"u8'a'", None),
-        (b"''", Some(ItemKind::StrayQuote)),
-        (b"'a", Some(ItemKind::StrayQuote)),
-        (b"\"\\", Some(ItemKind::StrayQuote)),
-        (b"\"a\"", Some(ItemKind::StringLit)),
-        (b"u8\"\"", Some(ItemKind::StringLit)),
-        (b"\"??/\"", Some(ItemKind::StringLit)),
-        (b"L\"a\"b\"", None),
-        (b"\"a\nb\"", None),
-        (b"##", Some(ItemKind::Punct)),
-        (b"%:%:", Some(ItemKind::Punct)),
-        (b"::", None),
-        (b"=>", None),
-        (b"@", Some(ItemKind::Other)),
-        (b"\xff", Some(ItemKind::Other)),
-        (b"/* a */", None),
-        (b"// a", None),
+fn tells_the_kind_of_one_item(rt: HostRuntime) {
+    use ItemKind::{CharConst, Identifier, Number, Other, Punct, StrayQuote, StringLit};
+    let cases: [(&str, &[u8], Option<ItemKind>); 30] = [
+        ("nothing", b"", None),
+        ("a letter", b"a", Some(Identifier)),
+        ("a word with _, a digit and $", b"_a1$", Some(Identifier)),
+        ("a universal character name", b"\\u00e9a", Some(Identifier)),
+        ("one of three digits", b"\\u00e", None),
+        (
+            "letters past ASCII",
+            "d\u{e9}j\u{e0}".as_bytes(),
+            Some(Identifier),
+        ),
+        ("two words", b"a b", None),
+        ("a number with a sign", b"1.5e+3", Some(Number)),
+        ("a number that begins with a point", b".5", Some(Number)),
+        ("a sign behind a digit", b"1+", None),
+        ("signs behind exponents", b"0x1p-2e+", Some(Number)),
+        ("a constant", b"'a'", Some(CharConst)),
+        ("a prefix and an escaped quote", b"L'\\''", Some(CharConst)),
+        ("a constant of C23", b"u8'a'", None),
+        ("an empty constant", b"''", Some(StrayQuote)),
+        ("an open quote", b"'a", Some(StrayQuote)),
+        ("an open quote and a backslash", b"\"\\", Some(StrayQuote)),
+        ("a string", b"\"a\"", Some(StringLit)),
+        ("an empty string with a prefix", b"u8\"\"", Some(StringLit)),
+        ("no trigraph in a string", b"\"??/\"", Some(StringLit)),
+        ("a quote too many", b"L\"a\"b\"", None),
+        ("a new-line in a string", b"\"a\nb\"", None),
+        ("a punctuator of two", b"##", Some(Punct)),
+        ("a digraph of four", b"%:%:", Some(Punct)),
+        ("a punctuator of C23", b"::", None),
+        ("no punctuator", b"=>", None),
+        ("another character", b"@", Some(Other)),
+        ("a byte of no character", b"\xff", Some(Other)),
+        ("a comment", b"/* a */", None),
+        ("a line's comment", b"// a", None),
     ];
-    for (text, expected) in cases {
-        assert_eq!(rt; kind_of(Dialect::C11, text), expected, "of {text:?}");
+    for (name, text, kind) in cases {
+        assert_eq!(rt; kind_of(Dialect::C11, text), kind, "{name}");
     }
-    Ok(())
 }
 
 #[test]
-fn knows_the_items_of_c23(rt: HostRuntime) -> Result<(), Fail> {
-    let cases: [(&[u8], Option<ItemKind>); 3] = [
-        (b"::", Some(ItemKind::Punct)),
-        (b"u8'a'", Some(ItemKind::CharConst)),
-        (b"1'000", Some(ItemKind::Number)),
+fn knows_the_items_of_c23(rt: HostRuntime) {
+    let cases: [(&str, &[u8], ItemKind); 3] = [
+        ("two colons", b"::", ItemKind::Punct),
+        ("a constant with u8", b"u8'a'", ItemKind::CharConst),
+        ("digit separators", b"1'000", ItemKind::Number),
     ];
-    for (text, expected) in cases {
-        assert_eq!(rt; kind_of(Dialect::C23, text), expected, "of {text:?}");
-        assert_eq!(rt; kind_of(Dialect::C11, text), None, "of {text:?}");
+    for (name, text, kind) in cases {
+        assert_eq!(rt; kind_of(Dialect::C23, text), Some(kind), "{name}");
+        assert_eq!(rt; kind_of(Dialect::C11, text), None, "{name}, C11");
     }
-    Ok(())
 }

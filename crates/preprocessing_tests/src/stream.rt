@@ -1,4 +1,4 @@
-// Texts and their sections, by C11 6.10.
+//! Texts and their sections, by C11 6.10.
 
 use pp_stream::{Dialect, PpItem, PpSection, sections_of};
 use std::alloc::{AllocError, Global};
@@ -6,7 +6,7 @@ use std::process::Abort;
 use std::str::from_utf8;
 use std::test::Fail;
 
-// An item: a blank where white space stands before it, its spelling and its line.
+/// An item: a blank where white space stands before it, its spelling and its line.
 fn show_item(out: &mut String, item: &PpItem) -> Result<(), AllocError> {
     if item.white {
         out.push_str(" ")?;
@@ -19,7 +19,7 @@ fn show_item(out: &mut String, item: &PpItem) -> Result<(), AllocError> {
     write!(out, "@{line}")
 }
 
-// A section: its kind, `()` where it defines a function-like macro, the line behind it, and its items.
+/// A section: its kind, `()` where it defines a function-like macro, the line behind it, and its items.
 fn show_section(out: &mut String, section: &PpSection) -> Result<(), AllocError> {
     let kind = section.kind;
     write!(out, "{kind:?}")?;
@@ -34,7 +34,7 @@ fn show_section(out: &mut String, section: &PpSection) -> Result<(), AllocError>
     out.push_str("]")
 }
 
-// The sections of a text.
+/// The sections of a text.
 fn shown(
     rt: &impl Abort,
     alloc: Global,
@@ -143,40 +143,46 @@ fn cuts_texts_into_sections(rt: HostRuntime) -> Result<(), Fail> {
     Ok(())
 }
 
+/// A text, and its sections in C11 and in C23.
 #[test]
 fn knows_the_names_of_each_edition(rt: HostRuntime) -> Result<(), Fail> {
-    let cases: [(&[u8], &str, &str); 5] = [
+    let cases: [(&str, &[u8], &str, &str); 5] = [
         (
+            "a conditional of C23",
             b"#elifdef A",
             "Text/0[]Unknown/0[elifdef@1 A@1]",
             "Text/0[]Elifdef/0[ A@1]",
         ),
         (
+            "a warning",
             b"#warning A",
             "Text/0[]Unknown/0[warning@1 A@1]",
             "Text/0[]Warning/0[ A@1]",
         ),
         (
+            "a header name behind embed",
             b"#embed <a b>",
             "Text/0[]Unknown/0[embed@1 <@1a@1 b@1>@1]",
             "Text/0[]Embed/0[ <a b>@1]",
         ),
         (
+            "a trigraph",
             b"??=undef A",
             "Text/0[]Undef/0[ A@1]",
             "Text/0[?@1?@1=@1undef@1 A@1]",
         ),
         (
+            "names of both",
             b"#line 7\n#error e\n#pragma p",
             "Text/0[]LineNumber/2[ 7@1]Error/3[ e@2]Pragma/0[ p@3]",
             "Text/0[]LineNumber/2[ 7@1]Error/3[ e@2]Pragma/0[ p@3]",
         ),
     ];
-    for (text, older, newer) in cases {
+    for (name, text, older, newer) in cases {
         let found = shown(&rt, rt.alloc(), text, Dialect::C11)?;
-        assert_eq!(rt; found.as_str(), older);
+        assert_eq!(rt; found.as_str(), older, "{name}, C11");
         let found = shown(&rt, rt.alloc(), text, Dialect::C23)?;
-        assert_eq!(rt; found.as_str(), newer);
+        assert_eq!(rt; found.as_str(), newer, "{name}, C23");
     }
     Ok(())
 }

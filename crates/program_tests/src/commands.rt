@@ -355,10 +355,10 @@ const FAILING_PORTS: &[Row] = &[
     },
 ];
 
-/// What a call answers, writes and tells, and the files afterwards.
+/// The ends of a call.
 #[derive(Drop)]
-struct Told {
-    status: u8,
+struct Ends {
+    source: MemSource,
     out: MemSink,
     notes: MemSink,
     files: MemFiles,
@@ -380,31 +380,39 @@ fn files_of(alloc: Global, row: &Row) -> Result<MemFiles, AllocError> {
     Ok(files)
 }
 
-/// The call of a row, with this input.
-fn called(alloc: Global, row: &Row, input: Vec<u8>) -> Result<Told, AllocError> {
-    let words = texts(alloc, row.words)?;
-    let mut source = MemSource::new(input, row.failing_reads.to_vec(alloc)?);
-    let mut out = MemSink::new(alloc, row.failing_writes.to_vec(alloc)?);
-    let mut notes = MemSink::new(alloc, row.failing_notes.to_vec(alloc)?);
-    let mut files = files_of(alloc, row)?;
-    let status = format_command(alloc, &words, &mut source, &mut out, &mut notes, &mut files);
-    Ok(Told {
-        status,
-        out,
-        notes,
-        files,
+/// The ends of a row's call, with this input.
+fn ends_of(alloc: Global, row: &Row, input: Vec<u8>) -> Result<Ends, AllocError> {
+    Ok(Ends {
+        source: MemSource::new(input, row.failing_reads.to_vec(alloc)?),
+        out: MemSink::new(alloc, row.failing_writes.to_vec(alloc)?),
+        notes: MemSink::new(alloc, row.failing_notes.to_vec(alloc)?),
+        files: files_of(alloc, row)?,
     })
+}
+
+/// The status of a call.
+fn status_of(alloc: Global, words: &[String], ends: &mut Ends) -> u8 {
+    format_command(
+        alloc,
+        words,
+        &mut ends.source,
+        &mut ends.out,
+        &mut ends.notes,
+        &mut ends.files,
+    )
 }
 
 /// Sees that a call does what its row says.
 fn check(rt: &impl Abort, alloc: Global, row: &Row, input: Vec<u8>) -> Result<(), Fail> {
-    let told = called(alloc, row, input)?;
-    assert_eq!(rt; told.status, row.status, "the status of {}", row.name);
-    assert_eq!(rt; told.out.taken(), row.out, "the output of {}", row.name);
-    assert_eq!(rt; told.notes.taken(), row.notes, "the notes of {}", row.name);
+    let words = texts(alloc, row.words)?;
+    let mut ends = ends_of(alloc, row, input)?;
+    let status = status_of(alloc, &words, &mut ends);
+    assert_eq!(rt; status, row.status, "the status of {}", row.name);
+    assert_eq!(rt; ends.out.taken(), row.out, "the output of {}", row.name);
+    assert_eq!(rt; ends.notes.taken(), row.notes, "the notes of {}", row.name);
     for (name, bytes) in row.held {
         assert_eq!(rt;
-            told.files.held(name),
+            ends.files.held(name),
             Some(*bytes),
             "{name} after {}",
             row.name

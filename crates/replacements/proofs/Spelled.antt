@@ -10,7 +10,7 @@ use Rattle.c_chars.proofs.FirstUnits.{step_plain}
 use Rattle.c_grammar.specs.Grammar.{is_new_line}
 use Rattle.c_grammar.specs.Rewritten.{read_alone}
 use Rattle.c_grammar.proofs.White.{unit_plain}
-use Rattle.c_grammar.proofs.ItemBytes.{bytes_at}
+use Rattle.c_chars.proofs.Moved.{bytes_at}
 
 -- a byte that begins no trigraph, line end or splice is read as itself
 pub plain_first : (d : Dialect) (at b : ℕ) (s : List ℕ) → (b == 63) ≡ false → (b == 13) ≡ false → (b == 92) ≡ false → bytes_of (chars d at (b ∷ s)) ≡ b ∷ bytes_of (chars d (at + 1) s)

@@ -63,7 +63,7 @@ inner_item number outer (Some pair) =
     Given (record { line = number; outer = Some outer; label = pair.key; value = pair.value; is_quoted = pair.is_quoted; has_lines = false })
 inner_item number outer None = Wrong number
 
--- what a line gives, if anything; `next` says whether the next line belongs to the same key
+-- what a line gives, if anything; `next` says whether a line follows that belongs to the same key
 abbrev pub item_of : Owner → ℕ → Line → Bool → Option Item
 item_of owner number Marker next = None
 item_of owner number Malformed next = Some (Wrong number)
@@ -80,10 +80,16 @@ is_nested (Entry pair) = false
 is_nested Marker = false
 is_nested Malformed = false
 
--- the first of these lines belongs to the key before it
+abbrev pub is_malformed : Line → Bool
+is_malformed Malformed = true
+is_malformed (Entry pair) = false
+is_malformed Marker = false
+is_malformed (Nested width text) = false
+
+-- the first of these lines belongs to the key before it, bad lines aside
 abbrev pub begins_nested : List NumberedLine → Bool
 begins_nested [] = false
-begins_nested (line ∷ rest) = is_nested line.line
+begins_nested (line ∷ rest) = if is_malformed line.line then begins_nested rest else is_nested line.line
 
 -- an item, if there is one, before others
 abbrev pub with_item : Option Item → List Item → List Item

@@ -3,7 +3,7 @@ ghost use Rattle.std.specs.Prelude.{◌≡◌};
 ghost use Rattle.std.specs.Option.{option_map};
 ghost use Rattle.style_config.specs.Texts.{pair_of};
 ghost use Rattle.style_config.specs.Lines.{document_text, line_text};
-ghost use Rattle.style_config.specs.Entries.{begins_nested, has_width, inner_item, is_nested, item_of, item_text, outer_name, outer_of, owner_after, owner_of};
+ghost use Rattle.style_config.specs.Entries.{begins_nested, has_width, inner_item, is_malformed, is_nested, item_of, item_text, outer_name, outer_of, owner_after, owner_of};
 
 use crate::line::{Line, NumberedLine};
 use crate::pair::pair_of;
@@ -110,14 +110,26 @@ fn is_nested(line: &Line<'_>) -> bool
     }
 }
 
-/// Whether the first of these lines belongs to the key before it.
+// Whether a line has no form.
+fn is_malformed(line: &Line<'_>) -> bool
+    ensures { result ≡ is_malformed (line_text line.now) }
+{
+    match line {
+        Line::Malformed => true,
+        Line::Entry(_) | Line::Marker | Line::Nested(_, _) => false,
+    }
+}
+
+/// Whether the first of these lines belongs to the key before it, bad lines aside.
 pub(crate) fn begins_nested(lines: &[NumberedLine<'_>]) -> bool
     ensures { result ≡ begins_nested (document_text lines.now) }
 {
-    match lines {
-        [] => false,
-        [line, ..] => is_nested(&line.line),
+    for line in lines {
+        if !is_malformed(&line.line) {
+            return is_nested(&line.line);
+        }
     }
+    false
 }
 
 // Whether a line stands behind as many blanks as the first one under its outer key.

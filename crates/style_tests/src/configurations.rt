@@ -228,10 +228,11 @@ const FAULTS: &[Row] = &[
 ];
 
 /// Sees that a configuration is read as its row says.
-fn check(rt: &impl Abort, alloc: Global, base: Style, row: &Row) -> Result<(), Fail> {
+fn check(rt: &impl Abort, alloc: Global, row: &Row) -> Result<(), Fail> {
     let name = row.name;
+    let llvm = Style::named("LLVM").ok_or("a style")?;
     assert!(rt; row.text.len() <= LIMIT, "the length of {name}");
-    match (read(alloc, row.text, base), &row.seen) {
+    match (read(alloc, row.text, llvm), &row.seen) {
         (Ok((style, skipped)), Ok(seen)) => {
             assert_eq!(rt;
                 style.indent_width,
@@ -271,10 +272,9 @@ fn check(rt: &impl Abort, alloc: Global, base: Style, row: &Row) -> Result<(), F
 
 #[test]
 fn reads_configurations(rt: HostRuntime) -> Result<(), Fail> {
-    let llvm = Style::named("LLVM").ok_or("a style")?;
     for rows in [DUMPS, BASES, FAULTS] {
         for row in rows {
-            check(&rt, rt.alloc(), llvm, row)?;
+            check(&rt, rt.alloc(), row)?;
         }
     }
     Ok(())

@@ -10,7 +10,7 @@ use Rattle.unwrapped_lines.specs.declared.form.Form.{Form}
 use Rattle.unwrapped_lines.specs.declared.form.Next.TheVariants.{Ends, Goes, Waits, Opens}
 use Rattle.brackets.specs.Classes.{is_else}
 use Rattle.unwrapped_lines.specs.Forms.{IsLow, StaysIn, form_of, seen, tail_end, is_if_head, is_do_head}
-use Rattle.unwrapped_lines.specs.Tree.{end_level_from, end_level, settled, Reading, body_of, whole_file}
+use Rattle.unwrapped_lines.specs.Tree.{end_level_from, end_level, level_of_list, settled, Reading, body_of, whole_file}
 use Rattle.unwrapped_lines.specs.Stack.{OpenToEnd, LeadsToEnd}
 use Rattle.unwrapped_lines.proofs.Lists.{reverse_snoc}
 use Rattle.unwrapped_lines.proofs.StackLemmas.{choice_keeps, settled_low, lt_true}
@@ -37,7 +37,7 @@ lt_false : (a b : ℕ) → b ≤ a → nat_lt a b ≡ false
 lt_false a b h = grind arith
 
 pub end_here : (n : ℕ) (braces : Braces) (tokens : List CodeToken) (os : List Open) (o : Open) (start : Start) (at : ℕ)
-    → 0 < n → o.end ≤ at → end_level_from n braces tokens (o ∷ os) start at ≡ o.level
+    → 0 < n → o.end ≤ at → end_level_from n braces tokens (o ∷ os) start at ≡ level_of_list (o ∷ os)
 end_here zero braces tokens os o start at some h = absurd (omega arith)
 end_here (suc n) braces tokens os o start at some h = let e : nat_lt at o.end ≡ false = grind arith in rw (e, end_level_from) refl
 
@@ -177,7 +177,7 @@ leads_from_start braces tokens =
 
 -- the list that is open where the view ends
 pub end_found : (braces : Braces) (tokens : List CodeToken) (stack0 stack1 : List Open) (o : Open) (start : Start) (at : ℕ)
-    → stack1 ≡ stack0 ++ o ∷ [] → LeadsToEnd braces tokens (reverse stack1) start at → o.end ≤ at → o.level ≡ end_level braces tokens
+    → stack1 ≡ stack0 ++ o ∷ [] → LeadsToEnd braces tokens (reverse stack1) start at → o.end ≤ at → level_of_list (o ∷ reverse stack0) ≡ end_level braces tokens
 end_found braces tokens stack0 stack1 o start at e h within =
     let s = move_stack braces tokens (reverse stack1) (o ∷ reverse stack0) start at (reverse_snoc stack0 stack1 o e) h in
     sym (end_here s.fuel braces tokens (reverse stack0) o start at (let q = s.enough in omega arith) within) ∙ s.same

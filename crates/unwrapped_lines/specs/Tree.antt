@@ -91,6 +91,11 @@ lines_from (suc n) braces tokens (o ∷ os) start at =
 abbrev pub whole_file : List CodeToken → Open
 whole_file tokens = record { block = true; context = File; level = 0; case_level = 0; end = length tokens; head = Plain; head_level = 0; assigned = false }
 
+-- the level of a list, above which these headers wait, the innermost first: there is no statement that they wait for
+abbrev pub level_of_list : List Open → ℕ
+level_of_list [] = 0
+level_of_list (o ∷ os) = elim o.block [ true ↦ o.level | false ↦ level_of_list os ]
+
 -- The level of the innermost list that is open at the view's end, read from a place of a list that is open there: a
 -- block that ends before is passed over.
 abbrev pub end_level_from : ℕ → Braces → List CodeToken → List Open → Start → ℕ → ℕ
@@ -98,7 +103,7 @@ end_level_from zero braces tokens os start at = 0
 end_level_from (suc n) braces tokens [] start at = 0
 end_level_from (suc n) braces tokens (o ∷ os) start at =
     elim (nat_lt at o.end) [
-      | false ↦ o.level
+      | false ↦ level_of_list (o ∷ os)
       | true ↦
           let f = form_of braces tokens o start at in
           elim f.next [

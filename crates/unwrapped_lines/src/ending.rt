@@ -2,7 +2,7 @@
 
 ghost use Rattle.std.specs.Prelude.{◌≡◌, ◌<◌, ◌≤◌, ◌-◌, ◌*◌, ◌^◌, ◌∷◌, [], reverse, length, IfOk};
 ghost use Rattle.unwrapped_lines.specs.Forms.{StaysIn, form_of};
-ghost use Rattle.unwrapped_lines.specs.Tree.{end_level};
+ghost use Rattle.unwrapped_lines.specs.Tree.{end_level, level_of_list};
 ghost use Rattle.unwrapped_lines.specs.Colons.{AreCaseColons};
 ghost use Rattle.unwrapped_lines.specs.Stack.{LeadsToEnd};
 
@@ -70,6 +70,21 @@ fn skip_line(
     }
 }
 
+/// The level of the list above which the headers of these wait, the innermost of which stands apart.
+fn level_of_list(innermost: Open, below: &[Open]) -> u32
+    ensures { result ≡ level_of_list (innermost ∷ reverse below.now) }
+{
+    if innermost.block {
+        return innermost.level;
+    }
+    for i in (0..below.len()).rev() {
+        if below[i].block {
+            return below[i].level;
+        }
+    }
+    0
+}
+
 /// The level of the innermost list that is open at the end.
 pub fn end_level(
     braces: &Braces,
@@ -89,7 +104,7 @@ pub fn end_level(
     };
     while let Some(o) = stack.pop() {
         if place.at >= o.end {
-            return Ok(o.level);
+            return Ok(level_of_list(o, &stack));
         }
         let f = form_of(braces, tokens, colons, o, place.start, place.at);
         place = skip_line(braces, tokens, &mut stack, o, place, f)?;

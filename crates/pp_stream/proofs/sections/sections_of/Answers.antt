@@ -1,9 +1,7 @@
 use Rattle.std.proofs.Common.{◌∙◌, sym, ap, subst}
-use Rattle.c_chars.specs.Characters.{bytes_of}
-use Rattle.c_grammar.specs.Items.{past_gap, past_item}
 use Rattle.c_grammar.specs.Text.{IsStep}
+use Rattle.c_lexer.specs.Place.{place_of}
 use Rattle.pp_model.specs.Preprocess.{Lexed}
-use Rattle.pp_stream.specs.View.{place_shown}
 use Rattle.pp_stream.specs.Walk.{streamed_at}
 use Rattle.pp_stream.specs.Reading.{IsReaderOf}
 use Rattle.pp_stream.proofs.ItemReads.{at_some, at_none, told_next, step_shorter}
@@ -30,25 +28,17 @@ loop-lexeme-preserved c =
     let item = next.next.read in
     let step = next.next.step in
     let r = c.in_ok-read-in-Ok-Some.ensures.read item new.left.chars (told_next _ _ _ _ _ (i.text_stays ∙ sym i.reader.text_is) i.chars next) in
-    let here = place_shown old.reader.place in
-    let gap = bytes_of item.gap in
-    let own = bytes_of item.chars in
     let s = c.in_ok-read-in-Ok-Some.field-0 in
     record {
       text_stays = c.in-Ok-Some.ensures.text ∙ i.text_stays;
       dialect_stays = c.in-Ok-Some.ensures.dialect ∙ i.dialect_stays;
       reader = subst (λ z. IsReaderOf z c.read.new.self) i.reader.text_is c.in_ok-read-in-Ok-Some.ensures.reader;
-      reads_so = r.dialect ∙ i.reads_so;
       chars = r.chars;
-      place =
-          r.place
-          ∙ (ap (λ d. past_item d (past_gap here gap) item.kind own) (i.reads_so ∙ sym i.dialect_stays)
-          ∙ (ap (λ p. past_item old.lexer.dialect (past_gap p gap) item.kind own) i.place ∙ sym step.place));
       cut =
           subst (λ a. IsCutSoFar c.args.dialect c.args.text.now new.left a c.take.new.self) (sym r.after)
           (cut_step c.args.dialect c.args.text.now old.lexer.left new.left old.reader.after_comment old.cutter c.take.new.self s item i.cut
           (subst (λ z. IsStep z old.lexer.left new.left item) i.dialect_stays step)
-          (r.item ∙ (ap (λ z. streamed_at z old.reader.after_comment here item) i.reader.text_is ∙ ap (λ p. streamed_at c.args.text.now old.reader.after_comment p item) i.place))
+          (r.item ∙ (ap (λ z. streamed_at z old.reader.after_comment (place_of c.standing-stood.result) item) i.reader.text_is ∙ ap (λ p. streamed_at c.args.text.now old.reader.after_comment p item) c.standing-stood.ensures))
           c.in_ok-take-in-Ok-Some.ensures.sections);
     }
 

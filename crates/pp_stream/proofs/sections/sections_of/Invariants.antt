@@ -1,5 +1,4 @@
 use Rattle.std.proofs.Common.{◌≡◌, length}
-use Rattle.pp_stream.specs.View.{place_shown}
 use Rattle.pp_stream.specs.Reading.{IsReaderOf}
 use Rattle.pp_stream.proofs.Follows.{IsCutSoFar}
 use Rattle.pp_stream.proofs.sections.sections_of.Given as goal
@@ -9,9 +8,7 @@ invariant-loop-lexeme l = record {
   text_stays : l.lexer.text ≡ l.text;
   dialect_stays : l.lexer.dialect ≡ l.fn.dialect;
   reader : IsReaderOf l.text l.reader;
-  reads_so : l.reader.dialect ≡ l.fn.dialect;
   chars : l.reader.chars.chars ≡ l.lexer.left.chars;
-  place : place_shown l.reader.place ≡ l.lexer.left.place;
   cut : IsCutSoFar l.fn.dialect l.text l.lexer.left l.reader.after_comment l.cutter;
 }
 

@@ -1,9 +1,8 @@
 use Rattle.std.proofs.Common.{◌≤◌, ◌∙◌, ◌+◌, ◌||◌, length, refl, sym, ap, subst, arith}
 use Rattle.std.specs.Option.{option_map_or}
 use Rattle.c_chars.specs.Characters.{bytes_of}
-use Rattle.c_grammar.specs.Items.{past_item}
 use Rattle.pp_model.specs.Stream.{line_at}
-use Rattle.pp_stream.specs.View.{place_shown}
+use Rattle.c_lexer.specs.Place.{place_of}
 use Rattle.pp_stream.specs.Walk.{before, past, part_here}
 use Rattle.pp_stream.proofs.ItemReads.{next_start, next_line, unwrap_within, walked, still_between}
 use Rattle.pp_stream.proofs.reader.Reader.read.Goals as goal
@@ -34,15 +33,14 @@ returns-clause-read c =
     let old = c.args.self.now in
     let item = c.args.lexeme.now.item in
     let end = item.start + length item.raw.now in
-    let place = place_shown c.past_gap-place.result in
-    walked _ _ _ _ _ c.past_gap-place.result c.requires.reader.spans (record {
+    let place = place_of c.past_gap-standing.result in
+    walked _ _ _ _ _ c.args.stood c.past_gap-standing.result c.requires.reader.spans (record {
       begun = c.line_begun-begun.ensures.line ∙ ap (λ o. option_map_or (line_at old.lines.text.now) o 0) c.pass_gap-line_end.ensures.found;
       line = c.line_of-line.ensures.line ∙ ap (λ t. line_at t item.start) c.line_begun-begun.ensures.text;
       spelling = c.in_ok-text.ensures.text ∙ ap (λ z. bytes_of (before end z)) c.pass_gap-line_end.ensures.rest;
       rest = c.in_ok-text.ensures.rest ∙ ap (past end) c.pass_gap-line_end.ensures.rest;
-      place_is = c.past_gap-place.ensures;
+      place_is = c.past_gap-standing.ensures;
       part = c.part_of-part.ensures ∙ ap (part_here place c.args.lexeme.now.white item.kind) c.as_slice.ensures.value;
-      place_behind = c.past_item-self.ensures ∙ ap (past_item old.dialect place item.kind) c.as_slice-2.ensures.value;
       white =
           elim c.if-self.branch [
             | then-self w ↦ w.white-is ∙ (w.if-self.true ∙ sym (ap (λ z. z || c.args.lexeme.now.white) w.if-self.true))
@@ -50,7 +48,6 @@ returns-clause-read c =
           ];
       kind = refl;
       after = c.is_comment-self.ensures;
-      dialect = refl;
     })
 
 pub returns-clause-reader : goal.returns-clause-reader

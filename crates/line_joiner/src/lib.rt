@@ -1,0 +1,15 @@
+//! Short lines that become one.
+//!
+//! [`join`] takes the lines of a view and joins those that stand in one row of a table, `docs/PROFILE.md`, "Joined lines",
+//! and that fit there.
+#![tactic(auto)]
+
+mod facts;
+mod fits;
+mod joined;
+mod keys;
+mod kinds;
+mod merging;
+mod table;
+
+pub use joined::{join, join_of_classes};

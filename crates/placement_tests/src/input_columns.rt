@@ -1,0 +1,52 @@
+//! Columns of the input.
+
+ghost use Rattle.std.specs.Prelude.{◌≤◌, length};
+
+use bumpalo::Bump;
+use run_layout::{column_behind, column_through};
+use std::test::Fail;
+use token_arena::{Dialect, TokenArena, build};
+
+/// A text, the width of a tab, a place, and the column of what stands behind the gap there.
+type Row<'t> = (&'t [u8], u32, u32, u32);
+
+/// The column of what stands behind the gap at a place, counted item by item from the text's start.
+fn column_at(tab: u32, arena: &TokenArena<'_, '_>, place: u32) -> u32
+    requires tab { 1 ≤ tab }
+    requires within { place ≤ length arena.now.tokens }
+{
+    let mut column = column_through(tab, 0, arena.gap(0));
+    for id in 0..place {
+        let behind = column_behind(arena, column, id);
+        column = column_through(tab, behind, arena.gap(id + 1));
+    }
+    column
+}
+
+#[test]
+fn counts_columns_of_the_input(rt: HostRuntime) -> Result<(), Fail> {
+    let rows: [Row<'_>; 14] = [
+        (b"a", 8, 0, 0),
+        (b"  a", 8, 0, 2),
+        (b"\xEF\xBB\xBF  a", 8, 0, 2),
+        (b"a\t b", 8, 1, 9),
+        (b"abc\td", 4, 1, 4),
+        (b"abcd\te", 4, 1, 8),
+        (b"a;\n\tb c", 8, 3, 10),
+        (b"a \\\n  b c", 8, 1, 2),
+        (b"a \\\n  b c", 8, 2, 4),
+        (b"ab\\\ncd e", 8, 1, 3),
+        (b"/* x\n y */ z", 8, 1, 6),
+        (b"a\x0b\x0c\rb", 8, 1, 4),
+        ("/* \u{4e00} */ a".as_bytes(), 8, 1, 9),
+        (b"a  \n   ", 8, 1, 3),
+    ];
+    for (text, tab, place, column) in rows {
+        let bump = Bump::new(rt.alloc());
+        let arena = build(&bump, text, Dialect::C11)?;
+        assert!(rt; 1 <= tab && place <= arena.len());
+        let told = column_at(tab, &arena, place);
+        assert_eq!(rt; told, column, "at place {place} of {text:?}");
+    }
+    Ok(())
+}

@@ -1,0 +1,17 @@
+//! What no contract says of the crates that keep gaps, join lines and place comments: worked rows by hand, and that
+//! calls succeed with ample memory.
+//!
+//! - `asked_lines`: which gaps stay, since formatting is off or nobody asked for their lines (`off_regions`)
+//! - `input_columns`: the columns of kept gaps (`run_layout`)
+//! - `joined_lines`: short lines that become one (`line_joiner`)
+//! - `trailing_comments`: trailing comments in one column (`comment_place`)
+#![tactic(auto)]
+
+#[cfg(test)]
+mod asked_lines;
+#[cfg(test)]
+mod input_columns;
+#[cfg(test)]
+mod joined_lines;
+#[cfg(test)]
+mod trailing_comments;
