@@ -437,7 +437,13 @@ fn does_what_the_words_ask_for(rt: HostRuntime) -> Result<(), Fail> {
 fn lays_out_texts(rt: HostRuntime) -> Result<(), Fail> {
     let alloc = rt.alloc();
     for rows in [
-        GAPS, ITEMS, DIRECTIVES, STATEMENTS, BRANCHES, STYLES, BROKEN_LINES,
+        GAPS,
+        ITEMS,
+        DIRECTIVES,
+        STATEMENTS,
+        BRANCHES,
+        STYLES,
+        BROKEN_LINES,
     ] {
         for row in rows {
             check(&rt, alloc, row, row.input.to_vec(alloc)?)?;
