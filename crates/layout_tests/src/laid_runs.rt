@@ -2,7 +2,6 @@
 
 ghost use Rattle.std.specs.Prelude.{◌≡◌, ◌+◌, ◌≤◌, length, IfOk, OnOk};
 ghost use Rattle.brackets.specs.Viewed.{AreWithin};
-ghost use Rattle.run_layout.specs.Counted.{IsCounted};
 ghost use Rattle.style_table.specs.Range.{IsInRange};
 
 use crate::fixtures::{items_around, items_from, read_view, style};
@@ -169,8 +168,8 @@ fn drawn(
 /// The budget of a line, where none passes it.
 const BUDGET: u64 = 1_000;
 
-/// Lays out the lines of a view as those of run 5, and notes what comes of them where nothing is noted yet.
-fn lay_out(
+/// Lays out the lines of a view as those of run 5, and tells what came of them.
+fn lay_out<'r>(
     rt: &impl Abort,
     alloc: Global,
     style: &Style,
@@ -178,20 +177,17 @@ fn lay_out(
     arena: &TokenArena<'_, '_>,
     view: &View<'_>,
     plan: &mut Plan<'_>,
-    tally: &mut Tally<'_>,
-    run: &Bump,
-) -> Result<(), Fail>
+    run: &'r Bump,
+) -> Result<Tally<'r>, Fail>
     requires range { IsInRange style.now }
     requires budget { budget ≤ 16000000 }
     requires within { AreWithin arena.now view.now }
     requires whole { length plan.old ≡ length arena.now.tokens + 1 }
-    requires searched { tally.old.searched ≡ 0 }
-    requires cost { tally.old.cost ≡ 0 }
-    requires counted { IsCounted arena.now tally.old.lines }
     ensures len { OnOk result (length plan.new ≡ length plan.old) }
 {
     let told = read_view(style, arena, view, run)?;
     assert!(rt; told.lines.len() < 1_000);
+    let mut tally = Tally::new(run);
     lay_out_lines(
         alloc,
         style,
@@ -203,10 +199,10 @@ fn lay_out(
         5,
         told.lines,
         plan,
-        tally,
+        &mut tally,
         run,
     )?;
-    Ok(())
+    Ok(tally)
 }
 
 /// The run of a view is laid out as this text.
@@ -223,12 +219,9 @@ fn is_laid_out(
     let (name, named, _, want) = *case;
     let style = style(named)?;
     let mut plan = Plan::make(arena, run)?;
-    let mut tally = Tally::new(run);
-    lay_out(
-        rt, alloc, &style, BUDGET, arena, view, &mut plan, &mut tally, run,
-    )?;
+    lay_out(rt, alloc, &style, BUDGET, arena, view, &mut plan, run)?;
     let text = drawn(rt, alloc, arena, view, &plan)?;
-    is_text(rt, name, text.as_slice(), want);
+    assert!(rt; text.as_slice() == want.as_bytes(), "{name}");
     Ok(())
 }
 
@@ -267,7 +260,6 @@ fn goes_on_from_what_is_decided(rt: HostRuntime) -> Result<(), Fail> {
     let view = items_from(&arena, 0, &run)?;
     let mut plan = Plan::make(&arena, &run)?;
     assert_eq!(rt; plan.decide(1, Decision::Old, 9), Decided::New);
-    let mut tally = Tally::new(&run);
     lay_out(
         &rt,
         rt.alloc(),
@@ -276,7 +268,6 @@ fn goes_on_from_what_is_decided(rt: HostRuntime) -> Result<(), Fail> {
         &arena,
         &view,
         &mut plan,
-        &mut tally,
         &run,
     )?;
     for (place, decision, end) in [(1, Decision::Old, 9), (2, Decision::Spaces(1), 11)] {
@@ -378,42 +369,24 @@ fn limited(limit: u32) -> Result<Style, Fail>
     })
 }
 
-/// A text is this one.
-fn is_text(rt: &impl Abort, name: &str, text: &[u8], want: &str) {
-    assert!(rt; text == want.as_bytes(), "{name}");
-}
-
-/// This is told of the lines of a text.
-fn is_told(rt: &impl Abort, row: &Searched, tally: &Tally<'_>) {
+/// This is noted of the lines of a text.
+fn is_noted(rt: &impl Abort, tally: &Tally<'_>, row: &Searched) {
     assert_eq!(rt; tally.searched, row.searched, "{}", row.name);
     assert_eq!(rt; tally.cost, row.cost, "{}", row.name);
-    assert_eq!(rt; tally.reports.len(), row.reports.len(), "{}", row.name);
-    for (report, want) in tally.reports.iter().zip(row.reports) {
-        assert_eq!(rt; *report, *want, "{}", row.name);
-    }
+    assert_eq!(rt; tally.reports.as_slice(), row.reports, "{}", row.name);
 }
 
 /// This comes of the lines of a text.
-fn is_searched(
-    rt: &impl Abort,
-    alloc: Global,
-    run: &Bump,
-    arena: &TokenArena<'_, '_>,
-    view: &View<'_>,
-    row: &Searched,
-) -> Result<(), Fail>
-    requires { AreWithin arena.now view.now }
-{
+fn is_searched(rt: &impl Abort, alloc: Global, run: &Bump, row: &Searched) -> Result<(), Fail> {
     assert!(rt; row.limit <= 1_000 && row.budget <= 16_000_000);
     let style = limited(row.limit)?;
-    let mut plan = Plan::make(arena, run)?;
-    let mut tally = Tally::new(run);
-    lay_out(
-        rt, alloc, &style, row.budget, arena, view, &mut plan, &mut tally, run,
-    )?;
-    is_told(rt, row, &tally);
-    let text = drawn(rt, alloc, arena, view, &plan)?;
-    is_text(rt, row.name, text.as_slice(), row.output);
+    let arena = build(run, row.input.as_bytes(), Dialect::C11)?;
+    let view = items_from(&arena, 0, run)?;
+    let mut plan = Plan::make(&arena, run)?;
+    let tally = lay_out(rt, alloc, &style, row.budget, &arena, &view, &mut plan, run)?;
+    is_noted(rt, &tally, row);
+    let text = drawn(rt, alloc, &arena, &view, &plan)?;
+    assert!(rt; text.as_slice() == row.output.as_bytes(), "{}", row.name);
     Ok(())
 }
 
@@ -421,9 +394,7 @@ fn is_searched(
 fn searches_lines(rt: HostRuntime) -> Result<(), Fail> {
     let run = Bump::new(rt.alloc());
     for row in &SEARCHED {
-        let arena = build(&run, row.input.as_bytes(), Dialect::C11)?;
-        let view = items_from(&arena, 0, &run)?;
-        is_searched(&rt, rt.alloc(), &run, &arena, &view, row)?;
+        is_searched(&rt, rt.alloc(), &run, row)?;
     }
     Ok(())
 }
