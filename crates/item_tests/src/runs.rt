@@ -1,4 +1,4 @@
-//! Runs and what they see, by docs/PROFILE.md, "Runs". Each text's items are one word where they are no directive's.
+//! Runs and what they see, by docs/PROFILE.md, "Runs". Items outside of directives are letters.
 
 ghost use Rattle.std.specs.Prelude.{◌≡◌, length};
 ghost use Rattle.branch_runs.specs.Cut.{end_of};

@@ -8,26 +8,23 @@ use std::test::Fail;
 
 /// An item: a blank where white space stands before it, its spelling and its line.
 fn show_item(out: &mut String, item: &PpItem) -> Result<(), AllocError> {
-    if item.white {
-        out.push_str(" ")?;
-    }
-    match from_utf8(item.text.as_slice()) {
-        Ok(text) => out.push_str(text)?,
-        Err(_) => out.push_str("?")?,
-    }
+    let blank = if item.white { " " } else { "" };
+    let text = from_utf8(item.text.as_slice()).unwrap_or("?");
     let line = item.line;
-    write!(out, "@{line}")
+    write!(out, "{blank}{text}@{line}")
 }
 
-/// A section: its kind, `()` where it defines a function-like macro, the line behind it, and its items.
+/// A section without its items: its kind, `()` where it defines a function-like macro, and the line behind it.
+fn show_head(out: &mut String, section: &PpSection) -> Result<(), AllocError> {
+    let (kind, next) = (section.kind, section.next);
+    let parameters = if section.function_like { "()" } else { "" };
+    write!(out, "{kind:?}{parameters}/{next}")
+}
+
+/// A section with its items.
 fn show_section(out: &mut String, section: &PpSection) -> Result<(), AllocError> {
-    let kind = section.kind;
-    write!(out, "{kind:?}")?;
-    if section.function_like {
-        out.push_str("()")?;
-    }
-    let next = section.next;
-    write!(out, "/{next}[")?;
+    show_head(out, section)?;
+    out.push_str("[")?;
     for item in &section.items {
         show_item(out, item)?;
     }
