@@ -1,27 +1,23 @@
-//! A worked line, token by token: by states that own their frames, and over a store of them.
+//! A worked line, token by token.
 
 use crate::fixtures::{style, token};
-use bumpalo::Bump;
-use line_state::{
-    FrameStore, allowed, allowed_in, cells, cells_in, start, start_in, step, step_in,
-    token_start_in,
-};
+use line_state::{allowed, cells, start, step};
 use line_tokens::{LineTok, Role};
 use std::test::Fail;
 
-/// A token, whether the gap before it breaks, where it then starts, and the column, the cost and the cells behind it.
-type Step = (LineTok, bool, u32, u32, u128, u64);
+/// A token, whether the gap before it breaks, and the column, the cost and the cells behind it.
+type Step = (LineTok, bool, u32, u128, u64);
 
 /// A call that breaks behind its bracket.
 fn call() -> [Step; 7] {
     [
-        (token(Role::Word, 0, 40), true, 0, 40, 0, 1),
-        (token(Role::CallOpen, 0, 1), false, 40, 41, 0, 2),
-        (token(Role::Word, 1, 40), true, 4, 44, 19, 2),
-        (token(Role::Comma, 1, 1), false, 44, 45, 19, 2),
-        (token(Role::Word, 1, 30), false, 46, 76, 19, 2),
-        (token(Role::CallClose, 1, 1), false, 76, 77, 19, 2),
-        (token(Role::Semi, 0, 1), false, 77, 78, 19, 1),
+        (token(Role::Word, 0, 40), true, 40, 0, 1),
+        (token(Role::CallOpen, 0, 1), false, 41, 0, 2),
+        (token(Role::Word, 1, 40), true, 44, 19, 2),
+        (token(Role::Comma, 1, 1), false, 45, 19, 2),
+        (token(Role::Word, 1, 30), false, 76, 19, 2),
+        (token(Role::CallClose, 1, 1), false, 77, 19, 2),
+        (token(Role::Semi, 0, 1), false, 78, 19, 1),
     ]
 }
 
@@ -30,7 +26,7 @@ fn walks_a_call(rt: HostRuntime) -> Result<(), Fail> {
     let style = style("LLVM")?;
     let mut state = start(rt.alloc(), &style, 0);
     let mut left = token(Role::Word, 0, 40);
-    for (k, (right, brk, _, column, cost, count)) in call().into_iter().enumerate() {
+    for (k, (right, brk, column, cost, count)) in call().into_iter().enumerate() {
         assert!(rt; allowed(&style, &state, &left, &right, None, brk), "{k}");
         assert!(rt; state.index < 10);
         assert!(rt; state.cost <= u128::from(state.index) * 18_446_744_073_709_551_615);
@@ -38,31 +34,6 @@ fn walks_a_call(rt: HostRuntime) -> Result<(), Fail> {
         assert_eq!(rt; state.column, column, "{k}");
         assert_eq!(rt; state.cost, cost, "{k}");
         assert_eq!(rt; cells(&state), count, "{k}");
-        left = right;
-    }
-    Ok(())
-}
-
-#[test]
-fn walks_a_call_over_a_store(rt: HostRuntime) -> Result<(), Fail> {
-    let style = style("LLVM")?;
-    let run = Bump::new(rt.alloc());
-    let mut store = FrameStore::make(&run)?;
-    let mut state = start_in(&mut store, &style, 0)?;
-    let mut left = token(Role::Word, 0, 40);
-    for (k, (right, brk, place, column, cost, count)) in call().into_iter().enumerate() {
-        assert!(rt;
-            allowed_in(&store, &style, &state, &left, &right, None, brk),
-            "{k}"
-        );
-        let start = token_start_in(&store, &style, &state, &left, &right, None, brk);
-        assert_eq!(rt; start, place, "{k}");
-        assert!(rt; state.index < 10);
-        assert!(rt; state.cost <= u128::from(state.index) * 18_446_744_073_709_551_615);
-        state = step_in(&mut store, &style, &state, &left, &right, None, brk)?;
-        assert_eq!(rt; state.column, column, "{k}");
-        assert_eq!(rt; state.cost, cost, "{k}");
-        assert_eq!(rt; cells_in(&store, &state), count, "{k}");
         left = right;
     }
     Ok(())

@@ -20,29 +20,15 @@ fn keeps_the_first_decision(rt: HostRuntime) -> Result<(), Fail> {
     let arena = build(&bump, b"a b c", Dialect::C11)?;
     assert_eq!(rt; arena.len(), 3);
     let mut plan = Plan::make(&arena, &bump)?;
-    for (name, place, slot, decided, want) in [
-        ("a gap", 1, blanks(1, 2), Decided::New, blanks(1, 2)),
-        (
-            "the gap again",
-            1,
-            blanks(0, 7),
-            Decided::Kept,
-            blanks(1, 2),
-        ),
-        ("the last gap", 3, blanks(0, 5), Decided::New, blanks(0, 5)),
-        ("the first gap", 0, blanks(0, 0), Decided::New, blanks(0, 0)),
-    ] {
-        assert!(rt; place <= 3);
-        let open = !plan.is_decided(place);
-        assert!(rt; open == (decided == Decided::New), "{name}");
-        assert_eq!(rt;
-            plan.decide(place, slot.decision, slot.end),
-            decided,
-            "{name}"
-        );
-        assert_eq!(rt; plan.slot(place), Some(want), "{name}");
-    }
-    assert_eq!(rt; plan.slot(2), None);
+    assert_eq!(rt; plan.slot(3), None);
+    assert_eq!(rt; plan.decide(1, Decision::Spaces(1), 2), Decided::New);
+    assert_eq!(rt; plan.decide(1, Decision::Old, 7), Decided::Kept);
+    assert_eq!(rt; plan.decide(3, Decision::Spaces(0), 5), Decided::New);
+    assert_eq!(rt; plan.slot(0), None);
+    assert_eq!(rt; plan.slot(1), Some(blanks(1, 2)));
+    assert!(rt; !plan.is_decided(2));
+    assert!(rt; plan.is_decided(3));
+    assert_eq!(rt; plan.slot(3), Some(blanks(0, 5)));
     Ok(())
 }
 

@@ -4,7 +4,7 @@ ghost use Rattle.std.specs.Prelude.{◌≡◌, ◌<◌, ◌≤◌, length};
 ghost use Rattle.style_table.specs.Range.{IsInRange};
 
 use crate::fixtures::{count_of, style, token};
-use break_search::{Outcome, least_breaks, search, starts};
+use break_search::{Outcome, search};
 use bumpalo::Bump;
 use line_state::{allowed, start, step};
 use line_tokens::{Fixed, LineTok, Role};
@@ -52,66 +52,6 @@ fn breaks_calls_at_their_least_cost(rt: HostRuntime) -> Result<(), Fail> {
     match search(rt.alloc(), &style, &call(4, 50, 36), 0, &free, 1, &run)? {
         Outcome::Found { breaks: _, cost: _ } => assert!(rt; false, "within one cell"),
         Outcome::OverBudget { cells } => assert!(rt; cells > 1, "over one cell"),
-    }
-    Ok(())
-}
-
-/// A line that begins at column 2, what is decided of its gaps, its breaking with the fewest breaks, and where the tokens
-/// behind its first one start.
-type Row = (
-    &'static str,
-    [LineTok; 7],
-    [Option<Fixed>; 7],
-    [bool; 6],
-    [u32; 6],
-);
-
-/// Lines that break nowhere, behind a directive, and where a gap is decided.
-fn rows() -> [Row; 3] {
-    let line = call(4, 50, 36);
-    let free = [None; 7];
-    let mut behind_directive = line;
-    behind_directive[4].directive = true;
-    let mut decided = free;
-    decided[4] = Some(Fixed {
-        column: 9,
-        broken: true,
-    });
-    let behind_comma = [false, false, false, true, false, false];
-    [
-        (
-            "no gap has to",
-            line,
-            free,
-            [false; 6],
-            [6, 7, 57, 59, 95, 96],
-        ),
-        (
-            "a directive",
-            behind_directive,
-            free,
-            behind_comma,
-            [6, 7, 57, 7, 43, 44],
-        ),
-        (
-            "a decided gap",
-            line,
-            decided,
-            behind_comma,
-            [6, 7, 57, 9, 45, 46],
-        ),
-    ]
-}
-
-#[test]
-fn breaks_only_where_it_has_to(rt: HostRuntime) -> Result<(), Fail> {
-    let style = style("LLVM")?;
-    let run = Bump::new(rt.alloc());
-    for (name, line, fixed, want, places) in rows() {
-        let breaks = least_breaks(rt.alloc(), &style, &line, 2, &fixed, &run)?;
-        assert_eq!(rt; breaks, want.as_slice(), "{name}");
-        let found = starts(rt.alloc(), &style, &line, 2, &fixed, breaks, &run)?;
-        assert_eq!(rt; found, places.as_slice(), "{name}");
     }
     Ok(())
 }

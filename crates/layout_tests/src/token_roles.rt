@@ -328,12 +328,19 @@ fn have_roles(rt: &impl Abort, name: &str, found: &[LineTok], want: &[Role]) {
     }
 }
 
+/// The items of a text have these roles.
+fn is_told(rt: &impl Abort, run: &Bump, case: &Case) -> Result<(), Fail> {
+    let (name, text, want) = *case;
+    let found = tokens_of(text.as_bytes(), run)?;
+    have_roles(rt, name, found, want);
+    Ok(())
+}
+
 #[test]
 fn tells_the_roles_of_texts(rt: HostRuntime) -> Result<(), Fail> {
     let run = Bump::new(rt.alloc());
-    for (name, text, want) in CASES {
-        let found = tokens_of(text.as_bytes(), &run)?;
-        have_roles(&rt, name, found, want);
+    for case in &CASES {
+        is_told(&rt, &run, case)?;
     }
     Ok(())
 }

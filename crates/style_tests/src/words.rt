@@ -24,7 +24,7 @@ const NOTHING: Said = Said {
 struct Row {
     name: &'static str,
     words: &'static [&'static str],
-    said: Result<Said, WordsFault>,
+    said: Result<Said, WordsFault<'static>>,
 }
 
 const ROWS: &[Row] = &[
@@ -215,7 +215,11 @@ fn shows_its_note(rt: HostRuntime) -> Result<(), Fail> {
     for (fault, note) in [
         (
             WordsFault::Form,
-            "usage: clang_format [--style S] [-i] [--dump-config] [FILE ..]",
+            "usage: clang_format [--style S] [--states N] [-i] [--dump-config] [FILE ..]",
+        ),
+        (
+            WordsFault::BadStates("0"),
+            "clang_format: --states 0: not 1 to 16000000",
         ),
         (WordsFault::NoInput, "clang_format: -i needs a file"),
         (WordsFault::NoMemory, "clang_format: no memory"),
