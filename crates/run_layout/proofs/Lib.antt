@@ -16,3 +16,4 @@ pub mod RowLines
 pub mod Reporting
 pub mod LineOutcomes
 pub mod RunSteps
+pub mod Views

@@ -9,5 +9,7 @@ pub mod Told
 pub mod Counted
 pub mod Reports
 pub mod RunsLaid
+pub mod View
 pub mod OneRow
 pub mod Laws
+pub mod ViewLaws
