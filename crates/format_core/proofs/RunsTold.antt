@@ -13,9 +13,10 @@ use Rattle.unwrapped_lines.proofs.Started.{lines_cut_views}
 use Rattle.replacements.specs.declared.slot.Slot.{Slot}
 use Rattle.run_layout.specs.Outcomes.{Kept, LaidLine, AfterLines, row_of}
 use Rattle.run_layout.specs.Reports.{report_by, reports_of, searched_of, cost_of}
-use Rattle.run_layout.specs.RunsLaid.{IsRunLaid}
+use Rattle.run_layout.specs.View.{joined_lines, AfterView, IsViewLaid}
 use Rattle.run_layout.specs.declared.report.Report.{Report}
 use Rattle.run_layout.specs.declared.report.Tally.{Tally}
+use Rattle.run_layout.proofs.Views.{lines_cut}
 use Rattle.run_layout.proofs.Walked.{cut_within}
 use Rattle.format_core.specs.Plans.{AfterRuns}
 use Rattle.format_core.specs.Runs.{AreDecided, seen_by, lines_of_items, after_kept, toks_of_items}
@@ -64,10 +65,13 @@ all_kept style budget arena ids toks run plan at (line ∷ lines) cut some =
 pub items_told_nothing : (style : Style) (budget : ℕ) (arena : Contents) (run : ℕ) (plan : List (Option Slot)) (ids : List ℕ) (tally : Tally) → AreDecided plan ids → AreItemsTold style budget arena run plan ids plan tally tally
 items_told_nothing style budget arena run plan ids tally some =
     let first : after_kept style arena plan ids ≡ plan = kept_nothing style arena plan 0 ids (kept_gaps_of (classes_of arena ids)) some in
-    let k = all_kept style budget arena ids (toks_of_items style arena ids) run plan 0 (lines_of_items style arena ids) (lines_cut_views style arena ids (partners_of (classes_of arena ids))) some in
+    let lines = lines_of_items style arena ids in
+    let toks = toks_of_items style arena ids in
+    let cut = lines_cut style arena ids toks plan lines (lines_cut_views style arena ids (partners_of (classes_of arena ids))) in
+    let k = all_kept style budget arena ids toks run plan 0 (joined_lines style arena ids toks plan lines) cut some in
     record {
       done = k.done;
-      items = subst (λ (p : List (Option Slot)). AfterLines style budget arena ids (toks_of_items style arena ids) run p (lines_of_items style arena ids) plan k.done) (sym first) k.lines_are;
+      items = subst (λ (p : List (Option Slot)). AfterView style budget arena ids toks run p lines plan k.done) (sym first) k.lines_are;
       told = record {
         reports = sym (ap (λ (xs : List Report). tally.reports.items ++ xs) k.reports ∙ append-nil tally.reports.items);
         searched = omega (arith, k.searched);
@@ -121,12 +125,12 @@ runs_end style budget arena plan count run left before now here none on =
 -- ## One run
 
 pub items_from : (style : Style) (budget : ℕ) (arena : Contents) (run : ℕ) (plan kept : List (Option Slot)) (ids : List ℕ) (toks : List LineTok) (lines : List ULine) (final : List (Option Slot)) (before after : Tally)
-    → toks ≡ toks_of_items style arena ids → kept ≡ after_kept style arena plan ids → lines ≡ lines_of_items style arena ids → IsRunLaid style budget arena ids toks run kept lines final before after
+    → toks ≡ toks_of_items style arena ids → kept ≡ after_kept style arena plan ids → lines ≡ lines_of_items style arena ids → IsViewLaid style budget arena ids toks run kept lines final before after
     → AreItemsTold style budget arena run plan ids final before after
 items_from style budget arena run plan kept ids toks lines final before after toks_is kept_is lines_is laid = record {
   done = laid.done;
-  items = subst (λ (ts : List LineTok). AfterLines style budget arena ids ts run (after_kept style arena plan ids) (lines_of_items style arena ids) final laid.done) toks_is
-      (subst (λ (p : List (Option Slot)). AfterLines style budget arena ids toks run p (lines_of_items style arena ids) final laid.done) kept_is
-      (subst (λ (ls : List ULine). AfterLines style budget arena ids toks run kept ls final laid.done) lines_is laid.lines_are));
+  items = subst (λ (ts : List LineTok). AfterView style budget arena ids ts run (after_kept style arena plan ids) (lines_of_items style arena ids) final laid.done) toks_is
+      (subst (λ (p : List (Option Slot)). AfterView style budget arena ids toks run p (lines_of_items style arena ids) final laid.done) kept_is
+      (subst (λ (ls : List ULine). AfterView style budget arena ids toks run kept ls final laid.done) lines_is laid.view_is));
   told = laid.told;
 }

@@ -23,7 +23,7 @@ use Rattle.replacements.proofs.Firsts.{stay}
 use Rattle.replacements.proofs.SoundTwin.{sound_twin}
 use Rattle.run_layout.specs.Laws.{AreOfTexts}
 use Rattle.run_layout.specs.Outcomes.{LaidLine}
-use Rattle.run_layout.proofs.LaidLines.{lines_stay_sound, lines_keep, lines_decide, lines_length}
+use Rattle.run_layout.proofs.Views.{views_stay_sound, views_keep, views_decide, view_length}
 use Rattle.run_layout.proofs.MadeFor.{IsDecided, is_some-decided, decided-is_some}
 use Rattle.run_layout.specs.Rows.{item_at, column_behind}
 use Rattle.run_layout.proofs.Stands.{MadeStand, all_sound}
@@ -62,7 +62,7 @@ items_sound : (style : Style) (budget : ℕ) (arena : Contents) (run : ℕ) (pla
     → AfterItems style budget arena run plan ids final done → IsSound arena plan → IsSound arena final
 items_sound style budget arena run plan ids final done within texts laid sound =
     let made = kept_decisions style arena 0 ids (kept_gaps_of (classes_of arena ids)) in
-    lines_stay_sound style budget arena ids (toks_of_items style arena ids) run (after_kept style arena plan ids) (lines_of_items style arena ids) final done within texts (tell style arena ids)
+    views_stay_sound style budget arena ids (toks_of_items style arena ids) run (after_kept style arena plan ids) (lines_of_items style arena ids) final done within texts (tell style arena ids)
     (lines_cut_views style arena ids (partners_of (classes_of arena ids))) laid
     (all_sound arena plan made sound (kept_stand style arena 0 ids (kept_gaps_of (classes_of arena ids))))
 
@@ -88,7 +88,7 @@ twin_along d e b b' c c' dialect first second twin =
 items_keep : (style : Style) (budget : ℕ) (arena : Contents) (run : ℕ) (plan : List (Option Slot)) (ids : List ℕ) (final : List (Option Slot)) (done : List LaidLine) (place : ℕ) (slot : Slot)
     → AfterItems style budget arena run plan ids final done → slot_of plan place ≡ Some slot → slot_of final place ≡ Some slot
 items_keep style budget arena run plan ids final done place slot laid is =
-    lines_keep style budget arena ids (toks_of_items style arena ids) run (after_kept style arena plan ids) (lines_of_items style arena ids) final done laid place slot
+    views_keep style budget arena ids (toks_of_items style arena ids) run (after_kept style arena plan ids) (lines_of_items style arena ids) final done laid place slot
     (stay plan (kept_decisions style arena 0 ids (kept_gaps_of (classes_of arena ids))) place slot is)
 
 runs_keep : (style : Style) (budget : ℕ) (arena : Contents) (plan : List (Option Slot)) (run count : ℕ) (final : List (Option Slot)) (done : List LaidLine) (place : ℕ) (slot : Slot)
@@ -116,14 +116,14 @@ seen_decided style budget arena plan run id final done long (k, below, is) laid 
     let same : length kept ≡ length plan = length-kept style arena plan ids in
     let within : All (λ i. i < length kept) ids = λ j d low. (let w = seen_within arena run j d low in omega (arith, w, long, same)) in
     let here : IsSome (slot_of final (get_or ids k id)) =
-    lines_decide style budget arena ids (toks_of_items style arena ids) run kept (lines_of_items style arena ids) final done within (tell style arena ids).as_many
+    views_decide style budget arena ids (toks_of_items style arena ids) run kept (lines_of_items style arena ids) final done within (tell style arena ids).as_many
     (lines_cut_views style arena ids (partners_of (classes_of arena ids))) laid k id below in
     decided-is_some final id (subst (λ i. IsSome (slot_of final i)) is here)
 
 length-items : (style : Style) (budget : ℕ) (arena : Contents) (run : ℕ) (plan : List (Option Slot)) (ids : List ℕ) (final : List (Option Slot)) (done : List LaidLine)
     → AfterItems style budget arena run plan ids final done → length final ≡ length plan
 length-items style budget arena run plan ids final done laid =
-    lines_length style budget arena ids (toks_of_items style arena ids) run (after_kept style arena plan ids) (lines_of_items style arena ids) final done laid ∙ length-kept style arena plan ids
+    view_length style budget arena ids (toks_of_items style arena ids) run (after_kept style arena plan ids) (lines_of_items style arena ids) final done laid ∙ length-kept style arena plan ids
 
 -- what one of the runs sees is decided behind all of them
 runs_decide : (style : Style) (budget : ℕ) (arena : Contents) (plan : List (Option Slot)) (from count : ℕ) (final : List (Option Slot)) (done : List LaidLine) (run id : ℕ) → length plan ≡ length arena.tokens + 1

@@ -1,15 +1,16 @@
--- The plan of a text: what is decided before the runs, and then run by run and line by line. docs/PROFILE.md, "Runs", says what a run sees.
+-- The plan of a text: what is decided before the runs, and then run by run. docs/PROFILE.md, "Runs", says what a run sees.
 use Rattle.std.specs.Prelude.{◌≡◌, ℕ, zero, suc, ◌+◌, Option, List, [], ◌++◌}
 use Rattle.style_table.specs.declared.style.Style.{Style}
 use Rattle.token_arena.specs.Gaps.{Contents}
 use Rattle.replacements.specs.declared.slot.Slot.{Slot}
-use Rattle.run_layout.specs.Outcomes.{LaidLine, AfterLines}
+use Rattle.run_layout.specs.Outcomes.{LaidLine}
+use Rattle.run_layout.specs.View.{AfterView}
 use Rattle.format_core.specs.Runs.{runs_of, seen_by, lines_of_items, toks_of_items, after_kept, early_plan}
 
--- Behind the run that sees these items stands this plan, and this came of its lines: first what stays as it is between them is decided, then their lines are laid out.
+-- Behind the run that sees these items stands this plan, and this came of its lines: first what stays as it is between them is decided, then the view is laid out.
 abbrev pub AfterItems : Style → ℕ → Contents → ℕ → List (Option Slot) → List ℕ → List (Option Slot) → List LaidLine → Type 0
 AfterItems style budget arena run plan ids final done =
-    AfterLines style budget arena ids (toks_of_items style arena ids) run (after_kept style arena plan ids) (lines_of_items style arena ids) final done
+    AfterView style budget arena ids (toks_of_items style arena ids) run (after_kept style arena plan ids) (lines_of_items style arena ids) final done
 
 -- Behind so many runs from this one on stands this plan, and this came of their lines.
 abbrev pub AfterRuns : Style → ℕ → Contents → List (Option Slot) → ℕ → ℕ → List (Option Slot) → List LaidLine → Type 0

@@ -18,7 +18,7 @@ use bumpalo::Bump;
 use directives::Section;
 use line_tokens::NoMemory;
 use replacements::Plan;
-use run_layout::{Tally, is_row_decided, lay_out_lines};
+use run_layout::{Tally, is_row_decided, lay_out_view};
 use std::alloc::Global;
 use style_table::Style;
 use token_arena::TokenArena;
@@ -72,7 +72,7 @@ fn lay_out_items(
     keep_gaps(style, arena, view, facts.kept, plan);
     let lines = lines_of_classes(style, arena, view, classes, facts.partners, run)?;
     let toks = roles_of_classes(arena, view, classes, facts.partners, lines, run)?;
-    lay_out_lines(
+    lay_out_view(
         alloc, style, budget, arena, view, classes, toks, number, lines, plan, tally, run,
     )?;
     Ok(())

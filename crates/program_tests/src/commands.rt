@@ -1,7 +1,7 @@
 //! The table of calls, and the rows of words, styles, ports and files.
 
 use crate::broken_lines::{BROKEN_LINES, BUDGETS};
-use crate::formatted_texts::{BRANCHES, DIRECTIVES, GAPS, ITEMS, STATEMENTS, STYLES};
+use crate::formatted_texts::{BRANCHES, DIRECTIVES, GAPS, ITEMS, JOINED, STATEMENTS, STYLES};
 use c_chars::LIMIT;
 use fmt_ports::{MemFiles, MemSink, MemSource};
 use format_cli::format_command;
@@ -441,6 +441,7 @@ fn lays_out_texts(rt: HostRuntime) -> Result<(), Fail> {
         ITEMS,
         DIRECTIVES,
         STATEMENTS,
+        JOINED,
         BRANCHES,
         STYLES,
         BROKEN_LINES,
@@ -449,6 +450,41 @@ fn lays_out_texts(rt: HostRuntime) -> Result<(), Fail> {
             check(&rt, alloc, row, row.input.to_vec(alloc)?)?;
             check(&rt, alloc, row, row.out.to_vec(alloc)?)?;
         }
+    }
+    Ok(())
+}
+
+/// A list of 4,096 numbers, with this white space behind its brace, before each twelfth number and before each other one.
+fn long_list(
+    alloc: Global,
+    first: &[u8],
+    twelfth: &[u8],
+    other: &[u8],
+) -> Result<Vec<u8>, AllocError> {
+    let mut text = Vec::new(alloc);
+    text.extend_from_slice(b"unsigned char t[] = {")?;
+    text.extend_from_slice(first)?;
+    text.extend_from_slice(b"0x00")?;
+    for number in 1..4_096_u32 {
+        text.push(b',')?;
+        text.extend_from_slice(if number % 12 == 0 { twelfth } else { other })?;
+        text.extend_from_slice(b"0x00")?;
+    }
+    text.extend_from_slice(b"};\n")?;
+    Ok(text)
+}
+
+/// A long list is broken behind its brace and then where a row is full, twelve numbers a row.
+#[test]
+fn breaks_a_long_list(rt: HostRuntime) -> Result<(), Fail> {
+    let alloc = rt.alloc();
+    let want = long_list(alloc, b"\n    ", b"\n    ", b" ")?;
+    for input in [long_list(alloc, b"", b"", b"")?, want.clone()?] {
+        let mut ends = ends_of(alloc, &QUIET, input)?;
+        let status = status_of(alloc, &[], &mut ends);
+        assert_eq!(rt; status, 0);
+        assert!(rt; ends.out.taken() == want.as_slice());
+        assert_eq!(rt; ends.notes.taken().len(), 0);
     }
     Ok(())
 }

@@ -217,7 +217,7 @@ pub const STATEMENTS: &[Row] = &[
     Row {
         name: "a function",
         input: b"int f(void){\n   return   1;\n}\n",
-        out: b"int f(void) {\n  return 1;\n}\n",
+        out: b"int f(void) { return 1; }\n",
         ..QUIET
     },
     Row {
@@ -254,6 +254,84 @@ pub const STATEMENTS: &[Row] = &[
         name: "braces as trigraphs, and spliced",
         input: b"??<\na;\n<\\\n%\nb;\n%\\\n>\n??>\n",
         out: b"??<\n  a;\n  <\\\n%\n    b;\n  %\\\n>\n??>\n",
+        ..QUIET
+    },
+];
+
+/// Short lines that become one, and those that don't.
+pub const JOINED: &[Row] = &[
+    Row {
+        name: "a function that fills its row",
+        input: b"int f(void) { return aaaaaaaaaaaaaaaaaaaaaaaaaaaaaaaaaaaaaaaaaaaaaaaaaaaaaaaa; }\n",
+        out: b"int f(void) { return aaaaaaaaaaaaaaaaaaaaaaaaaaaaaaaaaaaaaaaaaaaaaaaaaaaaaaaa; }\n",
+        ..QUIET
+    },
+    Row {
+        name: "a function one column too long for a row",
+        input: b"int f(void) { return aaaaaaaaaaaaaaaaaaaaaaaaaaaaaaaaaaaaaaaaaaaaaaaaaaaaaaaaa; }\n",
+        out: b"int f(void) {\n  return aaaaaaaaaaaaaaaaaaaaaaaaaaaaaaaaaaaaaaaaaaaaaaaaaaaaaaaaa;\n}\n",
+        ..QUIET
+    },
+    Row {
+        name: "a function with a comment inside",
+        input: b"int f(void){// c\nreturn 1;}\n",
+        out: b"int f(void) { // c\n  return 1;\n}\n",
+        ..QUIET
+    },
+    Row {
+        name: "functions without statements, and one with a statement",
+        files: &[(
+            ".clang-format",
+            b"BasedOnStyle: LLVM\nAllowShortFunctionsOnASingleLine: Empty\n",
+        )],
+        input: b"void f(void){}\nvoid g(void){\n}\nvoid h(void){f();}\n",
+        out: b"void f(void) {}\nvoid g(void) {}\nvoid h(void) {\n  f();\n}\n",
+        ..QUIET
+    },
+    Row {
+        name: "an `if` in a function whose brace is wrapped",
+        files: &[(
+            ".clang-format",
+            b"BasedOnStyle: LLVM\nIndentWidth: 4\nAllowShortIfStatementsOnASingleLine: true\nBreakBeforeBraces: Custom\nBraceWrapping:\n  AfterFunction: true\n",
+        )],
+        input: b"void f(void){if(x)g();}\n",
+        out: b"void f(void)\n{\n    if (x) g();\n}\n",
+        ..QUIET
+    },
+    Row {
+        name: "loops",
+        files: &[(".clang-format", b"AllowShortLoopsOnASingleLine: true\n")],
+        input: b"void f(void){while(x)g();for(;;)\n\nh();}\n",
+        out: b"void f(void) {\n  while (x) g();\n  for (;;) h();\n}\n",
+        ..QUIET
+    },
+    Row {
+        name: "the lines of a label",
+        files: &[(
+            ".clang-format",
+            b"AllowShortCaseLabelsOnASingleLine: true\n",
+        )],
+        input: b"void f(int x){switch(x){case 1:a();break;default:b();c();d();}}\n",
+        out: b"void f(int x) {\n  switch (x) {\n  case 1: a(); break;\n  default:\n    b();\n    c();\n    d();\n  }\n}\n",
+        ..QUIET
+    },
+    Row {
+        name: "an enum, and one in whose line a comment stands",
+        input: b"enum e{A,B=2};\nenum f{C,// c\nD};\n",
+        out: b"enum e { A, B = 2 };\nenum f {\n  C, // c\n  D\n};\n",
+        ..QUIET
+    },
+    Row {
+        name: "a body that an earlier run laid out",
+        input: b"#ifdef A\na;\n#else\nint f(void)\n#endif\n{return 1;}\n",
+        out: b"#ifdef A\na;\n#else\nint f(void)\n#endif\n{\n  return 1;\n}\n",
+        ..QUIET
+    },
+    Row {
+        name: "rows of the input without a limit of columns",
+        files: &[(".clang-format", b"ColumnLimit: 0\n")],
+        input: b"int f(void){return 1;}\nint g(void){\nreturn 1;}\n",
+        out: b"int f(void) { return 1; }\nint g(void) {\n  return 1;\n}\n",
         ..QUIET
     },
 ];

@@ -8,7 +8,6 @@ use Rattle.unwrapped_lines.specs.Lines.{unwrapped_lines_of}
 use Rattle.unwrapped_lines.specs.declared.line.ULine.{ULine}
 use Rattle.annotator.specs.Tokens.{roles_of}
 use Rattle.replacements.specs.Decisions.{decided_all}
-use Rattle.run_layout.proofs.RunSteps.{cut_count}
 use Rattle.format_core.specs.KeptGaps.{kept_decisions}
 use Rattle.format_core.proofs.RunsTold.{items_from}
 use Rattle.format_core.proofs.runs.lay_out_items.Goals as goal
@@ -31,12 +30,12 @@ returns-clause-told c =
     let classes = c.in_ok-classes.ensures.classes in
     let partners_is : partners ≡ partners_of (classes_of arena ids) = c.in_ok-facts.ensures.partners ∙ ap (λ (cs : List TokenClass). partners_of cs) classes in
     let lines_is : lines ≡ unwrapped_lines_of style arena ids (partners_of (classes_of arena ids)) = c.in_ok-lines.ensures.lines ∙ ap (λ (ps : List (Option ℕ)). unwrapped_lines_of style arena ids ps) partners_is in
-    items_from style c.args.budget arena c.args.number plan c.keep_gaps.new.plan ids c.in_ok-toks.toks.now lines c.lay_out_lines.new.plan c.args.tally.now c.lay_out_lines.new.tally
+    items_from style c.args.budget arena c.args.number plan c.keep_gaps.new.plan ids c.in_ok-toks.toks.now lines c.lay_out_view.new.plan c.args.tally.now c.lay_out_view.new.tally
     (c.in_ok-toks.ensures.roles ∙ (ap (λ (ps : List (Option ℕ)). roles_of arena ids ps lines) partners_is ∙ ap (λ (ls : List ULine). roles_of arena ids (partners_of (classes_of arena ids)) ls) lines_is))
     (c.keep_gaps.ensures.plan ∙ ap (λ (marks : List Bool). decided_all plan (kept_decisions style arena 0 ids marks)) (c.in_ok-facts.ensures.kept ∙ ap (λ (cs : List TokenClass). kept_gaps_of cs) classes))
-    lines_is c.in_ok-lay_out_lines.ensures.laid
+    lines_is c.in_ok-lay_out_view.ensures.laid
 
 pub returns-clause-room : goal.returns-clause-room
 returns-clause-room c =
     let most : c.len-items.result ≤ 8388608 = c.len-items.ensures.most in
-    omega (arith, c.in_ok-lay_out_lines.ensures.room, cut_count 0 (length c.args.view.now) c.in_ok-lines.lines.now c.in_ok-lines.ensures.cut, c.if-prove.false, most, c.len-count.ensures.count)
+    omega (arith, c.in_ok-lay_out_view.ensures.room, c.if-prove.false, most, c.len-count.ensures.count)
