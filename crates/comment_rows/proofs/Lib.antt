@@ -1,0 +1,2 @@
+pub mod NextRows
+pub mod CommentLists

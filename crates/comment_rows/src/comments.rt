@@ -1,0 +1,193 @@
+//! The trailing comments of a view.
+
+ghost use Rattle.std.specs.Prelude.{◌≡◌, ◌∷◌, ◌+◌, ◌++◌, ◌<◌, All, IfOk, IsSome, OnOk, Some, length, map, slice_get, if◌then◌else◌, true};
+ghost use Rattle.std.specs.Bool.{OnFalse};
+ghost use Rattle.style_table.specs.Range.{IsInRange};
+ghost use Rattle.line_tokens.specs.declared.LineTok.{LineTok};
+ghost use Rattle.line_tokens.specs.Roles.{is_trailing};
+ghost use Rattle.replacements.specs.Decisions.{decided, decided_all, slot_of};
+ghost use Rattle.comment_rows.specs.Comments.{comment_at, comment_of, comments_in, comments_made, placed, placed_slot, row_of};
+
+use crate::rows::{end_of, first_start, is_next, start_by};
+use bumpalo::Bump;
+use comment_place::{TrailRow, align};
+use gap_text::Decision;
+use line_tokens::{LineTok, NoMemory};
+use replacements::Plan;
+use spacing::spaces_before;
+use style_table::Style;
+
+/// A trailing comment of a view, as it is read off the plan. Contracts tell the decisions for a view by these.
+#[derive(Clone, Copy, Debug)]
+pub struct Comment {
+    /// The number of its item.
+    pub id: u32,
+    /// The blanks of the table before it.
+    pub spaces: u32,
+    /// Its row, before the rows are aligned.
+    pub row: TrailRow,
+}
+
+/// The token at a place.
+#[inline(always)]
+fn token_at(tokens: &[LineTok], at: usize) -> &LineTok
+    requires { at < length tokens.now }
+    ensures { slice_get tokens.now at ≡ Some result.now }
+{
+    &tokens[at]
+}
+
+/// Whether the gap before a trailing comment is open.
+fn has_open_comment(plan: &Plan<'_>, tokens: &[LineTok]) -> bool
+    requires { All (λ token. token.id.0 < length plan.now) tokens.now }
+    ensures { OnFalse result (All (λ token. is_trailing token.role ≡ true → IsSome (slot_of plan.now token.id.0)) tokens.now) }
+{
+    for token in tokens {
+        if token.role.is_trailing() && plan.slot(token.id.0).is_none() {
+            return true;
+        }
+    }
+    false
+}
+
+/// A trailing comment with its row, behind a token that ends at a column and in front of other tokens.
+fn comment_of(
+    style: &Style,
+    plan: &Plan<'_>,
+    left: &LineTok,
+    column: u32,
+    token: &LineTok,
+    tokens: &[LineTok],
+) -> Comment
+    requires range { IsInRange style.now }
+    requires within { token.now.id.0 < length plan.now }
+    requires behind { All (λ token. token.id.0 < length plan.now) tokens.now }
+    ensures { result ≡ comment_of style.now plan.now left.now column token.now tokens.now }
+{
+    let slot = plan.slot(token.id.0);
+    Comment {
+        id: token.id.0,
+        spaces: u32::from(spaces_before(style, left, token)),
+        row: TrailRow {
+            end: column,
+            column: start_by(style, left, column, token, slot),
+            next: is_next(plan, tokens),
+            fixed: slot.is_some(),
+        },
+    }
+}
+
+/// Keeps a token that is a trailing comment.
+fn keep_comment(
+    style: &Style,
+    plan: &Plan<'_>,
+    left: &LineTok,
+    column: u32,
+    token: &LineTok,
+    tokens: &[LineTok],
+    comments: &mut Vec<Comment, &Bump>,
+) -> Result<(), NoMemory>
+    requires range { IsInRange style.now }
+    requires within { token.now.id.0 < length plan.now }
+    requires behind { All (λ token. token.id.0 < length plan.now) tokens.now }
+    ensures { OnOk result (comments.new.items ≡ comments.old.items ++ comment_at style.now plan.now left.now column token.now tokens.now) }
+{
+    if token.role.is_trailing() {
+        comments.push(comment_of(style, plan, left, column, token, tokens))?;
+    }
+    Ok(())
+}
+
+/// The trailing comments of a view.
+fn comments_in<'r>(
+    style: &Style,
+    plan: &Plan<'_>,
+    tokens: &[LineTok],
+    run: &'r Bump,
+) -> Result<Vec<Comment, &'r Bump>, NoMemory>
+    requires range { IsInRange style.now }
+    requires within { All (λ token. token.id.0 < length plan.now) tokens.now }
+    ensures { IfOk result (λ comments. comments.items ≡ comments_in style.now plan.now tokens.now) }
+{
+    let mut comments = Vec::new(run);
+    if tokens.is_empty() {
+        return Ok(comments);
+    }
+    let mut left = token_at(tokens, 0);
+    let mut column = end_of(left, first_start(plan.slot(left.id.0)));
+    for at in 1..tokens.len() {
+        let token = token_at(tokens, at);
+        keep_comment(
+            style,
+            plan,
+            left,
+            column,
+            token,
+            &tokens[at + 1..],
+            &mut comments,
+        )?;
+        let start = start_by(style, left, column, token, plan.slot(token.id.0));
+        column = end_of(token, start);
+        left = token;
+    }
+    Ok(comments)
+}
+
+/// The rows of comments.
+fn rows_of<'r>(comments: &[Comment], run: &'r Bump) -> Result<Vec<TrailRow, &'r Bump>, NoMemory>
+    ensures { IfOk result (λ rows. rows.items ≡ map row_of comments.now) }
+{
+    let mut rows = Vec::with_capacity(run, comments.len())?;
+    for comment in comments {
+        rows.push(comment.row)?;
+    }
+    Ok(rows)
+}
+
+/// Decides the gap before a comment in this row, where it is open.
+fn place(comment: &Comment, row: &TrailRow, plan: &mut Plan<'_>)
+    requires { comment.now.id < length plan.old }
+    ensures plan { plan.new ≡ (if comment.now.row.fixed then plan.old else decided plan.old comment.now.id (placed_slot comment.now row.now)) }
+    ensures len { length plan.new ≡ length plan.old }
+{
+    if !comment.row.fixed {
+        let moved = row.column.saturating_sub(comment.row.column);
+        let spaces = comment.spaces.saturating_add(moved);
+        let _ = plan.decide(comment.id, Decision::Spaces(spaces), row.column);
+    }
+}
+
+/// Decides the open gaps before comments, which stand in these rows.
+fn place_all(comments: &[Comment], rows: &[TrailRow], plan: &mut Plan<'_>)
+    requires same { length rows.now ≡ length comments.now }
+    requires within { All (λ comment. comment.id < length plan.old) comments.now }
+    ensures plan { plan.new ≡ decided_all plan.old (placed comments.now rows.now) }
+    ensures len { length plan.new ≡ length plan.old }
+{
+    for at in 0..comments.len() {
+        place(&comments[at], &rows[at], plan);
+    }
+}
+
+/// Decides the open gaps before the trailing comments of a view, whose other gaps are decided. `toks` are the view's
+/// tokens. Want of memory is the only error.
+pub fn place_comments(
+    style: &Style,
+    toks: &[LineTok],
+    plan: &mut Plan<'_>,
+    run: &Bump,
+) -> Result<(), NoMemory>
+    requires range { IsInRange style.now }
+    requires within { All (λ token. token.id.0 < length plan.old) toks.now }
+    ensures plan { OnOk result (plan.new ≡ decided_all plan.old (comments_made style.now toks.now plan.old)) }
+    ensures len { length plan.new ≡ length plan.old }
+{
+    if !has_open_comment(plan, toks) {
+        return Ok(());
+    }
+    let comments = comments_in(style, plan, toks, run)?;
+    let mut rows = rows_of(&comments, run)?;
+    align(style, &mut rows);
+    place_all(&comments, &rows, plan);
+    Ok(())
+}
