@@ -17,11 +17,13 @@ use Rattle.run_layout.specs.View.{joined_lines, AfterView, IsViewLaid}
 use Rattle.run_layout.specs.declared.report.Report.{Report}
 use Rattle.run_layout.specs.declared.report.Tally.{Tally}
 use Rattle.run_layout.proofs.Views.{lines_cut}
+use Rattle.run_layout.proofs.WaitingComments.{nothing_waits}
 use Rattle.run_layout.proofs.Walked.{cut_within}
 use Rattle.format_core.specs.Plans.{AfterRuns}
 use Rattle.format_core.specs.Runs.{AreDecided, seen_by, lines_of_items, after_kept, toks_of_items}
 use Rattle.format_core.specs.RunsTold.{AreItemsTold, AreRunsTold}
 use Rattle.format_core.proofs.NothingNew.{kept_nothing}
+use Rattle.format_core.proofs.SoundPlan.{tell}
 
 -- ## Lists of what came of lines
 
@@ -71,7 +73,7 @@ items_told_nothing style budget arena run plan ids tally some =
     let k = all_kept style budget arena ids toks run plan 0 (joined_lines style arena ids toks plan lines) cut some in
     record {
       done = k.done;
-      items = subst (λ (p : List (Option Slot)). AfterView style budget arena ids toks run p lines plan k.done) (sym first) k.lines_are;
+      items = subst (λ (p : List (Option Slot)). AfterView style budget arena ids toks run p lines plan k.done) (sym first) (plan, k.lines_are, nothing_waits style arena ids toks plan (tell style arena ids) (λ j low. some j low));
       told = record {
         reports = sym (ap (λ (xs : List Report). tally.reports.items ++ xs) k.reports ∙ append-nil tally.reports.items);
         searched = omega (arith, k.searched);

@@ -43,7 +43,7 @@ use Rattle.format_core.proofs.Stays.{early_there}
 -- ## What a run tells of its items
 
 -- the tokens of these items tell of them what the layout needs
-tell : (style : Style) (arena : Contents) (ids : List ℕ) → StandForItems arena ids (toks_of_items style arena ids)
+pub tell : (style : Style) (arena : Contents) (ids : List ℕ) → StandForItems arena ids (toks_of_items style arena ids)
 tell style arena ids =
     let partners = partners_of (classes_of arena ids) in
     let lines = lines_of_items style arena ids in
@@ -116,7 +116,7 @@ seen_decided style budget arena plan run id final done long (k, below, is) laid 
     let same : length kept ≡ length plan = length-kept style arena plan ids in
     let within : All (λ i. i < length kept) ids = λ j d low. (let w = seen_within arena run j d low in omega (arith, w, long, same)) in
     let here : IsSome (slot_of final (get_or ids k id)) =
-    views_decide style budget arena ids (toks_of_items style arena ids) run kept (lines_of_items style arena ids) final done within (tell style arena ids).as_many
+    views_decide style budget arena ids (toks_of_items style arena ids) run kept (lines_of_items style arena ids) final done within (tell style arena ids)
     (lines_cut_views style arena ids (partners_of (classes_of arena ids))) laid k id below in
     decided-is_some final id (subst (λ i. IsSome (slot_of final i)) is here)
 

@@ -19,7 +19,7 @@ use token_views::View;
 /// A text with the text of its items and decisions in a style.
 type Case = (&'static str, &'static str, &'static str, &'static str);
 
-const CASES: [Case; 16] = [
+const CASES: [Case; 15] = [
     (
         "blanks by roles",
         "LLVM",
@@ -74,12 +74,6 @@ const CASES: [Case; 16] = [
         "Google",
         "void f(void)<%\n\ng();%>",
         "void f(void) <%\n  g();\n%>",
-    ),
-    (
-        "behind a line comment",
-        "LLVM",
-        "int a, // first\nb;",
-        "int a, // first\n    b;",
     ),
     (
         "a comment that began its line",

@@ -3,6 +3,7 @@
 //! - `broken_lines`: the rows of long lines, budgets and reports.
 //! - `commands`: the one table of calls, and the rows of words, styles, ports and files.
 //! - `formatted_texts`: the rows of texts and their layout.
+//! - `trailing_comments`: the rows of texts with trailing comments.
 #![tactic(auto)]
 
 #[cfg(test)]
@@ -11,3 +12,5 @@ mod broken_lines;
 mod commands;
 #[cfg(test)]
 mod formatted_texts;
+#[cfg(test)]
+mod trailing_comments;

@@ -31,7 +31,7 @@ use Rattle.replacements.specs.Places.{place_in}
 use Rattle.replacements.specs.Sound.{MayJoin, MayStandBetween, MayStand}
 use Rattle.run_layout.specs.Rows.{no_item, item_at, no_tok}
 use Rattle.run_layout.specs.Tells.{MayTouch, StandsForItem, StandForItems}
-use Rattle.run_layout.specs.Broken.{of_line, broken_line, empty_inside, inside_decision, inside_slot, made_if_open, made_at, inside_made}
+use Rattle.run_layout.specs.Broken.{of_line, broken_line, empty_inside, waits, inside_decision, inside_slot, made_if_open, made_at, inside_made}
 use Rattle.run_layout.specs.Laws.{AreOfTexts}
 use Rattle.run_layout.proofs.Stands.{stance, lines_stand, MadeStand}
 
@@ -46,7 +46,7 @@ pub record TellsGap (arena : Contents) (before id : ℕ) (gap : Gap) : Type 0 wh
   pub right : StandsForItem arena id gap.right
   pub next : IsFalse gap.right.directive → id ≡ before + 1
 
-ends_takes : (k : ItemKind) → ends_its_row k ≡ takes_line k
+pub ends_takes : (k : ItemKind) → ends_its_row k ≡ takes_line k
 ends_takes kind.LineComment = refl
 ends_takes kind.StrayQuote = refl
 ends_takes _ = refl
@@ -56,7 +56,7 @@ stays_by : (must can : Bool) (rules : Bool → Bool) → (if must then false els
 stays_by true can rules e = cc
 stays_by false can rules e = refl
 
-open_stays : (style : Style) (layout : Layout) (gap : Gap) → gap.first ≡ false → is_decided gap ≡ false → is_allowed style layout gap false ≡ true → (gap_rule style gap.left gap.right).must ≡ false
+pub open_stays : (style : Style) (layout : Layout) (gap : Gap) → gap.first ≡ false → is_decided gap ≡ false → is_allowed style layout gap false ≡ true → (gap_rule style gap.left gap.right).must ≡ false
 open_stays style layout gap first decided allowed = by_parts gap.first gap.fixed first decided allowed
   where
     by_parts : (f : Bool) (o : Option Fixed) → f ≡ false → is_some_decision o ≡ false
@@ -89,7 +89,7 @@ apart style arena before id gap tells next = elim (apart_by (spaces_by_table sty
   | inr (inr touch) ↦ inr (inr (subst (λ x. MayTouch arena.dialect (item_at arena x) (item_at arena id)) (before_next before id next) (tells.right.touch touch (omega (arith, next)))))
 ]
 
-joins : (style : Style) (arena : Contents) (before id : ℕ) (gap : Gap) → TellsGap arena before id gap → id ≡ before + 1 → takes_line (item_at arena before).kind ≡ false
+pub joins : (style : Style) (arena : Contents) (before id : ℕ) (gap : Gap) → TellsGap arena before id gap → id ≡ before + 1 → takes_line (item_at arena before).kind ≡ false
     → MayJoin arena.dialect (stance arena before) (item_at arena before) (stance arena id) (item_at arena id) (spaces_before style gap.left gap.right)
 joins style arena before id gap tells next takes = record {
   here = tells.right_of;
@@ -99,7 +99,7 @@ joins style arena before id gap tells next takes = record {
 }
 
 -- blanks that may join two items of a text that follow one another may stand
-joined_stands : (arena : Contents) (before id count : ℕ) → id < length arena.tokens → id ≡ before + 1
+pub joined_stands : (arena : Contents) (before id count : ℕ) → id < length arena.tokens → id ≡ before + 1
     → MayJoin arena.dialect (stance arena before) (item_at arena before) (stance arena id) (item_at arena id) count → MayStand arena id (Spaces count)
 joined_stands arena before zero count within next joins = absurd (omega (arith, next))
 joined_stands arena before (suc b) count within next joins =
@@ -128,13 +128,14 @@ inside_stands style arena line layout gap false before id tells first decided al
     let next = tells.next ends.0 in
     joined_stands arena before id (spaces_before style gap.left gap.right) tells.within next (joins style arena before id gap tells next takes)
 
-open_made : (arena : Contents) (gap : Gap) (id : ℕ) (slot : Slot) (later : List (ℕ × Slot)) → (is_decided gap ≡ false → MayStand arena id slot.decision) → MadeStand arena later
-    → MadeStand arena (made_if_open gap id slot later)
-open_made arena gap id slot later stands rest = by_flag (is_decided gap) refl
+open_made : (arena : Contents) (gap : Gap) (brk : Bool) (id : ℕ) (slot : Slot) (later : List (ℕ × Slot)) → (is_decided gap ≡ false → MayStand arena id slot.decision) → MadeStand arena later
+    → MadeStand arena (made_if_open gap brk id slot later)
+open_made arena gap brk id slot later stands rest = by_flags (is_decided gap) (waits gap.right brk) refl
   where
-    by_flag : (f : Bool) → is_decided gap ≡ f → MadeStand arena (if f then later else (id, slot) ∷ later)
-    by_flag true e = rest
-    by_flag false e = (stands e, rest)
+    by_flags : (f w : Bool) → is_decided gap ≡ f → MadeStand arena (if f || w then later else (id, slot) ∷ later)
+    by_flags true w e = rest
+    by_flags false true e = rest
+    by_flags false false e = (stands e, rest)
 
 -- what is known of each gap inside a line with these items
 abbrev pub GapsTell : Contents → List ℕ → Line → Type 0
@@ -151,7 +152,7 @@ choices_stand arena line items l layout t (brk ∷ breaks) cost tell leads =
     let rest : MadeStand arena (inside_made line items l after breaks) =
     choices_stand arena line items l after t breaks leads.2 tell (subst (λ (x : Layout). Leads (Step l) x breaks t leads.2) (sym p.layout) leads.4) in
     subst (λ (o : Option Gap). MadeStand arena (made_at l.style line items layout brk (λ next. inside_made line items l next breaks) o)) (sym p.at)
-    (open_made arena p.gap (get_or items layout.index 0) (inside_slot l.style line layout p.gap brk) (inside_made line items l after breaks)
+    (open_made arena p.gap brk (get_or items layout.index 0) (inside_slot l.style line layout p.gap brk) (inside_made line items l after breaks)
     (λ decided. inside_stands l.style arena line layout p.gap brk (get_or items (layout.index - 1) 0) (get_or items layout.index 0) (tell layout.index p.gap g) g.first decided p.allowed)
     rest)
 
@@ -162,6 +163,18 @@ get_or_of_line {A} line xs i d within = get_or-take (line.last + 1 - line.first)
 
 pub length_of_line : {A : Type 0} (line : ULine) (xs : List A) → line.last < length xs → length (of_line line xs) ≡ line.last + 1 - line.first
 length_of_line {A} line xs within = length-take-le (line.last + 1 - line.first) (drop line.first xs) (omega (arith, length-drop line.first xs, within))
+
+-- the tokens on the sides of a gap inside a line are those of the view
+pub gap_tokens : (style : Style) (arena : Contents) (ids : List ℕ) (toks : List LineTok) (plan : List (Option Slot)) (line : ULine) (i : ℕ) (gap : Gap) → line.last < length toks → IsGap (broken_line style arena ids toks plan line) i gap
+    → (get_or toks (line.first + i - 1) no_tok ≡ gap.left) × (get_or toks (line.first + i) no_tok ≡ gap.right)
+gap_tokens style arena ids toks plan line i gap within g =
+    let count : length (of_line line toks) ≡ line.last + 1 - line.first = length_of_line line toks within in
+    let below : i < line.last + 1 - line.first = omega (arith, g.within, count) in
+    let some : 0 < i = g.inside in
+    let here : line.first + i - 1 ≡ line.first + (i - 1) = omega (arith, some) in (
+      ap (λ x. get_or toks x no_tok) here ∙ (sym (get_or_of_line line toks (i - 1) no_tok (omega (arith, below))) ∙ get_or_from_slice_get (of_line line toks) (i - 1) gap.left no_tok g.left),
+      sym (get_or_of_line line toks i no_tok below) ∙ get_or_from_slice_get (of_line line toks) i gap.right no_tok g.right,
+    )
 
 -- the tokens of a line tell what is known of its gaps
 pub gaps_tell : (style : Style) (arena : Contents) (ids : List ℕ) (toks : List LineTok) (plan : List (Option Slot)) (line : ULine) → AreWithin arena ids → AreOfTexts arena ids → StandForItems arena ids toks

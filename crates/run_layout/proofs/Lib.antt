@@ -16,4 +16,5 @@ pub mod RowLines
 pub mod Reporting
 pub mod LineOutcomes
 pub mod RunSteps
+pub mod WaitingComments
 pub mod Views

@@ -281,8 +281,8 @@ row_is_made line items l s t cost (suc m) left inside numbers leads some all at 
     drop-cons l.tokens s.index no_tok (omega (arith, all)) ∙ ap (λ j. right ∷ drop j l.tokens) (add-one s.index) in
     let slot : Slot = record { decision = Spaces (spaces_before style left right); end = stay_start style s.column left right } in
     ap (λ (o : Option Gap). made_at style line items s false (λ x. inside_made line items l x (stays m)) o) here
-    ∙ (ap (λ x. (x, slot) ∷ inside_made line items l next (stays m)) (numbers s.index right r)
-    ∙ (ap (λ (xs : List (ℕ × Slot)). (right.id.0, slot) ∷ xs) rest
+    ∙ (ap (λ x. if is_trailing right.role then inside_made line items l next (stays m) else (x, slot) ∷ inside_made line items l next (stays m)) (numbers s.index right r)
+    ∙ (ap (λ (xs : List (ℕ × Slot)). if is_trailing right.role then xs else (right.id.0, slot) ∷ xs) rest
     ∙ sym (ap (λ (xs : List LineTok). row_made style s.column left xs) tokens)))
   where
     same_some : {A : Type 0} (x y : A) → Some x ≡ Some y → x ≡ y

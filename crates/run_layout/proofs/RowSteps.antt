@@ -1,10 +1,12 @@
 -- What the test of a line on one row has found so far.
-use Rattle.std.proofs.Common.{◌≡◌, ◌∙◌, inl, inr, ℕ, suc, ◌+◌, ◌<◌, ◌≤◌, false, Option, Some, None, List, ◌∷◌, length, drop, refl, sym, ap, arith, subst, slice_get}
+use Rattle.std.proofs.Common.{◌≡◌, ◌∙◌, inl, inr, ℕ, suc, ◌+◌, ◌<◌, ◌≤◌, Bool, true, false, Option, Some, None, List, ◌∷◌, length, drop, refl, sym, ap, arith, subst, slice_get}
 use Rattle.std.proofs.Math.Seq.{drop-cons}
 use Rattle.std.proofs.lemmas.Option.{get_or_from_slice_get, slice_get_within}
 use Rattle.style_table.specs.declared.style.Style.{Style}
 use Rattle.line_tokens.specs.declared.LineTok.{LineTok}
 use Rattle.line_tokens.specs.declared.Fixed.{Fixed}
+use Rattle.line_tokens.specs.Roles.{is_trailing}
+use Rattle.std.specs.Prelude.{if◌then◌else◌}
 use Rattle.line_state.specs.Layout.{columns, end_of, stored_or}
 use Rattle.line_state.specs.Line.{Line, decision_at, first_cost}
 use Rattle.penalties.specs.Breaks.{gap_rule}
@@ -70,14 +72,21 @@ drop_here {A} xs i x e =
     drop-cons xs i x (slice_get_within xs i x e) ∙ (ap (λ (y : A). y ∷ drop (suc i) xs) (get_or_from_slice_get xs i x x e) ∙ ap (λ j. x ∷ drop j xs) one)
 
 pub row_written : (style : Style) (plan after : List (Option Slot)) (tokens : List LineTok) (column at spaces start behind : ℕ) (left right : LineTok) → slice_get tokens at ≡ Some right
-    → spaces ≡ spaces_before style left right → start ≡ columns column spaces → behind ≡ end_of right start → after ≡ decided plan right.id.0 (record { decision = Spaces spaces; end = start })
+    → spaces ≡ spaces_before style left right → start ≡ columns column spaces → behind ≡ end_of right start → after ≡ (if is_trailing right.role then plan else decided plan right.id.0 (record { decision = Spaces spaces; end = start }))
     → decided_all after (row_made style behind right (drop (at + 1) tokens)) ≡ decided_all plan (row_made style column left (drop at tokens))
 row_written style plan after tokens column at spaces start behind left right e blanks starts ends made =
     let from : start ≡ stay_start style column left right = starts ∙ ap (λ x. columns column x) blanks in
     let slot : ◌≡◌ {A = Slot} (record { decision = Spaces spaces; end = start }) (record { decision = Spaces (spaces_before style left right); end = stay_start style column left right }) =
     ap (λ x. record { decision = Spaces x; end = start }) blanks ∙ ap (λ x. record { decision = Spaces (spaces_before style left right); end = x }) from in
-    let made_is : after ≡ decided plan right.id.0 (record { decision = Spaces (spaces_before style left right); end = stay_start style column left right }) = made ∙ ap (λ (s : Slot). decided plan right.id.0 s) slot in
+    let laid : Slot = record { decision = Spaces (spaces_before style left right); end = stay_start style column left right } in
+    let made_is : after ≡ (if is_trailing right.role then plan else decided plan right.id.0 laid) = made ∙ ap (λ (s : Slot). if is_trailing right.role then plan else decided plan right.id.0 s) slot in
+    let later : List (ℕ × Slot) = row_made style (end_of right (stay_start style column left right)) right (drop (at + 1) tokens) in
     let behind_is : behind ≡ end_of right (stay_start style column left right) = ends ∙ ap (λ x. end_of right x) from in
     ap (λ (p : List (Option Slot)). decided_all p (row_made style behind right (drop (at + 1) tokens))) made_is
-    ∙ (ap (λ x. decided_all (decided plan right.id.0 (record { decision = Spaces (spaces_before style left right); end = stay_start style column left right })) (row_made style x right (drop (at + 1) tokens))) behind_is
-    ∙ sym (ap (λ (xs : List LineTok). decided_all plan (row_made style column left xs)) (drop_here tokens at right e)))
+    ∙ (ap (λ x. decided_all (if is_trailing right.role then plan else decided plan right.id.0 laid) (row_made style x right (drop (at + 1) tokens))) behind_is
+    ∙ (by_flag (is_trailing right.role) laid later
+    ∙ sym (ap (λ (xs : List LineTok). decided_all plan (row_made style column left xs)) (drop_here tokens at right e))))
+  where
+    by_flag : (f : Bool) (slot : Slot) (later : List (ℕ × Slot)) → decided_all (if f then plan else decided plan right.id.0 slot) later ≡ decided_all plan (if f then later else (right.id.0, slot) ∷ later)
+    by_flag true slot later = refl
+    by_flag false slot later = refl

@@ -1,5 +1,5 @@
 -- The decisions of a line that is broken, gap by gap.
-use Rattle.std.proofs.Common.{◌≡◌, ◌∙◌, ℕ, zero, suc, ◌+◌, ◌-◌, ◌<◌, Bool, true, false, Option, Some, List, [], ◌∷◌, length, map, get_or, drop, refl, sym, ap, arith, subst, slice_get}
+use Rattle.std.proofs.Common.{◌≡◌, ◌∙◌, ℕ, zero, suc, ◌+◌, ◌-◌, ◌<◌, ◌||◌, Bool, true, false, Option, Some, List, [], ◌∷◌, length, map, get_or, drop, refl, sym, ap, arith, subst, slice_get}
 use Rattle.std.specs.Prelude.{All, if◌then◌else◌}
 use Rattle.std.proofs.lemmas.Option.{slice_get-get_or, get_or_from_slice_get, slice_get_within}
 use Rattle.std.proofs.Math.ListN.{drop_of_length-le}
@@ -16,7 +16,7 @@ use Rattle.break_search.specs.Starts.{IsAdmissible, starts_by, starts_of}
 use Rattle.unwrapped_lines.specs.declared.line.ULine.{ULine}
 use Rattle.replacements.specs.declared.slot.Slot.{Slot}
 use Rattle.replacements.specs.Decisions.{decided, decided_all}
-use Rattle.run_layout.specs.Broken.{number, decision_by, inside_slot, made_at, inside_made}
+use Rattle.run_layout.specs.Broken.{number, waits, decision_by, inside_slot, made_at, inside_made}
 
 -- what is decided while the choices are followed
 pub record IsWritten (l : Line) (line : ULine) (items : List ℕ) (breaks : List Bool) (starts : List ℕ) (plan now : List (Option Slot)) (at : ℕ) : Type 0 where
@@ -59,7 +59,7 @@ here {A} xs at d within = drop-cons xs at d within ∙ ap (λ j. get_or xs at d 
 pub write_more : (l : Line) (line : ULine) (items : List ℕ) (breaks : List Bool) (starts : List ℕ) (plan now after : List (Option Slot)) (at start : ℕ) (brk d : Bool) (left right : LineTok) (fixed : Option Fixed)
     → IsWritten l line items breaks starts plan now at → at < length breaks → at < length starts → get_or breaks at d ≡ brk → get_or starts at 0 ≡ start → slice_get l.tokens at ≡ Some left → slice_get l.tokens (at + 1) ≡ Some right
     → fixed ≡ decision_at l (at + 1) → get_or items (at + 1) 0 ≡ right.id.0
-    → after ≡ (if is_some_decision fixed then now else decided now right.id.0 (record { decision = decision_by l.style line left right brk start; end = start }))
+    → after ≡ (if is_some_decision fixed || waits right brk then now else decided now right.id.0 (record { decision = decision_by l.style line left right brk start; end = start }))
     → IsWritten l line items breaks starts plan after (at + 1)
 write_more l line items breaks starts plan now after at start brk d left right fixed w below some is begins a b fix number made =
     let style : Style = l.style in
@@ -84,12 +84,13 @@ write_more l line items breaks starts plan now after at start brk d left right f
     ∙ ap (λ x. record { decision = decision_by style line left right brk x; end = x }) start_is) in
     let id_is : get_or items s.index 0 ≡ right.id.0 = ap (λ i. get_or items i 0) w.index ∙ number in
     let rest : List (ℕ × Slot) = inside_made line items l next later in
-    let made_is : inside_made line items l s (drop at breaks) ≡ (if is_some_decision fixed then rest else (right.id.0, slot) ∷ rest) =
+    let made_is : inside_made line items l s (drop at breaks) ≡ (if is_some_decision fixed || waits right brk then rest else (right.id.0, slot) ∷ rest) =
     ap (λ (bs : List Bool). inside_made line items l s bs) split
     ∙ (ap (λ (o : Option Gap). made_at style line items s brk (λ x. inside_made line items l x later) o) p.at
-    ∙ (ap (λ (o : Option Fixed). if is_some_decision o then rest else (get_or items s.index 0, inside_slot style line s p.gap brk) ∷ rest) fixed_is
-    ∙ (ap (λ x. if is_some_decision fixed then rest else (x, inside_slot style line s p.gap brk) ∷ rest) id_is
-    ∙ ap (λ (x : Slot). if is_some_decision fixed then rest else (right.id.0, x) ∷ rest) slot_is))) in
+    ∙ (ap (λ (o : Option Fixed). if is_some_decision o || waits p.gap.right brk then rest else (get_or items s.index 0, inside_slot style line s p.gap brk) ∷ rest) fixed_is
+    ∙ (ap (λ (x : LineTok). if is_some_decision fixed || waits x brk then rest else (get_or items s.index 0, inside_slot style line s p.gap brk) ∷ rest) right_is
+    ∙ (ap (λ x. if is_some_decision fixed || waits right brk then rest else (x, inside_slot style line s p.gap brk) ∷ rest) id_is
+    ∙ ap (λ (x : Slot). if is_some_decision fixed || waits right brk then rest else (right.id.0, x) ∷ rest) slot_is)))) in
     record {
       layout = next;
       index = omega (arith, w.index);
@@ -98,7 +99,7 @@ write_more l line items breaks starts plan now after at start brk d left right f
       leads = subst (λ (x : Layout). Leads (Step l) x later w.end leads.2) (sym p.layout) leads.4;
       starts_are = tail_same start (start_of style s p.gap brk) (drop (at + 1) starts) (starts_of l next later) all;
       rest = ap (λ (q : List (Option Slot)). decided_all q rest) made
-          ∙ (by_flag (is_some_decision fixed) now right.id.0 slot rest ∙ (ap (λ (m : List (ℕ × Slot)). decided_all now m) (sym made_is) ∙ w.rest));
+          ∙ (by_flag (is_some_decision fixed || waits right brk) now right.id.0 slot rest ∙ (ap (λ (m : List (ℕ × Slot)). decided_all now m) (sym made_is) ∙ w.rest));
     }
   where
     by_flag : (f : Bool) (q : List (Option Slot)) (id : ℕ) (slot : Slot) (rest : List (ℕ × Slot)) → decided_all (if f then q else decided q id slot) rest ≡ decided_all q (if f then rest else (id, slot) ∷ rest)

@@ -1,8 +1,9 @@
 -- What stands before the items of a line whose breaks are known: docs/PROFILE.md, "Layout of lines".
-use Rattle.std.specs.Prelude.{ℕ, ◌+◌, ◌-◌, Bool, Option, Some, None, List, [], ◌∷◌, get_or, map, take, drop, if◌then◌else◌}
+use Rattle.std.specs.Prelude.{ℕ, ◌+◌, ◌-◌, ◌||◌, ◌&&◌, not, Bool, Option, Some, None, List, [], ◌∷◌, get_or, map, take, drop, if◌then◌else◌}
 use Rattle.style_table.specs.declared.style.Style.{Style}
 use Rattle.line_tokens.specs.declared.LineTok.{LineTok}
 use Rattle.line_tokens.specs.declared.Fixed.{Fixed}
+use Rattle.line_tokens.specs.Roles.{is_trailing}
 use Rattle.line_state.specs.declared.gap.Gap.{Gap}
 use Rattle.line_state.specs.Layout.{Layout, is_decided, layout_after, start_of}
 use Rattle.line_state.specs.Line.{Line, first_layout, gap_at}
@@ -69,14 +70,18 @@ inside_decision style line layout gap brk = decision_by style line gap.left gap.
 abbrev pub inside_slot : Style → ULine → Layout → Gap → Bool → Slot
 inside_slot style line layout gap brk = record { decision = inside_decision style line layout gap brk; end = start_of style layout gap brk }
 
--- a decision for a gap that is open, in front of others
-abbrev pub made_if_open : Gap → ℕ → Slot → List (ℕ × Slot) → List (ℕ × Slot)
-made_if_open gap id slot later = if is_decided gap then later else (id, slot) ∷ later
+-- A trailing comment that stays on its row waits: the gap before it is decided when the rows of the whole view are known.
+abbrev pub waits : LineTok → Bool → Bool
+waits token brk = not brk && is_trailing token.role
+
+-- a decision for a gap that is open and doesn't wait, in front of others
+abbrev pub made_if_open : Gap → Bool → ℕ → Slot → List (ℕ × Slot) → List (ℕ × Slot)
+made_if_open gap brk id slot later = if is_decided gap || waits gap.right brk then later else (id, slot) ∷ later
 
 -- the decision for a gap, and those behind it by the layout that it leads to
 abbrev pub made_at : Style → ULine → List ℕ → Layout → Bool → (Layout → List (ℕ × Slot)) → Option Gap → List (ℕ × Slot)
 made_at style line items layout brk later None = []
-made_at style line items layout brk later (Some gap) = made_if_open gap (get_or items layout.index 0) (inside_slot style line layout gap brk) (later (layout_after style layout gap brk))
+made_at style line items layout brk later (Some gap) = made_if_open gap brk (get_or items layout.index 0) (inside_slot style line layout gap brk) (later (layout_after style layout gap brk))
 
 -- the decisions for the open gaps behind a layout of a line with these items, by these choices
 abbrev pub inside_made : ULine → List ℕ → Line → Layout → List Bool → List (ℕ × Slot)

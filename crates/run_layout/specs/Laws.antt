@@ -1,8 +1,10 @@
 -- What holds behind a run.
-use Rattle.std.specs.Prelude.{◌≡◌, ◌<◌, ℕ, All, Bool, List, Option, Some, IsSome, length}
+use Rattle.std.specs.Prelude.{◌≡◌, ◌<◌, ◌⊎◌, ◌||◌, ◌-◌, ℕ, All, Bool, true, false, List, Option, Some, IsSome, get_or, length}
 use Rattle.style_table.specs.declared.style.Style.{Style}
 use Rattle.token_arena.specs.Gaps.{Contents}
 use Rattle.line_tokens.specs.declared.LineTok.{LineTok}
+use Rattle.line_tokens.specs.Roles.{is_trailing}
+use Rattle.penalties.specs.Breaks.{ends_its_row}
 use Rattle.brackets.specs.Viewed.{AreWithin}
 use Rattle.directives.specs.Sections.{sections_of}
 use Rattle.unwrapped_lines.specs.declared.line.ULine.{ULine}
@@ -16,6 +18,7 @@ use Rattle.line_state.specs.Layout.{Layout}
 use Rattle.line_state.specs.Line.{Line, Step}
 use Rattle.replacements.specs.Decisions.{slot_of}
 use Rattle.run_layout.specs.Outcomes.{AfterLines, LaidLine}
+use Rattle.run_layout.specs.Rows.{no_tok}
 use Rattle.run_layout.specs.Tells.{StandForItems}
 
 -- the items with these numbers stand in texts, not in directives
@@ -35,12 +38,17 @@ LinesKeep =
     (style : Style) (budget : ℕ) (arena : Contents) (ids : List ℕ) (toks : List LineTok) (run : ℕ) (plan : List (Option Slot)) (lines : List ULine) (final : List (Option Slot)) (done : List LaidLine) →
     AfterLines style budget arena ids toks run plan lines final done → (place : ℕ) (slot : Slot) → slot_of plan place ≡ Some slot → slot_of final place ≡ Some slot
 
--- Behind a run the gap of each item that it sees is decided.
+-- The token is a trailing comment, and may stay on the row of the one to its left.
+pub record IsWaiting (left token : LineTok) : Type 0 where
+  pub trails : is_trailing token.role ≡ true
+  pub joins : (token.directive || ends_its_row left.kind) ≡ false
+
+-- Behind the lines of a run the gap of each item that it sees is decided, or waits before a trailing comment.
 abbrev pub LinesDecide : Type 0
 LinesDecide =
     (style : Style) (budget : ℕ) (arena : Contents) (ids : List ℕ) (toks : List LineTok) (run : ℕ) (plan : List (Option Slot)) (lines : List ULine) (final : List (Option Slot)) (done : List LaidLine) →
-    All (λ id. id < length plan) ids → length toks ≡ length ids → CutPlaces 0 (length ids) lines →
-    AfterLines style budget arena ids toks run plan lines final done → All (λ id. IsSome (slot_of final id)) ids
+    length toks ≡ length ids → CutPlaces 0 (length ids) lines → AfterLines style budget arena ids toks run plan lines final done → (k : ℕ) → k < length ids → get_or ids k 0 < length plan →
+    IsSome (slot_of final (get_or ids k 0)) ⊎ ((0 < k) × IsWaiting (get_or toks (k - 1) no_tok) (get_or toks k no_tok))
 
 -- Without a limit of columns a line has one admissible breaking.
 abbrev pub OneBreakingIsAdmissible : Type 0

@@ -56,12 +56,13 @@ pub record IsRow (l : Line) (budget : ℕ) : Type 0 where
   pub straight : IsStraight l budget (stays (gaps l))
   pub free : first_cost l ≡ 0
 
--- the decisions for the tokens behind one that ends at this column
+-- the decisions for the tokens behind one that ends at this column; trailing comments wait
 abbrev pub row_made : Style → ℕ → LineTok → List LineTok → List (ℕ × Slot)
 row_made style column left [] = []
 row_made style column left (token ∷ tokens) =
     let start = stay_start style column left token in
-    (token.id.0, record { decision = Spaces (spaces_before style left token); end = start }) ∷ row_made style (end_of token start) token tokens
+    let later = row_made style (end_of token start) token tokens in
+    if is_trailing token.role then later else (token.id.0, record { decision = Spaces (spaces_before style left token); end = start }) ∷ later
 
 -- this is the line with these tokens, none of whose inner gaps is decided
 pub record IsRowLine (l : Line) (style : Style) (column : ℕ) (tokens : List LineTok) (first : Option Fixed) : Type 0 where

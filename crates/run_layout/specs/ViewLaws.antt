@@ -31,5 +31,5 @@ ViewsKeep =
 abbrev pub ViewsDecide : Type 0
 ViewsDecide =
     (style : Style) (budget : ℕ) (arena : Contents) (ids : List ℕ) (toks : List LineTok) (run : ℕ) (plan : List (Option Slot)) (lines : List ULine) (final : List (Option Slot)) (done : List LaidLine) →
-    All (λ id. id < length plan) ids → length toks ≡ length ids → CutPlaces 0 (length ids) lines →
+    All (λ id. id < length plan) ids → StandForItems arena ids toks → CutPlaces 0 (length ids) lines →
     AfterView style budget arena ids toks run plan lines final done → All (λ id. IsSome (slot_of final id)) ids

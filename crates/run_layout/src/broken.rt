@@ -1,6 +1,6 @@
 //! Lines that are broken.
 
-ghost use Rattle.std.specs.Prelude.{◌≡◌, ◌+◌, ◌<◌, ◌≤◌, ◌^◌, ◌∷◌, All, IfOk, OnOk, Some, length, map, get_or, slice_get, if◌then◌else◌};
+ghost use Rattle.std.specs.Prelude.{◌≡◌, ◌||◌, ◌+◌, ◌<◌, ◌≤◌, ◌^◌, ◌∷◌, All, IfOk, OnOk, Some, length, map, get_or, slice_get, if◌then◌else◌};
 ghost use Rattle.style_table.specs.Range.{IsInRange};
 ghost use Rattle.brackets.specs.Viewed.{AreWithin, classes_of};
 ghost use Rattle.line_state.specs.Layout.{is_some_decision};
@@ -10,7 +10,7 @@ ghost use Rattle.break_search.specs.Starts.{IsAdmissible, starts_of};
 ghost use Rattle.indenter.specs.Rows.{start_column};
 ghost use Rattle.replacements.specs.Decisions.{decided, decided_all};
 ghost use Rattle.line_tokens.specs.declared.LineTok.{LineTok};
-ghost use Rattle.run_layout.specs.Broken.{decision_by, empty_inside, first_made, fixed_of_token, inside_made, number};
+ghost use Rattle.run_layout.specs.Broken.{decision_by, empty_inside, first_made, fixed_of_token, inside_made, number, waits};
 
 use crate::first::decide_first;
 use crate::row::token_at;
@@ -65,14 +65,28 @@ fn decision_by(
     }
 }
 
-/// Decides a gap that isn't decided.
-fn decide_open(plan: &mut Plan<'_>, fixed: Option<Fixed>, id: u32, decision: Decision, start: u32)
-    requires { id < length plan.old }
-    ensures plan { plan.new ≡ (if is_some_decision fixed then plan.old else decided plan.old id (record { decision = decision; end = start })) }
+/// A trailing comment that stays on its row waits until the rows of its view are known.
+fn waits(token: &LineTok, brk: bool) -> bool
+    ensures { result ≡ waits token.now brk }
+{
+    !brk && token.role.is_trailing()
+}
+
+/// Decides the gap before a token, if it isn't decided and doesn't wait.
+fn decide_open(
+    plan: &mut Plan<'_>,
+    fixed: Option<Fixed>,
+    token: &LineTok,
+    brk: bool,
+    decision: Decision,
+    start: u32,
+)
+    requires { token.now.id.0 < length plan.old }
+    ensures plan { plan.new ≡ (if is_some_decision fixed || waits token.now brk then plan.old else decided plan.old token.now.id.0 (record { decision = decision; end = start })) }
     ensures len { length plan.new ≡ length plan.old }
 {
-    if fixed.is_none() {
-        let _ = plan.decide(id, decision, start);
+    if fixed.is_none() && !waits(token, brk) {
+        let _ = plan.decide(token.id.0, decision, start);
     }
 }
 
@@ -100,8 +114,9 @@ fn write_breaks(
         let left = token_at(tokens, at);
         let right = token_at(tokens, at + 1);
         let start = starts[at];
-        let decision = decision_by(style, line, left, right, breaks[at], start);
-        decide_open(plan, fixed[at + 1], right.id.0, decision, start);
+        let brk = breaks[at];
+        let decision = decision_by(style, line, left, right, brk, start);
+        decide_open(plan, fixed[at + 1], right, brk, decision, start);
     }
 }
 

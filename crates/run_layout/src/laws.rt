@@ -14,7 +14,7 @@ pub fn lines_keep()
     ensures { LinesKeep }
 {}
 
-/// Behind a run the gap of each item that it sees is decided.
+/// Behind the lines of a run the gap of each item that it sees is decided, or waits before a trailing comment.
 pub fn lines_decide()
     ensures { LinesDecide }
 {}

@@ -1,12 +1,14 @@
 //! Lines that stay on one row. They need no search, and take no memory.
 
-ghost use Rattle.std.specs.Prelude.{◌≡◌, ◌<◌, ◌≤◌, ◌^◌, ℕ, All, IsTrue, None, Some, drop, get_or, length, slice_get};
+ghost use Rattle.std.specs.Prelude.{◌≡◌, ◌<◌, ◌≤◌, ◌^◌, ℕ, All, IsTrue, None, Some, drop, get_or, length, slice_get, if◌then◌else◌};
+ghost use Rattle.line_tokens.specs.Roles.{is_trailing};
 ghost use Rattle.style_table.specs.Range.{IsInRange};
 ghost use Rattle.line_state.specs.Brackets.{opens_frame};
 ghost use Rattle.line_state.specs.Layout.{end_of, stored_or};
 ghost use Rattle.line_state.specs.Line.{Line};
 ghost use Rattle.run_layout.specs.Rows.{no_tok};
-ghost use Rattle.replacements.specs.Decisions.{decided_all};
+ghost use Rattle.gap_text.specs.declared.Decision.TheVariants.{Spaces};
+ghost use Rattle.replacements.specs.Decisions.{decided, decided_all};
 ghost use Rattle.run_layout.specs.OneRow.{Fits, IsRow, IsRowLine, open_behind, row_made};
 
 use gap_text::Decision;
@@ -127,7 +129,19 @@ pub(crate) fn is_row(
     cells <= budget
 }
 
-/// Decides the gaps inside a line that stays on one row, whose first token ends at a column.
+/// Decides the gap before a token that stays behind another; a trailing comment waits.
+#[inline(always)]
+fn write_stay(token: &LineTok, spaces: u32, start: u32, plan: &mut Plan<'_>)
+    requires { token.now.id.0 < length plan.old }
+    ensures plan { plan.new ≡ (if is_trailing token.now.role then plan.old else decided plan.old token.now.id.0 (record { decision = Spaces spaces; end = start })) }
+    ensures len { length plan.new ≡ length plan.old }
+{
+    if !token.role.is_trailing() {
+        let _ = plan.decide(token.id.0, Decision::Spaces(spaces), start);
+    }
+}
+
+/// Decides the gaps inside a line that stays on one row, whose first token ends at a column. Trailing comments wait.
 pub(crate) fn write_row(style: &Style, tokens: &[LineTok], column: u32, plan: &mut Plan<'_>)
     requires range { IsInRange style.now }
     requires some { 0 < length tokens.now }
@@ -141,7 +155,7 @@ pub(crate) fn write_row(style: &Style, tokens: &[LineTok], column: u32, plan: &m
         let right = token_at(tokens, at);
         let spaces = u32::from(spaces_before(style, left, right));
         let start = column.saturating_add(spaces);
-        let _ = plan.decide(right.id.0, Decision::Spaces(spaces), start);
+        write_stay(right, spaces, start, plan);
         column = end_of(right, start);
         left = right;
     }

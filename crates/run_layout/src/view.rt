@@ -1,4 +1,4 @@
-//! The lines of a view, short ones joined.
+//! The lines of a view, short ones joined, and its trailing comments.
 
 ghost use Rattle.std.specs.Prelude.{◌≡◌, ◌+◌, ◌*◌, ◌^◌, ◌<◌, ◌≤◌, OnOk, length};
 ghost use Rattle.style_table.specs.Range.{IsInRange};
@@ -13,6 +13,7 @@ use crate::lines::lay_out_lines;
 use crate::report::Tally;
 use brackets::TokenClass;
 use bumpalo::Bump;
+use comment_rows::place_comments;
 use line_joiner::join_of_classes;
 use line_tokens::{LineTok, NoMemory};
 use replacements::Plan;
@@ -22,8 +23,8 @@ use token_arena::TokenArena;
 use token_views::View;
 use unwrapped_lines::ULine;
 
-/// Lays out a view: joins its short lines, and decides the gap before each of its items where it is open. What came of the
-/// lines is noted. `lines` are the view's unwrapped lines, `classes` and `toks` those of its places.
+/// Lays out a view: joins its short lines, and decides the gap before each of its items where it is open, that before
+/// trailing comments last. What came of the lines is noted. `lines` are the view's unwrapped lines, `classes` and `toks` those of its places.
 pub fn lay_out_view(
     alloc: Global,
     style: &Style,
@@ -60,5 +61,6 @@ pub fn lay_out_view(
     lay_out_lines(
         alloc, style, budget, arena, view, classes, toks, number, rows, plan, tally, run,
     )?;
+    place_comments(style, toks, plan, run)?;
     Ok(())
 }
