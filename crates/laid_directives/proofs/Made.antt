@@ -1,5 +1,5 @@
 -- The gap before each item of a directive is decided.
-use Rattle.std.proofs.Common.{◌≡◌, ◌≢◌, ◌∙◌, ◌==◌, ◌⊎◌, inl, inr, ℕ, zero, suc, ◌+◌, ◌-◌, ◌<◌, ◌≤◌, nat_lt, Bool, true, false, Option, Some, None, List, [], ◌∷◌, ◌++◌, drop, length, refl, sym, ap, subst, arith}
+use Rattle.std.proofs.Common.{◌≡◌, ◌≢◌, ◌==◌, ◌⊎◌, inl, inr, ℕ, zero, suc, ◌+◌, ◌-◌, ◌<◌, ◌≤◌, nat_lt, Bool, true, false, Option, Some, None, List, [], ◌∷◌, ◌++◌, drop, length, refl, sym, subst, arith}
 use Rattle.std.specs.Prelude.{IsSome, if◌then◌else◌}
 use Rattle.std.proofs.Common.{length-drop}
 use Rattle.std.proofs.lemmas.Bool.Decides.{nat_tests}
@@ -15,14 +15,13 @@ use Rattle.directives.specs.declared.Section.{Section}
 use Rattle.directives.specs.declared.Section.TheVariants.{Text, Dir}
 use Rattle.directives.proofs.Whole.{sections_are_cut}
 use Rattle.replacements.specs.declared.slot.Slot.{Slot}
-use Rattle.replacements.specs.declared.stance.Stance.{Stance}
 use Rattle.replacements.specs.declared.stance.Stance.TheVariants.{OfText, Leads, Within}
 use Rattle.replacements.specs.Stances.{stance_in}
-use Rattle.replacements.specs.Decisions.{slot_of, decided_all, first_for}
+use Rattle.replacements.specs.Decisions.{slot_of, first_for}
 use Rattle.replacements.proofs.Firsts.{stay, first}
 use Rattle.directive_layout.specs.Heads.{first_decision}
 use Rattle.directive_layout.specs.Operands.{inner_decision}
-use Rattle.directive_layout.specs.Laid.{slot_for, first_start, first_walk, next_walk, longest_from, inner_from, laid_from, laid_between, laid}
+use Rattle.directive_layout.specs.Laid.{slot_for, first_start, first_walk, next_walk, longest_from, inner_from, laid_from, laid}
 use Rattle.directive_layout.specs.Staying.{staying_in}
 use Rattle.directive_layout.specs.declared.staying.Staying.{Staying}
 use Rattle.directive_layout.specs.declared.walk.Walk.{Walk}

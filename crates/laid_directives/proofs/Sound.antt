@@ -1,5 +1,5 @@
 -- What is decided for all directives may stand.
-use Rattle.std.proofs.Common.{◌≡◌, ◌∙◌, ℕ, suc, ◌+◌, ◌<◌, Bool, Option, List, [], ◌∷◌, ◌++◌, length, refl, sym, ap, subst, arith}
+use Rattle.std.proofs.Common.{◌≡◌, ◌∙◌, ℕ, suc, Bool, Option, List, [], ◌∷◌, ◌++◌, refl, sym, ap, subst, arith}
 use Rattle.std.specs.List.{Contains}
 use Rattle.style_table.specs.declared.style.Style.{Style}
 use Rattle.token_arena.specs.Gaps.{Contents}
@@ -17,7 +17,7 @@ use Rattle.directive_layout.specs.Laid.{laid}
 use Rattle.directive_layout.proofs.Sound.{stay_sound}
 use Rattle.laid_directives.specs.Depths.{depth_in, open_behind}
 use Rattle.laid_directives.specs.Roles.{operand_roles}
-use Rattle.laid_directives.specs.AllLaid.{laid_in, all_laid}
+use Rattle.laid_directives.specs.AllLaid.{laid_in}
 use Rattle.laid_directives.specs.Laws.{AllDirectivesStaySound}
 
 pub decided_all-append : (plan : List (Option Slot)) (made later : List (ℕ × Slot)) → decided_all plan (made ++ later) ≡ decided_all (decided_all plan made) later

@@ -1,4 +1,4 @@
-use Rattle.std.proofs.Common.{◌≡◌, ◌∙◌, ◌+◌, ◌<◌, ◌≤◌, Bool, List, ◌∷◌, length, drop, get_or, refl, sym, ap, arith, add-one, drop-cons}
+use Rattle.std.proofs.Common.{◌≡◌, ◌∙◌, ◌+◌, ◌<◌, Bool, List, ◌∷◌, length, drop, get_or, refl, sym, ap, arith, add-one, drop-cons}
 use Rattle.directives.proofs.Whole.{sections_are_cut}
 use Rattle.directives.specs.Sections.{sections_of}
 use Rattle.directives.specs.declared.Section.{Section}
