@@ -1,4 +1,4 @@
-use Rattle.std.proofs.Common.{◌≡◌, ◌∙◌, ◌+◌, ◌-◌, ◌<◌, ◌≤◌, true, false, Some, length, slice_get, refl, sym, ap, arith}
+use Rattle.std.proofs.Common.{◌≡◌, ◌∙◌, ◌+◌, ◌-◌, true, false, slice_get, sym, ap, arith}
 use Rattle.token_arena.specs.Entries.{told_by}
 use Rattle.directive_layout.specs.Parts.{next_part}
 use Rattle.directive_layout.proofs.Laid.{directive_bounds, operand_begins, operand_step, operand_end}
