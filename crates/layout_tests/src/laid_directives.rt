@@ -1,5 +1,7 @@
 //! Directives as they are laid out.
 
+ghost use Rattle.style_table.specs.Range.{IsInRange};
+
 use crate::fixtures::style;
 use bumpalo::Bump;
 use directives::sections;
@@ -275,26 +277,45 @@ const ROWS: [Row; 39] = [
     },
 ];
 
-/// The style of a row.
-fn style_of(setting: Setting) -> Result<Style, Fail> {
-    let mut style = style("LLVM")?;
+/// A style with what a row sets.
+fn with_setting(mut style: Style, setting: Setting) -> Style
+    requires { IsInRange style }
+    ensures { IsInRange result }
+{
     style.column_limit = 20;
     style.align_escaped_newlines = AlignEscapedNewlines::DontAlign;
     match setting {
-        Setting::Plain => {}
-        Setting::Left => style.align_escaped_newlines = AlignEscapedNewlines::Left,
-        Setting::Right => style.align_escaped_newlines = AlignEscapedNewlines::Right,
-        Setting::AfterHash => style.indent_pp_directives = IndentPPDirectives::AfterHash,
-        Setting::BeforeHash => style.indent_pp_directives = IndentPPDirectives::BeforeHash,
-        Setting::SkipsBodies => style.skip_macro_definition_body = true,
-        Setting::TwoBlanks => style.spaces_before_trailing_comments = 2,
+        Setting::Plain => style,
+        Setting::Left => {
+            style.align_escaped_newlines = AlignEscapedNewlines::Left;
+            style
+        }
+        Setting::Right => {
+            style.align_escaped_newlines = AlignEscapedNewlines::Right;
+            style
+        }
+        Setting::AfterHash => {
+            style.indent_pp_directives = IndentPPDirectives::AfterHash;
+            style
+        }
+        Setting::BeforeHash => {
+            style.indent_pp_directives = IndentPPDirectives::BeforeHash;
+            style
+        }
+        Setting::SkipsBodies => {
+            style.skip_macro_definition_body = true;
+            style
+        }
+        Setting::TwoBlanks => {
+            style.spaces_before_trailing_comments = 2;
+            style
+        }
     }
-    Ok(style)
 }
 
 /// The text of a row with its directives laid out; what they leave open keeps its bytes.
 fn laid(alloc: Global, bump: &Bump, row: &Row) -> Result<Vec<u8>, Fail> {
-    let style = style_of(row.setting)?;
+    let style = with_setting(style("LLVM")?, row.setting);
     let arena = build(bump, row.input, Dialect::C11)?;
     let sections = sections(&arena, bump)?;
     let mut plan = Plan::make(&arena, bump)?;
