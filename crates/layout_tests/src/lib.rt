@@ -15,7 +15,7 @@
 //! - `written_gaps`: the bytes of decisions (`gap_text`)
 //! - `plans`: decisions for gaps (`replacements`)
 //! - `written_plans`: the texts of plans (`replacements`)
-//! - `laid_directives`: directives that are laid out (`directive_layout`)
+//! - `laid_directives`: directives that are laid out (`directive_layout`, `laid_directives`)
 //! - `laid_runs`: lines that are laid out, whole texts (`run_layout`)
 #![tactic(auto)]
 

@@ -1,0 +1,4 @@
+pub mod Depths
+pub mod Roles
+pub mod AllLaid
+pub mod Laws
