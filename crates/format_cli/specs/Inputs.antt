@@ -1,5 +1,5 @@
 -- What is done with the inputs, in their order.
-use Rattle.std.specs.Prelude.{◌≡◌, ◌≢◌, ◌≤◌, ◌<◌, ◌⊎◌, ⊤, ℕ, List, [], ◌∷◌, Option, IfSome, codes, length}
+use Rattle.std.specs.Prelude.{◌≡◌, ◌≢◌, ◌≤◌, ◌<◌, ◌⊎◌, ⊤, ℕ, List, [], ◌∷◌, Option, None, IfSome, codes, length}
 use Rattle.std.specs.Io.KnownBytes.{Appends, Keeps}
 use Rattle.fmt_ports.specs.Causes.{AppendsPart}
 use Rattle.fmt_ports.specs.Files.{Held, KeepsAll, KeepsOthers}
@@ -22,7 +22,7 @@ use Rattle.format_cli.specs.InForce.{IsHeld, IsLonger, IsMissing}
 pub record IsFormatted (options : Options) (b c : List ℕ) : Type 0 where
   pub fits : length b ≤ LIMIT
   pub reports : List Report
-  pub formats : Formats options.style options.budget C11 b c reports
+  pub formats : Formats options.style None options.budget C11 b c reports
   pub twins : IsTwin C11 b c
   pub alike : Alike C11 b c
 
