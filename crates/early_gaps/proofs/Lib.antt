@@ -1,7 +1,6 @@
 pub mod Places
 pub mod InputColumns
 pub mod Staying
-pub mod Sections
 pub mod SoundStart
 pub mod Tells
 pub mod LeftOpen

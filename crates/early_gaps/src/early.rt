@@ -2,19 +2,22 @@
 
 ghost use Rattle.std.specs.Prelude.{◌≡◌, ◌≤◌, ◌+◌, option_map, length, OnOk};
 ghost use Rattle.c_chars.specs.declared.TheConstants.{LIMIT};
-ghost use Rattle.directives.specs.Sections.{sections_of, IsCut};
+ghost use Rattle.directives.specs.Sections.{sections_of};
 ghost use Rattle.replacements.specs.Decisions.{decided_all};
+ghost use Rattle.style_table.specs.Range.{IsInRange};
 ghost use Rattle.early_gaps.specs.BeforeRuns.{early_decisions};
 ghost use Rattle.early_gaps.specs.Dead.{IsTreeOf};
 
 use crate::keep::keep_gaps;
-use crate::unseen::decide_unseen;
+use crate::last::last_decision;
 use branch_runs::CondTree;
 use bumpalo::Bump;
 use directives::Section;
+use laid_directives::lay_all;
 use line_tokens::NoMemory;
 use off_regions::{Ranges, frozen};
 use replacements::Plan;
+use std::alloc::Global;
 use style_table::Style;
 use token_arena::TokenArena;
 
@@ -23,6 +26,7 @@ use token_arena::TokenArena;
 /// ranges has the line, beside items in the group of a literal `#if 0`, and in rows behind a backslash, blanks and a
 /// new-line. Want of memory is the only error.
 pub fn decide_early(
+    alloc: Global,
     style: &Style,
     arena: &TokenArena<'_, '_>,
     sections: &[Section],
@@ -31,10 +35,9 @@ pub fn decide_early(
     bump: &Bump,
     plan: &mut Plan<'_>,
 ) -> Result<(), NoMemory>
-    requires tab { 1 ≤ style.now.tab_width }
+    requires range { IsInRange style.now }
     requires fits { length arena.now.text ≤ LIMIT }
     requires sections { sections.now ≡ sections_of arena.now }
-    requires cut { IsCut 0 (length arena.now.tokens) sections.now }
     requires tree { IsTreeOf arena.now tree.now }
     requires whole { length plan.old ≡ length arena.now.tokens + 1 }
     ensures plan { OnOk result (plan.new ≡ decided_all plan.old (early_decisions style.now arena.now (option_map (λ ranges. ranges.now) ranges.entry))) }
@@ -42,6 +45,8 @@ pub fn decide_early(
 {
     let marks = frozen(arena, ranges, bump)?;
     keep_gaps(style.tab_width, arena, tree, marks, plan);
-    decide_unseen(style, arena, sections, plan);
+    lay_all(alloc, style, arena, sections, plan)?;
+    let last = last_decision(style, arena);
+    let _ = plan.decide(arena.len(), last, 0);
     Ok(())
 }

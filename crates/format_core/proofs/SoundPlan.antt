@@ -33,9 +33,11 @@ use Rattle.early_gaps.specs.BeforeRuns.{early_plan}
 use Rattle.early_gaps.specs.Laws.{IsLeft}
 use Rattle.early_gaps.proofs.LeftOpen.{early_or_left_open}
 use Rattle.early_gaps.proofs.SoundStart.{early_sound}
-use Rattle.early_gaps.proofs.Tells.{early_tells, length-early}
+use Rattle.early_gaps.specs.Columns.{column_at}
+use Rattle.run_layout.specs.InputColumns.{kept_slot}
+use Rattle.early_gaps.proofs.Tells.{early_keeps, length-early}
 use Rattle.format_core.specs.KeptGaps.{input_column, kept_decisions}
-use Rattle.format_core.specs.Laws.{PlannedTextsAreTwins, EarlyDecisionsStay, EveryGapIsDecided}
+use Rattle.format_core.specs.Laws.{PlannedTextsAreTwins, EarlyDecisionsStay, KeptGapsStay, EveryGapIsDecided}
 use Rattle.format_core.specs.Plans.{AfterItems, AfterRuns, IsPlanOf}
 use Rattle.format_core.specs.Runs.{runs_of, seen_by, lines_of_items, toks_of_items, after_kept}
 use Rattle.format_core.proofs.Seen.{here_or_later, length-kept, seen_within}
@@ -77,7 +79,7 @@ runs_sound style budget arena plan run (suc count) final done laid sound =
 
 pub planned_texts_are_twins : PlannedTextsAreTwins
 planned_texts_are_twins style ranges budget crlf arena plan done holds laid =
-    sound_twin style crlf arena plan holds (runs_sound style budget arena (early_plan style arena ranges) 0 (runs_of arena) plan done laid (early_sound style arena ranges))
+    sound_twin style crlf arena plan holds (runs_sound style budget arena (early_plan style arena ranges) 0 (runs_of arena) plan done laid (early_sound style arena ranges holds))
 
 -- twins of equal texts
 pub twin_along : (d e : Dialect) (b b' c c' : List ℕ) → d ≡ e → b ≡ b' → c ≡ c' → IsTwin d b c → IsTwin e b' c'
@@ -99,8 +101,12 @@ runs_keep style budget arena plan run (suc count) final done place slot laid is 
     runs_keep style budget arena laid.0 (run + 1) count final laid.2 place slot laid.4 (items_keep style budget arena run plan (seen_by arena run) laid.0 laid.1 place slot laid.3 is)
 
 pub early_decisions_stay : EarlyDecisionsStay
-early_decisions_stay style ranges budget arena plan done place slot laid within is =
-    runs_keep style budget arena (early_plan style arena ranges) 0 (runs_of arena) plan done place slot laid (early_tells style arena ranges place within ∙ is)
+early_decisions_stay style ranges budget arena plan done place slot laid is =
+    runs_keep style budget arena (early_plan style arena ranges) 0 (runs_of arena) plan done place slot laid is
+
+pub kept_gaps_stay : KeptGapsStay
+kept_gaps_stay style ranges budget arena plan done place laid within stays =
+    early_decisions_stay style ranges budget arena plan done place (kept_slot (column_at style.tab_width arena place)) laid (early_keeps style arena ranges place within stays)
 
 -- ## Each gap is decided
 
@@ -149,7 +155,7 @@ left_decided style ranges budget arena plan done place laid (within, of_text, al
 
 pub every_gap_is_decided : EveryGapIsDecided
 every_gap_is_decided style ranges budget arena plan done place laid within =
-    is_some-decided plan place (elim (early_or_left_open style arena ranges place) [
-      | inl (slot, is) ↦ (slot, early_decisions_stay style ranges budget arena plan done place slot laid within is)
+    is_some-decided plan place (elim (early_or_left_open style arena ranges place within) [
+      | inl some ↦ all_keep style budget arena (early_plan style arena ranges) 0 (runs_of arena) plan done place laid (decided-is_some (early_plan style arena ranges) place some)
       | inr left ↦ left_decided style ranges budget arena plan done place laid left
     ])

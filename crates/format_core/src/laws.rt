@@ -1,7 +1,7 @@
 //! The laws of the layout. Each stands on the contract of a function that does nothing.
 
 ghost use Rattle.format_core.specs.Exact.{OpenTextsHaveNoLayout};
-ghost use Rattle.format_core.specs.Laws.{EarlyDecisionsStay, EveryGapIsDecided, PlannedTextsAreTwins};
+ghost use Rattle.format_core.specs.Laws.{EarlyDecisionsStay, EveryGapIsDecided, KeptGapsStay, PlannedTextsAreTwins};
 
 /// No text has both a layout and a block comment that nothing ends: so such a text is always refused.
 pub fn open_texts_have_no_layout()
@@ -13,10 +13,15 @@ pub fn planned_texts_are_twins()
     ensures { PlannedTextsAreTwins }
 {}
 
-/// No run changes what is decided before the runs: so the gaps at which formatting is off, those of lines that aren't
-/// asked for, and those beside items in the group of a literal `#if 0` have the bytes of the input.
+/// No run changes what is decided before the runs: the gaps that stay, those of directives and the last one.
 pub fn early_decisions_stay()
     ensures { EarlyDecisionsStay }
+{}
+
+/// The gaps at which formatting is off, those of lines that aren't asked for, those beside items in the group of a
+/// literal `#if 0` and those of rows behind a backslash, blanks and a new-line have the bytes of the input.
+pub fn kept_gaps_stay()
+    ensures { KeptGapsStay }
 {}
 
 /// Each gap of a text is decided in each of its plans, before the runs or by one of them: no gap keeps its bytes for want

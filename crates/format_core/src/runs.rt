@@ -187,7 +187,7 @@ pub(crate) fn plan_of<'a>(
 {
     let tree = CondTree::build(arena, sections, bump)?;
     let mut plan = Plan::make(arena, bump)?;
-    decide_early(style, arena, sections, &tree, ranges, bump, &mut plan)?;
+    decide_early(alloc, style, arena, sections, &tree, ranges, bump, &mut plan)?;
     let all = item_classes(arena, bump)?;
     let mut tally = Tally::new(bump);
     lay_out_runs(

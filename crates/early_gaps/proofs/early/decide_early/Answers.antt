@@ -1,4 +1,7 @@
-use Rattle.std.proofs.Common.{◌∙◌, Bool, List, length, ap}
+use Rattle.std.proofs.Common.{◌∙◌, ℕ, Bool, Option, List, length, refl, sym, ap}
+use Rattle.gap_text.specs.declared.Decision.{Decision}
+use Rattle.replacements.specs.declared.slot.Slot.{Slot}
+use Rattle.replacements.specs.Decisions.{decided}
 use Rattle.early_gaps.proofs.Staying.{length-frozen_gaps}
 use Rattle.early_gaps.proofs.Tells.{early_made}
 use Rattle.early_gaps.proofs.early.decide_early.Goals as goal
@@ -8,4 +11,10 @@ keep_gaps-requires-clause-marks c = ap (λ (marks : List Bool). length marks) c.
 
 pub returns-clause-plan : goal.returns-clause-plan
 returns-clause-plan c =
-    early_made c.args.style.now c.args.arena.now _ c.in_ok-marks.marks.now c.args.plan.now c.keep_gaps.new.plan c.decide_unseen.new.plan c.in_ok-marks.ensures c.keep_gaps.ensures.plan c.decide_unseen.ensures.plan
+    let style = c.args.style.now in
+    let arena = c.args.arena.now in
+    let laid : List (Option Slot) = c.lay_all.new.plan in
+    let last : Slot = record { decision = c.last_decision-last.result; end = 0 } in
+    early_made style arena _ c.in_ok-marks.marks.now last c.args.plan.now c.keep_gaps.new.plan laid c.decide.new.self c.in_ok-marks.ensures c.keep_gaps.ensures.plan c.in_ok-lay_all.ensures.plan
+    (ap (λ (d : Decision). record { decision = d; end = 0 }) c.last_decision-last.ensures)
+    (c.decide.ensures.plan ∙ ap (λ (k : ℕ). decided laid k last) c.len.ensures.count)
