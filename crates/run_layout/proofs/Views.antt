@@ -1,5 +1,5 @@
 -- What holds behind a run that lays out a view: what holds behind its lines, since joined lines cut it too.
-use Rattle.std.proofs.Common.{◌≡◌, ◌∙◌, ℕ, Option, List, length, map, refl, sym, ap, subst}
+use Rattle.std.proofs.Common.{◌≡◌, ◌∙◌, ℕ, Option, List, length, map, sym, ap, subst}
 use Rattle.style_table.specs.declared.style.Style.{Style}
 use Rattle.line_tokens.specs.declared.LineTok.{LineTok}
 use Rattle.line_tokens.specs.declared.Fixed.{Fixed}
