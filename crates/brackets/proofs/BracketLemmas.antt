@@ -2,9 +2,9 @@
 use Rattle.std.proofs.Common.{◌≡◌, ℕ, suc, ◌<◌, ◌+◌, Bool, true, false, List, [], ◌∷◌, ◌++◌, reverse, Option, Some, None, refl, arith, subst, sym, IfSome, IfNone}
 use Rattle.brackets.specs.declared.pairing.Opener.{Opener}
 use Rattle.brackets.specs.Partners.{count_braces, nearest_brace, is_brace, topmost, Nearest, StandBefore, Matching, bracket_step}
-use Rattle.brackets.proofs.Lists.{reverse_snoc}
-use Rattle.brackets.specs.declared.class.TokenClass.{TokenClass}
-use Rattle.brackets.specs.declared.class.TokenClass.TheVariants.{OpenRound, CloseRound, OpenSquare, CloseSquare, OpenBrace, CloseBrace}
+use Rattle.token_classes.proofs.Lists.{reverse_snoc}
+use Rattle.token_classes.specs.declared.class.TokenClass.{TokenClass}
+use Rattle.token_classes.specs.declared.class.TokenClass.TheVariants.{OpenRound, CloseRound, OpenSquare, CloseSquare, OpenBrace, CloseBrace}
 
 pub no_brace : (os : List Opener) → 0 ≡ count_braces os → nearest_brace os ≡ None
 no_brace [] e = refl

@@ -8,9 +8,9 @@ use Rattle.std.proofs.lemmas.Option.{get_or_from_slice_get}
 use Rattle.std.proofs.lemmas.Bool.{lt-ltb, cases_Bool}
 use Rattle.std.proofs.lemmas.Bool.Decides.{nat_tests}
 use Rattle.brackets.specs.declared.pairing.Opener.{Opener}
-use Rattle.brackets.specs.declared.class.TokenClass.{TokenClass}
-use Rattle.brackets.specs.declared.class.TokenClass.TheVariants.{OpenBrace}
-use Rattle.brackets.specs.Classes.{is_open_brace}
+use Rattle.token_classes.specs.declared.class.TokenClass.{TokenClass}
+use Rattle.token_classes.specs.declared.class.TokenClass.TheVariants.{OpenBrace}
+use Rattle.token_classes.specs.Classes.{is_open_brace}
 use Rattle.brackets.specs.Partners.{count_braces, is_brace}
 use Rattle.brackets.specs.Kept.{AreOpeners, is_round_or_square, marked}
 

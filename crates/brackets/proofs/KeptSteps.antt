@@ -7,9 +7,9 @@ use Rattle.std.proofs.lemmas.List.FromFn.{fill_by_all}
 use Rattle.std.proofs.Math.ListN.{length-set}
 use Rattle.std.proofs.lemmas.Bool.{cases_Bool, cases_eq, eq-eqb, ne_eqb}
 use Rattle.brackets.specs.declared.pairing.Opener.{Opener}
-use Rattle.brackets.specs.declared.class.TokenClass.{TokenClass}
-use Rattle.brackets.specs.declared.class.TokenClass.TheVariants.{OpenRound, CloseRound, OpenSquare, CloseSquare, OpenBrace, CloseBrace, Nothing}
-use Rattle.brackets.specs.Classes.{is_open_brace, is_semicolon}
+use Rattle.token_classes.specs.declared.class.TokenClass.{TokenClass}
+use Rattle.token_classes.specs.declared.class.TokenClass.TheVariants.{OpenRound, CloseRound, OpenSquare, CloseSquare, OpenBrace, CloseBrace, Nothing}
+use Rattle.token_classes.specs.Classes.{is_open_brace, is_semicolon}
 use Rattle.brackets.specs.Partners.{Matching, Nearest, bracket_step, closed, is_brace, is_round, is_square, nearest_brace, topmost, matching_from, paired, partners_of, StandBefore, TakesStep}
 use Rattle.brackets.specs.Kept.{AreOpeners, class_at, is_brace_in_brackets, is_round_or_square, is_semicolon_inside, is_statement_brace, marked, none_waits, some_below, waiting_at}
 

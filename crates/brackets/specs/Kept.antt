@@ -1,10 +1,10 @@
 -- Gaps that are kept as they are: those inside the braces of statements that stand inside brackets (`docs/PROFILE.md`, "Kept gaps").
 use Rattle.std.specs.Prelude.{◌≡◌, ◌==◌, ℕ, zero, suc, Bool, true, false, not, ◌&&◌, ◌||◌, nat_le, List, [], ◌∷◌, Option, Some, None, map, take, length, slice_set, if◌then◌else◌}
 use Rattle.std.specs.List.{list_any, slice_index_or, range_with_len}
-use Rattle.brackets.specs.declared.class.TokenClass.{TokenClass}
-use Rattle.brackets.specs.declared.class.TokenClass.TheVariants.{Nothing}
+use Rattle.token_classes.specs.declared.class.TokenClass.{TokenClass}
+use Rattle.token_classes.specs.declared.class.TokenClass.TheVariants.{Nothing}
 use Rattle.brackets.specs.declared.pairing.Opener.{Opener}
-use Rattle.brackets.specs.Classes.{is_open_brace, is_semicolon}
+use Rattle.token_classes.specs.Classes.{is_open_brace, is_semicolon}
 use Rattle.brackets.specs.Partners.{Matching, is_round, is_square, matching_from, partners_of}
 
 -- no opener waits, and no partner is looked for

@@ -6,10 +6,11 @@ ghost use Rattle.brackets.specs.Partners.{partners_of, count_braces, StandBefore
 ghost use Rattle.brackets.specs.Kept.{is_statement_brace, is_inside, kept_gaps_of, marked, AreOpeners};
 
 use crate::pairing::{Opener, close, waiting_step};
-use crate::{Partner, TokenClass};
+use crate::partner::Partner;
 use bumpalo::Bump;
 use bumpalo::collections::into_bump_slice_mut;
 use line_tokens::NoMemory;
+use token_classes::TokenClass;
 
 /// Marks the topmost opener, where that is a brace and a `(` or `[` waits below it, and tells whether it did.
 #[inline(always)]

@@ -2,12 +2,16 @@
 
 ghost use Rattle.std.specs.Prelude.{◌≡◌, ◌∷◌, [], ◌++◌, ◌<◌, ◌≤◌, ◌+◌, ◌^◌, reverse, IfOk, Option, Some, None, IfSome, IfNone, MatchOption, length, ℕ, All, OnOk, slice_set};
 ghost use Rattle.std.specs.Option.{ForSome, ForNone};
+ghost use Rattle.token_classes.specs.Viewed.{AreWithin, classes_of};
 ghost use Rattle.brackets.specs.Partners.{partners_of, count_braces, nearest_brace, topmost, is_round, is_square, bracket_step, matching_of, paired, TakesStep, StandBefore};
 
-use crate::{Partner, TokenClass};
+use crate::partner::Partner;
 use bumpalo::Bump;
 use bumpalo::collections::into_bump_slice;
 use line_tokens::NoMemory;
+use token_arena::TokenArena;
+use token_classes::{TokenClass, classes};
+use token_views::View;
 
 /// An opening bracket that waits for its partner.
 #[derive(Clone, Copy, Debug, Drop)]
@@ -192,4 +196,18 @@ pub fn partners_of_classes<'r>(
         bracket_step(&mut stack, &mut braces, &mut partners, i as u32, *c)?;
     }
     Ok(into_bump_slice(partners))
+}
+
+/// The partner of each place of a view: the place of the other bracket of its pair, none for every other token.
+///
+/// Brackets pair as `docs/PROFILE.md` says under "Partners". Want of memory is the only error.
+pub fn partners<'r>(
+    arena: &TokenArena<'_, '_>,
+    view: &View<'_>,
+    run: &'r Bump,
+) -> Result<&'r [Partner], NoMemory>
+    requires { AreWithin arena.now view.now }
+    ensures { IfOk result (λ partners. partners.now ≡ partners_of (classes_of arena.now view.now)) }
+{
+    partners_of_classes(classes(arena, view, run)?, run)
 }

@@ -9,7 +9,7 @@ use Rattle.style_table.specs.declared.style.AlignTrailingCommentsKind.{AlignTrai
 use Rattle.style_table.specs.declared.style.AlignTrailingCommentsKind.TheVariants.{Always, Never}
 use Rattle.line_tokens.specs.Roles.{is_trailing}
 use Rattle.line_tokens.specs.declared.LineTok.{LineTok}
-use Rattle.line_state.specs.Layout.{end_of}
+use Rattle.line_tokens.specs.Columns.{end_of}
 use Rattle.replacements.specs.declared.slot.Slot.{Slot}
 use Rattle.replacements.specs.Decisions.{slot_of}
 use Rattle.comment_place.specs.declared.rows.TrailRow.{TrailRow}

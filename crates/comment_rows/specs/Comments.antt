@@ -4,7 +4,7 @@ use Rattle.line_tokens.specs.Roles.{is_trailing}
 use Rattle.line_tokens.specs.declared.LineTok.{LineTok}
 use Rattle.style_table.specs.declared.style.Style.{Style}
 use Rattle.spacing.specs.Spaces.{spaces_before}
-use Rattle.line_state.specs.Layout.{columns, end_of}
+use Rattle.line_tokens.specs.Columns.{columns, end_of}
 use Rattle.gap_text.specs.declared.Decision.{Decision}
 use Rattle.gap_text.specs.declared.Decision.TheVariants.{Old, Spaces, Lines, Splice}
 use Rattle.replacements.specs.declared.slot.Slot.{Slot}

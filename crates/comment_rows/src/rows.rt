@@ -3,7 +3,7 @@
 ghost use Rattle.std.specs.Prelude.{◌≡◌, ◌<◌, ◌∷◌, All, length};
 ghost use Rattle.style_table.specs.Range.{IsInRange};
 ghost use Rattle.line_tokens.specs.declared.LineTok.{LineTok};
-ghost use Rattle.line_state.specs.Layout.{end_of};
+ghost use Rattle.line_tokens.specs.Columns.{end_of};
 ghost use Rattle.comment_rows.specs.Comments.{ends_in, first_start, is_next, rows_before, start_by};
 
 use gap_text::Decision;

@@ -6,9 +6,9 @@ use Rattle.line_tokens.specs.declared.LineTok.{LineTok}
 use Rattle.token_arena.specs.Gaps.{Contents}
 use Rattle.brackets.specs.Kept.{kept_gaps_of}
 use Rattle.brackets.specs.Partners.{partners_of}
-use Rattle.brackets.specs.Viewed.{classes_of}
-use Rattle.unwrapped_lines.specs.declared.line.ULine.{ULine}
-use Rattle.unwrapped_lines.specs.Lines.{CutPlaces}
+use Rattle.token_classes.specs.Viewed.{classes_of}
+use Rattle.line_tokens.specs.declared.line.ULine.{ULine}
+use Rattle.line_tokens.specs.Lines.{CutPlaces}
 use Rattle.unwrapped_lines.proofs.Started.{lines_cut_views}
 use Rattle.replacements.specs.declared.slot.Slot.{Slot}
 use Rattle.run_layout.specs.Outcomes.{Kept, LaidLine, AfterLines, row_of}

@@ -12,7 +12,7 @@ use Rattle.branch_runs.proofs.Live.{is_covered}
 use Rattle.directives.specs.Sections.{sections_of}
 use Rattle.brackets.specs.Kept.{kept_gaps_of}
 use Rattle.brackets.specs.Partners.{partners_of}
-use Rattle.brackets.specs.Viewed.{AreWithin, classes_of}
+use Rattle.token_classes.specs.Viewed.{AreWithin, classes_of}
 use Rattle.unwrapped_lines.proofs.Started.{lines_cut_views}
 use Rattle.annotator.proofs.Counts.{as_many_roles, roles_tell}
 use Rattle.replacements.specs.declared.slot.Slot.{Slot}

@@ -9,10 +9,10 @@ use Rattle.branch_runs.specs.Reading.{effects, tree_of}
 use Rattle.branch_runs.specs.Runs.{need, view_of}
 use Rattle.brackets.specs.Kept.{kept_gaps_of}
 use Rattle.brackets.specs.Partners.{partners_of}
-use Rattle.brackets.specs.Viewed.{classes_of}
+use Rattle.token_classes.specs.Viewed.{classes_of}
 use Rattle.line_tokens.specs.declared.LineTok.{LineTok}
 use Rattle.annotator.specs.Tokens.{roles_of}
-use Rattle.unwrapped_lines.specs.declared.line.ULine.{ULine}
+use Rattle.line_tokens.specs.declared.line.ULine.{ULine}
 use Rattle.unwrapped_lines.specs.Lines.{unwrapped_lines_of}
 use Rattle.replacements.specs.Decisions.{slot_of, decided_all}
 use Rattle.replacements.specs.declared.slot.Slot.{Slot}

@@ -16,7 +16,8 @@ mod runs;
 pub use fault::FormatFault;
 pub use formatted::{Formatted, Job, format};
 pub use laws::{
-    early_decisions_stay, every_gap_is_decided, kept_gaps_stay, open_texts_have_no_layout, planned_texts_are_twins,
+    early_decisions_stay, every_gap_is_decided, kept_gaps_stay, open_texts_have_no_layout,
+    planned_texts_are_twins,
 };
 pub use off_regions::Ranges;
 pub use run_layout::{Counts, Report};

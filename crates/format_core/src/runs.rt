@@ -3,7 +3,7 @@
 ghost use Rattle.std.specs.Prelude.{◌≡◌, ◌<◌, ◌≤◌, ◌+◌, ◌*◌, ◌^◌, All, IfOk, IsTrue, OnOk, length, option_map};
 ghost use Rattle.c_chars.specs.declared.TheConstants.{LIMIT};
 ghost use Rattle.style_table.specs.Range.{IsInRange};
-ghost use Rattle.brackets.specs.Viewed.{AreWithin, item_classes};
+ghost use Rattle.token_classes.specs.Viewed.{AreWithin, item_classes};
 ghost use Rattle.directives.specs.Sections.{sections_of, IsCut};
 ghost use Rattle.early_gaps.specs.Dead.{IsTreeOf};
 ghost use Rattle.run_layout.specs.Counted.{IsCounted};
@@ -12,7 +12,7 @@ ghost use Rattle.format_core.specs.RunsTold.{AreItemsTold, AreRunsTold, IsPlanne
 
 use crate::kept::keep_gaps;
 use annotator::roles_of_classes;
-use brackets::{TokenClass, bracket_facts, classes_among, item_classes};
+use brackets::bracket_facts;
 use branch_runs::CondTree;
 use bumpalo::Bump;
 use directives::Section;
@@ -24,6 +24,7 @@ use run_layout::{Tally, is_row_decided, lay_out_view};
 use std::alloc::Global;
 use style_table::Style;
 use token_arena::TokenArena;
+use token_classes::{TokenClass, classes_among, item_classes};
 use token_views::View;
 use unwrapped_lines::lines_of_classes;
 
@@ -187,7 +188,9 @@ pub(crate) fn plan_of<'a>(
 {
     let tree = CondTree::build(arena, sections, bump)?;
     let mut plan = Plan::make(arena, bump)?;
-    decide_early(alloc, style, arena, sections, &tree, ranges, bump, &mut plan)?;
+    decide_early(
+        alloc, style, arena, sections, &tree, ranges, bump, &mut plan,
+    )?;
     let all = item_classes(arena, bump)?;
     let mut tally = Tally::new(bump);
     lay_out_runs(

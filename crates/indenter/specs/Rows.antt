@@ -4,9 +4,9 @@ use Rattle.std.specs.Borrow.{Bor}
 use Rattle.style_table.specs.declared.style.Style.{Style}
 use Rattle.line_tokens.specs.declared.LineTok.{LineTok}
 use Rattle.line_tokens.specs.Roles.{is_block_open, is_block_close}
-use Rattle.unwrapped_lines.specs.declared.line.LineKind.{LineKind}
-use Rattle.unwrapped_lines.specs.declared.line.LineKind.TheVariants.{Close}
-use Rattle.unwrapped_lines.specs.declared.line.ULine.{ULine}
+use Rattle.line_tokens.specs.declared.line.LineKind.{LineKind}
+use Rattle.line_tokens.specs.declared.line.LineKind.TheVariants.{Close}
+use Rattle.line_tokens.specs.declared.line.ULine.{ULine}
 
 -- the greatest column
 abbrev pub most_column : ℕ

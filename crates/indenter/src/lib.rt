@@ -4,9 +4,8 @@
 ghost use Rattle.std.specs.Prelude.{◌≡◌};
 ghost use Rattle.indenter.specs.Rows.{start_column, is_close, begins_with_close, opens_block, keeps_none, empty_lines};
 
-use line_tokens::LineTok;
+use line_tokens::{LineKind, LineTok, ULine};
 use style_table::Style;
-use unwrapped_lines::{LineKind, ULine};
 
 /// The column at which a line starts, from 0: its level times IndentWidth, at most the greatest `u32`.
 pub fn start_column(style: &Style, line: &ULine) -> u32

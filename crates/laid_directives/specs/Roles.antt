@@ -6,9 +6,9 @@ use Rattle.token_arena.specs.Gaps.{Contents}
 use Rattle.directives.specs.declared.Directive.{Directive}
 use Rattle.style_table.specs.declared.style.Style.{Style}
 use Rattle.brackets.specs.Partners.{partners_of}
-use Rattle.brackets.specs.Viewed.{classes_of}
-use Rattle.unwrapped_lines.specs.declared.line.ULine.{ULine}
-use Rattle.unwrapped_lines.specs.declared.line.LineKind.TheVariants.{Simple}
+use Rattle.token_classes.specs.Viewed.{classes_of}
+use Rattle.line_tokens.specs.declared.line.ULine.{ULine}
+use Rattle.line_tokens.specs.declared.line.LineKind.TheVariants.{Simple}
 use Rattle.annotator.specs.Tokens.{roles_of}
 use Rattle.directive_layout.specs.OperandStart.{operand_first}
 use Rattle.directive_layout.specs.Staying.{staying_in}

@@ -7,16 +7,16 @@ ghost use Rattle.directives.specs.declared.Section.TheVariants.{Dir};
 ghost use Rattle.laid_directives.specs.Roles.{one_line, roles_between, is_free, has_roles, operand_roles};
 
 use annotator::roles_of_classes;
-use brackets::{classes, partners_of_classes};
+use brackets::partners_of_classes;
 use bumpalo::Bump;
 use bumpalo::collections::into_bump_slice;
 use directive_layout::{Staying, operand_first, staying_in};
 use directives::Directive;
-use line_tokens::{LineTok, NoMemory};
+use line_tokens::{LineKind, LineTok, NoMemory, ULine};
 use style_table::Style;
 use token_arena::TokenArena;
+use token_classes::classes;
 use token_views::View;
-use unwrapped_lines::{LineKind, ULine};
 
 /// One line of so many items, as of a statement.
 fn one_line(count: u32) -> ULine

@@ -1,16 +1,17 @@
 //! Classes, partners and kept gaps, as `docs/PROFILE.md` says under "Statements and lines".
 
 use crate::fixtures::{count_of, items_around, items_from};
-use brackets::TokenClass::{
-    self, CallWord, CapitalWord, CloseBrace, CloseRound, CloseSquare, Comma, Equals, Hash, If,
-    Literal, OpenBrace, OpenRound, OpenSquare, PlainWord, Semicolon, Sign, TypeWord,
-};
-use brackets::{bracket_facts, classes_among, item_class, item_classes, partners_of_classes};
+use brackets::{bracket_facts, partners_of_classes};
 use bumpalo::Bump;
 use line_tokens::TokenId;
 use std::alloc::{AllocError, Global};
 use std::test::Fail;
 use token_arena::{Dialect, build};
+use token_classes::TokenClass::{
+    self, CallWord, CapitalWord, CloseBrace, CloseRound, CloseSquare, Comma, Equals, Hash, If,
+    Literal, OpenBrace, OpenRound, OpenSquare, PlainWord, Semicolon, Sign, TypeWord,
+};
+use token_classes::{classes_among, item_class, item_classes};
 
 /// The class of a token of one letter.
 fn letter_class(letter: u8) -> TokenClass {

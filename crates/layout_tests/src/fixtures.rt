@@ -2,19 +2,20 @@
 
 ghost use Rattle.std.specs.Prelude.{◌≡◌, ◌<◌, length, IfOk};
 ghost use Rattle.annotator.specs.Tokens.{TellItems};
-ghost use Rattle.brackets.specs.Viewed.{AreWithin, classes_of};
+ghost use Rattle.token_classes.specs.Viewed.{AreWithin, classes_of};
 ghost use Rattle.style_table.specs.Range.{IsInRange};
-ghost use Rattle.unwrapped_lines.specs.Lines.{CutPlaces};
+ghost use Rattle.line_tokens.specs.Lines.{CutPlaces};
 
 use annotator::roles_of_classes;
-use brackets::{TokenClass, classes, partners_of_classes};
+use brackets::partners_of_classes;
 use bumpalo::Bump;
-use line_tokens::{GapFacts, ItemKind, LineTok, NoMemory, Role, TokenId};
+use line_tokens::{GapFacts, ItemKind, LineTok, NoMemory, Role, TokenId, ULine};
 use std::test::Fail;
 use style_table::Style;
 use token_arena::TokenArena;
+use token_classes::{TokenClass, classes};
 use token_views::{Stretch, View};
-use unwrapped_lines::{ULine, lines_of_classes};
+use unwrapped_lines::lines_of_classes;
 
 /// The style of this name.
 pub fn style(name: &str) -> Result<Style, Fail>

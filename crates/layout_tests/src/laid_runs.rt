@@ -1,7 +1,7 @@
 //! The decisions for whole texts, as `docs/PROFILE.md` says under "Layout of lines".
 
 ghost use Rattle.std.specs.Prelude.{◌≡◌, ◌+◌, ◌≤◌, length, IfOk, OnOk};
-ghost use Rattle.brackets.specs.Viewed.{AreWithin};
+ghost use Rattle.token_classes.specs.Viewed.{AreWithin};
 ghost use Rattle.style_table.specs.Range.{IsInRange};
 
 use crate::fixtures::{items_around, items_from, read_view, style};

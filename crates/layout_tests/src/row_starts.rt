@@ -2,9 +2,8 @@
 
 use crate::fixtures::{style, token};
 use indenter::{empty_lines, start_column};
-use line_tokens::{GapFacts, LineTok, Role, TokenId};
+use line_tokens::{GapFacts, LineKind, LineTok, Role, TokenId, ULine};
 use std::test::Fail;
-use unwrapped_lines::{LineKind, ULine};
 
 /// A token with this number and so many new-lines before it.
 fn token_behind(id: u32, role: Role, lines: u32) -> LineTok {

@@ -3,15 +3,16 @@
 use crate::fixtures::{items_from, style};
 use brackets::partners;
 use bumpalo::Bump;
+use line_tokens::LineKind::{
+    Brace, CaseLabel, Close, Comment, Control, EnumHead, Enumerator, ExternHead, FuncHead,
+    GotoLabel, MacroLine, Simple, StructHead,
+};
+use line_tokens::{LineKind, ULine};
 use std::alloc::Global;
 use std::process::Abort;
 use std::test::Fail;
 use token_arena::{Dialect, TokenArena, TokenId, build};
-use unwrapped_lines::LineKind::{
-    Brace, CaseLabel, Close, Comment, Control, EnumHead, Enumerator, ExternHead, FuncHead,
-    GotoLabel, MacroLine, Simple, StructHead,
-};
-use unwrapped_lines::{LineKind, ULine, lines};
+use unwrapped_lines::lines;
 
 /// A line: its text, its level and its kind.
 type Row = (&'static str, u32, LineKind);

@@ -4,7 +4,6 @@ use crate::fixtures::{items_from, style};
 use annotator::roles;
 use brackets::partners;
 use bumpalo::Bump;
-use line_tokens::LineTok;
 use line_tokens::Role::{
     self, AsmColon, Assign, Binary, BlockClose, BlockOpen, CallClose, CallOpen, CastClose,
     CastOpen, Comma, CtrlClose, CtrlOpen, DeclClose, DeclName, DeclOpen, DesigClose, DesigDot,
@@ -12,10 +11,11 @@ use line_tokens::Role::{
     ListClose, ListOpen, Literal, Member, Own, Pointer, Postfix, Prefix, Question, Semi, Stray,
     TernColon, Trailing, Unary, Word,
 };
+use line_tokens::{LineKind, LineTok, ULine};
 use std::process::Abort;
 use std::test::Fail;
 use token_arena::{Dialect, build};
-use unwrapped_lines::{LineKind, ULine, lines};
+use unwrapped_lines::lines;
 
 /// A text with the roles of its items.
 type Case = (&'static str, &'static str, &'static [Role]);

@@ -1,13 +1,17 @@
 //! A token as the layout of a line sees it: its role, the gap before it and its widths.
 //!
-//! These are the types that the tables of spaces, breaks and joined lines look at. They hold no text.
+//! These are the types that the tables of spaces, breaks and joined lines look at, and unwrapped lines. They hold no text.
 #![tactic(auto)]
 
+mod ends;
+mod line;
 mod no_memory;
 mod role;
 mod role_sets;
 
 pub use c_grammar::ItemKind;
+pub use ends::stored_or;
+pub use line::{LineKind, ULine};
 pub use no_memory::NoMemory;
 pub use role::Role;
 

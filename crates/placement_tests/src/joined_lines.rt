@@ -2,16 +2,16 @@
 
 ghost use Rattle.std.specs.Prelude.{◌≡◌, ◌≤◌, ◌<◌, length, IfOk};
 ghost use Rattle.style_table.specs.Range.{IsInRange};
-ghost use Rattle.brackets.specs.Viewed.{AreWithin};
+ghost use Rattle.token_classes.specs.Viewed.{AreWithin};
 
 use crate::joined_lines::With::{
     Blocks, Braces, Cases, Enums, Functions, Ifs, Limit, Loops, Unlimited,
 };
 use annotator::{roles, roles_of_classes};
-use brackets::{classes, partners, partners_of_classes};
+use brackets::{partners, partners_of_classes};
 use bumpalo::Bump;
 use line_joiner::{join, join_of_classes};
-use line_tokens::{Fixed, LineTok};
+use line_tokens::{Fixed, LineTok, ULine};
 use std::alloc::Global;
 use std::process::Abort;
 use std::test::Fail;
@@ -21,8 +21,9 @@ use style_table::{
     AllowShortIfStatementsOnASingleLine as ShortIfs, BreakBeforeBraces, Style,
 };
 use token_arena::{Dialect, TokenArena, build};
+use token_classes::classes;
 use token_views::{Stretch, View};
-use unwrapped_lines::{ULine, lines, lines_of_classes};
+use unwrapped_lines::{lines, lines_of_classes};
 
 /// What a case changes in its style.
 #[derive(Clone, Copy)]

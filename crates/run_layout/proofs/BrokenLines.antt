@@ -22,8 +22,8 @@ use Rattle.line_state.specs.Line.{Line, Step}
 use Rattle.line_state.proofs.Steps.{IsGap, is_gap, placing}
 use Rattle.token_arena.specs.Stored.{Stored}
 use Rattle.token_arena.specs.Gaps.{Contents}
-use Rattle.brackets.specs.Viewed.{AreWithin}
-use Rattle.unwrapped_lines.specs.declared.line.ULine.{ULine}
+use Rattle.token_classes.specs.Viewed.{AreWithin}
+use Rattle.line_tokens.specs.declared.line.ULine.{ULine}
 use Rattle.gap_text.specs.declared.Decision.TheVariants.{Spaces}
 use Rattle.replacements.specs.declared.slot.Slot.{Slot}
 use Rattle.replacements.specs.declared.stance.Stance.TheVariants.{OfText}

@@ -15,9 +15,9 @@ use Rattle.line_state.specs.Layout.{Layout, is_allowed, is_decided, is_some_deci
 use Rattle.line_state.specs.Line.{Line, Step, gaps, decision_at, joined, first_layout}
 use Rattle.line_state.proofs.Steps.{IsGap, is_gap, placing, first_index}
 use Rattle.token_arena.specs.Gaps.{Contents}
-use Rattle.brackets.specs.Viewed.{AreWithin}
-use Rattle.unwrapped_lines.specs.declared.line.ULine.{ULine}
-use Rattle.unwrapped_lines.specs.Lines.{CutPlaces}
+use Rattle.token_classes.specs.Viewed.{AreWithin}
+use Rattle.line_tokens.specs.declared.line.ULine.{ULine}
+use Rattle.line_tokens.specs.Lines.{CutPlaces}
 use Rattle.replacements.specs.declared.slot.Slot.{Slot}
 use Rattle.replacements.specs.Breaks.{fixed_by}
 use Rattle.replacements.specs.Decisions.{slot_of, decided_all}

@@ -6,11 +6,12 @@ use Rattle.least_breaking.proofs.Thrift.{thrifty_least}
 use Rattle.style_table.specs.declared.style.Style.{Style}
 use Rattle.line_tokens.specs.declared.LineTok.{LineTok}
 use Rattle.line_tokens.specs.declared.Fixed.{Fixed}
-use Rattle.line_state.specs.Layout.{Layout, stored_or, end_of}
+use Rattle.line_tokens.specs.Columns.{stored_or, end_of}
+use Rattle.line_state.specs.Layout.{Layout}
 use Rattle.line_state.specs.Line.{Step, gaps, joined, first_layout}
 use Rattle.line_state.proofs.Steps.{first_index, functional}
 use Rattle.token_arena.specs.Gaps.{Contents}
-use Rattle.unwrapped_lines.specs.declared.line.ULine.{ULine}
+use Rattle.line_tokens.specs.declared.line.ULine.{ULine}
 use Rattle.indenter.specs.Rows.{start_column}
 use Rattle.replacements.specs.declared.slot.Slot.{Slot}
 use Rattle.replacements.specs.Breaks.{fixed_by}

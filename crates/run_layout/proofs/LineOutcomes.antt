@@ -7,7 +7,7 @@ use Rattle.line_state.specs.Line.{Line, first_layout}
 use Rattle.break_search.specs.Outcome.{line_of, IsFound, IsOver}
 use Rattle.break_search.specs.Starts.{IsAdmissible}
 use Rattle.token_arena.specs.Gaps.{Contents}
-use Rattle.unwrapped_lines.specs.declared.line.ULine.{ULine}
+use Rattle.line_tokens.specs.declared.line.ULine.{ULine}
 use Rattle.indenter.specs.Rows.{start_column}
 use Rattle.replacements.specs.declared.slot.Slot.{Slot}
 use Rattle.replacements.specs.Decisions.{decided_all}

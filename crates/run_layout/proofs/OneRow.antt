@@ -14,14 +14,15 @@ use Rattle.line_tokens.specs.declared.Fixed.{Fixed}
 use Rattle.line_state.specs.declared.frames.Frame.{Frame}
 use Rattle.line_state.specs.declared.gap.Gap.{Gap}
 use Rattle.line_state.specs.Brackets.{opens_frame}
-use Rattle.line_state.specs.Layout.{Layout, spot_of, columns, start_layout, is_allowed, is_some_decision, layout_after, cost_of, gap_cost, is_free, excess_at, end_of, start_of, broken_start, stored_or, open_frames, topmost, new_frame, placed_frames, opened_frame, comma_frame, is_after_opener, frames_after, cells_of}
+use Rattle.line_tokens.specs.Columns.{columns, end_of, stored_or}
+use Rattle.line_state.specs.Layout.{Layout, spot_of, start_layout, is_allowed, is_some_decision, layout_after, cost_of, gap_cost, is_free, excess_at, start_of, broken_start, open_frames, topmost, new_frame, placed_frames, opened_frame, comma_frame, is_after_opener, frames_after, cells_of}
 use Rattle.line_state.specs.Line.{Line, Step, gaps, gap_at, gap_between, decision_at, first_layout, first_cost, step_over}
 use Rattle.line_state.proofs.Steps.{StayTogether, is_first, stored, least_of, least_allowed, least_stays, functional, placing}
 use Rattle.penalties.specs.Breaks.{gap_rule}
 use Rattle.spacing.specs.Spaces.{spaces_before}
 use Rattle.break_search.specs.Outcome.{own_cells, own_cells_by, IsFound}
 use Rattle.break_search.specs.Thrift.{IsStraight}
-use Rattle.unwrapped_lines.specs.declared.line.ULine.{ULine}
+use Rattle.line_tokens.specs.declared.line.ULine.{ULine}
 use Rattle.gap_text.specs.declared.Decision.TheVariants.{Spaces}
 use Rattle.replacements.specs.declared.slot.Slot.{Slot}
 use Rattle.run_layout.specs.Rows.{no_tok}

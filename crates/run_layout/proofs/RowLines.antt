@@ -6,11 +6,11 @@ use Rattle.std.proofs.lemmas.Option.{get_or_from_slice_get}
 use Rattle.style_table.specs.declared.style.Style.{Style}
 use Rattle.line_tokens.specs.declared.LineTok.{LineTok}
 use Rattle.line_tokens.specs.declared.Fixed.{Fixed}
-use Rattle.line_state.specs.Layout.{stored_or, end_of}
+use Rattle.line_tokens.specs.Columns.{stored_or, end_of}
 use Rattle.line_state.specs.Line.{Line, gaps, first_layout}
 use Rattle.token_arena.specs.Gaps.{Contents}
-use Rattle.brackets.specs.Viewed.{AreWithin}
-use Rattle.unwrapped_lines.specs.declared.line.ULine.{ULine}
+use Rattle.token_classes.specs.Viewed.{AreWithin}
+use Rattle.line_tokens.specs.declared.line.ULine.{ULine}
 use Rattle.indenter.specs.Rows.{start_column}
 use Rattle.replacements.specs.declared.slot.Slot.{Slot}
 use Rattle.replacements.specs.Decisions.{decided, decided_all}

@@ -7,7 +7,7 @@ use Rattle.line_tokens.specs.declared.LineTok.{LineTok}
 use Rattle.line_tokens.specs.declared.Fixed.{Fixed}
 use Rattle.line_tokens.specs.Roles.{is_trailing}
 use Rattle.std.specs.Prelude.{if◌then◌else◌}
-use Rattle.line_state.specs.Layout.{columns, end_of, stored_or}
+use Rattle.line_tokens.specs.Columns.{columns, end_of, stored_or}
 use Rattle.line_state.specs.Line.{Line, decision_at, first_cost}
 use Rattle.penalties.specs.Breaks.{gap_rule}
 use Rattle.spacing.specs.Spaces.{spaces_before}

@@ -7,9 +7,9 @@ use Rattle.std.proofs.Math.Seq.{drop-cons}
 use Rattle.style_table.specs.declared.style.Style.{Style}
 use Rattle.line_tokens.specs.declared.LineTok.{LineTok}
 use Rattle.token_arena.specs.Gaps.{Contents}
-use Rattle.brackets.specs.Viewed.{AreWithin}
-use Rattle.unwrapped_lines.specs.declared.line.ULine.{ULine}
-use Rattle.unwrapped_lines.specs.Lines.{CutPlaces}
+use Rattle.token_classes.specs.Viewed.{AreWithin}
+use Rattle.line_tokens.specs.declared.line.ULine.{ULine}
+use Rattle.line_tokens.specs.Lines.{CutPlaces}
 use Rattle.replacements.specs.declared.slot.Slot.{Slot}
 use Rattle.replacements.specs.Decisions.{decided_all}
 use Rattle.run_layout.specs.InputColumns.{input_before}

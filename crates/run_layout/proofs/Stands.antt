@@ -9,8 +9,8 @@ use Rattle.token_arena.specs.Stored.{Stored}
 use Rattle.token_arena.specs.Gaps.{Contents}
 use Rattle.directives.specs.Sections.{sections_of}
 use Rattle.gap_text.specs.declared.Decision.TheVariants.{Old, Spaces, Lines}
-use Rattle.brackets.specs.Viewed.{item_class}
-use Rattle.unwrapped_lines.specs.declared.line.ULine.{ULine}
+use Rattle.token_classes.specs.Viewed.{item_class}
+use Rattle.line_tokens.specs.declared.line.ULine.{ULine}
 use Rattle.indenter.specs.Rows.{start_column}
 use Rattle.replacements.specs.declared.stance.Stance.{Stance}
 use Rattle.replacements.specs.declared.stance.Stance.TheVariants.{OfText}

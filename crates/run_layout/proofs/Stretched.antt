@@ -6,10 +6,10 @@ use Rattle.token_views.specs.declared.view.Stretch.{Stretch}
 use Rattle.token_views.specs.Segments.{ids_of, segment_bounds, AreSegments, no_segment, HasPlace}
 use Rattle.token_views.proofs.SegmentLemmas.{item_at_start}
 use Rattle.token_arena.specs.Gaps.{Contents}
-use Rattle.brackets.specs.Viewed.{AreWithin}
+use Rattle.token_classes.specs.Viewed.{AreWithin}
 use Rattle.replacements.specs.declared.slot.Slot.{Slot}
 use Rattle.replacements.specs.Decisions.{slot_of}
-use Rattle.unwrapped_lines.specs.declared.line.ULine.{ULine}
+use Rattle.line_tokens.specs.declared.line.ULine.{ULine}
 use Rattle.run_layout.specs.OpenGaps.{IsOpen, IsRowDecided, IsRowOpen}
 use Rattle.run_layout.specs.Stretches.{AreFrom, IsRest}
 

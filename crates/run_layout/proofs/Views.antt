@@ -6,10 +6,10 @@ use Rattle.style_table.specs.declared.style.Style.{Style}
 use Rattle.line_tokens.specs.declared.LineTok.{LineTok}
 use Rattle.line_tokens.specs.declared.Fixed.{Fixed}
 use Rattle.token_arena.specs.Gaps.{Contents}
-use Rattle.brackets.specs.declared.class.TokenClass.{TokenClass}
-use Rattle.brackets.specs.Viewed.{classes_of}
-use Rattle.unwrapped_lines.specs.declared.line.ULine.{ULine}
-use Rattle.unwrapped_lines.specs.Lines.{CutPlaces}
+use Rattle.token_classes.specs.declared.class.TokenClass.{TokenClass}
+use Rattle.token_classes.specs.Viewed.{classes_of}
+use Rattle.line_tokens.specs.declared.line.ULine.{ULine}
+use Rattle.line_tokens.specs.Lines.{CutPlaces}
 use Rattle.line_joiner.specs.Joined.{joined}
 use Rattle.line_joiner.proofs.CutLines.{joined_cuts}
 use Rattle.replacements.specs.declared.slot.Slot.{Slot}

@@ -11,9 +11,9 @@ use Rattle.line_tokens.specs.declared.LineTok.{LineTok}
 use Rattle.spacing.specs.Spaces.{spaces_before}
 use Rattle.penalties.specs.Breaks.{ends_its_row}
 use Rattle.line_state.specs.declared.gap.Gap.{Gap}
-use Rattle.line_state.specs.Layout.{columns, end_of}
+use Rattle.line_tokens.specs.Columns.{columns, end_of}
 use Rattle.token_arena.specs.Gaps.{Contents}
-use Rattle.brackets.specs.Viewed.{AreWithin}
+use Rattle.token_classes.specs.Viewed.{AreWithin}
 use Rattle.gap_text.specs.declared.Decision.TheVariants.{Spaces}
 use Rattle.replacements.specs.declared.slot.Slot.{Slot}
 use Rattle.replacements.specs.Decisions.{slot_of, decided, decided_all}

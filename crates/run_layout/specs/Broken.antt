@@ -9,7 +9,7 @@ use Rattle.line_state.specs.Layout.{Layout, is_decided, layout_after, start_of}
 use Rattle.line_state.specs.Line.{Line, first_layout, gap_at}
 use Rattle.spacing.specs.Spaces.{spaces_before}
 use Rattle.token_arena.specs.Gaps.{Contents}
-use Rattle.unwrapped_lines.specs.declared.line.ULine.{ULine}
+use Rattle.line_tokens.specs.declared.line.ULine.{ULine}
 use Rattle.indenter.specs.Rows.{start_column, empty_lines}
 use Rattle.gap_text.specs.declared.Decision.{Decision}
 use Rattle.gap_text.specs.declared.Decision.TheVariants.{Spaces, Lines}

@@ -5,10 +5,10 @@ use Rattle.token_arena.specs.Gaps.{Contents}
 use Rattle.line_tokens.specs.declared.LineTok.{LineTok}
 use Rattle.line_tokens.specs.Roles.{is_trailing}
 use Rattle.penalties.specs.Breaks.{ends_its_row}
-use Rattle.brackets.specs.Viewed.{AreWithin}
+use Rattle.token_classes.specs.Viewed.{AreWithin}
 use Rattle.directives.specs.Sections.{sections_of}
-use Rattle.unwrapped_lines.specs.declared.line.ULine.{ULine}
-use Rattle.unwrapped_lines.specs.Lines.{CutPlaces}
+use Rattle.line_tokens.specs.declared.line.ULine.{ULine}
+use Rattle.line_tokens.specs.Lines.{CutPlaces}
 use Rattle.replacements.specs.declared.slot.Slot.{Slot}
 use Rattle.replacements.specs.declared.stance.Stance.TheVariants.{OfText}
 use Rattle.replacements.specs.Sound.{IsSound}

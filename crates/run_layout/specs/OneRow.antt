@@ -5,7 +5,8 @@ use Rattle.line_tokens.specs.declared.LineTok.{LineTok}
 use Rattle.line_tokens.specs.declared.Fixed.{Fixed}
 use Rattle.line_tokens.specs.Roles.{is_trailing}
 use Rattle.line_state.specs.Brackets.{opens_frame}
-use Rattle.line_state.specs.Layout.{Layout, columns, end_of}
+use Rattle.line_tokens.specs.Columns.{columns, end_of}
+use Rattle.line_state.specs.Layout.{Layout}
 use Rattle.line_state.specs.Line.{Line, Step, gaps, first_layout, first_cost, decision_at}
 use Rattle.line_state.proofs.Steps.{StayTogether}
 use Rattle.break_search.specs.Outcome.{own_cells}

@@ -5,7 +5,7 @@ use Rattle.line_tokens.specs.declared.LineTok.{LineTok}
 use Rattle.break_search.specs.Outcome.{IsFound, IsOver}
 use Rattle.break_search.specs.Starts.{IsAdmissible}
 use Rattle.token_arena.specs.Gaps.{Contents}
-use Rattle.unwrapped_lines.specs.declared.line.ULine.{ULine}
+use Rattle.line_tokens.specs.declared.line.ULine.{ULine}
 use Rattle.replacements.specs.declared.slot.Slot.{Slot}
 use Rattle.replacements.specs.Decisions.{decided_all}
 use Rattle.run_layout.specs.Rows.{item_at}

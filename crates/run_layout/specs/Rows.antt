@@ -7,11 +7,11 @@ use Rattle.line_tokens.specs.declared.role.Role.{Role}
 use Rattle.line_tokens.specs.declared.role.Role.TheVariants.{BlockClose, Word}
 use Rattle.token_arena.specs.Stored.{Stored}
 use Rattle.token_arena.specs.Gaps.{Contents}
-use Rattle.brackets.specs.declared.class.TokenClass.{TokenClass}
-use Rattle.brackets.specs.declared.class.TokenClass.TheVariants.{Nothing}
-use Rattle.brackets.specs.Classes.{is_open_brace, is_close_brace}
-use Rattle.brackets.specs.Viewed.{item_class}
-use Rattle.unwrapped_lines.specs.declared.line.ULine.{ULine}
+use Rattle.token_classes.specs.declared.class.TokenClass.{TokenClass}
+use Rattle.token_classes.specs.declared.class.TokenClass.TheVariants.{Nothing}
+use Rattle.token_classes.specs.Classes.{is_open_brace, is_close_brace}
+use Rattle.token_classes.specs.Viewed.{item_class}
+use Rattle.line_tokens.specs.declared.line.ULine.{ULine}
 use Rattle.indenter.specs.Rows.{most_column, start_column, empty_lines}
 use Rattle.gap_text.specs.declared.Decision.{Decision}
 use Rattle.gap_text.specs.declared.Decision.TheVariants.{Old, Spaces, Lines, Splice}

@@ -3,7 +3,7 @@ use Rattle.std.specs.Prelude.{◌≡◌, ℕ, List, Option, ⊤}
 use Rattle.style_table.specs.declared.style.Style.{Style}
 use Rattle.line_tokens.specs.declared.LineTok.{LineTok}
 use Rattle.token_arena.specs.Gaps.{Contents}
-use Rattle.unwrapped_lines.specs.declared.line.ULine.{ULine}
+use Rattle.line_tokens.specs.declared.line.ULine.{ULine}
 use Rattle.replacements.specs.declared.slot.Slot.{Slot}
 use Rattle.replacements.specs.Decisions.{decided_all}
 use Rattle.run_layout.specs.Outcomes.{LineOutcome, Kept, Only, Least, Over, ComesOf, outcome_made}

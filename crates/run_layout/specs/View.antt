@@ -3,8 +3,8 @@ use Rattle.std.specs.Prelude.{◌≡◌, ℕ, Option, List, map}
 use Rattle.style_table.specs.declared.style.Style.{Style}
 use Rattle.line_tokens.specs.declared.LineTok.{LineTok}
 use Rattle.token_arena.specs.Gaps.{Contents}
-use Rattle.brackets.specs.Viewed.{classes_of}
-use Rattle.unwrapped_lines.specs.declared.line.ULine.{ULine}
+use Rattle.token_classes.specs.Viewed.{classes_of}
+use Rattle.line_tokens.specs.declared.line.ULine.{ULine}
 use Rattle.line_joiner.specs.Joined.{joined}
 use Rattle.replacements.specs.declared.slot.Slot.{Slot}
 use Rattle.replacements.specs.Breaks.{fixed_by}

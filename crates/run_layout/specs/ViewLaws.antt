@@ -3,9 +3,9 @@ use Rattle.std.specs.Prelude.{◌≡◌, ◌<◌, ℕ, All, List, Option, Some, 
 use Rattle.style_table.specs.declared.style.Style.{Style}
 use Rattle.token_arena.specs.Gaps.{Contents}
 use Rattle.line_tokens.specs.declared.LineTok.{LineTok}
-use Rattle.brackets.specs.Viewed.{AreWithin}
-use Rattle.unwrapped_lines.specs.declared.line.ULine.{ULine}
-use Rattle.unwrapped_lines.specs.Lines.{CutPlaces}
+use Rattle.token_classes.specs.Viewed.{AreWithin}
+use Rattle.line_tokens.specs.declared.line.ULine.{ULine}
+use Rattle.line_tokens.specs.Lines.{CutPlaces}
 use Rattle.replacements.specs.declared.slot.Slot.{Slot}
 use Rattle.replacements.specs.Decisions.{slot_of}
 use Rattle.replacements.specs.Sound.{IsSound}

@@ -2,7 +2,7 @@
 
 ghost use Rattle.std.specs.Prelude.{◌≡◌, ◌||◌, ◌+◌, ◌<◌, ◌≤◌, ◌^◌, ◌∷◌, All, IfOk, OnOk, Some, length, map, get_or, slice_get, if◌then◌else◌};
 ghost use Rattle.style_table.specs.Range.{IsInRange};
-ghost use Rattle.brackets.specs.Viewed.{AreWithin, classes_of};
+ghost use Rattle.token_classes.specs.Viewed.{AreWithin, classes_of};
 ghost use Rattle.line_state.specs.Layout.{is_some_decision};
 ghost use Rattle.line_state.specs.Line.{first_layout};
 ghost use Rattle.break_search.specs.Outcome.{line_of};
@@ -14,20 +14,19 @@ ghost use Rattle.run_layout.specs.Broken.{decision_by, empty_inside, first_made,
 
 use crate::first::decide_first;
 use crate::row::token_at;
-use brackets::TokenClass;
 use break_search::starts;
 use bumpalo::Bump;
 use bumpalo::collections::into_bump_slice;
 use gap_text::Decision;
 use indenter::{empty_lines, start_column};
-use line_tokens::{Fixed, LineTok, NoMemory};
+use line_tokens::{Fixed, LineTok, NoMemory, ULine};
 use replacements::Plan;
 use spacing::spaces_before;
 use std::alloc::Global;
 use style_table::Style;
 use token_arena::TokenArena;
+use token_classes::TokenClass;
 use token_views::View;
-use unwrapped_lines::ULine;
 
 /// The empty lines before a further row of a line: only behind a directive are there any.
 fn empty_inside(style: &Style, line: &ULine, token: &LineTok) -> u32

@@ -2,14 +2,14 @@
 
 ghost use Rattle.std.specs.Prelude.{◌≡◌, ◌<◌, ◌≤◌, ◌+◌, length};
 ghost use Rattle.std.specs.Bool.{OnFalse, OnTrue};
-ghost use Rattle.brackets.specs.Viewed.{AreWithin};
+ghost use Rattle.token_classes.specs.Viewed.{AreWithin};
 ghost use Rattle.run_layout.specs.OpenGaps.{AreDecided, IsOpen, IsRowDecided, IsRowOpen};
 
 use crate::stretches::stretch_near;
+use line_tokens::ULine;
 use replacements::Plan;
 use token_arena::TokenArena;
 use token_views::View;
-use unwrapped_lines::ULine;
 
 /// Whether the gap before each item from one up to another is decided.
 #[inline(always)]

@@ -1,22 +1,21 @@
 //! What stands before a line's first item.
 
 ghost use Rattle.std.specs.Prelude.{◌≡◌, ◌<◌, ◌+◌, length, get_or};
-ghost use Rattle.brackets.specs.Viewed.{AreWithin, classes_of};
+ghost use Rattle.token_classes.specs.Viewed.{AreWithin, classes_of};
 ghost use Rattle.replacements.specs.Decisions.{decided};
 ghost use Rattle.run_layout.specs.Rows.{item_before, row_token, first_role, opens_before, empty_rows, first_of_line, first_decision};
 ghost use Rattle.run_layout.specs.Broken.{first_slot};
 
 use crate::columns::start_behind;
 use crate::item::item;
-use brackets::TokenClass;
 use gap_text::Decision;
 use indenter::{empty_lines, start_column};
-use line_tokens::{LineTok, Role, TokenId};
+use line_tokens::{LineTok, Role, TokenId, ULine};
 use replacements::Plan;
 use style_table::Style;
 use token_arena::TokenArena;
+use token_classes::TokenClass;
 use token_views::View;
-use unwrapped_lines::ULine;
 
 /// An item as the rule on empty lines sees it.
 fn row_token(arena: &TokenArena<'_, '_>, id: u32, role: Role) -> LineTok

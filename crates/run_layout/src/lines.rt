@@ -3,7 +3,7 @@
 ghost use Rattle.std.specs.Prelude.{◌≡◌, ◌+◌, ◌*◌, ◌^◌, ◌<◌, ◌≤◌, All, IfOk, IsTrue, OnOk, Some, length, map, get_or, slice_get};
 ghost use Rattle.std.specs.Bool.{OnFalse, OnTrue};
 ghost use Rattle.style_table.specs.Range.{IsInRange};
-ghost use Rattle.brackets.specs.Viewed.{AreWithin, classes_of};
+ghost use Rattle.token_classes.specs.Viewed.{AreWithin, classes_of};
 ghost use Rattle.annotator.specs.Tokens.{TellItems};
 ghost use Rattle.line_state.specs.Line.{gaps};
 ghost use Rattle.run_layout.specs.Tells.{StandForItems};
@@ -13,7 +13,7 @@ ghost use Rattle.run_layout.specs.Broken.{broken_line, broken_made, of_line};
 ghost use Rattle.run_layout.specs.InputColumns.{input_before};
 ghost use Rattle.run_layout.specs.OneRow.{AreOpenInside, IsRow, stays};
 ghost use Rattle.run_layout.specs.Outcomes.{IsOpen};
-ghost use Rattle.unwrapped_lines.specs.Lines.{CutPlaces};
+ghost use Rattle.line_tokens.specs.Lines.{CutPlaces};
 ghost use Rattle.run_layout.specs.RunsLaid.{IsRunLaid};
 ghost use Rattle.run_layout.specs.Told.{IsLaid};
 
@@ -24,17 +24,16 @@ use crate::laid::Laid;
 use crate::report::{Tally, note_line};
 use crate::reported::{InputCursor, report_line};
 use crate::row::{end_of, first_start, is_row, token_at, write_row};
-use brackets::TokenClass;
 use break_search::{Outcome, least_breaks, search};
 use bumpalo::Bump;
 use indenter::start_column;
-use line_tokens::{LineTok, NoMemory};
+use line_tokens::{LineTok, NoMemory, ULine};
 use replacements::Plan;
 use std::alloc::Global;
 use style_table::Style;
 use token_arena::TokenArena;
+use token_classes::TokenClass;
 use token_views::View;
-use unwrapped_lines::ULine;
 
 /// The tokens of a line, among those of a view.
 #[inline(always)]

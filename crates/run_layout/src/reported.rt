@@ -1,7 +1,7 @@
 //! Lines that are reported.
 
 ghost use Rattle.std.specs.Prelude.{◌≡◌, ◌∷◌, ◌+◌, ◌<◌, ◌≤◌, ◌^◌, length, get_or};
-ghost use Rattle.brackets.specs.Viewed.{AreWithin, classes_of};
+ghost use Rattle.token_classes.specs.Viewed.{AreWithin, classes_of};
 ghost use Rattle.replacements.specs.Decisions.{decided_all};
 ghost use Rattle.run_layout.specs.Broken.{first_made};
 ghost use Rattle.run_layout.specs.InputColumns.{column_past, column_through, input_before, input_behind, input_column};
@@ -9,13 +9,13 @@ ghost use Rattle.run_layout.specs.Outcomes.{reported_made};
 
 use crate::columns::column_behind;
 use crate::first::decide_first;
-use brackets::TokenClass;
 use gap_text::Decision;
+use line_tokens::ULine;
 use replacements::Plan;
 use style_table::Style;
 use token_arena::TokenArena;
+use token_classes::TokenClass;
 use token_views::View;
-use unwrapped_lines::ULine;
 
 /// Up to where the columns of the input are told. They are told only where a line is reported, each once in a run.
 #[derive(Clone, Copy, Debug)]

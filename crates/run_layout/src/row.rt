@@ -4,7 +4,7 @@ ghost use Rattle.std.specs.Prelude.{◌≡◌, ◌<◌, ◌≤◌, ◌^◌, ℕ,
 ghost use Rattle.line_tokens.specs.Roles.{is_trailing};
 ghost use Rattle.style_table.specs.Range.{IsInRange};
 ghost use Rattle.line_state.specs.Brackets.{opens_frame};
-ghost use Rattle.line_state.specs.Layout.{end_of, stored_or};
+ghost use Rattle.line_tokens.specs.Columns.{end_of, stored_or};
 ghost use Rattle.line_state.specs.Line.{Line};
 ghost use Rattle.run_layout.specs.Rows.{no_tok};
 ghost use Rattle.gap_text.specs.declared.Decision.TheVariants.{Spaces};

@@ -2,26 +2,25 @@
 
 ghost use Rattle.std.specs.Prelude.{◌≡◌, ◌+◌, ◌*◌, ◌^◌, ◌<◌, ◌≤◌, OnOk, length};
 ghost use Rattle.style_table.specs.Range.{IsInRange};
-ghost use Rattle.brackets.specs.Viewed.{AreWithin, classes_of};
+ghost use Rattle.token_classes.specs.Viewed.{AreWithin, classes_of};
 ghost use Rattle.annotator.specs.Tokens.{TellItems};
-ghost use Rattle.unwrapped_lines.specs.Lines.{CutPlaces};
+ghost use Rattle.line_tokens.specs.Lines.{CutPlaces};
 ghost use Rattle.run_layout.specs.Counted.{IsCounted};
 ghost use Rattle.run_layout.specs.View.{IsViewLaid};
 
 use crate::broken::fixed_of;
 use crate::lines::lay_out_lines;
 use crate::report::Tally;
-use brackets::TokenClass;
 use bumpalo::Bump;
 use comment_rows::place_comments;
 use line_joiner::join_of_classes;
-use line_tokens::{LineTok, NoMemory};
+use line_tokens::{LineTok, NoMemory, ULine};
 use replacements::Plan;
 use std::alloc::Global;
 use style_table::Style;
 use token_arena::TokenArena;
+use token_classes::TokenClass;
 use token_views::View;
-use unwrapped_lines::ULine;
 
 /// Lays out a view: joins its short lines, and decides the gap before each of its items where it is open, that before
 /// trailing comments last. What came of the lines is noted. `lines` are the view's unwrapped lines, `classes` and `toks` those of its places.

@@ -3,7 +3,7 @@ use Rattle.std.proofs.Common.{◌≡◌, ℕ, zero, suc, ◌+◌, ◌-◌, ◌<�
 use Rattle.std.specs.Prelude.{slice_get, slice_index_or}
 use Rattle.unwrapped_lines.specs.Colons.{AreColonsFrom}
 use Rattle.std.proofs.lemmas.Bool.{cases_Bool}
-use Rattle.brackets.specs.Classes.{is_question, is_colon, is_opener}
+use Rattle.token_classes.specs.Classes.{is_question, is_colon, is_opener}
 use Rattle.unwrapped_lines.specs.declared.token.CodeToken.{CodeToken}
 use Rattle.unwrapped_lines.specs.Forms.{case_colon, step_over, class_at, within, behind_partner, partner_in, partner_of}
 use Rattle.unwrapped_lines.proofs.ScanLemmas.{colon_at_end}

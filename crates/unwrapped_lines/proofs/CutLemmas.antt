@@ -4,11 +4,11 @@ use Rattle.std.specs.Prelude.{if◌then◌else◌, slice_get}
 use Rattle.std.proofs.lemmas.List.{length-map}
 use Rattle.style_table.specs.declared.style.Style.{Style}
 use Rattle.token_arena.specs.Gaps.{Contents}
-use Rattle.brackets.specs.declared.class.TokenClass.{TokenClass}
-use Rattle.brackets.specs.Classes.{is_comment, is_line_comment}
-use Rattle.brackets.specs.Viewed.{item_class, classes_of}
+use Rattle.token_classes.specs.declared.class.TokenClass.{TokenClass}
+use Rattle.token_classes.specs.Classes.{is_comment, is_line_comment}
+use Rattle.token_classes.specs.Viewed.{item_class, classes_of}
 use Rattle.unwrapped_lines.specs.declared.line.Line.{Line}
-use Rattle.unwrapped_lines.specs.declared.line.LineKind.TheVariants.{Comment}
+use Rattle.line_tokens.specs.declared.line.LineKind.TheVariants.{Comment}
 use Rattle.unwrapped_lines.specs.declared.part.Begin.{Begin}
 use Rattle.unwrapped_lines.specs.declared.part.Part.{Part}
 use Rattle.unwrapped_lines.specs.declared.part.Part.TheVariants.{Token, Own, Trailing, Inner}
@@ -18,7 +18,8 @@ use Rattle.unwrapped_lines.specs.Viewed.{code_places_from, code_tokens, token_at
 use Rattle.unwrapped_lines.specs.Stack.{IsCut}
 use Rattle.unwrapped_lines.specs.Tree.{lines_of}
 use Rattle.unwrapped_lines.specs.Wrapping.{braces_of}
-use Rattle.unwrapped_lines.specs.Lines.{lines_between, unwrapped_lines_of, tree_of, CutPlaces}
+use Rattle.line_tokens.specs.Lines.{CutPlaces}
+use Rattle.unwrapped_lines.specs.Lines.{lines_between, unwrapped_lines_of, tree_of}
 
 -- ## Lines begin one behind another
 

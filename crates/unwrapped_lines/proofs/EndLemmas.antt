@@ -8,7 +8,7 @@ use Rattle.unwrapped_lines.specs.declared.open.Start.TheVariants.{Fresh, Closing
 use Rattle.unwrapped_lines.specs.declared.open.Head.{Head}
 use Rattle.unwrapped_lines.specs.declared.form.Form.{Form}
 use Rattle.unwrapped_lines.specs.declared.form.Next.TheVariants.{Ends, Goes, Waits, Opens}
-use Rattle.brackets.specs.Classes.{is_else}
+use Rattle.token_classes.specs.Classes.{is_else}
 use Rattle.unwrapped_lines.specs.Forms.{IsLow, StaysIn, form_of, seen, tail_end, is_if_head, is_do_head}
 use Rattle.unwrapped_lines.specs.Tree.{end_level_from, end_level, level_of_list, settled, Reading, body_of, whole_file}
 use Rattle.unwrapped_lines.specs.Stack.{OpenToEnd, LeadsToEnd}

@@ -1,9 +1,9 @@
 -- Worked examples.
 use Rattle.std.proofs.Common.{◌≡◌, ℕ, true, false, List, [], ◌∷◌, Option, refl}
-use Rattle.brackets.specs.declared.class.TokenClass.{TokenClass}
-use Rattle.brackets.specs.declared.class.TokenClass.TheVariants.{If, Else, TypeWord, PlainWord, OpenRound, CloseRound, OpenBrace, CloseBrace, Semicolon}
+use Rattle.token_classes.specs.declared.class.TokenClass.{TokenClass}
+use Rattle.token_classes.specs.declared.class.TokenClass.TheVariants.{If, Else, TypeWord, PlainWord, OpenRound, CloseRound, OpenBrace, CloseBrace, Semicolon}
 use Rattle.unwrapped_lines.specs.declared.token.CodeToken.{CodeToken}
-use Rattle.unwrapped_lines.specs.declared.line.LineKind.TheVariants.{Simple, Control, FuncHead, Close}
+use Rattle.line_tokens.specs.declared.line.LineKind.TheVariants.{Simple, Control, FuncHead, Close}
 use Rattle.unwrapped_lines.specs.declared.braces.Braces.{Braces}
 use Rattle.brackets.specs.Partners.{partners_of}
 use Rattle.unwrapped_lines.specs.Tree.{lines_of}

@@ -2,7 +2,7 @@
 use Rattle.std.proofs.Common.{◌≡◌, ℕ, ◌<◌, ◌≤◌, ◌+◌, Bool, true, false, List, arith, ap}
 use Rattle.std.specs.Bool.{OnTrue, OnFalse}
 use Rattle.unwrapped_lines.specs.declared.token.CodeToken.{CodeToken}
-use Rattle.brackets.specs.Classes.{is_open_brace}
+use Rattle.token_classes.specs.Classes.{is_open_brace}
 use Rattle.unwrapped_lines.specs.Forms.{class_at}
 
 -- a head whose brace stands behind the line's first token

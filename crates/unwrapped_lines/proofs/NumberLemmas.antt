@@ -5,9 +5,9 @@ use Rattle.std.specs.Prelude.{if◌then◌else◌, slice_get, Some, None}
 use Rattle.std.specs.List.{range_with_len}
 use Rattle.std.proofs.lemmas.Option.{slice_get-get_or, slice_get_past}
 use Rattle.std.proofs.lemmas.List.FromFn.{length-range_with_len, get_or-range_with_len}
-use Rattle.brackets.specs.declared.class.TokenClass.{TokenClass}
-use Rattle.brackets.specs.declared.class.TokenClass.TheVariants.{Nothing}
-use Rattle.brackets.specs.Classes.{is_comment}
+use Rattle.token_classes.specs.declared.class.TokenClass.{TokenClass}
+use Rattle.token_classes.specs.declared.class.TokenClass.TheVariants.{Nothing}
+use Rattle.token_classes.specs.Classes.{is_comment}
 use Rattle.unwrapped_lines.specs.Viewed.{numbers_from, numbers_of, AreNumbers, AreBlocks, number_behind}
 
 -- without comments each place is its own number

@@ -4,9 +4,9 @@ use Rattle.std.specs.Prelude.{if◌then◌else◌, slice_get}
 use Rattle.std.proofs.lemmas.List.{length-map}
 use Rattle.style_table.specs.declared.style.Style.{Style}
 use Rattle.token_arena.specs.Gaps.{Contents}
-use Rattle.brackets.specs.declared.class.TokenClass.{TokenClass}
-use Rattle.brackets.specs.Classes.{is_comment}
-use Rattle.brackets.specs.Viewed.{classes_of, item_class}
+use Rattle.token_classes.specs.declared.class.TokenClass.{TokenClass}
+use Rattle.token_classes.specs.Classes.{is_comment}
+use Rattle.token_classes.specs.Viewed.{classes_of, item_class}
 use Rattle.unwrapped_lines.specs.declared.line.Line.{Line}
 use Rattle.unwrapped_lines.specs.declared.token.CodeToken.{CodeToken}
 use Rattle.unwrapped_lines.specs.declared.part.Begin.{Begin}

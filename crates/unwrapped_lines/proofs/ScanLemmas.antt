@@ -1,10 +1,10 @@
 -- Scans past their end.
 use Rattle.std.proofs.Common.{◌≡◌, ℕ, zero, suc, ◌<◌, ◌≤◌, ◌-◌, nat_lt, Bool, true, false, List, refl, subst, arith}
-use Rattle.brackets.specs.declared.class.TokenClass.{TokenClass}
+use Rattle.token_classes.specs.declared.class.TokenClass.{TokenClass}
 use Rattle.unwrapped_lines.specs.declared.token.CodeToken.{CodeToken}
 use Rattle.unwrapped_lines.specs.declared.form.Stop.{Stop}
 use Rattle.unwrapped_lines.specs.Forms.{statement_stop, case_colon, tag_before, class_at, opens_block, step_over, assigns, is_member_word, call_opener}
-use Rattle.brackets.specs.Classes.{is_semicolon, is_word}
+use Rattle.token_classes.specs.Classes.{is_semicolon, is_word}
 
 lt_true : (a b : ℕ) → a < b → nat_lt a b ≡ true
 lt_true a b h = grind arith

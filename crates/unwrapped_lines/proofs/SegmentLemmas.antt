@@ -4,15 +4,15 @@ use Rattle.token_views.specs.declared.view.Segment.{Segment}
 use Rattle.token_views.specs.Segments.{ids_of, segment_bounds, AreSegments, CountFrom, no_segment, HasPlace}
 use Rattle.token_views.proofs.SegmentLemmas.{length_items, item_at_start}
 use Rattle.std.proofs.lemmas.List.{append-nil, append_assoc, drop_more}
-use Rattle.brackets.proofs.ItemClasses.{viewed_fits}
-use Rattle.brackets.specs.Classes.{is_comment}
-use Rattle.brackets.specs.declared.class.TokenClass.{TokenClass}
+use Rattle.token_classes.proofs.ItemClasses.{viewed_fits}
+use Rattle.token_classes.specs.Classes.{is_comment}
+use Rattle.token_classes.specs.declared.class.TokenClass.{TokenClass}
 use Rattle.unwrapped_lines.specs.declared.token.CodeToken.{CodeToken}
 use Rattle.token_arena.specs.Gaps.{Contents}
 use Rattle.std.proofs.lemmas.List.{get_or_default}
 use Rattle.std.specs.Prelude.{slice_get, Option, ◌&&◌}
-use Rattle.brackets.specs.Classes.{is_colon}
-use Rattle.brackets.specs.declared.class.TokenClass.TheVariants.{Nothing}
+use Rattle.token_classes.specs.Classes.{is_colon}
+use Rattle.token_classes.specs.declared.class.TokenClass.TheVariants.{Nothing}
 use Rattle.unwrapped_lines.specs.Viewed.{segment_stop, code_places_from, AreTokensBefore, token_at, code_tokens, partner_number, numbers_of, item_began, colon_touches}
 
 -- how many places stand before the segment with a number, where so many stand before the first

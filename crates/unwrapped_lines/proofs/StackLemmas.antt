@@ -10,7 +10,7 @@ use Rattle.unwrapped_lines.specs.declared.open.Start.TheVariants.{Fresh, Tail, C
 use Rattle.unwrapped_lines.specs.declared.form.Form.{Form}
 use Rattle.unwrapped_lines.specs.declared.open.Head.{Head}
 use Rattle.unwrapped_lines.specs.declared.form.Next.TheVariants.{Ends, Goes, Waits, Opens}
-use Rattle.brackets.specs.Classes.{is_else}
+use Rattle.token_classes.specs.Classes.{is_else}
 use Rattle.unwrapped_lines.specs.Forms.{IsLow, StaysIn, form_of, seen, tail_end, is_if_head, is_do_head}
 use Rattle.unwrapped_lines.specs.Tree.{lines_from, lines_of, settled, Reading, line_of, head_lines, body_of, whole_file}
 use Rattle.unwrapped_lines.specs.Stack.{IsCut, current, left, Left, Rest, Reads, IsMore, Fits, Stands}

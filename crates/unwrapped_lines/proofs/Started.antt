@@ -2,7 +2,7 @@
 use Rattle.std.proofs.Common.{◌≡◌, ℕ, zero, suc, ◌+◌, ◌<◌, ◌≤◌, nat_lt, Bool, true, false, List, [], ◌∷◌, ◌++◌, length, Option, refl, arith, inl, inr, ◌⊎◌}
 use Rattle.style_table.specs.declared.style.Style.{Style}
 use Rattle.token_arena.specs.Gaps.{Contents}
-use Rattle.brackets.specs.Viewed.{classes_of}
+use Rattle.token_classes.specs.Viewed.{classes_of}
 use Rattle.unwrapped_lines.specs.declared.token.CodeToken.{CodeToken}
 use Rattle.unwrapped_lines.specs.declared.line.Line.{Line}
 use Rattle.unwrapped_lines.specs.declared.braces.Braces.{Braces}
@@ -16,7 +16,8 @@ use Rattle.unwrapped_lines.specs.Forms.{form_of}
 use Rattle.unwrapped_lines.specs.Tree.{lines_from, lines_of, head_lines, whole_file}
 use Rattle.unwrapped_lines.specs.Viewed.{code_tokens}
 use Rattle.unwrapped_lines.specs.Wrapping.{braces_of}
-use Rattle.unwrapped_lines.specs.Lines.{unwrapped_lines_of, CutPlaces}
+use Rattle.line_tokens.specs.Lines.{CutPlaces}
+use Rattle.unwrapped_lines.specs.Lines.{unwrapped_lines_of}
 use Rattle.unwrapped_lines.proofs.StackLemmas.{lt_true, from_end, from_ends, from_goes, from_waits, from_opens}
 use Rattle.unwrapped_lines.proofs.CutLemmas.{Starts, cut_started}
 

@@ -1,10 +1,10 @@
 -- The cases of a statement: what line begins at a place, where it ends, and what it leaves open.
 use Rattle.std.specs.Prelude.{ℕ, zero, suc, ◌+◌, ◌-◌, nat_lt, nat_le, ◌*◌, ◌<◌, ◌≤◌, ◌≡◌, Bool, true, false, not, ◌&&◌, ◌||◌, List, Option, Some, None, slice_get, length}
-use Rattle.brackets.specs.declared.class.TokenClass.{TokenClass}
-use Rattle.brackets.specs.declared.class.TokenClass.TheVariants.{Nothing}
+use Rattle.token_classes.specs.declared.class.TokenClass.{TokenClass}
+use Rattle.token_classes.specs.declared.class.TokenClass.TheVariants.{Nothing}
 use Rattle.unwrapped_lines.specs.declared.token.CodeToken.{CodeToken}
-use Rattle.unwrapped_lines.specs.declared.line.LineKind.{LineKind}
-use Rattle.unwrapped_lines.specs.declared.line.LineKind.TheVariants.{Simple, CaseLabel, GotoLabel, Control, FuncHead, StructHead, EnumHead, ExternHead, Brace, Close, Enumerator, MacroLine}
+use Rattle.line_tokens.specs.declared.line.LineKind.{LineKind}
+use Rattle.line_tokens.specs.declared.line.LineKind.TheVariants.{Simple, CaseLabel, GotoLabel, Control, FuncHead, StructHead, EnumHead, ExternHead, Brace, Close, Enumerator, MacroLine}
 use Rattle.unwrapped_lines.specs.declared.braces.Braces.{Braces}
 use Rattle.unwrapped_lines.specs.declared.open.Context.{Context}
 use Rattle.unwrapped_lines.specs.declared.open.Context.TheVariants.{File, Code, Member, Enumerators}
@@ -17,7 +17,7 @@ use Rattle.unwrapped_lines.specs.declared.form.Next.{Next}
 use Rattle.unwrapped_lines.specs.declared.form.Next.TheVariants.{Ends, Goes, Waits, Opens}
 use Rattle.unwrapped_lines.specs.declared.form.Form.{Form}
 use Rattle.unwrapped_lines.specs.declared.form.Stop.{Stop}
-use Rattle.brackets.specs.Classes.{is_word, is_plain, is_control, is_opener, is_before_list, is_assigning, is_capital, is_if, is_else, is_while, is_do, is_switch, is_case, is_default, is_struct, is_union, is_enum, is_extern, is_call_word, is_open_round, is_close_round, is_open_brace, is_close_brace, is_colon, is_semicolon, is_comma, is_question, is_text}
+use Rattle.token_classes.specs.Classes.{is_word, is_plain, is_control, is_opener, is_before_list, is_assigning, is_capital, is_if, is_else, is_while, is_do, is_switch, is_case, is_default, is_struct, is_union, is_enum, is_extern, is_call_word, is_open_round, is_close_round, is_open_brace, is_close_brace, is_colon, is_semicolon, is_comma, is_question, is_text}
 
 -- ## What stands at a place
 
@@ -92,11 +92,6 @@ is_code _ = false
 abbrev pub is_enumerators : Context → Bool
 is_enumerators Enumerators = true
 is_enumerators _ = false
-
-abbrev pub is_label : LineKind → Bool
-is_label CaseLabel = true
-is_label GotoLabel = true
-is_label _ = false
 
 abbrev pub is_switch_head : Head → Bool
 is_switch_head SwitchHead = true

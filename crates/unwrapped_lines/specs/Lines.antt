@@ -2,9 +2,9 @@
 use Rattle.std.specs.Prelude.{◌≡◌, ◌≤◌, ℕ, ◌+◌, ◌-◌, Option, List, [], ◌∷◌, length}
 use Rattle.style_table.specs.declared.style.Style.{Style}
 use Rattle.token_arena.specs.Gaps.{Contents}
-use Rattle.brackets.specs.Viewed.{classes_of}
+use Rattle.token_classes.specs.Viewed.{classes_of}
 use Rattle.unwrapped_lines.specs.declared.line.Line.{Line}
-use Rattle.unwrapped_lines.specs.declared.line.ULine.{ULine}
+use Rattle.line_tokens.specs.declared.line.ULine.{ULine}
 use Rattle.unwrapped_lines.specs.declared.part.Begin.{Begin}
 use Rattle.unwrapped_lines.specs.Wrapping.{braces_of}
 use Rattle.unwrapped_lines.specs.Viewed.{code_tokens, parts_of}
@@ -35,8 +35,3 @@ unwrapped_lines_of style arena ids partners =
 -- the line of a view without comments whose tokens this line has
 abbrev pub view_line : Line → ULine
 view_line l = record { first = l.first; last = l.end - 1; level = l.level; kind = l.kind }
-
--- the lines cut the places from one to before another whole and in order
-abbrev pub CutPlaces : ℕ → ℕ → List ULine → Type 0
-CutPlaces at count [] = at ≡ count
-CutPlaces at count (line ∷ lines) = (line.first ≡ at) × ((line.first ≤ line.last) × CutPlaces (line.last + 1) count lines)

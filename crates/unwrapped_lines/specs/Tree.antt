@@ -2,7 +2,7 @@
 use Rattle.std.specs.Prelude.{ℕ, zero, suc, ◌+◌, nat_lt, Bool, true, false, ◌&&◌, List, [], ◌∷◌, ◌++◌, length}
 use Rattle.unwrapped_lines.specs.declared.token.CodeToken.{CodeToken}
 use Rattle.unwrapped_lines.specs.declared.line.Line.{Line}
-use Rattle.unwrapped_lines.specs.declared.line.LineKind.TheVariants.{Brace}
+use Rattle.line_tokens.specs.declared.line.LineKind.TheVariants.{Brace}
 use Rattle.unwrapped_lines.specs.declared.braces.Braces.{Braces}
 use Rattle.unwrapped_lines.specs.declared.open.Context.TheVariants.{File}
 use Rattle.unwrapped_lines.specs.declared.open.Head.{Head}
@@ -12,8 +12,9 @@ use Rattle.unwrapped_lines.specs.declared.open.Start.{Start}
 use Rattle.unwrapped_lines.specs.declared.open.Start.TheVariants.{Fresh, Tail, Closing}
 use Rattle.unwrapped_lines.specs.declared.form.Next.TheVariants.{Ends, Goes, Waits, Opens}
 use Rattle.unwrapped_lines.specs.declared.form.Form.{Form}
-use Rattle.brackets.specs.Classes.{is_else}
-use Rattle.unwrapped_lines.specs.Forms.{is_label, seen, tail_end, is_if_head, is_do_head, form_of}
+use Rattle.token_classes.specs.Classes.{is_else}
+use Rattle.line_tokens.specs.Lines.{is_label}
+use Rattle.unwrapped_lines.specs.Forms.{seen, tail_end, is_if_head, is_do_head, form_of}
 
 -- the headers that still wait in a list, the innermost first, above the list itself; and what begins next
 pub record Reading : Type 0 where

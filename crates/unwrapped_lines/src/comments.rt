@@ -3,10 +3,10 @@
 ghost use Rattle.std.specs.Prelude.{◌≡◌, ◌<◌, ◌≤◌, ◌+◌, ◌^◌, ◌++◌, drop, length, IfOk, slice_get, ℕ};
 ghost use Rattle.unwrapped_lines.specs.Comments.{token_follows, is_between, new_begin, next_marks, begins_from, no_marks, list_of, begins_line, inner_run};
 
-use crate::line::{Line, LineKind};
+use crate::line::Line;
 use crate::part::{Begin, Marks, Part, Run};
 use bumpalo::Bump;
-use line_tokens::NoMemory;
+use line_tokens::{LineKind, NoMemory};
 
 /// Whether a token comes after the inner comments at a place.
 #[inline(never)]

@@ -1,24 +1,26 @@
 //! The unwrapped lines of a view.
 
 ghost use Rattle.std.specs.Prelude.{◌≡◌, ◌<◌, ◌≤◌, ◌^◌, length, map, IfOk};
-ghost use Rattle.brackets.specs.Viewed.{AreWithin, classes_of};
-ghost use Rattle.unwrapped_lines.specs.Lines.{lines_between, line_up_to, tree_of, unwrapped_lines_of, view_line, CutPlaces};
+ghost use Rattle.token_classes.specs.Viewed.{AreWithin, classes_of};
+ghost use Rattle.line_tokens.specs.Lines.{CutPlaces};
+ghost use Rattle.unwrapped_lines.specs.Lines.{lines_between, line_up_to, tree_of, unwrapped_lines_of, view_line};
 ghost use Rattle.unwrapped_lines.specs.Stack.{IsCut};
 
 use crate::braces::braces_of;
 use crate::colons::colons;
 use crate::comments::begins;
 use crate::ending::end_level;
-use crate::line::{Line, ULine};
+use crate::line::Line;
 use crate::part::Begin;
 use crate::tree::tree_lines;
 use crate::viewed::{code_tokens, parts};
-use brackets::{Partner, TokenClass, classes};
+use brackets::Partner;
 use bumpalo::Bump;
 use bumpalo::collections::into_bump_slice;
-use line_tokens::NoMemory;
+use line_tokens::{NoMemory, ULine};
 use style_table::Style;
 use token_arena::TokenArena;
+use token_classes::{TokenClass, classes};
 use token_views::View;
 
 /// The lines that begin at these places; the last goes up to `count`.

@@ -1,7 +1,7 @@
 //! A line as it is read.
 
-use crate::line::LineKind;
 use crate::open::{Head, Open, Start};
+use line_tokens::LineKind;
 
 /// What a line leaves open.
 #[derive(Clone, Copy, Debug, Drop)]

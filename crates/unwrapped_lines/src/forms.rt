@@ -3,23 +3,23 @@
 ghost use Rattle.std.specs.Prelude.{◌≡◌, ◌<◌, ◌≤◌, ◌+◌, ◌-◌, ◌*◌, ◌^◌, length, slice_get, Some, None, IfSome, true, false, ℕ};
 ghost use Rattle.unwrapped_lines.specs.declared.form.Next.TheVariants.{Ends, Opens};
 ghost use Rattle.unwrapped_lines.specs.declared.open.Context.TheVariants.{Code, File};
-ghost use Rattle.unwrapped_lines.specs.declared.line.LineKind.TheVariants.{ExternHead};
+ghost use Rattle.line_tokens.specs.declared.line.LineKind.TheVariants.{ExternHead};
 ghost use Rattle.unwrapped_lines.specs.declared.open.Head.TheVariants.{Plain};
 ghost use Rattle.std.specs.Bool.{OnTrue, OnFalse};
-ghost use Rattle.brackets.specs.Classes.{is_open_brace};
+ghost use Rattle.token_classes.specs.Classes.{is_open_brace};
 ghost use Rattle.unwrapped_lines.specs.Colons.{AreCaseColons};
 ghost use Rattle.unwrapped_lines.specs.Forms.{class_at, seen, partner_in, after_group, step_over, block_end, began_at, touched_at, has_no_partner, case_colon, enumerator_end, class_before, opens_list, statement_stop, call_opener, tag_before, block_at, label_form, goto_level, label, header_end, head_of, label_level, control_block, control_form, tail_end, ends_macro, macro_end, tagged_kind, wraps_tagged, tagged_context, tagged_head, behind_close, kind_or_close, is_member_word, other_form, unlabelled, statement, close_form, form_of, StaysIn, IsLow};
 
 use crate::braces::Braces;
 use crate::form::{Form, Next};
-use crate::line::LineKind;
 use crate::lookups::{
     after_group, began_at, block_end, class_at, has_no_partner, seen, touched_at,
 };
 use crate::open::{Context, Head, Open, Start};
 use crate::token::CodeToken;
 use crate::{colons, scans};
-use brackets::TokenClass;
+use line_tokens::LineKind;
+use token_classes::TokenClass;
 
 /// A block at the brace at `i`.
 fn block_at(

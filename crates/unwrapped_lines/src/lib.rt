@@ -18,7 +18,6 @@ mod tree;
 mod viewed;
 
 pub use cutting::{lines, lines_of_classes};
-pub use line::{LineKind, ULine};
 pub use line_tokens::NoMemory;
 pub use part::Part;
 pub use viewed::comment_part;

@@ -4,7 +4,7 @@ ghost use Rattle.std.specs.Prelude.{◌≡◌, ◌<◌, ◌≤◌, ◌+◌, ◌-
 ghost use Rattle.unwrapped_lines.specs.Forms.{class_at, seen, partner_in, after_group, step_over, block_end, began_at, touched_at, has_no_partner, class_before, opens_list};
 
 use crate::token::CodeToken;
-use brackets::TokenClass;
+use token_classes::TokenClass;
 
 #[inline(always)]
 pub fn class_at(tokens: &[CodeToken], i: usize) -> TokenClass

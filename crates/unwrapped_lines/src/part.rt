@@ -1,6 +1,6 @@
 //! Places of a view: tokens and comments.
 
-use crate::line::LineKind;
+use line_tokens::LineKind;
 
 /// What stands at a place of a view.
 #[derive(Clone, Copy, Debug, PartialEq, Eq)]

@@ -2,14 +2,14 @@
 
 ghost use Rattle.std.specs.Prelude.{◌≡◌, ◌<◌, ◌≤◌, ◌+◌, ◌-◌, ◌*◌, ◌^◌, length, slice_get, Some, None, IfSome, true};
 ghost use Rattle.std.specs.Bool.{OnFalse, OnTrue};
-ghost use Rattle.brackets.specs.Classes.{is_open_brace};
-ghost use Rattle.brackets.specs.declared.class.TokenClass.TheVariants.{Nothing};
+ghost use Rattle.token_classes.specs.Classes.{is_open_brace};
+ghost use Rattle.token_classes.specs.declared.class.TokenClass.TheVariants.{Nothing};
 ghost use Rattle.unwrapped_lines.specs.Forms.{enumerator_end, statement_stop, call_opener, tag_before, behind, partner_of, opens_block, assigns, is_member_word, enum_or, class_at};
 
 use crate::form::Stop;
 use crate::lookups::{class_at, opens_list, step_over};
 use crate::token::CodeToken;
-use brackets::TokenClass;
+use token_classes::TokenClass;
 
 /// The end of an enumerator, its comma included.
 pub fn enumerator_end(tokens: &[CodeToken], end: usize, at: usize) -> usize

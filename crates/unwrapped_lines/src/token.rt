@@ -1,6 +1,7 @@
 //! Tokens as the cut into lines sees them.
 
-use brackets::{Partner, TokenClass};
+use brackets::Partner;
+use token_classes::TokenClass;
 
 /// A token that is no comment.
 #[derive(Clone, Copy, Debug, Drop)]

@@ -10,12 +10,12 @@ ghost use Rattle.unwrapped_lines.specs.Stack.{Stands, IsCut, left};
 use crate::braces::Braces;
 use crate::form::{Form, Next};
 use crate::forms::{form_of, tail_end};
-use crate::line::{Line, LineKind};
+use crate::line::Line;
 use crate::lookups::seen;
 use crate::open::{Context, Head, Open, Start};
 use crate::token::CodeToken;
 use bumpalo::Bump;
-use line_tokens::NoMemory;
+use line_tokens::{LineKind, NoMemory};
 
 /// So many tokens or more stand in a line of most texts.
 const TOKENS_IN_A_LINE: usize = 4;

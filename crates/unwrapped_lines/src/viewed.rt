@@ -1,9 +1,9 @@
 //! A view as a list of tokens and comments.
 
 ghost use Rattle.std.specs.Prelude.{◌≡◌, ◌&&◌, ◌<◌, ◌≤◌, ◌+◌, ◌^◌, length, map, get_or, slice_get, IfOk, Some, true};
-ghost use Rattle.brackets.specs.Viewed.{AreWithin, classes_of};
-ghost use Rattle.brackets.specs.Classes.{is_colon, is_comment};
-ghost use Rattle.brackets.specs.declared.class.TokenClass.TheVariants.{Nothing};
+ghost use Rattle.token_classes.specs.Viewed.{AreWithin, classes_of};
+ghost use Rattle.token_classes.specs.Classes.{is_colon, is_comment};
+ghost use Rattle.token_classes.specs.declared.class.TokenClass.TheVariants.{Nothing};
 ghost use Rattle.unwrapped_lines.specs.Viewed.{item_began, line_ends_behind, colon_touches, numbers_of, AreNumbers, AreBlocks, number_behind, AreTokensBefore, segment_stop, partner_number, token_at, code_tokens, part_of, parts_of};
 ghost use Rattle.std.specs.Bool.{OnFalse};
 ghost use Rattle.std.specs.List.{range_with_len};
@@ -12,10 +12,11 @@ ghost use Rattle.c_chars.specs.declared.TheConstants.{LIMIT};
 
 use crate::part::Part;
 use crate::token::CodeToken;
-use brackets::{Partner, TokenClass, item_class};
+use brackets::Partner;
 use bumpalo::Bump;
 use line_tokens::{NoMemory, TokenId};
 use token_arena::TokenArena;
+use token_classes::{TokenClass, item_class};
 use token_views::{Segment, View};
 
 /// The number of a token is kept for one place of so many.

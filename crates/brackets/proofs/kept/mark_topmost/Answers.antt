@@ -1,7 +1,7 @@
 use Rattle.std.proofs.Common.{◌≡◌, ◌∙◌, ◌&&◌, true, false, nat_lt, reverse, length, refl, sym, ap}
 use Rattle.std.specs.Prelude.{slice_set, if◌then◌else◌}
 use Rattle.std.proofs.lemmas.Bool.{lt-ltb, le-ltb, and_right}
-use Rattle.brackets.specs.Classes.{is_open_brace}
+use Rattle.token_classes.specs.Classes.{is_open_brace}
 use Rattle.brackets.specs.Partners.{count_braces}
 use Rattle.brackets.proofs.KeptLemmas.{marked_top}
 use Rattle.brackets.proofs.kept.mark_topmost.Goals as goal

@@ -1,7 +1,7 @@
 use Rattle.std.proofs.Common.{◌≡◌, ◌∙◌, ◌<◌, ◌≤◌, false, true, List, length, reverse, get_or, arith, refl, sym, ap, subst}
 use Rattle.std.proofs.lemmas.List.{get_or_default, length-replicate}
 use Rattle.brackets.specs.declared.pairing.Opener.{Opener}
-use Rattle.brackets.specs.Classes.{is_semicolon}
+use Rattle.token_classes.specs.Classes.{is_semicolon}
 use Rattle.brackets.specs.Kept.{AreOpeners, class_at, marked}
 use Rattle.brackets.specs.Partners.{StandBefore}
 use Rattle.brackets.proofs.KeptSteps.{all_marks, before_more, built_next, marked_next, openers_of, pairs_next, step_at, unmarked_next, waits_next}

@@ -1,6 +1,6 @@
 use Rattle.std.proofs.Common.{length}
 use Rattle.token_views.specs.Segments.{no_segment}
-use Rattle.brackets.proofs.ItemClasses.{viewed_fits}
+use Rattle.token_classes.proofs.ItemClasses.{viewed_fits}
 use Rattle.format_core.proofs.RowsDecided.{segment_first}
 use Rattle.format_core.proofs.runs.are_decided.Goals as goal
 

@@ -1,11 +1,11 @@
 use Rattle.std.proofs.Common.{◌≡◌, ◌∙◌, ◌-◌, ◌≤◌, ℕ, Bool, List, Option, length, ap, arith}
-use Rattle.brackets.proofs.Lists.{few_below}
+use Rattle.token_classes.proofs.Lists.{few_below}
 use Rattle.brackets.specs.Kept.{kept_gaps_of}
 use Rattle.brackets.specs.Partners.{partners_of}
-use Rattle.brackets.specs.Viewed.{classes_of}
-use Rattle.brackets.specs.declared.class.TokenClass.{TokenClass}
+use Rattle.token_classes.specs.Viewed.{classes_of}
+use Rattle.token_classes.specs.declared.class.TokenClass.{TokenClass}
 use Rattle.unwrapped_lines.specs.Lines.{unwrapped_lines_of}
-use Rattle.unwrapped_lines.specs.declared.line.ULine.{ULine}
+use Rattle.line_tokens.specs.declared.line.ULine.{ULine}
 use Rattle.annotator.specs.Tokens.{roles_of}
 use Rattle.replacements.specs.Decisions.{decided_all}
 use Rattle.format_core.specs.KeptGaps.{kept_decisions}

@@ -1,7 +1,7 @@
 use Rattle.std.proofs.Common.{◌≡◌, ◌∙◌, ◌+◌, ◌-◌, suc, slice_get, refl, sym, ap, subst, arith}
 use Rattle.std.proofs.lemmas.Bool.{leb-true}
 use Rattle.penalties.specs.declared.GapRule.{GapRule}
-use Rattle.line_state.specs.Layout.{columns}
+use Rattle.line_tokens.specs.Columns.{columns}
 use Rattle.run_layout.specs.OneRow.{IsOneRow}
 use Rattle.run_layout.proofs.RowSteps.{row_begins, row_begins_free, row_goes_on, row_ends}
 use Rattle.run_layout.proofs.row.is_row.Goals as goal

@@ -1,5 +1,5 @@
 use Rattle.std.proofs.Common.{◌≡◌, true, false}
-use Rattle.brackets.specs.Classes.{is_question, is_colon}
+use Rattle.token_classes.specs.Classes.{is_question, is_colon}
 use Rattle.unwrapped_lines.specs.Forms.{class_at}
 use Rattle.unwrapped_lines.proofs.ColonLemmas.{question_near, question_far, other_at}
 use Rattle.unwrapped_lines.proofs.colons.colon_from.Goals as goal

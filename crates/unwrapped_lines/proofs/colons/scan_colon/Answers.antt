@@ -1,5 +1,5 @@
 use Rattle.std.proofs.Common.{◌≡◌, ◌∙◌, arith, true, false}
-use Rattle.brackets.specs.Classes.{is_question, is_colon}
+use Rattle.token_classes.specs.Classes.{is_question, is_colon}
 use Rattle.unwrapped_lines.specs.Forms.{class_at}
 use Rattle.unwrapped_lines.proofs.ColonLemmas.{scan_question, scan_answer, scan_other}
 use Rattle.unwrapped_lines.proofs.colons.scan_colon.Goals as goal

@@ -3,7 +3,7 @@ use Rattle.unwrapped_lines.specs.Tree.{lines_of}
 use Rattle.unwrapped_lines.specs.Wrapping.{braces_of}
 use Rattle.std.proofs.lemmas.Result.{IfOk-weaker}
 use Rattle.unwrapped_lines.specs.Lines.{unwrapped_lines_of, view_line}
-use Rattle.brackets.proofs.Lists.{few_below}
+use Rattle.token_classes.proofs.Lists.{few_below}
 use Rattle.unwrapped_lines.proofs.PlainLemmas.{plain_view}
 use Rattle.unwrapped_lines.proofs.cutting.read_lines.Goals as goal
 

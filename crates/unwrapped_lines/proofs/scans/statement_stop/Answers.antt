@@ -1,7 +1,7 @@
 use Rattle.std.proofs.Common.{◌≡◌, arith, false}
 use Rattle.unwrapped_lines.proofs.ScanLemmas.{stop_step}
 use Rattle.unwrapped_lines.specs.Forms.{class_at, opens_block}
-use Rattle.brackets.specs.Classes.{is_semicolon}
+use Rattle.token_classes.specs.Classes.{is_semicolon}
 use Rattle.unwrapped_lines.proofs.scans.statement_stop.Goals as goal
 
 pub loop-i-preserved : goal.loop-i-preserved

@@ -1,5 +1,5 @@
 use Rattle.std.proofs.Common.{◌<◌, ◌∙◌, ap, sym, arith}
-use Rattle.brackets.specs.Classes.{is_word}
+use Rattle.token_classes.specs.Classes.{is_word}
 use Rattle.unwrapped_lines.specs.Forms.{is_member_word}
 use Rattle.unwrapped_lines.proofs.ScanLemmas.{tag_group}
 use Rattle.unwrapped_lines.proofs.scans.tag_before.Goals as goal

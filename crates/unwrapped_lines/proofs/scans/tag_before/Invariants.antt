@@ -1,5 +1,5 @@
 use Rattle.std.proofs.Common.{◌≡◌, ℕ, ◌≤◌, ◌-◌}
-use Rattle.brackets.specs.declared.class.TokenClass.TheVariants.{Nothing}
+use Rattle.token_classes.specs.declared.class.TokenClass.TheVariants.{Nothing}
 use Rattle.unwrapped_lines.specs.Forms.{tag_before}
 use Rattle.unwrapped_lines.proofs.scans.tag_before.Given as goal
 

@@ -1,6 +1,6 @@
 use Rattle.std.proofs.Common.{◌≡◌, ℕ, ◌<◌, false, get_or}
-use Rattle.brackets.specs.Classes.{is_comment}
-use Rattle.brackets.specs.declared.class.TokenClass.TheVariants.{Nothing}
+use Rattle.token_classes.specs.Classes.{is_comment}
+use Rattle.token_classes.specs.declared.class.TokenClass.TheVariants.{Nothing}
 use Rattle.unwrapped_lines.proofs.viewed.has_comment.Given as goal
 
 abbrev pub invariant-loop-class : goal.invariant-loop-class

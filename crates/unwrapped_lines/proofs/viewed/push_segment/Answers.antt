@@ -2,8 +2,8 @@ use Rattle.std.proofs.Common.{◌≡◌, ◌∙◌, ◌<◌, ◌+◌, ◌++◌, 
 use Rattle.token_views.specs.Segments.{ids_of, segment_bounds, no_segment}
 use Rattle.unwrapped_lines.specs.Viewed.{AreTokensBefore, segment_stop, token_at}
 use Rattle.unwrapped_lines.proofs.SegmentLemmas.{at_item, stop_most, in_order, comment_before, token_before, token_same}
-use Rattle.brackets.specs.Classes.{is_comment}
-use Rattle.brackets.specs.declared.class.TokenClass.TheVariants.{If}
+use Rattle.token_classes.specs.Classes.{is_comment}
+use Rattle.token_classes.specs.declared.class.TokenClass.TheVariants.{If}
 use Rattle.unwrapped_lines.specs.declared.token.CodeToken.{CodeToken}
 use Rattle.unwrapped_lines.proofs.viewed.push_segment.Goals as goal
 use Rattle.unwrapped_lines.proofs.viewed.push_segment.Goals.{then-not-is_comment+in_ok-code_token+in_ok-push, else-not-is_comment}

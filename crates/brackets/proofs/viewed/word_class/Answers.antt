@@ -1,8 +1,0 @@
-use Rattle.std.proofs.Common.{◌∙◌, ap, sym}
-use Rattle.brackets.specs.Words.{word_class}
-use Rattle.brackets.proofs.Spellings.{reads_itself}
-use Rattle.brackets.proofs.viewed.word_class.Goals as goal
-
-pub returns-then-are_themselves : goal.returns-then-are_themselves
-returns-then-are_themselves c =
-    c.word_class.ensures ∙ ap word_class (sym (reads_itself c.args.dialect c.args.raw.now (sym c.are_themselves.ensures ∙ c.if-are_themselves.true)))

@@ -1,0 +1,157 @@
+//! The classes of the places of a view.
+
+ghost use Rattle.std.specs.Prelude.{◌≡◌, ◌<◌, ◌≤◌, length, IfOk};
+ghost use Rattle.c_chars.specs.declared.TheConstants.{LIMIT};
+ghost use Rattle.c_grammar.specs.declared.ItemKind.{ItemKind};
+ghost use Rattle.c_grammar.specs.Rewritten.{read_alone};
+ghost use Rattle.token_classes.specs.Words.{class_spelled};
+ghost use Rattle.token_classes.specs.Viewed.{AreWithin, item_class, item_classes, classes_of};
+
+use crate::class::TokenClass;
+use crate::{spelling, words};
+use bumpalo::Bump;
+use bumpalo::collections::{into_bump_slice, into_bump_slice_mut};
+use c_chars::Dialect;
+use line_tokens::{NoMemory, TokenId};
+use token_arena::{ItemKind, TokenArena};
+use token_views::View;
+
+/// The class of a punctuator. One of a single byte is spelled by that byte, whichever it is.
+#[inline(always)]
+fn punctuator_class(dialect: Dialect, raw: &[u8], run: &Bump) -> Result<TokenClass, NoMemory>
+    ensures { IfOk result (λ class. class ≡ class_spelled ItemKind.Punct (read_alone dialect raw.now)) }
+{
+    if let [mark] = raw {
+        return Ok(words::mark_class(*mark));
+    }
+    let spelled = spelling::spelling(dialect, raw, run)?;
+    Ok(words::punctuator_class(spelled))
+}
+
+/// The class of a word that is not spelled by its bytes as they are, as where a splice stands in it.
+#[inline(never)]
+fn joined_word_class(dialect: Dialect, raw: &[u8], run: &Bump) -> Result<TokenClass, NoMemory>
+    ensures { IfOk result (λ class. class ≡ class_spelled ItemKind.Identifier (read_alone dialect raw.now)) }
+{
+    let spelled = spelling::joined(dialect, raw, run)?;
+    Ok(words::word_class(spelled))
+}
+
+/// The class of a word.
+#[inline(always)]
+fn word_class(dialect: Dialect, raw: &[u8], run: &Bump) -> Result<TokenClass, NoMemory>
+    ensures { IfOk result (λ class. class ≡ class_spelled ItemKind.Identifier (read_alone dialect raw.now)) }
+{
+    if spelling::are_themselves(raw) {
+        return Ok(words::word_class(raw));
+    }
+    joined_word_class(dialect, raw, run)
+}
+
+/// The class of an item.
+#[inline(always)]
+pub fn item_class(
+    arena: &TokenArena<'_, '_>,
+    id: TokenId,
+    run: &Bump,
+) -> Result<TokenClass, NoMemory>
+    requires { id.0 < length arena.now.tokens }
+    ensures { IfOk result (λ class. class ≡ item_class arena.now id.0) }
+{
+    let token = arena.get(id);
+    match token.item.kind {
+        ItemKind::Identifier => word_class(arena.dialect(), token.item.raw, run),
+        ItemKind::Punct => punctuator_class(arena.dialect(), token.item.raw, run),
+        ItemKind::StringLit => Ok(TokenClass::Text),
+        ItemKind::LineComment => Ok(TokenClass::LineComment),
+        ItemKind::BlockComment => Ok(TokenClass::BlockComment),
+        ItemKind::Number | ItemKind::CharConst | ItemKind::HeaderName => Ok(TokenClass::Literal),
+        ItemKind::StrayQuote | ItemKind::Other => Ok(TokenClass::Other),
+    }
+}
+
+/// The class of each item of a text, in its order. Want of memory is the only error.
+///
+/// Where several views of a text are asked for, [`classes_among`] takes theirs from it, so no item is read twice.
+pub fn item_classes<'a>(
+    arena: &TokenArena<'_, '_>,
+    bump: &'a Bump,
+) -> Result<&'a [TokenClass], NoMemory>
+    ensures { IfOk result (λ all. all.now ≡ item_classes arena.now) }
+{
+    let count = arena.len();
+    let classes = into_bump_slice_mut(vec![in bump; TokenClass::Nothing; count as usize]?);
+    for (number, class) in classes.iter_mut().enumerate() {
+        *class = item_class(arena, TokenId(number as u32), bump)?;
+    }
+    Ok(classes)
+}
+
+/// The class of each place of a view, copied from the classes of all items of its text, segment by segment.
+fn copied_classes<'r>(
+    all: &[TokenClass],
+    arena: &TokenArena<'_, '_>,
+    view: &View<'_>,
+    run: &'r Bump,
+) -> Result<&'r [TokenClass], NoMemory>
+    requires all { all.now ≡ item_classes arena.now }
+    requires within { AreWithin arena.now view.now }
+    ensures classes { IfOk result (λ classes. classes.now ≡ classes_of arena.now view.now) }
+    ensures few { IfOk result (λ classes. length classes.now ≤ LIMIT) }
+{
+    let count = view.len();
+    let items = arena.len();
+    prove!(count <= items);
+    let mut classes = Vec::with_capacity(run, count as usize)?;
+    for segment in view.segments() {
+        classes.extend_from_slice(&all[segment.first as usize..segment.end as usize])?;
+    }
+    Ok(into_bump_slice(classes))
+}
+
+/// The class of each place of a view, taken from the classes of all items of its text. Want of memory is the only
+/// error.
+///
+/// Those of a view of items in a row are lent, and take no memory.
+pub fn classes_among<'r>(
+    all: &'r [TokenClass],
+    arena: &TokenArena<'_, '_>,
+    view: &View<'_>,
+    run: &'r Bump,
+) -> Result<&'r [TokenClass], NoMemory>
+    requires all { all.now ≡ item_classes arena.now }
+    requires within { AreWithin arena.now view.now }
+    ensures classes { IfOk result (λ classes. classes.now ≡ classes_of arena.now view.now) }
+    ensures few { IfOk result (λ classes. length classes.now ≤ LIMIT) }
+{
+    let segments = view.segments();
+    if segments.len() == 1 {
+        let only = segments[0];
+        let items = arena.len();
+        prove!(only.end <= items);
+        return Ok(&all[only.first as usize..only.end as usize]);
+    }
+    copied_classes(all, arena, view, run)
+}
+
+/// The class of each place of a view.
+pub fn classes<'r>(
+    arena: &TokenArena<'_, '_>,
+    view: &View<'_>,
+    run: &'r Bump,
+) -> Result<&'r [TokenClass], NoMemory>
+    requires { AreWithin arena.now view.now }
+    ensures classes { IfOk result (λ classes. classes.now ≡ classes_of arena.now view.now) }
+    ensures few { IfOk result (λ classes. length classes.now ≤ LIMIT) }
+{
+    let count = view.len();
+    let items = arena.len();
+    prove!(count <= items);
+    let mut classes = Vec::with_capacity(run, count as usize)?;
+    let mut segment = 0;
+    for k in 0..count {
+        let id = view.at_near(k, &mut segment);
+        classes.push(item_class(arena, id, run)?)?;
+    }
+    Ok(into_bump_slice(classes))
+}

@@ -1,0 +1,244 @@
+//! The class of a token by its spelling.
+
+ghost use Rattle.std.specs.Prelude.{◌≡◌, ◌∷◌, [], nat_eq, codes, filter, map};
+ghost use Rattle.std.specs.List.{ends_with, list_any};
+ghost use Rattle.std.specs.Char.{is_ascii_lowercase};
+ghost use Rattle.token_classes.specs.Words.{class_in, words, begins, is_in_capitals, named_class, word_class, punctuators};
+ghost use Rattle.token_classes.specs.declared.class.TokenClass.TheVariants.{Other};
+
+use crate::class::TokenClass;
+use crate::listed::listed_class;
+
+/// The class in the first row with this spelling, and `other` where none has it.
+#[inline(always)]
+fn class_in(rows: &[(&[u8], TokenClass)], spelled: &[u8], other: TokenClass) -> TokenClass
+    ensures { result ≡ class_in (map (λ row. (row.0.now, row.1)) rows.now) spelled.now other }
+{
+    for (word, class) in rows {
+        if spelled == *word {
+            return *class;
+        }
+    }
+    other
+}
+
+/// Whether it has a small letter.
+#[inline(always)]
+fn has_small_letter(spelled: &[u8]) -> bool
+    ensures { result ≡ list_any is_ascii_lowercase spelled.now }
+{
+    spelled.iter().any(|b| b.is_ascii_lowercase())
+}
+
+/// Whether it has two characters and no small letter.
+#[inline(always)]
+fn is_in_capitals(spelled: &[u8]) -> bool
+    ensures { result ≡ is_in_capitals spelled.now }
+{
+    let long = spelled.len() >= 2;
+    long && !has_small_letter(spelled)
+}
+
+/// Whether it ends as the names of types do.
+#[inline(always)]
+fn ends_as_type(spelled: &[u8]) -> bool
+    ensures { result ≡ ends_with nat_eq spelled.now (codes "_t") }
+{
+    spelled.ends_with(b"_t")
+}
+
+/// The class of a word that is in no table.
+#[inline(always)]
+fn named_class(spelled: &[u8]) -> TokenClass
+    ensures { result ≡ named_class spelled.now }
+{
+    if ends_as_type(spelled) {
+        TokenClass::TypeWord
+    } else if is_in_capitals(spelled) {
+        TokenClass::CapitalWord
+    } else {
+        TokenClass::PlainWord
+    }
+}
+
+/// The class of a word, which is looked for among the words with its first byte.
+#[inline(always)]
+pub(crate) fn word_class(spelled: &[u8]) -> TokenClass
+    ensures { result ≡ word_class spelled.now }
+{
+    let other = named_class(spelled);
+    if spelled.is_empty() {
+        return other;
+    }
+    listed_class(spelled[0], spelled, other)
+}
+
+/// The class of a punctuator that begins with this byte and has a class of its own, and `other` where it has none.
+#[tactic(none)]
+fn listed_mark(first: u8, spelled: &[u8], other: TokenClass) -> TokenClass
+    ensures { result ≡ class_in (filter (begins first) punctuators) spelled.now other }
+{
+    match first {
+        b'!' => class_in(
+            &[(b"!", TokenClass::Not), (b"!=", TokenClass::Equality)],
+            spelled,
+            other,
+        ),
+        b'#' => class_in(&[(b"#", TokenClass::Hash)], spelled, other),
+        b'%' => class_in(
+            &[
+                (b"%>", TokenClass::CloseBrace),
+                (b"%=", TokenClass::OtherAssign),
+                (b"%", TokenClass::Divide),
+                (b"%:", TokenClass::Hash),
+            ],
+            spelled,
+            other,
+        ),
+        b'&' => class_in(
+            &[
+                (b"&=", TokenClass::OtherAssign),
+                (b"&", TokenClass::Ampersand),
+                (b"&&", TokenClass::And),
+            ],
+            spelled,
+            other,
+        ),
+        b'(' => class_in(&[(b"(", TokenClass::OpenRound)], spelled, other),
+        b')' => class_in(&[(b")", TokenClass::CloseRound)], spelled, other),
+        b'*' => class_in(
+            &[(b"*=", TokenClass::OtherAssign), (b"*", TokenClass::Star)],
+            spelled,
+            other,
+        ),
+        b'+' => class_in(
+            &[
+                (b"+=", TokenClass::OtherAssign),
+                (b"++", TokenClass::Step),
+                (b"+", TokenClass::Sign),
+            ],
+            spelled,
+            other,
+        ),
+        b',' => class_in(&[(b",", TokenClass::Comma)], spelled, other),
+        b'-' => class_in(
+            &[
+                (b"-=", TokenClass::OtherAssign),
+                (b"->", TokenClass::Arrow),
+                (b"--", TokenClass::Step),
+                (b"-", TokenClass::Sign),
+            ],
+            spelled,
+            other,
+        ),
+        b'.' => class_in(
+            &[(b".", TokenClass::Point), (b"...", TokenClass::Ellipsis)],
+            spelled,
+            other,
+        ),
+        b'/' => class_in(
+            &[(b"/=", TokenClass::OtherAssign), (b"/", TokenClass::Divide)],
+            spelled,
+            other,
+        ),
+        b':' => class_in(
+            &[(b":>", TokenClass::CloseSquare), (b":", TokenClass::Colon)],
+            spelled,
+            other,
+        ),
+        b';' => class_in(&[(b";", TokenClass::Semicolon)], spelled, other),
+        b'<' => class_in(
+            &[
+                (b"<:", TokenClass::OpenSquare),
+                (b"<%", TokenClass::OpenBrace),
+                (b"<<=", TokenClass::OtherAssign),
+                (b"<<", TokenClass::Shift),
+                (b"<", TokenClass::Relation),
+                (b"<=", TokenClass::Relation),
+            ],
+            spelled,
+            other,
+        ),
+        b'=' => class_in(
+            &[(b"=", TokenClass::Equals), (b"==", TokenClass::Equality)],
+            spelled,
+            other,
+        ),
+        b'>' => class_in(
+            &[
+                (b">>=", TokenClass::OtherAssign),
+                (b">>", TokenClass::Shift),
+                (b">", TokenClass::Relation),
+                (b">=", TokenClass::Relation),
+            ],
+            spelled,
+            other,
+        ),
+        b'?' => class_in(&[(b"?", TokenClass::Question)], spelled, other),
+        b'[' => class_in(&[(b"[", TokenClass::OpenSquare)], spelled, other),
+        b']' => class_in(&[(b"]", TokenClass::CloseSquare)], spelled, other),
+        b'^' => class_in(
+            &[(b"^=", TokenClass::OtherAssign), (b"^", TokenClass::Caret)],
+            spelled,
+            other,
+        ),
+        b'{' => class_in(&[(b"{", TokenClass::OpenBrace)], spelled, other),
+        b'|' => class_in(
+            &[
+                (b"|=", TokenClass::OtherAssign),
+                (b"|", TokenClass::Bar),
+                (b"||", TokenClass::Or),
+            ],
+            spelled,
+            other,
+        ),
+        b'}' => class_in(&[(b"}", TokenClass::CloseBrace)], spelled, other),
+        b'~' => class_in(&[(b"~", TokenClass::Not)], spelled, other),
+        _ => other,
+    }
+}
+
+/// The class of a punctuator, which is looked for among those with its first byte.
+pub(crate) fn punctuator_class(spelled: &[u8]) -> TokenClass
+    ensures { result ≡ class_in punctuators spelled.now Other }
+{
+    if spelled.is_empty() {
+        return TokenClass::Other;
+    }
+    listed_mark(spelled[0], spelled, TokenClass::Other)
+}
+
+/// The class of a punctuator of one character.
+#[inline(always)]
+pub(crate) fn mark_class(mark: u8) -> TokenClass
+    ensures { result ≡ class_in punctuators (mark ∷ []) Other }
+{
+    match mark {
+        b'!' => TokenClass::Not,
+        b'#' => TokenClass::Hash,
+        b'%' => TokenClass::Divide,
+        b'&' => TokenClass::Ampersand,
+        b'(' => TokenClass::OpenRound,
+        b')' => TokenClass::CloseRound,
+        b'*' => TokenClass::Star,
+        b'+' => TokenClass::Sign,
+        b',' => TokenClass::Comma,
+        b'-' => TokenClass::Sign,
+        b'.' => TokenClass::Point,
+        b'/' => TokenClass::Divide,
+        b':' => TokenClass::Colon,
+        b';' => TokenClass::Semicolon,
+        b'<' => TokenClass::Relation,
+        b'=' => TokenClass::Equals,
+        b'>' => TokenClass::Relation,
+        b'?' => TokenClass::Question,
+        b'[' => TokenClass::OpenSquare,
+        b']' => TokenClass::CloseSquare,
+        b'^' => TokenClass::Caret,
+        b'{' => TokenClass::OpenBrace,
+        b'|' => TokenClass::Bar,
+        b'}' => TokenClass::CloseBrace,
+        b'~' => TokenClass::Not,
+        _ => TokenClass::Other,
+    }
+}
