@@ -44,7 +44,8 @@ fn is_behind_name(part: HeadPart) -> bool
     }
 }
 
-/// Whether the gap before an item, behind one of a definition that is this part, is the one before a body or stands in it.
+/// Whether the gap before an item, behind one of a definition that is this part, is the one before a body or stands in
+/// it.
 fn is_body_gap(dialect: Dialect, part: HeadPart, token: &Token<'_>) -> bool
     ensures { result ≡ is_body_gap dialect part (told_by token.now) }
 {
@@ -81,8 +82,8 @@ fn is_definition(kind: DirectiveKind) -> bool
     matches!(kind, DirectiveKind::Define)
 }
 
-/// Which gaps of a directive keep the input's bytes: those behind its name as `directives` tells it, and the body of a macro where
-/// `SkipMacroDefinitionBody` says so.
+/// Which gaps of a directive keep the input's bytes: those behind its name as `directives` tells it, and the body of a
+/// macro where `SkipMacroDefinitionBody` says so.
 pub fn staying_in(style: &Style, arena: &TokenArena<'_, '_>, dir: &Directive) -> Staying
     requires { Contains (sections_of arena.now) (Dir dir.now) }
     ensures { result ≡ staying_in style.now arena.now dir.now }

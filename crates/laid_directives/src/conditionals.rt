@@ -52,7 +52,8 @@ impl Conditionals {
         }
     }
 
-    /// Passes a directive that does this, and tells how many conditionals stand around it. Want of memory is the only error.
+    /// Passes a directive that does this, and tells how many conditionals stand around it. Want of memory is the only
+    /// error.
     pub fn pass(&mut self, nesting: Nesting) -> Result<u32, NoMemory>
         requires { length self.old < 2 ^ 31 }
         ensures depth { IfOk result (λ depth. depth ≡ depth_in nesting self.old) }

@@ -7,7 +7,8 @@ pub fn all_directives_stay_sound()
     ensures { AllDirectivesStaySound }
 {}
 
-/// Behind what is decided for all directives of a text the gap before each item of a directive is decided, so no run is left one.
+/// Behind what is decided for all directives of a text the gap before each item of a directive is decided, so no run is
+/// left one.
 pub fn all_directives_are_decided()
     ensures { AllDirectivesAreDecided }
 {}
