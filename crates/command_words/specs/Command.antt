@@ -29,11 +29,13 @@ abbrev pub bare : App
 bare = let start = new_app (codes "clang_format") in
     record start { top = record start.top { no_binary_name = true; disable_help_flag = true; disable_version_flag = true } }
 
--- the words that are built: `--style S`, `--states N`, `-i` (the letter's code is 105), `--dump-config` and FILE
+-- the words that are built: `--style S`, `--states N`, `-i` (the letter's code is 105), `--dry-run`, `--Werror`, `--dump-config` and FILE
 abbrev pub rules : List Rule
 rules = option_rule (codes "style")
     ∷ option_rule (codes "states")
     ∷ letter_rule (codes "in-place") 105
+    ∷ flag_rule (codes "dry-run")
+    ∷ flag_rule (codes "Werror")
     ∷ flag_rule (codes "dump-config")
     ∷ names_rule (codes "file")
     ∷ []

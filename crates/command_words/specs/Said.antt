@@ -21,6 +21,8 @@ pub record Says (rows : List Row) (said : Words) : Type 0 where
   pub style : Chooses (style_word rows) said.style
   pub budget : budget_of (states_word rows) ≡ Some said.budget
   pub in_place : IsTrue said.in_place ↔ Gives (codes "in-place") rows
+  pub dry_run : IsTrue said.dry_run ↔ Gives (codes "dry-run") rows
+  pub werror : IsTrue said.werror ↔ Gives (codes "Werror") rows
   pub dump_config : IsTrue said.dump_config ↔ Gives (codes "dump-config") rows
   pub files : map (λ name. name.now) said.files.items ≡ file_names rows
 

@@ -72,8 +72,12 @@ pub fn make_command<'w>(alloc: Global) -> Result<Command<'w>, AllocError>
     let with_states = with_arg(with_style, states)?;
     let in_place = letter(alloc, "in-place", 'i');
     let with_in_place = with_arg(with_states, in_place)?;
+    let dry_run = flag(alloc, "dry-run");
+    let with_dry_run = with_arg(with_in_place, dry_run)?;
+    let werror = flag(alloc, "Werror");
+    let with_werror = with_arg(with_dry_run, werror)?;
     let dump_config = flag(alloc, "dump-config");
-    let with_dump_config = with_arg(with_in_place, dump_config)?;
+    let with_dump_config = with_arg(with_werror, dump_config)?;
     let file = names(alloc, "file");
     let whole = with_arg(with_dump_config, file)?;
     Ok(whole)

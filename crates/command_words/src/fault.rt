@@ -7,7 +7,7 @@ use thiserror::Error;
 
 /// How the command is used, with the words that are built: the note on words that are not of its form.
 pub const USAGE: &str =
-    "usage: clang_format [--style S] [--states N] [-i] [--dump-config] [FILE ..]";
+    "usage: clang_format [--style S] [--states N] [-i] [--dry-run] [--Werror] [--dump-config] [FILE ..]";
 
 /// Why words are refused. It is shown as the row that tells it.
 #[derive(Clone, Copy, Debug, PartialEq, Eq, Error)]

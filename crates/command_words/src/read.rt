@@ -32,6 +32,10 @@ pub struct Words<'w> {
     pub budget: u64,
     /// `-i`: each FILE is written back.
     pub in_place: bool,
+    /// `--dry-run`: no text is written, and each input's summary is told.
+    pub dry_run: bool,
+    /// `--Werror`: a dry run tells by its status whether some text would change.
+    pub werror: bool,
     /// `--dump-config`: the style in force is written, and no input is read.
     pub dump_config: bool,
     /// The FILEs in order, none for standard input.
@@ -105,11 +109,15 @@ fn said<'w>(alloc: Global, matches: &ArgMatches<'w>) -> Result<Words<'w>, WordsF
     let files = files_of(alloc, matches)?;
     let style = style_of(matches);
     let in_place = is_given(matches, "in-place");
+    let dry_run = is_given(matches, "dry-run");
+    let werror = is_given(matches, "Werror");
     let dump_config = is_given(matches, "dump-config");
     Ok(Words {
         style,
         budget,
         in_place,
+        dry_run,
+        werror,
         dump_config,
         files,
     })

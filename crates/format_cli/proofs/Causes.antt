@@ -9,11 +9,12 @@ use Rattle.std.specs.Borrow.{Bor}
 use Rattle.c_chars.specs.declared.TheConstants.{LIMIT}
 use Rattle.std.specs.Io.KnownBytes.{Appends}
 use Rattle.format_cli.specs.declared.input.Options.{Options}
+use Rattle.format_cli.specs.declared.input.Place.{Place}
 use Rattle.format_cli.specs.declared.input.Place.TheVariants.{Itself}
 use Rattle.format_cli.specs.declared.refusal.Refusal.{Refusal}
 use Rattle.format_cli.specs.declared.refusal.Refusal.TheVariants.{BadWords, BadStates, NoInput, UnknownStyle, LongConfiguration, BadConfiguration, TooLarge, OpenComment, SourceFailed, FileFailed, OutFailed, NotesFailed, Missing, NoMemory}
 use Rattle.format_cli.specs.InForce.{IsHeld, IsLonger, IsInForce, IsStyleRefused, IsConfigurationRefused, Configures, configuration_of}
-use Rattle.format_cli.specs.Inputs.{ends, rows_told, IsDone, IsFormatted, IsTold, IsTextCause, IsFileCause, IsFileRefused, IsSourceRefused, IsWriteRefused}
+use Rattle.format_cli.specs.Inputs.{ends, rows_told, IsFormatted, IsTold, IsTextCause, IsFileCause, IsFileRefused, IsSourceRefused, IsWriteRefused, Puts}
 use Rattle.c_grammar.specs.Grammar.{is_same}
 use Rattle.c_grammar.proofs.Lists.{same_is, same_refl}
 use Rattle.format_cli.proofs.Ends.{keeps_self, others_after, keeps_all_after}
@@ -44,26 +45,26 @@ large None text h k = tt
 large (Some b) text h k = subst (λ (x : List ℕ). LIMIT < length x) h k
 
 -- standard input is refused for its text, and nothing was written
-pub source_refused : (options : Options) (input old told : Option (List ℕ)) (text : List ℕ) (refusal : Refusal) → IsTold input text →
-    IsTextCause (codes "<stdin>") text refusal → IsSourceRefused options input old old told told refusal
-source_refused options input old told text BadWords h k = absurd k
-source_refused options input old told text (BadStates word) h k = absurd k
-source_refused options input old told text NoInput h k = absurd k
-source_refused options input old told text (UnknownStyle unknown) h k = absurd k
-source_refused options input old told text (LongConfiguration file) h k = absurd k
-source_refused options input old told text (BadConfiguration file fault) h k = absurd k
-source_refused options input old told text (TooLarge its_name) h k = (keeps_self old, (k.0, large input text h k.1), keeps_self told)
-source_refused options input old told text (OpenComment its_name at) h k = (keeps_self old, (k.0, (text, h, k.1, k.2)), keeps_self told)
-source_refused options input old told text SourceFailed h k = absurd k
-source_refused options input old told text (FileFailed file) h k = absurd k
-source_refused options input old told text OutFailed h k = absurd k
-source_refused options input old told text NotesFailed h k = absurd k
-source_refused options input old told text (Missing file) h k = absurd k
-source_refused options input old told text NoMemory h k = (keeps_self old, tt, keeps_self told)
+pub source_refused : (options : Options) (place : Place) (input old told : Option (List ℕ)) (text : List ℕ) (refusal : Refusal) → IsTold input text →
+    IsTextCause (codes "<stdin>") text refusal → IsSourceRefused options place input old old told told refusal
+source_refused options place input old told text BadWords h k = absurd k
+source_refused options place input old told text (BadStates word) h k = absurd k
+source_refused options place input old told text NoInput h k = absurd k
+source_refused options place input old told text (UnknownStyle unknown) h k = absurd k
+source_refused options place input old told text (LongConfiguration file) h k = absurd k
+source_refused options place input old told text (BadConfiguration file fault) h k = absurd k
+source_refused options place input old told text (TooLarge its_name) h k = (keeps_self old, (k.0, large input text h k.1), keeps_self told)
+source_refused options place input old told text (OpenComment its_name at) h k = (keeps_self old, (k.0, (text, h, k.1, k.2)), keeps_self told)
+source_refused options place input old told text SourceFailed h k = absurd k
+source_refused options place input old told text (FileFailed file) h k = absurd k
+source_refused options place input old told text OutFailed h k = absurd k
+source_refused options place input old told text NotesFailed h k = absurd k
+source_refused options place input old told text (Missing file) h k = absurd k
+source_refused options place input old told text NoMemory h k = (keeps_self old, tt, keeps_self told)
 
 -- a FILE is refused for the write of its text, which changed
 pub write_refused : (options : Options) (name b c : List ℕ) (taken told now : Option (List ℕ)) (old mid new : Held) (refusal : Refusal) → IsHeld old name b →
-    (made : IsFormatted options b c) → Appends told now (rows_told name made) → (c ≢ b) → KeepsAll old mid → IsWriteRefused name mid new refusal →
+    (made : IsFormatted options b c) → Appends told now (rows_told Itself name made) → (c ≢ b) → KeepsAll old mid → IsWriteRefused name mid new refusal →
     IsFileRefused options Itself name (ends taken old told) (ends taken new now) refusal
 write_refused options name b c taken told now old mid new BadWords held made rows changes same k = absurd k
 write_refused options name b c taken told now old mid new (BadStates word) held made rows changes same k = absurd k
@@ -121,7 +122,6 @@ stays changed b c is fails = same_is c b (from_not (is_same c b) (sym is ∙ fai
     from_not false h = sym h
 
 -- a file was written back
-pub written_back : (options : Options) (name b c : List ℕ) (taken told now : Option (List ℕ)) (old mid new : Held) → IsHeld old name b → (made : IsFormatted options b c) →
-    Appends told now (rows_told name made) → (c ≢ b) → KeepsAll old mid → IsHeld new name c × KeepsOthers name mid new → IsDone options Itself name (ends taken old told) (ends taken new now)
-written_back options name b c taken told now old mid new held made rows changed same k =
-    (b, c, held, made, (keeps_self taken, inr (changed, k.0, others_after name old mid new same k.1)), rows)
+pub written_back : (name b c : List ℕ) (taken told now : Option (List ℕ)) (old mid new : Held) → (c ≢ b) → KeepsAll old mid → IsHeld new name c × KeepsOthers name mid new →
+    Puts Itself name b c (ends taken old told) (ends taken new now)
+written_back name b c taken told now old mid new changed same k = (keeps_self taken, inr (changed, k.0, others_after name old mid new same k.1))

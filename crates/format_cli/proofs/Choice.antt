@@ -1,5 +1,5 @@
 -- Words say one thing.
-use Rattle.std.proofs.Common.{◌≡◌, ◌⊎◌, ◌++◌, ◌∙◌, ℕ, List, None, Some, Ok, IsTrue, IsFalse, sym, subst, codes}
+use Rattle.std.proofs.Common.{◌≡◌, ◌⊎◌, ◌++◌, ◌∙◌, ℕ, Bool, true, false, List, None, Some, Ok, IsTrue, IsFalse, refl, sym, subst, codes}
 use Rattle.std.specs.Prelude.{⊤}
 use Rattle.std.proofs.lemmas.List.{append_cancel_left}
 use Rattle.std.proofs.lemmas.Bool.{false≢true}
@@ -51,6 +51,13 @@ one_dump words a b p q dumps not = false≢true (sym not ∙ q.2.dump_config.1 (
 
 pub one_place : (words : List (List ℕ)) (a b : Words) → Reads words (Ok a) → Reads words (Ok b) → IsTrue a.in_place → IsTrue b.in_place
 one_place words a b p q is = q.2.in_place.1 (p.2.in_place.0 is)
+
+false_from : (b : Bool) → (IsTrue b → ⊥) → IsFalse b
+false_from true never = absurd (never refl)
+false_from false never = refl
+
+pub one_dry : (words : List (List ℕ)) (a b : Words) → Reads words (Ok a) → Reads words (Ok b) → IsFalse a.dry_run → IsFalse b.dry_run
+one_dry words a b p q not = false_from b.dry_run (λ is. false≢true (sym not ∙ p.2.dry_run.1 (q.2.dry_run.0 is)))
 
 pub stops_same : (a b : StyleChoice) (held : Held) (status : ℕ) → IsSameChoice a b → StyleStops a held status → StyleStops b held status
 stops_same DefaultFile DefaultFile held status same s = s

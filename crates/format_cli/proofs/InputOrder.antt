@@ -9,7 +9,7 @@ use Rattle.c_lexer.specs.Fault.{IsOpenAt}
 use Rattle.format_core.proofs.Opens.{open_texts_have_no_layout}
 use Rattle.format_cli.specs.declared.input.Options.{Options}
 use Rattle.format_cli.specs.declared.input.Place.{Place}
-use Rattle.format_cli.specs.declared.input.Place.TheVariants.{Output, Itself}
+use Rattle.format_cli.specs.declared.input.Place.TheVariants.{Output, Itself, Nowhere}
 use Rattle.format_cli.specs.declared.refusal.Refusal.{Refusal}
 use Rattle.format_cli.specs.declared.refusal.Refusal.TheVariants.{BadWords, BadStates, NoInput, UnknownStyle, LongConfiguration, BadConfiguration, TooLarge, OpenComment, SourceFailed, FileFailed, OutFailed, NotesFailed, Missing, NoMemory}
 use Rattle.format_cli.specs.InForce.{IsHeld}
@@ -27,26 +27,26 @@ not_bad options b c made (inl long) = omega (arith, made.fits, long)
 not_bad options b c made (inr unended) = open_texts_have_no_layout options.style None options.budget C11 b c made.reports unended.0 made.formats unended.1
 
 -- standard input that is refused for its bytes isn't done
-pub source_stays : (options : Options) (left old new told now : Option (List ℕ)) → IsSourceDone options left old new told now → IsThere IsBadText left → ⊥
-source_stays options None old new told now k bad = bad
-source_stays options (Some b) old new told now k bad = not_bad options k.0 k.1 k.3 (subst IsBadText (sym k.2) bad)
+pub source_stays : (options : Options) (place : Place) (left old new told now : Option (List ℕ)) → IsSourceDone options place left old new told now → IsThere IsBadText left → ⊥
+source_stays options place None old new told now k bad = bad
+source_stays options place (Some b) old new told now k bad = not_bad options k.0 k.1 k.3 (subst IsBadText (sym k.2) bad)
 
 -- standard input ends so, where it is refused
-pub source_ends : (options : Options) (left old new told now : Option (List ℕ)) (refusal : Refusal) → IsSourceRefused options left old new told now refusal → EndsSo 4 refusal
-source_ends options left old new told now BadWords k = absurd k.1
-source_ends options left old new told now (BadStates word) k = absurd k.1
-source_ends options left old new told now NoInput k = absurd k.1
-source_ends options left old new told now (UnknownStyle unknown) k = absurd k.1
-source_ends options left old new told now (LongConfiguration file) k = absurd k.1
-source_ends options left old new told now (BadConfiguration file fault) k = absurd k.1
-source_ends options left old new told now (TooLarge its_name) k = inl refl
-source_ends options left old new told now (OpenComment its_name at) k = inl refl
-source_ends options left old new told now SourceFailed k = inr (inl refl)
-source_ends options left old new told now (FileFailed file) k = absurd k.1
-source_ends options left old new told now OutFailed k = inr (inl refl)
-source_ends options left old new told now NotesFailed k = inr (inl refl)
-source_ends options left old new told now (Missing file) k = absurd k.1
-source_ends options left old new told now NoMemory k = inr (inr refl)
+pub source_ends : (options : Options) (place : Place) (left old new told now : Option (List ℕ)) (refusal : Refusal) → IsSourceRefused options place left old new told now refusal → EndsSo 4 refusal
+source_ends options place left old new told now BadWords k = absurd k.1
+source_ends options place left old new told now (BadStates word) k = absurd k.1
+source_ends options place left old new told now NoInput k = absurd k.1
+source_ends options place left old new told now (UnknownStyle unknown) k = absurd k.1
+source_ends options place left old new told now (LongConfiguration file) k = absurd k.1
+source_ends options place left old new told now (BadConfiguration file fault) k = absurd k.1
+source_ends options place left old new told now (TooLarge its_name) k = inl refl
+source_ends options place left old new told now (OpenComment its_name at) k = inl refl
+source_ends options place left old new told now SourceFailed k = inr (inl refl)
+source_ends options place left old new told now (FileFailed file) k = absurd k.1
+source_ends options place left old new told now OutFailed k = inr (inl refl)
+source_ends options place left old new told now NotesFailed k = inr (inl refl)
+source_ends options place left old new told now (Missing file) k = absurd k.1
+source_ends options place left old new told now NoMemory k = inr (inr refl)
 
 -- ---- one FILE
 
@@ -155,6 +155,20 @@ put_ends Itself name b c rows before now OutFailed k = absurd k
 put_ends Itself name b c rows before now NotesFailed k = inl refl
 put_ends Itself name b c rows before now (Missing file) k = absurd k
 put_ends Itself name b c rows before now NoMemory k = inr refl
+put_ends Nowhere name b c rows before now BadWords k = absurd k
+put_ends Nowhere name b c rows before now (BadStates word) k = absurd k
+put_ends Nowhere name b c rows before now NoInput k = absurd k
+put_ends Nowhere name b c rows before now (UnknownStyle unknown) k = absurd k
+put_ends Nowhere name b c rows before now (LongConfiguration file) k = absurd k
+put_ends Nowhere name b c rows before now (BadConfiguration file fault) k = absurd k
+put_ends Nowhere name b c rows before now (TooLarge its_name) k = absurd k
+put_ends Nowhere name b c rows before now (OpenComment its_name at) k = absurd k
+put_ends Nowhere name b c rows before now SourceFailed k = absurd k
+put_ends Nowhere name b c rows before now (FileFailed file) k = absurd k
+put_ends Nowhere name b c rows before now OutFailed k = absurd k
+put_ends Nowhere name b c rows before now NotesFailed k = inl refl
+put_ends Nowhere name b c rows before now (Missing file) k = absurd k
+put_ends Nowhere name b c rows before now NoMemory k = absurd k
 
 file_ends : (options : Options) (place : Place) (name : List ℕ) (before now : Ends) (refusal : Refusal) (status : ℕ) → IsFileRefused options place name before now refusal →
     Tells before.held name (Stops status) → EndsSo status refusal
@@ -196,14 +210,17 @@ stop_others names name (Some at) (Some at') status once same s =
 abbrev pub AreOnce : Place → List (List ℕ) → Type 0
 AreOnce Output names = ⊤
 AreOnce Itself names = AreDifferent names
+AreOnce Nowhere names = ⊤
 
 once_behind : (place : Place) (name : List ℕ) (names : List (List ℕ)) → AreOnce place (name ∷ names) → AreOnce place names
 once_behind Output name names once = tt
 once_behind Itself name names once = once.1
+once_behind Nowhere name names once = tt
 
 stop_after : (options : Options) (place : Place) (name : List ℕ) (names : List (List ℕ)) (before between : Ends) (status : ℕ) → IsDone options place name before between →
     AreOnce place (name ∷ names) → FilesStop before.held names status → FilesStop between.held names status
 stop_after options Output name names before between status k once s = stop_stays names before.held between.held status k.4.1 s
+stop_after options Nowhere name names before between status k once s = stop_stays names before.held between.held status k.4.1 s
 stop_after options Itself name names before between status k once s = put k.4.1
   where
     put : ((k.1 ≡ k.0) × KeepsAll before.held between.held) ⊎ ((k.1 ≢ k.0) × IsHeld between.held name k.1 × KeepsOthers name before.held between.held) →

@@ -4,6 +4,7 @@ use Rattle.std.specs.List.{concat}
 use Rattle.std.proofs.KnownBytes.{Appends-trans}
 use Rattle.fmt_ports.specs.Files.{Held, KeepsAll}
 use Rattle.format_cli.specs.declared.input.Options.{Options}
+use Rattle.format_cli.specs.declared.input.Place.TheVariants.{Output}
 use Rattle.format_cli.specs.InForce.{IsHeld}
 use Rattle.format_cli.specs.Inputs.{rows_told}
 use Rattle.format_cli.specs.Joined.{AreFormatted, OutputsAreJoined}
@@ -30,7 +31,7 @@ pub outputs_are_joined : OutputsAreJoined
 outputs_are_joined options [] before now k = ([], [], tt, takes_nothing before.taken now.taken k.taken, takes_nothing before.told now.told k.told)
 outputs_are_joined options (name ∷ names) before now k =
     let rest = outputs_are_joined options names k.0 now k.2 in
-    let rows : List ℕ = rows_told name k.1.3 in (
+    let rows : List ℕ = rows_told Output name k.1.3 in (
       k.1.1 ∷ rest.0,
       rows ∷ rest.1,
       ((k.1.0, k.1.2, k.1.3, refl), formatted_before options before.held k.0.held names rest.0 rest.1 k.1.4.1 rest.2),

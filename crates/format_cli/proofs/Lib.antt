@@ -2,6 +2,7 @@ mod Rest
 mod Ends
 mod Counts
 mod Causes
+mod Changes
 mod ReportRows
 mod Done
 mod Statuses

@@ -15,7 +15,7 @@ use Rattle.format_cli.specs.Account.{AreWordsRefused, EndsWell, IsBegun, IsNotPe
 use Rattle.format_cli.specs.Counts.{Faults, Raises}
 use Rattle.format_cli.specs.Notes.{row_of, status_of}
 use Rattle.format_cli.specs.Order.{AreDifferent, FilesStop, HasStyle, InputsStop, IsBadText, IsThere, LacksRows, StopsWith, StyleStops}
-use Rattle.format_cli.proofs.Choice.{has_same, in_force_same, one_dump, one_list, one_place, one_style, stops_same}
+use Rattle.format_cli.proofs.Choice.{has_same, in_force_same, one_dry, one_dump, one_list, one_place, one_style, stops_same}
 use Rattle.format_cli.proofs.StyleOrder.{EndsSo, goes_on, style_ends, style_fails}
 use Rattle.format_cli.proofs.Statuses.{no_budget}
 use Rattle.format_cli.proofs.Told.{performed_takes, not_performed_takes}
@@ -38,10 +38,11 @@ read_words words said NotesFailed k reads = absurd k
 read_words words said (Missing file) k reads = absurd k
 read_words words said NoMemory k reads = refl
 
--- FILEs that are named once with `-i`
-once_of : (in_place : Bool) (names : List (List ℕ)) → (IsTrue in_place → AreDifferent names) → AreOnce (place_of in_place) names
-once_of true names different = different refl
-once_of false names different = tt
+-- FILEs that are named once with `-i`, but in a dry run
+once_of : (dry_run in_place : Bool) (names : List (List ℕ)) → (IsTrue in_place → IsFalse dry_run → AreDifferent names) → AreOnce (place_of dry_run in_place) names
+once_of true in_place names different = tt
+once_of false true names different = different refl refl
+once_of false false names different = tt
 
 no_names : (names : List (List ℕ)) (held : Held) (status : ℕ) → names ≡ [] → FilesStop held names status → ⊥
 no_names names held status none s = subst (λ (xs : List (List ℕ)). FilesStop held xs status) none s
@@ -54,11 +55,11 @@ stop_begun words before begun said other style status k reads s =
     stop_stays (files_of said) before.ends.held begun.ends.held status k.untouched.held
     (subst (λ (xs : List (List ℕ)). FilesStop before.ends.held xs status) (one_list words other said reads k.reads) s)
 
-once_begun : (words : List (List ℕ)) (said other : Words) → Reads words (Ok said) → Reads words (Ok other) → (IsTrue other.in_place → AreDifferent (files_of other)) →
-    AreOnce (place_of said.in_place) (files_of said)
+once_begun : (words : List (List ℕ)) (said other : Words) → Reads words (Ok said) → Reads words (Ok other) → (IsTrue other.in_place → IsFalse other.dry_run → AreDifferent (files_of other)) →
+    AreOnce (place_of said.dry_run said.in_place) (files_of said)
 once_begun words said other reads its different =
-    once_of said.in_place (files_of said)
-    (λ is. subst AreDifferent (one_list words other said its reads) (different (one_place words said other reads its is)))
+    once_of said.dry_run said.in_place (files_of said)
+    (λ is wet. subst AreDifferent (one_list words other said its reads) (different (one_place words said other reads its is) (one_dry words said other reads its wet)))
 
 -- inputs of which one is refused aren't all done
 inputs_stay : (words : List (List ℕ)) (before begun now : World) (said other : Words) (style : Style) (status : ℕ) →
@@ -66,13 +67,13 @@ inputs_stay : (words : List (List ℕ)) (before begun now : World) (said other :
     InputsStop other before.left before.ends.held status → ⊥
 inputs_stay words before begun now said other style status k (inl p) reads no_dump i = one_dump words said other k.reads reads p.0 no_dump
 inputs_stay words before begun now said other style status k (inr (inl p)) reads no_dump (inl i) =
-    source_stays (options_of said style) begun.left _ _ _ _ p.2.done (subst (IsThere IsBadText) (sym k.untouched.left) i.1)
+    source_stays (options_of said style) _ begun.left _ _ _ _ p.2.done (subst (IsThere IsBadText) (sym k.untouched.left) i.1)
 inputs_stay words before begun now said other style status k (inr (inl p)) reads no_dump (inr i) =
     no_names (files_of other) before.ends.held status (one_list words other said reads k.reads ∙ p.1) i.0
 inputs_stay words before begun now said other style status k (inr (inr p)) reads no_dump (inl i) =
     p.1.some (one_list words said other k.reads reads ∙ i.0)
 inputs_stay words before begun now said other style status k (inr (inr p)) reads no_dump (inr i) =
-    files_stay (options_of said style) (place_of said.in_place) (files_of said) begun.ends now.ends status p.1.done (once_begun words said other k.reads reads i.1)
+    files_stay (options_of said style) (place_of said.dry_run said.in_place) (files_of said) begun.ends now.ends status p.1.done (once_begun words said other k.reads reads i.1)
     (stop_begun words before begun said other style status k reads i.0)
 
 -- inputs of which one is refused end so
@@ -81,19 +82,19 @@ inputs_end : (words : List (List ℕ)) (before begun now : World) (said other : 
     InputsStop other before.left before.ends.held status → EndsSo status refusal
 inputs_end words before begun now said other style refusal status k (inl p) reads no_dump i = absurd (one_dump words said other k.reads reads p.0 no_dump)
 inputs_end words before begun now said other style refusal status k (inr (inl p)) reads no_dump (inl i) =
-    subst (λ (n : ℕ). EndsSo n refusal) (sym i.2) (source_ends (options_of said style) begun.left _ _ _ _ refusal p.2.refused)
+    subst (λ (n : ℕ). EndsSo n refusal) (sym i.2) (source_ends (options_of said style) _ begun.left _ _ _ _ refusal p.2.refused)
 inputs_end words before begun now said other style refusal status k (inr (inl p)) reads no_dump (inr i) =
     absurd (no_names (files_of other) before.ends.held status (one_list words other said reads k.reads ∙ p.1) i.0)
 inputs_end words before begun now said other style refusal status k (inr (inr p)) reads no_dump (inl i) =
     absurd (p.1.some (one_list words said other k.reads reads ∙ i.0))
 inputs_end words before begun now said other style refusal status k (inr (inr p)) reads no_dump (inr i) =
-    files_end (options_of said style) (place_of said.in_place) (files_of said) begun.ends now.ends refusal status p.1.refused (once_begun words said other k.reads reads i.1)
+    files_end (options_of said style) (place_of said.dry_run said.in_place) (files_of said) begun.ends now.ends refusal status p.1.refused (once_begun words said other k.reads reads i.1)
     (stop_begun words before begun said other style status k reads i.0)
 
 -- a call that is to be refused doesn't end well
-pub ends_not_well : (words : List (List ℕ)) (before now : World) (status : ℕ) → EndsWell words before now →
+pub ends_not_well : (words : List (List ℕ)) (before now : World) (answer status : ℕ) → EndsWell words before now answer →
     StopsWith words before.left before.ends.held status → ⊥
-ends_not_well words before now status k s = by s.stops
+ends_not_well words before now answer status k s = by s.stops
   where
     by : StyleStops s.said.style before.ends.held status
         ⊎ (HasStyle s.said.style before.ends.held × IsFalse s.said.dump_config × InputsStop s.said before.left before.ends.held status) → ⊥
@@ -128,8 +129,8 @@ ends_so words before now refusal status (inr (inr k)) s = by s.stops
 -- ---- the rows of the skipped keys
 
 -- a call whose notes lack rows doesn't end well
-pub lacks_not_well : (words : List (List ℕ)) (before now : World) → EndsWell words before now → LacksRows words before.ends.held before.ends.told now.ends.told → ⊥
-lacks_not_well words before now k s =
+pub lacks_not_well : (words : List (List ℕ)) (before now : World) (answer : ℕ) → EndsWell words before now answer → LacksRows words before.ends.held before.ends.told now.ends.told → ⊥
+lacks_not_well words before now answer k s =
     let more = performed_takes k.said k.style k.begun now k.performed in
     s.lacks k.style k.begins.rows more.0
     (in_force_same k.said.style s.said.style before.ends.held k.style k.begins.rows (one_style words k.said s.said k.begins.reads s.reads) k.begins.in_force)

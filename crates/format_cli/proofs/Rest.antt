@@ -1,6 +1,7 @@
 -- The rest of a list, one element at a time; and results.
-use Rattle.std.proofs.Common.{◌≡◌, ◌<◌, ◌≤◌, ◌+◌, ◌∙◌, suc, ℕ, List, [], ◌∷◌, ◌++◌, drop, length, get_or, ap, add-one, drop-cons, map, Ok, Err, IfOk, IfErr, OnOk, IsErr, IsErrAnd}
+use Rattle.std.proofs.Common.{◌≡◌, ◌<◌, ◌≤◌, ◌+◌, ◌∙◌, suc, ◌==◌, ◌≢◌, true, false, refl, sym, subst, ℕ, List, [], ◌∷◌, ◌++◌, drop, length, get_or, ap, add-one, drop-cons, map, Ok, Err, IfOk, IfErr, OnOk, IsErr, IsErrAnd}
 use Rattle.std.proofs.Common.{arith}
+use Rattle.std.proofs.lemmas.Bool.{eqb-true, false≢true}
 use Rattle.std.proofs.lemmas.Grind.{common_steps}
 use Rattle.std.specs.declared.result.Result.{Result}
 use Rattle.std.specs.Borrow.{Bor}
@@ -52,3 +53,16 @@ ok_follows P Q (Err e) f p = p
 pub on_map : {T E : Type 0} (P Q : Type 0) (r : Result T E) → (P → Q) → OnOk r P → OnOk r Q
 on_map P Q (Ok v) f p = f p
 on_map P Q (Err e) f p = p
+
+pub if_err : {T E : Type 0} (P : Type 0) (r : Result T E) → P → IfErr r (λ _. P)
+if_err P (Ok v) p = tt
+if_err P (Err e) p = p
+
+-- whether a list of this length is empty
+pub none_of : {A : Type 0} (xs : List A) (n : ℕ) → n ≡ length xs → (n == 0) ≡ true → xs ≡ []
+none_of [] n is k = refl
+none_of {A} (x ∷ xs) n is k = let zero : n ≡ 0 = eqb-true n 0 k in let one : n ≡ suc (length xs) = is in absurd (omega (arith, zero, one))
+
+pub some_of : {A B : Type 0} (xs : List A) (n : ℕ) (f : A → B) → n ≡ length xs → (n == 0) ≡ false → map f xs ≢ []
+some_of [] n f is k = λ none. false≢true (sym (subst (λ (m : ℕ). (m == 0) ≡ false) is k))
+some_of (x ∷ xs) n f is k = λ none. cc

@@ -11,7 +11,7 @@ use Rattle.command_words.specs.Said.{HasBadStates, Reads, Says}
 use Rattle.fmt_ports.specs.Files.{Held}
 use Rattle.format_cli.specs.declared.input.Options.{Options}
 use Rattle.format_cli.specs.declared.input.Place.{Place}
-use Rattle.format_cli.specs.declared.input.Place.TheVariants.{Output, Itself}
+use Rattle.format_cli.specs.declared.input.Place.TheVariants.{Output, Itself, Nowhere}
 use Rattle.format_cli.specs.declared.refusal.Refusal.{Refusal}
 use Rattle.format_cli.specs.declared.refusal.Refusal.TheVariants.{BadWords, BadStates, NoInput, UnknownStyle, LongConfiguration, BadConfiguration, TooLarge, OpenComment, SourceFailed, FileFailed, OutFailed, NotesFailed, Missing, NoMemory}
 use Rattle.format_cli.specs.Account.{World, IsRefused, IsNotPerformed, AreWordsRefused, options_of}
@@ -21,20 +21,20 @@ use Rattle.format_cli.specs.Notes.{status_of}
 use Rattle.format_cli.specs.Statuses.{IsStatus, AreBadWords, HasNoStyle}
 
 pub known : (refusal : Refusal) → IsStatus (status_of refusal)
-known BadWords = inr (inl refl)
-known (BadStates word) = inr (inl refl)
-known NoInput = inr (inl refl)
-known (UnknownStyle unknown) = inr (inr (inl refl))
-known (LongConfiguration file) = inr (inr (inl refl))
-known (BadConfiguration file fault) = inr (inr (inl refl))
-known (TooLarge its_name) = inr (inr (inr (inl refl)))
-known (OpenComment its_name at) = inr (inr (inr (inl refl)))
-known SourceFailed = inr (inr (inr (inr (inl refl))))
-known (FileFailed file) = inr (inr (inr (inr (inl refl))))
-known OutFailed = inr (inr (inr (inr (inl refl))))
-known NotesFailed = inr (inr (inr (inr (inl refl))))
-known (Missing file) = inr (inr (inr (inr (inr (inl refl)))))
-known NoMemory = inr (inr (inr (inr (inr (inr (refl))))))
+known BadWords = inr (inr (inl refl))
+known (BadStates word) = inr (inr (inl refl))
+known NoInput = inr (inr (inl refl))
+known (UnknownStyle unknown) = inr (inr (inr (inl refl)))
+known (LongConfiguration file) = inr (inr (inr (inl refl)))
+known (BadConfiguration file fault) = inr (inr (inr (inl refl)))
+known (TooLarge its_name) = inr (inr (inr (inr (inl refl))))
+known (OpenComment its_name at) = inr (inr (inr (inr (inl refl))))
+known SourceFailed = inr (inr (inr (inr (inr (inl refl)))))
+known (FileFailed file) = inr (inr (inr (inr (inr (inl refl)))))
+known OutFailed = inr (inr (inr (inr (inr (inl refl)))))
+known NotesFailed = inr (inr (inr (inr (inr (inl refl)))))
+known (Missing file) = inr (inr (inr (inr (inr (inr (inl refl))))))
+known NoMemory = inr (inr (inr (inr (inr (inr (inr (refl)))))))
 
 pub not_zero : (refusal : Refusal) → status_of refusal ≡ 0 → ⊥
 not_zero BadWords is = cc
@@ -51,6 +51,22 @@ not_zero OutFailed is = cc
 not_zero NotesFailed is = cc
 not_zero (Missing file) is = cc
 not_zero NoMemory is = cc
+
+pub not_one : (refusal : Refusal) → status_of refusal ≡ 1 → ⊥
+not_one BadWords is = cc
+not_one (BadStates word) is = cc
+not_one NoInput is = cc
+not_one (UnknownStyle unknown) is = cc
+not_one (LongConfiguration file) is = cc
+not_one (BadConfiguration file fault) is = cc
+not_one (TooLarge its_name) is = cc
+not_one (OpenComment its_name at) is = cc
+not_one SourceFailed is = cc
+not_one (FileFailed file) is = cc
+not_one OutFailed is = cc
+not_one NotesFailed is = cc
+not_one (Missing file) is = cc
+not_one NoMemory is = cc
 
 -- ---- counts
 
@@ -231,22 +247,36 @@ put_of_inputs Itself name b c rows before now OutFailed k = absurd k
 put_of_inputs Itself name b c rows before now NotesFailed k = tt
 put_of_inputs Itself name b c rows before now (Missing file) k = absurd k
 put_of_inputs Itself name b c rows before now NoMemory k = tt
+put_of_inputs Nowhere name b c rows before now BadWords k = absurd k
+put_of_inputs Nowhere name b c rows before now (BadStates word) k = absurd k
+put_of_inputs Nowhere name b c rows before now NoInput k = absurd k
+put_of_inputs Nowhere name b c rows before now (UnknownStyle unknown) k = absurd k
+put_of_inputs Nowhere name b c rows before now (LongConfiguration file) k = absurd k
+put_of_inputs Nowhere name b c rows before now (BadConfiguration file fault) k = absurd k
+put_of_inputs Nowhere name b c rows before now (TooLarge its_name) k = absurd k
+put_of_inputs Nowhere name b c rows before now (OpenComment its_name at) k = absurd k
+put_of_inputs Nowhere name b c rows before now SourceFailed k = absurd k
+put_of_inputs Nowhere name b c rows before now (FileFailed file) k = absurd k
+put_of_inputs Nowhere name b c rows before now OutFailed k = absurd k
+put_of_inputs Nowhere name b c rows before now NotesFailed k = tt
+put_of_inputs Nowhere name b c rows before now (Missing file) k = absurd k
+put_of_inputs Nowhere name b c rows before now NoMemory k = absurd k
 
-source_of_inputs : (options : Options) (input old new told now : Option (List ℕ)) (refusal : Refusal) → IsSourceRefused options input old new told now refusal → OfInputs refusal
-source_of_inputs options input old new told now BadWords k = absurd k.1
-source_of_inputs options input old new told now (BadStates word) k = absurd k.1
-source_of_inputs options input old new told now NoInput k = absurd k.1
-source_of_inputs options input old new told now (UnknownStyle unknown) k = absurd k.1
-source_of_inputs options input old new told now (LongConfiguration file) k = absurd k.1
-source_of_inputs options input old new told now (BadConfiguration file fault) k = absurd k.1
-source_of_inputs options input old new told now (TooLarge its_name) k = tt
-source_of_inputs options input old new told now (OpenComment its_name at) k = tt
-source_of_inputs options input old new told now SourceFailed k = tt
-source_of_inputs options input old new told now (FileFailed file) k = absurd k.1
-source_of_inputs options input old new told now OutFailed k = tt
-source_of_inputs options input old new told now NotesFailed k = tt
-source_of_inputs options input old new told now (Missing file) k = absurd k.1
-source_of_inputs options input old new told now NoMemory k = tt
+source_of_inputs : (options : Options) (place : Place) (input old new told now : Option (List ℕ)) (refusal : Refusal) → IsSourceRefused options place input old new told now refusal → OfInputs refusal
+source_of_inputs options place input old new told now BadWords k = absurd k.1
+source_of_inputs options place input old new told now (BadStates word) k = absurd k.1
+source_of_inputs options place input old new told now NoInput k = absurd k.1
+source_of_inputs options place input old new told now (UnknownStyle unknown) k = absurd k.1
+source_of_inputs options place input old new told now (LongConfiguration file) k = absurd k.1
+source_of_inputs options place input old new told now (BadConfiguration file fault) k = absurd k.1
+source_of_inputs options place input old new told now (TooLarge its_name) k = tt
+source_of_inputs options place input old new told now (OpenComment its_name at) k = tt
+source_of_inputs options place input old new told now SourceFailed k = tt
+source_of_inputs options place input old new told now (FileFailed file) k = absurd k.1
+source_of_inputs options place input old new told now OutFailed k = tt
+source_of_inputs options place input old new told now NotesFailed k = tt
+source_of_inputs options place input old new told now (Missing file) k = absurd k.1
+source_of_inputs options place input old new told now NoMemory k = tt
 
 file_of_inputs : (options : Options) (place : Place) (name : List ℕ) (before now : Ends) (refusal : Refusal) → IsFileRefused options place name before now refusal → OfInputs refusal
 file_of_inputs options place name before now refusal (inl k) = cause_of_inputs before.held name refusal k.1
@@ -259,7 +289,7 @@ files_of_inputs options place (name ∷ names) before now refusal (inr k) = file
 
 of_inputs : (said : Words) (style : Style) (before now : World) (refusal : Refusal) → IsNotPerformed said style before now refusal → OfInputs refusal
 of_inputs said style before now refusal (inl k) = subst OfInputs (sym k.1.cause) tt
-of_inputs said style before now refusal (inr (inl k)) = source_of_inputs (options_of said style) before.left before.ends.taken now.ends.taken before.ends.told now.ends.told refusal k.2.refused
+of_inputs said style before now refusal (inr (inl k)) = source_of_inputs (options_of said style) _ before.left before.ends.taken now.ends.taken before.ends.told now.ends.told refusal k.2.refused
 of_inputs said style before now refusal (inr (inr k)) = files_of_inputs (options_of said style) _ _ before.ends now.ends refusal k.1.refused
 
 -- status 2 comes for the words

@@ -8,7 +8,7 @@ use Rattle.style_table.specs.declared.style.Style.{Style}
 use Rattle.command_words.specs.declared.read.Words.{Words}
 use Rattle.format_cli.specs.declared.input.Options.{Options}
 use Rattle.format_cli.specs.declared.input.Place.{Place}
-use Rattle.format_cli.specs.declared.input.Place.TheVariants.{Output, Itself}
+use Rattle.format_cli.specs.declared.input.Place.TheVariants.{Output, Itself, Nowhere}
 use Rattle.format_cli.specs.declared.refusal.Refusal.{Refusal}
 use Rattle.format_cli.specs.declared.refusal.Refusal.TheVariants.{BadWords, BadStates, NoInput, UnknownStyle, LongConfiguration, BadConfiguration, TooLarge, OpenComment, SourceFailed, FileFailed, OutFailed, NotesFailed, Missing, NoMemory}
 use Rattle.format_cli.specs.Account.{IsNotPerformed, IsPerformed, World, files_of, options_of, place_of}
@@ -57,44 +57,58 @@ put_takes Itself name b c rows before now OutFailed k = absurd k
 put_takes Itself name b c rows before now NotesFailed k = front_taken before.told now.told rows k.2
 put_takes Itself name b c rows before now (Missing file) k = absurd k
 put_takes Itself name b c rows before now NoMemory k = (rows, k.2)
+put_takes Nowhere name b c rows before now BadWords k = absurd k
+put_takes Nowhere name b c rows before now (BadStates word) k = absurd k
+put_takes Nowhere name b c rows before now NoInput k = absurd k
+put_takes Nowhere name b c rows before now (UnknownStyle unknown) k = absurd k
+put_takes Nowhere name b c rows before now (LongConfiguration file) k = absurd k
+put_takes Nowhere name b c rows before now (BadConfiguration file fault) k = absurd k
+put_takes Nowhere name b c rows before now (TooLarge its_name) k = absurd k
+put_takes Nowhere name b c rows before now (OpenComment its_name at) k = absurd k
+put_takes Nowhere name b c rows before now SourceFailed k = absurd k
+put_takes Nowhere name b c rows before now (FileFailed file) k = absurd k
+put_takes Nowhere name b c rows before now OutFailed k = absurd k
+put_takes Nowhere name b c rows before now NotesFailed k = front_taken before.told now.told rows k.2
+put_takes Nowhere name b c rows before now (Missing file) k = absurd k
+put_takes Nowhere name b c rows before now NoMemory k = absurd k
 
-source_takes : (options : Options) (input old new told now : Option (List ℕ)) (refusal : Refusal) → IsSourceRefused options input old new told now refusal → TakesRows told now
-source_takes options input old new told now BadWords k = none_taken told now k.2
-source_takes options input old new told now (BadStates word) k = none_taken told now k.2
-source_takes options input old new told now NoInput k = none_taken told now k.2
-source_takes options input old new told now (UnknownStyle unknown) k = none_taken told now k.2
-source_takes options input old new told now (LongConfiguration file) k = none_taken told now k.2
-source_takes options input old new told now (BadConfiguration file fault) k = none_taken told now k.2
-source_takes options input old new told now (TooLarge its_name) k = none_taken told now k.2
-source_takes options input old new told now (OpenComment its_name at) k = none_taken told now k.2
-source_takes options input old new told now SourceFailed k = none_taken told now k.2
-source_takes options input old new told now (FileFailed file) k = none_taken told now k.2
-source_takes options input old new told now OutFailed k = (_, k.5)
-source_takes options input old new told now NotesFailed k = front_taken told now _ k.5
-source_takes options input old new told now (Missing file) k = none_taken told now k.2
-source_takes options input old new told now NoMemory k = none_taken told now k.2
+source_takes : (options : Options) (place : Place) (input old new told now : Option (List ℕ)) (refusal : Refusal) → IsSourceRefused options place input old new told now refusal → TakesRows told now
+source_takes options place input old new told now BadWords k = none_taken told now k.2
+source_takes options place input old new told now (BadStates word) k = none_taken told now k.2
+source_takes options place input old new told now NoInput k = none_taken told now k.2
+source_takes options place input old new told now (UnknownStyle unknown) k = none_taken told now k.2
+source_takes options place input old new told now (LongConfiguration file) k = none_taken told now k.2
+source_takes options place input old new told now (BadConfiguration file fault) k = none_taken told now k.2
+source_takes options place input old new told now (TooLarge its_name) k = none_taken told now k.2
+source_takes options place input old new told now (OpenComment its_name at) k = none_taken told now k.2
+source_takes options place input old new told now SourceFailed k = none_taken told now k.2
+source_takes options place input old new told now (FileFailed file) k = none_taken told now k.2
+source_takes options place input old new told now OutFailed k = (_, k.5)
+source_takes options place input old new told now NotesFailed k = front_taken told now _ k.5
+source_takes options place input old new told now (Missing file) k = none_taken told now k.2
+source_takes options place input old new told now NoMemory k = none_taken told now k.2
 
 files_take : (options : Options) (place : Place) (names : List (List ℕ)) (before now : Ends) → AreDone options place names before now → TakesRows before.told now.told
 files_take options place [] before now k = none_taken before.told now.told k.told
-files_take options place (name ∷ names) before now k = more_taken before.told k.0.told now.told (rows_told name k.1.3, k.1.5) (files_take options place names k.0 now k.2)
+files_take options place (name ∷ names) before now k = more_taken before.told k.0.told now.told (rows_told place name k.1.3, k.1.5) (files_take options place names k.0 now k.2)
 
 refused_take : (options : Options) (place : Place) (names : List (List ℕ)) (before now : Ends) (refusal : Refusal) → AreRefused options place names before now refusal → TakesRows before.told now.told
 refused_take options place [] before now refusal k = absurd k
 refused_take options place (name ∷ names) before now refusal (inl (inl k)) = none_taken before.told now.told k.0.told
 refused_take options place (name ∷ names) before now refusal (inl (inr k)) = put_takes place name k.0 k.1 _ before now refusal k.4
 refused_take options place (name ∷ names) before now refusal (inr k) =
-    more_taken before.told k.0.told now.told (rows_told name k.1.3, k.1.5) (refused_take options place names k.0 now refusal k.2)
+    more_taken before.told k.0.told now.told (rows_told place name k.1.3, k.1.5) (refused_take options place names k.0 now refusal k.2)
 
 -- while a call does what its words ask for
 pub performed_takes : (said : Words) (style : Style) (before now : World) → IsPerformed said style before now → TakesRows before.ends.told now.ends.told
 performed_takes said style before now (inl p) = none_taken before.ends.told now.ends.told p.1.told
 performed_takes said style before now (inr (inl p)) = (_, p.2.done.5)
-performed_takes said style before now (inr (inr p)) = files_take (options_of said style) (place_of said.in_place) (files_of said) before.ends now.ends p.1.done
+performed_takes said style before now (inr (inr p)) = files_take (options_of said style) (place_of said.dry_run said.in_place) (files_of said) before.ends now.ends p.1.done
 
 -- also where one of the inputs is refused
 pub not_performed_takes : (said : Words) (style : Style) (before now : World) (refusal : Refusal) → IsNotPerformed said style before now refusal → TakesRows before.ends.told now.ends.told
 not_performed_takes said style before now refusal (inl p) = none_taken before.ends.told now.ends.told p.1.told
 not_performed_takes said style before now refusal (inr (inl p)) =
-    source_takes (options_of said style) before.left before.ends.taken now.ends.taken before.ends.told now.ends.told refusal p.2.refused
+    source_takes (options_of said style) (place_of said.dry_run said.in_place) before.left before.ends.taken now.ends.taken before.ends.told now.ends.told refusal p.2.refused
 not_performed_takes said style before now refusal (inr (inr p)) =
-    refused_take (options_of said style) (place_of said.in_place) (files_of said) before.ends now.ends refusal p.1.refused
+    refused_take (options_of said style) (place_of said.dry_run said.in_place) (files_of said) before.ends now.ends refusal p.1.refused

@@ -1,5 +1,6 @@
 -- What a call did, from the words to its last input.
-use Rattle.std.specs.Prelude.{◌≡◌, ◌≢◌, ◌⊎◌, ℕ, Bool, true, false, List, [], Option, Ok, Err, IsTrue, IsFalse, map}
+use Rattle.std.specs.Prelude.{◌≡◌, ◌≢◌, ◌⊎◌, ◌↔◌, ℕ, Bool, true, false, List, [], Option, Ok, Err, IsTrue, IsFalse, ◌&&◌, if◌then◌else◌, map}
+use Rattle.std.proofs.Common.{inl, inr}
 use Rattle.std.specs.Io.KnownBytes.{Appends, Keeps}
 use Rattle.fmt_ports.specs.Causes.{AppendsPart, Rose}
 use Rattle.fmt_ports.specs.Files.{Held, KeepsAll}
@@ -8,19 +9,22 @@ use Rattle.style_table.specs.Dump.{dump_text}
 use Rattle.command_words.specs.declared.read.Words.{Words}
 use Rattle.command_words.specs.declared.fault.WordsFault.TheVariants as Fault
 use Rattle.command_words.specs.Said.{Reads}
+use Rattle.format_cli.specs.declared.command.Outcome.{Outcome}
+use Rattle.format_cli.specs.declared.command.Outcome.TheVariants.{Done, WouldChange}
 use Rattle.format_cli.specs.declared.input.Options.{Options}
 use Rattle.format_cli.specs.declared.input.Place.{Place}
-use Rattle.format_cli.specs.declared.input.Place.TheVariants.{Output, Itself}
+use Rattle.format_cli.specs.declared.input.Place.TheVariants.{Output, Itself, Nowhere}
 use Rattle.format_cli.specs.declared.refusal.Refusal.{Refusal}
 use Rattle.format_cli.specs.declared.refusal.Refusal.TheVariants.{BadWords, BadStates, NoInput, OutFailed, NoMemory}
 use Rattle.format_cli.specs.InForce.{IsInForce, IsStyleRefused}
-use Rattle.format_cli.specs.Inputs.{Ends, ends, IsSourceDone, IsSourceRefused, AreDone, AreRefused}
+use Rattle.format_cli.specs.Inputs.{Ends, ends, IsSourceDone, IsSourceRefused, AreDone, AreRefused, SomeChanges}
 use Rattle.format_cli.specs.Notes.{row_of, status_of}
 
--- where the texts go: into their files with `-i`, and to the output without
-abbrev pub place_of : (in_place : Bool) → Place
-place_of true = Itself
-place_of false = Output
+-- where the texts go: nowhere with `--dry-run`, and otherwise into their files with `-i`, and to the output without
+abbrev pub place_of : (dry_run in_place : Bool) → Place
+place_of true in_place = Nowhere
+place_of false true = Itself
+place_of false false = Output
 
 -- the FILEs of the words
 abbrev pub files_of : Words → List (List ℕ)
@@ -45,23 +49,34 @@ pub record IsDumped (style : Style) (before now : World) : Type 0 where
   pub told : Keeps before.ends.told now.ends.told
   pub left : now.left ≡ before.left
 
--- the notes took the reports of standard input, and the output its formatted text
-pub record IsSourceWritten (options : Options) (before now : World) : Type 0 where
-  pub done : IsSourceDone options before.left before.ends.taken now.ends.taken before.ends.told now.ends.told
+-- the notes took the rows of standard input, and the output its formatted text
+pub record IsSourceWritten (options : Options) (place : Place) (before now : World) : Type 0 where
+  pub done : IsSourceDone options place before.left before.ends.taken now.ends.taken before.ends.told now.ends.told
   pub held : KeepsAll before.ends.held now.ends.held
 
 -- every FILE was done, and standard input wasn't read
 pub record AreFilesWritten (said : Words) (style : Style) (before now : World) : Type 0 where
   pub some : files_of said ≢ []
-  pub done : AreDone (options_of said style) (place_of said.in_place) (files_of said) before.ends now.ends
+  pub done : AreDone (options_of said style) (place_of said.dry_run said.in_place) (files_of said) before.ends now.ends
   pub left : now.left ≡ before.left
 
 -- What the words ask for was done: the style was dumped, or else every input was done.
 abbrev pub IsPerformed : Words → Style → World → World → Type 0
 IsPerformed said style before now =
     (IsTrue said.dump_config × IsDumped style before now)
-    ⊎ (IsFalse said.dump_config × (files_of said ≡ []) × IsSourceWritten (options_of said style) before now)
+    ⊎ (IsFalse said.dump_config × (files_of said ≡ []) × IsSourceWritten (options_of said style) (place_of said.dry_run said.in_place) before now)
     ⊎ (IsFalse said.dump_config × AreFilesWritten said style before now)
+
+-- what the words ask for was done, and the text of some input changes
+abbrev pub TextChanges : (said : Words) (style : Style) (before now : World) → IsPerformed said style before now → Type 0
+TextChanges said style before now (inl dumped) = ⊥
+TextChanges said style before now (inr (inl source)) = source.2.done.1 ≢ source.2.done.0
+TextChanges said style before now (inr (inr files)) =
+    SomeChanges (options_of said style) (place_of said.dry_run said.in_place) (files_of said) before.ends now.ends files.1.done
+
+-- what the words ask for was done, and this tells whether some text changes
+abbrev pub IsPerformedWith : Words → Style → World → World → (changes : Bool) → Type 0
+IsPerformedWith said style before now changes = (performed : IsPerformed said style before now) × (IsTrue changes ↔ TextChanges said style before now performed)
 
 -- the output failed and took a front of the style's text
 pub record IsDumpRefused (style : Style) (before now : World) (refusal : Refusal) : Type 0 where
@@ -72,21 +87,21 @@ pub record IsDumpRefused (style : Style) (before now : World) (refusal : Refusal
   pub left : now.left ≡ before.left
 
 -- standard input was refused
-pub record IsSourceNotWritten (options : Options) (before now : World) (refusal : Refusal) : Type 0 where
-  pub refused : IsSourceRefused options before.left before.ends.taken now.ends.taken before.ends.told now.ends.told refusal
+pub record IsSourceNotWritten (options : Options) (place : Place) (before now : World) (refusal : Refusal) : Type 0 where
+  pub refused : IsSourceRefused options place before.left before.ends.taken now.ends.taken before.ends.told now.ends.told refusal
   pub held : KeepsAll before.ends.held now.ends.held
 
 -- one of the FILEs was refused, those before it done, and standard input wasn't read
 pub record AreFilesNotWritten (said : Words) (style : Style) (before now : World) (refusal : Refusal) : Type 0 where
   pub some : files_of said ≢ []
-  pub refused : AreRefused (options_of said style) (place_of said.in_place) (files_of said) before.ends now.ends refusal
+  pub refused : AreRefused (options_of said style) (place_of said.dry_run said.in_place) (files_of said) before.ends now.ends refusal
   pub left : now.left ≡ before.left
 
 -- what the words ask for ended in this refusal
 abbrev pub IsNotPerformed : Words → Style → World → World → Refusal → Type 0
 IsNotPerformed said style before now refusal =
     (IsTrue said.dump_config × IsDumpRefused style before now refusal)
-    ⊎ (IsFalse said.dump_config × (files_of said ≡ []) × IsSourceNotWritten (options_of said style) before now refusal)
+    ⊎ (IsFalse said.dump_config × (files_of said ≡ []) × IsSourceNotWritten (options_of said style) (place_of said.dry_run said.in_place) before now refusal)
     ⊎ (IsFalse said.dump_config × AreFilesNotWritten said style before now refusal)
 
 -- ---- a whole call
@@ -134,13 +149,31 @@ pub record EndsAtInputs (words : List (List ℕ)) (before now : World) (refusal 
   pub begins : IsBegun words before begun said style
   pub refused : IsNotPerformed said style begun now refusal
 
--- A call did all that its words ask for: the notes took the rows of the skipped keys, and then the reports of each input.
-pub record EndsWell (words : List (List ℕ)) (before now : World) : Type 0 where
+-- the status of a call that did all that its words ask for
+abbrev pub outcome_status : Outcome → ℕ
+outcome_status Done = 0
+outcome_status WouldChange = 1
+
+-- how a call ends, where all was done and this tells whether some text changes
+abbrev pub outcome_of : Words → (changes : Bool) → Outcome
+outcome_of said changes = if said.dry_run && said.werror && changes then WouldChange else Done
+
+-- the words have `--dry-run` and `--Werror`, and some text changes
+abbrev pub WouldFail : Words → (changes : Type 0) → Type 0
+WouldFail said changes = IsTrue said.dry_run × IsTrue said.werror × changes
+
+-- 1 where a dry run with `--Werror` found a text that changes, and otherwise 0
+abbrev pub Answers : (fails : Type 0) → (status : ℕ) → Type 0
+Answers fails status = (fails × (status ≡ 1)) ⊎ ((¬ fails) × (status ≡ 0))
+
+-- A call did all that its words ask for, and this is its status: the notes took the rows of the skipped keys, and then those of each input.
+pub record EndsWell (words : List (List ℕ)) (before now : World) (status : ℕ) : Type 0 where
   pub said : Words
   pub style : Style
   pub begun : World
   pub begins : IsBegun words before begun said style
   pub performed : IsPerformed said style begun now
+  pub answers : Answers (WouldFail said (TextChanges said style begun now performed)) status
 
 -- a call was refused so: for its words, for its style, or at its output or inputs
 abbrev pub IsRefused : List (List ℕ) → World → World → Refusal → Type 0

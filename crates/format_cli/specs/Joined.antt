@@ -10,7 +10,7 @@ use Rattle.format_cli.specs.Inputs.{AreDone, Ends, IsFormatted, rows_told}
 
 -- this is the formatted text of a FILE, and these are the rows of its reports
 abbrev pub IsText : Options → Held → (name text rows : List ℕ) → Type 0
-IsText options held name text rows = (b : List ℕ) × IsHeld held name b × (made : IsFormatted options b text) × (rows ≡ rows_told name made)
+IsText options held name text rows = (b : List ℕ) × IsHeld held name b × (made : IsFormatted options b text) × (rows ≡ rows_told Output name made)
 
 -- these are the formatted texts of the FILEs in order, and the rows of their reports
 abbrev pub AreFormatted : Options → Held → (names texts rows : List (List ℕ)) → Type 0

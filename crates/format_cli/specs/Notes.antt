@@ -1,10 +1,13 @@
 -- The rows that the command writes on standard error, and its statuses: README.md, "Use".
-use Rattle.std.specs.Prelude.{ℕ, List, [], ◌++◌, codes, decimal, map}
+use Rattle.std.specs.Prelude.{ℕ, Bool, true, false, List, [], ◌++◌, codes, decimal, map}
 use Rattle.std.specs.List.{concat}
 use Rattle.style_config.specs.declared.fault.ConfigFault.{ConfigFault}
 use Rattle.style_config.specs.declared.fault.ConfigFault.TheVariants as Config
 use Rattle.style_config.specs.declared.skipped.SkippedKey.{SkippedKey}
+use Rattle.run_layout.specs.declared.report.Counts.{Counts}
 use Rattle.run_layout.specs.declared.report.Report.{Report}
+use Rattle.format_cli.specs.declared.input.Place.{Place}
+use Rattle.format_cli.specs.declared.input.Place.TheVariants.{Output, Itself, Nowhere}
 use Rattle.format_cli.specs.declared.refusal.Refusal.{Refusal}
 use Rattle.format_cli.specs.declared.refusal.Refusal.TheVariants.{BadWords, BadStates, NoInput, UnknownStyle, LongConfiguration, BadConfiguration, TooLarge, OpenComment, SourceFailed, FileFailed, OutFailed, NotesFailed, Missing, NoMemory}
 
@@ -24,7 +27,7 @@ fault_row file Config.NoMemory = codes "clang_format: no memory\n"
 
 -- The row of a refusal, with the new-line that ends it. Notes that have failed take none.
 abbrev pub row_of : Refusal → List ℕ
-row_of BadWords = codes "usage: clang_format [--style S] [--states N] [-i] [--dump-config] [FILE ..]" ++ codes "\n"
+row_of BadWords = codes "usage: clang_format [--style S] [--states N] [-i] [--dry-run] [--Werror] [--dump-config] [FILE ..]" ++ codes "\n"
 row_of (BadStates word) = codes "clang_format: --states " ++ word.now ++ codes ": not 1 to 16000000\n"
 row_of NoInput = codes "clang_format: -i needs a file\n"
 row_of (UnknownStyle name) = codes "clang_format: style " ++ name.now ++ codes ": unknown name\n"
@@ -73,3 +76,26 @@ report_row name budget report =
 -- the rows of the lines of an input that are reported
 abbrev pub report_rows : List ℕ → ℕ → List Report → List ℕ
 report_rows name budget reports = concat (map (report_row name budget) reports)
+
+-- whether a text would change, as a summary tells it
+abbrev pub change_word : Bool → List ℕ
+change_word true = codes ", changed\n"
+change_word false = codes ", unchanged\n"
+
+-- what a summary tells of the lines that a text's runs saw: those left over and the costs of those searched
+abbrev pub cost_row : Counts → Bool → List ℕ
+cost_row counts changed = numbered_row [] [] counts.over (codes ", cost ") ++ numbered_row [] [] counts.cost (change_word changed)
+
+-- how many lines were searched, and what comes behind it
+abbrev pub lines_row : Counts → Bool → List ℕ
+lines_row counts changed = numbered_row [] [] counts.searched (codes ", over ") ++ cost_row counts changed
+
+-- the summary of an input of this name: `NAME: runs R, searched S, over O, cost C, changed`, or `unchanged`
+abbrev pub summary_row : List ℕ → Counts → Bool → List ℕ
+summary_row name counts changed = numbered_row name (codes ": runs ") counts.runs (codes ", searched ") ++ lines_row counts changed
+
+-- the rows of an input: those of its reports, and in a dry run its summary
+abbrev pub input_rows : Place → (name : List ℕ) → ℕ → List Report → Counts → (changed : Bool) → List ℕ
+input_rows Output name budget reports counts changed = report_rows name budget reports
+input_rows Itself name budget reports counts changed = report_rows name budget reports
+input_rows Nowhere name budget reports counts changed = report_rows name budget reports ++ summary_row name counts changed

@@ -64,11 +64,11 @@ abbrev pub AreDifferent : List (List ℕ) → Type 0
 AreDifferent [] = ⊤
 AreDifferent (name ∷ names) = (¬ IsOneOf name names) × AreDifferent names
 
--- The first input that is refused is refused with this status. With `-i` this is told of FILEs that are named once.
+-- The first input that is refused is refused with this status. With `-i`, but in a dry run, this is told of FILEs that are named once.
 abbrev pub InputsStop : Words → Option (List ℕ) → Held → ℕ → Type 0
 InputsStop said left held status =
     ((files_of said ≡ []) × IsThere IsBadText left × (status ≡ 4))
-    ⊎ (FilesStop held (files_of said) status × (IsTrue said.in_place → AreDifferent (files_of said)))
+    ⊎ (FilesStop held (files_of said) status × (IsTrue said.in_place → IsFalse said.dry_run → AreDifferent (files_of said)))
 
 -- ---- a whole call
 

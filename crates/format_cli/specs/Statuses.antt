@@ -15,7 +15,7 @@ use Rattle.format_cli.specs.Notes.{status_of}
 
 -- the statuses that there are
 abbrev pub IsStatus : ℕ → Type 0
-IsStatus status = (status ≡ 0) ⊎ (status ≡ 2) ⊎ (status ≡ 3) ⊎ (status ≡ 4) ⊎ (status ≡ 5) ⊎ (status ≡ 6) ⊎ (status ≡ 7)
+IsStatus status = (status ≡ 0) ⊎ (status ≡ 1) ⊎ (status ≡ 2) ⊎ (status ≡ 3) ⊎ (status ≡ 4) ⊎ (status ≡ 5) ⊎ (status ≡ 6) ⊎ (status ≡ 7)
 
 -- the words aren't of the command's form, `--states` tells no budget, or `-i` lacks its FILE
 abbrev pub AreBadWords : List (List ℕ) → Type 0
@@ -58,10 +58,17 @@ pub record HasRefusedInput (words : List (List ℕ)) (input : Option (List ℕ))
   pub is_its : status_of refusal ≡ status
   pub cause : ((files_of said ≡ []) × IsSourceCause input refusal) ⊎ ((name : List ℕ) × IsOneOf name (files_of said) × IsFileCause held name refusal)
 
--- the words have `-i`, and not `--dump-config`
-abbrev pub WritesBack : List (List ℕ) → Type 0
-WritesBack words = Gives (codes "in-place") (rows_of_words words) × (¬ Gives (codes "dump-config") (rows_of_words words))
+-- the words have `-i` or `--dry-run`, and not `--dump-config`
+abbrev pub LeavesOutput : List (List ℕ) → Type 0
+LeavesOutput words =
+    (Gives (codes "in-place") (rows_of_words words) ⊎ Gives (codes "dry-run") (rows_of_words words)) × (¬ Gives (codes "dump-config") (rows_of_words words))
 
--- the words don't have `-i`, or have `--dump-config`
-abbrev pub WritesOut : List (List ℕ) → Type 0
-WritesOut words = (¬ Gives (codes "in-place") (rows_of_words words)) ⊎ Gives (codes "dump-config") (rows_of_words words)
+-- the words don't have `-i`, or have `--dry-run` or `--dump-config`
+abbrev pub LeavesFiles : List (List ℕ) → Type 0
+LeavesFiles words =
+    (¬ Gives (codes "in-place") (rows_of_words words)) ⊎ Gives (codes "dry-run") (rows_of_words words) ⊎ Gives (codes "dump-config") (rows_of_words words)
+
+-- the words have `--dry-run` and `--Werror`, and not `--dump-config`
+abbrev pub AsksWhetherChanged : List (List ℕ) → Type 0
+AsksWhetherChanged words =
+    Gives (codes "dry-run") (rows_of_words words) × Gives (codes "Werror") (rows_of_words words) × (¬ Gives (codes "dump-config") (rows_of_words words))

@@ -1,15 +1,16 @@
 //! The inputs: each is read, formatted and put in its place.
 
-ghost use Rattle.std.specs.Prelude.{◌≡◌, ◌≤◌, IfErr, IfOk, map, not};
+ghost use Rattle.std.specs.Prelude.{◌≡◌, ◌≤◌, ◌||◌, IfErr, IfOk, OnOk, map, not};
+ghost use Rattle.fmt_ports.specs.Causes.{Counts};
 ghost use Rattle.fmt_ports.specs.Files.{KeepsAll, KeepsOthers};
 ghost use Rattle.c_grammar.specs.Grammar.{is_same};
 ghost use Rattle.style_table.specs.Range.{IsInRange};
 ghost use Rattle.format_cli.specs.Counts.{Counted, Faults};
 ghost use Rattle.format_cli.specs.InForce.{IsHeld};
-ghost use Rattle.format_cli.specs.Inputs.{AreDone, AreRefused, IsDone, IsFileCause, IsFileRefused, IsFormatted, IsSourceDone, IsSourceRefused, IsTextCause, IsWriteRefused, ends};
+ghost use Rattle.format_cli.specs.Inputs.{AreDoneWith, AreRefused, IsDoneWith, IsFileCause, IsFileRefused, IsFormatted, IsSourceDoneWith, IsSourceRefused, IsTextCause, IsWriteRefused, SourcePutFails, SourcePuts, ends};
 
 use crate::refusal::{Refusal, STANDARD_INPUT};
-use crate::reports::tell_reports;
+use crate::summary::tell_input;
 use bumpalo::Bump;
 use c_chars::{Dialect, LIMIT};
 use fmt_ports::{Failed, FileFault, Files, InFault, Sink, Source, read_all};
@@ -26,13 +27,15 @@ pub struct Options {
     pub budget: u64,
 }
 
-/// Where the texts of FILEs go.
+/// Where the texts go.
 #[derive(Clone, Copy, Debug)]
 pub enum Place {
     /// To the output, in order.
     Output,
-    /// Into the file itself, where its text changes.
+    /// Into the file itself, where its text changes. Standard input has none: its text goes to the output.
     Itself,
+    /// Nowhere: a summary is told in its place.
+    Nowhere,
 }
 
 /// The formatted text of an input of this name.
@@ -45,7 +48,7 @@ fn formatted<'a, 's, 'w>(
 ) -> Result<Formatted<'a, 's>, Refusal<'w>>
     requires range { IsInRange options.now.style }
     requires budget { options.now.budget ≤ 16000000 }
-    ensures formats { IfOk result (λ made. (is : IsFormatted options.now text.now made.text.items) × (made.reports.now ≡ is.reports)) }
+    ensures formats { IfOk result (λ made. (is : IsFormatted options.now text.now made.text.items) × (made.reports.now ≡ is.reports) × (made.counts ≡ is.counts)) }
     ensures changed { IfOk result (λ made. made.changed ≡ not (is_same made.text.items text.now)) }
     ensures refused { IfErr result (IsTextCause name.entry.now text.now) }
     ensures counts { (f : Faults) → Counted f f result }
@@ -66,18 +69,37 @@ fn formatted<'a, 's, 'w>(
     }
 }
 
-/// Formats standard input: tells its reports, and writes its text.
+/// Writes the formatted text of standard input, or in a dry run nothing.
+fn put_source<'a, 's, K: Sink>(
+    place: Place,
+    formatted: &Formatted<'a, 's>,
+    out: &mut K,
+) -> Result<(), Failed>
+    ensures ok { OnOk result (SourcePuts place formatted.now.text.items (K.taken out.old) (K.taken out.new)) }
+    ensures part { IfErr result (λ _. SourcePutFails place formatted.now.text.items (K.taken out.old) (K.taken out.new)) }
+    ensures counts { Counts (K.faults out.old) (K.faults out.new) result }
+{
+    match place {
+        Place::Output => formatted.write(out),
+        Place::Itself => formatted.write(out),
+        Place::Nowhere => Ok(()),
+    }
+}
+
+/// Formats standard input: tells its reports, and writes its text, or in a dry run tells its summary. The answer is
+/// whether its text changes.
 pub fn format_source<S: Source, K: Sink, E: Sink>(
     alloc: Global,
     options: &Options,
+    place: Place,
     source: &mut S,
     out: &mut K,
     notes: &mut E,
-) -> Result<(), Refusal<'static>>
+) -> Result<bool, Refusal<'static>>
     requires range { IsInRange options.now.style }
     requires budget { options.now.budget ≤ 16000000 }
-    ensures done { IfOk result (λ _. IsSourceDone options.now (S.left source.old) (K.taken out.old) (K.taken out.new) (E.taken notes.old) (E.taken notes.new)) }
-    ensures refused { IfErr result (IsSourceRefused options.now (S.left source.old) (K.taken out.old) (K.taken out.new) (E.taken notes.old) (E.taken notes.new)) }
+    ensures done { IfOk result (λ changes. IsSourceDoneWith options.now place (S.left source.old) (K.taken out.old) (K.taken out.new) (E.taken notes.old) (E.taken notes.new) changes) }
+    ensures refused { IfErr result (IsSourceRefused options.now place (S.left source.old) (K.taken out.old) (K.taken out.new) (E.taken notes.old) (E.taken notes.new)) }
     ensures counts { (f : Faults) → Counted (record f { source = S.faults source.old; out = K.faults out.old; notes = E.faults notes.old }) (record f { source = S.faults source.new; out = K.faults out.new; notes = E.faults notes.new }) result }
 {
     let text = match read_all(alloc, source, LIMIT as u64) {
@@ -88,12 +110,12 @@ pub fn format_source<S: Source, K: Sink, E: Sink>(
     };
     let bump = Bump::new(alloc);
     let formatted = formatted(alloc, &bump, options, STANDARD_INPUT, &text)?;
-    match tell_reports(STANDARD_INPUT, options.budget, formatted.reports, notes) {
+    match tell_input(STANDARD_INPUT, options.budget, place, &formatted, notes) {
         Ok(()) => {}
         Err(Failed) => return Err(Refusal::NotesFailed),
     }
-    match formatted.write(out) {
-        Ok(()) => Ok(()),
+    match put_source(place, &formatted, out) {
+        Ok(()) => Ok(formatted.changed),
         Err(Failed) => Err(Refusal::OutFailed),
     }
 }
@@ -129,7 +151,8 @@ fn write_back<'w, F: Files>(name: &'w str, text: &[u8], files: &mut F) -> Result
     }
 }
 
-/// Formats a FILE: tells its reports, and puts its text in its place. A text that stays as it was isn't written back.
+/// Formats a FILE: tells its reports, and puts its text in its place, or in a dry run tells its summary. A text that
+/// stays as it was isn't written back. The answer is whether its text changes.
 fn format_file<'w, K: Sink, E: Sink, F: Files>(
     alloc: Global,
     options: &Options,
@@ -138,36 +161,46 @@ fn format_file<'w, K: Sink, E: Sink, F: Files>(
     out: &mut K,
     notes: &mut E,
     files: &mut F,
-) -> Result<(), Refusal<'w>>
+) -> Result<bool, Refusal<'w>>
     requires range { IsInRange options.now.style }
     requires budget { options.now.budget ≤ 16000000 }
-    ensures done { IfOk result (λ _. IsDone options.now place name.entry.now (ends (K.taken out.old) (F.holds files.old) (E.taken notes.old)) (ends (K.taken out.new) (F.holds files.new) (E.taken notes.new))) }
+    ensures done { IfOk result (λ changes. IsDoneWith options.now place name.entry.now (ends (K.taken out.old) (F.holds files.old) (E.taken notes.old)) (ends (K.taken out.new) (F.holds files.new) (E.taken notes.new)) changes) }
     ensures refused { IfErr result (IsFileRefused options.now place name.entry.now (ends (K.taken out.old) (F.holds files.old) (E.taken notes.old)) (ends (K.taken out.new) (F.holds files.new) (E.taken notes.new))) }
     ensures counts { (f : Faults) → Counted (record f { out = K.faults out.old; notes = E.faults notes.old; files = F.faults files.old; misses = F.misses files.old }) (record f { out = K.faults out.new; notes = E.faults notes.new; files = F.faults files.new; misses = F.misses files.new }) result }
 {
     let text = read_file(name, files)?;
     let bump = Bump::new(alloc);
     let formatted = formatted(alloc, &bump, options, name, &text)?;
-    match tell_reports(name, options.budget, formatted.reports, notes) {
+    match tell_input(name, options.budget, place, &formatted, notes) {
         Ok(()) => {}
         Err(Failed) => return Err(Refusal::NotesFailed),
     }
     match place {
         Place::Output => match formatted.write(out) {
-            Ok(()) => Ok(()),
+            Ok(()) => Ok(formatted.changed),
             Err(Failed) => Err(Refusal::OutFailed),
         },
         Place::Itself => {
             if formatted.changed {
-                write_back(name, &formatted.text, files)
+                write_back(name, &formatted.text, files)?;
+                Ok(true)
             } else {
-                Ok(())
+                Ok(false)
             }
         }
+        Place::Nowhere => Ok(formatted.changed),
     }
 }
 
-/// Formats the FILEs in order. The first refusal ends it; those before stay done.
+/// Whether some text changes, one of those before or the one here.
+fn some_changes(before: bool, here: bool) -> bool
+    ensures { result ≡ (before || here) }
+{
+    before || here
+}
+
+/// Formats the FILEs in order. The first refusal ends it; those before stay done. The answer is whether some text
+/// changes.
 pub fn format_files<'w, K: Sink, E: Sink, F: Files>(
     alloc: Global,
     options: &Options,
@@ -176,15 +209,17 @@ pub fn format_files<'w, K: Sink, E: Sink, F: Files>(
     out: &mut K,
     notes: &mut E,
     files: &mut F,
-) -> Result<(), Refusal<'w>>
+) -> Result<bool, Refusal<'w>>
     requires range { IsInRange options.now.style }
     requires budget { options.now.budget ≤ 16000000 }
-    ensures done { IfOk result (λ _. AreDone options.now place (map (λ name. name.now) names.now) (ends (K.taken out.old) (F.holds files.old) (E.taken notes.old)) (ends (K.taken out.new) (F.holds files.new) (E.taken notes.new))) }
+    ensures done { IfOk result (λ changes. AreDoneWith options.now place (map (λ name. name.now) names.now) (ends (K.taken out.old) (F.holds files.old) (E.taken notes.old)) (ends (K.taken out.new) (F.holds files.new) (E.taken notes.new)) changes) }
     ensures refused { IfErr result (AreRefused options.now place (map (λ name. name.now) names.now) (ends (K.taken out.old) (F.holds files.old) (E.taken notes.old)) (ends (K.taken out.new) (F.holds files.new) (E.taken notes.new))) }
     ensures counts { (f : Faults) → Counted (record f { out = K.faults out.old; notes = E.faults notes.old; files = F.faults files.old; misses = F.misses files.old }) (record f { out = K.faults out.new; notes = E.faults notes.new; files = F.faults files.new; misses = F.misses files.new }) result }
 {
+    let mut changes = false;
     for name in names {
-        format_file(alloc, options, place, name, out, notes, files)?;
+        let here = format_file(alloc, options, place, name, out, notes, files)?;
+        changes = some_changes(changes, here);
     }
-    Ok(())
+    Ok(changes)
 }

@@ -105,10 +105,10 @@ PenaltyReturnTypeOnItsOwnLine: 60
 const WORDS_AND_STYLES: &[Row] = &[
     Row {
         name: "an unknown word",
-        words: &["--lines", "1:2"],
+        words: &["--sort", "1:2"],
         input: b"a",
         status: 2,
-        notes: b"usage: clang_format [--style S] [--states N] [-i] [--dump-config] [FILE ..]\n",
+        notes: b"usage: clang_format [--style S] [--states N] [-i] [--dry-run] [--Werror] [--dump-config] [FILE ..]\n",
         ..QUIET
     },
     Row {
@@ -289,6 +289,104 @@ const INPUTS: &[Row] = &[
     },
 ];
 
+/// Dry runs.
+const DRY_RUNS: &[Row] = &[
+    Row {
+        name: "a text that would change, where that is asked",
+        words: &["--dry-run", "--Werror"],
+        input: b"int  main( void ){return 0;}\n",
+        status: 1,
+        notes: b"<stdin>: runs 1, searched 3, over 0, cost 0, changed\n",
+        ..QUIET
+    },
+    Row {
+        name: "a text that wouldn't change, where that is asked",
+        words: &["--Werror", "--dry-run"],
+        input: b"int main(void) {\n  return 0;\n}\n",
+        notes: b"<stdin>: runs 1, searched 3, over 0, cost 0, unchanged\n",
+        ..QUIET
+    },
+    Row {
+        name: "a text that would change",
+        words: &["--dry-run"],
+        input: b"a=1;\n",
+        failing_writes: &[1],
+        notes: b"<stdin>: runs 1, searched 1, over 0, cost 0, changed\n",
+        ..QUIET
+    },
+    Row {
+        name: "the word for a status alone",
+        words: &["--Werror"],
+        input: b"a=1;\n",
+        out: b"a = 1;\n",
+        ..QUIET
+    },
+    Row {
+        name: "a dry run goes before -i",
+        words: &["--dry-run", "-i", "a.c"],
+        files: &[("a.c", b"x  =1;\n")],
+        failing_files: &[3],
+        notes: b"a.c: runs 1, searched 1, over 0, cost 0, changed\n",
+        held: &[("a.c", b"x  =1;\n")],
+        ..QUIET
+    },
+    Row {
+        name: "a dry run with -i and without a file",
+        words: &["--dry-run", "-i"],
+        status: 2,
+        notes: b"clang_format: -i needs a file\n",
+        ..QUIET
+    },
+    Row {
+        name: "the first of two files would change",
+        words: &["--dry-run", "--Werror", "a.c", "b.c"],
+        files: &[("a.c", b"a  b\n"), ("b.c", b"c\n")],
+        status: 1,
+        notes: b"a.c: runs 1, searched 1, over 0, cost 0, changed\nb.c: runs 1, searched 1, over 0, cost 0, unchanged\n",
+        held: &[("a.c", b"a  b\n")],
+        ..QUIET
+    },
+    Row {
+        name: "a text that would change, and then a file that isn't there",
+        words: &["--dry-run", "--Werror", "a.c", "b.c"],
+        files: &[("a.c", b"a  b\n")],
+        status: 6,
+        notes: b"a.c: runs 1, searched 1, over 0, cost 0, changed\nb.c: missing\n",
+        ..QUIET
+    },
+    Row {
+        name: "a report, and then the summary",
+        words: &["--dry-run", "--Werror", "--states", "1"],
+        input: b"f(a,b);\n",
+        notes: b"<stdin>:1: run 0: not searched within 1 cells\n<stdin>: runs 1, searched 0, over 1, cost 0, unchanged\n",
+        ..QUIET
+    },
+    Row {
+        name: "two runs, and no limit",
+        words: &["--dry-run", "--style=WebKit"],
+        input: b"#ifdef A\na;\n#else\nb;\n#endif\n",
+        notes: b"<stdin>: runs 2, searched 0, over 0, cost 0, unchanged\n",
+        ..QUIET
+    },
+    Row {
+        name: "notes that fail in a summary",
+        words: &["--dry-run", "--Werror"],
+        input: b"a=1;\n",
+        failing_notes: &[3],
+        status: 5,
+        notes: b"<stdin>: runs ",
+        ..QUIET
+    },
+    Row {
+        name: "a dump goes before a dry run",
+        words: &["--dry-run", "--Werror", "--dump-config"],
+        input: b"a=1;\n",
+        failing_reads: &[1],
+        out: LLVM,
+        ..QUIET
+    },
+];
+
 /// Calls of ports that fail.
 const FAILING_PORTS: &[Row] = &[
     Row {
@@ -425,7 +523,14 @@ fn check(rt: &impl Abort, alloc: Global, row: &Row, input: Vec<u8>) -> Result<()
 #[test]
 fn does_what_the_words_ask_for(rt: HostRuntime) -> Result<(), Fail> {
     let alloc = rt.alloc();
-    for rows in [WORDS_AND_STYLES, DUMPS, INPUTS, FAILING_PORTS, BUDGETS] {
+    for rows in [
+        WORDS_AND_STYLES,
+        DUMPS,
+        INPUTS,
+        DRY_RUNS,
+        FAILING_PORTS,
+        BUDGETS,
+    ] {
         for row in rows {
             check(&rt, alloc, row, row.input.to_vec(alloc)?)?;
         }

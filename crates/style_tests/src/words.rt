@@ -8,6 +8,8 @@ use std::test::Fail;
 struct Said {
     style: StyleChoice<'static>,
     in_place: bool,
+    dry_run: bool,
+    werror: bool,
     dump_config: bool,
     files: &'static [&'static str],
 }
@@ -16,6 +18,8 @@ struct Said {
 const NOTHING: Said = Said {
     style: StyleChoice::File,
     in_place: false,
+    dry_run: false,
+    werror: false,
     dump_config: false,
     files: &[],
 };
@@ -168,7 +172,40 @@ const ROWS: &[Row] = &[
     },
     Row {
         name: "an unknown word",
-        words: &["--lines=1:2"],
+        words: &["--sort=1:2"],
+        said: Err(WordsFault::Form),
+    },
+    Row {
+        name: "a dry run",
+        words: &["--dry-run"],
+        said: Ok(Said {
+            dry_run: true,
+            ..NOTHING
+        }),
+    },
+    Row {
+        name: "a dry run that tells by its status",
+        words: &["--Werror", "a.c", "--dry-run"],
+        said: Ok(Said {
+            dry_run: true,
+            werror: true,
+            files: &["a.c"],
+            ..NOTHING
+        }),
+    },
+    Row {
+        name: "a word in other letters",
+        words: &["--werror"],
+        said: Err(WordsFault::Form),
+    },
+    Row {
+        name: "a dry run with -i and without a file",
+        words: &["--dry-run", "-i"],
+        said: Err(WordsFault::NoInput),
+    },
+    Row {
+        name: "a dry run twice",
+        words: &["--dry-run", "--dry-run"],
         said: Err(WordsFault::Form),
     },
 ];
@@ -190,8 +227,13 @@ fn reads_words(rt: HostRuntime) -> Result<(), Fail> {
             (Ok(found), Ok(said)) => {
                 assert_eq!(rt; found.style, said.style, "the style of {}", row.name);
                 assert_eq!(rt;
-                    (found.in_place, found.dump_config),
-                    (said.in_place, said.dump_config),
+                    [
+                        found.in_place,
+                        found.dry_run,
+                        found.werror,
+                        found.dump_config
+                    ],
+                    [said.in_place, said.dry_run, said.werror, said.dump_config],
                     "the flags of {}",
                     row.name
                 );
@@ -215,7 +257,7 @@ fn shows_its_note(rt: HostRuntime) -> Result<(), Fail> {
     for (fault, note) in [
         (
             WordsFault::Form,
-            "usage: clang_format [--style S] [--states N] [-i] [--dump-config] [FILE ..]",
+            "usage: clang_format [--style S] [--states N] [-i] [--dry-run] [--Werror] [--dump-config] [FILE ..]",
         ),
         (
             WordsFault::BadStates("0"),

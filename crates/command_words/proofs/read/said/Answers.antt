@@ -14,6 +14,8 @@ returns-clause-says c = record {
   style = rw (← first_value-rows (found_of c.args.matches.now) (codes "style")) c.style_of-style.ensures;
   budget = rw (← first_value-rows (found_of c.args.matches.now) (codes "states")) c.in-Ok.ensures.some;
   in_place = rw (← first_value-rows (found_of c.args.matches.now) (codes "in-place")) c.is_given-in_place.ensures;
+  dry_run = rw (← first_value-rows (found_of c.args.matches.now) (codes "dry-run")) c.is_given-dry_run.ensures;
+  werror = rw (← first_value-rows (found_of c.args.matches.now) (codes "Werror")) c.is_given-werror.ensures;
   dump_config = rw (← first_value-rows (found_of c.args.matches.now) (codes "dump-config")) c.is_given-dump_config.ensures;
   files = rw (← raw_values-rows (found_of c.args.matches.now) (codes "file")) c.in_ok-files.ensures;
 }

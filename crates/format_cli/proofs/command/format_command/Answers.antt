@@ -1,14 +1,18 @@
-use Rattle.std.proofs.Common.{◌∙◌, sym}
-use Rattle.format_cli.proofs.Statuses.{known, not_zero, failed, source_fault, out_fault, files_fault, missing, misses, bad_words, form, no_style}
-use Rattle.format_cli.proofs.Kept.{out_kept_well, out_kept, files_kept_well, files_kept, missing_name, refused_input}
+use Rattle.std.proofs.Common.{◌∙◌, inl, inr, map, refl, rules, string_bytes, sym}
+use Rattle.format_cli.specs.Account.{EndsWell, world}
+use Rattle.format_cli.proofs.Statuses.{known, not_one, not_zero, failed, source_fault, out_fault, files_fault, missing, misses, bad_words, form, no_style}
+use Rattle.format_cli.proofs.Kept.{asks, out_kept_well, out_kept, files_kept_well, files_kept, missing_name, refused_input}
 use Rattle.format_cli.proofs.Order.{ends_not_well, ends_so, lacks_not_well, lacks_so, row_told}
 use Rattle.format_cli.proofs.command.format_command.Goals as goal
 
 pub returns-in-Err-clause-done : goal.returns-in-Err-clause-done
-returns-in-Err-clause-done g c is = absurd (not_zero c.in-Err.refusal (sym c.status_of.ensures ∙ is))
+returns-in-Err-clause-done g c is = elim is [
+  | inl zero ↦ absurd (not_zero c.in-Err.refusal (sym c.status_of.ensures ∙ zero))
+  | inr one ↦ absurd (not_one c.in-Err.refusal (sym c.status_of.ensures ∙ one))
+]
 
 pub returns-in-Err-clause-refused : goal.returns-in-Err-clause-refused
-returns-in-Err-clause-refused g c is = record {
+returns-in-Err-clause-refused g c some more = record {
   refusal = c.in-Err.refusal;
   is_its = c.status_of.ensures;
   told = g.E.Sink.taken c.run.new.notes;
@@ -28,14 +32,20 @@ returns-in-Err-clause-form g c bad = rw c.status_of.ensures (form _ _ _ c.in-Err
 pub returns-in-Err-clause-style : goal.returns-in-Err-clause-style
 returns-in-Err-clause-style g c is = no_style _ _ _ c.in-Err.refusal (sym c.status_of.ensures ∙ is) c.in-Err.ensures.refused
 
-pub returns-in-Ok-clause-first : goal.returns-in-Ok-clause-first
-returns-in-Ok-clause-first g c = λ status stops. absurd (ends_not_well _ _ _ status c.in-Ok.ensures.done stops)
+pub returns-in-Ok-Done-clause-first : goal.returns-in-Ok-Done-clause-first
+returns-in-Ok-Done-clause-first g c = λ status stops. absurd (ends_not_well _ _ _ _ status c.in-Ok-Done.ensures.done stops)
+
+pub returns-in-Ok-WouldChange-clause-first : goal.returns-in-Ok-WouldChange-clause-first
+returns-in-Ok-WouldChange-clause-first g c = λ status stops. absurd (ends_not_well _ _ _ _ status c.in-Ok-WouldChange.ensures.done stops)
 
 pub returns-in-Err-clause-first : goal.returns-in-Err-clause-first
 returns-in-Err-clause-first g c = λ status stops. rw c.status_of.ensures (ends_so _ _ _ c.in-Err.refusal status c.in-Err.ensures.refused stops)
 
-pub returns-in-Ok-clause-skipped : goal.returns-in-Ok-clause-skipped
-returns-in-Ok-clause-skipped g c lacks = absurd (lacks_not_well _ _ _ c.in-Ok.ensures.done lacks)
+pub returns-in-Ok-Done-clause-skipped : goal.returns-in-Ok-Done-clause-skipped
+returns-in-Ok-Done-clause-skipped g c lacks = absurd (lacks_not_well _ _ _ _ c.in-Ok-Done.ensures.done lacks)
+
+pub returns-in-Ok-WouldChange-clause-skipped : goal.returns-in-Ok-WouldChange-clause-skipped
+returns-in-Ok-WouldChange-clause-skipped g c lacks = absurd (lacks_not_well _ _ _ _ c.in-Ok-WouldChange.ensures.done lacks)
 
 pub returns-in-Err-clause-skipped : goal.returns-in-Err-clause-skipped
 returns-in-Err-clause-skipped g c lacks =
@@ -55,7 +65,8 @@ pub returns-in-Err-clause-file_fault : goal.returns-in-Err-clause-file_fault
 returns-in-Err-clause-file_fault g c more = c.status_of.ensures ∙ files_fault c.in-Err.refusal _ _ c.in-Err.ensures.counts more
 
 pub returns-in-Err-clause-note_fault : goal.returns-in-Err-clause-note_fault
-returns-in-Err-clause-note_fault g c more is = not_zero c.in-Err.refusal (sym c.status_of.ensures ∙ is)
+returns-in-Err-clause-note_fault g c more =
+    (λ is. not_zero c.in-Err.refusal (sym c.status_of.ensures ∙ is), λ is. not_one c.in-Err.refusal (sym c.status_of.ensures ∙ is))
 
 pub returns-in-Err-clause-missing : goal.returns-in-Err-clause-missing
 returns-in-Err-clause-missing g c is = missing c.in-Err.refusal _ _ (sym c.status_of.ensures ∙ is) c.in-Err.ensures.counts
@@ -63,14 +74,20 @@ returns-in-Err-clause-missing g c is = missing c.in-Err.refusal _ _ (sym c.statu
 pub returns-in-Err-clause-misses : goal.returns-in-Err-clause-misses
 returns-in-Err-clause-misses g c more = c.status_of.ensures ∙ misses c.in-Err.refusal _ _ c.in-Err.ensures.counts more
 
-pub returns-in-Ok-clause-out_kept : goal.returns-in-Ok-clause-out_kept
-returns-in-Ok-clause-out_kept g c back = out_kept_well _ _ _ back c.in-Ok.ensures.done
+pub returns-in-Ok-Done-clause-out_kept : goal.returns-in-Ok-Done-clause-out_kept
+returns-in-Ok-Done-clause-out_kept g c back = out_kept_well _ _ _ _ back c.in-Ok-Done.ensures.done
+
+pub returns-in-Ok-WouldChange-clause-out_kept : goal.returns-in-Ok-WouldChange-clause-out_kept
+returns-in-Ok-WouldChange-clause-out_kept g c back = out_kept_well _ _ _ _ back c.in-Ok-WouldChange.ensures.done
 
 pub returns-in-Err-clause-out_kept : goal.returns-in-Err-clause-out_kept
 returns-in-Err-clause-out_kept g c back = out_kept _ _ _ c.in-Err.refusal back c.in-Err.ensures.refused
 
-pub returns-in-Ok-clause-files_kept : goal.returns-in-Ok-clause-files_kept
-returns-in-Ok-clause-files_kept g c forth = files_kept_well _ _ _ forth c.in-Ok.ensures.done
+pub returns-in-Ok-Done-clause-files_kept : goal.returns-in-Ok-Done-clause-files_kept
+returns-in-Ok-Done-clause-files_kept g c forth = files_kept_well _ _ _ _ forth c.in-Ok-Done.ensures.done
+
+pub returns-in-Ok-WouldChange-clause-files_kept : goal.returns-in-Ok-WouldChange-clause-files_kept
+returns-in-Ok-WouldChange-clause-files_kept g c forth = files_kept_well _ _ _ _ forth c.in-Ok-WouldChange.ensures.done
 
 pub returns-in-Err-clause-files_kept : goal.returns-in-Err-clause-files_kept
 returns-in-Err-clause-files_kept g c forth = files_kept _ _ _ c.in-Err.refusal forth c.in-Err.ensures.refused
@@ -80,3 +97,13 @@ returns-in-Err-clause-missing_name g c is = missing_name _ _ _ c.in-Err.refusal 
 
 pub returns-in-Err-clause-input : goal.returns-in-Err-clause-input
 returns-in-Err-clause-input g c is forth = refused_input _ _ _ c.in-Err.refusal (sym c.status_of.ensures ∙ is) forth c.in-Err.ensures.refused
+
+pub returns-in-Ok-WouldChange-clause-changed : goal.returns-in-Ok-WouldChange-clause-changed
+returns-in-Ok-WouldChange-clause-changed g c is =
+    let before = world (g.S.Source.left c.args.source.now) (g.K.Sink.taken c.args.out.now) (g.F.Files.holds c.args.files.now) (g.E.Sink.taken c.args.notes.now) in
+    let now = world (g.S.Source.left c.run.new.source) (g.K.Sink.taken c.run.new.out) (g.F.Files.holds c.run.new.files) (g.E.Sink.taken c.run.new.notes) in
+    let well : EndsWell (map string_bytes c.args.words.now) before now 1 = search rules in
+    asks (map string_bytes c.args.words.now) before now 1 refl well
+
+pub returns-in-Err-clause-changed : goal.returns-in-Err-clause-changed
+returns-in-Err-clause-changed g c is = absurd (not_one c.in-Err.refusal (sym c.status_of.ensures ∙ is))

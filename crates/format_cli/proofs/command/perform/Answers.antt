@@ -1,4 +1,23 @@
+use Rattle.std.proofs.Common.{◌≡◌, ◌≢◌, ◌∙◌, ℕ, List, [], ap, map, refl, sym, inl, inr}
+use Rattle.std.specs.Borrow.{Bor}
+use Rattle.format_cli.specs.Account.{files_of}
+use Rattle.format_cli.proofs.Ends.{keeps_all_self}
+use Rattle.format_cli.proofs.Rest.{err_map, none_of, ok_follows, some_of}
 use Rattle.format_cli.proofs.command.perform.Goals as goal
+
+pub returns-then-is_empty-clause-done : goal.returns-then-is_empty-clause-done
+returns-then-is_empty-clause-done g c =
+    let none : files_of c.args.said.now ≡ [] = ap (map (λ (name : Bor (List ℕ)). name.now)) (none_of c.args.said.now.files.items c.args.said.now.files.len c.args.said.now.files.ok.0 (sym c.is_empty.ensures ∙ c.if-is_empty.true)) in
+    ok_follows _ _ c.format_source.result
+    (λ changes k. (inr (inl (c.if-said.false, none, record { done = k.0; held = keeps_all_self _ })), k.1))
+    (rw c.place_of-place.ensures at c.format_source.ensures.done)
+
+pub returns-then-is_empty-clause-refused : goal.returns-then-is_empty-clause-refused
+returns-then-is_empty-clause-refused g c =
+    let none : files_of c.args.said.now ≡ [] = ap (map (λ (name : Bor (List ℕ)). name.now)) (none_of c.args.said.now.files.items c.args.said.now.files.len c.args.said.now.files.ok.0 (sym c.is_empty.ensures ∙ c.if-is_empty.true)) in
+    err_map _ _ c.format_source.result
+    (λ refusal k. inr (inl (c.if-said.false, none, record { refused = k; held = keeps_all_self _ })))
+    (rw c.place_of-place.ensures at c.format_source.ensures.refused)
 
 pub returns-then-is_empty-clause-counts : goal.returns-then-is_empty-clause-counts
 returns-then-is_empty-clause-counts g c = λ f.
@@ -6,3 +25,10 @@ returns-then-is_empty-clause-counts g c = λ f.
 
 pub returns-clause-counts : goal.returns-clause-counts
 returns-clause-counts g c = λ f. c.format_files.ensures.counts (record f { source = g.S.Source.faults c.args.source.now })
+
+pub returns-clause-done : goal.returns-clause-done
+returns-clause-done g c =
+    let some : files_of c.args.said.now ≢ [] = some_of c.args.said.now.files.items c.args.said.now.files.len _ c.args.said.now.files.ok.0 (sym c.is_empty.ensures ∙ c.if-is_empty.false) in
+    ok_follows _ _ c.format_files.result
+    (λ changes k. (inr (inr (c.if-said.false, record { some = some; done = k.0; left = refl })), k.1))
+    (rw c.deref.ensures.value at (rw c.place_of-place.ensures at c.format_files.ensures.done))

@@ -1,13 +1,13 @@
-use Rattle.std.proofs.Common.{◌≡◌, drop, map}
+use Rattle.std.proofs.Common.{◌≡◌, ◌||◌, Bool, drop, map}
 use Rattle.format_cli.specs.declared.refusal.Refusal.{Refusal}
-use Rattle.format_cli.specs.Inputs.{Ends, ends, AreDone, AreRefused}
+use Rattle.format_cli.specs.Inputs.{Ends, ends, AreDoneWith, AreRefused}
 use Rattle.format_cli.proofs.input.format_files.Given as goal
 
 -- what is done with the other FILEs is, with what was done, what is done with all
 abbrev pub invariant-loop-name : goal.invariant-loop-name
 invariant-loop-name g l = record {
-  done : (end : Ends) → AreDone l.options l.place (map (λ name. name.now) (drop l.name-index l.names)) (ends (g.K.Sink.taken l.out) (g.F.Files.holds l.files) (g.E.Sink.taken l.notes)) end
-      → AreDone l.options l.place (map (λ name. name.now) l.names) (ends (g.K.Sink.taken l.initial.out) (g.F.Files.holds l.initial.files) (g.E.Sink.taken l.initial.notes)) end;
+  done : (end : Ends) (rest : Bool) → AreDoneWith l.options l.place (map (λ name. name.now) (drop l.name-index l.names)) (ends (g.K.Sink.taken l.out) (g.F.Files.holds l.files) (g.E.Sink.taken l.notes)) end rest
+      → AreDoneWith l.options l.place (map (λ name. name.now) l.names) (ends (g.K.Sink.taken l.initial.out) (g.F.Files.holds l.initial.files) (g.E.Sink.taken l.initial.notes)) end (l.changes || rest);
   refused : (end : Ends) (refusal : Refusal)
       → AreRefused l.options l.place (map (λ name. name.now) (drop l.name-index l.names)) (ends (g.K.Sink.taken l.out) (g.F.Files.holds l.files) (g.E.Sink.taken l.notes)) end refusal
       → AreRefused l.options l.place (map (λ name. name.now) l.names) (ends (g.K.Sink.taken l.initial.out) (g.F.Files.holds l.initial.files) (g.E.Sink.taken l.initial.notes)) end refusal;

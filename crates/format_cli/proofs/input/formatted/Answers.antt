@@ -8,9 +8,12 @@ returns-in-Ok-clause-formats c = (
   record {
     fits = c.in-Ok.ensures.fits;
     reports = c.in-Ok.formatted.reports.now;
+    counts = c.in-Ok.formatted.counts;
     formats = c.in-Ok.ensures.formats.formats;
+    counted = c.in-Ok.ensures.formats.counted;
     twins = c.in-Ok.ensures.twins;
     alike = alike C11 _ _ c.in-Ok.ensures.twins;
   },
+  refl,
   refl,
 )
