@@ -296,14 +296,14 @@ const DRY_RUNS: &[Row] = &[
         words: &["--dry-run", "--Werror"],
         input: b"int  main( void ){return 0;}\n",
         status: 1,
-        notes: b"<stdin>: runs 1, searched 3, over 0, cost 0, changed\n",
+        notes: b"<stdin>: runs 1, searched 1, over 0, cost 0, changed\n",
         ..QUIET
     },
     Row {
         name: "a text that wouldn't change, where that is asked",
         words: &["--Werror", "--dry-run"],
-        input: b"int main(void) {\n  return 0;\n}\n",
-        notes: b"<stdin>: runs 1, searched 3, over 0, cost 0, unchanged\n",
+        input: b"int main(void) { return 0; }\n",
+        notes: b"<stdin>: runs 1, searched 1, over 0, cost 0, unchanged\n",
         ..QUIET
     },
     Row {

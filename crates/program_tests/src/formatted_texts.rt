@@ -143,13 +143,13 @@ pub const ITEMS: &[Row] = &[
     Row {
         name: "a backslash by itself",
         input: b"a \\  \n\tb\n",
-        out: b"a \\ b\n",
+        out: b"a \\  \n\tb\n",
         ..QUIET
     },
     Row {
         name: "a backslash before a directive",
         input: b"a \\  \n\t#define X\n",
-        out: b"a \\ \n#define X\n",
+        out: b"a \\  \n\t#define X\n",
         ..QUIET
     },
 ];
@@ -177,7 +177,7 @@ pub const DIRECTIVES: &[Row] = &[
     Row {
         name: "a directive that is indented and spliced",
         input: b"{\n\n\n  #define  X \\\n    1\nb;\n}",
-        out: b"{\n\n#define  X \\\n    1\n  b;\n}",
+        out: b"{\n\n#define X                                                                      \\\n  1\n  b;\n}",
         ..QUIET
     },
     Row {
@@ -189,7 +189,7 @@ pub const DIRECTIVES: &[Row] = &[
     Row {
         name: "a comment that begins the line of a directive",
         input: b"{\n  /* c */   #  define X   1\n  /* c */  x\n}\n",
-        out: b"{\n/* c */   #  define X   1\n  /* c */\n  x\n}\n",
+        out: b"{\n/* c */ #define X 1\n  /* c */\n  x\n}\n",
         ..QUIET
     },
     Row {
