@@ -24,7 +24,7 @@ use Rattle.format_cli.proofs.StyleOrder.{EndsSo}
 -- a text that has a layout isn't refused
 not_bad : (options : Options) (b c : List ℕ) → IsFormatted options b c → IsBadText b → ⊥
 not_bad options b c made (inl long) = omega (arith, made.fits, long)
-not_bad options b c made (inr unended) = open_texts_have_no_layout options.style options.budget C11 b c made.reports unended.0 made.formats unended.1
+not_bad options b c made (inr unended) = open_texts_have_no_layout options.style None options.budget C11 b c made.reports unended.0 made.formats unended.1
 
 -- standard input that is refused for its bytes isn't done
 pub source_stays : (options : Options) (place : Place) (left old new told now : Option (List ℕ)) → IsSourceDone options place left old new told now → IsThere IsBadText left → ⊥

@@ -56,6 +56,7 @@ fn formatted<'a, 's, 'w>(
     let job = Job {
         budget: options.budget,
         dialect: Dialect::C11,
+        ranges: None,
     };
     match format(alloc, bump, text, &options.style, &job) {
         Ok(formatted) => Ok(formatted),

@@ -1,12 +1,8 @@
 pub mod LineCounts
 pub mod Opens
-pub mod SoundStart
-pub mod EarlySections
 pub mod Planned
 pub mod OfTexts
-pub mod Decided
-pub mod Stays
-pub mod EveryGap
+pub mod Seen
 pub mod SoundPlan
 pub mod NothingNew
 pub mod RowsDecided

@@ -99,6 +99,6 @@ lexes_not_open d text items last at lexes unended =
     not_left d unended.left (bytes_of last) (still d start unended.left unended.items (map piece_of items) (bytes_of last) unended.read.steps lexes.reads whole) unended.unended
 
 pub open_texts_have_no_layout : OpenTextsHaveNoLayout
-open_texts_have_no_layout style budget d b c reports at formats unended =
+open_texts_have_no_layout style ranges budget d b c reports at formats unended =
     let lexes : LexesText d b formats.holds.items formats.holds.last = subst (λ z. LexesText d z formats.holds.items formats.holds.last) formats.text (subst (λ z. LexesText z formats.contents.text formats.holds.items formats.holds.last) formats.dialect formats.holds.lexes) in
     lexes_not_open d b formats.holds.items formats.holds.last at lexes unended

@@ -1,5 +1,5 @@
 -- Kept gaps, and the text of a plan.
-use Rattle.std.proofs.Common.{◌≡◌, ◌∙◌, ℕ, suc, ◌+◌, Bool, true, false, Option, List, [], ◌∷◌, drop, get_or, length, ◌<◌, refl, sym, ap, arith}
+use Rattle.std.proofs.Common.{◌≡◌, ◌∙◌, ℕ, suc, ◌+◌, Bool, true, false, Option, None, List, [], ◌∷◌, drop, get_or, length, replicate, ◌<◌, refl, sym, ap, subst, arith}
 use Rattle.std.specs.Prelude.{if◌then◌else◌}
 use Rattle.std.specs.List.{list_any}
 use Rattle.std.proofs.Math.Seq.{drop-cons}
@@ -9,6 +9,11 @@ use Rattle.token_arena.specs.Gaps.{Contents}
 use Rattle.replacements.specs.declared.slot.Slot.{Slot}
 use Rattle.replacements.specs.Decisions.{decided_all}
 use Rattle.run_layout.specs.Rows.{item_at, column_behind}
+use Rattle.off_regions.specs.declared.range.LineRange.{LineRange}
+use Rattle.run_layout.specs.Outcomes.{LaidLine}
+use Rattle.early_gaps.specs.BeforeRuns.{early_decisions, early_plan}
+use Rattle.format_core.specs.Plans.{AfterRuns, IsPlanOf}
+use Rattle.format_core.specs.Runs.{runs_of}
 use Rattle.format_core.specs.KeptGaps.{input_column, kept_slot, kept_decisions}
 use Rattle.directives.specs.declared.Section.{Section}
 use Rattle.directives.specs.Sections.{sections_of}
@@ -56,3 +61,12 @@ laid_is style arena crlf sections plan text laid is ends cut same =
     is
     ∙ (ap (λ (b : Bool). written style b arena sections plan) (ends ∙ ap (λ (z : List ℕ). ends_by style.line_ending z) (sym same))
     ∙ ap (λ (s : List Section). written style (ends_by style.line_ending arena.text) arena s plan) cut)
+
+-- ## The plan
+
+-- what the runs make of the plan before them is a plan of the text
+pub planned_by : (style : Style) (ranges : Option (List LineRange)) (budget : ℕ) (arena : Contents) (empty after final : List (Option Slot)) (done : List LaidLine) → empty ≡ replicate (length arena.tokens + 1) None
+    → after ≡ decided_all empty (early_decisions style arena ranges) → AfterRuns style budget arena after 0 (runs_of arena) final done → IsPlanOf style ranges budget arena final done
+planned_by style ranges budget arena empty after final done none made laid =
+    let early : after ≡ early_plan style arena ranges = made ∙ ap (λ (plan : List (Option Slot)). decided_all plan (early_decisions style arena ranges)) none in
+    subst (λ (plan : List (Option Slot)). AfterRuns style budget arena plan 0 (runs_of arena) final done) early laid

@@ -18,7 +18,6 @@ use Rattle.annotator.proofs.Counts.{as_many_roles, roles_tell}
 use Rattle.replacements.specs.declared.slot.Slot.{Slot}
 use Rattle.replacements.specs.Decisions.{slot_of}
 use Rattle.replacements.specs.Sound.{IsSound}
-use Rattle.replacements.specs.Written.{decision_of}
 use Rattle.replacements.proofs.Firsts.{stay}
 use Rattle.replacements.proofs.SoundTwin.{sound_twin}
 use Rattle.run_layout.specs.Laws.{AreOfTexts}
@@ -26,19 +25,21 @@ use Rattle.run_layout.specs.Outcomes.{LaidLine}
 use Rattle.run_layout.proofs.LaidLines.{lines_stay_sound, lines_keep, lines_decide, lines_length}
 use Rattle.run_layout.proofs.MadeFor.{IsDecided, is_some-decided, decided-is_some}
 use Rattle.run_layout.specs.Rows.{item_at, column_behind}
-use Rattle.run_layout.proofs.Stands.{MadeStand, all_sound}
+use Rattle.run_layout.proofs.Stands.{MadeStand, all_sound, old_stands}
 use Rattle.run_layout.proofs.Telling.{stand_for_items}
 use Rattle.run_layout.specs.Tells.{StandForItems}
-use Rattle.format_core.specs.BeforeRuns.{early_slot, is_beside_dead}
+use Rattle.off_regions.specs.declared.range.LineRange.{LineRange}
+use Rattle.early_gaps.specs.BeforeRuns.{early_plan}
+use Rattle.early_gaps.specs.Laws.{IsLeft}
+use Rattle.early_gaps.proofs.LeftOpen.{early_or_left_open}
+use Rattle.early_gaps.proofs.SoundStart.{early_sound}
+use Rattle.early_gaps.proofs.Tells.{early_tells, length-early}
 use Rattle.format_core.specs.KeptGaps.{input_column, kept_decisions}
 use Rattle.format_core.specs.Laws.{PlannedTextsAreTwins, EarlyDecisionsStay, EveryGapIsDecided}
 use Rattle.format_core.specs.Plans.{AfterItems, AfterRuns, IsPlanOf}
-use Rattle.format_core.specs.Runs.{runs_of, seen_by, lines_of_items, toks_of_items, after_kept, early_plan}
-use Rattle.format_core.proofs.EveryGap.{IsLeft, early_decided, early_or_left, length-early, length-kept, seen_within}
-use Rattle.format_core.proofs.Decided.{here_or_later}
+use Rattle.format_core.specs.Runs.{runs_of, seen_by, lines_of_items, toks_of_items, after_kept}
+use Rattle.format_core.proofs.Seen.{here_or_later, length-kept, seen_within}
 use Rattle.format_core.proofs.OfTexts.{views_are_of_texts, text_mark}
-use Rattle.format_core.proofs.SoundStart.{old_stands, early_sound}
-use Rattle.format_core.proofs.Stays.{early_there}
 
 -- ## What a run tells of its items
 
@@ -75,8 +76,8 @@ runs_sound style budget arena plan run (suc count) final done laid sound =
     (items_sound style budget arena run plan ids laid.0 laid.1 (seen_within arena run) (views_are_of_texts arena (sections_are_cut arena) run) laid.3 sound)
 
 pub planned_texts_are_twins : PlannedTextsAreTwins
-planned_texts_are_twins style budget crlf arena plan done holds laid =
-    sound_twin style crlf arena plan holds (runs_sound style budget arena (early_plan style arena) 0 (runs_of arena) plan done laid (early_sound style arena))
+planned_texts_are_twins style ranges budget crlf arena plan done holds laid =
+    sound_twin style crlf arena plan holds (runs_sound style budget arena (early_plan style arena ranges) 0 (runs_of arena) plan done laid (early_sound style arena ranges))
 
 -- twins of equal texts
 pub twin_along : (d e : Dialect) (b b' c c' : List ℕ) → d ≡ e → b ≡ b' → c ≡ c' → IsTwin d b c → IsTwin e b' c'
@@ -98,8 +99,8 @@ runs_keep style budget arena plan run (suc count) final done place slot laid is 
     runs_keep style budget arena laid.0 (run + 1) count final laid.2 place slot laid.4 (items_keep style budget arena run plan (seen_by arena run) laid.0 laid.1 place slot laid.3 is)
 
 pub early_decisions_stay : EarlyDecisionsStay
-early_decisions_stay style budget arena plan done place decision laid within is =
-    ap decision_of (runs_keep style budget arena (early_plan style arena) 0 (runs_of arena) plan done place (early_slot decision) laid (early_there style arena place decision within is))
+early_decisions_stay style ranges budget arena plan done place slot laid within is =
+    runs_keep style budget arena (early_plan style arena ranges) 0 (runs_of arena) plan done place slot laid (early_tells style arena ranges place within ∙ is)
 
 -- ## Each gap is decided
 
@@ -139,15 +140,16 @@ runs_decide style budget arena plan from (suc count) final done run id long low 
           runs_decide style budget arena laid.0 (from + 1) count final laid.2 run id still later (omega (arith, high)) sees laid.4
     ]
 
-left_decided : (style : Style) (budget : ℕ) (arena : Contents) (plan : List (Option Slot)) (done : List LaidLine) (place : ℕ) → IsPlanOf style budget arena plan done → IsLeft arena place → IsDecided plan place
-left_decided style budget arena plan done place laid (within, of_text, alive) =
+left_decided : (style : Style) (ranges : Option (List LineRange)) (budget : ℕ) (arena : Contents) (plan : List (Option Slot)) (done : List LaidLine) (place : ℕ) → IsPlanOf style ranges budget arena plan done → IsLeft arena place
+    → IsDecided plan place
+left_decided style ranges budget arena plan done place laid (within, of_text, alive) =
     let text = text_mark arena 0 (length arena.tokens) (sections_of arena) place (sections_are_cut arena) (omega arith) within of_text in
     let covered = is_covered (marks_of arena) place text alive in
-    runs_decide style budget arena (early_plan style arena) 0 (runs_of arena) plan done covered.0 place (length-early style arena) (omega arith) (omega (arith, covered.1)) covered.2 laid
+    runs_decide style budget arena (early_plan style arena ranges) 0 (runs_of arena) plan done covered.0 place (length-early style arena ranges) (omega arith) (omega (arith, covered.1)) covered.2 laid
 
 pub every_gap_is_decided : EveryGapIsDecided
-every_gap_is_decided style budget arena plan done place laid within =
-    is_some-decided plan place (elim (early_or_left style arena place (is_beside_dead arena place) refl) [
-      | inl (decision, is) ↦ all_keep style budget arena (early_plan style arena) 0 (runs_of arena) plan done place laid (early_decided style arena place decision within is)
-      | inr left ↦ left_decided style budget arena plan done place laid left
+every_gap_is_decided style ranges budget arena plan done place laid within =
+    is_some-decided plan place (elim (early_or_left_open style arena ranges place) [
+      | inl (slot, is) ↦ (slot, early_decisions_stay style ranges budget arena plan done place slot laid within is)
+      | inr left ↦ left_decided style ranges budget arena plan done place laid left
     ])

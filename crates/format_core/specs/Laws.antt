@@ -5,10 +5,10 @@ use Rattle.style_table.specs.declared.style.Style.{Style}
 use Rattle.token_arena.specs.Gaps.{Contents}
 use Rattle.token_arena.specs.Holds.{HoldsItems}
 use Rattle.directives.specs.Sections.{sections_of}
-use Rattle.gap_text.specs.declared.Decision.{Decision}
+use Rattle.off_regions.specs.declared.range.LineRange.{LineRange}
 use Rattle.replacements.specs.Decisions.{slot_of}
-use Rattle.replacements.specs.Written.{decision_at, written}
-use Rattle.format_core.specs.BeforeRuns.{early_decision}
+use Rattle.replacements.specs.Written.{written}
+use Rattle.early_gaps.specs.BeforeRuns.{early_at}
 use Rattle.replacements.specs.declared.slot.Slot.{Slot}
 use Rattle.run_layout.specs.Outcomes.{LaidLine}
 use Rattle.format_core.specs.Plans.{IsPlanOf}
@@ -16,17 +16,17 @@ use Rattle.format_core.specs.Plans.{IsPlanOf}
 -- The text of a plan is a twin of the text, in every style and with either line end, whichever lines are reported.
 abbrev pub PlannedTextsAreTwins : Type 0
 PlannedTextsAreTwins =
-    (style : Style) (budget : ℕ) (crlf : Bool) (arena : Contents) (plan : List (Option Slot)) (done : List LaidLine)
-    → HoldsItems arena → IsPlanOf style budget arena plan done → IsTwin arena.dialect arena.text (written style crlf arena (sections_of arena) plan)
+    (style : Style) (ranges : Option (List LineRange)) (budget : ℕ) (crlf : Bool) (arena : Contents) (plan : List (Option Slot)) (done : List LaidLine)
+    → HoldsItems arena → IsPlanOf style ranges budget arena plan done → IsTwin arena.dialect arena.text (written style crlf arena (sections_of arena) plan)
 
--- No run changes what is decided before the runs: the bytes beside the items of a literal `#if 0` stay, and so do those inside directives.
+-- No run changes what is decided before the runs: the bytes of gaps that stay, with the columns of the input behind them, and so the gaps of directives.
 abbrev pub EarlyDecisionsStay : Type 0
 EarlyDecisionsStay =
-    (style : Style) (budget : ℕ) (arena : Contents) (plan : List (Option Slot)) (done : List LaidLine) (place : ℕ) (decision : Decision)
-    → IsPlanOf style budget arena plan done → place ≤ length arena.tokens → early_decision style arena place ≡ Some decision → decision_at plan place ≡ decision
+    (style : Style) (ranges : Option (List LineRange)) (budget : ℕ) (arena : Contents) (plan : List (Option Slot)) (done : List LaidLine) (place : ℕ) (slot : Slot)
+    → IsPlanOf style ranges budget arena plan done → place ≤ length arena.tokens → early_at style arena ranges place ≡ Some slot → slot_of plan place ≡ Some slot
 
 -- Each gap of a text is decided in each of its plans: before the runs, or by the first run that sees it. docs/PROFILE.md, "Runs".
 abbrev pub EveryGapIsDecided : Type 0
 EveryGapIsDecided =
-    (style : Style) (budget : ℕ) (arena : Contents) (plan : List (Option Slot)) (done : List LaidLine) (place : ℕ)
-    → IsPlanOf style budget arena plan done → place ≤ length arena.tokens → IsSome (slot_of plan place)
+    (style : Style) (ranges : Option (List LineRange)) (budget : ℕ) (arena : Contents) (plan : List (Option Slot)) (done : List LaidLine) (place : ℕ)
+    → IsPlanOf style ranges budget arena plan done → place ≤ length arena.tokens → IsSome (slot_of plan place)

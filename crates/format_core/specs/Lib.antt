@@ -1,6 +1,5 @@
 pub mod Faults
 pub mod LineEnds
-pub mod BeforeRuns
 pub mod KeptGaps
 pub mod Runs
 pub mod Plans

@@ -2,9 +2,11 @@
 use Rattle.std.specs.Prelude.{◌≡◌, ℕ, zero, suc, ◌+◌, Option, List, [], ◌++◌}
 use Rattle.style_table.specs.declared.style.Style.{Style}
 use Rattle.token_arena.specs.Gaps.{Contents}
+use Rattle.off_regions.specs.declared.range.LineRange.{LineRange}
 use Rattle.replacements.specs.declared.slot.Slot.{Slot}
 use Rattle.run_layout.specs.Outcomes.{LaidLine, AfterLines}
-use Rattle.format_core.specs.Runs.{runs_of, seen_by, lines_of_items, toks_of_items, after_kept, early_plan}
+use Rattle.early_gaps.specs.BeforeRuns.{early_plan}
+use Rattle.format_core.specs.Runs.{runs_of, seen_by, lines_of_items, toks_of_items, after_kept}
 
 -- Behind the run that sees these items stands this plan, and this came of its lines: first what stays as it is between them is decided, then their lines are laid out.
 abbrev pub AfterItems : Style → ℕ → Contents → ℕ → List (Option Slot) → List ℕ → List (Option Slot) → List LaidLine → Type 0
@@ -20,6 +22,6 @@ AfterRuns style budget arena plan run (suc count) final done =
     × AfterRuns style budget arena after (run + 1) count final later
     × (done ≡ here ++ later)
 
--- This is a plan of a text, and this came of the lines of all its runs in their order. A gap keeps what is decided for it first.
-abbrev pub IsPlanOf : Style → ℕ → Contents → List (Option Slot) → List LaidLine → Type 0
-IsPlanOf style budget arena plan done = AfterRuns style budget arena (early_plan style arena) 0 (runs_of arena) plan done
+-- This is a plan of a text of which these lines are asked for, and this came of the lines of all its runs in their order. A gap keeps what is decided for it first.
+abbrev pub IsPlanOf : Style → Option (List LineRange) → ℕ → Contents → List (Option Slot) → List LaidLine → Type 0
+IsPlanOf style ranges budget arena plan done = AfterRuns style budget arena (early_plan style arena ranges) 0 (runs_of arena) plan done

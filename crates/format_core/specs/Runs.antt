@@ -16,13 +16,7 @@ use Rattle.unwrapped_lines.specs.declared.line.ULine.{ULine}
 use Rattle.unwrapped_lines.specs.Lines.{unwrapped_lines_of}
 use Rattle.replacements.specs.Decisions.{slot_of, decided_all}
 use Rattle.replacements.specs.declared.slot.Slot.{Slot}
-use Rattle.format_core.specs.BeforeRuns.{early_decisions}
 use Rattle.format_core.specs.KeptGaps.{kept_decisions}
-
--- These are the marks of a text's sections, each with what it does where it stands.
-pub record IsTreeOf (arena : Contents) (tree : List Mark) : Type 0 where
-  pub marks : tree ≡ effects (marks_of arena)
-  pub end : end_of 0 tree ≡ length arena.tokens
 
 -- how many runs a text has
 abbrev pub runs_of : Contents → ℕ
@@ -47,7 +41,3 @@ after_kept style arena plan ids = decided_all plan (kept_decisions style arena 0
 -- the gap before each of these items is decided
 abbrev pub AreDecided : List (Option Slot) → List ℕ → Type 0
 AreDecided plan ids = (place : ℕ) → place < length ids → IsSome (slot_of plan (get_or ids place 0))
-
--- the plan before the runs
-abbrev pub early_plan : Style → Contents → List (Option Slot)
-early_plan style arena = decided_all (replicate (length arena.tokens + 1) None) (early_decisions style arena)

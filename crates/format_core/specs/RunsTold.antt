@@ -2,6 +2,7 @@
 use Rattle.std.specs.Prelude.{◌≡◌, ℕ, List, Option}
 use Rattle.style_table.specs.declared.style.Style.{Style}
 use Rattle.token_arena.specs.Gaps.{Contents}
+use Rattle.off_regions.specs.declared.range.LineRange.{LineRange}
 use Rattle.replacements.specs.declared.slot.Slot.{Slot}
 use Rattle.run_layout.specs.Outcomes.{LaidLine}
 use Rattle.run_layout.specs.RunsLaid.{IsToldOf}
@@ -24,9 +25,9 @@ pub record AreRunsTold (style : Style) (budget : ℕ) (arena : Contents) (plan :
   pub told : IsToldOf done before after
 
 -- this is the plan of a text, with all that is told of its lines
-pub record IsPlanned (style : Style) (budget : ℕ) (arena : Contents) (made : Planned) : Type 0 where
+pub record IsPlanned (style : Style) (ranges : Option (List LineRange)) (budget : ℕ) (arena : Contents) (made : Planned) : Type 0 where
   pub done : List LaidLine
-  pub planned : IsPlanOf style budget arena made.plan done
+  pub planned : IsPlanOf style ranges budget arena made.plan done
   pub runs : made.runs ≡ runs_of arena
   pub reports : made.tally.reports.items ≡ reports_of done
   pub searched : made.tally.searched ≡ searched_of done

@@ -1,6 +1,6 @@
 //! A text and its formatted text.
 
-ghost use Rattle.std.specs.Prelude.{◌≡◌, ◌≤◌, ◌+◌, not, length, IfOk, IfErr, OnOk};
+ghost use Rattle.std.specs.Prelude.{◌≡◌, ◌≤◌, ◌+◌, not, length, option_map, IfOk, IfErr, OnOk};
 ghost use Rattle.std.specs.Io.KnownBytes.{Appends};
 ghost use Rattle.fmt_ports.specs.Causes.{AppendsPart, Counts as FaultCounts};
 ghost use Rattle.c_chars.specs.declared.TheConstants.{LIMIT};
@@ -20,6 +20,7 @@ use c_chars::{Dialect, LIMIT};
 use directives::{Section, sections};
 use fmt_ports::{Failed, Sink, TextSink, write_all};
 use line_tokens::NoMemory;
+use off_regions::Ranges;
 use replacements::{Plan, write_out};
 use run_layout::{Counts, Report};
 use std::alloc::Global;
@@ -27,12 +28,14 @@ use style_table::Style;
 use token_arena::{TokenArena, build};
 
 /// What a text is formatted by, beside a style.
-#[derive(Clone, Copy, Debug, PartialEq, Eq)]
-pub struct Job {
+#[derive(Clone, Copy)]
+pub struct Job<'j> {
     /// How many cells the search of a line may have. A line that has more may be reported.
     pub budget: u64,
     /// The dialect that the text is read in.
     pub dialect: Dialect,
+    /// The lines that are asked for: all without ranges. The gaps of all other lines keep the bytes of the input.
+    pub ranges: Option<&'j Ranges>,
 }
 
 /// A formatted text.
@@ -79,17 +82,18 @@ fn is_same(a: &[u8], b: &[u8]) -> bool
     a == b
 }
 
-/// Formats a text of at most [`LIMIT`] bytes in a style.
+/// Formats a text of at most [`LIMIT`] bytes in a style. Where formatting is off, or none of the ranges has the line, the
+/// gaps keep the bytes of the input.
 pub fn format<'a, 's>(
     alloc: Global,
     bump: &'a Bump,
     text: &'s [u8],
     style: &Style,
-    job: &Job,
+    job: &Job<'_>,
 ) -> Result<Formatted<'a, 's>, FormatFault>
     requires range { IsInRange style.now }
     requires budget { job.now.budget ≤ 16000000 }
-    ensures formats { IfOk result (λ f. IsFormatted style.now job.now.budget job.now.dialect text.now f.text.items f.reports.now f.counts) }
+    ensures formats { IfOk result (λ f. IsFormatted style.now (option_map (λ ranges. ranges.now) job.now.ranges) job.now.budget job.now.dialect text.now f.text.items f.reports.now f.counts) }
     ensures twins { IfOk result (λ f. IsTwin job.now.dialect text.now f.text.items) }
     ensures changed { IfOk result (λ f. f.changed ≡ not (is_same f.text.items text.now)) }
     ensures fits { IfOk result (λ _. length text.now ≤ LIMIT) }
@@ -97,7 +101,7 @@ pub fn format<'a, 's>(
 {
     let arena = build(bump, text, job.dialect)?;
     let sections = sections(&arena, bump)?;
-    let made = plan_of(alloc, bump, style, job.budget, &arena, sections)?;
+    let made = plan_of(alloc, bump, style, job.budget, &arena, sections, job.ranges)?;
     let crlf = ends_by(style.line_ending, text);
     let laid_out = text_of(alloc, style, crlf, &arena, sections, &made.plan, text.len())?;
     let changed = !is_same(&laid_out, text);

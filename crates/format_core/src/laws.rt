@@ -13,8 +13,8 @@ pub fn planned_texts_are_twins()
     ensures { PlannedTextsAreTwins }
 {}
 
-/// No run changes what is decided before the runs: so the bytes beside each item in the group of a literal `#if 0` are
-/// those of the input, and so are those inside directives.
+/// No run changes what is decided before the runs: so the gaps at which formatting is off, those of lines that aren't
+/// asked for, and those beside items in the group of a literal `#if 0` have the bytes of the input.
 pub fn early_decisions_stay()
     ensures { EarlyDecisionsStay }
 {}

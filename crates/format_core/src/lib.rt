@@ -6,7 +6,6 @@
 //! that it writes has the same items as its input.
 #![tactic(auto)]
 
-mod early;
 mod fault;
 mod formatted;
 mod kept;
@@ -19,4 +18,5 @@ pub use formatted::{Formatted, Job, format};
 pub use laws::{
     early_decisions_stay, every_gap_is_decided, open_texts_have_no_layout, planned_texts_are_twins,
 };
+pub use off_regions::Ranges;
 pub use run_layout::{Counts, Report};

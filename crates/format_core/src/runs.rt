@@ -1,22 +1,24 @@
 //! The plan of a text, run by run over one store of items.
 
-ghost use Rattle.std.specs.Prelude.{◌≡◌, ◌<◌, ◌≤◌, ◌+◌, ◌*◌, ◌^◌, All, IfOk, IsTrue, OnOk, length};
+ghost use Rattle.std.specs.Prelude.{◌≡◌, ◌<◌, ◌≤◌, ◌+◌, ◌*◌, ◌^◌, All, IfOk, IsTrue, OnOk, length, option_map};
 ghost use Rattle.c_chars.specs.declared.TheConstants.{LIMIT};
 ghost use Rattle.style_table.specs.Range.{IsInRange};
 ghost use Rattle.brackets.specs.Viewed.{AreWithin, item_classes};
 ghost use Rattle.directives.specs.Sections.{sections_of, IsCut};
+ghost use Rattle.early_gaps.specs.Dead.{IsTreeOf};
 ghost use Rattle.run_layout.specs.Counted.{IsCounted};
-ghost use Rattle.format_core.specs.Runs.{AreDecided, IsTreeOf, runs_of, seen_by};
+ghost use Rattle.format_core.specs.Runs.{AreDecided, runs_of, seen_by};
 ghost use Rattle.format_core.specs.RunsTold.{AreItemsTold, AreRunsTold, IsPlanned};
 
-use crate::early::decide_early;
 use crate::kept::keep_gaps;
 use annotator::roles_of_classes;
 use brackets::{TokenClass, bracket_facts, classes_among, item_classes};
 use branch_runs::CondTree;
 use bumpalo::Bump;
 use directives::Section;
+use early_gaps::decide_early;
 use line_tokens::NoMemory;
+use off_regions::Ranges;
 use replacements::Plan;
 use run_layout::{Tally, is_row_decided, lay_out_lines};
 use std::alloc::Global;
@@ -165,7 +167,7 @@ fn lay_out_runs(
     Ok(())
 }
 
-/// The plan of a text, of which these are the sections.
+/// The plan of a text, of which these are the sections and the lines that are asked for.
 pub(crate) fn plan_of<'a>(
     alloc: Global,
     bump: &'a Bump,
@@ -173,18 +175,19 @@ pub(crate) fn plan_of<'a>(
     budget: u64,
     arena: &TokenArena<'_, '_>,
     sections: &[Section],
+    ranges: Option<&Ranges>,
 ) -> Result<Planned<'a>, NoMemory>
     requires range { IsInRange style.now }
     requires budget { budget ≤ 16000000 }
     requires fits { length arena.now.text ≤ LIMIT }
     requires sections { sections.now ≡ sections_of arena.now }
     requires cut { IsCut 0 (length arena.now.tokens) sections.now }
-    ensures plan { IfOk result (IsPlanned style.now budget arena.now) }
+    ensures plan { IfOk result (IsPlanned style.now (option_map (λ ranges. ranges.now) ranges.entry) budget arena.now) }
     ensures len { IfOk result (λ made. length made.plan ≡ length arena.now.tokens + 1) }
 {
     let tree = CondTree::build(arena, sections, bump)?;
     let mut plan = Plan::make(arena, bump)?;
-    decide_early(style, arena, sections, &tree, &mut plan);
+    decide_early(style, arena, sections, &tree, ranges, bump, &mut plan)?;
     let all = item_classes(arena, bump)?;
     let mut tally = Tally::new(bump);
     lay_out_runs(

@@ -3,6 +3,7 @@
 //!
 //! - `asked_lines`: which gaps stay, since formatting is off or nobody asked for their lines (`off_regions`)
 //! - `input_columns`: the columns of kept gaps (`run_layout`)
+//! - `kept_texts`: whole texts of which some gaps stay (`format_core`)
 //! - `joined_lines`: short lines that become one (`line_joiner`)
 //! - `trailing_comments`: trailing comments in one column (`comment_place`)
 #![tactic(auto)]
@@ -13,5 +14,7 @@ mod asked_lines;
 mod input_columns;
 #[cfg(test)]
 mod joined_lines;
+#[cfg(test)]
+mod kept_texts;
 #[cfg(test)]
 mod trailing_comments;

@@ -40,4 +40,4 @@ returns-clause-twins c =
     let crlf = ends_by style.line_ending arena.text in
     let laid = laid_is style arena c.ends_by-crlf.result c.in_ok-sections.sections.now c.in_ok-made.made.plan c.args.text.now c.in_ok-laid_out.laid_out.items c.in_ok-laid_out.ensures c.ends_by-crlf.ensures
     c.in_ok-sections.ensures.sections is.text_is in
-    twin_along _ _ _ _ _ _ is.dialect_is is.text_is (sym laid) (planned_texts_are_twins style c.args.job.now.budget crlf arena c.in_ok-made.made.plan made.done is.holds made.planned)
+    twin_along _ _ _ _ _ _ is.dialect_is is.text_is (sym laid) (planned_texts_are_twins style _ c.args.job.now.budget crlf arena c.in_ok-made.made.plan made.done is.holds made.planned)

@@ -1,0 +1,7 @@
+pub mod Places
+pub mod InputColumns
+pub mod Staying
+pub mod Sections
+pub mod SoundStart
+pub mod Tells
+pub mod LeftOpen

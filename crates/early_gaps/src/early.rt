@@ -1,0 +1,47 @@
+//! All that is decided before the runs.
+
+ghost use Rattle.std.specs.Prelude.{◌≡◌, ◌≤◌, ◌+◌, option_map, length, OnOk};
+ghost use Rattle.c_chars.specs.declared.TheConstants.{LIMIT};
+ghost use Rattle.directives.specs.Sections.{sections_of, IsCut};
+ghost use Rattle.replacements.specs.Decisions.{decided_all};
+ghost use Rattle.early_gaps.specs.BeforeRuns.{early_decisions};
+ghost use Rattle.early_gaps.specs.Dead.{IsTreeOf};
+
+use crate::keep::keep_gaps;
+use crate::unseen::decide_unseen;
+use branch_runs::CondTree;
+use bumpalo::Bump;
+use directives::Section;
+use line_tokens::NoMemory;
+use off_regions::{Ranges, frozen};
+use replacements::Plan;
+use style_table::Style;
+use token_arena::TokenArena;
+
+/// Decides all that no run decides, where it is open: the gaps that stay, those of directives, and the last gap. The
+/// sections are those of the text, and the tree is made of them. Gaps stay where formatting is off, where none of these
+/// ranges has the line, beside items in the group of a literal `#if 0`, and in rows behind a backslash, blanks and a
+/// new-line. Want of memory is the only error.
+pub fn decide_early(
+    style: &Style,
+    arena: &TokenArena<'_, '_>,
+    sections: &[Section],
+    tree: &CondTree<'_>,
+    ranges: Option<&Ranges>,
+    bump: &Bump,
+    plan: &mut Plan<'_>,
+) -> Result<(), NoMemory>
+    requires tab { 1 ≤ style.now.tab_width }
+    requires fits { length arena.now.text ≤ LIMIT }
+    requires sections { sections.now ≡ sections_of arena.now }
+    requires cut { IsCut 0 (length arena.now.tokens) sections.now }
+    requires tree { IsTreeOf arena.now tree.now }
+    requires whole { length plan.old ≡ length arena.now.tokens + 1 }
+    ensures plan { OnOk result (plan.new ≡ decided_all plan.old (early_decisions style.now arena.now (option_map (λ ranges. ranges.now) ranges.entry))) }
+    ensures len { OnOk result (length plan.new ≡ length plan.old) }
+{
+    let marks = frozen(arena, ranges, bump)?;
+    keep_gaps(style.tab_width, arena, tree, marks, plan);
+    decide_unseen(style, arena, sections, plan);
+    Ok(())
+}
