@@ -18,7 +18,7 @@ same_after a b c h k = record {
 -- a refusal raises what it raises, where no count rose before
 pub raises_after : (refusal : Refusal) (a b c : Faults) → SameFaults a b → Raises refusal b c → Raises refusal a c
 raises_after BadWords a b c h k = same_after a b c h k
-raises_after (BadLines text fault) a b c h k = same_after a b c h k
+raises_after (BadLines its_word fault) a b c h k = same_after a b c h k
 raises_after (BadStates word) a b c h k = same_after a b c h k
 raises_after NoInput a b c h k = same_after a b c h k
 raises_after ManyFiles a b c h k = same_after a b c h k

@@ -34,7 +34,7 @@ source_stays options place (Some b) old new told now k bad = not_bad options k.0
 -- standard input ends so, where it is refused
 pub source_ends : (options : Options) (place : Place) (left old new told now : Option (List ℕ)) (refusal : Refusal) → IsSourceRefused options place left old new told now refusal → EndsSo 4 refusal
 source_ends options place left old new told now BadWords k = absurd k.1
-source_ends options place left old new told now (BadLines text fault) k = absurd k.1
+source_ends options place left old new told now (BadLines its_word fault) k = absurd k.1
 source_ends options place left old new told now (BadStates word) k = absurd k.1
 source_ends options place left old new told now NoInput k = absurd k.1
 source_ends options place left old new told now ManyFiles k = absurd k.1
@@ -81,7 +81,7 @@ never_none text wrong = cc
 
 cause_ends : (held : Held) (name : List ℕ) (refusal : Refusal) (status : ℕ) → IsFileCause held name refusal → Tells held name (Stops status) → EndsSo status refusal
 cause_ends held name BadWords status k s = absurd k
-cause_ends held name (BadLines text fault) status k s = absurd k
+cause_ends held name (BadLines its_word fault) status k s = absurd k
 cause_ends held name (BadStates word) status k s = absurd k
 cause_ends held name NoInput status k s = absurd k
 cause_ends held name ManyFiles status k s = absurd k
@@ -109,7 +109,7 @@ not_refused (Some at) name P there never bad h = clash (at name) P there never b
 
 cause_fails : (held : Held) (name : List ℕ) (refusal : Refusal) → IsFileCause held name refusal → Tells held name IsFine → (status_of refusal ≡ 5) ⊎ (status_of refusal ≡ 7)
 cause_fails held name BadWords k h = absurd k
-cause_fails held name (BadLines text fault) k h = absurd k
+cause_fails held name (BadLines its_word fault) k h = absurd k
 cause_fails held name (BadStates word) k h = absurd k
 cause_fails held name NoInput k h = absurd k
 cause_fails held name ManyFiles k h = absurd k
@@ -134,7 +134,7 @@ cause_fails held name NoMemory k h = inr refl
 
 put_ends : (place : Place) (name b c rows : List ℕ) (before now : Ends) (refusal : Refusal) → PutFails place name b c rows before now refusal → (status_of refusal ≡ 5) ⊎ (status_of refusal ≡ 7)
 put_ends Output name b c rows before now BadWords k = absurd k
-put_ends Output name b c rows before now (BadLines text fault) k = absurd k
+put_ends Output name b c rows before now (BadLines its_word fault) k = absurd k
 put_ends Output name b c rows before now (BadStates word) k = absurd k
 put_ends Output name b c rows before now NoInput k = absurd k
 put_ends Output name b c rows before now ManyFiles k = absurd k
@@ -150,7 +150,7 @@ put_ends Output name b c rows before now NotesFailed k = inl refl
 put_ends Output name b c rows before now (Missing file) k = absurd k
 put_ends Output name b c rows before now NoMemory k = absurd k
 put_ends Itself name b c rows before now BadWords k = absurd k
-put_ends Itself name b c rows before now (BadLines text fault) k = absurd k
+put_ends Itself name b c rows before now (BadLines its_word fault) k = absurd k
 put_ends Itself name b c rows before now (BadStates word) k = absurd k
 put_ends Itself name b c rows before now NoInput k = absurd k
 put_ends Itself name b c rows before now ManyFiles k = absurd k
@@ -166,7 +166,7 @@ put_ends Itself name b c rows before now NotesFailed k = inl refl
 put_ends Itself name b c rows before now (Missing file) k = absurd k
 put_ends Itself name b c rows before now NoMemory k = inr refl
 put_ends Nowhere name b c rows before now BadWords k = absurd k
-put_ends Nowhere name b c rows before now (BadLines text fault) k = absurd k
+put_ends Nowhere name b c rows before now (BadLines its_word fault) k = absurd k
 put_ends Nowhere name b c rows before now (BadStates word) k = absurd k
 put_ends Nowhere name b c rows before now NoInput k = absurd k
 put_ends Nowhere name b c rows before now ManyFiles k = absurd k

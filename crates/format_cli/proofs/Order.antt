@@ -24,7 +24,7 @@ use Rattle.format_cli.proofs.InputOrder.{AreOnce, files_end, files_stay, source_
 -- words that say something are refused only for want of memory
 read_words : (words : List (List ℕ)) (said : Words) (refusal : Refusal) → AreWordsRefused words refusal → Reads words (Ok said) → status_of refusal ≡ 7
 read_words words said BadWords k reads = absurd (k reads.0)
-read_words words said (BadLines text fault) k reads = absurd (no_lines words text.now fault said k.1 reads.2)
+read_words words said (BadLines its_word fault) k reads = absurd (no_lines words its_word.now fault said k.1 reads.2)
 read_words words said (BadStates word) k reads = absurd (no_budget words word.now said k.2 reads.2)
 read_words words said NoInput k reads = absurd (reads.1 k.3)
 read_words words said ManyFiles k reads = absurd (reads.3 k.3)
@@ -171,7 +171,7 @@ rose_since a b c same rose = subst (λ (n : ℕ). Rose n c) same rose
 -- the notes' faults that rose while a refusal was told rose in the call
 notes_rose : (refusal : Refusal) (a b : Faults) (notes : ℕ) → Raises refusal a b → b.notes ≤ notes → Rose b.notes notes → Rose a.notes notes
 notes_rose BadWords a b notes k later rose = rose_since a.notes b.notes notes k.notes rose
-notes_rose (BadLines text fault) a b notes k later rose = rose_since a.notes b.notes notes k.notes rose
+notes_rose (BadLines its_word fault) a b notes k later rose = rose_since a.notes b.notes notes k.notes rose
 notes_rose (BadStates word) a b notes k later rose = rose_since a.notes b.notes notes k.notes rose
 notes_rose NoInput a b notes k later rose = rose_since a.notes b.notes notes k.notes rose
 notes_rose ManyFiles a b notes k later rose = rose_since a.notes b.notes notes k.notes rose

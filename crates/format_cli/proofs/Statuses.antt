@@ -24,7 +24,7 @@ use Rattle.format_cli.specs.Statuses.{IsStatus, AreBadWords, HasNoStyle}
 
 pub known : (refusal : Refusal) → IsStatus (status_of refusal)
 known BadWords = inr (inr (inl refl))
-known (BadLines text fault) = inr (inr (inl refl))
+known (BadLines its_word fault) = inr (inr (inl refl))
 known (BadStates word) = inr (inr (inl refl))
 known NoInput = inr (inr (inl refl))
 known ManyFiles = inr (inr (inl refl))
@@ -42,7 +42,7 @@ known NoMemory = inr (inr (inr (inr (inr (inr (inr (refl)))))))
 
 pub not_zero : (refusal : Refusal) → status_of refusal ≡ 0 → ⊥
 not_zero BadWords is = cc
-not_zero (BadLines text fault) is = cc
+not_zero (BadLines its_word fault) is = cc
 not_zero (BadStates word) is = cc
 not_zero NoInput is = cc
 not_zero ManyFiles is = cc
@@ -60,7 +60,7 @@ not_zero NoMemory is = cc
 
 pub not_one : (refusal : Refusal) → status_of refusal ≡ 1 → ⊥
 not_one BadWords is = cc
-not_one (BadLines text fault) is = cc
+not_one (BadLines its_word fault) is = cc
 not_one (BadStates word) is = cc
 not_one NoInput is = cc
 not_one ManyFiles is = cc
@@ -82,7 +82,7 @@ not_one NoMemory is = cc
 pub failed : (refusal : Refusal) (a b : Faults) (notes : ℕ) → b.notes ≤ notes → status_of refusal ≡ 5 → Raises refusal a b →
     Rose a.source b.source ⊎ Rose a.out b.out ⊎ Rose a.notes notes ⊎ Rose a.files b.files
 failed BadWords a b notes later is k = absurd (cc)
-failed (BadLines text fault) a b notes later is k = absurd (cc)
+failed (BadLines its_word fault) a b notes later is k = absurd (cc)
 failed (BadStates word) a b notes later is k = absurd (cc)
 failed NoInput a b notes later is k = absurd (cc)
 failed ManyFiles a b notes later is k = absurd (cc)
@@ -101,7 +101,7 @@ failed NoMemory a b notes later is k = absurd (cc)
 -- a greater count of source gives status 5
 pub source_fault : (refusal : Refusal) (a b : Faults) → Raises refusal a b → a.source < b.source → status_of refusal ≡ 5
 source_fault BadWords a b k more = absurd (omega (arith, k.source))
-source_fault (BadLines text fault) a b k more = absurd (omega (arith, k.source))
+source_fault (BadLines its_word fault) a b k more = absurd (omega (arith, k.source))
 source_fault (BadStates word) a b k more = absurd (omega (arith, k.source))
 source_fault NoInput a b k more = absurd (omega (arith, k.source))
 source_fault ManyFiles a b k more = absurd (omega (arith, k.source))
@@ -120,7 +120,7 @@ source_fault NoMemory a b k more = absurd (omega (arith, k.source))
 -- a greater count of out gives status 5
 pub out_fault : (refusal : Refusal) (a b : Faults) → Raises refusal a b → a.out < b.out → status_of refusal ≡ 5
 out_fault BadWords a b k more = absurd (omega (arith, k.out))
-out_fault (BadLines text fault) a b k more = absurd (omega (arith, k.out))
+out_fault (BadLines its_word fault) a b k more = absurd (omega (arith, k.out))
 out_fault (BadStates word) a b k more = absurd (omega (arith, k.out))
 out_fault NoInput a b k more = absurd (omega (arith, k.out))
 out_fault ManyFiles a b k more = absurd (omega (arith, k.out))
@@ -139,7 +139,7 @@ out_fault NoMemory a b k more = absurd (omega (arith, k.out))
 -- a greater count of files gives status 5
 pub files_fault : (refusal : Refusal) (a b : Faults) → Raises refusal a b → a.files < b.files → status_of refusal ≡ 5
 files_fault BadWords a b k more = absurd (omega (arith, k.files))
-files_fault (BadLines text fault) a b k more = absurd (omega (arith, k.files))
+files_fault (BadLines its_word fault) a b k more = absurd (omega (arith, k.files))
 files_fault (BadStates word) a b k more = absurd (omega (arith, k.files))
 files_fault NoInput a b k more = absurd (omega (arith, k.files))
 files_fault ManyFiles a b k more = absurd (omega (arith, k.files))
@@ -158,7 +158,7 @@ files_fault NoMemory a b k more = absurd (omega (arith, k.files))
 -- a greater count of notes gives status 5
 pub notes_fault : (refusal : Refusal) (a b : Faults) → Raises refusal a b → a.notes < b.notes → status_of refusal ≡ 5
 notes_fault BadWords a b k more = absurd (omega (arith, k.notes))
-notes_fault (BadLines text fault) a b k more = absurd (omega (arith, k.notes))
+notes_fault (BadLines its_word fault) a b k more = absurd (omega (arith, k.notes))
 notes_fault (BadStates word) a b k more = absurd (omega (arith, k.notes))
 notes_fault NoInput a b k more = absurd (omega (arith, k.notes))
 notes_fault ManyFiles a b k more = absurd (omega (arith, k.notes))
@@ -177,7 +177,7 @@ notes_fault NoMemory a b k more = absurd (omega (arith, k.notes))
 -- status 6 comes where the misses rose
 pub missing : (refusal : Refusal) (a b : Faults) → status_of refusal ≡ 6 → Raises refusal a b → Rose a.misses b.misses
 missing BadWords a b is k = absurd (cc)
-missing (BadLines text fault) a b is k = absurd (cc)
+missing (BadLines its_word fault) a b is k = absurd (cc)
 missing (BadStates word) a b is k = absurd (cc)
 missing NoInput a b is k = absurd (cc)
 missing ManyFiles a b is k = absurd (cc)
@@ -196,7 +196,7 @@ missing NoMemory a b is k = absurd (cc)
 -- greater misses give status 6
 pub misses : (refusal : Refusal) (a b : Faults) → Raises refusal a b → a.misses < b.misses → status_of refusal ≡ 6
 misses BadWords a b k more = absurd (omega (arith, k.misses))
-misses (BadLines text fault) a b k more = absurd (omega (arith, k.misses))
+misses (BadLines its_word fault) a b k more = absurd (omega (arith, k.misses))
 misses (BadStates word) a b k more = absurd (omega (arith, k.misses))
 misses NoInput a b k more = absurd (omega (arith, k.misses))
 misses ManyFiles a b k more = absurd (omega (arith, k.misses))
@@ -217,7 +217,7 @@ misses NoMemory a b k more = absurd (omega (arith, k.misses))
 -- what an input or the output can be refused for
 abbrev OfInputs : Refusal → Type 0
 OfInputs BadWords = ⊥
-OfInputs (BadLines text fault) = ⊥
+OfInputs (BadLines its_word fault) = ⊥
 OfInputs (BadStates word) = ⊥
 OfInputs NoInput = ⊥
 OfInputs ManyFiles = ⊥
@@ -228,7 +228,7 @@ OfInputs refusal = ⊤
 
 cause_of_inputs : (h : Held) (name : List ℕ) (refusal : Refusal) → IsFileCause h name refusal → OfInputs refusal
 cause_of_inputs h name BadWords k = absurd k
-cause_of_inputs h name (BadLines text fault) k = absurd k
+cause_of_inputs h name (BadLines its_word fault) k = absurd k
 cause_of_inputs h name (BadStates word) k = absurd k
 cause_of_inputs h name NoInput k = absurd k
 cause_of_inputs h name ManyFiles k = absurd k
@@ -246,7 +246,7 @@ cause_of_inputs h name NoMemory k = tt
 
 put_of_inputs : (place : Place) (name b c rows : List ℕ) (before now : Ends) (refusal : Refusal) → PutFails place name b c rows before now refusal → OfInputs refusal
 put_of_inputs Output name b c rows before now BadWords k = absurd k
-put_of_inputs Output name b c rows before now (BadLines text fault) k = absurd k
+put_of_inputs Output name b c rows before now (BadLines its_word fault) k = absurd k
 put_of_inputs Output name b c rows before now (BadStates word) k = absurd k
 put_of_inputs Output name b c rows before now NoInput k = absurd k
 put_of_inputs Output name b c rows before now ManyFiles k = absurd k
@@ -262,7 +262,7 @@ put_of_inputs Output name b c rows before now NotesFailed k = tt
 put_of_inputs Output name b c rows before now (Missing file) k = absurd k
 put_of_inputs Output name b c rows before now NoMemory k = absurd k
 put_of_inputs Itself name b c rows before now BadWords k = absurd k
-put_of_inputs Itself name b c rows before now (BadLines text fault) k = absurd k
+put_of_inputs Itself name b c rows before now (BadLines its_word fault) k = absurd k
 put_of_inputs Itself name b c rows before now (BadStates word) k = absurd k
 put_of_inputs Itself name b c rows before now NoInput k = absurd k
 put_of_inputs Itself name b c rows before now ManyFiles k = absurd k
@@ -278,7 +278,7 @@ put_of_inputs Itself name b c rows before now NotesFailed k = tt
 put_of_inputs Itself name b c rows before now (Missing file) k = absurd k
 put_of_inputs Itself name b c rows before now NoMemory k = tt
 put_of_inputs Nowhere name b c rows before now BadWords k = absurd k
-put_of_inputs Nowhere name b c rows before now (BadLines text fault) k = absurd k
+put_of_inputs Nowhere name b c rows before now (BadLines its_word fault) k = absurd k
 put_of_inputs Nowhere name b c rows before now (BadStates word) k = absurd k
 put_of_inputs Nowhere name b c rows before now NoInput k = absurd k
 put_of_inputs Nowhere name b c rows before now ManyFiles k = absurd k
@@ -296,7 +296,7 @@ put_of_inputs Nowhere name b c rows before now NoMemory k = absurd k
 
 source_of_inputs : (options : Options) (place : Place) (input old new told now : Option (List ℕ)) (refusal : Refusal) → IsSourceRefused options place input old new told now refusal → OfInputs refusal
 source_of_inputs options place input old new told now BadWords k = absurd k.1
-source_of_inputs options place input old new told now (BadLines text fault) k = absurd k.1
+source_of_inputs options place input old new told now (BadLines its_word fault) k = absurd k.1
 source_of_inputs options place input old new told now (BadStates word) k = absurd k.1
 source_of_inputs options place input old new told now NoInput k = absurd k.1
 source_of_inputs options place input old new told now ManyFiles k = absurd k.1
@@ -332,15 +332,15 @@ pub bad_words : (words : List (List ℕ)) (before now : World) (refusal : Refusa
 bad_words words before now BadWords is (inl k) = inl k.cause
 bad_words words before now BadWords is (inr (inl k)) = absurd k.refused.1
 bad_words words before now BadWords is (inr (inr k)) = absurd (of_inputs k.said k.style k.begun now BadWords k.refused)
-bad_words words before now (BadLines text fault) is (inl k) = inr (inl (k.cause.0, (text.now, fault, k.cause.1)))
+bad_words words before now (BadLines its_word fault) is (inl k) = inr (inl (k.cause.0, (its_word.now, fault, k.cause.1)))
 bad_words words before now (BadStates word) is (inl k) = inr (inr (inl (k.cause.0, k.cause.1, (word.now, k.cause.2))))
 bad_words words before now NoInput is (inl k) = inr (inr (inr (inl k.cause)))
 bad_words words before now ManyFiles is (inl k) = inr (inr (inr (inr k.cause)))
-bad_words words before now (BadLines text fault) is (inr (inl k)) = absurd k.refused.1
+bad_words words before now (BadLines its_word fault) is (inr (inl k)) = absurd k.refused.1
 bad_words words before now (BadStates word) is (inr (inl k)) = absurd k.refused.1
 bad_words words before now NoInput is (inr (inl k)) = absurd k.refused.1
 bad_words words before now ManyFiles is (inr (inl k)) = absurd k.refused.1
-bad_words words before now (BadLines text fault) is (inr (inr k)) = absurd (of_inputs k.said k.style k.begun now (BadLines text fault) k.refused)
+bad_words words before now (BadLines its_word fault) is (inr (inr k)) = absurd (of_inputs k.said k.style k.begun now (BadLines its_word fault) k.refused)
 bad_words words before now (BadStates word) is (inr (inr k)) = absurd (of_inputs k.said k.style k.begun now (BadStates word) k.refused)
 bad_words words before now NoInput is (inr (inr k)) = absurd (of_inputs k.said k.style k.begun now NoInput k.refused)
 bad_words words before now ManyFiles is (inr (inr k)) = absurd (of_inputs k.said k.style k.begun now ManyFiles k.refused)
@@ -380,7 +380,7 @@ form words before now refusal bad (inl k) = of_words refusal k.cause
   where
     of_words : (r : Refusal) → AreWordsRefused words r → (status_of r ≡ 2) ⊎ (status_of r ≡ 7)
     of_words BadWords k = inl refl
-    of_words (BadLines text fault) k = inl refl
+    of_words (BadLines its_word fault) k = inl refl
     of_words (BadStates word) k = inl refl
     of_words NoInput k = inl refl
     of_words ManyFiles k = inl refl
@@ -402,7 +402,7 @@ form words before now refusal bad (inr (inr k)) = absurd (not_read words k.said 
 pub no_style : (words : List (List ℕ)) (before now : World) (refusal : Refusal) → status_of refusal ≡ 3 →
     IsRefused words before now refusal → HasNoStyle words before.ends.held 3
 no_style words before now BadWords is k = absurd (cc)
-no_style words before now (BadLines text fault) is k = absurd (cc)
+no_style words before now (BadLines its_word fault) is k = absurd (cc)
 no_style words before now (BadStates word) is k = absurd (cc)
 no_style words before now NoInput is k = absurd (cc)
 no_style words before now ManyFiles is k = absurd (cc)

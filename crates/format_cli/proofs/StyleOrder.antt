@@ -86,7 +86,7 @@ path_missing (Some at) file status none (inr s) = absurd (not_there IsBadConfigu
 pub style_ends : (choice : StyleChoice) (held : Held) (old new : Option (List ℕ)) (refusal : Refusal) (status : ℕ) → IsStyleRefused choice held old new refusal →
     StyleStops choice held status → EndsSo status refusal
 style_ends choice held old new BadWords status k s = absurd k.1
-style_ends choice held old new (BadLines text fault) status k s = absurd k.1
+style_ends choice held old new (BadLines its_word fault) status k s = absurd k.1
 style_ends choice held old new (BadStates word) status k s = absurd k.1
 style_ends choice held old new NoInput status k s = absurd k.1
 style_ends choice held old new ManyFiles status k s = absurd k.1
@@ -135,7 +135,7 @@ path_there (Some at) file none h = not_there (λ text. IsBadConfiguration text �
 pub style_fails : (choice : StyleChoice) (held : Held) (old new : Option (List ℕ)) (refusal : Refusal) → IsStyleRefused choice held old new refusal →
     HasStyle choice held → (status_of refusal ≡ 5) ⊎ (status_of refusal ≡ 7)
 style_fails choice held old new BadWords k h = absurd k.1
-style_fails choice held old new (BadLines text fault) k h = absurd k.1
+style_fails choice held old new (BadLines its_word fault) k h = absurd k.1
 style_fails choice held old new (BadStates word) k h = absurd k.1
 style_fails choice held old new NoInput k h = absurd k.1
 style_fails choice held old new ManyFiles k h = absurd k.1

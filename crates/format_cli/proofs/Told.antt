@@ -30,7 +30,7 @@ more_taken a b c h k = (h.0 ++ k.0, Appends-trans a b c h.0 k.0 h.1 k.1)
 
 put_takes : (place : Place) (name b c rows : List ℕ) (before now : Ends) (refusal : Refusal) → PutFails place name b c rows before now refusal → TakesRows before.told now.told
 put_takes Output name b c rows before now BadWords k = absurd k
-put_takes Output name b c rows before now (BadLines text fault) k = absurd k
+put_takes Output name b c rows before now (BadLines its_word fault) k = absurd k
 put_takes Output name b c rows before now (BadStates word) k = absurd k
 put_takes Output name b c rows before now NoInput k = absurd k
 put_takes Output name b c rows before now ManyFiles k = absurd k
@@ -46,7 +46,7 @@ put_takes Output name b c rows before now NotesFailed k = front_taken before.tol
 put_takes Output name b c rows before now (Missing file) k = absurd k
 put_takes Output name b c rows before now NoMemory k = absurd k
 put_takes Itself name b c rows before now BadWords k = absurd k
-put_takes Itself name b c rows before now (BadLines text fault) k = absurd k
+put_takes Itself name b c rows before now (BadLines its_word fault) k = absurd k
 put_takes Itself name b c rows before now (BadStates word) k = absurd k
 put_takes Itself name b c rows before now NoInput k = absurd k
 put_takes Itself name b c rows before now ManyFiles k = absurd k
@@ -62,7 +62,7 @@ put_takes Itself name b c rows before now NotesFailed k = front_taken before.tol
 put_takes Itself name b c rows before now (Missing file) k = absurd k
 put_takes Itself name b c rows before now NoMemory k = (rows, k.2)
 put_takes Nowhere name b c rows before now BadWords k = absurd k
-put_takes Nowhere name b c rows before now (BadLines text fault) k = absurd k
+put_takes Nowhere name b c rows before now (BadLines its_word fault) k = absurd k
 put_takes Nowhere name b c rows before now (BadStates word) k = absurd k
 put_takes Nowhere name b c rows before now NoInput k = absurd k
 put_takes Nowhere name b c rows before now ManyFiles k = absurd k
@@ -80,7 +80,7 @@ put_takes Nowhere name b c rows before now NoMemory k = absurd k
 
 source_takes : (options : Options) (place : Place) (input old new told now : Option (List ℕ)) (refusal : Refusal) → IsSourceRefused options place input old new told now refusal → TakesRows told now
 source_takes options place input old new told now BadWords k = none_taken told now k.2
-source_takes options place input old new told now (BadLines text fault) k = none_taken told now k.2
+source_takes options place input old new told now (BadLines its_word fault) k = none_taken told now k.2
 source_takes options place input old new told now (BadStates word) k = none_taken told now k.2
 source_takes options place input old new told now NoInput k = none_taken told now k.2
 source_takes options place input old new told now ManyFiles k = none_taken told now k.2
