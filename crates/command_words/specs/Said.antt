@@ -56,7 +56,7 @@ pub record HasBadStates (rows : List Row) (word : Text) : Type 0 where
 -- Words are read exactly where they are of the form, `--lines` is a list of ranges, `--states` tells a budget, `-i` has its
 -- FILE and `--lines` no more than one; each fault has its own cause, in this order, and want of memory may come at any time.
 abbrev pub Reads : List Text → Result Words WordsFault → Type 0
-Reads words (Ok said) = IsOfForm words × (¬ LacksFile (rows_of_words words)) × (¬ HasManyFiles (rows_of_words words)) × Says (rows_of_words words) said
+Reads words (Ok said) = IsOfForm words × (¬ LacksFile (rows_of_words words)) × Says (rows_of_words words) said × (¬ HasManyFiles (rows_of_words words))
 Reads words (Err Form) = ¬ IsOfForm words
 Reads words (Err (BadLines word fault)) = IsOfForm words × HasBadLines (rows_of_words words) word.now fault
 Reads words (Err (BadStates word)) = IsOfForm words × HasLines (rows_of_words words) × HasBadStates (rows_of_words words) word.now
