@@ -1,4 +1,5 @@
 mod Digits
 mod Builders
 mod FormLemmas
+mod LineLemmas
 pub mod Examples

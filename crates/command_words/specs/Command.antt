@@ -29,9 +29,10 @@ abbrev pub bare : App
 bare = let start = new_app (codes "clang_format") in
     record start { top = record start.top { no_binary_name = true; disable_help_flag = true; disable_version_flag = true } }
 
--- the words that are built: `--style S`, `--states N`, `-i` (the letter's code is 105), `--dry-run`, `--Werror`, `--dump-config` and FILE
+-- the words that are built: `--style S`, `--lines L`, `--states N`, `-i` (the letter's code is 105), `--dry-run`, `--Werror`, `--dump-config` and FILE
 abbrev pub rules : List Rule
 rules = option_rule (codes "style")
+    ∷ option_rule (codes "lines")
     ∷ option_rule (codes "states")
     ∷ letter_rule (codes "in-place") 105
     ∷ flag_rule (codes "dry-run")
@@ -64,6 +65,10 @@ Gives flag rows = first_of flag rows ≡ Some (codes "true")
 -- the value of `--style`, `file` where there is none
 abbrev pub style_word : List Row → Text
 style_word rows = unwrap_or (first_of (codes "style") rows) (codes "file")
+
+-- the value of `--lines`, if there is one
+abbrev pub lines_word : List Row → Option Text
+lines_word rows = first_of (codes "lines") rows
 
 -- the value of `--states`, if there is one
 abbrev pub states_word : List Row → Option Text

@@ -1,3 +1,4 @@
 pub mod Command
 pub mod Budget
+pub mod Lines
 pub mod Said

@@ -68,8 +68,10 @@ pub fn make_command<'w>(alloc: Global) -> Result<Command<'w>, AllocError>
     let bare = bare_command(alloc);
     let style = option(alloc, "style");
     let with_style = with_arg(bare, style)?;
+    let lines = option(alloc, "lines");
+    let with_lines = with_arg(with_style, lines)?;
     let states = option(alloc, "states");
-    let with_states = with_arg(with_style, states)?;
+    let with_states = with_arg(with_lines, states)?;
     let in_place = letter(alloc, "in-place", 'i');
     let with_in_place = with_arg(with_states, in_place)?;
     let dry_run = flag(alloc, "dry-run");

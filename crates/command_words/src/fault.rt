@@ -2,12 +2,13 @@
 
 ghost use Rattle.std.specs.Prelude.{◌≡◌};
 
+use off_regions::RangeFault;
 use std::alloc::AllocError;
 use thiserror::Error;
 
 /// How the command is used, with the words that are built: the note on words that are not of its form.
 pub const USAGE: &str =
-    "usage: clang_format [--style S] [--states N] [-i] [--dry-run] [--Werror] [--dump-config] [FILE ..]";
+    "usage: clang_format [--style S] [--lines L] [--states N] [-i] [--dry-run] [--Werror] [--dump-config] [FILE ..]";
 
 /// Why words are refused. It is shown as the row that tells it.
 #[derive(Clone, Copy, Debug, PartialEq, Eq, Error)]
@@ -15,12 +16,18 @@ pub enum WordsFault<'w> {
     /// The words are not of the command's form: one is unknown, stands twice, or lacks its value.
     #[error("{USAGE}")]
     Form,
+    /// This value of `--lines` is no list of ranges: the fault of its first range at fault.
+    #[error("clang_format: --lines {word}: {fault}")]
+    BadLines { word: &'w str, fault: RangeFault },
     /// This value of `--states` isn't a number from 1 to 16000000, in 1 to 9 decimal digits.
     #[error("clang_format: --states {0}: not 1 to 16000000")]
     BadStates(&'w str),
     /// `-i` has no FILE to write to, and no `--dump-config` stands beside it.
     #[error("clang_format: -i needs a file")]
     NoInput,
+    /// `--lines` stands beside two FILEs or more.
+    #[error("clang_format: --lines takes one file")]
+    ManyFiles,
     /// Memory ran out.
     #[error("clang_format: no memory")]
     NoMemory,

@@ -4,12 +4,14 @@ ghost use Rattle.std.specs.Prelude.{◌≡◌, ◌≢◌, ◌≤◌, ◌⊎◌, 
 ghost use Rattle.clap.specs.Words.{first_value, found_of, kind_of, matched_of, raw_values, rows_of};
 ghost use Rattle.command_words.specs.Said.{Chooses, Reads, ReadsForm, SaysOrNot};
 ghost use Rattle.command_words.specs.Budget.{budget_of};
+ghost use Rattle.command_words.specs.Lines.{IsLinesOrNot};
 
 use crate::budget::{DEFAULT_BUDGET, budget_in};
 use crate::command::make_command;
 use crate::fault::WordsFault;
 use clap::error::ErrorKind;
 use clap::{ArgMatches, Error};
+use off_regions::{RangeFault, Ranges};
 use std::alloc::{AllocError, Global};
 
 /// Which style the words choose.
@@ -28,6 +30,8 @@ pub enum StyleChoice<'w> {
 pub struct Words<'w> {
     /// `--style S`.
     pub style: StyleChoice<'w>,
+    /// `--lines L`: the lines that are asked for, all where it isn't given.
+    pub lines: Option<Ranges>,
     /// `--states N`: how many cells the search of a line may have.
     pub budget: u64,
     /// `-i`: each FILE is written back.
@@ -72,6 +76,23 @@ fn style_of<'w>(matches: &ArgMatches<'w>) -> StyleChoice<'w>
     choice_of(matches.get_str("style").unwrap_or("file"))
 }
 
+/// The lines that are asked for, or why the value of `--lines` tells none.
+fn lines_of<'w>(
+    alloc: Global,
+    matches: &ArgMatches<'w>,
+) -> Result<Option<Ranges>, WordsFault<'w>>
+    ensures { IsLinesOrNot (first_value (found_of matches.now) (codes "lines")) result }
+{
+    match matches.get_str("lines") {
+        None => Ok(None),
+        Some(word) => match Ranges::parse(alloc, word) {
+            Ok(ranges) => Ok(Some(ranges)),
+            Err(RangeFault::NoMemory) => Err(WordsFault::NoMemory),
+            Err(fault) => Err(WordsFault::BadLines { word, fault }),
+        },
+    }
+}
+
 /// The budget, or the value of `--states` that tells none.
 fn budget_of<'w>(matches: &ArgMatches<'w>) -> Result<u64, &'w str>
     ensures some { IfOk result (λ budget. budget_of (first_value (found_of matches.now) (codes "states")) ≡ Some budget) }
@@ -102,6 +123,7 @@ fn said<'w>(alloc: Global, matches: &ArgMatches<'w>) -> Result<Words<'w>, WordsF
     ensures says { SaysOrNot (rows_of (found_of matches.now)) result }
     ensures most { IfOk result (λ said. said.budget ≤ 16000000) }
 {
+    let lines = lines_of(alloc, matches)?;
     let budget = match budget_of(matches) {
         Ok(budget) => budget,
         Err(word) => return Err(WordsFault::BadStates(word)),
@@ -114,6 +136,7 @@ fn said<'w>(alloc: Global, matches: &ArgMatches<'w>) -> Result<Words<'w>, WordsF
     let dump_config = is_given(matches, "dump-config");
     Ok(Words {
         style,
+        lines,
         budget,
         in_place,
         dry_run,
@@ -148,8 +171,9 @@ fn read_form<'w>(alloc: Global, words: &'w [String]) -> Result<Words<'w>, WordsF
 
 /// Reads the words that stand after the program's name.
 ///
-/// `Form`: they are not of the command's form. `BadStates`: they are, and `--states` tells no budget. `NoInput`: they
-/// have `-i` and neither a FILE nor `--dump-config`. `NoMemory`: memory ran out.
+/// `Form`: they are not of the command's form. `BadLines`: they are, and the value of `--lines` is no list of ranges.
+/// `BadStates`: `--states` tells no budget. `NoInput`: they have `-i` and neither a FILE nor `--dump-config`.
+/// `ManyFiles`: they have `--lines` and two FILEs or more. The first that fits is told. `NoMemory`: memory ran out.
 pub fn read_words<'w>(alloc: Global, words: &'w [String]) -> Result<Words<'w>, WordsFault<'w>>
     ensures reads { Reads (map string_bytes words.now) result }
     ensures most { IfOk result (λ said. said.budget ≤ 16000000) }
@@ -157,6 +181,9 @@ pub fn read_words<'w>(alloc: Global, words: &'w [String]) -> Result<Words<'w>, W
     let said = read_form(alloc, words)?;
     if said.in_place && !said.dump_config && said.files.is_empty() {
         return Err(WordsFault::NoInput);
+    }
+    if said.lines.is_some() && said.files.len() > 1 {
+        return Err(WordsFault::ManyFiles);
     }
     Ok(said)
 }

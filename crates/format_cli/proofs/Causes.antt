@@ -12,7 +12,7 @@ use Rattle.format_cli.specs.declared.input.Options.{Options}
 use Rattle.format_cli.specs.declared.input.Place.{Place}
 use Rattle.format_cli.specs.declared.input.Place.TheVariants.{Itself}
 use Rattle.format_cli.specs.declared.refusal.Refusal.{Refusal}
-use Rattle.format_cli.specs.declared.refusal.Refusal.TheVariants.{BadWords, BadStates, NoInput, UnknownStyle, LongConfiguration, BadConfiguration, TooLarge, OpenComment, SourceFailed, FileFailed, OutFailed, NotesFailed, Missing, NoMemory}
+use Rattle.format_cli.specs.declared.refusal.Refusal.TheVariants.{BadWords, BadLines, BadStates, NoInput, ManyFiles, UnknownStyle, LongConfiguration, BadConfiguration, TooLarge, OpenComment, SourceFailed, FileFailed, OutFailed, NotesFailed, Missing, NoMemory}
 use Rattle.format_cli.specs.InForce.{IsHeld, IsLonger, IsInForce, IsStyleRefused, IsConfigurationRefused, Configures, configuration_of}
 use Rattle.format_cli.specs.Inputs.{ends, rows_told, IsFormatted, IsTold, IsTextCause, IsFileCause, IsFileRefused, IsSourceRefused, IsWriteRefused, Puts}
 use Rattle.c_grammar.specs.Grammar.{is_same}
@@ -26,8 +26,10 @@ longer (Some at) name text h k = rw h k
 -- a FILE is refused for its text
 pub file_cause : (held : Held) (name text : List ℕ) (refusal : Refusal) → IsHeld held name text → IsTextCause name text refusal → IsFileCause held name refusal
 file_cause held name text BadWords h k = absurd k
+file_cause held name text (BadLines its_word fault) h k = absurd k
 file_cause held name text (BadStates word) h k = absurd k
 file_cause held name text NoInput h k = absurd k
+file_cause held name text ManyFiles h k = absurd k
 file_cause held name text (UnknownStyle unknown) h k = absurd k
 file_cause held name text (LongConfiguration file) h k = absurd k
 file_cause held name text (BadConfiguration file fault) h k = absurd k
@@ -48,8 +50,10 @@ large (Some b) text h k = subst (λ (x : List ℕ). LIMIT < length x) h k
 pub source_refused : (options : Options) (place : Place) (input old told : Option (List ℕ)) (text : List ℕ) (refusal : Refusal) → IsTold input text →
     IsTextCause (codes "<stdin>") text refusal → IsSourceRefused options place input old old told told refusal
 source_refused options place input old told text BadWords h k = absurd k
+source_refused options place input old told text (BadLines its_word fault) h k = absurd k
 source_refused options place input old told text (BadStates word) h k = absurd k
 source_refused options place input old told text NoInput h k = absurd k
+source_refused options place input old told text ManyFiles h k = absurd k
 source_refused options place input old told text (UnknownStyle unknown) h k = absurd k
 source_refused options place input old told text (LongConfiguration file) h k = absurd k
 source_refused options place input old told text (BadConfiguration file fault) h k = absurd k
@@ -67,8 +71,10 @@ pub write_refused : (options : Options) (name b c : List ℕ) (taken told now : 
     (made : IsFormatted options b c) → Appends told now (rows_told Itself name made) → (c ≢ b) → KeepsAll old mid → IsWriteRefused name mid new refusal →
     IsFileRefused options Itself name (ends taken old told) (ends taken new now) refusal
 write_refused options name b c taken told now old mid new BadWords held made rows changes same k = absurd k
+write_refused options name b c taken told now old mid new (BadLines its_word fault) held made rows changes same k = absurd k
 write_refused options name b c taken told now old mid new (BadStates word) held made rows changes same k = absurd k
 write_refused options name b c taken told now old mid new NoInput held made rows changes same k = absurd k
+write_refused options name b c taken told now old mid new ManyFiles held made rows changes same k = absurd k
 write_refused options name b c taken told now old mid new (UnknownStyle unknown) held made rows changes same k = absurd k
 write_refused options name b c taken told now old mid new (LongConfiguration file) held made rows changes same k = absurd k
 write_refused options name b c taken told now old mid new (BadConfiguration file fault) held made rows changes same k = absurd k
@@ -87,8 +93,10 @@ pub style_refused : (choice : StyleChoice) (held : Held) (file : Bor (List ℕ))
     ((style : Style) (rows : List ℕ) → Configures file.now text style rows → IsInForce choice held style rows) →
     IsConfigurationRefused file text old new refusal → IsStyleRefused choice held old new refusal
 style_refused choice held file text old new BadWords h names gives k = absurd k
+style_refused choice held file text old new (BadLines its_word fault) h names gives k = absurd k
 style_refused choice held file text old new (BadStates word) h names gives k = absurd k
 style_refused choice held file text old new NoInput h names gives k = absurd k
+style_refused choice held file text old new ManyFiles h names gives k = absurd k
 style_refused choice held file text old new (UnknownStyle unknown) h names gives k = absurd k
 style_refused choice held file text old new (LongConfiguration at) h names gives k = absurd k
 style_refused choice held file text old new (BadConfiguration at fault) h names gives k = (

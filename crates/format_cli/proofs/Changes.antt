@@ -46,12 +46,12 @@ pub all_told : (options : Options) (place : Place) (names : List (List ℕ)) (be
 all_told options place names before now changes k = subst (λ (b : Bool). AreDoneWith options place names before now b) (or_false changes) k
 
 answers_by : (dry_run werror changes : Bool) (P : Type 0) → (IsTrue changes ↔ P) →
-    Answers (IsTrue dry_run × IsTrue werror × P) (outcome_status (if dry_run && werror && changes then WouldChange else Done))
+    Answers (IsTrue dry_run × IsTrue werror × P) (outcome_status (outcome_of (dry_run && werror) changes))
 answers_by true true true P h = inl ((refl, refl, h.0 refl), refl)
 answers_by true true false P h = inr (λ k. false≢true (h.1 k.2), refl)
 answers_by true false changes P h = inr (λ k. false≢true k.1, refl)
 answers_by false werror changes P h = inr (λ k. false≢true k.0, refl)
 
 -- the status of a call that did all that its words ask for
-pub answers : (said : Words) (changes : Bool) (P : Type 0) → (IsTrue changes ↔ P) → Answers (WouldFail said P) (outcome_status (outcome_of said changes))
+pub answers : (said : Words) (changes : Bool) (P : Type 0) → (IsTrue changes ↔ P) → Answers (WouldFail said P) (outcome_status (outcome_of (said.dry_run && said.werror) changes))
 answers said changes P h = answers_by said.dry_run said.werror changes P h

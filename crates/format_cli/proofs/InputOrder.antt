@@ -11,7 +11,7 @@ use Rattle.format_cli.specs.declared.input.Options.{Options}
 use Rattle.format_cli.specs.declared.input.Place.{Place}
 use Rattle.format_cli.specs.declared.input.Place.TheVariants.{Output, Itself, Nowhere}
 use Rattle.format_cli.specs.declared.refusal.Refusal.{Refusal}
-use Rattle.format_cli.specs.declared.refusal.Refusal.TheVariants.{BadWords, BadStates, NoInput, UnknownStyle, LongConfiguration, BadConfiguration, TooLarge, OpenComment, SourceFailed, FileFailed, OutFailed, NotesFailed, Missing, NoMemory}
+use Rattle.format_cli.specs.declared.refusal.Refusal.TheVariants.{BadWords, BadLines, BadStates, NoInput, ManyFiles, UnknownStyle, LongConfiguration, BadConfiguration, TooLarge, OpenComment, SourceFailed, FileFailed, OutFailed, NotesFailed, Missing, NoMemory}
 use Rattle.format_cli.specs.InForce.{IsHeld}
 use Rattle.format_cli.specs.Inputs.{AreDone, AreRefused, Ends, IsDone, IsFileCause, IsFileRefused, IsFormatted, IsSourceDone, IsSourceRefused, PutFails}
 use Rattle.format_cli.specs.Notes.{status_of}
@@ -24,7 +24,7 @@ use Rattle.format_cli.proofs.StyleOrder.{EndsSo}
 -- a text that has a layout isn't refused
 not_bad : (options : Options) (b c : List ℕ) → IsFormatted options b c → IsBadText b → ⊥
 not_bad options b c made (inl long) = omega (arith, made.fits, long)
-not_bad options b c made (inr unended) = open_texts_have_no_layout options.style None options.budget C11 b c made.reports unended.0 made.formats unended.1
+not_bad options b c made (inr unended) = open_texts_have_no_layout options.style options.ranges options.budget C11 b c made.reports unended.0 made.formats unended.1
 
 -- standard input that is refused for its bytes isn't done
 pub source_stays : (options : Options) (place : Place) (left old new told now : Option (List ℕ)) → IsSourceDone options place left old new told now → IsThere IsBadText left → ⊥
@@ -34,8 +34,10 @@ source_stays options place (Some b) old new told now k bad = not_bad options k.0
 -- standard input ends so, where it is refused
 pub source_ends : (options : Options) (place : Place) (left old new told now : Option (List ℕ)) (refusal : Refusal) → IsSourceRefused options place left old new told now refusal → EndsSo 4 refusal
 source_ends options place left old new told now BadWords k = absurd k.1
+source_ends options place left old new told now (BadLines its_word fault) k = absurd k.1
 source_ends options place left old new told now (BadStates word) k = absurd k.1
 source_ends options place left old new told now NoInput k = absurd k.1
+source_ends options place left old new told now ManyFiles k = absurd k.1
 source_ends options place left old new told now (UnknownStyle unknown) k = absurd k.1
 source_ends options place left old new told now (LongConfiguration file) k = absurd k.1
 source_ends options place left old new told now (BadConfiguration file fault) k = absurd k.1
@@ -79,8 +81,10 @@ never_none text wrong = cc
 
 cause_ends : (held : Held) (name : List ℕ) (refusal : Refusal) (status : ℕ) → IsFileCause held name refusal → Tells held name (Stops status) → EndsSo status refusal
 cause_ends held name BadWords status k s = absurd k
+cause_ends held name (BadLines its_word fault) status k s = absurd k
 cause_ends held name (BadStates word) status k s = absurd k
 cause_ends held name NoInput status k s = absurd k
+cause_ends held name ManyFiles status k s = absurd k
 cause_ends held name (UnknownStyle unknown) status k s = absurd k
 cause_ends held name (LongConfiguration file) status k s = absurd k
 cause_ends held name (BadConfiguration file fault) status k s = absurd k
@@ -105,8 +109,10 @@ not_refused (Some at) name P there never bad h = clash (at name) P there never b
 
 cause_fails : (held : Held) (name : List ℕ) (refusal : Refusal) → IsFileCause held name refusal → Tells held name IsFine → (status_of refusal ≡ 5) ⊎ (status_of refusal ≡ 7)
 cause_fails held name BadWords k h = absurd k
+cause_fails held name (BadLines its_word fault) k h = absurd k
 cause_fails held name (BadStates word) k h = absurd k
 cause_fails held name NoInput k h = absurd k
+cause_fails held name ManyFiles k h = absurd k
 cause_fails held name (UnknownStyle unknown) k h = absurd k
 cause_fails held name (LongConfiguration file) k h = absurd k
 cause_fails held name (BadConfiguration file fault) k h = absurd k
@@ -128,8 +134,10 @@ cause_fails held name NoMemory k h = inr refl
 
 put_ends : (place : Place) (name b c rows : List ℕ) (before now : Ends) (refusal : Refusal) → PutFails place name b c rows before now refusal → (status_of refusal ≡ 5) ⊎ (status_of refusal ≡ 7)
 put_ends Output name b c rows before now BadWords k = absurd k
+put_ends Output name b c rows before now (BadLines its_word fault) k = absurd k
 put_ends Output name b c rows before now (BadStates word) k = absurd k
 put_ends Output name b c rows before now NoInput k = absurd k
+put_ends Output name b c rows before now ManyFiles k = absurd k
 put_ends Output name b c rows before now (UnknownStyle unknown) k = absurd k
 put_ends Output name b c rows before now (LongConfiguration file) k = absurd k
 put_ends Output name b c rows before now (BadConfiguration file fault) k = absurd k
@@ -142,8 +150,10 @@ put_ends Output name b c rows before now NotesFailed k = inl refl
 put_ends Output name b c rows before now (Missing file) k = absurd k
 put_ends Output name b c rows before now NoMemory k = absurd k
 put_ends Itself name b c rows before now BadWords k = absurd k
+put_ends Itself name b c rows before now (BadLines its_word fault) k = absurd k
 put_ends Itself name b c rows before now (BadStates word) k = absurd k
 put_ends Itself name b c rows before now NoInput k = absurd k
+put_ends Itself name b c rows before now ManyFiles k = absurd k
 put_ends Itself name b c rows before now (UnknownStyle unknown) k = absurd k
 put_ends Itself name b c rows before now (LongConfiguration file) k = absurd k
 put_ends Itself name b c rows before now (BadConfiguration file fault) k = absurd k
@@ -156,8 +166,10 @@ put_ends Itself name b c rows before now NotesFailed k = inl refl
 put_ends Itself name b c rows before now (Missing file) k = absurd k
 put_ends Itself name b c rows before now NoMemory k = inr refl
 put_ends Nowhere name b c rows before now BadWords k = absurd k
+put_ends Nowhere name b c rows before now (BadLines its_word fault) k = absurd k
 put_ends Nowhere name b c rows before now (BadStates word) k = absurd k
 put_ends Nowhere name b c rows before now NoInput k = absurd k
+put_ends Nowhere name b c rows before now ManyFiles k = absurd k
 put_ends Nowhere name b c rows before now (UnknownStyle unknown) k = absurd k
 put_ends Nowhere name b c rows before now (LongConfiguration file) k = absurd k
 put_ends Nowhere name b c rows before now (BadConfiguration file fault) k = absurd k

@@ -18,7 +18,7 @@ use Rattle.command_words.specs.declared.read.StyleChoice.TheVariants.{FileAt}
 use Rattle.format_cli.specs.declared.input.Place.{Place}
 use Rattle.format_cli.specs.declared.input.Place.TheVariants.{Output, Itself, Nowhere}
 use Rattle.format_cli.specs.declared.refusal.Refusal.{Refusal}
-use Rattle.format_cli.specs.declared.refusal.Refusal.TheVariants.{BadWords, BadStates, NoInput, UnknownStyle, LongConfiguration, BadConfiguration, TooLarge, OpenComment, SourceFailed, FileFailed, OutFailed, NotesFailed, Missing, NoMemory}
+use Rattle.format_cli.specs.declared.refusal.Refusal.TheVariants.{BadWords, BadLines, BadStates, NoInput, ManyFiles, UnknownStyle, LongConfiguration, BadConfiguration, TooLarge, OpenComment, SourceFailed, FileFailed, OutFailed, NotesFailed, Missing, NoMemory}
 use Rattle.format_cli.specs.Account.{Answers, TextChanges, World, WouldFail, IsRefused, AreWordsRefused, EndsWell, IsPerformed, IsNotPerformed, IsBegun, IsSourceNotWritten, IsSourceWritten, files_of, options_of, place_of}
 use Rattle.format_cli.specs.InForce.{IsHeld, IsMissing, IsStyleRefused}
 use Rattle.format_cli.specs.Inputs.{Ends, IsDone, IsFileCause, IsSourceCause, IsSourceDone, IsSourceRefused, AreDone, AreRefused, PutFails, Puts, SourcePutFails, SourcePuts}
@@ -56,8 +56,10 @@ puts_keep Nowhere name b c before now leaves k = k.0
 
 put_keeps : (place : Place) (name b c rows : List ℕ) (before now : Ends) (refusal : Refusal) → LeavesOut place → PutFails place name b c rows before now refusal → Keeps before.taken now.taken
 put_keeps Output name b c rows before now BadWords leaves k = absurd k
+put_keeps Output name b c rows before now (BadLines its_word fault) leaves k = absurd k
 put_keeps Output name b c rows before now (BadStates word) leaves k = absurd k
 put_keeps Output name b c rows before now NoInput leaves k = absurd k
+put_keeps Output name b c rows before now ManyFiles leaves k = absurd k
 put_keeps Output name b c rows before now (UnknownStyle unknown) leaves k = absurd k
 put_keeps Output name b c rows before now (LongConfiguration file) leaves k = absurd k
 put_keeps Output name b c rows before now (BadConfiguration file fault) leaves k = absurd k
@@ -70,8 +72,10 @@ put_keeps Output name b c rows before now NotesFailed leaves k = k.0
 put_keeps Output name b c rows before now (Missing file) leaves k = absurd k
 put_keeps Output name b c rows before now NoMemory leaves k = absurd k
 put_keeps Itself name b c rows before now BadWords leaves k = absurd k
+put_keeps Itself name b c rows before now (BadLines its_word fault) leaves k = absurd k
 put_keeps Itself name b c rows before now (BadStates word) leaves k = absurd k
 put_keeps Itself name b c rows before now NoInput leaves k = absurd k
+put_keeps Itself name b c rows before now ManyFiles leaves k = absurd k
 put_keeps Itself name b c rows before now (UnknownStyle unknown) leaves k = absurd k
 put_keeps Itself name b c rows before now (LongConfiguration file) leaves k = absurd k
 put_keeps Itself name b c rows before now (BadConfiguration file fault) leaves k = absurd k
@@ -84,8 +88,10 @@ put_keeps Itself name b c rows before now NotesFailed leaves k = k.0
 put_keeps Itself name b c rows before now (Missing file) leaves k = absurd k
 put_keeps Itself name b c rows before now NoMemory leaves k = k.0
 put_keeps Nowhere name b c rows before now BadWords leaves k = absurd k
+put_keeps Nowhere name b c rows before now (BadLines its_word fault) leaves k = absurd k
 put_keeps Nowhere name b c rows before now (BadStates word) leaves k = absurd k
 put_keeps Nowhere name b c rows before now NoInput leaves k = absurd k
+put_keeps Nowhere name b c rows before now ManyFiles leaves k = absurd k
 put_keeps Nowhere name b c rows before now (UnknownStyle unknown) leaves k = absurd k
 put_keeps Nowhere name b c rows before now (LongConfiguration file) leaves k = absurd k
 put_keeps Nowhere name b c rows before now (BadConfiguration file fault) leaves k = absurd k
@@ -128,8 +134,10 @@ cut_keeps Nowhere c old new leaves k = absurd k
 source_refused_keeps : (options : Options) (place : Place) (input old new told now : Option (List ℕ)) (refusal : Refusal) → place ≡ Nowhere →
     IsSourceRefused options place input old new told now refusal → Keeps old new
 source_refused_keeps options place input old new told now BadWords leaves k = k.0
+source_refused_keeps options place input old new told now (BadLines its_word fault) leaves k = k.0
 source_refused_keeps options place input old new told now (BadStates word) leaves k = k.0
 source_refused_keeps options place input old new told now NoInput leaves k = k.0
+source_refused_keeps options place input old new told now ManyFiles leaves k = k.0
 source_refused_keeps options place input old new told now (UnknownStyle unknown) leaves k = k.0
 source_refused_keeps options place input old new told now (LongConfiguration file) leaves k = k.0
 source_refused_keeps options place input old new told now (BadConfiguration file fault) leaves k = k.0
@@ -212,8 +220,10 @@ puts_stay Nowhere name b c before now leaves k = k.1
 
 put_stays : (place : Place) (name b c rows : List ℕ) (before now : Ends) (refusal : Refusal) → LeavesHeld place → PutFails place name b c rows before now refusal → KeepsAll before.held now.held
 put_stays Output name b c rows before now BadWords leaves k = absurd k
+put_stays Output name b c rows before now (BadLines its_word fault) leaves k = absurd k
 put_stays Output name b c rows before now (BadStates word) leaves k = absurd k
 put_stays Output name b c rows before now NoInput leaves k = absurd k
+put_stays Output name b c rows before now ManyFiles leaves k = absurd k
 put_stays Output name b c rows before now (UnknownStyle unknown) leaves k = absurd k
 put_stays Output name b c rows before now (LongConfiguration file) leaves k = absurd k
 put_stays Output name b c rows before now (BadConfiguration file fault) leaves k = absurd k
@@ -226,8 +236,10 @@ put_stays Output name b c rows before now NotesFailed leaves k = k.1
 put_stays Output name b c rows before now (Missing file) leaves k = absurd k
 put_stays Output name b c rows before now NoMemory leaves k = absurd k
 put_stays Itself name b c rows before now BadWords leaves k = absurd k
+put_stays Itself name b c rows before now (BadLines its_word fault) leaves k = absurd k
 put_stays Itself name b c rows before now (BadStates word) leaves k = absurd k
 put_stays Itself name b c rows before now NoInput leaves k = absurd k
+put_stays Itself name b c rows before now ManyFiles leaves k = absurd k
 put_stays Itself name b c rows before now (UnknownStyle unknown) leaves k = absurd k
 put_stays Itself name b c rows before now (LongConfiguration file) leaves k = absurd k
 put_stays Itself name b c rows before now (BadConfiguration file fault) leaves k = absurd k
@@ -240,8 +252,10 @@ put_stays Itself name b c rows before now NotesFailed leaves k = k.1
 put_stays Itself name b c rows before now (Missing file) leaves k = absurd k
 put_stays Itself name b c rows before now NoMemory leaves k = k.1
 put_stays Nowhere name b c rows before now BadWords leaves k = absurd k
+put_stays Nowhere name b c rows before now (BadLines its_word fault) leaves k = absurd k
 put_stays Nowhere name b c rows before now (BadStates word) leaves k = absurd k
 put_stays Nowhere name b c rows before now NoInput leaves k = absurd k
+put_stays Nowhere name b c rows before now ManyFiles leaves k = absurd k
 put_stays Nowhere name b c rows before now (UnknownStyle unknown) leaves k = absurd k
 put_stays Nowhere name b c rows before now (LongConfiguration file) leaves k = absurd k
 put_stays Nowhere name b c rows before now (BadConfiguration file fault) leaves k = absurd k
@@ -366,8 +380,10 @@ path_is choice file is = subst (λ (x : StyleChoice). IsPath x file.now) (sym is
 pub missing_name : (words : List (List ℕ)) (before now : World) (refusal : Refusal) → status_of refusal ≡ 6 →
     IsRefused words before now refusal → LacksName words before.ends.held
 missing_name words before now BadWords is k = absurd (cc)
+missing_name words before now (BadLines its_word fault) is k = absurd (cc)
 missing_name words before now (BadStates word) is k = absurd (cc)
 missing_name words before now NoInput is k = absurd (cc)
+missing_name words before now ManyFiles is k = absurd (cc)
 missing_name words before now (UnknownStyle unknown) is k = absurd (cc)
 missing_name words before now (LongConfiguration file) is k = absurd (cc)
 missing_name words before now (BadConfiguration file fault) is k = absurd (cc)
@@ -398,8 +414,10 @@ at_before (Some a) (Some b) name P h k = subst P (h name) k
 
 cause_before : (a b : Held) (name : List ℕ) (refusal : Refusal) → KeepsAll a b → IsFileCause b name refusal → IsFileCause a name refusal
 cause_before a b name BadWords h k = absurd k
+cause_before a b name (BadLines its_word fault) h k = absurd k
 cause_before a b name (BadStates word) h k = absurd k
 cause_before a b name NoInput h k = absurd k
+cause_before a b name ManyFiles h k = absurd k
 cause_before a b name (UnknownStyle unknown) h k = absurd k
 cause_before a b name (LongConfiguration file) h k = absurd k
 cause_before a b name (BadConfiguration file fault) h k = absurd k
@@ -414,8 +432,10 @@ cause_before a b name NoMemory h k = tt
 
 put_not : (place : Place) (name b c rows : List ℕ) (before now : Ends) (refusal : Refusal) → status_of refusal ≡ 4 → PutFails place name b c rows before now refusal → ⊥
 put_not Output name b c rows before now BadWords is k = k
+put_not Output name b c rows before now (BadLines its_word fault) is k = k
 put_not Output name b c rows before now (BadStates word) is k = k
 put_not Output name b c rows before now NoInput is k = k
+put_not Output name b c rows before now ManyFiles is k = k
 put_not Output name b c rows before now (UnknownStyle unknown) is k = k
 put_not Output name b c rows before now (LongConfiguration file) is k = k
 put_not Output name b c rows before now (BadConfiguration file fault) is k = k
@@ -428,8 +448,10 @@ put_not Output name b c rows before now NotesFailed is k = cc
 put_not Output name b c rows before now (Missing file) is k = k
 put_not Output name b c rows before now NoMemory is k = k
 put_not Itself name b c rows before now BadWords is k = k
+put_not Itself name b c rows before now (BadLines its_word fault) is k = k
 put_not Itself name b c rows before now (BadStates word) is k = k
 put_not Itself name b c rows before now NoInput is k = k
+put_not Itself name b c rows before now ManyFiles is k = k
 put_not Itself name b c rows before now (UnknownStyle unknown) is k = k
 put_not Itself name b c rows before now (LongConfiguration file) is k = k
 put_not Itself name b c rows before now (BadConfiguration file fault) is k = k
@@ -442,8 +464,10 @@ put_not Itself name b c rows before now NotesFailed is k = cc
 put_not Itself name b c rows before now (Missing file) is k = k
 put_not Itself name b c rows before now NoMemory is k = cc
 put_not Nowhere name b c rows before now BadWords is k = k
+put_not Nowhere name b c rows before now (BadLines its_word fault) is k = k
 put_not Nowhere name b c rows before now (BadStates word) is k = k
 put_not Nowhere name b c rows before now NoInput is k = k
+put_not Nowhere name b c rows before now ManyFiles is k = k
 put_not Nowhere name b c rows before now (UnknownStyle unknown) is k = k
 put_not Nowhere name b c rows before now (LongConfiguration file) is k = k
 put_not Nowhere name b c rows before now (BadConfiguration file fault) is k = k
@@ -458,8 +482,10 @@ put_not Nowhere name b c rows before now NoMemory is k = k
 
 words_not : (words : List (List ℕ)) (refusal : Refusal) → status_of refusal ≡ 4 → AreWordsRefused words refusal → ⊥
 words_not words BadWords is k = cc
+words_not words (BadLines its_word fault) is k = cc
 words_not words (BadStates word) is k = cc
 words_not words NoInput is k = cc
+words_not words ManyFiles is k = cc
 words_not words (UnknownStyle unknown) is k = k
 words_not words (LongConfiguration file) is k = k
 words_not words (BadConfiguration file fault) is k = k
@@ -474,8 +500,10 @@ words_not words NoMemory is k = cc
 
 style_not : (choice : StyleChoice) (held : Held) (old new : Option (List ℕ)) (refusal : Refusal) → status_of refusal ≡ 4 → IsStyleRefused choice held old new refusal → ⊥
 style_not choice held old new BadWords is k = cc
+style_not choice held old new (BadLines its_word fault) is k = cc
 style_not choice held old new (BadStates word) is k = cc
 style_not choice held old new NoInput is k = cc
+style_not choice held old new ManyFiles is k = cc
 style_not choice held old new (UnknownStyle unknown) is k = cc
 style_not choice held old new (LongConfiguration file) is k = cc
 style_not choice held old new (BadConfiguration file fault) is k = cc
@@ -490,8 +518,10 @@ style_not choice held old new NoMemory is k = cc
 
 source_text : (options : Options) (place : Place) (input old new told now : Option (List ℕ)) (refusal : Refusal) → status_of refusal ≡ 4 → IsSourceRefused options place input old new told now refusal → IsSourceCause input refusal
 source_text options place input old new told now BadWords is k = absurd (cc)
+source_text options place input old new told now (BadLines its_word fault) is k = absurd (cc)
 source_text options place input old new told now (BadStates word) is k = absurd (cc)
 source_text options place input old new told now NoInput is k = absurd (cc)
+source_text options place input old new told now ManyFiles is k = absurd (cc)
 source_text options place input old new told now (UnknownStyle unknown) is k = absurd (cc)
 source_text options place input old new told now (LongConfiguration file) is k = absurd (cc)
 source_text options place input old new told now (BadConfiguration file fault) is k = absurd (cc)

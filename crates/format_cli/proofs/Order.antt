@@ -10,22 +10,24 @@ use Rattle.style_table.specs.declared.style.Style.{Style}
 use Rattle.command_words.specs.declared.read.Words.{Words}
 use Rattle.command_words.specs.Said.{Reads}
 use Rattle.format_cli.specs.declared.refusal.Refusal.{Refusal}
-use Rattle.format_cli.specs.declared.refusal.Refusal.TheVariants.{BadWords, BadStates, NoInput, UnknownStyle, LongConfiguration, BadConfiguration, TooLarge, OpenComment, SourceFailed, FileFailed, OutFailed, NotesFailed, Missing, NoMemory}
+use Rattle.format_cli.specs.declared.refusal.Refusal.TheVariants.{BadWords, BadLines, BadStates, NoInput, ManyFiles, UnknownStyle, LongConfiguration, BadConfiguration, TooLarge, OpenComment, SourceFailed, FileFailed, OutFailed, NotesFailed, Missing, NoMemory}
 use Rattle.format_cli.specs.Account.{AreWordsRefused, EndsWell, IsBegun, IsNotPerformed, IsPerformed, IsRefused, World, files_of, options_of, place_of}
 use Rattle.format_cli.specs.Counts.{Faults, Raises}
 use Rattle.format_cli.specs.Notes.{row_of, status_of}
 use Rattle.format_cli.specs.Order.{AreDifferent, FilesStop, HasStyle, InputsStop, IsBadText, IsThere, LacksRows, StopsWith, StyleStops}
 use Rattle.format_cli.proofs.Choice.{has_same, in_force_same, one_dry, one_dump, one_list, one_place, one_style, stops_same}
 use Rattle.format_cli.proofs.StyleOrder.{EndsSo, goes_on, style_ends, style_fails}
-use Rattle.format_cli.proofs.Statuses.{no_budget}
+use Rattle.format_cli.proofs.Statuses.{no_budget, no_lines}
 use Rattle.format_cli.proofs.Told.{performed_takes, not_performed_takes}
 use Rattle.format_cli.proofs.InputOrder.{AreOnce, files_end, files_stay, source_ends, source_stays, stop_stays}
 
 -- words that say something are refused only for want of memory
 read_words : (words : List (List ℕ)) (said : Words) (refusal : Refusal) → AreWordsRefused words refusal → Reads words (Ok said) → status_of refusal ≡ 7
 read_words words said BadWords k reads = absurd (k reads.0)
-read_words words said (BadStates word) k reads = absurd (no_budget words word.now said k.1 reads.2)
-read_words words said NoInput k reads = absurd (reads.1 k.2)
+read_words words said (BadLines its_word fault) k reads = absurd (no_lines words its_word.now fault said k.1 reads.2)
+read_words words said (BadStates word) k reads = absurd (no_budget words word.now said k.2 reads.2)
+read_words words said NoInput k reads = absurd (reads.1 k.3)
+read_words words said ManyFiles k reads = absurd (reads.3 k.3)
 read_words words said (UnknownStyle unknown) k reads = absurd k
 read_words words said (LongConfiguration file) k reads = absurd k
 read_words words said (BadConfiguration file fault) k reads = absurd k
@@ -169,8 +171,10 @@ rose_since a b c same rose = subst (λ (n : ℕ). Rose n c) same rose
 -- the notes' faults that rose while a refusal was told rose in the call
 notes_rose : (refusal : Refusal) (a b : Faults) (notes : ℕ) → Raises refusal a b → b.notes ≤ notes → Rose b.notes notes → Rose a.notes notes
 notes_rose BadWords a b notes k later rose = rose_since a.notes b.notes notes k.notes rose
+notes_rose (BadLines its_word fault) a b notes k later rose = rose_since a.notes b.notes notes k.notes rose
 notes_rose (BadStates word) a b notes k later rose = rose_since a.notes b.notes notes k.notes rose
 notes_rose NoInput a b notes k later rose = rose_since a.notes b.notes notes k.notes rose
+notes_rose ManyFiles a b notes k later rose = rose_since a.notes b.notes notes k.notes rose
 notes_rose (UnknownStyle unknown) a b notes k later rose = rose_since a.notes b.notes notes k.notes rose
 notes_rose (LongConfiguration file) a b notes k later rose = rose_since a.notes b.notes notes k.notes rose
 notes_rose (BadConfiguration file fault) a b notes k later rose = rose_since a.notes b.notes notes k.notes rose

@@ -1,19 +1,21 @@
 -- What follows from a refusal and its status.
-use Rattle.std.proofs.Common.{◌≡◌, ◌∙◌, ◌<◌, ◌≤◌, ◌⊎◌, ℕ, List, [], ◌∷◌, Ok, Some, None, refl, sym, ap, subst, inl, inr, le_trans, arith}
+use Rattle.std.proofs.Common.{◌≡◌, ◌∙◌, ◌<◌, ◌≤◌, ◌⊎◌, ℕ, List, [], ◌∷◌, Ok, Err, Some, None, refl, sym, ap, subst, inl, inr, le_trans, arith}
 use Rattle.std.specs.Prelude.{⊤}
 use Rattle.std.specs.declared.option.Option.{Option}
 use Rattle.fmt_ports.specs.Causes.{Rose}
 use Rattle.style_table.specs.declared.style.Style.{Style}
+use Rattle.off_regions.specs.declared.fault.RangeFault.{RangeFault}
 use Rattle.command_words.specs.Budget.{budget_of}
+use Rattle.command_words.specs.Lines.{asked_by, lines_of}
 use Rattle.command_words.specs.Command.{rows_of_words}
 use Rattle.command_words.specs.declared.read.Words.{Words}
-use Rattle.command_words.specs.Said.{HasBadStates, Reads, Says}
+use Rattle.command_words.specs.Said.{HasBadLines, HasBadStates, Reads, Says}
 use Rattle.fmt_ports.specs.Files.{Held}
 use Rattle.format_cli.specs.declared.input.Options.{Options}
 use Rattle.format_cli.specs.declared.input.Place.{Place}
 use Rattle.format_cli.specs.declared.input.Place.TheVariants.{Output, Itself, Nowhere}
 use Rattle.format_cli.specs.declared.refusal.Refusal.{Refusal}
-use Rattle.format_cli.specs.declared.refusal.Refusal.TheVariants.{BadWords, BadStates, NoInput, UnknownStyle, LongConfiguration, BadConfiguration, TooLarge, OpenComment, SourceFailed, FileFailed, OutFailed, NotesFailed, Missing, NoMemory}
+use Rattle.format_cli.specs.declared.refusal.Refusal.TheVariants.{BadWords, BadLines, BadStates, NoInput, ManyFiles, UnknownStyle, LongConfiguration, BadConfiguration, TooLarge, OpenComment, SourceFailed, FileFailed, OutFailed, NotesFailed, Missing, NoMemory}
 use Rattle.format_cli.specs.Account.{World, IsRefused, IsNotPerformed, AreWordsRefused, options_of}
 use Rattle.format_cli.specs.Counts.{Faults, Raises}
 use Rattle.format_cli.specs.Inputs.{Ends, IsFileRefused, AreRefused, IsSourceRefused, IsFileCause, PutFails}
@@ -22,8 +24,10 @@ use Rattle.format_cli.specs.Statuses.{IsStatus, AreBadWords, HasNoStyle}
 
 pub known : (refusal : Refusal) → IsStatus (status_of refusal)
 known BadWords = inr (inr (inl refl))
+known (BadLines its_word fault) = inr (inr (inl refl))
 known (BadStates word) = inr (inr (inl refl))
 known NoInput = inr (inr (inl refl))
+known ManyFiles = inr (inr (inl refl))
 known (UnknownStyle unknown) = inr (inr (inr (inl refl)))
 known (LongConfiguration file) = inr (inr (inr (inl refl)))
 known (BadConfiguration file fault) = inr (inr (inr (inl refl)))
@@ -38,8 +42,10 @@ known NoMemory = inr (inr (inr (inr (inr (inr (inr (refl)))))))
 
 pub not_zero : (refusal : Refusal) → status_of refusal ≡ 0 → ⊥
 not_zero BadWords is = cc
+not_zero (BadLines its_word fault) is = cc
 not_zero (BadStates word) is = cc
 not_zero NoInput is = cc
+not_zero ManyFiles is = cc
 not_zero (UnknownStyle unknown) is = cc
 not_zero (LongConfiguration file) is = cc
 not_zero (BadConfiguration file fault) is = cc
@@ -54,8 +60,10 @@ not_zero NoMemory is = cc
 
 pub not_one : (refusal : Refusal) → status_of refusal ≡ 1 → ⊥
 not_one BadWords is = cc
+not_one (BadLines its_word fault) is = cc
 not_one (BadStates word) is = cc
 not_one NoInput is = cc
+not_one ManyFiles is = cc
 not_one (UnknownStyle unknown) is = cc
 not_one (LongConfiguration file) is = cc
 not_one (BadConfiguration file fault) is = cc
@@ -74,8 +82,10 @@ not_one NoMemory is = cc
 pub failed : (refusal : Refusal) (a b : Faults) (notes : ℕ) → b.notes ≤ notes → status_of refusal ≡ 5 → Raises refusal a b →
     Rose a.source b.source ⊎ Rose a.out b.out ⊎ Rose a.notes notes ⊎ Rose a.files b.files
 failed BadWords a b notes later is k = absurd (cc)
+failed (BadLines its_word fault) a b notes later is k = absurd (cc)
 failed (BadStates word) a b notes later is k = absurd (cc)
 failed NoInput a b notes later is k = absurd (cc)
+failed ManyFiles a b notes later is k = absurd (cc)
 failed (UnknownStyle unknown) a b notes later is k = absurd (cc)
 failed (LongConfiguration file) a b notes later is k = absurd (cc)
 failed (BadConfiguration file fault) a b notes later is k = absurd (cc)
@@ -91,8 +101,10 @@ failed NoMemory a b notes later is k = absurd (cc)
 -- a greater count of source gives status 5
 pub source_fault : (refusal : Refusal) (a b : Faults) → Raises refusal a b → a.source < b.source → status_of refusal ≡ 5
 source_fault BadWords a b k more = absurd (omega (arith, k.source))
+source_fault (BadLines its_word fault) a b k more = absurd (omega (arith, k.source))
 source_fault (BadStates word) a b k more = absurd (omega (arith, k.source))
 source_fault NoInput a b k more = absurd (omega (arith, k.source))
+source_fault ManyFiles a b k more = absurd (omega (arith, k.source))
 source_fault (UnknownStyle unknown) a b k more = absurd (omega (arith, k.source))
 source_fault (LongConfiguration file) a b k more = absurd (omega (arith, k.source))
 source_fault (BadConfiguration file fault) a b k more = absurd (omega (arith, k.source))
@@ -108,8 +120,10 @@ source_fault NoMemory a b k more = absurd (omega (arith, k.source))
 -- a greater count of out gives status 5
 pub out_fault : (refusal : Refusal) (a b : Faults) → Raises refusal a b → a.out < b.out → status_of refusal ≡ 5
 out_fault BadWords a b k more = absurd (omega (arith, k.out))
+out_fault (BadLines its_word fault) a b k more = absurd (omega (arith, k.out))
 out_fault (BadStates word) a b k more = absurd (omega (arith, k.out))
 out_fault NoInput a b k more = absurd (omega (arith, k.out))
+out_fault ManyFiles a b k more = absurd (omega (arith, k.out))
 out_fault (UnknownStyle unknown) a b k more = absurd (omega (arith, k.out))
 out_fault (LongConfiguration file) a b k more = absurd (omega (arith, k.out))
 out_fault (BadConfiguration file fault) a b k more = absurd (omega (arith, k.out))
@@ -125,8 +139,10 @@ out_fault NoMemory a b k more = absurd (omega (arith, k.out))
 -- a greater count of files gives status 5
 pub files_fault : (refusal : Refusal) (a b : Faults) → Raises refusal a b → a.files < b.files → status_of refusal ≡ 5
 files_fault BadWords a b k more = absurd (omega (arith, k.files))
+files_fault (BadLines its_word fault) a b k more = absurd (omega (arith, k.files))
 files_fault (BadStates word) a b k more = absurd (omega (arith, k.files))
 files_fault NoInput a b k more = absurd (omega (arith, k.files))
+files_fault ManyFiles a b k more = absurd (omega (arith, k.files))
 files_fault (UnknownStyle unknown) a b k more = absurd (omega (arith, k.files))
 files_fault (LongConfiguration file) a b k more = absurd (omega (arith, k.files))
 files_fault (BadConfiguration file fault) a b k more = absurd (omega (arith, k.files))
@@ -142,8 +158,10 @@ files_fault NoMemory a b k more = absurd (omega (arith, k.files))
 -- a greater count of notes gives status 5
 pub notes_fault : (refusal : Refusal) (a b : Faults) → Raises refusal a b → a.notes < b.notes → status_of refusal ≡ 5
 notes_fault BadWords a b k more = absurd (omega (arith, k.notes))
+notes_fault (BadLines its_word fault) a b k more = absurd (omega (arith, k.notes))
 notes_fault (BadStates word) a b k more = absurd (omega (arith, k.notes))
 notes_fault NoInput a b k more = absurd (omega (arith, k.notes))
+notes_fault ManyFiles a b k more = absurd (omega (arith, k.notes))
 notes_fault (UnknownStyle unknown) a b k more = absurd (omega (arith, k.notes))
 notes_fault (LongConfiguration file) a b k more = absurd (omega (arith, k.notes))
 notes_fault (BadConfiguration file fault) a b k more = absurd (omega (arith, k.notes))
@@ -159,8 +177,10 @@ notes_fault NoMemory a b k more = absurd (omega (arith, k.notes))
 -- status 6 comes where the misses rose
 pub missing : (refusal : Refusal) (a b : Faults) → status_of refusal ≡ 6 → Raises refusal a b → Rose a.misses b.misses
 missing BadWords a b is k = absurd (cc)
+missing (BadLines its_word fault) a b is k = absurd (cc)
 missing (BadStates word) a b is k = absurd (cc)
 missing NoInput a b is k = absurd (cc)
+missing ManyFiles a b is k = absurd (cc)
 missing (UnknownStyle unknown) a b is k = absurd (cc)
 missing (LongConfiguration file) a b is k = absurd (cc)
 missing (BadConfiguration file fault) a b is k = absurd (cc)
@@ -176,8 +196,10 @@ missing NoMemory a b is k = absurd (cc)
 -- greater misses give status 6
 pub misses : (refusal : Refusal) (a b : Faults) → Raises refusal a b → a.misses < b.misses → status_of refusal ≡ 6
 misses BadWords a b k more = absurd (omega (arith, k.misses))
+misses (BadLines its_word fault) a b k more = absurd (omega (arith, k.misses))
 misses (BadStates word) a b k more = absurd (omega (arith, k.misses))
 misses NoInput a b k more = absurd (omega (arith, k.misses))
+misses ManyFiles a b k more = absurd (omega (arith, k.misses))
 misses (UnknownStyle unknown) a b k more = absurd (omega (arith, k.misses))
 misses (LongConfiguration file) a b k more = absurd (omega (arith, k.misses))
 misses (BadConfiguration file fault) a b k more = absurd (omega (arith, k.misses))
@@ -195,8 +217,10 @@ misses NoMemory a b k more = absurd (omega (arith, k.misses))
 -- what an input or the output can be refused for
 abbrev OfInputs : Refusal → Type 0
 OfInputs BadWords = ⊥
+OfInputs (BadLines its_word fault) = ⊥
 OfInputs (BadStates word) = ⊥
 OfInputs NoInput = ⊥
+OfInputs ManyFiles = ⊥
 OfInputs (UnknownStyle unknown) = ⊥
 OfInputs (LongConfiguration file) = ⊥
 OfInputs (BadConfiguration file fault) = ⊥
@@ -204,8 +228,10 @@ OfInputs refusal = ⊤
 
 cause_of_inputs : (h : Held) (name : List ℕ) (refusal : Refusal) → IsFileCause h name refusal → OfInputs refusal
 cause_of_inputs h name BadWords k = absurd k
+cause_of_inputs h name (BadLines its_word fault) k = absurd k
 cause_of_inputs h name (BadStates word) k = absurd k
 cause_of_inputs h name NoInput k = absurd k
+cause_of_inputs h name ManyFiles k = absurd k
 cause_of_inputs h name (UnknownStyle unknown) k = absurd k
 cause_of_inputs h name (LongConfiguration file) k = absurd k
 cause_of_inputs h name (BadConfiguration file fault) k = absurd k
@@ -220,8 +246,10 @@ cause_of_inputs h name NoMemory k = tt
 
 put_of_inputs : (place : Place) (name b c rows : List ℕ) (before now : Ends) (refusal : Refusal) → PutFails place name b c rows before now refusal → OfInputs refusal
 put_of_inputs Output name b c rows before now BadWords k = absurd k
+put_of_inputs Output name b c rows before now (BadLines its_word fault) k = absurd k
 put_of_inputs Output name b c rows before now (BadStates word) k = absurd k
 put_of_inputs Output name b c rows before now NoInput k = absurd k
+put_of_inputs Output name b c rows before now ManyFiles k = absurd k
 put_of_inputs Output name b c rows before now (UnknownStyle unknown) k = absurd k
 put_of_inputs Output name b c rows before now (LongConfiguration file) k = absurd k
 put_of_inputs Output name b c rows before now (BadConfiguration file fault) k = absurd k
@@ -234,8 +262,10 @@ put_of_inputs Output name b c rows before now NotesFailed k = tt
 put_of_inputs Output name b c rows before now (Missing file) k = absurd k
 put_of_inputs Output name b c rows before now NoMemory k = absurd k
 put_of_inputs Itself name b c rows before now BadWords k = absurd k
+put_of_inputs Itself name b c rows before now (BadLines its_word fault) k = absurd k
 put_of_inputs Itself name b c rows before now (BadStates word) k = absurd k
 put_of_inputs Itself name b c rows before now NoInput k = absurd k
+put_of_inputs Itself name b c rows before now ManyFiles k = absurd k
 put_of_inputs Itself name b c rows before now (UnknownStyle unknown) k = absurd k
 put_of_inputs Itself name b c rows before now (LongConfiguration file) k = absurd k
 put_of_inputs Itself name b c rows before now (BadConfiguration file fault) k = absurd k
@@ -248,8 +278,10 @@ put_of_inputs Itself name b c rows before now NotesFailed k = tt
 put_of_inputs Itself name b c rows before now (Missing file) k = absurd k
 put_of_inputs Itself name b c rows before now NoMemory k = tt
 put_of_inputs Nowhere name b c rows before now BadWords k = absurd k
+put_of_inputs Nowhere name b c rows before now (BadLines its_word fault) k = absurd k
 put_of_inputs Nowhere name b c rows before now (BadStates word) k = absurd k
 put_of_inputs Nowhere name b c rows before now NoInput k = absurd k
+put_of_inputs Nowhere name b c rows before now ManyFiles k = absurd k
 put_of_inputs Nowhere name b c rows before now (UnknownStyle unknown) k = absurd k
 put_of_inputs Nowhere name b c rows before now (LongConfiguration file) k = absurd k
 put_of_inputs Nowhere name b c rows before now (BadConfiguration file fault) k = absurd k
@@ -264,8 +296,10 @@ put_of_inputs Nowhere name b c rows before now NoMemory k = absurd k
 
 source_of_inputs : (options : Options) (place : Place) (input old new told now : Option (List ℕ)) (refusal : Refusal) → IsSourceRefused options place input old new told now refusal → OfInputs refusal
 source_of_inputs options place input old new told now BadWords k = absurd k.1
+source_of_inputs options place input old new told now (BadLines its_word fault) k = absurd k.1
 source_of_inputs options place input old new told now (BadStates word) k = absurd k.1
 source_of_inputs options place input old new told now NoInput k = absurd k.1
+source_of_inputs options place input old new told now ManyFiles k = absurd k.1
 source_of_inputs options place input old new told now (UnknownStyle unknown) k = absurd k.1
 source_of_inputs options place input old new told now (LongConfiguration file) k = absurd k.1
 source_of_inputs options place input old new told now (BadConfiguration file fault) k = absurd k.1
@@ -298,12 +332,18 @@ pub bad_words : (words : List (List ℕ)) (before now : World) (refusal : Refusa
 bad_words words before now BadWords is (inl k) = inl k.cause
 bad_words words before now BadWords is (inr (inl k)) = absurd k.refused.1
 bad_words words before now BadWords is (inr (inr k)) = absurd (of_inputs k.said k.style k.begun now BadWords k.refused)
-bad_words words before now (BadStates word) is (inl k) = inr (inl (k.cause.0, (word.now, k.cause.1)))
-bad_words words before now NoInput is (inl k) = inr (inr k.cause)
+bad_words words before now (BadLines its_word fault) is (inl k) = inr (inl (k.cause.0, (its_word.now, fault, k.cause.1)))
+bad_words words before now (BadStates word) is (inl k) = inr (inr (inl (k.cause.0, k.cause.1, (word.now, k.cause.2))))
+bad_words words before now NoInput is (inl k) = inr (inr (inr (inl k.cause)))
+bad_words words before now ManyFiles is (inl k) = inr (inr (inr (inr k.cause)))
+bad_words words before now (BadLines its_word fault) is (inr (inl k)) = absurd k.refused.1
 bad_words words before now (BadStates word) is (inr (inl k)) = absurd k.refused.1
 bad_words words before now NoInput is (inr (inl k)) = absurd k.refused.1
+bad_words words before now ManyFiles is (inr (inl k)) = absurd k.refused.1
+bad_words words before now (BadLines its_word fault) is (inr (inr k)) = absurd (of_inputs k.said k.style k.begun now (BadLines its_word fault) k.refused)
 bad_words words before now (BadStates word) is (inr (inr k)) = absurd (of_inputs k.said k.style k.begun now (BadStates word) k.refused)
 bad_words words before now NoInput is (inr (inr k)) = absurd (of_inputs k.said k.style k.begun now NoInput k.refused)
+bad_words words before now ManyFiles is (inr (inr k)) = absurd (of_inputs k.said k.style k.begun now ManyFiles k.refused)
 bad_words words before now (UnknownStyle unknown) is k = absurd (cc)
 bad_words words before now (LongConfiguration file) is k = absurd (cc)
 bad_words words before now (BadConfiguration file fault) is k = absurd (cc)
@@ -320,11 +360,18 @@ bad_words words before now NoMemory is k = absurd (cc)
 pub no_budget : (words : List (List ℕ)) (word : List ℕ) (said : Words) → HasBadStates (rows_of_words words) word → Says (rows_of_words words) said → ⊥
 no_budget words word said bad says = let e : Some said.budget ≡ None = sym says.budget ∙ (ap budget_of bad.given ∙ bad.bad) in cc
 
+-- a value that is no list of ranges isn't said
+pub no_lines : (words : List (List ℕ)) (word : List ℕ) (fault : RangeFault) (said : Words) → HasBadLines (rows_of_words words) word fault → Says (rows_of_words words) said → ⊥
+no_lines words word fault said bad says =
+    let e : Ok said.lines ≡ asked_by (Err fault) = sym says.lines ∙ (ap lines_of bad.given ∙ ap asked_by bad.bad) in cc
+
 -- bad words say nothing
 pub not_read : (words : List (List ℕ)) (said : Words) → AreBadWords words → Reads words (Ok said) → ⊥
 not_read words said (inl bad) reads = bad reads.0
-not_read words said (inr (inl bad)) reads = no_budget words bad.1.0 said bad.1.1 reads.2
-not_read words said (inr (inr bad)) reads = reads.1 bad.2
+not_read words said (inr (inl bad)) reads = no_lines words bad.1.0 bad.1.1 said bad.1.2 reads.2
+not_read words said (inr (inr (inl bad))) reads = no_budget words bad.2.0 said bad.2.1 reads.2
+not_read words said (inr (inr (inr (inl bad)))) reads = reads.1 bad.3
+not_read words said (inr (inr (inr (inr bad)))) reads = reads.3 bad.3
 
 -- bad words give status 2, or memory ran out
 pub form : (words : List (List ℕ)) (before now : World) (refusal : Refusal) → AreBadWords words →
@@ -333,8 +380,10 @@ form words before now refusal bad (inl k) = of_words refusal k.cause
   where
     of_words : (r : Refusal) → AreWordsRefused words r → (status_of r ≡ 2) ⊎ (status_of r ≡ 7)
     of_words BadWords k = inl refl
+    of_words (BadLines its_word fault) k = inl refl
     of_words (BadStates word) k = inl refl
     of_words NoInput k = inl refl
+    of_words ManyFiles k = inl refl
     of_words (UnknownStyle unknown) k = absurd k
     of_words (LongConfiguration file) k = absurd k
     of_words (BadConfiguration file fault) k = absurd k
@@ -353,8 +402,10 @@ form words before now refusal bad (inr (inr k)) = absurd (not_read words k.said 
 pub no_style : (words : List (List ℕ)) (before now : World) (refusal : Refusal) → status_of refusal ≡ 3 →
     IsRefused words before now refusal → HasNoStyle words before.ends.held 3
 no_style words before now BadWords is k = absurd (cc)
+no_style words before now (BadLines its_word fault) is k = absurd (cc)
 no_style words before now (BadStates word) is k = absurd (cc)
 no_style words before now NoInput is k = absurd (cc)
+no_style words before now ManyFiles is k = absurd (cc)
 no_style words before now (UnknownStyle unknown) is (inl k) = absurd k.cause
 no_style words before now (UnknownStyle unknown) is (inr (inl k)) = record { said = k.said; reads = k.reads; refusal = (UnknownStyle unknown); is_its = refl; cause = k.refused.1 }
 no_style words before now (UnknownStyle unknown) is (inr (inr k)) = absurd (of_inputs k.said k.style k.begun now (UnknownStyle unknown) k.refused)

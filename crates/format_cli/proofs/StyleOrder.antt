@@ -12,7 +12,7 @@ use Rattle.style_config.specs.Reading.{Effect, Reads, reading}
 use Rattle.command_words.specs.declared.read.StyleChoice.{StyleChoice}
 use Rattle.command_words.specs.declared.read.StyleChoice.TheVariants.{File as DefaultFile, FileAt, Named}
 use Rattle.format_cli.specs.declared.refusal.Refusal.{Refusal}
-use Rattle.format_cli.specs.declared.refusal.Refusal.TheVariants.{BadWords, BadStates, NoInput, UnknownStyle, LongConfiguration, BadConfiguration, TooLarge, OpenComment, SourceFailed, FileFailed, OutFailed, NotesFailed, Missing, NoMemory}
+use Rattle.format_cli.specs.declared.refusal.Refusal.TheVariants.{BadWords, BadLines, BadStates, NoInput, ManyFiles, UnknownStyle, LongConfiguration, BadConfiguration, TooLarge, OpenComment, SourceFailed, FileFailed, OutFailed, NotesFailed, Missing, NoMemory}
 use Rattle.format_cli.specs.InForce.{Configures, IsAtFault, IsBase, IsInForce, IsStyleRefused, configuration_of, default_file}
 use Rattle.format_cli.specs.Notes.{status_of}
 use Rattle.format_cli.specs.Order.{HasStyle, IsBadConfiguration, IsThere, StyleStops, Tells}
@@ -86,8 +86,10 @@ path_missing (Some at) file status none (inr s) = absurd (not_there IsBadConfigu
 pub style_ends : (choice : StyleChoice) (held : Held) (old new : Option (List ℕ)) (refusal : Refusal) (status : ℕ) → IsStyleRefused choice held old new refusal →
     StyleStops choice held status → EndsSo status refusal
 style_ends choice held old new BadWords status k s = absurd k.1
+style_ends choice held old new (BadLines its_word fault) status k s = absurd k.1
 style_ends choice held old new (BadStates word) status k s = absurd k.1
 style_ends choice held old new NoInput status k s = absurd k.1
+style_ends choice held old new ManyFiles status k s = absurd k.1
 style_ends choice held old new (UnknownStyle unknown) status k s =
     inl (sym (subst (λ (c : StyleChoice). StyleStops c held status) k.1.0 s).1)
 style_ends choice held old new (LongConfiguration file) status k s =
@@ -133,8 +135,10 @@ path_there (Some at) file none h = not_there (λ text. IsBadConfiguration text �
 pub style_fails : (choice : StyleChoice) (held : Held) (old new : Option (List ℕ)) (refusal : Refusal) → IsStyleRefused choice held old new refusal →
     HasStyle choice held → (status_of refusal ≡ 5) ⊎ (status_of refusal ≡ 7)
 style_fails choice held old new BadWords k h = absurd k.1
+style_fails choice held old new (BadLines its_word fault) k h = absurd k.1
 style_fails choice held old new (BadStates word) k h = absurd k.1
 style_fails choice held old new NoInput k h = absurd k.1
+style_fails choice held old new ManyFiles k h = absurd k.1
 style_fails choice held old new (UnknownStyle unknown) k h = absurd (subst (λ (c : StyleChoice). HasStyle c held) k.1.0 h k.1.1)
 style_fails choice held old new (LongConfiguration file) k h =
     absurd (not_refused choice held file.now (λ b. IsSomeAnd b (λ bytes. LIMIT < length bytes)) k.1.0 k.1.1 (λ never. never) (λ text long. inl long) h)

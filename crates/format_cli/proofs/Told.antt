@@ -10,7 +10,7 @@ use Rattle.format_cli.specs.declared.input.Options.{Options}
 use Rattle.format_cli.specs.declared.input.Place.{Place}
 use Rattle.format_cli.specs.declared.input.Place.TheVariants.{Output, Itself, Nowhere}
 use Rattle.format_cli.specs.declared.refusal.Refusal.{Refusal}
-use Rattle.format_cli.specs.declared.refusal.Refusal.TheVariants.{BadWords, BadStates, NoInput, UnknownStyle, LongConfiguration, BadConfiguration, TooLarge, OpenComment, SourceFailed, FileFailed, OutFailed, NotesFailed, Missing, NoMemory}
+use Rattle.format_cli.specs.declared.refusal.Refusal.TheVariants.{BadWords, BadLines, BadStates, NoInput, ManyFiles, UnknownStyle, LongConfiguration, BadConfiguration, TooLarge, OpenComment, SourceFailed, FileFailed, OutFailed, NotesFailed, Missing, NoMemory}
 use Rattle.format_cli.specs.Account.{IsNotPerformed, IsPerformed, World, files_of, options_of, place_of}
 use Rattle.format_cli.specs.Inputs.{AreDone, AreRefused, Ends, IsSourceRefused, PutFails, rows_told}
 use Rattle.format_cli.proofs.Ends.{takes_nothing}
@@ -30,8 +30,10 @@ more_taken a b c h k = (h.0 ++ k.0, Appends-trans a b c h.0 k.0 h.1 k.1)
 
 put_takes : (place : Place) (name b c rows : List ℕ) (before now : Ends) (refusal : Refusal) → PutFails place name b c rows before now refusal → TakesRows before.told now.told
 put_takes Output name b c rows before now BadWords k = absurd k
+put_takes Output name b c rows before now (BadLines its_word fault) k = absurd k
 put_takes Output name b c rows before now (BadStates word) k = absurd k
 put_takes Output name b c rows before now NoInput k = absurd k
+put_takes Output name b c rows before now ManyFiles k = absurd k
 put_takes Output name b c rows before now (UnknownStyle unknown) k = absurd k
 put_takes Output name b c rows before now (LongConfiguration file) k = absurd k
 put_takes Output name b c rows before now (BadConfiguration file fault) k = absurd k
@@ -44,8 +46,10 @@ put_takes Output name b c rows before now NotesFailed k = front_taken before.tol
 put_takes Output name b c rows before now (Missing file) k = absurd k
 put_takes Output name b c rows before now NoMemory k = absurd k
 put_takes Itself name b c rows before now BadWords k = absurd k
+put_takes Itself name b c rows before now (BadLines its_word fault) k = absurd k
 put_takes Itself name b c rows before now (BadStates word) k = absurd k
 put_takes Itself name b c rows before now NoInput k = absurd k
+put_takes Itself name b c rows before now ManyFiles k = absurd k
 put_takes Itself name b c rows before now (UnknownStyle unknown) k = absurd k
 put_takes Itself name b c rows before now (LongConfiguration file) k = absurd k
 put_takes Itself name b c rows before now (BadConfiguration file fault) k = absurd k
@@ -58,8 +62,10 @@ put_takes Itself name b c rows before now NotesFailed k = front_taken before.tol
 put_takes Itself name b c rows before now (Missing file) k = absurd k
 put_takes Itself name b c rows before now NoMemory k = (rows, k.2)
 put_takes Nowhere name b c rows before now BadWords k = absurd k
+put_takes Nowhere name b c rows before now (BadLines its_word fault) k = absurd k
 put_takes Nowhere name b c rows before now (BadStates word) k = absurd k
 put_takes Nowhere name b c rows before now NoInput k = absurd k
+put_takes Nowhere name b c rows before now ManyFiles k = absurd k
 put_takes Nowhere name b c rows before now (UnknownStyle unknown) k = absurd k
 put_takes Nowhere name b c rows before now (LongConfiguration file) k = absurd k
 put_takes Nowhere name b c rows before now (BadConfiguration file fault) k = absurd k
@@ -74,8 +80,10 @@ put_takes Nowhere name b c rows before now NoMemory k = absurd k
 
 source_takes : (options : Options) (place : Place) (input old new told now : Option (List ℕ)) (refusal : Refusal) → IsSourceRefused options place input old new told now refusal → TakesRows told now
 source_takes options place input old new told now BadWords k = none_taken told now k.2
+source_takes options place input old new told now (BadLines its_word fault) k = none_taken told now k.2
 source_takes options place input old new told now (BadStates word) k = none_taken told now k.2
 source_takes options place input old new told now NoInput k = none_taken told now k.2
+source_takes options place input old new told now ManyFiles k = none_taken told now k.2
 source_takes options place input old new told now (UnknownStyle unknown) k = none_taken told now k.2
 source_takes options place input old new told now (LongConfiguration file) k = none_taken told now k.2
 source_takes options place input old new told now (BadConfiguration file fault) k = none_taken told now k.2

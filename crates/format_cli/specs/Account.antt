@@ -15,7 +15,7 @@ use Rattle.format_cli.specs.declared.input.Options.{Options}
 use Rattle.format_cli.specs.declared.input.Place.{Place}
 use Rattle.format_cli.specs.declared.input.Place.TheVariants.{Output, Itself, Nowhere}
 use Rattle.format_cli.specs.declared.refusal.Refusal.{Refusal}
-use Rattle.format_cli.specs.declared.refusal.Refusal.TheVariants.{BadWords, BadStates, NoInput, OutFailed, NoMemory}
+use Rattle.format_cli.specs.declared.refusal.Refusal.TheVariants.{BadWords, BadLines, BadStates, NoInput, ManyFiles, OutFailed, NoMemory}
 use Rattle.format_cli.specs.InForce.{IsInForce, IsStyleRefused}
 use Rattle.format_cli.specs.Inputs.{Ends, ends, IsSourceDone, IsSourceRefused, AreDone, AreRefused, SomeChanges}
 use Rattle.format_cli.specs.Notes.{row_of, status_of}
@@ -30,9 +30,9 @@ place_of false false = Output
 abbrev pub files_of : Words → List (List ℕ)
 files_of said = map (λ name. name.now) said.files.items
 
--- how texts are formatted: in this style, with the budget of the words
+-- how texts are formatted: in this style, with the lines and the budget of the words
 abbrev pub options_of : Words → Style → Options
-options_of said style = record { style = style; budget = said.budget }
+options_of said style = record { style = style; ranges = said.lines; budget = said.budget }
 
 -- Standard input, what the output and the notes have taken, and the files, at one moment.
 pub record World : Type 0 where
@@ -115,8 +115,10 @@ pub record IsUntouched (before now : World) : Type 0 where
 -- why words are refused
 abbrev pub AreWordsRefused : List (List ℕ) → Refusal → Type 0
 AreWordsRefused words BadWords = Reads words (Err Fault.Form)
+AreWordsRefused words (BadLines word fault) = Reads words (Err (Fault.BadLines word fault))
 AreWordsRefused words (BadStates word) = Reads words (Err (Fault.BadStates word))
 AreWordsRefused words NoInput = Reads words (Err Fault.NoInput)
+AreWordsRefused words ManyFiles = Reads words (Err Fault.ManyFiles)
 AreWordsRefused words NoMemory = Reads words (Err Fault.NoMemory)
 AreWordsRefused words refusal = ⊥
 
@@ -154,9 +156,9 @@ abbrev pub outcome_status : Outcome → ℕ
 outcome_status Done = 0
 outcome_status WouldChange = 1
 
--- how a call ends, where all was done and this tells whether some text changes
-abbrev pub outcome_of : Words → (changes : Bool) → Outcome
-outcome_of said changes = if said.dry_run && said.werror && changes then WouldChange else Done
+-- how a call ends, where all was done, and these tell whether the words ask for texts that change and whether some text does
+abbrev pub outcome_of : (asks changes : Bool) → Outcome
+outcome_of asks changes = if asks && changes then WouldChange else Done
 
 -- the words have `--dry-run` and `--Werror`, and some text changes
 abbrev pub WouldFail : Words → (changes : Type 0) → Type 0

@@ -1,5 +1,5 @@
 -- What is done with the inputs, in their order.
-use Rattle.std.specs.Prelude.{◌≡◌, ◌≢◌, ◌≤◌, ◌<◌, ◌⊎◌, ◌↔◌, ⊤, ℕ, Bool, IsTrue, not, List, [], ◌∷◌, Option, None, IfSome, codes, length}
+use Rattle.std.specs.Prelude.{◌≡◌, ◌≢◌, ◌≤◌, ◌<◌, ◌⊎◌, ◌↔◌, ⊤, ℕ, Bool, IsTrue, not, List, [], ◌∷◌, Option, IfSome, codes, length}
 use Rattle.std.specs.Io.KnownBytes.{Appends, Keeps}
 use Rattle.fmt_ports.specs.Causes.{AppendsPart}
 use Rattle.fmt_ports.specs.Files.{Held, KeepsAll, KeepsOthers}
@@ -26,7 +26,7 @@ pub record IsFormatted (options : Options) (b c : List ℕ) : Type 0 where
   pub fits : length b ≤ LIMIT
   pub reports : List Report
   pub counts : Counts
-  pub formats : Formats options.style None options.budget C11 b c reports
+  pub formats : Formats options.style options.ranges options.budget C11 b c reports
   pub counted : AreCounts formats.contents formats.done counts
   pub twins : IsTwin C11 b c
   pub alike : Alike C11 b c

@@ -1,6 +1,8 @@
 -- The rows that the command writes on standard error, and its statuses: README.md, "Use".
 use Rattle.std.specs.Prelude.{ℕ, Bool, true, false, List, [], ◌++◌, codes, decimal, map}
 use Rattle.std.specs.List.{concat}
+use Rattle.off_regions.specs.declared.fault.RangeFault.{RangeFault}
+use Rattle.off_regions.specs.declared.fault.RangeFault.TheVariants as Range
 use Rattle.style_config.specs.declared.fault.ConfigFault.{ConfigFault}
 use Rattle.style_config.specs.declared.fault.ConfigFault.TheVariants as Config
 use Rattle.style_config.specs.declared.skipped.SkippedKey.{SkippedKey}
@@ -9,7 +11,7 @@ use Rattle.run_layout.specs.declared.report.Report.{Report}
 use Rattle.format_cli.specs.declared.input.Place.{Place}
 use Rattle.format_cli.specs.declared.input.Place.TheVariants.{Output, Itself, Nowhere}
 use Rattle.format_cli.specs.declared.refusal.Refusal.{Refusal}
-use Rattle.format_cli.specs.declared.refusal.Refusal.TheVariants.{BadWords, BadStates, NoInput, UnknownStyle, LongConfiguration, BadConfiguration, TooLarge, OpenComment, SourceFailed, FileFailed, OutFailed, NotesFailed, Missing, NoMemory}
+use Rattle.format_cli.specs.declared.refusal.Refusal.TheVariants.{BadWords, BadLines, BadStates, NoInput, ManyFiles, UnknownStyle, LongConfiguration, BadConfiguration, TooLarge, OpenComment, SourceFailed, FileFailed, OutFailed, NotesFailed, Missing, NoMemory}
 
 -- a row with a number in it
 abbrev pub numbered_row : (name before : List ℕ) → ℕ → (end : List ℕ) → List ℕ
@@ -25,11 +27,21 @@ fault_row file (Config.OutOfRange line) = numbered_row file (codes ":") line (co
 fault_row file (Config.Repeated line) = numbered_row file (codes ":") line (codes ": repeated key\n")
 fault_row file Config.NoMemory = codes "clang_format: no memory\n"
 
+-- why a value of `--lines` is no list of ranges
+abbrev pub range_row : RangeFault → List ℕ
+range_row (Range.BadText place) = numbered_row [] (codes ": bad text at ") place (codes "\n")
+range_row (Range.Reversed place) = numbered_row [] (codes ": reversed at ") place (codes "\n")
+range_row (Range.ZeroLine place) = numbered_row [] (codes ": line zero at ") place (codes "\n")
+range_row Range.TooMany = codes ": too many ranges\n"
+range_row Range.NoMemory = codes ": no memory\n"
+
 -- The row of a refusal, with the new-line that ends it. Notes that have failed take none.
 abbrev pub row_of : Refusal → List ℕ
-row_of BadWords = codes "usage: clang_format [--style S] [--states N] [-i] [--dry-run] [--Werror] [--dump-config] [FILE ..]" ++ codes "\n"
+row_of BadWords = codes "usage: clang_format [--style S] [--lines L] [--states N] [-i] [--dry-run] [--Werror] [--dump-config] [FILE ..]" ++ codes "\n"
+row_of (BadLines word fault) = codes "clang_format: --lines " ++ word.now ++ range_row fault
 row_of (BadStates word) = codes "clang_format: --states " ++ word.now ++ codes ": not 1 to 16000000\n"
 row_of NoInput = codes "clang_format: -i needs a file\n"
+row_of ManyFiles = codes "clang_format: --lines takes one file\n"
 row_of (UnknownStyle name) = codes "clang_format: style " ++ name.now ++ codes ": unknown name\n"
 row_of (LongConfiguration file) = file.now ++ codes ": more than 1048576 bytes\n"
 row_of (BadConfiguration file fault) = fault_row file.now fault
@@ -45,8 +57,10 @@ row_of NoMemory = codes "clang_format: no memory\n"
 -- the exit status of a refusal
 abbrev pub status_of : Refusal → ℕ
 status_of BadWords = 2
+status_of (BadLines word fault) = 2
 status_of (BadStates word) = 2
 status_of NoInput = 2
+status_of ManyFiles = 2
 status_of (UnknownStyle name) = 3
 status_of (LongConfiguration file) = 3
 status_of (BadConfiguration file fault) = 3

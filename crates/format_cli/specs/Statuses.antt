@@ -4,9 +4,10 @@ use Rattle.fmt_ports.specs.Files.{Held}
 use Rattle.command_words.specs.declared.read.Words.{Words}
 use Rattle.command_words.specs.declared.read.StyleChoice.{StyleChoice}
 use Rattle.command_words.specs.declared.read.StyleChoice.TheVariants.{FileAt}
+use Rattle.off_regions.specs.declared.fault.RangeFault.{RangeFault}
 use Rattle.command_words.specs.Budget.{budget_of}
 use Rattle.command_words.specs.Command.{Gives, IsOfForm, rows_of_words, states_word}
-use Rattle.command_words.specs.Said.{HasBadStates, LacksFile, Reads}
+use Rattle.command_words.specs.Said.{HasBadLines, HasBadStates, HasLines, HasManyFiles, LacksFile, Reads}
 use Rattle.format_cli.specs.declared.refusal.Refusal.{Refusal}
 use Rattle.format_cli.specs.Account.{files_of}
 use Rattle.format_cli.specs.InForce.{IsMissing, IsStyleCause}
@@ -17,12 +18,14 @@ use Rattle.format_cli.specs.Notes.{status_of}
 abbrev pub IsStatus : ℕ → Type 0
 IsStatus status = (status ≡ 0) ⊎ (status ≡ 1) ⊎ (status ≡ 2) ⊎ (status ≡ 3) ⊎ (status ≡ 4) ⊎ (status ≡ 5) ⊎ (status ≡ 6) ⊎ (status ≡ 7)
 
--- the words aren't of the command's form, `--states` tells no budget, or `-i` lacks its FILE
+-- the words aren't of the command's form, `--lines` is no list of ranges, `--states` tells no budget, `-i` lacks its FILE, or `--lines` has two or more
 abbrev pub AreBadWords : List (List ℕ) → Type 0
 AreBadWords words =
     (¬ IsOfForm words)
-    ⊎ (IsOfForm words × ((word : List ℕ) × HasBadStates (rows_of_words words) word))
-    ⊎ (IsOfForm words × IsSome (budget_of (states_word (rows_of_words words))) × LacksFile (rows_of_words words))
+    ⊎ (IsOfForm words × ((word : List ℕ) × (fault : RangeFault) × HasBadLines (rows_of_words words) word fault))
+    ⊎ (IsOfForm words × HasLines (rows_of_words words) × ((word : List ℕ) × HasBadStates (rows_of_words words) word))
+    ⊎ (IsOfForm words × HasLines (rows_of_words words) × IsSome (budget_of (states_word (rows_of_words words))) × LacksFile (rows_of_words words))
+    ⊎ (IsOfForm words × HasLines (rows_of_words words) × IsSome (budget_of (states_word (rows_of_words words))) × HasManyFiles (rows_of_words words))
 
 -- The words choose a style, and it isn't in force, for a cause of this status.
 pub record HasNoStyle (words : List (List ℕ)) (held : Held) (status : ℕ) : Type 0 where

@@ -1,6 +1,6 @@
 //! The top call.
 
-ghost use Rattle.std.specs.Prelude.{◌≡◌, ◌≢◌, ◌⊎◌, ◌<◌, ◌≤◌, ℕ, IfErr, IfOk, map, string_bytes};
+ghost use Rattle.std.specs.Prelude.{◌≡◌, ◌&&◌, ◌≢◌, ◌⊎◌, ◌<◌, ◌≤◌, ℕ, IfErr, IfOk, map, string_bytes};
 ghost use Rattle.std.specs.Io.KnownBytes.{Keeps};
 ghost use Rattle.fmt_ports.specs.Causes.{Rose};
 ghost use Rattle.fmt_ports.specs.Files.{KeepsAll};
@@ -43,7 +43,7 @@ fn place_of(dry_run: bool, in_place: bool) -> Place
 /// Does what the words ask for: dumps the style, or formats each input. The answer is whether some text changes.
 fn perform<'w, S: Source, K: Sink, E: Sink, F: Files>(
     alloc: Global,
-    said: &Words<'w>,
+    said: Words<'w>,
     style: &Style,
     source: &mut S,
     out: &mut K,
@@ -51,9 +51,9 @@ fn perform<'w, S: Source, K: Sink, E: Sink, F: Files>(
     files: &mut F,
 ) -> Result<bool, Refusal<'w>>
     requires range { IsInRange style.now }
-    requires budget { said.now.budget ≤ 16000000 }
-    ensures done { IfOk result (λ changes. IsPerformedWith said.now style.now (world (S.left source.old) (K.taken out.old) (F.holds files.old) (E.taken notes.old)) (world (S.left source.new) (K.taken out.new) (F.holds files.new) (E.taken notes.new)) changes) }
-    ensures refused { IfErr result (IsNotPerformed said.now style.now (world (S.left source.old) (K.taken out.old) (F.holds files.old) (E.taken notes.old)) (world (S.left source.new) (K.taken out.new) (F.holds files.new) (E.taken notes.new))) }
+    requires budget { said.budget ≤ 16000000 }
+    ensures done { IfOk result (λ changes. IsPerformedWith said.entry style.now (world (S.left source.old) (K.taken out.old) (F.holds files.old) (E.taken notes.old)) (world (S.left source.new) (K.taken out.new) (F.holds files.new) (E.taken notes.new)) changes) }
+    ensures refused { IfErr result (IsNotPerformed said.entry style.now (world (S.left source.old) (K.taken out.old) (F.holds files.old) (E.taken notes.old)) (world (S.left source.new) (K.taken out.new) (F.holds files.new) (E.taken notes.new))) }
     ensures counts { (f : Faults) → Counted (record f { source = S.faults source.old; out = K.faults out.old; notes = E.faults notes.old; files = F.faults files.old; misses = F.misses files.old }) (record f { source = S.faults source.new; out = K.faults out.new; notes = E.faults notes.new; files = F.faults files.new; misses = F.misses files.new }) result }
 {
     if said.dump_config {
@@ -64,6 +64,7 @@ fn perform<'w, S: Source, K: Sink, E: Sink, F: Files>(
     }
     let options = Options {
         style: *style,
+        ranges: said.lines,
         budget: said.budget,
     };
     let place = place_of(said.dry_run, said.in_place);
@@ -73,15 +74,23 @@ fn perform<'w, S: Source, K: Sink, E: Sink, F: Files>(
     format_files(alloc, &options, place, &said.files, out, notes, files)
 }
 
-/// How a call ends, where all was done and this tells whether some text changes.
-fn outcome_of(said: &Words, changes: bool) -> Outcome
-    ensures { result ≡ outcome_of said.now changes }
+/// How a call ends, where all was done, and these tell whether the words ask for texts that change and whether some
+/// text does.
+fn outcome_of(asks: bool, changes: bool) -> Outcome
+    ensures { result ≡ outcome_of asks changes }
 {
-    if said.dry_run && said.werror && changes {
+    if asks && changes {
         Outcome::WouldChange
     } else {
         Outcome::Done
     }
+}
+
+/// Whether the words ask for texts that change.
+fn asks_for_changes(said: &Words) -> bool
+    ensures { result ≡ (said.now.dry_run && said.now.werror) }
+{
+    said.dry_run && said.werror
 }
 
 /// Reads the words and the style, and does what they ask for.
@@ -100,13 +109,18 @@ fn run<'w, S: Source, K: Sink, E: Sink, F: Files>(
     let said = match read_words(alloc, words) {
         Ok(said) => said,
         Err(WordsFault::Form) => return Err(Refusal::BadWords),
+        Err(WordsFault::BadLines { word, fault }) => {
+            return Err(Refusal::BadLines { word, fault });
+        }
         Err(WordsFault::BadStates(word)) => return Err(Refusal::BadStates(word)),
         Err(WordsFault::NoInput) => return Err(Refusal::NoInput),
+        Err(WordsFault::ManyFiles) => return Err(Refusal::ManyFiles),
         Err(WordsFault::NoMemory) => return Err(Refusal::NoMemory),
     };
     let style = style_in_force(alloc, said.style, notes, files)?;
-    let changes = perform(alloc, &said, &style, source, out, notes, files)?;
-    Ok(outcome_of(&said, changes))
+    let asks = asks_for_changes(&said);
+    let changes = perform(alloc, said, &style, source, out, notes, files)?;
+    Ok(outcome_of(asks, changes))
 }
 
 /// Formats the inputs that the words name, in the style that they choose, and answers the exit status.

@@ -15,14 +15,17 @@ use bumpalo::Bump;
 use c_chars::{Dialect, LIMIT};
 use fmt_ports::{Failed, FileFault, Files, InFault, Sink, Source, read_all};
 use format_core::{FormatFault, Formatted, Job, format};
+use off_regions::Ranges;
 use std::alloc::Global;
 use style_table::Style;
 
 /// How texts are formatted.
-#[derive(Clone, Copy)]
+#[derive(Drop)]
 pub struct Options {
     /// The style in force.
     pub style: Style,
+    /// The lines that are asked for, all where there are no ranges.
+    pub ranges: Option<Ranges>,
     /// How many cells the search of a line may have.
     pub budget: u64,
 }
@@ -56,7 +59,7 @@ fn formatted<'a, 's, 'w>(
     let job = Job {
         budget: options.budget,
         dialect: Dialect::C11,
-        ranges: None,
+        ranges: options.ranges.as_ref(),
     };
     match format(alloc, bump, text, &options.style, &job) {
         Ok(formatted) => Ok(formatted),

@@ -1,13 +1,14 @@
 //! Refusals, and how they are told.
 
-ghost use Rattle.std.specs.Prelude.{◌≡◌, ◌++◌, OnOk, decimal};
+ghost use Rattle.std.specs.Prelude.{◌≡◌, ◌++◌, [], OnOk, codes, decimal};
 ghost use Rattle.std.specs.Io.KnownBytes.{Appends};
 ghost use Rattle.fmt_ports.specs.Causes.{AppendsPart, Counts};
-ghost use Rattle.format_cli.specs.Notes.{fault_row, row_of, status_of};
+ghost use Rattle.format_cli.specs.Notes.{fault_row, numbered_row, range_row, row_of, status_of};
 
 use command_words::USAGE;
 use fmt_ports::{Failed, Sink, write_all};
 use itoa::Buffer;
+use off_regions::RangeFault;
 use style_config::ConfigFault;
 
 /// The name of the input where the words give no FILE.
@@ -18,10 +19,14 @@ pub const STANDARD_INPUT: &str = "<stdin>";
 pub enum Refusal<'w> {
     /// The words aren't of the command's form.
     BadWords,
+    /// This value of `--lines` is no list of ranges.
+    BadLines { word: &'w str, fault: RangeFault },
     /// This value of `--states` tells no budget.
     BadStates(&'w str),
     /// `-i` has no FILE.
     NoInput,
+    /// `--lines` has two FILEs or more.
+    ManyFiles,
     /// No style has this name.
     UnknownStyle(&'w str),
     /// The configuration has more than [`style_config::LIMIT`] bytes.
@@ -51,7 +56,11 @@ pub fn status_of(refusal: Refusal) -> u8
     ensures { result ≡ status_of refusal.entry }
 {
     match refusal {
-        Refusal::BadWords | Refusal::BadStates(_) | Refusal::NoInput => 2,
+        Refusal::BadWords
+        | Refusal::BadLines { .. }
+        | Refusal::BadStates(_)
+        | Refusal::NoInput
+        | Refusal::ManyFiles => 2,
         Refusal::UnknownStyle(_)
         | Refusal::LongConfiguration(_)
         | Refusal::BadConfiguration { .. } => 3,
@@ -73,6 +82,7 @@ pub fn tell<E: Sink>(refusal: Refusal, notes: &mut E) -> Result<(), Failed>
 {
     match refusal {
         Refusal::BadWords => write_two(USAGE, "\n", notes),
+        Refusal::BadLines { word, fault } => tell_lines(word, fault, notes),
         Refusal::BadStates(word) => write_three(
             "clang_format: --states ",
             word,
@@ -80,6 +90,7 @@ pub fn tell<E: Sink>(refusal: Refusal, notes: &mut E) -> Result<(), Failed>
             notes,
         ),
         Refusal::NoInput => write_all(notes, b"clang_format: -i needs a file\n"),
+        Refusal::ManyFiles => write_all(notes, b"clang_format: --lines takes one file\n"),
         Refusal::UnknownStyle(name) => {
             write_three("clang_format: style ", name, ": unknown name\n", notes)
         }
@@ -96,6 +107,41 @@ pub fn tell<E: Sink>(refusal: Refusal, notes: &mut E) -> Result<(), Failed>
         Refusal::Missing(file) => write_two(file, ": missing\n", notes),
         Refusal::NoMemory => write_all(notes, b"clang_format: no memory\n"),
     }
+}
+
+/// Writes the row that tells the fault of a value of `--lines`.
+fn tell_lines<E: Sink>(word: &str, fault: RangeFault, notes: &mut E) -> Result<(), Failed>
+    ensures part { AppendsPart (E.taken notes.old) (E.taken notes.new) (codes "clang_format: --lines " ++ word.now ++ range_row fault) }
+    ensures ok { OnOk result (Appends (E.taken notes.old) (E.taken notes.new) (codes "clang_format: --lines " ++ word.now ++ range_row fault)) }
+    ensures counts { Counts (E.faults notes.old) (E.faults notes.new) result }
+{
+    write_two("clang_format: --lines ", word, notes)?;
+    tell_range(fault, notes)
+}
+
+/// Writes why a value of `--lines` is no list of ranges.
+fn tell_range<E: Sink>(fault: RangeFault, notes: &mut E) -> Result<(), Failed>
+    ensures part { AppendsPart (E.taken notes.old) (E.taken notes.new) (range_row fault) }
+    ensures ok { OnOk result (Appends (E.taken notes.old) (E.taken notes.new) (range_row fault)) }
+    ensures counts { Counts (E.faults notes.old) (E.faults notes.new) result }
+{
+    match fault {
+        RangeFault::BadText { place } => write_place(": bad text at ", place, notes),
+        RangeFault::Reversed { place } => write_place(": reversed at ", place, notes),
+        RangeFault::ZeroLine { place } => write_place(": line zero at ", place, notes),
+        RangeFault::TooMany => write_all(notes, b": too many ranges\n"),
+        RangeFault::NoMemory => write_all(notes, b": no memory\n"),
+    }
+}
+
+/// Writes a text, a number and a new-line.
+fn write_place<E: Sink>(before: &str, place: u64, notes: &mut E) -> Result<(), Failed>
+    ensures part { AppendsPart (E.taken notes.old) (E.taken notes.new) (numbered_row [] before.now place (codes "\n")) }
+    ensures ok { OnOk result (Appends (E.taken notes.old) (E.taken notes.new) (numbered_row [] before.now place (codes "\n"))) }
+    ensures counts { Counts (E.faults notes.old) (E.faults notes.new) result }
+{
+    let mut buffer = Buffer::new();
+    write_three(before, buffer.format(place), "\n", notes)
 }
 
 /// Writes the row that tells the fault of a configuration.

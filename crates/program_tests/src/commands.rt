@@ -108,7 +108,7 @@ const WORDS_AND_STYLES: &[Row] = &[
         words: &["--sort", "1:2"],
         input: b"a",
         status: 2,
-        notes: b"usage: clang_format [--style S] [--states N] [-i] [--dry-run] [--Werror] [--dump-config] [FILE ..]\n",
+        notes: b"usage: clang_format [--style S] [--lines L] [--states N] [-i] [--dry-run] [--Werror] [--dump-config] [FILE ..]\n",
         ..QUIET
     },
     Row {
@@ -285,6 +285,68 @@ const INPUTS: &[Row] = &[
         status: 4,
         out: b"a;\nb;\n",
         notes: b"b.c: comment without an end at byte 0\n",
+        ..QUIET
+    },
+];
+
+/// Lines that are asked for.
+const ASKED_LINES: &[Row] = &[
+    Row {
+        name: "one line of three",
+        words: &["--lines", "2:2"],
+        input: b"a=1;\nb=2;\nc=3;\n",
+        out: b"a=1;\nb = 2;\nc=3;\n",
+        ..QUIET
+    },
+    Row {
+        name: "lines of a file",
+        words: &["-i", "--lines=1:1,3:9", "a.c"],
+        files: &[("a.c", b"a=1;\nb=2;\nc=3;\n")],
+        held: &[("a.c", b"a = 1;\nb=2;\nc = 3;\n")],
+        ..QUIET
+    },
+    Row {
+        name: "no line is asked for",
+        words: &["--lines", "9:9", "--dry-run", "--Werror"],
+        input: b"a=1;\n",
+        notes: b"<stdin>: runs 1, searched 0, over 0, cost 0, unchanged\n",
+        ..QUIET
+    },
+    Row {
+        name: "a range that is reversed",
+        words: &["--lines", "3:2"],
+        input: b"a=1;\n",
+        status: 2,
+        notes: b"clang_format: --lines 3:2: reversed at 0\n",
+        ..QUIET
+    },
+    Row {
+        name: "a range that is no text of two numbers",
+        words: &["--lines", "1:2,x", "--states", "0"],
+        status: 2,
+        notes: b"clang_format: --lines 1:2,x: bad text at 4\n",
+        ..QUIET
+    },
+    Row {
+        name: "a line 0, and a dump",
+        words: &["--lines", "0:2", "--dump-config"],
+        status: 2,
+        notes: b"clang_format: --lines 0:2: line zero at 0\n",
+        ..QUIET
+    },
+    Row {
+        name: "lines and two files",
+        words: &["--lines", "1:2", "a.c", "a.c"],
+        files: &[("a.c", b"a=1;\n")],
+        status: 2,
+        notes: b"clang_format: --lines takes one file\n",
+        ..QUIET
+    },
+    Row {
+        name: "lines, -i and no file",
+        words: &["--lines", "1:2", "-i"],
+        status: 2,
+        notes: b"clang_format: -i needs a file\n",
         ..QUIET
     },
 ];
@@ -527,6 +589,7 @@ fn does_what_the_words_ask_for(rt: HostRuntime) -> Result<(), Fail> {
         WORDS_AND_STYLES,
         DUMPS,
         INPUTS,
+        ASKED_LINES,
         DRY_RUNS,
         FAILING_PORTS,
         BUDGETS,

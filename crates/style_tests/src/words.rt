@@ -1,12 +1,14 @@
 //! Worked rows of words.
 
 use command_words::{StyleChoice, WordsFault, read_words};
+use off_regions::{LineRange, RangeFault};
 use std::alloc::{AllocError, Global};
 use std::test::Fail;
 
 /// What words say.
 struct Said {
     style: StyleChoice<'static>,
+    lines: Option<&'static [LineRange]>,
     in_place: bool,
     dry_run: bool,
     werror: bool,
@@ -17,6 +19,7 @@ struct Said {
 /// Words that say nothing.
 const NOTHING: Said = Said {
     style: StyleChoice::File,
+    lines: None,
     in_place: false,
     dry_run: false,
     werror: false,
@@ -176,6 +179,33 @@ const ROWS: &[Row] = &[
         said: Err(WordsFault::Form),
     },
     Row {
+        name: "lines",
+        words: &["--lines=2:5,1:1", "a.c"],
+        said: Ok(Said {
+            lines: Some(&[LineRange { first: 2, last: 5 }, LineRange { first: 1, last: 1 }]),
+            files: &["a.c"],
+            ..NOTHING
+        }),
+    },
+    Row {
+        name: "lines that are reversed, and no number of cells",
+        words: &["--states=0", "--lines=3:2"],
+        said: Err(WordsFault::BadLines {
+            word: "3:2",
+            fault: RangeFault::Reversed { place: 0 },
+        }),
+    },
+    Row {
+        name: "lines and two files",
+        words: &["a.c", "--lines", "1:1", "b.c"],
+        said: Err(WordsFault::ManyFiles),
+    },
+    Row {
+        name: "lines twice",
+        words: &["--lines=1:1", "--lines=1:1"],
+        said: Err(WordsFault::Form),
+    },
+    Row {
         name: "a dry run",
         words: &["--dry-run"],
         said: Ok(Said {
@@ -226,6 +256,11 @@ fn reads_words(rt: HostRuntime) -> Result<(), Fail> {
         match (read_words(alloc, &words), &row.said) {
             (Ok(found), Ok(said)) => {
                 assert_eq!(rt; found.style, said.style, "the style of {}", row.name);
+                let lines = match &found.lines {
+                    Some(ranges) => Some(ranges.as_slice()),
+                    None => None,
+                };
+                assert_eq!(rt; lines, said.lines, "the lines of {}", row.name);
                 assert_eq!(rt;
                     [
                         found.in_place,
@@ -257,12 +292,20 @@ fn shows_its_note(rt: HostRuntime) -> Result<(), Fail> {
     for (fault, note) in [
         (
             WordsFault::Form,
-            "usage: clang_format [--style S] [--states N] [-i] [--dry-run] [--Werror] [--dump-config] [FILE ..]",
+            "usage: clang_format [--style S] [--lines L] [--states N] [-i] [--dry-run] [--Werror] [--dump-config] [FILE ..]",
         ),
         (
             WordsFault::BadStates("0"),
             "clang_format: --states 0: not 1 to 16000000",
         ),
+        (
+            WordsFault::BadLines {
+                word: "1:2,x",
+                fault: RangeFault::BadText { place: 4 },
+            },
+            "clang_format: --lines 1:2,x: bad text at 4",
+        ),
+        (WordsFault::ManyFiles, "clang_format: --lines takes one file"),
         (WordsFault::NoInput, "clang_format: -i needs a file"),
         (WordsFault::NoMemory, "clang_format: no memory"),
     ] {

@@ -10,7 +10,8 @@ returns c =
     ∙ ap₂ with_rule (c.in_ok-with_dry_run.ensures
     ∙ ap₂ with_rule (c.in_ok-with_in_place.ensures
     ∙ ap₂ with_rule (c.in_ok-with_states.ensures
+    ∙ ap₂ with_rule (c.in_ok-with_lines.ensures
     ∙ ap₂ with_rule (c.in_ok-with_style.ensures
-    ∙ ap₂ with_rule c.bare_command-bare.ensures c.option-style.ensures.rule)
+    ∙ ap₂ with_rule c.bare_command-bare.ensures c.option-style.ensures.rule) c.option-lines.ensures.rule)
     c.option-states.ensures.rule) c.letter-in_place.ensures.rule) c.flag-dry_run.ensures.rule) c.flag-werror.ensures.rule)
     c.flag-dump_config.ensures.rule) c.names-file.ensures.rule

@@ -7,14 +7,14 @@ use Rattle.format_cli.proofs.command.perform.Goals as goal
 
 pub returns-then-is_empty-clause-done : goal.returns-then-is_empty-clause-done
 returns-then-is_empty-clause-done g c =
-    let none : files_of c.args.said.now ≡ [] = ap (map (λ (name : Bor (List ℕ)). name.now)) (none_of c.args.said.now.files.items c.args.said.now.files.len c.args.said.now.files.ok.0 (sym c.is_empty.ensures ∙ c.if-is_empty.true)) in
+    let none : files_of c.args.said ≡ [] = ap (map (λ (name : Bor (List ℕ)). name.now)) (none_of c.args.said.files.items c.args.said.files.len c.args.said.files.ok.0 (sym c.is_empty.ensures ∙ c.if-is_empty.true)) in
     ok_follows _ _ c.format_source.result
     (λ changes k. (inr (inl (c.if-said.false, none, record { done = k.0; held = keeps_all_self _ })), k.1))
     (rw c.place_of-place.ensures at c.format_source.ensures.done)
 
 pub returns-then-is_empty-clause-refused : goal.returns-then-is_empty-clause-refused
 returns-then-is_empty-clause-refused g c =
-    let none : files_of c.args.said.now ≡ [] = ap (map (λ (name : Bor (List ℕ)). name.now)) (none_of c.args.said.now.files.items c.args.said.now.files.len c.args.said.now.files.ok.0 (sym c.is_empty.ensures ∙ c.if-is_empty.true)) in
+    let none : files_of c.args.said ≡ [] = ap (map (λ (name : Bor (List ℕ)). name.now)) (none_of c.args.said.files.items c.args.said.files.len c.args.said.files.ok.0 (sym c.is_empty.ensures ∙ c.if-is_empty.true)) in
     err_map _ _ c.format_source.result
     (λ refusal k. inr (inl (c.if-said.false, none, record { refused = k; held = keeps_all_self _ })))
     (rw c.place_of-place.ensures at c.format_source.ensures.refused)
@@ -28,7 +28,7 @@ returns-clause-counts g c = λ f. c.format_files.ensures.counts (record f { sour
 
 pub returns-clause-done : goal.returns-clause-done
 returns-clause-done g c =
-    let some : files_of c.args.said.now ≢ [] = some_of c.args.said.now.files.items c.args.said.now.files.len _ c.args.said.now.files.ok.0 (sym c.is_empty.ensures ∙ c.if-is_empty.false) in
+    let some : files_of c.args.said ≢ [] = some_of c.args.said.files.items c.args.said.files.len _ c.args.said.files.ok.0 (sym c.is_empty.ensures ∙ c.if-is_empty.false) in
     ok_follows _ _ c.format_files.result
     (λ changes k. (inr (inr (c.if-said.false, record { some = some; done = k.0; left = refl })), k.1))
     (rw c.deref.ensures.value at (rw c.place_of-place.ensures at c.format_files.ensures.done))

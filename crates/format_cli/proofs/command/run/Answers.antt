@@ -25,6 +25,7 @@ returns-in_err-style-clause-counts g c =
 pub returns-clause-done : goal.returns-clause-done
 returns-clause-done g c =
     rw c.outcome_of.ensures
+    (rw c.asks_for_changes-asks.ensures
     (record {
       said = c.in-Ok.said;
       style = c.in_ok-style.style;
@@ -38,7 +39,7 @@ returns-clause-done g c =
       };
       performed = c.in_ok-changes.ensures.done.0;
       answers = answers c.in-Ok.said c.in_ok-changes.changes _ c.in_ok-changes.ensures.done.1;
-    })
+    }))
 
 pub returns-clause-counts : goal.returns-clause-counts
 returns-clause-counts g c =

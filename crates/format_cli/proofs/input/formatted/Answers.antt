@@ -4,13 +4,14 @@ use Rattle.pp_model.proofs.Alike.{alike}
 use Rattle.format_cli.proofs.input.formatted.Goals as goal
 
 pub returns-in-Ok-clause-formats : goal.returns-in-Ok-clause-formats
-returns-in-Ok-clause-formats c = (
+returns-in-Ok-clause-formats c =
+    let made = rw c.as_ref.ensures.value at c.in-Ok.ensures.formats in (
   record {
     fits = c.in-Ok.ensures.fits;
     reports = c.in-Ok.formatted.reports.now;
     counts = c.in-Ok.formatted.counts;
-    formats = c.in-Ok.ensures.formats.formats;
-    counted = c.in-Ok.ensures.formats.counted;
+    formats = made.formats;
+    counted = made.counted;
     twins = c.in-Ok.ensures.twins;
     alike = alike C11 _ _ c.in-Ok.ensures.twins;
   },

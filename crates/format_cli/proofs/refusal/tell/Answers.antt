@@ -30,3 +30,9 @@ returns-in-OutFailed-clause-part g c = rw c.in-OutFailed.is c.write_all-in-OutFa
 
 pub returns-in-OutFailed-clause-ok : goal.returns-in-OutFailed-clause-ok
 returns-in-OutFailed-clause-ok g c = rw c.in-OutFailed.is (on_ok _ c.write_all-in-OutFailed.result c.write_all-in-OutFailed.ensures.ok)
+
+pub returns-in-BadLines-clause-ok : goal.returns-in-BadLines-clause-ok
+returns-in-BadLines-clause-ok g c = rw c.in-BadLines.is c.tell_lines.ensures.ok
+
+pub returns-in-NoInput-clause-ok : goal.returns-in-NoInput-clause-ok
+returns-in-NoInput-clause-ok g c = rw c.in-NoInput.is (on_ok _ c.write_all.result c.write_all.ensures.ok)
