@@ -77,10 +77,7 @@ fn style_of<'w>(matches: &ArgMatches<'w>) -> StyleChoice<'w>
 }
 
 /// The lines that are asked for, or why the value of `--lines` tells none.
-fn lines_of<'w>(
-    alloc: Global,
-    matches: &ArgMatches<'w>,
-) -> Result<Option<Ranges>, WordsFault<'w>>
+fn lines_of<'w>(alloc: Global, matches: &ArgMatches<'w>) -> Result<Option<Ranges>, WordsFault<'w>>
     ensures { IsLinesOrNot (first_value (found_of matches.now) (codes "lines")) result }
 {
     match matches.get_str("lines") {

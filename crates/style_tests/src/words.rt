@@ -182,7 +182,10 @@ const ROWS: &[Row] = &[
         name: "lines",
         words: &["--lines=2:5,1:1", "a.c"],
         said: Ok(Said {
-            lines: Some(&[LineRange { first: 2, last: 5 }, LineRange { first: 1, last: 1 }]),
+            lines: Some(&[
+                LineRange { first: 2, last: 5 },
+                LineRange { first: 1, last: 1 },
+            ]),
             files: &["a.c"],
             ..NOTHING
         }),
@@ -305,7 +308,10 @@ fn shows_its_note(rt: HostRuntime) -> Result<(), Fail> {
             },
             "clang_format: --lines 1:2,x: bad text at 4",
         ),
-        (WordsFault::ManyFiles, "clang_format: --lines takes one file"),
+        (
+            WordsFault::ManyFiles,
+            "clang_format: --lines takes one file",
+        ),
         (WordsFault::NoInput, "clang_format: -i needs a file"),
         (WordsFault::NoMemory, "clang_format: no memory"),
     ] {

@@ -6,15 +6,15 @@ use Rattle.format_cli.proofs.input.formatted.Goals as goal
 pub returns-in-Ok-clause-formats : goal.returns-in-Ok-clause-formats
 returns-in-Ok-clause-formats c =
     let made = rw c.as_ref.ensures.value at c.in-Ok.ensures.formats in (
-  record {
-    fits = c.in-Ok.ensures.fits;
-    reports = c.in-Ok.formatted.reports.now;
-    counts = c.in-Ok.formatted.counts;
-    formats = made.formats;
-    counted = made.counted;
-    twins = c.in-Ok.ensures.twins;
-    alike = alike C11 _ _ c.in-Ok.ensures.twins;
-  },
-  refl,
-  refl,
-)
+      record {
+        fits = c.in-Ok.ensures.fits;
+        reports = c.in-Ok.formatted.reports.now;
+        counts = c.in-Ok.formatted.counts;
+        formats = made.formats;
+        counted = made.counted;
+        twins = c.in-Ok.ensures.twins;
+        alike = alike C11 _ _ c.in-Ok.ensures.twins;
+      },
+      refl,
+      refl,
+    )
