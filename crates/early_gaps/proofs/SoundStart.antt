@@ -1,6 +1,6 @@
 -- What is decided before the runs may stand.
-use Rattle.std.proofs.Common.{◌≡◌, ◌∙◌, ◌==◌, not, ◌&&◌, ℕ, zero, suc, ◌+◌, ◌∷◌, [], ◌++◌, Bool, true, false, Option, Some, None, List, length, replicate, refl, sym, ap, arith, subst}
-use Rattle.std.specs.Prelude.{if◌then◌else◌, slice_get}
+use Rattle.std.proofs.Common.{◌≡◌, ◌∙◌, ◌==◌, not, ◌&&◌, ℕ, zero, suc, ◌+◌, ◌∷◌, [], ◌++◌, Bool, true, false, Option, Some, None, List, length, replicate, refl, sym, arith, subst}
+use Rattle.std.specs.Prelude.{if◌then◌else◌}
 use Rattle.std.proofs.lemmas.Option.{slice_get_past}
 use Rattle.style_table.specs.declared.style.Style.{Style}
 use Rattle.token_arena.specs.Stored.{Stored}

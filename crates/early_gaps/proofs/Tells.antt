@@ -1,5 +1,5 @@
 -- What the plan before the runs has.
-use Rattle.std.proofs.Common.{◌≡◌, ◌∙◌, ℕ, ◌+◌, ◌≤◌, Bool, true, Option, Some, None, List, [], ◌∷◌, ◌++◌, length, replicate, refl, sym, ap, arith}
+use Rattle.std.proofs.Common.{◌≡◌, ◌∙◌, ℕ, ◌+◌, Bool, Option, Some, None, List, [], ◌∷◌, ◌++◌, length, replicate, refl, sym, ap, arith}
 use Rattle.std.specs.Prelude.{if◌then◌else◌}
 use Rattle.std.proofs.lemmas.List.{length-replicate}
 use Rattle.style_table.specs.declared.style.Style.{Style}
@@ -15,7 +15,7 @@ use Rattle.run_layout.proofs.MadeFor.{length-decided_all}
 use Rattle.run_layout.proofs.Walked.{decided_all-append}
 use Rattle.early_gaps.specs.BeforeRuns.{last_slot, early_decisions, early_plan}
 use Rattle.early_gaps.specs.Columns.{column_at}
-use Rattle.early_gaps.specs.Kept.{is_kept, kept_at}
+use Rattle.early_gaps.specs.Kept.{kept_at}
 use Rattle.early_gaps.specs.Laws.{EarlyPlansKeep}
 use Rattle.early_gaps.specs.Made.{made_from}
 use Rattle.early_gaps.proofs.Places.{first_of, first_from}

@@ -1,4 +1,4 @@
-use Rattle.std.proofs.Common.{◌∙◌, ℕ, Bool, Option, List, length, refl, sym, ap}
+use Rattle.std.proofs.Common.{◌∙◌, ℕ, Bool, Option, List, length, ap}
 use Rattle.gap_text.specs.declared.Decision.{Decision}
 use Rattle.replacements.specs.declared.slot.Slot.{Slot}
 use Rattle.replacements.specs.Decisions.{decided}
