@@ -2,9 +2,12 @@
 use Rattle.std.proofs.Common.{◌≡◌, ℕ, suc, ◌<◌, ◌+◌, Bool, true, false, List, [], ◌∷◌, ◌++◌, reverse, Option, Some, None, refl, arith, subst, sym, IfSome, IfNone}
 use Rattle.brackets.specs.declared.pairing.Opener.{Opener}
 use Rattle.brackets.specs.Partners.{count_braces, nearest_brace, is_brace, topmost, Nearest, StandBefore, Matching, bracket_step}
-use Rattle.token_classes.proofs.Lists.{reverse_snoc}
+use Rattle.std.proofs.lemmas.List.{reverse-append}
 use Rattle.token_classes.specs.declared.class.TokenClass.{TokenClass}
 use Rattle.token_classes.specs.declared.class.TokenClass.TheVariants.{OpenRound, CloseRound, OpenSquare, CloseSquare, OpenBrace, CloseBrace}
+
+reverse_snoc : {A : Type 0} (xs ys : List A) (x : A) → ys ≡ xs ++ x ∷ [] → reverse ys ≡ x ∷ reverse xs
+reverse_snoc xs ys x e = rw (e, reverse-append) refl
 
 pub no_brace : (os : List Opener) → 0 ≡ count_braces os → nearest_brace os ≡ None
 no_brace [] e = refl
