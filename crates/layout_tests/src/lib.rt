@@ -3,7 +3,7 @@
 //! The libraries have no tests of their own, so that they are proved once. All that is here speaks to their public calls.
 //!
 //! - `fixtures`: what several of these are made of
-//! - `bracket_pairs`: classes, partners and kept gaps (`brackets`)
+//! - `bracket_pairs`: classes, partners and kept gaps (`token_classes`, `brackets`)
 //! - `text_lines`: the lines of whole texts (`unwrapped_lines`)
 //! - `token_roles`: the roles of whole texts (`annotator`)
 //! - `row_starts`: where lines start, and empty lines (`indenter`)
@@ -15,7 +15,7 @@
 //! - `written_gaps`: the bytes of decisions (`gap_text`)
 //! - `plans`: decisions for gaps (`replacements`)
 //! - `written_plans`: the texts of plans (`replacements`)
-//! - `laid_directives`: directives that are laid out (`directive_layout`, `laid_directives`)
+//! - `directive_rows`: directives that are laid out (`directive_layout`, `laid_directives`)
 //! - `laid_runs`: lines that are laid out, whole texts (`run_layout`)
 #![tactic(auto)]
 
@@ -28,9 +28,9 @@ mod break_costs;
 #[cfg(test)]
 mod digests;
 #[cfg(test)]
-mod fixtures;
+mod directive_rows;
 #[cfg(test)]
-mod laid_directives;
+mod fixtures;
 #[cfg(test)]
 mod laid_runs;
 #[cfg(test)]
