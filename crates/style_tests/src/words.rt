@@ -1,6 +1,6 @@
 //! Worked rows of words.
 
-use command_words::{StyleChoice, WordsFault, read_words};
+use command_words::{StyleChoice, Words, WordsFault, read_words};
 use off_regions::{LineRange, RangeFault};
 use std::alloc::{AllocError, Global};
 use std::test::Fail;
@@ -251,6 +251,15 @@ fn texts(alloc: Global, words: &[&str]) -> Result<Vec<String>, AllocError> {
     Ok(all)
 }
 
+/// Whether words ask for these lines.
+fn has_lines(found: &Words<'_>, lines: Option<&[LineRange]>) -> bool {
+    match (&found.lines, lines) {
+        (Some(ranges), Some(lines)) => ranges.as_slice() == lines,
+        (None, None) => true,
+        _ => false,
+    }
+}
+
 #[test]
 fn reads_words(rt: HostRuntime) -> Result<(), Fail> {
     let alloc = rt.alloc();
@@ -259,11 +268,7 @@ fn reads_words(rt: HostRuntime) -> Result<(), Fail> {
         match (read_words(alloc, &words), &row.said) {
             (Ok(found), Ok(said)) => {
                 assert_eq!(rt; found.style, said.style, "the style of {}", row.name);
-                let lines = match &found.lines {
-                    Some(ranges) => Some(ranges.as_slice()),
-                    None => None,
-                };
-                assert_eq!(rt; lines, said.lines, "the lines of {}", row.name);
+                assert!(rt; has_lines(&found, said.lines), "the lines of {}", row.name);
                 assert_eq!(rt;
                     [
                         found.in_place,
