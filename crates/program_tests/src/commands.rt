@@ -3,6 +3,7 @@
 use crate::broken_lines::{BROKEN_LINES, BUDGETS};
 use crate::formatted_texts::{BRANCHES, DIRECTIVES, GAPS, ITEMS, JOINED, STATEMENTS, STYLES};
 use crate::trailing_comments::TRAILING_COMMENTS;
+use crate::whole_files::WHOLE_FILES;
 use c_chars::LIMIT;
 use fmt_ports::{MemFiles, MemSink, MemSource};
 use format_cli::format_command;
@@ -615,6 +616,7 @@ fn lays_out_texts(rt: HostRuntime) -> Result<(), Fail> {
         STYLES,
         BROKEN_LINES,
         TRAILING_COMMENTS,
+        WHOLE_FILES,
     ] {
         for row in rows {
             check(&rt, alloc, row, row.input.to_vec(alloc)?)?;

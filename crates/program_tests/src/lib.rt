@@ -4,6 +4,7 @@
 //! - `commands`: the one table of calls, and the rows of words, styles, ports and files.
 //! - `formatted_texts`: the rows of texts and their layout.
 //! - `trailing_comments`: the rows of texts with trailing comments.
+//! - `whole_files`: the rows of whole files, with directives and what stays.
 #![tactic(auto)]
 
 #[cfg(test)]
@@ -14,3 +15,5 @@ mod commands;
 mod formatted_texts;
 #[cfg(test)]
 mod trailing_comments;
+#[cfg(test)]
+mod whole_files;
