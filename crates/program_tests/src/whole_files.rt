@@ -133,6 +133,18 @@ pub const WHOLE_FILES: &[Row] = &[
         ..QUIET
     },
     Row {
+        name: "a line comment of two rows in a directive",
+        input: b"#define  X  1   // c \\\n  d\nint  y;\n",
+        out: b"#define X 1 // c \\\n  d\nint y;\n",
+        ..QUIET
+    },
+    Row {
+        name: "what is no C in directives",
+        input: b"#pragma  omp   parallel\n#error  don't  do\n#include  <a.h>   // a\n#include MACRO( x )\n",
+        out: b"#pragma  omp   parallel\n#error  don't  do\n#include <a.h> // a\n#include MACRO( x )\n",
+        ..QUIET
+    },
+    Row {
         name: "formatting is switched off",
         input: b"f(a,  /* clang-format off */   b,c\n ,d );\nx=1;\n",
         out: b"f(a, /* clang-format off */   b,c\n ,d );\nx=1;\n",
