@@ -4,7 +4,8 @@
 //! top, and the first row whose condition holds decides.
 #![tactic(auto)]
 
-ghost use Rattle.std.specs.Prelude.{◌≡◌, ◌<◌, ◌^◌, IsTrue};
+ghost use Rattle.std.specs.Prelude.{◌≡◌, ◌<◌, ◌^◌, ◌==◌, ◌||◌, ◌&&◌, not, IsTrue};
+ghost use Rattle.line_tokens.specs.Roles.{is_own};
 ghost use Rattle.penalties.specs.Breaks.{ends_its_row, is_string, is_all, is_behind, is_never_first, is_never_last, is_assignment_gap, operator_side, ternary_side, break_by_table, cost_in, gap_rule};
 
 use line_tokens::{ItemKind, LineTok, Role};
@@ -115,24 +116,24 @@ fn is_assignment_gap(style: &Style, left: &LineTok, right: &LineTok) -> bool
 }
 
 /// The token that a binary operator is looked for at.
-fn operator_side(style: &Style, left: &LineTok, right: &LineTok) -> LineTok
-    ensures { result ≡ operator_side style.now left.now right.now }
+fn operator_side<'t>(style: &Style, left: &'t LineTok, right: &'t LineTok) -> &'t LineTok
+    ensures { result.now ≡ operator_side style.now left.now right.now }
 {
     if is_behind(style.break_before_binary_operators) {
-        *left
+        left
     } else {
-        *right
+        right
     }
 }
 
 /// The token that `?` or its `:` is looked for at.
-fn ternary_side(style: &Style, left: &LineTok, right: &LineTok) -> LineTok
-    ensures { result ≡ ternary_side style.now left.now right.now }
+fn ternary_side<'t>(style: &Style, left: &'t LineTok, right: &'t LineTok) -> &'t LineTok
+    ensures { result.now ≡ ternary_side style.now left.now right.now }
 {
     if style.break_before_ternary_operators {
-        *right
+        right
     } else {
-        *left
+        left
     }
 }
 
@@ -215,4 +216,24 @@ pub fn gap_rule(style: &Style, left: &LineTok, right: &LineTok) -> GapRule
             cost: cost + 20 * u64::from(right.depth.saturating_sub(1)),
         },
     }
+}
+
+/// Whether one of the table's first rows holds, by which a row has to end.
+#[inline(always)]
+fn ends_by_first_rows(style: &Style, left: &LineTok, right: &LineTok) -> bool
+    ensures { result ≡ (((right.now.directive || ends_its_row left.now.kind || is_own right.now.role) || right.now.trailing_list) || ((style.now.column_limit == 0) && not (right.now.gap.lines == 0))) }
+{
+    right.directive
+        || ends_its_row(left.kind)
+        || right.role.is_own()
+        || right.trailing_list
+        || (style.column_limit == 0 && right.gap.lines != 0)
+}
+
+/// Whether a row has to end between two tokens, as [`gap_rule`] says.
+#[inline(always)]
+pub fn must_break(style: &Style, left: &LineTok, right: &LineTok) -> bool
+    ensures { result ≡ (gap_rule style.now left.now right.now).must }
+{
+    ends_by_first_rows(style, left, right)
 }

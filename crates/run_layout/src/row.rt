@@ -13,7 +13,7 @@ ghost use Rattle.run_layout.specs.OneRow.{Fits, IsRow, IsRowLine, open_behind, r
 
 use gap_text::Decision;
 use line_tokens::{Fixed, LineTok};
-use penalties::gap_rule;
+use penalties::must_break;
 use replacements::Plan;
 use spacing::spaces_before;
 use style_table::Style;
@@ -111,7 +111,7 @@ pub(crate) fn is_row(
     let mut cells = frames + 1;
     for at in 1..tokens.len() {
         let right = token_at(tokens, at);
-        if gap_rule(style, left, right).must {
+        if must_break(style, left, right) {
             return false;
         }
         let start = behind.saturating_add(u32::from(spaces_before(style, left, right)));

@@ -1,6 +1,5 @@
 use Rattle.std.proofs.Common.{◌≡◌, ◌∙◌, ◌+◌, ◌-◌, suc, slice_get, refl, sym, ap, subst, arith}
 use Rattle.std.proofs.lemmas.Bool.{leb-true}
-use Rattle.penalties.specs.declared.GapRule.{GapRule}
 use Rattle.line_tokens.specs.Columns.{columns}
 use Rattle.run_layout.specs.OneRow.{IsOneRow}
 use Rattle.run_layout.proofs.RowSteps.{row_begins, row_begins_free, row_goes_on, row_ends}
@@ -31,7 +30,7 @@ loop-at-preserved c =
           subst (λ n. IsOneRow line n c.end_of-behind-in-loop-at.result c.open_behind-frames-in-loop-at.result (c.loop-at.cells + (c.open_behind-frames-in-loop-at.result + 1))) placed
           (row_goes_on line c.args.style.now c.args.column c.args.tokens.now c.args.first is (at - 1) c.loop-at.behind c.loop-at.frames c.loop-at.cells c.saturating_add-start.result c.open_behind-frames-in-loop-at.result
           (c.loop-at.cells + (c.open_behind-frames-in-loop-at.result + 1)) c.end_of-behind-in-loop-at.result c.loop-at.left.now c.token_at-right.result.now (v.row line is) v.left
-          (ap (λ i. slice_get c.args.tokens.now i) next ∙ c.token_at-right.ensures) (ap (λ (r : GapRule). r.must) (sym c.gap_rule.ensures.rule) ∙ c.if-gap_rule.false)
+          (ap (λ i. slice_get c.args.tokens.now i) next ∙ c.token_at-right.ensures) (sym c.must_break.ensures ∙ c.if-must_break.false)
           (c.saturating_add-start.ensures ∙ ap (λ x. columns c.loop-at.behind x) (c.from.ensures ∙ c.spaces_before.ensures.table)) (c.fits.ensures c.if-not-fits.false)
           c.open_behind-frames-in-loop-at.ensures.is refl c.end_of-behind-in-loop-at.ensures);
       free = v.free;
