@@ -22,7 +22,12 @@ def hook_refuses_and_names(repository):
     repository.git("commit", "-qm", "nothing staged", "--allow-empty")
     repository.git("commit", "-qam", "m", status=1)
     repository.git("commit", "-qm", "m", "--", "a b.c", status=1)
+    repository.git("--literal-pathspecs", "commit", "-qam", "m", status=1)
     repository.git("commit", "-qam", "m", "--no-verify")
+    repository.git("worktree", "add", "-q", "-b", "other", "a tree")
+    repository.put("a tree/n.c", "int  n;\n")
+    repository.git("add", "n.c", folder="a tree")
+    repository.git("commit", "-qm", "m", status=1, folder="a tree")
 
 
 @part("git")

@@ -171,6 +171,13 @@ def style_of_the_top(repository):
 
 
 @part("git")
+def notes_of_the_program(repository):
+    repository.put(".clang-format", "Unheard: of\n")
+    repository.stage("a b.c", "int x = ffffffffffffffffffffffff(aaaaaaaaaaaaaaaaaaaaaaaaaaa, bbbbbbbbbbbbbbbbbbbbbbbbbb);\n")
+    same(repository.format("--states", "1", "--check", status=None)[1], "a b.c:1: run 0: not searched within 1 cells\n")
+
+
+@part("git")
 def a_check_writes_nothing(repository):
     repository.stage("a.c", "int  x;\n")
     repository.put("a.c", "int  x;\nint  y;\n")
@@ -298,6 +305,7 @@ def settings_of_the_user(repository):
     repository.commit(a="int  a;\nint b;\nint  c;\n")
     repository.stage("a.c", "int  a;\nint  new;\nint  c;\n")
     same(repository.check(GIT_DIFF_OPTS="-u5", GIT_EXTERNAL_DIFF="false"), "a.c:2: formatting would change this\n")
+    repository.check(GIT_LITERAL_PATHSPECS="1")
     repository.format(GIT_DIFF_OPTS="-u5", GIT_EXTERNAL_DIFF="false")
     repository.both("a.c", "int  a;\nint new;\nint  c;\n")
 
@@ -317,6 +325,17 @@ def other_kinds_of_repositories(repository):
     top = os.fsdecode(repository.path)
     repository.format(folder="/", GIT_DIR=top + "/.git", GIT_WORK_TREE=top)
     repository.both("a.c", "int a;\n")
+
+
+@part("git")
+def repositories_in_folders_of_all_sorts(repository):
+    for name, more in (("a:b \"c\" \\d 'e' ünï", ()), ("sha256", ("--object-format=sha256",))):
+        repository.git("init", "-q", *more, name)
+        repository.put(name + "/a.c", "int  a;\n")
+        repository.git("add", "a.c", folder=name)
+        same(repository.check(folder=name), "a.c:1: formatting would change this\n")
+        same(repository.format(folder=name)[0], "a.c: formatted\n")
+        same(repository.git("cat-file", "blob", ":a.c", folder=name), "int a;\n")
 
 
 @part("git")
