@@ -83,28 +83,34 @@ def cmake_targets(repository):
 
 
 def steps(name):
-    """The shell lines of a job: those that call the program, or git for it."""
+    """The shell lines of a job."""
     with open(os.path.join(TOP, "integrations", "ci", name)) as file:
         lines = [line.strip().lstrip("- ").strip() for line in file]
-    lines = [line[3:].strip("' ") if line.startswith("sh ") else line for line in lines]
-    return [line for line in lines if line.startswith("git ") and "clang" in line]
+    return [line for line in lines if line.startswith("git ")]
 
 
-@part("git", "bash")
+def jobs(repository, variables):
+    """What the calls of the program write, after the other lines of their jobs."""
+    for name in ("github.yml", "gitlab.yml", "Jenkinsfile"):
+        lines = steps(name)
+        same(sum("clang" in line for line in lines), 2)
+        for line in lines:
+            written = repository.run("sh", "-c", line, status=None if "clang" in line else 0, **variables)
+            if "clang" in line:
+                yield line, "".join(written)
+
+
+@part("git", "xargs")
 def jobs_of_services(repository):
     repository.commit(a="int a;\n")
     repository.git("branch", "-q", "target")
     repository.git("remote", "add", "origin", ".")
     repository.git("fetch", "-q", "origin")
+    variables = dict(GITHUB_BASE_REF="target", CHANGE_TARGET="target")
+    variables["CI_MERGE_REQUEST_DIFF_BASE_SHA"] = repository.git("rev-parse", "HEAD").strip()
     repository.commit(a="int a;\nint  b;\n")
-    for name in ("github.yml", "gitlab.yml", "Jenkinsfile"):
-        lines = steps(name)
-        same(len(lines), 2)
-        variables = dict.fromkeys(("GITHUB_BASE_REF", "CI_MERGE_REQUEST_TARGET_BRANCH_NAME", "CHANGE_TARGET"), "target")
-        for line in lines:
-            out, err = repository.run("sh", "-c", line, status=None, **variables)
-            holds("a.c" in out + err, line + ": " + out + err)
+    for line, said in jobs(repository, variables):
+        holds("a.c:2: " in said if "staged" in line else ", changed\n" in said, line + ": " + said)
     repository.commit(a="int a;\nint b;\n")
-    for name in ("github.yml", "gitlab.yml", "Jenkinsfile"):
-        for line in steps(name):
-            repository.run("sh", "-c", line, **variables)
+    for line, said in jobs(repository, variables):
+        holds(said == "" if "staged" in line else ", unchanged\n" in said, line + ": " + said)

@@ -173,7 +173,7 @@ def style_of_the_top(repository):
 @part("git")
 def notes_of_the_program(repository):
     repository.put(".clang-format", "Unheard: of\n")
-    repository.stage("a b.c", "int x = ffffffffffffffffffffffff(aaaaaaaaaaaaaaaaaaaaaaaaaaa, bbbbbbbbbbbbbbbbbbbbbbbbbb);\n")
+    repository.stage("a b.c", "int x = f(%s, %s);\n" % ("a" * 40, "b" * 40))
     same(repository.format("--states", "1", "--check", status=None)[1], "a b.c:1: run 0: not searched within 1 cells\n")
 
 

@@ -112,7 +112,8 @@ function! s:Replace(lines) abort
   elseif l:view.lnum > l:first
     let l:place = s:Position(len(s:Solid(l:before)), l:first + 1)
   endif
-  call winrestview({'lnum': l:place[0], 'col': l:place[1] - 1, 'topline': l:view.topline + l:place[0] - l:view.lnum})
+  let l:top = max([1, l:view.topline + l:place[0] - l:view.lnum])
+  call winrestview({'lnum': l:place[0], 'col': l:place[1] - 1, 'topline': l:top})
 endfunction
 
 " Formats the lines from first to last of the buffer; whether it could.
