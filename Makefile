@@ -39,6 +39,7 @@ install-pages:
 	install -D -m 644 share/completions/clang_format.fish "$(DESTDIR)$(FISH_COMPLETIONS)/clang_format.fish"
 	install -d "$(DESTDIR)$(DOCUMENTS)"
 	install -m 644 $(PAGES) "$(DESTDIR)$(DOCUMENTS)"
+	install -D -m 755 integrations/config/take_over "$(DESTDIR)$(DOCUMENTS)/examples/take_over"
 
 uninstall:
 	rm -f "$(DESTDIR)$(PREFIX)/bin/clang_format"
@@ -47,7 +48,8 @@ uninstall:
 	rm -f "$(DESTDIR)$(ZSH_COMPLETIONS)/_clang_format"
 	rm -f "$(DESTDIR)$(FISH_COMPLETIONS)/clang_format.fish"
 	for page in $(notdir $(PAGES)); do rm -f "$(DESTDIR)$(DOCUMENTS)/$$page"; done
-	rmdir "$(DESTDIR)$(DOCUMENTS)" 2>/dev/null || true
+	rm -f "$(DESTDIR)$(DOCUMENTS)/examples/take_over"
+	rmdir "$(DESTDIR)$(DOCUMENTS)/examples" "$(DESTDIR)$(DOCUMENTS)" 2>/dev/null || true
 
 dist: $(PROGRAM)
 	PROGRAM="$(PROGRAM)" bin/package tarball
