@@ -22,9 +22,9 @@ function __clang_format_styles
 end
 
 complete -c clang_format -n '__clang_format_may --style VALUE' -l style -x -a '(__clang_format_styles)' -d 'The style'
-complete -c clang_format -n '__clang_format_may --lines VALUE' -l lines -x -d 'The lines to lay out, as 2:5 or 1:3,10:20'
+complete -c clang_format -n '__clang_format_may --lines VALUE' -l lines -x -d 'The lines to lay out, as 1:3,10:20'
 complete -c clang_format -n '__clang_format_may --states VALUE' -l states -x -d 'The budget of a line, in cells'
 complete -c clang_format -n '__clang_format_may -i' -s i -d 'Write each file back'
 complete -c clang_format -n '__clang_format_may --dry-run' -l dry-run -d 'Write nothing, tell what would change'
-complete -c clang_format -n '__clang_format_may --Werror' -l Werror -d 'With --dry-run, status 1 where a text would change'
+complete -c clang_format -n '__clang_format_may --Werror' -l Werror -d 'With --dry-run, tell by the status'
 complete -c clang_format -n '__clang_format_may --dump-config' -l dump-config -d 'Write the style in force'
