@@ -1,5 +1,6 @@
-"""What docs/DEFINITIONS.md says of the definitions: which files a section names, how many lines these have, and that the
-sections name every file of definitions on which the contract of `format_command` stands.
+"""What docs/DEFINITIONS.md says of the definitions: which files a section names and how many lines these have; that the
+sections name every file of definitions on which the contract of `format_command` stands, each behind those that it takes
+words from; and that the page lists the words of the contract.
 
 A section names its files in a paragraph such as "**357 lines:** `c_grammar`: `Grammar`, `Items`; `touching`: `Spelling`."
 """
@@ -65,16 +66,26 @@ def definitions_of(source):
     return {**found, **{name: {of} for name, of in types.items() if name not in found}}
 
 
-def reached():
-    """The modules of the repository with a definition on which the contract of `format_command` stands."""
+def contract():
+    """The words of the contract of `format_command` that are imported, and where each stands."""
     source = text(CONTRACT)
-    contract = source[source.index("pub fn format_command") :].split("\n{\n")[0]
+    clauses = source[source.index("pub fn format_command") :].split("\n{\n")[0]
     imported = imports_of(source)
-    waiting = [imported[word] for word in set(WORD.findall(contract)) if word in imported]
-    files, seen = {}, set()
+    return {word: imported[word] for word in WORD.findall(clauses) if word in imported}
+
+
+def reached():
+    """The modules of the repository with a definition on which the contract of `format_command` stands, and for each of
+    them those that its definitions take words from."""
+    waiting, files, seen, found = [(*it, None) for it in contract().values()], {}, set(), {}
     while waiting:
-        module, word = waiting.pop()
-        if (module, word) in seen or ".declared" in module or not os.path.exists(file_of(module)):
+        module, word, above = waiting.pop()
+        if ".declared" in module or not os.path.exists(file_of(module)):
+            continue
+        found.setdefault(module, set())
+        if above:
+            found[above].add(module)
+        if (module, word) in seen:
             continue
         seen.add((module, word))
         if module not in files:
@@ -82,10 +93,10 @@ def reached():
         taken, defined = files[module]
         for other in defined.get(word, ()):
             if other in defined:
-                waiting.append((module, other))
+                waiting.append((module, other, None))
             elif other in taken:
-                waiting.append(taken[other])
-    return {module for module, _ in seen}
+                waiting.append((*taken[other], module))
+    return found
 
 
 def modules_in(paragraph):
@@ -102,18 +113,29 @@ def sections():
             yield section.split("\n")[0], number, list(modules_in(paragraph))
 
 
-def check_all(check):
-    named, stands = set(), reached()
-    for heading, number, modules in sections():
+def check_sections(check):
+    """Answers the number of the section that names each module."""
+    named = {}
+    for place, (heading, number, modules) in enumerate(sections()):
         missing = [it for it in modules if not os.path.exists(file_of(it))]
         check(not missing, f'docs/DEFINITIONS.md, "{heading}": no such files: {missing}')
         count = sum(lines_of(it) for it in modules if it not in missing)
         check(number == f"{count:,}", f'docs/DEFINITIONS.md, "{heading}": {count:,} lines, not {number}')
-        named.update(modules)
-    for module in sorted(stands):
+        named.update(dict.fromkeys(modules, place))
+    return named
+
+
+def check_all(check):
+    named, stands = check_sections(check), reached()
+    for module, below in sorted(stands.items()):
         check(module in named, f"docs/DEFINITIONS.md: the contract stands on {module}, which no section names")
+        late = [it for it in below if named.get(it, 0) > named.get(module, 0)]
+        check(not late, f"docs/DEFINITIONS.md: {module} takes words from {late}, which come behind it")
     total = f"{len(stands):,}", f"{sum(map(lines_of, stands)):,}"
     check(TOTAL.findall(text(PAGE)) == [total], f"docs/DEFINITIONS.md: {total[0]} files with {total[1]} lines in all")
+    listed = set(WORD.findall(text(PAGE).split("## The words of the contract")[1].split("\n## ")[0]))
+    for word in contract():
+        check(word in listed, f"docs/DEFINITIONS.md says nothing of {word}, a word of the contract")
 
 
 def write_counts():
