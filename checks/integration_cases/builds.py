@@ -86,21 +86,22 @@ def steps(name):
     """The shell lines of a job."""
     with open(os.path.join(TOP, "integrations", "ci", name)) as file:
         lines = [line.strip().lstrip("- ").strip() for line in file]
-    return [line for line in lines if line.startswith("git ")]
+    return [line for line in lines if line.startswith(("git ", "format-tree --"))]
 
 
-def jobs(repository, variables):
+def jobs(repository, variables, wanted):
     """What the calls of the program write, after the other lines of their jobs."""
     for name in ("github.yml", "gitlab.yml", "Jenkinsfile"):
         lines = steps(name)
-        same(sum("clang" in line for line in lines), 2)
+        calls = [line for line in lines if not line.startswith("git fetch")]
+        same(len(calls), 2)
         for line in lines:
-            written = repository.run("sh", "-c", line, status=None if "clang" in line else 0, **variables)
-            if "clang" in line:
+            written = repository.run("sh", "-c", line, status=wanted if line in calls else 0, **variables)
+            if line in calls:
                 yield line, "".join(written)
 
 
-@part("git", "xargs")
+@part("git", "sh")
 def jobs_of_services(repository):
     repository.commit(a="int a;\n")
     repository.git("branch", "-q", "target")
@@ -109,8 +110,7 @@ def jobs_of_services(repository):
     variables = dict(GITHUB_BASE_REF="target", CHANGE_TARGET="target")
     variables["CI_MERGE_REQUEST_DIFF_BASE_SHA"] = repository.git("rev-parse", "HEAD").strip()
     repository.commit(a="int a;\nint  b;\n")
-    for line, said in jobs(repository, variables):
-        holds("a.c:2: " in said if "staged" in line else ", changed\n" in said, line + ": " + said)
+    for line, said in jobs(repository, variables, 1):
+        holds(said == ("a.c:2: " if "staged" in line else "a.c: ") + "formatting would change this\n", line + said)
     repository.commit(a="int a;\nint b;\n")
-    for line, said in jobs(repository, variables):
-        holds(said == "" if "staged" in line else ", unchanged\n" in said, line + ": " + said)
+    same([said for _, said in jobs(repository, variables, 0)], [""] * 6)

@@ -264,6 +264,10 @@ def ends_of_texts(repository):
         same(repository.read(name), repository.index(name))
     same(repository.read("e.c"), "int x;\r\nint y;\r\n")
     holds("int x;" in repository.read("d.c"), "a text with a NUL isn't formatted")
+    repository.commit()
+    repository.stage("d.c", repository.read("d.c").encode("utf-8", "surrogateescape") + b"int  y;\n")
+    repository.format()
+    holds("int y;\n" in repository.index("d.c"), "a line behind a NUL isn't formatted")
 
 
 @part("git")
