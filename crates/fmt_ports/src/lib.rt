@@ -7,6 +7,7 @@
 //! or writer inside tells.
 #![tactic(auto)]
 
+mod beside;
 mod files;
 mod memory;
 mod memory_files;
@@ -16,6 +17,7 @@ mod real;
 mod real_files;
 mod text;
 mod whole;
+mod write_back;
 
 ghost use Rattle.std.specs.Prelude.{◌≤◌, ◌<◌, ℕ, List, Option, length, IfOk};
 ghost use Rattle.std.specs.Io.{ReadsAtMost, WritesAtMost};

@@ -2,22 +2,31 @@
 ghost use Rattle.std.specs.Prelude.{◌≡◌, ◌≤◌, IfOk, None, length};
 ghost use Rattle.fmt_ports.specs.Files.{Writes};
 
-use crate::{FileFault, Files, InFault, RealIn, RealOut, read_all, write_all};
+use crate::write_back::{WriteFault, write_back, write_new};
+use crate::{FileFault, Files, InFault, RealIn, read_all};
 use std::alloc::Global;
-use std::fs::{File, Metadata, OpenFile};
-use std::io::{self, ErrorKind, Write};
-use std::os::unix::fs::MetadataExt;
+use std::fs::File;
+use std::io::{self, ErrorKind};
+use std::random::RandomSource;
 
-/// The file system of a runtime.
+/// The file system of a runtime. Only a regular file can be read or written: any other fails, and
+/// isn't opened.
 ///
-/// A file that is written back is first written whole beside its place, under its name and
-/// `.clang_format`, with the permissions of the old one, and then renamed: so the old bytes stand
-/// until the new ones are on the disk, and a write that fails half-way costs nothing. Behind a
-/// symbolic link the file that it leads to is replaced, and the link stays.
+/// A file that is written back is first written whole beside its place, to the disk, and then
+/// renamed: so the old bytes stand until the new ones are there, and a write that fails half-way
+/// costs nothing. The file beside has a name that no other one has and that can't be foretold, and
+/// before it is renamed it has the permissions of the old one; until then only its owner has any.
+/// Behind a symbolic link the file that it leads to is replaced, and the link stays.
 ///
-/// Where that can't keep all that the old file is, it is written in its place instead: a file with
-/// several hard links, another owner or group, no regular file, or one in a folder that takes no
-/// new file. A failure there is answered as one, but may leave a part of the new bytes.
+/// Where a new file can't be all that the old one is, the old one is written in its place: where it
+/// has several hard links, another owner or group, or more rights for its group than for all
+/// others, behind which an access list may stand; where the folder takes no new file; and where the
+/// rename is refused. Then the old bytes stand beside it, on the disk, until the new ones are
+/// written whole, or in memory alone where the folder takes no new file. Where the write fails they
+/// are put back; where that fails too, the file beside them stays.
+///
+/// A file that is replaced loses its extended attributes, and an access list that gives no right
+/// but what all have: the runtime doesn't show them. One that is written in its place keeps all.
 #[derive(Drop)]
 pub struct RealFiles<R> {
     rt: R,
@@ -26,7 +35,7 @@ pub struct RealFiles<R> {
     misses: u64,
 }
 
-impl<R: std::rt::Files> RealFiles<R> {
+impl<R: std::rt::Files + RandomSource> RealFiles<R> {
     /// The files that `rt` opens.
     pub fn new(rt: R, alloc: Global) -> RealFiles<R>
         ensures faults { ⟦<RealFiles<R> as Files>⟧.faults result ≡ 0 }
@@ -41,7 +50,15 @@ impl<R: std::rt::Files> RealFiles<R> {
     }
 }
 
-// Reads a file whole.
+// Why a file isn't there to be read.
+fn fault_of(error: io::Error) -> FileFault {
+    match error.kind() {
+        ErrorKind::NotFound => FileFault::Missing,
+        _ => FileFault::Failed,
+    }
+}
+
+// Reads a file whole. What is no regular file isn't opened, since that may wait for ever.
 fn read_file<R: std::rt::Files>(
     rt: &R,
     alloc: Global,
@@ -50,10 +67,14 @@ fn read_file<R: std::rt::Files>(
 ) -> Result<Vec<u8>, FileFault>
     ensures { IfOk result (λ bytes. length bytes.items ≤ limit) }
 {
+    match rt.metadata(name) {
+        Ok(metadata) if metadata.is_file() => {}
+        Ok(_) => return Err(FileFault::Failed),
+        Err(error) => return Err(fault_of(error)),
+    }
     let file = match File::open(rt, name) {
         Ok(file) => file,
-        Err(error) if error.kind() == ErrorKind::NotFound => return Err(FileFault::Missing),
-        Err(_) => return Err(FileFault::Failed),
+        Err(error) => return Err(fault_of(error)),
     };
     match read_all(alloc, &mut RealIn::new(file), limit) {
         Ok(bytes) => Ok(bytes),
@@ -63,63 +84,8 @@ fn read_file<R: std::rt::Files>(
     }
 }
 
-// Writes all the bytes to a file, and sees them to the disk, where it has one.
-fn fill<F: Write + OpenFile + Drop>(mut file: F, bytes: &[u8]) -> io::Result<()> {
-    if write_all(&mut RealOut::new(&mut file), bytes).is_err() {
-        return Err(io::Error::from(ErrorKind::Other));
-    }
-    match file.sync_data() {
-        Err(error) if error.kind() == ErrorKind::InvalidInput => Ok(()),
-        synced => synced,
-    }
-}
-
-// Gives a new file the permissions of the old one, and answers whether it has its owner too.
-fn takes_over<F: OpenFile>(file: &F, old: &Metadata) -> bool {
-    let Ok(new) = file.metadata() else {
-        return false;
-    };
-    new.uid() == old.uid()
-        && new.gid() == old.gid()
-        && file.set_permissions(old.permissions()).is_ok()
-}
-
-// A new, empty file that is all that the old one is. None where that can't be; then no file is left.
-fn file_beside<R: std::rt::Files>(rt: &R, place: &str, beside: &str) -> Option<R::File> {
-    let old = rt.metadata(place).ok()?;
-    if !old.is_file() || old.nlink() != 1 || old.permissions().readonly() {
-        return None;
-    }
-    let file = File::create_new(rt, beside).ok()?;
-    if takes_over(&file, &old) {
-        return Some(file);
-    }
-    let _ = rt.remove_file(beside);
-    None
-}
-
-// Writes a file that is there: beside its place first, where that serves.
-fn write_back<R: std::rt::Files>(
-    rt: &R,
-    place: &str,
-    beside: &str,
-    bytes: &[u8],
-) -> io::Result<()> {
-    let Some(file) = file_beside(rt, place, beside) else {
-        return fill(File::create(rt, place)?, bytes);
-    };
-    let written = match fill(file, bytes) {
-        Ok(()) => rt.rename(beside, place),
-        failed => failed,
-    };
-    if written.is_err() {
-        let _ = rt.remove_file(beside);
-    }
-    written
-}
-
-// Writes a file whole, which may be new.
-fn write_file<R: std::rt::Files>(
+// Writes a file whole, which may be new. What is no regular file isn't opened.
+fn write_file<R: std::rt::Files + RandomSource>(
     rt: &R,
     alloc: Global,
     name: &str,
@@ -127,22 +93,19 @@ fn write_file<R: std::rt::Files>(
 ) -> Result<(), FileFault>
     ensures { Writes None None name.now bytes.now result }
 {
-    let written = match rt.canonicalize(alloc, name) {
-        Ok(place) => {
-            let Ok(beside) = format!(in alloc; "{}.clang_format", place.as_str()) else {
-                return Err(FileFault::NoMemory);
-            };
-            write_back(rt, place.as_str(), beside.as_str(), bytes)
-        }
-        Err(_) => File::create(rt, name).and_then(|file| fill(file, bytes)),
+    let written = match rt.metadata(name) {
+        Ok(metadata) if metadata.is_file() => write_back(rt, alloc, name, bytes),
+        Err(error) if error.kind() == ErrorKind::NotFound => write_new(rt, name, bytes),
+        _ => Err(WriteFault::Failed),
     };
     match written {
         Ok(()) => Ok(()),
-        Err(_) => Err(FileFault::Failed),
+        Err(WriteFault::Failed) => Err(FileFault::Failed),
+        Err(WriteFault::NoMemory) => Err(FileFault::NoMemory),
     }
 }
 
-impl<R: std::rt::Files> Files for RealFiles<R> {
+impl<R: std::rt::Files + RandomSource> Files for RealFiles<R> {
     ghost holds = { λ s. None };
 
     ghost faults = { λ s. s.faults };
