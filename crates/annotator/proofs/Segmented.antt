@@ -1,6 +1,7 @@
 -- The tokens of a view, made segment by segment.
-use Rattle.std.proofs.Common.{◌≡◌, ◌∙◌, ℕ, suc, ◌+◌, ◌-◌, ◌<◌, ◌≤◌, Bool, true, false, Option, Some, None, ◌&&◌, not, nat_lt, List, [], ◌∷◌, ◌++◌, length, map, take, drop, get_or, append_assoc, length-append, length-drop, refl, sym, ap, subst, arith, eq-eqb}
+use Rattle.std.proofs.Common.{◌≡◌, ◌∙◌, ℕ, suc, ◌+◌, ◌-◌, ◌<◌, ◌≤◌, Bool, true, false, Option, Some, None, ◌&&◌, ◌||◌, not, nat_lt, List, [], ◌∷◌, ◌++◌, length, map, take, drop, get_or, append_assoc, length-append, length-drop, refl, sym, ap, subst, arith, eq-eqb}
 use Rattle.std.specs.Prelude.{IfSome}
+use Rattle.std.proofs.lemmas.Bool.{and_left}
 use Rattle.std.proofs.Math.ListN.{drop_of_length-le}
 use Rattle.std.proofs.Math.Seq.{drop-cons, take-length}
 use Rattle.token_views.specs.declared.view.Segment.{Segment}
@@ -9,7 +10,8 @@ use Rattle.token_views.proofs.SegmentLemmas.{item_at_start, length_items}
 use Rattle.token_arena.specs.Gaps.{Contents}
 use Rattle.line_tokens.specs.declared.LineTok.{LineTok}
 use Rattle.annotator.specs.declared.mark.Mark.{Mark}
-use Rattle.annotator.specs.Held.{is_held}
+use Rattle.annotator.specs.Classes.{is_hash}
+use Rattle.annotator.specs.Held.{is_held, is_inner}
 use Rattle.annotator.specs.Tokens.{stands_apart, tok_of, toks_from}
 
 -- ## Segments
@@ -61,6 +63,22 @@ in_segment segments ids i k j is rule within before below =
 -- all places from one on
 pub all_behind : (marks : List Mark) (k : ℕ) → take (length marks - k) (drop k marks) ≡ drop k marks
 all_behind marks k = ap (λ n. take n (drop k marks)) (sym (length-drop k marks)) ∙ take-length (drop k marks)
+
+or_not : (x : Bool) → (x || false) ≡ x
+or_not true = refl
+or_not false = refl
+
+-- a token that is no inner comment stays where it stood if it is a `#`
+pub first_held : (marks : List Mark) (k : ℕ) (d : Mark) → k < length marks → is_inner (get_or marks k d).seen.role ≡ false → is_hash (get_or marks k d).seen.class ≡ is_held (drop k marks)
+first_held marks k d within other =
+    let mark : Mark = get_or marks k d in
+    let split : drop k marks ≡ mark ∷ drop (suc k) marks = drop-cons marks k d within in
+    let none : (is_inner mark.seen.role && is_held (drop (suc k) marks)) ≡ false = and_left (is_inner mark.seen.role) (is_held (drop (suc k) marks)) other in
+    sym (ap (λ (ms : List Mark). is_held ms) split ∙ (ap (λ b. is_hash mark.seen.class || b) none ∙ or_not (is_hash mark.seen.class)))
+
+-- what is known of the places from one on
+pub known_from : (marks : List Mark) (k : ℕ) (known : Option Bool) → IfSome known (λ held. held ≡ is_held (drop k marks)) → IfSome known (λ held. held ≡ is_held (take (length marks - k) (drop k marks)))
+known_from marks k known h = subst (λ (ms : List Mark). IfSome known (λ held. held ≡ is_held ms)) (sym (all_behind marks k)) h
 
 and_not : (b : Bool) → (b && not true) ≡ false
 and_not true = refl

@@ -1,8 +1,11 @@
 use Rattle.std.proofs.Common.{◌≡◌, ◌∙◌, ◌+◌, ◌-◌, ◌<◌, ℕ, List, length, drop, get_or, ap, sym, subst, arith}
 use Rattle.annotator.specs.declared.mark.Mark.{Mark}
 use Rattle.annotator.specs.Held.{is_held}
-use Rattle.annotator.specs.Tokens.{item_at, stands_apart}
-use Rattle.annotator.proofs.Segmented.{all_behind, follows, pushed_on, counted_on, known_on}
+use Rattle.token_arena.specs.Stored.{Stored}
+use Rattle.annotator.specs.Edges.{edge_of}
+use Rattle.annotator.specs.Tokens.{stands_apart}
+use Rattle.annotator.proofs.Items.{edges_touch}
+use Rattle.annotator.proofs.Segmented.{follows, pushed_on, counted_on, known_on}
 use Rattle.annotator.proofs.tokens.push_segment.Goals as goal
 
 pub loop-id-preserved : goal.loop-id-preserved
@@ -24,12 +27,12 @@ loop-id-preserved c =
     let at : get_or ids k 0 ≡ id = subst (λ x. get_or ids x 0 ≡ first + i) place (c.requires.items i (omega (arith, v.from, c.loop-id-test.true))) ∙ omega (arith, v.from) in
     let apart = v.apart c.loop-id-test.true ∙ ap (λ n. stands_apart ids n) (sym count) in
     let made = c.in_ok-push.ensures.items in
-    let holds : c.holds-held.result ≡ is_held (drop k marks) = c.holds-held.ensures ∙ ap (λ (ms : List Mark). is_held ms) (all_behind marks k) in
+    let holds : c.holds-held.result ≡ is_held (drop k marks) = c.holds-held.ensures in
     record {
       from = omega (arith, v.from);
       count = counted_on toks after c.tok_of.result (length c.args.toks.now.items) i made v.count ∙ omega (arith, v.from);
       same = pushed_on arena ids marks toks after k id _ c.loop-id.apart c.holds-held.result c.tok_of.result count within at apart holds c.tok_of.ensures made ∙ v.same;
-      left = λ some. c.item-token.ensures.is ∙ ap (λ n. item_at arena n) (omega arith);
+      left = edges_touch arena id c.edge_of-edge.result (c.edge_of-edge.ensures ∙ ap (λ (token : Stored). edge_of token.kind token.raw) c.item-token.ensures.is);
       apart = λ more.
           let next : get_or ids (k + 1) 0 ≡ id + 1 = subst (λ x. get_or ids x 0 ≡ first + (i + 1)) next_place (c.requires.items (i + 1) (omega (arith, v.from, more))) ∙ omega (arith, v.from) in
           sym (ap (λ n. stands_apart ids n) (counted_on toks after c.tok_of.result (length c.args.toks.now.items) i made v.count ∙ next_place) ∙ follows ids k id at next);

@@ -1,8 +1,7 @@
 use Rattle.std.proofs.Common.{◌≡◌, ◌+◌, ◌-◌, ◌<◌, ◌≤◌, ◌++◌, length, drop}
 use Rattle.std.specs.Prelude.{IfSome}
-use Rattle.token_arena.specs.Entries.{told_by}
 use Rattle.annotator.specs.Held.{is_held}
-use Rattle.annotator.specs.Tokens.{item_at, stands_apart, toks_from}
+use Rattle.annotator.specs.Tokens.{edge_at, stands_apart, toks_from, TellsTouch}
 use Rattle.annotator.proofs.tokens.push_segment.Given as goal
 
 abbrev pub invariant-loop-id : goal.invariant-loop-id
@@ -10,7 +9,7 @@ invariant-loop-id l = record {
   from : l.fn.segment.first ≤ l.id;
   count : length l.toks.items ≡ length l.initial.toks.items + (l.id - l.fn.segment.first);
   same : l.toks.items ++ toks_from l.arena l.view (length l.toks.items) (drop (length l.toks.items) l.marks) ≡ l.initial.toks.items ++ toks_from l.arena l.view (length l.initial.toks.items) (drop (length l.initial.toks.items) l.marks);
-  left : 0 < l.id → told_by l.left ≡ item_at l.arena (l.id - 1);
+  left : TellsTouch l.arena l.id l.left (edge_at l.arena l.id);
   apart : l.id < l.fn.segment.end → l.apart ≡ stands_apart l.view (length l.toks.items);
   known : IfSome l.known (λ held. held ≡ is_held (drop (length l.toks.items) l.marks));
 }

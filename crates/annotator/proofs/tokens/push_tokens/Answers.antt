@@ -4,7 +4,7 @@ use Rattle.token_views.specs.Segments.{no_segment}
 use Rattle.token_views.proofs.SegmentLemmas.{well}
 use Rattle.token_classes.proofs.ItemClasses.{viewed_fits}
 use Rattle.annotator.proofs.Segmented.{AreMade, next_made, in_segment}
-use Rattle.annotator.proofs.tokens.tokens.Goals as goal
+use Rattle.annotator.proofs.tokens.push_tokens.Goals as goal
 
 pub push_segment-requires-clause-some : goal.push_segment-requires-clause-some
 push_segment-requires-clause-some c =
