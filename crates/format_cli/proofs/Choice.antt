@@ -2,7 +2,6 @@
 use Rattle.std.proofs.Common.{◌≡◌, ◌⊎◌, ◌++◌, ◌≢◌, ◌∙◌, ℕ, Bool, true, false, List, [], None, Some, Ok, IsTrue, IsFalse, IsSome, ap, inr, refl, sym, subst, codes}
 use Rattle.std.specs.Prelude.{⊤}
 use Rattle.std.specs.declared.option.Option.{Option}
-use Rattle.clap.specs.Words.{Row, Text}
 use Rattle.std.proofs.lemmas.List.{append_cancel_left}
 use Rattle.std.proofs.lemmas.Bool.{false≢true}
 use Rattle.fmt_ports.specs.Files.{Held}
@@ -68,15 +67,15 @@ pub one_made : (words : List (List ℕ)) (a b : Words) → Reads words (Ok a) �
 one_made words a b p q = sym p.4.value ∙ q.4.value
 
 -- where `--generate` is given an input is made
-value_made : (rows : List Row) (said : Words) (value : Option Text) → generate_word rows ≡ value → Generates rows said → IsSome value → said.generate ≡ None → ⊥
-value_made rows said None is k some none = false≢true some
-value_made rows said (Some word) is k some none = k.in_form word (record { given = is; bad = sym (ap generate_of is) ∙ k.value ∙ none })
+value_made : (words : List (List ℕ)) (said : Words) (value : Option (List ℕ)) → generate_word (rows_of_words words) ≡ value → Generates (rows_of_words words) said → IsSome value → said.generate ≡ None → ⊥
+value_made words said None is k some none = false≢true some
+value_made words said (Some word) is k some none = k.in_form word (record { given = is; bad = sym (ap generate_of is) ∙ k.value ∙ none })
 
 pub is_made : (words : List (List ℕ)) (said : Words) → Reads words (Ok said) → IsSome (generate_word (rows_of_words words)) → said.generate ≡ None → ⊥
-is_made words said reads some none = value_made (rows_of_words words) said (generate_word (rows_of_words words)) refl reads.4 some none
+is_made words said reads some none = value_made words said (generate_word (rows_of_words words)) refl reads.4 some none
 
 -- an input that is made has its word
-word_of : (value : Option Text) (generate : Generate) → generate_of value ≡ Some generate → IsSome value
+word_of : (value : Option (List ℕ)) (generate : Generate) → generate_of value ≡ Some generate → IsSome value
 word_of None generate is = let wrong : None ≡ Some generate = is in cc
 word_of (Some word) generate is = refl
 

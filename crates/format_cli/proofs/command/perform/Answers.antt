@@ -1,9 +1,15 @@
-use Rattle.std.proofs.Common.{◌≡◌, ◌≢◌, ◌∙◌, ℕ, List, [], ap, map, refl, sym, inl, inr}
+use Rattle.std.proofs.Common.{◌≡◌, ◌≢◌, ◌∙◌, ℕ, List, [], None, Some, ap, map, refl, sym, inl, inr}
+use Rattle.std.specs.declared.option.Option.{Option}
 use Rattle.std.specs.Borrow.{Bor}
 use Rattle.format_cli.specs.Account.{files_of}
 use Rattle.format_cli.proofs.Ends.{keeps_all_self, keeps_self}
 use Rattle.format_cli.proofs.Rest.{err_map, none_of, ok_follows, some_of}
 use Rattle.format_cli.proofs.command.perform.Goals as goal
+
+-- what isn't there is nothing
+not_some : {A : Type 0} (o : Option A) → ((x : A) → o ≡ Some x → ⊥) → o ≡ None
+not_some None h = refl
+not_some (Some x) h = absurd (h x refl)
 
 pub returns-in-Some-clause-done : goal.returns-in-Some-clause-done
 returns-in-Some-clause-done g c =
