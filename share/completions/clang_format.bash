@@ -25,7 +25,7 @@ _clang_format_words() {
   for word in "${words[@]:1:cword-1}"; do
     given+="${word%%=*} "
   done
-  for word in --style --lines --states -i --dry-run --Werror --dump-config; do
+  for word in --style --lines --states -i --dry-run --Werror --dump-config --generate; do
     [[ $given == *" $word "* ]] || left+=("$word")
   done
   mapfile -t COMPREPLY < <(compgen -W "${left[*]}" -- "$cur")
@@ -46,7 +46,7 @@ _clang_format() {
       _clang_format_styles
       return
       ;;
-    --lines | --states)
+    --lines | --states | --generate)
       return
       ;;
   esac

@@ -28,3 +28,4 @@ complete -c clang_format -n '__clang_format_may -i' -s i -d 'Write each file bac
 complete -c clang_format -n '__clang_format_may --dry-run' -l dry-run -d 'Write nothing, tell what would change'
 complete -c clang_format -n '__clang_format_may --Werror' -l Werror -d 'With --dry-run, tell by the status'
 complete -c clang_format -n '__clang_format_may --dump-config' -l dump-config -d 'Write the style in force'
+complete -c clang_format -n '__clang_format_may --generate VALUE' -l generate -x -d 'Make an input, as 5:100'

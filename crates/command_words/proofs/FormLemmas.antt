@@ -6,10 +6,10 @@ use Rattle.clap.specs.declared.error.Error.{Error}
 use Rattle.clap.specs.declared.error.kind.ErrorKind.TheVariants.{OutOfMemory}
 use Rattle.std.specs.declared.result.Result.{Result}
 use Rattle.command_words.specs.Command.{command, form_faults, rows_of_words}
-use Rattle.command_words.specs.Said.{HasBadLines, HasBadStates, HasLines, ReadsForm, Says, SaysOrNot}
-use Rattle.command_words.specs.declared.read.Words.{Words}
+use Rattle.command_words.specs.Said.{HasBadLines, HasBadStates, HasLines, ReadsForm, SaysBut, SaysOrNot}
+use Rattle.command_words.specs.declared.read.Given.{Given}
 use Rattle.command_words.specs.declared.fault.WordsFault.{WordsFault}
-use Rattle.command_words.specs.declared.fault.WordsFault.TheVariants.{Form, BadLines, BadStates, NoInput, ManyFiles, NoMemory}
+use Rattle.command_words.specs.declared.fault.WordsFault.TheVariants.{Form, BadLines, BadStates, NoInput, ManyFiles, BadGenerate, GenerateBeside, NoMemory}
 
 pub command_is_simple : is_simple command ≡ true
 command_is_simple = refl
@@ -33,12 +33,14 @@ refuses words fault e has form cause = elim cause [
 ]
 
 -- words without a fault say what the rows say that were found
-pub of_form : (words : List Text) (rows : List Row) (result : Result Words WordsFault) → form_faults words ≡ [] → rows ≡ rows_of_words words → SaysOrNot rows result → ReadsForm words result
-of_form words rows (Ok said) none is says = (none, subst (λ (r : List Row). Says r said) is says)
+pub of_form : (words : List Text) (rows : List Row) (result : Result Given WordsFault) → form_faults words ≡ [] → rows ≡ rows_of_words words → SaysOrNot rows result → ReadsForm words result
+of_form words rows (Ok given) none is says = (none, subst (λ (r : List Row). SaysBut r given) is says)
 of_form words rows (Err Form) none is says = absurd says
 of_form words rows (Err (BadLines word fault)) none is says = (none, subst (λ (r : List Row). HasBadLines r word.now fault) is says)
 of_form words rows (Err (BadStates word)) none is says =
     (none, subst (λ (r : List Row). HasLines r) is says.0, subst (λ (r : List Row). HasBadStates r word.now) is says.1)
 of_form words rows (Err NoInput) none is says = absurd says
 of_form words rows (Err ManyFiles) none is says = absurd says
+of_form words rows (Err (BadGenerate word)) none is says = absurd says
+of_form words rows (Err GenerateBeside) none is says = absurd says
 of_form words rows (Err NoMemory) none is says = tt

@@ -8,7 +8,7 @@ use Rattle.command_words.specs.Command.{lines_word}
 use Rattle.command_words.specs.Lines.{IsLinesOrNot, lines_of}
 use Rattle.command_words.specs.Said.{SaysOrNot}
 use Rattle.command_words.specs.declared.fault.WordsFault.{WordsFault}
-use Rattle.command_words.specs.declared.fault.WordsFault.TheVariants.{Form, BadLines, BadStates, NoInput, ManyFiles, NoMemory}
+use Rattle.command_words.specs.declared.fault.WordsFault.TheVariants.{Form, BadLines, BadStates, NoInput, ManyFiles, BadGenerate, GenerateBeside, NoMemory}
 
 -- `?` passes an error on as it is
 pub passed : {T E : Type 0} (r : Result T E) (e : E) → IsErr r × IsErrAnd r (λ y. y ≡ e) → r ≡ Err e
@@ -26,4 +26,6 @@ refused_lines rows (BadLines word fault) k = k
 refused_lines rows (BadStates word) k = absurd k
 refused_lines rows NoInput k = absurd k
 refused_lines rows ManyFiles k = absurd k
+refused_lines rows (BadGenerate word) k = absurd k
+refused_lines rows GenerateBeside k = absurd k
 refused_lines rows NoMemory k = tt

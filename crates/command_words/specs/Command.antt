@@ -29,7 +29,7 @@ abbrev pub bare : App
 bare = let start = new_app (codes "clang_format") in
     record start { top = record start.top { no_binary_name = true; disable_help_flag = true; disable_version_flag = true } }
 
--- the words that are built: `--style S`, `--lines L`, `--states N`, `-i` (the letter's code is 105), `--dry-run`, `--Werror`, `--dump-config` and FILE
+-- the words that are built: `--style S`, `--lines L`, `--states N`, `-i` (the letter's code is 105), `--dry-run`, `--Werror`, `--dump-config`, `--generate N:COUNT` and FILE
 abbrev pub rules : List Rule
 rules = option_rule (codes "style")
     ∷ option_rule (codes "lines")
@@ -38,6 +38,7 @@ rules = option_rule (codes "style")
     ∷ flag_rule (codes "dry-run")
     ∷ flag_rule (codes "Werror")
     ∷ flag_rule (codes "dump-config")
+    ∷ option_rule (codes "generate")
     ∷ names_rule (codes "file")
     ∷ []
 
@@ -73,6 +74,10 @@ lines_word rows = first_of (codes "lines") rows
 -- the value of `--states`, if there is one
 abbrev pub states_word : List Row → Option Text
 states_word rows = first_of (codes "states") rows
+
+-- the value of `--generate`, if there is one
+abbrev pub generate_word : List Row → Option Text
+generate_word rows = first_of (codes "generate") rows
 
 -- the FILEs, in order
 abbrev pub file_names : List Row → List Text

@@ -1,4 +1,5 @@
 pub mod Command
 pub mod Budget
+pub mod Generate
 pub mod Lines
 pub mod Said

@@ -11,20 +11,20 @@ pub const DEFAULT_BUDGET: u64 = 2_000_000;
 const MOST_CELLS: u64 = 16_000_000;
 
 /// The number that decimal digits write, if the text is digits alone.
-fn digits_in(text: &[u8]) -> Option<u64>
+fn digits_in(text: &[u8]) -> Option<u32>
     requires { length text.now ≤ 9 }
     ensures { result ≡ if are_digits text.now then Some (digits_value 10 text.now) else None }
 {
-    let mut number: u64 = 0;
+    let mut number = 0;
     for c in text {
         let digit = char::from(*c).to_digit(10)?;
-        number = number * 10 + u64::from(digit);
+        number = number * 10 + digit;
     }
     Some(number)
 }
 
 /// The number that 1 to 9 decimal digits write.
-fn number_of(text: &[u8]) -> Option<u64>
+pub(crate) fn number_of(text: &[u8]) -> Option<u32>
     ensures { result ≡ number_of text.now }
 {
     if text.is_empty() || 9 < text.len() {
@@ -38,7 +38,7 @@ pub(crate) fn budget_in(word: &str) -> Option<u64>
     ensures is { result ≡ as_budget (number_of word.now) }
     ensures most { IfSome result (λ budget. budget ≤ 16000000) }
 {
-    let number = number_of(word.as_bytes())?;
+    let number = u64::from(number_of(word.as_bytes())?);
     if 1 <= number && number <= MOST_CELLS {
         Some(number)
     } else {

@@ -80,7 +80,9 @@ pub fn make_command<'w>(alloc: Global) -> Result<Command<'w>, AllocError>
     let with_werror = with_arg(with_dry_run, werror)?;
     let dump_config = flag(alloc, "dump-config");
     let with_dump_config = with_arg(with_werror, dump_config)?;
+    let generate = option(alloc, "generate");
+    let with_generate = with_arg(with_dump_config, generate)?;
     let file = names(alloc, "file");
-    let whole = with_arg(with_dump_config, file)?;
+    let whole = with_arg(with_generate, file)?;
     Ok(whole)
 }

@@ -8,7 +8,7 @@ use thiserror::Error;
 
 /// How the command is used, with the words that are built: the note on words that are not of its form.
 pub const USAGE: &str =
-    "usage: clang_format [--style S] [--lines L] [--states N] [-i] [--dry-run] [--Werror] [--dump-config] [FILE ..]";
+    "usage: clang_format [--style S] [--lines L] [--states N] [-i] [--dry-run] [--Werror] [--dump-config] [--generate N:COUNT] [FILE ..]";
 
 /// Why words are refused. It is shown as the row that tells it.
 #[derive(Clone, Copy, Debug, PartialEq, Eq, Error)]
@@ -28,6 +28,13 @@ pub enum WordsFault<'w> {
     /// `--lines` stands beside two FILEs or more.
     #[error("clang_format: --lines takes one file")]
     ManyFiles,
+    /// This value of `--generate` isn't N:COUNT, N from 0 to 999999999 and COUNT from 1 to 100000, each in 1 to 9 decimal
+    /// digits.
+    #[error("clang_format: --generate {0}: not N:COUNT")]
+    BadGenerate(&'w str),
+    /// `--generate` stands beside a FILE, `-i` or `--dump-config`.
+    #[error("clang_format: --generate takes no file, -i or --dump-config")]
+    GenerateBeside,
     /// Memory ran out.
     #[error("clang_format: no memory")]
     NoMemory,

@@ -11,8 +11,10 @@
 mod budget;
 mod command;
 mod fault;
+mod pieces;
 mod read;
 
 pub use budget::DEFAULT_BUDGET;
 pub use fault::{USAGE, WordsFault};
+pub use pieces::Generate;
 pub use read::{StyleChoice, Words, read_words};

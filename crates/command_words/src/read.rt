@@ -2,13 +2,14 @@
 
 ghost use Rattle.std.specs.Prelude.{◌≡◌, ◌≢◌, ◌≤◌, ◌⊎◌, ◌↔◌, [], IfErr, IfOk, IsTrue, None, Some, codes, map, option_map, string_bytes, unwrap_or};
 ghost use Rattle.clap.specs.Words.{first_value, found_of, kind_of, matched_of, raw_values, rows_of};
-ghost use Rattle.command_words.specs.Said.{Chooses, Reads, ReadsForm, SaysOrNot};
+ghost use Rattle.command_words.specs.Said.{Chooses, Reads, ReadsForm, ReadsOthers, SaysOrNot};
 ghost use Rattle.command_words.specs.Budget.{budget_of};
 ghost use Rattle.command_words.specs.Lines.{IsLinesOrNot};
 
 use crate::budget::{DEFAULT_BUDGET, budget_in};
 use crate::command::make_command;
 use crate::fault::WordsFault;
+use crate::pieces::{Generate, generate_in};
 use clap::error::ErrorKind;
 use clap::{ArgMatches, Error};
 use off_regions::{RangeFault, Ranges};
@@ -42,8 +43,19 @@ pub struct Words<'w> {
     pub werror: bool,
     /// `--dump-config`: the style in force is written, and no input is read.
     pub dump_config: bool,
+    /// `--generate N:COUNT`: the input that is made in place of the source.
+    pub generate: Option<Generate>,
     /// The FILEs in order, none for standard input.
     pub files: Vec<&'w str>,
+}
+
+/// What the words say before the value of `--generate` is read, which comes last.
+#[derive(Drop)]
+struct Given<'w> {
+    /// All else that they say.
+    said: Words<'w>,
+    /// The value of `--generate`.
+    generate: Option<&'w str>,
 }
 
 /// The choice that a value of `--style` makes.
@@ -116,9 +128,9 @@ fn files_of<'w>(alloc: Global, matches: &ArgMatches<'w>) -> Result<Vec<&'w str>,
 }
 
 /// What the matches say.
-fn said<'w>(alloc: Global, matches: &ArgMatches<'w>) -> Result<Words<'w>, WordsFault<'w>>
+fn said<'w>(alloc: Global, matches: &ArgMatches<'w>) -> Result<Given<'w>, WordsFault<'w>>
     ensures says { SaysOrNot (rows_of (found_of matches.now)) result }
-    ensures most { IfOk result (λ said. said.budget ≤ 16000000) }
+    ensures most { IfOk result (λ given. given.said.budget ≤ 16000000) }
 {
     let lines = lines_of(alloc, matches)?;
     let budget = match budget_of(matches) {
@@ -131,15 +143,20 @@ fn said<'w>(alloc: Global, matches: &ArgMatches<'w>) -> Result<Words<'w>, WordsF
     let dry_run = is_given(matches, "dry-run");
     let werror = is_given(matches, "Werror");
     let dump_config = is_given(matches, "dump-config");
-    Ok(Words {
-        style,
-        lines,
-        budget,
-        in_place,
-        dry_run,
-        werror,
-        dump_config,
-        files,
+    let generate = matches.get_str("generate");
+    Ok(Given {
+        said: Words {
+            style,
+            lines,
+            budget,
+            in_place,
+            dry_run,
+            werror,
+            dump_config,
+            generate: None,
+            files,
+        },
+        generate,
     })
 }
 
@@ -155,9 +172,9 @@ fn fault_of_error<'w>(error: &Error) -> WordsFault<'w>
 }
 
 /// Reads words of the command's form.
-fn read_form<'w>(alloc: Global, words: &'w [String]) -> Result<Words<'w>, WordsFault<'w>>
+fn read_form<'w>(alloc: Global, words: &'w [String]) -> Result<Given<'w>, WordsFault<'w>>
     ensures reads { ReadsForm (map string_bytes words.now) result }
-    ensures most { IfOk result (λ said. said.budget ≤ 16000000) }
+    ensures most { IfOk result (λ given. given.said.budget ≤ 16000000) }
 {
     let command = make_command(alloc)?;
     match command.try_get_matches_from(words) {
@@ -166,21 +183,42 @@ fn read_form<'w>(alloc: Global, words: &'w [String]) -> Result<Words<'w>, WordsF
     }
 }
 
+/// Reads words, but for the value of `--generate`.
+fn read_others<'w>(alloc: Global, words: &'w [String]) -> Result<Given<'w>, WordsFault<'w>>
+    ensures reads { ReadsOthers (map string_bytes words.now) result }
+    ensures most { IfOk result (λ given. given.said.budget ≤ 16000000) }
+{
+    let given = read_form(alloc, words)?;
+    if given.said.in_place && !given.said.dump_config && given.said.files.is_empty() {
+        return Err(WordsFault::NoInput);
+    }
+    if given.said.lines.is_some() && given.said.files.len() > 1 {
+        return Err(WordsFault::ManyFiles);
+    }
+    Ok(given)
+}
+
 /// Reads the words that stand after the program's name.
 ///
 /// `Form`: they are not of the command's form. `BadLines`: they are, and the value of `--lines` is no list of ranges.
 /// `BadStates`: `--states` tells no budget. `NoInput`: they have `-i` and neither a FILE nor `--dump-config`.
-/// `ManyFiles`: they have `--lines` and two FILEs or more. The first that fits is told. `NoMemory`: memory ran out.
+/// `ManyFiles`: they have `--lines` and two FILEs or more. `BadGenerate`: the value of `--generate` isn't N:COUNT.
+/// `GenerateBeside`: they have `--generate` and a FILE, `-i` or `--dump-config`. The first that fits is told. `NoMemory`:
+/// memory ran out.
 pub fn read_words<'w>(alloc: Global, words: &'w [String]) -> Result<Words<'w>, WordsFault<'w>>
     ensures reads { Reads (map string_bytes words.now) result }
     ensures most { IfOk result (λ said. said.budget ≤ 16000000) }
 {
-    let said = read_form(alloc, words)?;
-    if said.in_place && !said.dump_config && said.files.is_empty() {
-        return Err(WordsFault::NoInput);
+    let Given { mut said, generate } = read_others(alloc, words)?;
+    let Some(word) = generate else {
+        return Ok(said);
+    };
+    let Some(made) = generate_in(word) else {
+        return Err(WordsFault::BadGenerate(word));
+    };
+    if said.in_place || said.dump_config || !said.files.is_empty() {
+        return Err(WordsFault::GenerateBeside);
     }
-    if said.lines.is_some() && said.files.len() > 1 {
-        return Err(WordsFault::ManyFiles);
-    }
+    said.generate = Some(made);
     Ok(said)
 }

@@ -12,7 +12,7 @@ use Rattle.format_cli.specs.declared.input.Options.{Options}
 use Rattle.format_cli.specs.declared.input.Place.{Place}
 use Rattle.format_cli.specs.declared.input.Place.TheVariants.{Itself}
 use Rattle.format_cli.specs.declared.refusal.Refusal.{Refusal}
-use Rattle.format_cli.specs.declared.refusal.Refusal.TheVariants.{BadWords, BadLines, BadStates, NoInput, ManyFiles, UnknownStyle, LongConfiguration, BadConfiguration, TooLarge, OpenComment, SourceFailed, FileFailed, OutFailed, NotesFailed, Missing, NoMemory}
+use Rattle.format_cli.specs.declared.refusal.Refusal.TheVariants.{BadWords, BadLines, BadStates, NoInput, ManyFiles, BadGenerate, GenerateBeside, UnknownStyle, LongConfiguration, BadConfiguration, TooLarge, OpenComment, SourceFailed, FileFailed, OutFailed, NotesFailed, Missing, NoMemory}
 use Rattle.format_cli.specs.InForce.{IsHeld, IsLonger, IsInForce, IsStyleRefused, IsConfigurationRefused, Configures, configuration_of}
 use Rattle.format_cli.specs.Inputs.{ends, rows_told, IsFormatted, IsTold, IsTextCause, IsFileCause, IsFileRefused, IsSourceRefused, IsWriteRefused, Puts}
 use Rattle.c_grammar.specs.Grammar.{is_same}
@@ -30,6 +30,8 @@ file_cause held name text (BadLines its_word fault) h k = absurd k
 file_cause held name text (BadStates word) h k = absurd k
 file_cause held name text NoInput h k = absurd k
 file_cause held name text ManyFiles h k = absurd k
+file_cause held name text (BadGenerate word) h k = absurd k
+file_cause held name text GenerateBeside h k = absurd k
 file_cause held name text (UnknownStyle unknown) h k = absurd k
 file_cause held name text (LongConfiguration file) h k = absurd k
 file_cause held name text (BadConfiguration file fault) h k = absurd k
@@ -54,6 +56,8 @@ source_refused options place input old told text (BadLines its_word fault) h k =
 source_refused options place input old told text (BadStates word) h k = absurd k
 source_refused options place input old told text NoInput h k = absurd k
 source_refused options place input old told text ManyFiles h k = absurd k
+source_refused options place input old told text (BadGenerate word) h k = absurd k
+source_refused options place input old told text GenerateBeside h k = absurd k
 source_refused options place input old told text (UnknownStyle unknown) h k = absurd k
 source_refused options place input old told text (LongConfiguration file) h k = absurd k
 source_refused options place input old told text (BadConfiguration file fault) h k = absurd k
@@ -75,6 +79,8 @@ write_refused options name b c taken told now old mid new (BadLines its_word fau
 write_refused options name b c taken told now old mid new (BadStates word) held made rows changes same k = absurd k
 write_refused options name b c taken told now old mid new NoInput held made rows changes same k = absurd k
 write_refused options name b c taken told now old mid new ManyFiles held made rows changes same k = absurd k
+write_refused options name b c taken told now old mid new (BadGenerate word) held made rows changes same k = absurd k
+write_refused options name b c taken told now old mid new GenerateBeside held made rows changes same k = absurd k
 write_refused options name b c taken told now old mid new (UnknownStyle unknown) held made rows changes same k = absurd k
 write_refused options name b c taken told now old mid new (LongConfiguration file) held made rows changes same k = absurd k
 write_refused options name b c taken told now old mid new (BadConfiguration file fault) held made rows changes same k = absurd k
@@ -97,6 +103,8 @@ style_refused choice held file text old new (BadLines its_word fault) h names gi
 style_refused choice held file text old new (BadStates word) h names gives k = absurd k
 style_refused choice held file text old new NoInput h names gives k = absurd k
 style_refused choice held file text old new ManyFiles h names gives k = absurd k
+style_refused choice held file text old new (BadGenerate word) h names gives k = absurd k
+style_refused choice held file text old new GenerateBeside h names gives k = absurd k
 style_refused choice held file text old new (UnknownStyle unknown) h names gives k = absurd k
 style_refused choice held file text old new (LongConfiguration at) h names gives k = absurd k
 style_refused choice held file text old new (BadConfiguration at fault) h names gives k = (

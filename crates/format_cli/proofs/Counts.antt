@@ -4,7 +4,7 @@ use Rattle.std.specs.declared.result.Result.{Result}
 use Rattle.fmt_ports.specs.Causes.{Rose}
 use Rattle.format_cli.specs.Counts.{Faults, SameFaults, Raises, Counted}
 use Rattle.format_cli.specs.declared.refusal.Refusal.{Refusal}
-use Rattle.format_cli.specs.declared.refusal.Refusal.TheVariants.{BadWords, BadLines, BadStates, NoInput, ManyFiles, UnknownStyle, LongConfiguration, BadConfiguration, TooLarge, OpenComment, SourceFailed, FileFailed, OutFailed, NotesFailed, Missing, NoMemory}
+use Rattle.format_cli.specs.declared.refusal.Refusal.TheVariants.{BadWords, BadLines, BadStates, NoInput, ManyFiles, BadGenerate, GenerateBeside, UnknownStyle, LongConfiguration, BadConfiguration, TooLarge, OpenComment, SourceFailed, FileFailed, OutFailed, NotesFailed, Missing, NoMemory}
 
 pub same_after : (a b c : Faults) → SameFaults a b → SameFaults b c → SameFaults a c
 same_after a b c h k = record {
@@ -22,6 +22,8 @@ raises_after (BadLines its_word fault) a b c h k = same_after a b c h k
 raises_after (BadStates word) a b c h k = same_after a b c h k
 raises_after NoInput a b c h k = same_after a b c h k
 raises_after ManyFiles a b c h k = same_after a b c h k
+raises_after (BadGenerate word) a b c h k = same_after a b c h k
+raises_after GenerateBeside a b c h k = same_after a b c h k
 raises_after (UnknownStyle name) a b c h k = same_after a b c h k
 raises_after (LongConfiguration file) a b c h k = same_after a b c h k
 raises_after (BadConfiguration file fault) a b c h k = same_after a b c h k

@@ -31,13 +31,13 @@ pub rows_of_made : (options : Options) (place : Place) (name b c : List ℕ) (re
 rows_of_made options place name b c reports counts changed old new has rows =
     subst (λ (xs : List ℕ). Appends old new xs) (rows_are place name has.made.0 reports counts changed has.made.1 has.made.2 has.tells) rows
 
-part_of_made : (options : Options) (place : Place) (name b c : List ℕ) (reports : List Report) (counts : Counts) (changed : Bool) (old new : Option (List ℕ)) (has : HasRows options b c reports counts changed) →
+pub part_of_made : (options : Options) (place : Place) (name b c : List ℕ) (reports : List Report) (counts : Counts) (changed : Bool) (old new : Option (List ℕ)) (has : HasRows options b c reports counts changed) →
     AppendsPart old new (input_rows place name options.budget reports counts changed) → AppendsPart old new (rows_told place name has.made.0)
 part_of_made options place name b c reports counts changed old new has rows =
     subst (λ (xs : List ℕ). AppendsPart old new xs) (rows_are place name has.made.0 reports counts changed has.made.1 has.made.2 has.tells) rows
 
 -- what `changed` tells
-tells : (changed : Bool) (b c : List ℕ) → changed ≡ not (is_same c b) → IsTrue changed ↔ (c ≢ b)
+pub tells : (changed : Bool) (b c : List ℕ) → changed ≡ not (is_same c b) → IsTrue changed ↔ (c ≢ b)
 tells true b c is = (λ k. changes true b c is refl, λ k. refl)
 tells false b c is = (λ k. absurd (cc), λ apart. absurd (apart (stays false b c is refl)))
 

@@ -1,5 +1,5 @@
 -- What names and bytes tell of the inputs decides how they end.
-use Rattle.std.proofs.Common.{◌≡◌, ◌≢◌, ◌⊎◌, ◌∙◌, ◌<◌, ℕ, List, [], ◌∷◌, Some, None, refl, sym, subst, inl, inr, length, IsSomeAnd, arith}
+use Rattle.std.proofs.Common.{◌≡◌, ◌≢◌, ◌⊎◌, ◌∙◌, ◌<◌, ℕ, List, [], ◌∷◌, Some, None, refl, sym, subst, inl, inr, ap, length, IsSomeAnd, arith}
 use Rattle.std.specs.Prelude.{⊤}
 use Rattle.std.specs.declared.option.Option.{Option}
 use Rattle.fmt_ports.specs.Files.{Held, HeldAt, KeepsAll, KeepsOthers}
@@ -11,9 +11,10 @@ use Rattle.format_cli.specs.declared.input.Options.{Options}
 use Rattle.format_cli.specs.declared.input.Place.{Place}
 use Rattle.format_cli.specs.declared.input.Place.TheVariants.{Output, Itself, Nowhere}
 use Rattle.format_cli.specs.declared.refusal.Refusal.{Refusal}
-use Rattle.format_cli.specs.declared.refusal.Refusal.TheVariants.{BadWords, BadLines, BadStates, NoInput, ManyFiles, UnknownStyle, LongConfiguration, BadConfiguration, TooLarge, OpenComment, SourceFailed, FileFailed, OutFailed, NotesFailed, Missing, NoMemory}
+use Rattle.format_cli.specs.declared.refusal.Refusal.TheVariants.{BadWords, BadLines, BadStates, NoInput, ManyFiles, BadGenerate, GenerateBeside, UnknownStyle, LongConfiguration, BadConfiguration, TooLarge, OpenComment, SourceFailed, FileFailed, OutFailed, NotesFailed, Missing, NoMemory}
+use Rattle.format_cli.specs.Generated.{IsGeneratedRefused}
 use Rattle.format_cli.specs.InForce.{IsHeld}
-use Rattle.format_cli.specs.Inputs.{AreDone, AreRefused, Ends, IsDone, IsFileCause, IsFileRefused, IsFormatted, IsSourceDone, IsSourceRefused, PutFails}
+use Rattle.format_cli.specs.Inputs.{AreDone, AreRefused, Ends, IsDone, IsFileCause, IsFileRefused, IsFormatted, IsSourceDone, IsSourceRefused, IsTextCause, PutFails}
 use Rattle.format_cli.specs.Notes.{status_of}
 use Rattle.format_cli.specs.Order.{AreDifferent, FilesStop, IsBadText, IsThere, Tells}
 use Rattle.format_cli.specs.Statuses.{IsOneOf}
@@ -22,7 +23,7 @@ use Rattle.format_cli.proofs.StyleOrder.{EndsSo}
 -- ---- one text
 
 -- a text that has a layout isn't refused
-not_bad : (options : Options) (b c : List ℕ) → IsFormatted options b c → IsBadText b → ⊥
+pub not_bad : (options : Options) (b c : List ℕ) → IsFormatted options b c → IsBadText b → ⊥
 not_bad options b c made (inl long) = omega (arith, made.fits, long)
 not_bad options b c made (inr unended) = open_texts_have_no_layout options.style options.ranges options.budget C11 b c made.reports unended.0 made.formats unended.1
 
@@ -38,6 +39,8 @@ source_ends options place left old new told now (BadLines its_word fault) k = ab
 source_ends options place left old new told now (BadStates word) k = absurd k.1
 source_ends options place left old new told now NoInput k = absurd k.1
 source_ends options place left old new told now ManyFiles k = absurd k.1
+source_ends options place left old new told now (BadGenerate word) k = absurd k.1
+source_ends options place left old new told now GenerateBeside k = absurd k.1
 source_ends options place left old new told now (UnknownStyle unknown) k = absurd k.1
 source_ends options place left old new told now (LongConfiguration file) k = absurd k.1
 source_ends options place left old new told now (BadConfiguration file fault) k = absurd k.1
@@ -49,6 +52,32 @@ source_ends options place left old new told now OutFailed k = inr (inl refl)
 source_ends options place left old new told now NotesFailed k = inr (inl refl)
 source_ends options place left old new told now (Missing file) k = absurd k.1
 source_ends options place left old new told now NoMemory k = inr (inr refl)
+
+-- a text that is refused for a cause of its own ends so
+text_ends : (name text : List ℕ) (refusal : Refusal) → IsTextCause name text refusal → EndsSo 4 refusal
+text_ends name text BadWords k = absurd k
+text_ends name text (BadLines its_word fault) k = absurd k
+text_ends name text (BadStates word) k = absurd k
+text_ends name text NoInput k = absurd k
+text_ends name text ManyFiles k = absurd k
+text_ends name text (BadGenerate word) k = absurd k
+text_ends name text GenerateBeside k = absurd k
+text_ends name text (UnknownStyle unknown) k = absurd k
+text_ends name text (LongConfiguration file) k = absurd k
+text_ends name text (BadConfiguration file fault) k = absurd k
+text_ends name text (TooLarge its_name) k = inl refl
+text_ends name text (OpenComment its_name at) k = inl refl
+text_ends name text SourceFailed k = absurd k
+text_ends name text (FileFailed file) k = absurd k
+text_ends name text OutFailed k = absurd k
+text_ends name text NotesFailed k = absurd k
+text_ends name text (Missing file) k = absurd k
+text_ends name text NoMemory k = inr (inr refl)
+
+-- a text that is made ends so, where it is refused
+pub made_ends : (options : Options) (text : List ℕ) (told now : Option (List ℕ)) (refusal : Refusal) → IsGeneratedRefused options text told now refusal → EndsSo 4 refusal
+made_ends options text told now refusal (inl k) = text_ends _ text refusal k.1
+made_ends options text told now refusal (inr k) = inr (inl (ap status_of k.0))
 
 -- ---- one FILE
 
@@ -85,6 +114,8 @@ cause_ends held name (BadLines its_word fault) status k s = absurd k
 cause_ends held name (BadStates word) status k s = absurd k
 cause_ends held name NoInput status k s = absurd k
 cause_ends held name ManyFiles status k s = absurd k
+cause_ends held name (BadGenerate word) status k s = absurd k
+cause_ends held name GenerateBeside status k s = absurd k
 cause_ends held name (UnknownStyle unknown) status k s = absurd k
 cause_ends held name (LongConfiguration file) status k s = absurd k
 cause_ends held name (BadConfiguration file fault) status k s = absurd k
@@ -113,6 +144,8 @@ cause_fails held name (BadLines its_word fault) k h = absurd k
 cause_fails held name (BadStates word) k h = absurd k
 cause_fails held name NoInput k h = absurd k
 cause_fails held name ManyFiles k h = absurd k
+cause_fails held name (BadGenerate word) k h = absurd k
+cause_fails held name GenerateBeside k h = absurd k
 cause_fails held name (UnknownStyle unknown) k h = absurd k
 cause_fails held name (LongConfiguration file) k h = absurd k
 cause_fails held name (BadConfiguration file fault) k h = absurd k
@@ -138,6 +171,8 @@ put_ends Output name b c rows before now (BadLines its_word fault) k = absurd k
 put_ends Output name b c rows before now (BadStates word) k = absurd k
 put_ends Output name b c rows before now NoInput k = absurd k
 put_ends Output name b c rows before now ManyFiles k = absurd k
+put_ends Output name b c rows before now (BadGenerate word) k = absurd k
+put_ends Output name b c rows before now GenerateBeside k = absurd k
 put_ends Output name b c rows before now (UnknownStyle unknown) k = absurd k
 put_ends Output name b c rows before now (LongConfiguration file) k = absurd k
 put_ends Output name b c rows before now (BadConfiguration file fault) k = absurd k
@@ -154,6 +189,8 @@ put_ends Itself name b c rows before now (BadLines its_word fault) k = absurd k
 put_ends Itself name b c rows before now (BadStates word) k = absurd k
 put_ends Itself name b c rows before now NoInput k = absurd k
 put_ends Itself name b c rows before now ManyFiles k = absurd k
+put_ends Itself name b c rows before now (BadGenerate word) k = absurd k
+put_ends Itself name b c rows before now GenerateBeside k = absurd k
 put_ends Itself name b c rows before now (UnknownStyle unknown) k = absurd k
 put_ends Itself name b c rows before now (LongConfiguration file) k = absurd k
 put_ends Itself name b c rows before now (BadConfiguration file fault) k = absurd k
@@ -170,6 +207,8 @@ put_ends Nowhere name b c rows before now (BadLines its_word fault) k = absurd k
 put_ends Nowhere name b c rows before now (BadStates word) k = absurd k
 put_ends Nowhere name b c rows before now NoInput k = absurd k
 put_ends Nowhere name b c rows before now ManyFiles k = absurd k
+put_ends Nowhere name b c rows before now (BadGenerate word) k = absurd k
+put_ends Nowhere name b c rows before now GenerateBeside k = absurd k
 put_ends Nowhere name b c rows before now (UnknownStyle unknown) k = absurd k
 put_ends Nowhere name b c rows before now (LongConfiguration file) k = absurd k
 put_ends Nowhere name b c rows before now (BadConfiguration file fault) k = absurd k

@@ -1,5 +1,5 @@
 -- What stays as it was, and which name is missing.
-use Rattle.std.proofs.Common.{◌≡◌, ◌≢◌, ◌<◌, ◌⊎◌, ◌∙◌, ℕ, Bool, true, false, List, [], ◌∷◌, Some, None, IsTrue, IsFalse, refl, sym, subst, inl, inr, ap, length, codes, IsSomeAnd}
+use Rattle.std.proofs.Common.{◌≡◌, ◌≢◌, ◌<◌, ◌⊎◌, ◌∙◌, ℕ, Bool, true, false, List, [], ◌∷◌, Some, None, IsTrue, IsFalse, refl, sym, subst, inl, inr, ap, length, codes, IsSome, IsSomeAnd}
 use Rattle.std.specs.Prelude.{⊤}
 use Rattle.std.proofs.lemmas.Bool.{false≢true}
 use Rattle.std.specs.declared.option.Option.{Option}
@@ -9,7 +9,8 @@ use Rattle.c_chars.specs.declared.TheConstants.{LIMIT}
 use Rattle.c_grammar.specs.Grammar.{is_same}
 use Rattle.c_grammar.proofs.Lists.{same_is, same_refl}
 use Rattle.style_table.specs.declared.style.Style.{Style}
-use Rattle.command_words.specs.Command.{Gives, rows_of_words}
+use Rattle.command_words.specs.Command.{Gives, generate_word, rows_of_words}
+use Rattle.command_words.specs.declared.pieces.Generate.{Generate}
 use Rattle.command_words.specs.declared.read.Words.{Words}
 use Rattle.format_cli.specs.declared.input.Options.{Options}
 use Rattle.std.specs.Borrow.{Bor}
@@ -18,12 +19,14 @@ use Rattle.command_words.specs.declared.read.StyleChoice.TheVariants.{FileAt}
 use Rattle.format_cli.specs.declared.input.Place.{Place}
 use Rattle.format_cli.specs.declared.input.Place.TheVariants.{Output, Itself, Nowhere}
 use Rattle.format_cli.specs.declared.refusal.Refusal.{Refusal}
-use Rattle.format_cli.specs.declared.refusal.Refusal.TheVariants.{BadWords, BadLines, BadStates, NoInput, ManyFiles, UnknownStyle, LongConfiguration, BadConfiguration, TooLarge, OpenComment, SourceFailed, FileFailed, OutFailed, NotesFailed, Missing, NoMemory}
+use Rattle.format_cli.specs.declared.refusal.Refusal.TheVariants.{BadWords, BadLines, BadStates, NoInput, ManyFiles, BadGenerate, GenerateBeside, UnknownStyle, LongConfiguration, BadConfiguration, TooLarge, OpenComment, SourceFailed, FileFailed, OutFailed, NotesFailed, Missing, NoMemory}
 use Rattle.format_cli.specs.Account.{Answers, TextChanges, World, WouldFail, IsRefused, AreWordsRefused, EndsWell, IsPerformed, IsNotPerformed, IsBegun, IsSourceNotWritten, IsSourceWritten, files_of, options_of, place_of}
+use Rattle.format_cli.specs.Generated.{IsGeneratedRefused, text_of}
 use Rattle.format_cli.specs.InForce.{IsHeld, IsMissing, IsStyleRefused}
-use Rattle.format_cli.specs.Inputs.{Ends, IsDone, IsFileCause, IsSourceCause, IsSourceDone, IsSourceRefused, AreDone, AreRefused, PutFails, Puts, SourcePutFails, SourcePuts}
+use Rattle.format_cli.specs.Inputs.{Ends, IsDone, IsFileCause, IsSourceCause, IsSourceDone, IsSourceRefused, IsTextCause, AreDone, AreRefused, PutFails, Puts, SourcePutFails, SourcePuts}
 use Rattle.format_cli.specs.Notes.{status_of}
 use Rattle.format_cli.specs.Statuses.{AsksWhetherChanged, HasRefusedInput, IsOneOf, IsPath, LacksName, LeavesFiles, LeavesOutput}
+use Rattle.format_cli.proofs.Choice.{is_made, made_alone}
 use Rattle.format_cli.proofs.Ends.{keeps_all_after}
 
 keeps_after : (a b c : Option (List ℕ)) → Keeps a b → Keeps b c → Keeps a c
@@ -60,6 +63,8 @@ put_keeps Output name b c rows before now (BadLines its_word fault) leaves k = a
 put_keeps Output name b c rows before now (BadStates word) leaves k = absurd k
 put_keeps Output name b c rows before now NoInput leaves k = absurd k
 put_keeps Output name b c rows before now ManyFiles leaves k = absurd k
+put_keeps Output name b c rows before now (BadGenerate word) leaves k = absurd k
+put_keeps Output name b c rows before now GenerateBeside leaves k = absurd k
 put_keeps Output name b c rows before now (UnknownStyle unknown) leaves k = absurd k
 put_keeps Output name b c rows before now (LongConfiguration file) leaves k = absurd k
 put_keeps Output name b c rows before now (BadConfiguration file fault) leaves k = absurd k
@@ -76,6 +81,8 @@ put_keeps Itself name b c rows before now (BadLines its_word fault) leaves k = a
 put_keeps Itself name b c rows before now (BadStates word) leaves k = absurd k
 put_keeps Itself name b c rows before now NoInput leaves k = absurd k
 put_keeps Itself name b c rows before now ManyFiles leaves k = absurd k
+put_keeps Itself name b c rows before now (BadGenerate word) leaves k = absurd k
+put_keeps Itself name b c rows before now GenerateBeside leaves k = absurd k
 put_keeps Itself name b c rows before now (UnknownStyle unknown) leaves k = absurd k
 put_keeps Itself name b c rows before now (LongConfiguration file) leaves k = absurd k
 put_keeps Itself name b c rows before now (BadConfiguration file fault) leaves k = absurd k
@@ -92,6 +99,8 @@ put_keeps Nowhere name b c rows before now (BadLines its_word fault) leaves k = 
 put_keeps Nowhere name b c rows before now (BadStates word) leaves k = absurd k
 put_keeps Nowhere name b c rows before now NoInput leaves k = absurd k
 put_keeps Nowhere name b c rows before now ManyFiles leaves k = absurd k
+put_keeps Nowhere name b c rows before now (BadGenerate word) leaves k = absurd k
+put_keeps Nowhere name b c rows before now GenerateBeside leaves k = absurd k
 put_keeps Nowhere name b c rows before now (UnknownStyle unknown) leaves k = absurd k
 put_keeps Nowhere name b c rows before now (LongConfiguration file) leaves k = absurd k
 put_keeps Nowhere name b c rows before now (BadConfiguration file fault) leaves k = absurd k
@@ -138,6 +147,8 @@ source_refused_keeps options place input old new told now (BadLines its_word fau
 source_refused_keeps options place input old new told now (BadStates word) leaves k = k.0
 source_refused_keeps options place input old new told now NoInput leaves k = k.0
 source_refused_keeps options place input old new told now ManyFiles leaves k = k.0
+source_refused_keeps options place input old new told now (BadGenerate word) leaves k = k.0
+source_refused_keeps options place input old new told now GenerateBeside leaves k = k.0
 source_refused_keeps options place input old new told now (UnknownStyle unknown) leaves k = k.0
 source_refused_keeps options place input old new told now (LongConfiguration file) leaves k = k.0
 source_refused_keeps options place input old new told now (BadConfiguration file fault) leaves k = k.0
@@ -150,34 +161,41 @@ source_refused_keeps options place input old new told now NotesFailed leaves k =
 source_refused_keeps options place input old new told now (Missing file) leaves k = k.0
 source_refused_keeps options place input old new told now NoMemory leaves k = k.0
 
+-- the words that keep texts from the output
+abbrev Leaves : List (List ℕ) → Type 0
+Leaves words = Gives (codes "in-place") (rows_of_words words) ⊎ Gives (codes "dry-run") (rows_of_words words) ⊎ IsSome (generate_word (rows_of_words words))
+
 -- a file to write to is named
 lacks : (words : List (List ℕ)) (before begun : World) (said : Words) (style : Style) → Gives (codes "in-place") (rows_of_words words) →
     (Gives (codes "dump-config") (rows_of_words words) → ⊥) → IsBegun words before begun said style → files_of said ≡ [] → ⊥
 lacks words before begun said style given no_dump k none = k.reads.1 (record { in_place = given; no_dump = no_dump; no_file = sym k.reads.2.files ∙ none })
 
-leaves_of : (words : List (List ℕ)) (before begun : World) (said : Words) (style : Style) → LeavesOutput words → IsBegun words before begun said style →
+leaves_of : (words : List (List ℕ)) (before begun : World) (said : Words) (style : Style) → LeavesOutput words → IsBegun words before begun said style → files_of said ≢ [] →
     LeavesOut (place_of said.dry_run said.in_place)
-leaves_of words before begun said style w k = leaves_out said.dry_run said.in_place (given w.0)
+leaves_of words before begun said style w k some = leaves_out said.dry_run said.in_place (given w.0)
   where
-    given : Gives (codes "in-place") (rows_of_words words) ⊎ Gives (codes "dry-run") (rows_of_words words) → IsTrue said.in_place ⊎ IsTrue said.dry_run
+    given : Leaves words → IsTrue said.in_place ⊎ IsTrue said.dry_run
     given (inl g) = inl (k.reads.2.in_place.1 g)
-    given (inr g) = inr (k.reads.2.dry_run.1 g)
+    given (inr (inl g)) = inr (k.reads.2.dry_run.1 g)
+    given (inr (inr g)) = absurd (made_alone words said k.reads g some)
 
 pub out_kept_well : (words : List (List ℕ)) (before now : World) (answer : ℕ) → LeavesOutput words → EndsWell words before now answer →
     Keeps before.ends.taken now.ends.taken
 out_kept_well words before now answer w k = keeps_after _ _ _ k.begins.untouched.taken (performed k.performed)
   where
-    source : Gives (codes "in-place") (rows_of_words words) ⊎ Gives (codes "dry-run") (rows_of_words words) → files_of k.said ≡ [] →
+    source : Leaves words → files_of k.said ≡ [] → k.said.generate ≡ None →
         IsSourceWritten (options_of k.said k.style) (place_of k.said.dry_run k.said.in_place) k.begun now → Keeps k.begun.ends.taken now.ends.taken
-    source (inl g) none p = absurd (lacks words before k.begun k.said k.style g w.1 k.begins none)
-    source (inr g) none p = source_keeps (place_of k.said.dry_run k.said.in_place) p.done.1 _ _ (nowhere k.said.dry_run k.said.in_place (k.begins.reads.2.dry_run.1 g)) p.done.4
+    source (inl g) none unmade p = absurd (lacks words before k.begun k.said k.style g w.1 k.begins none)
+    source (inr (inr g)) none unmade p = absurd (is_made words k.said k.begins.reads g unmade)
+    source (inr (inl g)) none unmade p = source_keeps (place_of k.said.dry_run k.said.in_place) p.done.1 _ _ (nowhere k.said.dry_run k.said.in_place (k.begins.reads.2.dry_run.1 g)) p.done.4
 
     performed : IsPerformed k.said k.style k.begun now → Keeps k.begun.ends.taken now.ends.taken
     performed (inl p) = absurd (w.1 (k.begins.reads.2.dump_config.0 p.0))
-    performed (inr (inl p)) = source w.0 p.1 p.2
-    performed (inr (inr p)) =
+    performed (inr (inl p)) = source w.0 p.1 p.3 p.2
+    performed (inr (inr (inl p))) =
         done_keeps (options_of k.said k.style) (place_of k.said.dry_run k.said.in_place) (files_of k.said) k.begun.ends now.ends
-        (leaves_of words before k.begun k.said k.style w k.begins) p.1.done
+        (leaves_of words before k.begun k.said k.style w k.begins p.1.some) p.1.done
+    performed (inr (inr (inr p))) = p.1.taken
 
 pub out_kept : (words : List (List ℕ)) (before now : World) (refusal : Refusal) → LeavesOutput words →
     IsRefused words before now refusal → Keeps before.ends.taken now.ends.taken
@@ -185,19 +203,21 @@ out_kept words before now refusal w (inl k) = k.untouched.taken
 out_kept words before now refusal w (inr (inl k)) = k.untouched.taken
 out_kept words before now refusal w (inr (inr k)) = keeps_after _ _ _ k.begins.untouched.taken (refused k.refused)
   where
-    source : Gives (codes "in-place") (rows_of_words words) ⊎ Gives (codes "dry-run") (rows_of_words words) → files_of k.said ≡ [] →
+    source : Leaves words → files_of k.said ≡ [] → k.said.generate ≡ None →
         IsSourceNotWritten (options_of k.said k.style) (place_of k.said.dry_run k.said.in_place) k.begun now refusal → Keeps k.begun.ends.taken now.ends.taken
-    source (inl g) none p = absurd (lacks words before k.begun k.said k.style g w.1 k.begins none)
-    source (inr g) none p =
+    source (inl g) none unmade p = absurd (lacks words before k.begun k.said k.style g w.1 k.begins none)
+    source (inr (inr g)) none unmade p = absurd (is_made words k.said k.begins.reads g unmade)
+    source (inr (inl g)) none unmade p =
         source_refused_keeps (options_of k.said k.style) (place_of k.said.dry_run k.said.in_place) k.begun.left _ _ k.begun.ends.told now.ends.told refusal
         (nowhere k.said.dry_run k.said.in_place (k.begins.reads.2.dry_run.1 g)) p.refused
 
     refused : IsNotPerformed k.said k.style k.begun now refusal → Keeps k.begun.ends.taken now.ends.taken
     refused (inl p) = absurd (w.1 (k.begins.reads.2.dump_config.0 p.0))
-    refused (inr (inl p)) = source w.0 p.1 p.2
-    refused (inr (inr p)) =
+    refused (inr (inl p)) = source w.0 p.1 p.3 p.2
+    refused (inr (inr (inl p))) =
         refused_keeps (options_of k.said k.style) (place_of k.said.dry_run k.said.in_place) (files_of k.said) k.begun.ends now.ends refusal
-        (leaves_of words before k.begun k.said k.style w k.begins) p.1.refused
+        (leaves_of words before k.begun k.said k.style w k.begins p.1.some) p.1.refused
+    refused (inr (inr (inr p))) = p.1.taken
 
 -- ---- without `-i`, and with `--dry-run`, the files stay
 
@@ -224,6 +244,8 @@ put_stays Output name b c rows before now (BadLines its_word fault) leaves k = a
 put_stays Output name b c rows before now (BadStates word) leaves k = absurd k
 put_stays Output name b c rows before now NoInput leaves k = absurd k
 put_stays Output name b c rows before now ManyFiles leaves k = absurd k
+put_stays Output name b c rows before now (BadGenerate word) leaves k = absurd k
+put_stays Output name b c rows before now GenerateBeside leaves k = absurd k
 put_stays Output name b c rows before now (UnknownStyle unknown) leaves k = absurd k
 put_stays Output name b c rows before now (LongConfiguration file) leaves k = absurd k
 put_stays Output name b c rows before now (BadConfiguration file fault) leaves k = absurd k
@@ -240,6 +262,8 @@ put_stays Itself name b c rows before now (BadLines its_word fault) leaves k = a
 put_stays Itself name b c rows before now (BadStates word) leaves k = absurd k
 put_stays Itself name b c rows before now NoInput leaves k = absurd k
 put_stays Itself name b c rows before now ManyFiles leaves k = absurd k
+put_stays Itself name b c rows before now (BadGenerate word) leaves k = absurd k
+put_stays Itself name b c rows before now GenerateBeside leaves k = absurd k
 put_stays Itself name b c rows before now (UnknownStyle unknown) leaves k = absurd k
 put_stays Itself name b c rows before now (LongConfiguration file) leaves k = absurd k
 put_stays Itself name b c rows before now (BadConfiguration file fault) leaves k = absurd k
@@ -256,6 +280,8 @@ put_stays Nowhere name b c rows before now (BadLines its_word fault) leaves k = 
 put_stays Nowhere name b c rows before now (BadStates word) leaves k = absurd k
 put_stays Nowhere name b c rows before now NoInput leaves k = absurd k
 put_stays Nowhere name b c rows before now ManyFiles leaves k = absurd k
+put_stays Nowhere name b c rows before now (BadGenerate word) leaves k = absurd k
+put_stays Nowhere name b c rows before now GenerateBeside leaves k = absurd k
 put_stays Nowhere name b c rows before now (UnknownStyle unknown) leaves k = absurd k
 put_stays Nowhere name b c rows before now (LongConfiguration file) leaves k = absurd k
 put_stays Nowhere name b c rows before now (BadConfiguration file fault) leaves k = absurd k
@@ -297,9 +323,10 @@ files_kept_well words before now answer w k = keeps_all_after _ _ _ k.begins.unt
     performed : IsPerformed k.said k.style k.begun now → KeepsAll k.begun.ends.held now.ends.held
     performed (inl p) = p.1.held
     performed (inr (inl p)) = p.2.held
-    performed (inr (inr p)) =
+    performed (inr (inr (inl p))) =
         done_stays (options_of k.said k.style) (place_of k.said.dry_run k.said.in_place) (files_of k.said) k.begun.ends now.ends
         (held_of words before k.begun k.said k.style w p.0 k.begins) p.1.done
+    performed (inr (inr (inr p))) = p.1.held
 
 pub files_kept : (words : List (List ℕ)) (before now : World) (refusal : Refusal) → LeavesFiles words →
     IsRefused words before now refusal → KeepsAll before.ends.held now.ends.held
@@ -310,9 +337,10 @@ files_kept words before now refusal w (inr (inr k)) = keeps_all_after _ _ _ k.be
     refused : IsNotPerformed k.said k.style k.begun now refusal → KeepsAll k.begun.ends.held now.ends.held
     refused (inl p) = p.1.held
     refused (inr (inl p)) = p.2.held
-    refused (inr (inr p)) =
+    refused (inr (inr (inl p))) =
         refused_stays (options_of k.said k.style) (place_of k.said.dry_run k.said.in_place) (files_of k.said) k.begun.ends now.ends refusal
         (held_of words before k.begun k.said k.style w p.0 k.begins) p.1.refused
+    refused (inr (inr (inr p))) = p.1.held
 
 -- ---- status 1
 
@@ -323,7 +351,8 @@ asks words before now answer one k = by k.answers
     changes_somewhere : (p : IsPerformed k.said k.style k.begun now) → TextChanges k.said k.style k.begun now p → IsFalse k.said.dump_config
     changes_somewhere (inl p) c = absurd c
     changes_somewhere (inr (inl p)) c = p.0
-    changes_somewhere (inr (inr p)) c = p.0
+    changes_somewhere (inr (inr (inl p))) c = p.0
+    changes_somewhere (inr (inr (inr p))) c = p.0
 
     by : Answers (WouldFail k.said (TextChanges k.said k.style k.begun now k.performed)) answer → AsksWhetherChanged words
     by (inl a) = (
@@ -373,6 +402,10 @@ missing_file options place (name ∷ names) before now file (inr k) =
     let later = missing_file options place names k.0 now file k.2 in
     (inr later.0, missing_undone options place name file.now before k.0 k.1 later.1)
 
+made_not : (options : Options) (text : List ℕ) (told now : Option (List ℕ)) (file : Bor (List ℕ)) → IsGeneratedRefused options text told now (Missing file) → ⊥
+made_not options text told now file (inl k) = k.1
+made_not options text told now file (inr k) = let wrong : Missing file ≡ NotesFailed = k.0 in cc
+
 path_is : (choice : StyleChoice) (file : Bor (List ℕ)) → choice ≡ FileAt file → IsPath choice file.now
 path_is choice file is = subst (λ (x : StyleChoice). IsPath x file.now) (sym is) refl
 
@@ -384,6 +417,8 @@ missing_name words before now (BadLines its_word fault) is k = absurd (cc)
 missing_name words before now (BadStates word) is k = absurd (cc)
 missing_name words before now NoInput is k = absurd (cc)
 missing_name words before now ManyFiles is k = absurd (cc)
+missing_name words before now (BadGenerate word) is k = absurd (cc)
+missing_name words before now GenerateBeside is k = absurd (cc)
 missing_name words before now (UnknownStyle unknown) is k = absurd (cc)
 missing_name words before now (LongConfiguration file) is k = absurd (cc)
 missing_name words before now (BadConfiguration file fault) is k = absurd (cc)
@@ -400,7 +435,8 @@ missing_name words before now (Missing file) is (inr (inr k)) = of_inputs k.refu
     of_inputs : IsNotPerformed k.said k.style k.begun now (Missing file) → LacksName words before.ends.held
     of_inputs (inl p) = let e = p.1.cause in absurd (cc)
     of_inputs (inr (inl p)) = absurd p.2.refused.1
-    of_inputs (inr (inr p)) =
+    of_inputs (inr (inr (inr p))) = absurd (made_not (options_of k.said k.style) (text_of p.1.generate) k.begun.ends.told now.ends.told file p.1.refused)
+    of_inputs (inr (inr (inl p))) =
         let found = missing_file (options_of k.said k.style) _ (files_of k.said) k.begun.ends now.ends file p.1.refused in
         record { said = k.said; reads = k.begins.reads; name = file.now; named = inr (p.0, found.0); missing = missing_before _ _ file.now k.begins.untouched.held found.1 }
 missing_name words before now NoMemory is k = absurd (cc)
@@ -418,6 +454,8 @@ cause_before a b name (BadLines its_word fault) h k = absurd k
 cause_before a b name (BadStates word) h k = absurd k
 cause_before a b name NoInput h k = absurd k
 cause_before a b name ManyFiles h k = absurd k
+cause_before a b name (BadGenerate word) h k = absurd k
+cause_before a b name GenerateBeside h k = absurd k
 cause_before a b name (UnknownStyle unknown) h k = absurd k
 cause_before a b name (LongConfiguration file) h k = absurd k
 cause_before a b name (BadConfiguration file fault) h k = absurd k
@@ -436,6 +474,8 @@ put_not Output name b c rows before now (BadLines its_word fault) is k = k
 put_not Output name b c rows before now (BadStates word) is k = k
 put_not Output name b c rows before now NoInput is k = k
 put_not Output name b c rows before now ManyFiles is k = k
+put_not Output name b c rows before now (BadGenerate word) is k = k
+put_not Output name b c rows before now GenerateBeside is k = k
 put_not Output name b c rows before now (UnknownStyle unknown) is k = k
 put_not Output name b c rows before now (LongConfiguration file) is k = k
 put_not Output name b c rows before now (BadConfiguration file fault) is k = k
@@ -452,6 +492,8 @@ put_not Itself name b c rows before now (BadLines its_word fault) is k = k
 put_not Itself name b c rows before now (BadStates word) is k = k
 put_not Itself name b c rows before now NoInput is k = k
 put_not Itself name b c rows before now ManyFiles is k = k
+put_not Itself name b c rows before now (BadGenerate word) is k = k
+put_not Itself name b c rows before now GenerateBeside is k = k
 put_not Itself name b c rows before now (UnknownStyle unknown) is k = k
 put_not Itself name b c rows before now (LongConfiguration file) is k = k
 put_not Itself name b c rows before now (BadConfiguration file fault) is k = k
@@ -468,6 +510,8 @@ put_not Nowhere name b c rows before now (BadLines its_word fault) is k = k
 put_not Nowhere name b c rows before now (BadStates word) is k = k
 put_not Nowhere name b c rows before now NoInput is k = k
 put_not Nowhere name b c rows before now ManyFiles is k = k
+put_not Nowhere name b c rows before now (BadGenerate word) is k = k
+put_not Nowhere name b c rows before now GenerateBeside is k = k
 put_not Nowhere name b c rows before now (UnknownStyle unknown) is k = k
 put_not Nowhere name b c rows before now (LongConfiguration file) is k = k
 put_not Nowhere name b c rows before now (BadConfiguration file fault) is k = k
@@ -486,6 +530,8 @@ words_not words (BadLines its_word fault) is k = cc
 words_not words (BadStates word) is k = cc
 words_not words NoInput is k = cc
 words_not words ManyFiles is k = cc
+words_not words (BadGenerate word) is k = cc
+words_not words GenerateBeside is k = cc
 words_not words (UnknownStyle unknown) is k = k
 words_not words (LongConfiguration file) is k = k
 words_not words (BadConfiguration file fault) is k = k
@@ -504,6 +550,8 @@ style_not choice held old new (BadLines its_word fault) is k = cc
 style_not choice held old new (BadStates word) is k = cc
 style_not choice held old new NoInput is k = cc
 style_not choice held old new ManyFiles is k = cc
+style_not choice held old new (BadGenerate word) is k = cc
+style_not choice held old new GenerateBeside is k = cc
 style_not choice held old new (UnknownStyle unknown) is k = cc
 style_not choice held old new (LongConfiguration file) is k = cc
 style_not choice held old new (BadConfiguration file fault) is k = cc
@@ -522,6 +570,8 @@ source_text options place input old new told now (BadLines its_word fault) is k 
 source_text options place input old new told now (BadStates word) is k = absurd (cc)
 source_text options place input old new told now NoInput is k = absurd (cc)
 source_text options place input old new told now ManyFiles is k = absurd (cc)
+source_text options place input old new told now (BadGenerate word) is k = absurd (cc)
+source_text options place input old new told now GenerateBeside is k = absurd (cc)
 source_text options place input old new told now (UnknownStyle unknown) is k = absurd (cc)
 source_text options place input old new told now (LongConfiguration file) is k = absurd (cc)
 source_text options place input old new told now (BadConfiguration file fault) is k = absurd (cc)
@@ -543,6 +593,11 @@ file_text options place (name ∷ names) before now refusal leaves is (inr k) =
     let later = file_text options place names k.0 now refusal leaves is k.2 in
     (later.0, inr later.1, cause_before before.held k.0.held later.0 refusal (puts_stay place name k.1.0 k.1.1 before k.0 leaves k.1.4) later.2)
 
+made_text : (options : Options) (text : List ℕ) (told now : Option (List ℕ)) (refusal : Refusal) → status_of refusal ≡ 4 → IsGeneratedRefused options text told now refusal →
+    IsTextCause (codes "<generated>") text refusal
+made_text options text told now refusal is (inl k) = k.1
+made_text options text told now refusal is (inr k) = let five : status_of refusal ≡ 5 = ap status_of k.0 in absurd (cc)
+
 -- status 4 comes for an input's text
 pub refused_input : (words : List (List ℕ)) (before now : World) (refusal : Refusal) → status_of refusal ≡ 4 → LeavesFiles words →
     IsRefused words before now refusal → HasRefusedInput words before.left before.ends.held 4
@@ -551,15 +606,20 @@ refused_input words before now refusal is w (inr (inl k)) = absurd (style_not k.
 refused_input words before now refusal is w (inr (inr k)) = record { said = k.said; reads = k.begins.reads; refusal = refusal; is_its = is; cause = cause w k.refused }
   where
     cause : LeavesFiles words → IsNotPerformed k.said k.style k.begun now refusal →
-        ((files_of k.said ≡ []) × IsSourceCause before.left refusal) ⊎ ((name : List ℕ) × IsOneOf name (files_of k.said) × IsFileCause before.ends.held name refusal)
+        ((files_of k.said ≡ []) × IsSourceCause before.left refusal × (k.said.generate ≡ None))
+        ⊎ ((name : List ℕ) × IsOneOf name (files_of k.said) × IsFileCause before.ends.held name refusal)
+        ⊎ ((generate : Generate) × (k.said.generate ≡ Some generate) × IsTextCause (codes "<generated>") (text_of generate) refusal)
     cause w (inl p) = let five : status_of refusal ≡ 5 = ap status_of p.1.cause in absurd (cc)
     cause w (inr (inl p)) =
         inl (
           p.1,
           subst (λ (left : Option (List ℕ)). IsSourceCause left refusal) k.begins.untouched.left
               (source_text (options_of k.said k.style) (place_of k.said.dry_run k.said.in_place) k.begun.left _ _ _ _ refusal is p.2.refused),
+          p.3,
         )
-    cause w (inr (inr p)) =
+    cause w (inr (inr (inr p))) =
+        inr (inr (p.1.generate, p.1.given, made_text (options_of k.said k.style) (text_of p.1.generate) k.begun.ends.told now.ends.told refusal is p.1.refused))
+    cause w (inr (inr (inl p))) =
         let found = file_text (options_of k.said k.style) (place_of k.said.dry_run k.said.in_place) (files_of k.said) k.begun.ends now.ends refusal
         (held_of words before k.begun k.said k.style w p.0 k.begins) is p.1.refused in
-        inr (found.0, found.1, cause_before before.ends.held k.begun.ends.held found.0 refusal k.begins.untouched.held found.2)
+        inr (inl (found.0, found.1, cause_before before.ends.held k.begun.ends.held found.0 refusal k.begins.untouched.held found.2))

@@ -5,6 +5,7 @@ mod Causes
 mod Changes
 mod ReportRows
 mod Done
+mod Generated
 mod Statuses
 mod Kept
 mod Choice

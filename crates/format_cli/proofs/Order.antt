@@ -1,5 +1,5 @@
 -- What the words, names and bytes tell decides how a call ends.
-use Rattle.std.proofs.Common.{◌≡◌, ◌⊎◌, ◌∙◌, ◌++◌, ◌≤◌, ℕ, Bool, true, false, List, [], Ok, Err, IsTrue, IsFalse, OnOk, refl, sym, subst, inl, inr, le_trans}
+use Rattle.std.proofs.Common.{◌≡◌, ◌⊎◌, ◌∙◌, ◌++◌, ◌≤◌, ℕ, Bool, true, false, List, [], Some, None, Ok, Err, IsTrue, IsFalse, OnOk, refl, sym, subst, inl, inr, le_trans}
 use Rattle.std.proofs.KnownBytes.{Appends-trans}
 use Rattle.std.specs.declared.option.Option.{Option}
 use Rattle.std.specs.declared.result.Result.{Result}
@@ -7,19 +7,21 @@ use Rattle.std.specs.Io.KnownBytes.{Appends}
 use Rattle.fmt_ports.specs.Causes.{AppendsPart, Counts, Rose}
 use Rattle.fmt_ports.specs.Files.{Held}
 use Rattle.style_table.specs.declared.style.Style.{Style}
+use Rattle.command_words.specs.declared.pieces.Generate.{Generate}
 use Rattle.command_words.specs.declared.read.Words.{Words}
 use Rattle.command_words.specs.Said.{Reads}
 use Rattle.format_cli.specs.declared.refusal.Refusal.{Refusal}
-use Rattle.format_cli.specs.declared.refusal.Refusal.TheVariants.{BadWords, BadLines, BadStates, NoInput, ManyFiles, UnknownStyle, LongConfiguration, BadConfiguration, TooLarge, OpenComment, SourceFailed, FileFailed, OutFailed, NotesFailed, Missing, NoMemory}
+use Rattle.format_cli.specs.declared.refusal.Refusal.TheVariants.{BadWords, BadLines, BadStates, NoInput, ManyFiles, BadGenerate, GenerateBeside, UnknownStyle, LongConfiguration, BadConfiguration, TooLarge, OpenComment, SourceFailed, FileFailed, OutFailed, NotesFailed, Missing, NoMemory}
 use Rattle.format_cli.specs.Account.{AreWordsRefused, EndsWell, IsBegun, IsNotPerformed, IsPerformed, IsRefused, World, files_of, options_of, place_of}
 use Rattle.format_cli.specs.Counts.{Faults, Raises}
+use Rattle.format_cli.specs.Generated.{text_of}
 use Rattle.format_cli.specs.Notes.{row_of, status_of}
 use Rattle.format_cli.specs.Order.{AreDifferent, FilesStop, HasStyle, InputsStop, IsBadText, IsThere, LacksRows, StopsWith, StyleStops}
-use Rattle.format_cli.proofs.Choice.{has_same, in_force_same, one_dry, one_dump, one_list, one_place, one_style, stops_same}
+use Rattle.format_cli.proofs.Choice.{has_same, in_force_same, made_alone, made_by, one_dry, one_dump, one_list, one_made, one_place, one_style, stops_same}
 use Rattle.format_cli.proofs.StyleOrder.{EndsSo, goes_on, style_ends, style_fails}
 use Rattle.format_cli.proofs.Statuses.{no_budget, no_lines}
 use Rattle.format_cli.proofs.Told.{performed_takes, not_performed_takes}
-use Rattle.format_cli.proofs.InputOrder.{AreOnce, files_end, files_stay, source_ends, source_stays, stop_stays}
+use Rattle.format_cli.proofs.InputOrder.{AreOnce, files_end, files_stay, made_ends, not_bad, source_ends, source_stays, stop_stays}
 
 -- words that say something are refused only for want of memory
 read_words : (words : List (List ℕ)) (said : Words) (refusal : Refusal) → AreWordsRefused words refusal → Reads words (Ok said) → status_of refusal ≡ 7
@@ -28,6 +30,8 @@ read_words words said (BadLines its_word fault) k reads = absurd (no_lines words
 read_words words said (BadStates word) k reads = absurd (no_budget words word.now said k.2 reads.2)
 read_words words said NoInput k reads = absurd (reads.1 k.3)
 read_words words said ManyFiles k reads = absurd (reads.3 k.3)
+read_words words said (BadGenerate word) k reads = absurd (reads.4.in_form word.now k.2)
+read_words words said GenerateBeside k reads = absurd (reads.4.alone k.3)
 read_words words said (UnknownStyle unknown) k reads = absurd k
 read_words words said (LongConfiguration file) k reads = absurd k
 read_words words said (BadConfiguration file fault) k reads = absurd k
@@ -63,6 +67,22 @@ once_begun words said other reads its different =
     once_of said.dry_run said.in_place (files_of said)
     (λ is wet. subst AreDifferent (one_list words other said its reads) (different (one_place words said other reads its is) (one_dry words said other reads its wet)))
 
+-- words that make an input name no FILE
+none_named : (words : List (List ℕ)) (said : Words) (generate : Generate) (held : Held) (status : ℕ) → Reads words (Ok said) → said.generate ≡ Some generate →
+    FilesStop held (files_of said) status → ⊥
+none_named words said generate held status reads is s =
+    made_alone words said reads (made_by words said generate reads is) (λ none. no_names (files_of said) held status none s)
+
+unmade : (words : List (List ℕ)) (a b : Words) (generate : Generate) → Reads words (Ok a) → Reads words (Ok b) → a.generate ≡ None → b.generate ≡ Some generate → ⊥
+unmade words a b generate p q none some = let wrong : None ≡ Some generate = sym none ∙ one_made words a b p q ∙ some in cc
+
+same_text : (words : List (List ℕ)) (a b : Words) (x y : Generate) → Reads words (Ok a) → Reads words (Ok b) → a.generate ≡ Some x → b.generate ≡ Some y → IsBadText (text_of y) →
+    IsBadText (text_of x)
+same_text words a b x y p q is other bad =
+    let both : Some y ≡ Some x = sym other ∙ one_made words b a q p ∙ is in
+    let same : y ≡ x = cc in
+    subst (λ (generate : Generate). IsBadText (text_of generate)) same bad
+
 -- inputs of which one is refused aren't all done
 inputs_stay : (words : List (List ℕ)) (before begun now : World) (said other : Words) (style : Style) (status : ℕ) →
     IsBegun words before begun said style → IsPerformed said style begun now → Reads words (Ok other) → IsFalse other.dump_config →
@@ -70,11 +90,20 @@ inputs_stay : (words : List (List ℕ)) (before begun now : World) (said other :
 inputs_stay words before begun now said other style status k (inl p) reads no_dump i = one_dump words said other k.reads reads p.0 no_dump
 inputs_stay words before begun now said other style status k (inr (inl p)) reads no_dump (inl i) =
     source_stays (options_of said style) _ begun.left _ _ _ _ p.2.done (subst (IsThere IsBadText) (sym k.untouched.left) i.1)
-inputs_stay words before begun now said other style status k (inr (inl p)) reads no_dump (inr i) =
+inputs_stay words before begun now said other style status k (inr (inl p)) reads no_dump (inr (inl i)) =
     no_names (files_of other) before.ends.held status (one_list words other said reads k.reads ∙ p.1) i.0
-inputs_stay words before begun now said other style status k (inr (inr p)) reads no_dump (inl i) =
+inputs_stay words before begun now said other style status k (inr (inl p)) reads no_dump (inr (inr i)) = unmade words said other i.0 k.reads reads p.3 i.1
+inputs_stay words before begun now said other style status k (inr (inr (inr p))) reads no_dump (inl i) =
+    unmade words other said p.1.generate reads k.reads i.3 p.1.given
+inputs_stay words before begun now said other style status k (inr (inr (inr p))) reads no_dump (inr (inl i)) =
+    none_named words other p.1.generate before.ends.held status reads (one_made words other said reads k.reads ∙ p.1.given) i.0
+inputs_stay words before begun now said other style status k (inr (inr (inr p))) reads no_dump (inr (inr i)) =
+    not_bad (options_of said style) (text_of p.1.generate) p.1.done.0 p.1.done.1 (same_text words said other p.1.generate i.0 k.reads reads p.1.given i.1 i.2)
+inputs_stay words before begun now said other style status k (inr (inr (inl p))) reads no_dump (inl i) =
     p.1.some (one_list words said other k.reads reads ∙ i.0)
-inputs_stay words before begun now said other style status k (inr (inr p)) reads no_dump (inr i) =
+inputs_stay words before begun now said other style status k (inr (inr (inl p))) reads no_dump (inr (inr i)) =
+    made_alone words said k.reads (made_by words other i.0 reads i.1) p.1.some
+inputs_stay words before begun now said other style status k (inr (inr (inl p))) reads no_dump (inr (inl i)) =
     files_stay (options_of said style) (place_of said.dry_run said.in_place) (files_of said) begun.ends now.ends status p.1.done (once_begun words said other k.reads reads i.1)
     (stop_begun words before begun said other style status k reads i.0)
 
@@ -85,11 +114,21 @@ inputs_end : (words : List (List ℕ)) (before begun now : World) (said other : 
 inputs_end words before begun now said other style refusal status k (inl p) reads no_dump i = absurd (one_dump words said other k.reads reads p.0 no_dump)
 inputs_end words before begun now said other style refusal status k (inr (inl p)) reads no_dump (inl i) =
     subst (λ (n : ℕ). EndsSo n refusal) (sym i.2) (source_ends (options_of said style) _ begun.left _ _ _ _ refusal p.2.refused)
-inputs_end words before begun now said other style refusal status k (inr (inl p)) reads no_dump (inr i) =
+inputs_end words before begun now said other style refusal status k (inr (inl p)) reads no_dump (inr (inl i)) =
     absurd (no_names (files_of other) before.ends.held status (one_list words other said reads k.reads ∙ p.1) i.0)
-inputs_end words before begun now said other style refusal status k (inr (inr p)) reads no_dump (inl i) =
+inputs_end words before begun now said other style refusal status k (inr (inl p)) reads no_dump (inr (inr i)) =
+    absurd (unmade words said other i.0 k.reads reads p.3 i.1)
+inputs_end words before begun now said other style refusal status k (inr (inr (inr p))) reads no_dump (inl i) =
+    absurd (unmade words other said p.1.generate reads k.reads i.3 p.1.given)
+inputs_end words before begun now said other style refusal status k (inr (inr (inr p))) reads no_dump (inr (inl i)) =
+    absurd (none_named words other p.1.generate before.ends.held status reads (one_made words other said reads k.reads ∙ p.1.given) i.0)
+inputs_end words before begun now said other style refusal status k (inr (inr (inr p))) reads no_dump (inr (inr i)) =
+    subst (λ (n : ℕ). EndsSo n refusal) (sym i.3) (made_ends (options_of said style) (text_of p.1.generate) begun.ends.told now.ends.told refusal p.1.refused)
+inputs_end words before begun now said other style refusal status k (inr (inr (inl p))) reads no_dump (inl i) =
     absurd (p.1.some (one_list words said other k.reads reads ∙ i.0))
-inputs_end words before begun now said other style refusal status k (inr (inr p)) reads no_dump (inr i) =
+inputs_end words before begun now said other style refusal status k (inr (inr (inl p))) reads no_dump (inr (inr i)) =
+    absurd (made_alone words said k.reads (made_by words other i.0 reads i.1) p.1.some)
+inputs_end words before begun now said other style refusal status k (inr (inr (inl p))) reads no_dump (inr (inl i)) =
     files_end (options_of said style) (place_of said.dry_run said.in_place) (files_of said) begun.ends now.ends refusal status p.1.refused (once_begun words said other k.reads reads i.1)
     (stop_begun words before begun said other style status k reads i.0)
 
@@ -175,6 +214,8 @@ notes_rose (BadLines its_word fault) a b notes k later rose = rose_since a.notes
 notes_rose (BadStates word) a b notes k later rose = rose_since a.notes b.notes notes k.notes rose
 notes_rose NoInput a b notes k later rose = rose_since a.notes b.notes notes k.notes rose
 notes_rose ManyFiles a b notes k later rose = rose_since a.notes b.notes notes k.notes rose
+notes_rose (BadGenerate word) a b notes k later rose = rose_since a.notes b.notes notes k.notes rose
+notes_rose GenerateBeside a b notes k later rose = rose_since a.notes b.notes notes k.notes rose
 notes_rose (UnknownStyle unknown) a b notes k later rose = rose_since a.notes b.notes notes k.notes rose
 notes_rose (LongConfiguration file) a b notes k later rose = rose_since a.notes b.notes notes k.notes rose
 notes_rose (BadConfiguration file fault) a b notes k later rose = rose_since a.notes b.notes notes k.notes rose

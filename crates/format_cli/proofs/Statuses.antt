@@ -15,10 +15,11 @@ use Rattle.format_cli.specs.declared.input.Options.{Options}
 use Rattle.format_cli.specs.declared.input.Place.{Place}
 use Rattle.format_cli.specs.declared.input.Place.TheVariants.{Output, Itself, Nowhere}
 use Rattle.format_cli.specs.declared.refusal.Refusal.{Refusal}
-use Rattle.format_cli.specs.declared.refusal.Refusal.TheVariants.{BadWords, BadLines, BadStates, NoInput, ManyFiles, UnknownStyle, LongConfiguration, BadConfiguration, TooLarge, OpenComment, SourceFailed, FileFailed, OutFailed, NotesFailed, Missing, NoMemory}
+use Rattle.format_cli.specs.declared.refusal.Refusal.TheVariants.{BadWords, BadLines, BadStates, NoInput, ManyFiles, BadGenerate, GenerateBeside, UnknownStyle, LongConfiguration, BadConfiguration, TooLarge, OpenComment, SourceFailed, FileFailed, OutFailed, NotesFailed, Missing, NoMemory}
 use Rattle.format_cli.specs.Account.{World, IsRefused, IsNotPerformed, AreWordsRefused, options_of}
 use Rattle.format_cli.specs.Counts.{Faults, Raises}
-use Rattle.format_cli.specs.Inputs.{Ends, IsFileRefused, AreRefused, IsSourceRefused, IsFileCause, PutFails}
+use Rattle.format_cli.specs.Generated.{IsGeneratedRefused, text_of}
+use Rattle.format_cli.specs.Inputs.{Ends, IsFileRefused, AreRefused, IsSourceRefused, IsFileCause, IsTextCause, PutFails}
 use Rattle.format_cli.specs.Notes.{status_of}
 use Rattle.format_cli.specs.Statuses.{IsStatus, AreBadWords, HasNoStyle}
 
@@ -28,6 +29,8 @@ known (BadLines its_word fault) = inr (inr (inl refl))
 known (BadStates word) = inr (inr (inl refl))
 known NoInput = inr (inr (inl refl))
 known ManyFiles = inr (inr (inl refl))
+known (BadGenerate word) = inr (inr (inl refl))
+known GenerateBeside = inr (inr (inl refl))
 known (UnknownStyle unknown) = inr (inr (inr (inl refl)))
 known (LongConfiguration file) = inr (inr (inr (inl refl)))
 known (BadConfiguration file fault) = inr (inr (inr (inl refl)))
@@ -46,6 +49,8 @@ not_zero (BadLines its_word fault) is = cc
 not_zero (BadStates word) is = cc
 not_zero NoInput is = cc
 not_zero ManyFiles is = cc
+not_zero (BadGenerate word) is = cc
+not_zero GenerateBeside is = cc
 not_zero (UnknownStyle unknown) is = cc
 not_zero (LongConfiguration file) is = cc
 not_zero (BadConfiguration file fault) is = cc
@@ -64,6 +69,8 @@ not_one (BadLines its_word fault) is = cc
 not_one (BadStates word) is = cc
 not_one NoInput is = cc
 not_one ManyFiles is = cc
+not_one (BadGenerate word) is = cc
+not_one GenerateBeside is = cc
 not_one (UnknownStyle unknown) is = cc
 not_one (LongConfiguration file) is = cc
 not_one (BadConfiguration file fault) is = cc
@@ -86,6 +93,8 @@ failed (BadLines its_word fault) a b notes later is k = absurd (cc)
 failed (BadStates word) a b notes later is k = absurd (cc)
 failed NoInput a b notes later is k = absurd (cc)
 failed ManyFiles a b notes later is k = absurd (cc)
+failed (BadGenerate word) a b notes later is k = absurd (cc)
+failed GenerateBeside a b notes later is k = absurd (cc)
 failed (UnknownStyle unknown) a b notes later is k = absurd (cc)
 failed (LongConfiguration file) a b notes later is k = absurd (cc)
 failed (BadConfiguration file fault) a b notes later is k = absurd (cc)
@@ -105,6 +114,8 @@ source_fault (BadLines its_word fault) a b k more = absurd (omega (arith, k.sour
 source_fault (BadStates word) a b k more = absurd (omega (arith, k.source))
 source_fault NoInput a b k more = absurd (omega (arith, k.source))
 source_fault ManyFiles a b k more = absurd (omega (arith, k.source))
+source_fault (BadGenerate word) a b k more = absurd (omega (arith, k.source))
+source_fault GenerateBeside a b k more = absurd (omega (arith, k.source))
 source_fault (UnknownStyle unknown) a b k more = absurd (omega (arith, k.source))
 source_fault (LongConfiguration file) a b k more = absurd (omega (arith, k.source))
 source_fault (BadConfiguration file fault) a b k more = absurd (omega (arith, k.source))
@@ -124,6 +135,8 @@ out_fault (BadLines its_word fault) a b k more = absurd (omega (arith, k.out))
 out_fault (BadStates word) a b k more = absurd (omega (arith, k.out))
 out_fault NoInput a b k more = absurd (omega (arith, k.out))
 out_fault ManyFiles a b k more = absurd (omega (arith, k.out))
+out_fault (BadGenerate word) a b k more = absurd (omega (arith, k.out))
+out_fault GenerateBeside a b k more = absurd (omega (arith, k.out))
 out_fault (UnknownStyle unknown) a b k more = absurd (omega (arith, k.out))
 out_fault (LongConfiguration file) a b k more = absurd (omega (arith, k.out))
 out_fault (BadConfiguration file fault) a b k more = absurd (omega (arith, k.out))
@@ -143,6 +156,8 @@ files_fault (BadLines its_word fault) a b k more = absurd (omega (arith, k.files
 files_fault (BadStates word) a b k more = absurd (omega (arith, k.files))
 files_fault NoInput a b k more = absurd (omega (arith, k.files))
 files_fault ManyFiles a b k more = absurd (omega (arith, k.files))
+files_fault (BadGenerate word) a b k more = absurd (omega (arith, k.files))
+files_fault GenerateBeside a b k more = absurd (omega (arith, k.files))
 files_fault (UnknownStyle unknown) a b k more = absurd (omega (arith, k.files))
 files_fault (LongConfiguration file) a b k more = absurd (omega (arith, k.files))
 files_fault (BadConfiguration file fault) a b k more = absurd (omega (arith, k.files))
@@ -162,6 +177,8 @@ notes_fault (BadLines its_word fault) a b k more = absurd (omega (arith, k.notes
 notes_fault (BadStates word) a b k more = absurd (omega (arith, k.notes))
 notes_fault NoInput a b k more = absurd (omega (arith, k.notes))
 notes_fault ManyFiles a b k more = absurd (omega (arith, k.notes))
+notes_fault (BadGenerate word) a b k more = absurd (omega (arith, k.notes))
+notes_fault GenerateBeside a b k more = absurd (omega (arith, k.notes))
 notes_fault (UnknownStyle unknown) a b k more = absurd (omega (arith, k.notes))
 notes_fault (LongConfiguration file) a b k more = absurd (omega (arith, k.notes))
 notes_fault (BadConfiguration file fault) a b k more = absurd (omega (arith, k.notes))
@@ -181,6 +198,8 @@ missing (BadLines its_word fault) a b is k = absurd (cc)
 missing (BadStates word) a b is k = absurd (cc)
 missing NoInput a b is k = absurd (cc)
 missing ManyFiles a b is k = absurd (cc)
+missing (BadGenerate word) a b is k = absurd (cc)
+missing GenerateBeside a b is k = absurd (cc)
 missing (UnknownStyle unknown) a b is k = absurd (cc)
 missing (LongConfiguration file) a b is k = absurd (cc)
 missing (BadConfiguration file fault) a b is k = absurd (cc)
@@ -200,6 +219,8 @@ misses (BadLines its_word fault) a b k more = absurd (omega (arith, k.misses))
 misses (BadStates word) a b k more = absurd (omega (arith, k.misses))
 misses NoInput a b k more = absurd (omega (arith, k.misses))
 misses ManyFiles a b k more = absurd (omega (arith, k.misses))
+misses (BadGenerate word) a b k more = absurd (omega (arith, k.misses))
+misses GenerateBeside a b k more = absurd (omega (arith, k.misses))
 misses (UnknownStyle unknown) a b k more = absurd (omega (arith, k.misses))
 misses (LongConfiguration file) a b k more = absurd (omega (arith, k.misses))
 misses (BadConfiguration file fault) a b k more = absurd (omega (arith, k.misses))
@@ -221,6 +242,8 @@ OfInputs (BadLines its_word fault) = ⊥
 OfInputs (BadStates word) = ⊥
 OfInputs NoInput = ⊥
 OfInputs ManyFiles = ⊥
+OfInputs (BadGenerate word) = ⊥
+OfInputs GenerateBeside = ⊥
 OfInputs (UnknownStyle unknown) = ⊥
 OfInputs (LongConfiguration file) = ⊥
 OfInputs (BadConfiguration file fault) = ⊥
@@ -232,6 +255,8 @@ cause_of_inputs h name (BadLines its_word fault) k = absurd k
 cause_of_inputs h name (BadStates word) k = absurd k
 cause_of_inputs h name NoInput k = absurd k
 cause_of_inputs h name ManyFiles k = absurd k
+cause_of_inputs h name (BadGenerate word) k = absurd k
+cause_of_inputs h name GenerateBeside k = absurd k
 cause_of_inputs h name (UnknownStyle unknown) k = absurd k
 cause_of_inputs h name (LongConfiguration file) k = absurd k
 cause_of_inputs h name (BadConfiguration file fault) k = absurd k
@@ -250,6 +275,8 @@ put_of_inputs Output name b c rows before now (BadLines its_word fault) k = absu
 put_of_inputs Output name b c rows before now (BadStates word) k = absurd k
 put_of_inputs Output name b c rows before now NoInput k = absurd k
 put_of_inputs Output name b c rows before now ManyFiles k = absurd k
+put_of_inputs Output name b c rows before now (BadGenerate word) k = absurd k
+put_of_inputs Output name b c rows before now GenerateBeside k = absurd k
 put_of_inputs Output name b c rows before now (UnknownStyle unknown) k = absurd k
 put_of_inputs Output name b c rows before now (LongConfiguration file) k = absurd k
 put_of_inputs Output name b c rows before now (BadConfiguration file fault) k = absurd k
@@ -266,6 +293,8 @@ put_of_inputs Itself name b c rows before now (BadLines its_word fault) k = absu
 put_of_inputs Itself name b c rows before now (BadStates word) k = absurd k
 put_of_inputs Itself name b c rows before now NoInput k = absurd k
 put_of_inputs Itself name b c rows before now ManyFiles k = absurd k
+put_of_inputs Itself name b c rows before now (BadGenerate word) k = absurd k
+put_of_inputs Itself name b c rows before now GenerateBeside k = absurd k
 put_of_inputs Itself name b c rows before now (UnknownStyle unknown) k = absurd k
 put_of_inputs Itself name b c rows before now (LongConfiguration file) k = absurd k
 put_of_inputs Itself name b c rows before now (BadConfiguration file fault) k = absurd k
@@ -282,6 +311,8 @@ put_of_inputs Nowhere name b c rows before now (BadLines its_word fault) k = abs
 put_of_inputs Nowhere name b c rows before now (BadStates word) k = absurd k
 put_of_inputs Nowhere name b c rows before now NoInput k = absurd k
 put_of_inputs Nowhere name b c rows before now ManyFiles k = absurd k
+put_of_inputs Nowhere name b c rows before now (BadGenerate word) k = absurd k
+put_of_inputs Nowhere name b c rows before now GenerateBeside k = absurd k
 put_of_inputs Nowhere name b c rows before now (UnknownStyle unknown) k = absurd k
 put_of_inputs Nowhere name b c rows before now (LongConfiguration file) k = absurd k
 put_of_inputs Nowhere name b c rows before now (BadConfiguration file fault) k = absurd k
@@ -300,6 +331,8 @@ source_of_inputs options place input old new told now (BadLines its_word fault) 
 source_of_inputs options place input old new told now (BadStates word) k = absurd k.1
 source_of_inputs options place input old new told now NoInput k = absurd k.1
 source_of_inputs options place input old new told now ManyFiles k = absurd k.1
+source_of_inputs options place input old new told now (BadGenerate word) k = absurd k.1
+source_of_inputs options place input old new told now GenerateBeside k = absurd k.1
 source_of_inputs options place input old new told now (UnknownStyle unknown) k = absurd k.1
 source_of_inputs options place input old new told now (LongConfiguration file) k = absurd k.1
 source_of_inputs options place input old new told now (BadConfiguration file fault) k = absurd k.1
@@ -321,10 +354,36 @@ files_of_inputs options place [] before now refusal k = absurd k
 files_of_inputs options place (name ∷ names) before now refusal (inl k) = file_of_inputs options place name before now refusal k
 files_of_inputs options place (name ∷ names) before now refusal (inr k) = files_of_inputs options place names k.0 now refusal k.2
 
+-- a text is refused for a cause of its own
+text_of_inputs : (name text : List ℕ) (refusal : Refusal) → IsTextCause name text refusal → OfInputs refusal
+text_of_inputs name text BadWords k = absurd k
+text_of_inputs name text (BadLines its_word fault) k = absurd k
+text_of_inputs name text (BadStates word) k = absurd k
+text_of_inputs name text NoInput k = absurd k
+text_of_inputs name text ManyFiles k = absurd k
+text_of_inputs name text (BadGenerate word) k = absurd k
+text_of_inputs name text GenerateBeside k = absurd k
+text_of_inputs name text (UnknownStyle unknown) k = absurd k
+text_of_inputs name text (LongConfiguration file) k = absurd k
+text_of_inputs name text (BadConfiguration file fault) k = absurd k
+text_of_inputs name text (TooLarge its_name) k = tt
+text_of_inputs name text (OpenComment its_name at) k = tt
+text_of_inputs name text SourceFailed k = absurd k
+text_of_inputs name text (FileFailed file) k = absurd k
+text_of_inputs name text OutFailed k = absurd k
+text_of_inputs name text NotesFailed k = absurd k
+text_of_inputs name text (Missing file) k = absurd k
+text_of_inputs name text NoMemory k = tt
+
+generated_of_inputs : (options : Options) (text : List ℕ) (told now : Option (List ℕ)) (refusal : Refusal) → IsGeneratedRefused options text told now refusal → OfInputs refusal
+generated_of_inputs options text told now refusal (inl k) = text_of_inputs _ text refusal k.1
+generated_of_inputs options text told now refusal (inr k) = subst OfInputs (sym k.0) tt
+
 of_inputs : (said : Words) (style : Style) (before now : World) (refusal : Refusal) → IsNotPerformed said style before now refusal → OfInputs refusal
 of_inputs said style before now refusal (inl k) = subst OfInputs (sym k.1.cause) tt
 of_inputs said style before now refusal (inr (inl k)) = source_of_inputs (options_of said style) _ before.left before.ends.taken now.ends.taken before.ends.told now.ends.told refusal k.2.refused
-of_inputs said style before now refusal (inr (inr k)) = files_of_inputs (options_of said style) _ _ before.ends now.ends refusal k.1.refused
+of_inputs said style before now refusal (inr (inr (inl k))) = files_of_inputs (options_of said style) _ _ before.ends now.ends refusal k.1.refused
+of_inputs said style before now refusal (inr (inr (inr k))) = generated_of_inputs (options_of said style) (text_of k.1.generate) before.ends.told now.ends.told refusal k.1.refused
 
 -- status 2 comes for the words
 pub bad_words : (words : List (List ℕ)) (before now : World) (refusal : Refusal) → status_of refusal ≡ 2 →
@@ -335,15 +394,21 @@ bad_words words before now BadWords is (inr (inr k)) = absurd (of_inputs k.said 
 bad_words words before now (BadLines its_word fault) is (inl k) = inr (inl (k.cause.0, (its_word.now, fault, k.cause.1)))
 bad_words words before now (BadStates word) is (inl k) = inr (inr (inl (k.cause.0, k.cause.1, (word.now, k.cause.2))))
 bad_words words before now NoInput is (inl k) = inr (inr (inr (inl k.cause)))
-bad_words words before now ManyFiles is (inl k) = inr (inr (inr (inr k.cause)))
+bad_words words before now ManyFiles is (inl k) = inr (inr (inr (inr (inl k.cause))))
+bad_words words before now (BadGenerate word) is (inl k) = inr (inr (inr (inr (inr (inl (k.cause.0, k.cause.1, (word.now, k.cause.2)))))))
+bad_words words before now GenerateBeside is (inl k) = inr (inr (inr (inr (inr (inr k.cause)))))
 bad_words words before now (BadLines its_word fault) is (inr (inl k)) = absurd k.refused.1
 bad_words words before now (BadStates word) is (inr (inl k)) = absurd k.refused.1
 bad_words words before now NoInput is (inr (inl k)) = absurd k.refused.1
 bad_words words before now ManyFiles is (inr (inl k)) = absurd k.refused.1
+bad_words words before now (BadGenerate word) is (inr (inl k)) = absurd k.refused.1
+bad_words words before now GenerateBeside is (inr (inl k)) = absurd k.refused.1
 bad_words words before now (BadLines its_word fault) is (inr (inr k)) = absurd (of_inputs k.said k.style k.begun now (BadLines its_word fault) k.refused)
 bad_words words before now (BadStates word) is (inr (inr k)) = absurd (of_inputs k.said k.style k.begun now (BadStates word) k.refused)
 bad_words words before now NoInput is (inr (inr k)) = absurd (of_inputs k.said k.style k.begun now NoInput k.refused)
 bad_words words before now ManyFiles is (inr (inr k)) = absurd (of_inputs k.said k.style k.begun now ManyFiles k.refused)
+bad_words words before now (BadGenerate word) is (inr (inr k)) = absurd (of_inputs k.said k.style k.begun now (BadGenerate word) k.refused)
+bad_words words before now GenerateBeside is (inr (inr k)) = absurd (of_inputs k.said k.style k.begun now GenerateBeside k.refused)
 bad_words words before now (UnknownStyle unknown) is k = absurd (cc)
 bad_words words before now (LongConfiguration file) is k = absurd (cc)
 bad_words words before now (BadConfiguration file fault) is k = absurd (cc)
@@ -371,7 +436,9 @@ not_read words said (inl bad) reads = bad reads.0
 not_read words said (inr (inl bad)) reads = no_lines words bad.1.0 bad.1.1 said bad.1.2 reads.2
 not_read words said (inr (inr (inl bad))) reads = no_budget words bad.2.0 said bad.2.1 reads.2
 not_read words said (inr (inr (inr (inl bad)))) reads = reads.1 bad.3
-not_read words said (inr (inr (inr (inr bad)))) reads = reads.3 bad.3
+not_read words said (inr (inr (inr (inr (inl bad))))) reads = reads.3 bad.3
+not_read words said (inr (inr (inr (inr (inr (inl bad)))))) reads = reads.4.in_form bad.2.0 bad.2.1
+not_read words said (inr (inr (inr (inr (inr (inr bad)))))) reads = reads.4.alone bad.3
 
 -- bad words give status 2, or memory ran out
 pub form : (words : List (List ℕ)) (before now : World) (refusal : Refusal) → AreBadWords words →
@@ -384,6 +451,8 @@ form words before now refusal bad (inl k) = of_words refusal k.cause
     of_words (BadStates word) k = inl refl
     of_words NoInput k = inl refl
     of_words ManyFiles k = inl refl
+    of_words (BadGenerate word) k = inl refl
+    of_words GenerateBeside k = inl refl
     of_words (UnknownStyle unknown) k = absurd k
     of_words (LongConfiguration file) k = absurd k
     of_words (BadConfiguration file fault) k = absurd k
@@ -406,6 +475,8 @@ no_style words before now (BadLines its_word fault) is k = absurd (cc)
 no_style words before now (BadStates word) is k = absurd (cc)
 no_style words before now NoInput is k = absurd (cc)
 no_style words before now ManyFiles is k = absurd (cc)
+no_style words before now (BadGenerate word) is k = absurd (cc)
+no_style words before now GenerateBeside is k = absurd (cc)
 no_style words before now (UnknownStyle unknown) is (inl k) = absurd k.cause
 no_style words before now (UnknownStyle unknown) is (inr (inl k)) = record { said = k.said; reads = k.reads; refusal = (UnknownStyle unknown); is_its = refl; cause = k.refused.1 }
 no_style words before now (UnknownStyle unknown) is (inr (inr k)) = absurd (of_inputs k.said k.style k.begun now (UnknownStyle unknown) k.refused)

@@ -12,7 +12,7 @@ use Rattle.style_config.specs.Reading.{Effect, Reads, reading}
 use Rattle.command_words.specs.declared.read.StyleChoice.{StyleChoice}
 use Rattle.command_words.specs.declared.read.StyleChoice.TheVariants.{File as DefaultFile, FileAt, Named}
 use Rattle.format_cli.specs.declared.refusal.Refusal.{Refusal}
-use Rattle.format_cli.specs.declared.refusal.Refusal.TheVariants.{BadWords, BadLines, BadStates, NoInput, ManyFiles, UnknownStyle, LongConfiguration, BadConfiguration, TooLarge, OpenComment, SourceFailed, FileFailed, OutFailed, NotesFailed, Missing, NoMemory}
+use Rattle.format_cli.specs.declared.refusal.Refusal.TheVariants.{BadWords, BadLines, BadStates, NoInput, ManyFiles, BadGenerate, GenerateBeside, UnknownStyle, LongConfiguration, BadConfiguration, TooLarge, OpenComment, SourceFailed, FileFailed, OutFailed, NotesFailed, Missing, NoMemory}
 use Rattle.format_cli.specs.InForce.{Configures, IsAtFault, IsBase, IsInForce, IsStyleRefused, configuration_of, default_file}
 use Rattle.format_cli.specs.Notes.{status_of}
 use Rattle.format_cli.specs.Order.{HasStyle, IsBadConfiguration, IsThere, StyleStops, Tells}
@@ -90,6 +90,8 @@ style_ends choice held old new (BadLines its_word fault) status k s = absurd k.1
 style_ends choice held old new (BadStates word) status k s = absurd k.1
 style_ends choice held old new NoInput status k s = absurd k.1
 style_ends choice held old new ManyFiles status k s = absurd k.1
+style_ends choice held old new (BadGenerate word) status k s = absurd k.1
+style_ends choice held old new GenerateBeside status k s = absurd k.1
 style_ends choice held old new (UnknownStyle unknown) status k s =
     inl (sym (subst (λ (c : StyleChoice). StyleStops c held status) k.1.0 s).1)
 style_ends choice held old new (LongConfiguration file) status k s =
@@ -139,6 +141,8 @@ style_fails choice held old new (BadLines its_word fault) k h = absurd k.1
 style_fails choice held old new (BadStates word) k h = absurd k.1
 style_fails choice held old new NoInput k h = absurd k.1
 style_fails choice held old new ManyFiles k h = absurd k.1
+style_fails choice held old new (BadGenerate word) k h = absurd k.1
+style_fails choice held old new GenerateBeside k h = absurd k.1
 style_fails choice held old new (UnknownStyle unknown) k h = absurd (subst (λ (c : StyleChoice). HasStyle c held) k.1.0 h k.1.1)
 style_fails choice held old new (LongConfiguration file) k h =
     absurd (not_refused choice held file.now (λ b. IsSomeAnd b (λ bytes. LIMIT < length bytes)) k.1.0 k.1.1 (λ never. never) (λ text long. inl long) h)

@@ -10,8 +10,9 @@ use Rattle.format_cli.specs.declared.input.Options.{Options}
 use Rattle.format_cli.specs.declared.input.Place.{Place}
 use Rattle.format_cli.specs.declared.input.Place.TheVariants.{Output, Itself, Nowhere}
 use Rattle.format_cli.specs.declared.refusal.Refusal.{Refusal}
-use Rattle.format_cli.specs.declared.refusal.Refusal.TheVariants.{BadWords, BadLines, BadStates, NoInput, ManyFiles, UnknownStyle, LongConfiguration, BadConfiguration, TooLarge, OpenComment, SourceFailed, FileFailed, OutFailed, NotesFailed, Missing, NoMemory}
+use Rattle.format_cli.specs.declared.refusal.Refusal.TheVariants.{BadWords, BadLines, BadStates, NoInput, ManyFiles, BadGenerate, GenerateBeside, UnknownStyle, LongConfiguration, BadConfiguration, TooLarge, OpenComment, SourceFailed, FileFailed, OutFailed, NotesFailed, Missing, NoMemory}
 use Rattle.format_cli.specs.Account.{IsNotPerformed, IsPerformed, World, files_of, options_of, place_of}
+use Rattle.format_cli.specs.Generated.{IsGeneratedRefused, text_of}
 use Rattle.format_cli.specs.Inputs.{AreDone, AreRefused, Ends, IsSourceRefused, PutFails, rows_told}
 use Rattle.format_cli.proofs.Ends.{takes_nothing}
 
@@ -34,6 +35,8 @@ put_takes Output name b c rows before now (BadLines its_word fault) k = absurd k
 put_takes Output name b c rows before now (BadStates word) k = absurd k
 put_takes Output name b c rows before now NoInput k = absurd k
 put_takes Output name b c rows before now ManyFiles k = absurd k
+put_takes Output name b c rows before now (BadGenerate word) k = absurd k
+put_takes Output name b c rows before now GenerateBeside k = absurd k
 put_takes Output name b c rows before now (UnknownStyle unknown) k = absurd k
 put_takes Output name b c rows before now (LongConfiguration file) k = absurd k
 put_takes Output name b c rows before now (BadConfiguration file fault) k = absurd k
@@ -50,6 +53,8 @@ put_takes Itself name b c rows before now (BadLines its_word fault) k = absurd k
 put_takes Itself name b c rows before now (BadStates word) k = absurd k
 put_takes Itself name b c rows before now NoInput k = absurd k
 put_takes Itself name b c rows before now ManyFiles k = absurd k
+put_takes Itself name b c rows before now (BadGenerate word) k = absurd k
+put_takes Itself name b c rows before now GenerateBeside k = absurd k
 put_takes Itself name b c rows before now (UnknownStyle unknown) k = absurd k
 put_takes Itself name b c rows before now (LongConfiguration file) k = absurd k
 put_takes Itself name b c rows before now (BadConfiguration file fault) k = absurd k
@@ -66,6 +71,8 @@ put_takes Nowhere name b c rows before now (BadLines its_word fault) k = absurd 
 put_takes Nowhere name b c rows before now (BadStates word) k = absurd k
 put_takes Nowhere name b c rows before now NoInput k = absurd k
 put_takes Nowhere name b c rows before now ManyFiles k = absurd k
+put_takes Nowhere name b c rows before now (BadGenerate word) k = absurd k
+put_takes Nowhere name b c rows before now GenerateBeside k = absurd k
 put_takes Nowhere name b c rows before now (UnknownStyle unknown) k = absurd k
 put_takes Nowhere name b c rows before now (LongConfiguration file) k = absurd k
 put_takes Nowhere name b c rows before now (BadConfiguration file fault) k = absurd k
@@ -84,6 +91,8 @@ source_takes options place input old new told now (BadLines its_word fault) k = 
 source_takes options place input old new told now (BadStates word) k = none_taken told now k.2
 source_takes options place input old new told now NoInput k = none_taken told now k.2
 source_takes options place input old new told now ManyFiles k = none_taken told now k.2
+source_takes options place input old new told now (BadGenerate word) k = none_taken told now k.2
+source_takes options place input old new told now GenerateBeside k = none_taken told now k.2
 source_takes options place input old new told now (UnknownStyle unknown) k = none_taken told now k.2
 source_takes options place input old new told now (LongConfiguration file) k = none_taken told now k.2
 source_takes options place input old new told now (BadConfiguration file fault) k = none_taken told now k.2
@@ -111,12 +120,18 @@ refused_take options place (name ∷ names) before now refusal (inr k) =
 pub performed_takes : (said : Words) (style : Style) (before now : World) → IsPerformed said style before now → TakesRows before.ends.told now.ends.told
 performed_takes said style before now (inl p) = none_taken before.ends.told now.ends.told p.1.told
 performed_takes said style before now (inr (inl p)) = (_, p.2.done.5)
-performed_takes said style before now (inr (inr p)) = files_take (options_of said style) (place_of said.dry_run said.in_place) (files_of said) before.ends now.ends p.1.done
+performed_takes said style before now (inr (inr (inr p))) = (_, p.1.done.2)
+performed_takes said style before now (inr (inr (inl p))) = files_take (options_of said style) (place_of said.dry_run said.in_place) (files_of said) before.ends now.ends p.1.done
+
+made_takes : (options : Options) (text : List ℕ) (told now : Option (List ℕ)) (refusal : Refusal) → IsGeneratedRefused options text told now refusal → TakesRows told now
+made_takes options text told now refusal (inl k) = none_taken told now k.0
+made_takes options text told now refusal (inr k) = front_taken told now _ k.1.2
 
 -- also where one of the inputs is refused
 pub not_performed_takes : (said : Words) (style : Style) (before now : World) (refusal : Refusal) → IsNotPerformed said style before now refusal → TakesRows before.ends.told now.ends.told
 not_performed_takes said style before now refusal (inl p) = none_taken before.ends.told now.ends.told p.1.told
 not_performed_takes said style before now refusal (inr (inl p)) =
     source_takes (options_of said style) (place_of said.dry_run said.in_place) before.left before.ends.taken now.ends.taken before.ends.told now.ends.told refusal p.2.refused
-not_performed_takes said style before now refusal (inr (inr p)) =
+not_performed_takes said style before now refusal (inr (inr (inr p))) = made_takes (options_of said style) (text_of p.1.generate) before.ends.told now.ends.told refusal p.1.refused
+not_performed_takes said style before now refusal (inr (inr (inl p))) =
     refused_take (options_of said style) (place_of said.dry_run said.in_place) (files_of said) before.ends now.ends refusal p.1.refused

@@ -1,11 +1,12 @@
 -- What a call did, from the words to its last input.
-use Rattle.std.specs.Prelude.{◌≡◌, ◌≢◌, ◌⊎◌, ◌↔◌, ℕ, Bool, true, false, List, [], Option, Ok, Err, IsTrue, IsFalse, ◌&&◌, if◌then◌else◌, map}
+use Rattle.std.specs.Prelude.{◌≡◌, ◌≢◌, ◌⊎◌, ◌↔◌, ℕ, Bool, true, false, List, [], Option, Some, None, Ok, Err, IsTrue, IsFalse, ◌&&◌, if◌then◌else◌, map}
 use Rattle.std.proofs.Common.{inl, inr}
 use Rattle.std.specs.Io.KnownBytes.{Appends, Keeps}
 use Rattle.fmt_ports.specs.Causes.{AppendsPart, Rose}
 use Rattle.fmt_ports.specs.Files.{Held, KeepsAll}
 use Rattle.style_table.specs.declared.style.Style.{Style}
 use Rattle.style_table.specs.Dump.{dump_text}
+use Rattle.command_words.specs.declared.pieces.Generate.{Generate}
 use Rattle.command_words.specs.declared.read.Words.{Words}
 use Rattle.command_words.specs.declared.fault.WordsFault.TheVariants as Fault
 use Rattle.command_words.specs.Said.{Reads}
@@ -15,7 +16,8 @@ use Rattle.format_cli.specs.declared.input.Options.{Options}
 use Rattle.format_cli.specs.declared.input.Place.{Place}
 use Rattle.format_cli.specs.declared.input.Place.TheVariants.{Output, Itself, Nowhere}
 use Rattle.format_cli.specs.declared.refusal.Refusal.{Refusal}
-use Rattle.format_cli.specs.declared.refusal.Refusal.TheVariants.{BadWords, BadLines, BadStates, NoInput, ManyFiles, OutFailed, NoMemory}
+use Rattle.format_cli.specs.declared.refusal.Refusal.TheVariants.{BadWords, BadLines, BadStates, NoInput, ManyFiles, BadGenerate, GenerateBeside, OutFailed, NoMemory}
+use Rattle.format_cli.specs.Generated.{IsGeneratedDone, IsGeneratedRefused, text_of}
 use Rattle.format_cli.specs.InForce.{IsInForce, IsStyleRefused}
 use Rattle.format_cli.specs.Inputs.{Ends, ends, IsSourceDone, IsSourceRefused, AreDone, AreRefused, SomeChanges}
 use Rattle.format_cli.specs.Notes.{row_of, status_of}
@@ -60,19 +62,30 @@ pub record AreFilesWritten (said : Words) (style : Style) (before now : World) :
   pub done : AreDone (options_of said style) (place_of said.dry_run said.in_place) (files_of said) before.ends now.ends
   pub left : now.left ≡ before.left
 
--- What the words ask for was done: the style was dumped, or else every input was done.
+-- the text that `--generate` makes was done, and nothing but its rows was written; standard input wasn't read
+pub record IsGeneratedTold (said : Words) (style : Style) (before now : World) : Type 0 where
+  pub generate : Generate
+  pub given : said.generate ≡ Some generate
+  pub done : IsGeneratedDone (options_of said style) (text_of generate) before.ends.told now.ends.told
+  pub taken : Keeps before.ends.taken now.ends.taken
+  pub held : KeepsAll before.ends.held now.ends.held
+  pub left : now.left ≡ before.left
+
+-- What the words ask for was done: the style was dumped, or else every input was done, or the one that `--generate` makes.
 abbrev pub IsPerformed : Words → Style → World → World → Type 0
 IsPerformed said style before now =
     (IsTrue said.dump_config × IsDumped style before now)
-    ⊎ (IsFalse said.dump_config × (files_of said ≡ []) × IsSourceWritten (options_of said style) (place_of said.dry_run said.in_place) before now)
+    ⊎ (IsFalse said.dump_config × (files_of said ≡ []) × IsSourceWritten (options_of said style) (place_of said.dry_run said.in_place) before now × (said.generate ≡ None))
     ⊎ (IsFalse said.dump_config × AreFilesWritten said style before now)
+    ⊎ (IsFalse said.dump_config × IsGeneratedTold said style before now)
 
 -- what the words ask for was done, and the text of some input changes
 abbrev pub TextChanges : (said : Words) (style : Style) (before now : World) → IsPerformed said style before now → Type 0
 TextChanges said style before now (inl dumped) = ⊥
 TextChanges said style before now (inr (inl source)) = source.2.done.1 ≢ source.2.done.0
-TextChanges said style before now (inr (inr files)) =
+TextChanges said style before now (inr (inr (inl files))) =
     SomeChanges (options_of said style) (place_of said.dry_run said.in_place) (files_of said) before.ends now.ends files.1.done
+TextChanges said style before now (inr (inr (inr made))) = made.1.done.0 ≢ text_of made.1.generate
 
 -- what the words ask for was done, and this tells whether some text changes
 abbrev pub IsPerformedWith : Words → Style → World → World → (changes : Bool) → Type 0
@@ -97,12 +110,23 @@ pub record AreFilesNotWritten (said : Words) (style : Style) (before now : World
   pub refused : AreRefused (options_of said style) (place_of said.dry_run said.in_place) (files_of said) before.ends now.ends refusal
   pub left : now.left ≡ before.left
 
+-- the text that `--generate` makes was refused, nothing but rows was written, and standard input wasn't read
+pub record IsGeneratedNotTold (said : Words) (style : Style) (before now : World) (refusal : Refusal) : Type 0 where
+  pub generate : Generate
+  pub given : said.generate ≡ Some generate
+  pub refused : IsGeneratedRefused (options_of said style) (text_of generate) before.ends.told now.ends.told refusal
+  pub taken : Keeps before.ends.taken now.ends.taken
+  pub held : KeepsAll before.ends.held now.ends.held
+  pub left : now.left ≡ before.left
+
 -- what the words ask for ended in this refusal
 abbrev pub IsNotPerformed : Words → Style → World → World → Refusal → Type 0
 IsNotPerformed said style before now refusal =
     (IsTrue said.dump_config × IsDumpRefused style before now refusal)
-    ⊎ (IsFalse said.dump_config × (files_of said ≡ []) × IsSourceNotWritten (options_of said style) (place_of said.dry_run said.in_place) before now refusal)
+    ⊎ (IsFalse said.dump_config × (files_of said ≡ []) × IsSourceNotWritten (options_of said style) (place_of said.dry_run said.in_place) before now refusal
+    × (said.generate ≡ None))
     ⊎ (IsFalse said.dump_config × AreFilesNotWritten said style before now refusal)
+    ⊎ (IsFalse said.dump_config × IsGeneratedNotTold said style before now refusal)
 
 -- ---- a whole call
 
@@ -119,6 +143,8 @@ AreWordsRefused words (BadLines word fault) = Reads words (Err (Fault.BadLines w
 AreWordsRefused words (BadStates word) = Reads words (Err (Fault.BadStates word))
 AreWordsRefused words NoInput = Reads words (Err Fault.NoInput)
 AreWordsRefused words ManyFiles = Reads words (Err Fault.ManyFiles)
+AreWordsRefused words (BadGenerate word) = Reads words (Err (Fault.BadGenerate word))
+AreWordsRefused words GenerateBeside = Reads words (Err Fault.GenerateBeside)
 AreWordsRefused words NoMemory = Reads words (Err Fault.NoMemory)
 AreWordsRefused words refusal = ⊥
 

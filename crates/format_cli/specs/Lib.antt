@@ -2,6 +2,7 @@ pub mod Notes
 pub mod Counts
 pub mod InForce
 pub mod Inputs
+pub mod Generated
 pub mod Account
 pub mod Statuses
 pub mod Order

@@ -11,7 +11,7 @@ use Rattle.run_layout.specs.declared.report.Report.{Report}
 use Rattle.format_cli.specs.declared.input.Place.{Place}
 use Rattle.format_cli.specs.declared.input.Place.TheVariants.{Output, Itself, Nowhere}
 use Rattle.format_cli.specs.declared.refusal.Refusal.{Refusal}
-use Rattle.format_cli.specs.declared.refusal.Refusal.TheVariants.{BadWords, BadLines, BadStates, NoInput, ManyFiles, UnknownStyle, LongConfiguration, BadConfiguration, TooLarge, OpenComment, SourceFailed, FileFailed, OutFailed, NotesFailed, Missing, NoMemory}
+use Rattle.format_cli.specs.declared.refusal.Refusal.TheVariants.{BadWords, BadLines, BadStates, NoInput, ManyFiles, BadGenerate, GenerateBeside, UnknownStyle, LongConfiguration, BadConfiguration, TooLarge, OpenComment, SourceFailed, FileFailed, OutFailed, NotesFailed, Missing, NoMemory}
 
 -- a row with a number in it
 abbrev pub numbered_row : (name before : List ℕ) → ℕ → (end : List ℕ) → List ℕ
@@ -37,11 +37,13 @@ range_row Range.NoMemory = codes ": no memory\n"
 
 -- The row of a refusal, with the new-line that ends it. Notes that have failed take none.
 abbrev pub row_of : Refusal → List ℕ
-row_of BadWords = codes "usage: clang_format [--style S] [--lines L] [--states N] [-i] [--dry-run] [--Werror] [--dump-config] [FILE ..]" ++ codes "\n"
+row_of BadWords = codes "usage: clang_format [--style S] [--lines L] [--states N] [-i] [--dry-run] [--Werror] [--dump-config] [--generate N:COUNT] [FILE ..]" ++ codes "\n"
 row_of (BadLines word fault) = codes "clang_format: --lines " ++ word.now ++ range_row fault
 row_of (BadStates word) = codes "clang_format: --states " ++ word.now ++ codes ": not 1 to 16000000\n"
 row_of NoInput = codes "clang_format: -i needs a file\n"
 row_of ManyFiles = codes "clang_format: --lines takes one file\n"
+row_of (BadGenerate word) = codes "clang_format: --generate " ++ word.now ++ codes ": not N:COUNT\n"
+row_of GenerateBeside = codes "clang_format: --generate takes no file, -i or --dump-config\n"
 row_of (UnknownStyle name) = codes "clang_format: style " ++ name.now ++ codes ": unknown name\n"
 row_of (LongConfiguration file) = file.now ++ codes ": more than 1048576 bytes\n"
 row_of (BadConfiguration file fault) = fault_row file.now fault
@@ -61,6 +63,8 @@ status_of (BadLines word fault) = 2
 status_of (BadStates word) = 2
 status_of NoInput = 2
 status_of ManyFiles = 2
+status_of (BadGenerate word) = 2
+status_of GenerateBeside = 2
 status_of (UnknownStyle name) = 3
 status_of (LongConfiguration file) = 3
 status_of (BadConfiguration file fault) = 3

@@ -9,11 +9,13 @@ use Rattle.style_table.specs.declared.style.Style.{Style}
 use Rattle.style_table.specs.Named.{named}
 use Rattle.style_config.specs.declared.TheConstants.{LIMIT as CONFIGURATION_LIMIT}
 use Rattle.style_config.specs.declared.fault.ConfigFault.{ConfigFault}
+use Rattle.command_words.specs.declared.pieces.Generate.{Generate}
 use Rattle.command_words.specs.declared.read.Words.{Words}
 use Rattle.command_words.specs.declared.read.StyleChoice.{StyleChoice}
 use Rattle.command_words.specs.declared.read.StyleChoice.TheVariants.{File as DefaultFile, FileAt, Named}
 use Rattle.command_words.specs.Said.{Reads}
 use Rattle.format_cli.specs.Account.{files_of}
+use Rattle.format_cli.specs.Generated.{text_of}
 use Rattle.format_cli.specs.InForce.{IsAtFault, IsInForce, default_file}
 use Rattle.format_cli.specs.Statuses.{IsOneOf}
 
@@ -67,8 +69,9 @@ AreDifferent (name ∷ names) = (¬ IsOneOf name names) × AreDifferent names
 -- The first input that is refused is refused with this status. With `-i`, but in a dry run, this is told of FILEs that are named once.
 abbrev pub InputsStop : Words → Option (List ℕ) → Held → ℕ → Type 0
 InputsStop said left held status =
-    ((files_of said ≡ []) × IsThere IsBadText left × (status ≡ 4))
+    ((files_of said ≡ []) × IsThere IsBadText left × (status ≡ 4) × (said.generate ≡ None))
     ⊎ (FilesStop held (files_of said) status × (IsTrue said.in_place → IsFalse said.dry_run → AreDifferent (files_of said)))
+    ⊎ ((generate : Generate) × (said.generate ≡ Some generate) × IsBadText (text_of generate) × (status ≡ 4))
 
 -- ---- a whole call
 

@@ -11,7 +11,7 @@ ghost use Rattle.format_cli.specs.Statuses.{AreBadWords, AsksWhetherChanged, Has
 ghost use Rattle.format_cli.specs.Order.{LacksRows, StopsWith};
 
 use crate::in_force::style_in_force;
-use crate::input::{Options, Place, format_files, format_source};
+use crate::input::{Options, Place, format_files, format_generated, format_source};
 use crate::refusal::{Refusal, status_of, tell};
 use command_words::{Words, WordsFault, read_words};
 use fmt_ports::{Failed, Files, Sink, Source};
@@ -67,6 +67,9 @@ fn perform<'w, S: Source, K: Sink, E: Sink, F: Files>(
         ranges: said.lines,
         budget: said.budget,
     };
+    if let Some(generate) = said.generate {
+        return format_generated(alloc, &options, generate, notes);
+    }
     let place = place_of(said.dry_run, said.in_place);
     if said.files.is_empty() {
         return format_source(alloc, &options, place, source, out, notes);
@@ -115,6 +118,8 @@ fn run<'w, S: Source, K: Sink, E: Sink, F: Files>(
         Err(WordsFault::BadStates(word)) => return Err(Refusal::BadStates(word)),
         Err(WordsFault::NoInput) => return Err(Refusal::NoInput),
         Err(WordsFault::ManyFiles) => return Err(Refusal::ManyFiles),
+        Err(WordsFault::BadGenerate(word)) => return Err(Refusal::BadGenerate(word)),
+        Err(WordsFault::GenerateBeside) => return Err(Refusal::GenerateBeside),
         Err(WordsFault::NoMemory) => return Err(Refusal::NoMemory),
     };
     let style = style_in_force(alloc, said.style, notes, files)?;
@@ -126,10 +131,11 @@ fn run<'w, S: Source, K: Sink, E: Sink, F: Files>(
 /// Formats the inputs that the words name, in the style that they choose, and answers the exit status.
 ///
 /// Without a FILE the input is `source`; the texts go to `out`, or with `-i` back into their files where they
-/// change, or with `--dry-run` nowhere. `--dump-config` writes the style to `out` and reads no input. The first refusal ends the call, in this
+/// change, or with `--dry-run` nowhere. With `--generate` the input is the text that it makes, and no text is
+/// written. `--dump-config` writes the style to `out` and reads no input. The first refusal ends the call, in this
 /// order: the words, the style, and then each input. Its row is told last in `notes`, behind the rows of the
 /// keys of the configuration that no style has, and those of each input: of the lines that are reported, and with
-/// `--dry-run` its summary, which are told before its text is written.
+/// `--dry-run` or `--generate` its summary, which are told before its text is written.
 ///
 /// 0: all was done. 1: so it was, and a dry run with `--Werror` found a text that would change. 2: the words. 3: the style. 4: an input is past the limit or has a comment without an end.
 /// 5: a port failed. 6: a file isn't there. 7: memory ran out. Inputs before a refusal stay done.
@@ -153,7 +159,9 @@ pub fn format_command<S: Source, K: Sink, E: Sink, F: Files>(
     // 1 only where the words ask for it.
     ensures changed { result ≡ 1 → AsksWhetherChanged (map string_bytes words.now) }
 
-    // 2 exactly where the words aren't of the form, `--states` tells no budget or `-i` lacks its FILE, want of memory aside.
+    // 2 exactly where the words aren't of the form, `--lines`, `--states` or `--generate` isn't in form, `-i` has no FILE
+    // without `--dump-config`, `--lines` has two FILEs or more, or `--generate` is given with a FILE, `-i` or
+    // `--dump-config`, want of memory aside.
     ensures usage { result ≡ 2 → AreBadWords (map string_bytes words.now) }
     ensures form { AreBadWords (map string_bytes words.now) → (result ≡ 2) ⊎ (result ≡ 7) }
 
@@ -176,7 +184,7 @@ pub fn format_command<S: Source, K: Sink, E: Sink, F: Files>(
     // 5 where the notes don't take the rows of all skipped keys, want of memory aside.
     ensures skipped { LacksRows (map string_bytes words.now) (F.holds files.old) (E.taken notes.old) (E.taken notes.new) → (result ≡ 5) ⊎ (result ≡ 7) }
 
-    // With `-i` or `--dry-run` nothing goes to the output; without `-i`, and with `--dry-run`, no file is written. `--dump-config` goes before both.
+    // With `-i`, `--dry-run` or `--generate` nothing goes to the output; without `-i`, and with `--dry-run`, no file is written. `--dump-config` goes before both.
     ensures out_kept { LeavesOutput (map string_bytes words.now) → Keeps (K.taken out.old) (K.taken out.new) }
     ensures files_kept { LeavesFiles (map string_bytes words.now) → KeepsAll (F.holds files.old) (F.holds files.new) }
 

@@ -6,17 +6,20 @@ ghost use Rattle.fmt_ports.specs.Files.{KeepsAll, KeepsOthers};
 ghost use Rattle.c_grammar.specs.Grammar.{is_same};
 ghost use Rattle.style_table.specs.Range.{IsInRange};
 ghost use Rattle.format_cli.specs.Counts.{Counted, Faults};
+ghost use Rattle.format_cli.specs.Generated.{IsGeneratedDoneWith, IsGeneratedRefused, text_of};
 ghost use Rattle.format_cli.specs.InForce.{IsHeld};
 ghost use Rattle.format_cli.specs.Inputs.{AreDoneWith, AreRefused, IsDoneWith, IsFileCause, IsFileRefused, IsFormatted, IsSourceDoneWith, IsSourceRefused, IsTextCause, IsWriteRefused, SourcePutFails, SourcePuts, ends};
 
-use crate::refusal::{Refusal, STANDARD_INPUT};
+use crate::refusal::{GENERATED, Refusal, STANDARD_INPUT};
 use crate::summary::tell_input;
 use bumpalo::Bump;
 use c_chars::{Dialect, LIMIT};
+use command_words::Generate;
 use fmt_ports::{Failed, FileFault, Files, InFault, Sink, Source, read_all};
 use format_core::{FormatFault, Formatted, Job, format};
+use generated_input::generated;
 use off_regions::Ranges;
-use std::alloc::Global;
+use std::alloc::{AllocError, Global};
 use style_table::Style;
 
 /// How texts are formatted.
@@ -120,6 +123,32 @@ pub fn format_source<S: Source, K: Sink, E: Sink>(
     match put_source(place, &formatted, out) {
         Ok(()) => Ok(formatted.changed),
         Err(Failed) => Err(Refusal::OutFailed),
+    }
+}
+
+/// Formats the text that `--generate` makes: tells its reports and its summary, and writes no text. The answer is
+/// whether the text changes.
+pub fn format_generated<E: Sink>(
+    alloc: Global,
+    options: &Options,
+    generate: Generate,
+    notes: &mut E,
+) -> Result<bool, Refusal<'static>>
+    requires range { IsInRange options.now.style }
+    requires budget { options.now.budget ≤ 16000000 }
+    ensures done { IfOk result (λ changes. IsGeneratedDoneWith options.now (text_of generate) (E.taken notes.old) (E.taken notes.new) changes) }
+    ensures refused { IfErr result (IsGeneratedRefused options.now (text_of generate) (E.taken notes.old) (E.taken notes.new)) }
+    ensures counts { (f : Faults) → Counted (record f { notes = E.faults notes.old }) (record f { notes = E.faults notes.new }) result }
+{
+    let text = match generated(alloc, generate.seed, generate.count) {
+        Ok(text) => text,
+        Err(AllocError) => return Err(Refusal::NoMemory),
+    };
+    let bump = Bump::new(alloc);
+    let formatted = formatted(alloc, &bump, options, GENERATED, &text)?;
+    match tell_input(GENERATED, options.budget, Place::Nowhere, &formatted, notes) {
+        Ok(()) => Ok(formatted.changed),
+        Err(Failed) => Err(Refusal::NotesFailed),
     }
 }
 

@@ -14,6 +14,9 @@ use style_config::ConfigFault;
 /// The name of the input where the words give no FILE.
 pub const STANDARD_INPUT: &str = "<stdin>";
 
+/// The name of the input that `--generate` makes.
+pub const GENERATED: &str = "<generated>";
+
 /// Why the command ends early. A name is that of an input, a configuration or a style.
 #[derive(Clone, Copy, Debug)]
 pub enum Refusal<'w> {
@@ -27,6 +30,10 @@ pub enum Refusal<'w> {
     NoInput,
     /// `--lines` has two FILEs or more.
     ManyFiles,
+    /// This value of `--generate` isn't N:COUNT.
+    BadGenerate(&'w str),
+    /// `--generate` stands beside a FILE, `-i` or `--dump-config`.
+    GenerateBeside,
     /// No style has this name.
     UnknownStyle(&'w str),
     /// The configuration has more than [`style_config::LIMIT`] bytes.
@@ -60,7 +67,9 @@ pub fn status_of(refusal: Refusal) -> u8
         | Refusal::BadLines { .. }
         | Refusal::BadStates(_)
         | Refusal::NoInput
-        | Refusal::ManyFiles => 2,
+        | Refusal::ManyFiles
+        | Refusal::BadGenerate(_)
+        | Refusal::GenerateBeside => 2,
         Refusal::UnknownStyle(_)
         | Refusal::LongConfiguration(_)
         | Refusal::BadConfiguration { .. } => 3,
@@ -91,6 +100,13 @@ pub fn tell<E: Sink>(refusal: Refusal, notes: &mut E) -> Result<(), Failed>
         ),
         Refusal::NoInput => write_all(notes, b"clang_format: -i needs a file\n"),
         Refusal::ManyFiles => write_all(notes, b"clang_format: --lines takes one file\n"),
+        Refusal::BadGenerate(word) => {
+            write_three("clang_format: --generate ", word, ": not N:COUNT\n", notes)
+        }
+        Refusal::GenerateBeside => write_all(
+            notes,
+            b"clang_format: --generate takes no file, -i or --dump-config\n",
+        ),
         Refusal::UnknownStyle(name) => {
             write_three("clang_format: style ", name, ": unknown name\n", notes)
         }

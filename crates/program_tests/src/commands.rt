@@ -2,6 +2,7 @@
 
 use crate::broken_lines::{BROKEN_LINES, BUDGETS};
 use crate::formatted_texts::{BRANCHES, DIRECTIVES, GAPS, ITEMS, JOINED, STATEMENTS, STYLES};
+use crate::generated_inputs::GENERATED_INPUTS;
 use crate::trailing_comments::TRAILING_COMMENTS;
 use crate::whole_files::WHOLE_FILES;
 use c_chars::LIMIT;
@@ -109,7 +110,7 @@ const WORDS_AND_STYLES: &[Row] = &[
         words: &["--sort", "1:2"],
         input: b"a",
         status: 2,
-        notes: b"usage: clang_format [--style S] [--lines L] [--states N] [-i] [--dry-run] [--Werror] [--dump-config] [FILE ..]\n",
+        notes: b"usage: clang_format [--style S] [--lines L] [--states N] [-i] [--dry-run] [--Werror] [--dump-config] [--generate N:COUNT] [FILE ..]\n",
         ..QUIET
     },
     Row {
@@ -594,6 +595,7 @@ fn does_what_the_words_ask_for(rt: HostRuntime) -> Result<(), Fail> {
         DRY_RUNS,
         FAILING_PORTS,
         BUDGETS,
+        GENERATED_INPUTS,
     ] {
         for row in rows {
             check(&rt, alloc, row, row.input.to_vec(alloc)?)?;

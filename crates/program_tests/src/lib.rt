@@ -3,6 +3,7 @@
 //! - `broken_lines`: the rows of long lines, budgets and reports.
 //! - `commands`: the one table of calls, and the rows of words, styles, ports and files.
 //! - `formatted_texts`: the rows of texts and their layout.
+//! - `generated_inputs`: the rows of inputs that `--generate` makes.
 //! - `trailing_comments`: the rows of texts with trailing comments.
 //! - `whole_files`: the rows of whole files, with directives and what stays.
 #![tactic(auto)]
@@ -13,6 +14,8 @@ mod broken_lines;
 mod commands;
 #[cfg(test)]
 mod formatted_texts;
+#[cfg(test)]
+mod generated_inputs;
 #[cfg(test)]
 mod trailing_comments;
 #[cfg(test)]

@@ -1,13 +1,16 @@
-//! Tests of the ports, of styles and configurations, and of the words of the command.
+//! Tests of the ports, of styles and configurations, of the words of the command, and of the text that one of them makes.
 //!
 //! - `ports`: the ends in memory and those of the process, which fail and end where they should.
 //! - `named_styles`: the five named styles, and the values that keys take.
 //! - `configurations`: what is read of configurations, those of another tool among them, and their faults.
+//! - `generated`: the pieces of the text that `--generate` makes.
 //! - `words`: what the words of the command say, and why they are refused.
 #![tactic(auto)]
 
 #[cfg(test)]
 mod configurations;
+#[cfg(test)]
+mod generated;
 #[cfg(test)]
 mod named_styles;
 #[cfg(test)]

@@ -1,6 +1,6 @@
 //! Worked rows of words.
 
-use command_words::{StyleChoice, Words, WordsFault, read_words};
+use command_words::{Generate, StyleChoice, Words, WordsFault, read_words};
 use off_regions::{LineRange, RangeFault};
 use std::alloc::{AllocError, Global};
 use std::test::Fail;
@@ -13,6 +13,7 @@ struct Said {
     dry_run: bool,
     werror: bool,
     dump_config: bool,
+    generate: Option<Generate>,
     files: &'static [&'static str],
 }
 
@@ -24,6 +25,7 @@ const NOTHING: Said = Said {
     dry_run: false,
     werror: false,
     dump_config: false,
+    generate: None,
     files: &[],
 };
 
@@ -241,6 +243,82 @@ const ROWS: &[Row] = &[
         words: &["--dry-run", "--dry-run"],
         said: Err(WordsFault::Form),
     },
+    Row {
+        name: "an input that is made",
+        words: &["--generate", "5:4"],
+        said: Ok(Said {
+            generate: Some(Generate { seed: 5, count: 4 }),
+            ..NOTHING
+        }),
+    },
+    Row {
+        name: "the largest input that is made, in nine digits each",
+        words: &["--Werror", "--generate=999999999:000100000", "--dry-run"],
+        said: Ok(Said {
+            dry_run: true,
+            werror: true,
+            generate: Some(Generate {
+                seed: 999_999_999,
+                count: 100_000,
+            }),
+            ..NOTHING
+        }),
+    },
+    Row {
+        name: "an input of no pieces",
+        words: &["--generate", "1:0"],
+        said: Err(WordsFault::BadGenerate("1:0")),
+    },
+    Row {
+        name: "two colons",
+        words: &["--generate", "1:1:1"],
+        said: Err(WordsFault::BadGenerate("1:1:1")),
+    },
+    Row {
+        name: "COUNT in ten digits",
+        words: &["--generate", "1:0000000001"],
+        said: Err(WordsFault::BadGenerate("1:0000000001")),
+    },
+    Row {
+        name: "an input that is made without its value",
+        words: &["--generate"],
+        said: Err(WordsFault::Form),
+    },
+    Row {
+        name: "an input that is made twice",
+        words: &["--generate=1:1", "--generate=1:1"],
+        said: Err(WordsFault::Form),
+    },
+    Row {
+        name: "an input that is made, and a file",
+        words: &["a.c", "--generate=1:1"],
+        said: Err(WordsFault::GenerateBeside),
+    },
+    Row {
+        name: "a value that is refused before the file beside it",
+        words: &["a.c", "--generate=1"],
+        said: Err(WordsFault::BadGenerate("1")),
+    },
+    Row {
+        name: "no number of cells, and a value that is refused behind it",
+        words: &["--generate=1", "--states=0"],
+        said: Err(WordsFault::BadStates("0")),
+    },
+    Row {
+        name: "-i without a file, and a value that is refused behind it",
+        words: &["--generate=1", "-i"],
+        said: Err(WordsFault::NoInput),
+    },
+    Row {
+        name: "lines and two files, and a value that is refused behind them",
+        words: &["--generate=1", "--lines=1:1", "a.c", "b.c"],
+        said: Err(WordsFault::ManyFiles),
+    },
+    Row {
+        name: "an input that is made, and a dump",
+        words: &["--generate=1:1", "--dump-config"],
+        said: Err(WordsFault::GenerateBeside),
+    },
 ];
 
 fn texts(alloc: Global, words: &[&str]) -> Result<Vec<String>, AllocError> {
@@ -280,6 +358,7 @@ fn reads_words(rt: HostRuntime) -> Result<(), Fail> {
                     "the flags of {}",
                     row.name
                 );
+                assert_eq!(rt; found.generate, said.generate, "what {} makes", row.name);
                 assert_eq!(rt;
                     found.files.as_slice(),
                     said.files,
@@ -300,7 +379,7 @@ fn shows_its_note(rt: HostRuntime) -> Result<(), Fail> {
     for (fault, note) in [
         (
             WordsFault::Form,
-            "usage: clang_format [--style S] [--lines L] [--states N] [-i] [--dry-run] [--Werror] [--dump-config] [FILE ..]",
+            "usage: clang_format [--style S] [--lines L] [--states N] [-i] [--dry-run] [--Werror] [--dump-config] [--generate N:COUNT] [FILE ..]",
         ),
         (
             WordsFault::BadStates("0"),
@@ -318,6 +397,14 @@ fn shows_its_note(rt: HostRuntime) -> Result<(), Fail> {
             "clang_format: --lines takes one file",
         ),
         (WordsFault::NoInput, "clang_format: -i needs a file"),
+        (
+            WordsFault::BadGenerate("1:0"),
+            "clang_format: --generate 1:0: not N:COUNT",
+        ),
+        (
+            WordsFault::GenerateBeside,
+            "clang_format: --generate takes no file, -i or --dump-config",
+        ),
         (WordsFault::NoMemory, "clang_format: no memory"),
     ] {
         assert_eq!(rt; format!(in alloc; "{fault}")?.as_str(), note, "{fault:?}");

@@ -1,4 +1,4 @@
-use Rattle.std.proofs.Common.{Err, Option, codes, subst}
+use Rattle.std.proofs.Common.{Err, Option, codes, refl, subst}
 use Rattle.clap.proofs.WalkLemmas.{first_value-rows, raw_values-rows}
 use Rattle.clap.specs.Words.{Text, found_of, rows_of}
 use Rattle.command_words.specs.Command.{lines_word}
@@ -17,14 +17,18 @@ returns-in-Err-clause-says c = (
 
 pub returns-clause-says : goal.returns-clause-says
 returns-clause-says c = record {
-  style = rw (← first_value-rows (found_of c.args.matches.now) (codes "style")) c.style_of-style.ensures;
-  lines = rw (← first_value-rows (found_of c.args.matches.now) (codes "lines")) c.in_ok-lines.ensures;
-  budget = rw (← first_value-rows (found_of c.args.matches.now) (codes "states")) c.in-Ok.ensures.some;
-  in_place = rw (← first_value-rows (found_of c.args.matches.now) (codes "in-place")) c.is_given-in_place.ensures;
-  dry_run = rw (← first_value-rows (found_of c.args.matches.now) (codes "dry-run")) c.is_given-dry_run.ensures;
-  werror = rw (← first_value-rows (found_of c.args.matches.now) (codes "Werror")) c.is_given-werror.ensures;
-  dump_config = rw (← first_value-rows (found_of c.args.matches.now) (codes "dump-config")) c.is_given-dump_config.ensures;
-  files = rw (← raw_values-rows (found_of c.args.matches.now) (codes "file")) c.in_ok-files.ensures;
+  says = record {
+    style = rw (← first_value-rows (found_of c.args.matches.now) (codes "style")) c.style_of-style.ensures;
+    lines = rw (← first_value-rows (found_of c.args.matches.now) (codes "lines")) c.in_ok-lines.ensures;
+    budget = rw (← first_value-rows (found_of c.args.matches.now) (codes "states")) c.in-Ok.ensures.some;
+    in_place = rw (← first_value-rows (found_of c.args.matches.now) (codes "in-place")) c.is_given-in_place.ensures;
+    dry_run = rw (← first_value-rows (found_of c.args.matches.now) (codes "dry-run")) c.is_given-dry_run.ensures;
+    werror = rw (← first_value-rows (found_of c.args.matches.now) (codes "Werror")) c.is_given-werror.ensures;
+    dump_config = rw (← first_value-rows (found_of c.args.matches.now) (codes "dump-config")) c.is_given-dump_config.ensures;
+    files = rw (← raw_values-rows (found_of c.args.matches.now) (codes "file")) c.in_ok-files.ensures;
+  };
+  word = rw (← first_value-rows (found_of c.args.matches.now) (codes "generate")) c.get_str-generate.ensures;
+  unread = refl;
 }
 
 pub returns-in_err-lines-clause-says : goal.returns-in_err-lines-clause-says
