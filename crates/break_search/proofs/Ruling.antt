@@ -1,11 +1,12 @@
 -- What the tables say of a line's gaps, one after another.
-use Rattle.std.proofs.Common.{◌≡◌, ℕ, ◌+◌, ◌<◌, inl, inr, Some, List, [], ◌∷◌, ◌++◌, length, length-append, slice_get, refl, arith, ap, sym, ◌∙◌, subst}
+use Rattle.std.proofs.Common.{◌≡◌, ℕ, ◌+◌, ◌-◌, ◌<◌, inl, inr, Some, List, [], ◌∷◌, ◌++◌, length, length-append, slice_get, refl, arith, ap, sym, ◌∙◌, subst}
 use Rattle.std.proofs.lemmas.Bool.{cases_eq}
 use Rattle.digest_chains.proofs.Edits.{At, at_push}
 use Rattle.line_tokens.specs.declared.LineTok.{LineTok}
 use Rattle.style_table.specs.declared.style.Style.{Style}
 use Rattle.line_state.specs.declared.gap.GapRules.{GapRules}
 use Rattle.line_state.specs.Layout.{AreRules}
+use Rattle.line_state.specs.Line.{Line}
 use Rattle.break_search.specs.Rules.{HaveRules}
 
 -- the rules of the first gaps
@@ -38,3 +39,19 @@ one_more_ruled style tokens rules new n left right rule ruled at_left at_right a
 
 pub all_ruled : (style : Style) (tokens : List LineTok) (rules : List GapRules) (n : ℕ) → AreRuled style tokens rules n → n + 1 ≡ length tokens → HaveRules style tokens rules
 all_ruled style tokens rules n ruled all = record { count = omega (arith, ruled.count, all); told = ruled.told }
+
+-- the rules of the gap before a token of a line
+module _ (style : Style) (tokens : List LineTok) (rules : List GapRules) (line : Line) (at : ℕ) (same_style : style ≡ line.style) (same_tokens : tokens ≡ line.tokens) (have : HaveRules style tokens rules) (some : 0 < at) where
+  pub gap_within : at < length line.tokens → at - 1 < length rules
+  gap_within within = omega (arith, within, some, have.count, ap length same_tokens)
+
+  pub ruled_before : (rule : GapRules) → slice_get rules (at - 1) ≡ Some rule → (left right : LineTok) → slice_get line.tokens (at - 1) ≡ Some left → slice_get line.tokens at ≡ Some right → AreRules line.style left right rule
+  ruled_before rule is left right at_left at_right =
+      let next : (at - 1) + 1 ≡ at = omega (arith, some) in
+      let one : slice_get tokens (at - 1) ≡ Some left = ap (λ (ts : List LineTok). slice_get ts (at - 1)) same_tokens ∙ at_left in
+      let other : slice_get tokens ((at - 1) + 1) ≡ Some right = ap (λ (k : ℕ). slice_get tokens k) next ∙ (ap (λ (ts : List LineTok). slice_get ts at) same_tokens ∙ at_right) in
+      subst (λ (s : Style). AreRules s left right rule) same_style (have.told (at - 1) left right rule one other is)
+
+-- .. in another's style
+pub ruled_by : (style other : Style) (left right : LineTok) (rule : GapRules) → style ≡ other → AreRules other left right rule → AreRules style left right rule
+ruled_by style other left right rule same are = subst (λ (s : Style). AreRules s left right rule) (sym same) are

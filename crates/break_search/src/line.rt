@@ -40,6 +40,15 @@ pub(crate) fn decision_in(fixed: &[Option<Fixed>], at: usize) -> Option<Fixed>
     fixed[at]
 }
 
+/// What the tables say of a gap.
+#[inline(always)]
+fn rules_at(rules: &[GapRules], at: usize) -> &GapRules
+    requires { at < length rules.now }
+    ensures { slice_get rules.now at ≡ Some result.now }
+{
+    &rules[at]
+}
+
 /// What the tables say of each gap inside a line.
 fn rules_of<'r>(
     style: &Style,
@@ -144,7 +153,7 @@ impl<'a> SearchedLine<'a> {
         requires at { at < length self.now.tokens }
         ensures { (left right : LineTok) → slice_get self.now.tokens (at - 1) ≡ Some left → slice_get self.now.tokens at ≡ Some right → AreRules self.now.style left right result.now }
     {
-        &self.rules[at - 1]
+        rules_at(self.rules, at - 1)
     }
 
     /// Whether the choices that break only where they have to can cost nothing. They can't where what stands between two
