@@ -1,5 +1,5 @@
 -- Admissible choices, one after another.
-use Rattle.std.proofs.Common.{◌≡◌, ◌∙◌, ℕ, suc, ◌+◌, ◌-◌, ◌*◌, ◌<◌, ◌≤◌, Bool, Option, Some, None, IfSome, List, [], ◌∷◌, ◌++◌, length, get_or, drop, append_assoc, refl, sym, ap, arith, subst}
+use Rattle.std.proofs.Common.{◌≡◌, ◌∙◌, ℕ, suc, ◌+◌, ◌<◌, Bool, Option, Some, None, IfSome, List, [], ◌∷◌, ◌++◌, length, get_or, drop, append_assoc, sym, ap, arith, subst}
 use Rattle.std.proofs.Math.Seq.{drop-cons}
 use Rattle.least_breaking.specs.Choices.{Leads}
 use Rattle.line_state.specs.declared.gap.Gap.{Gap}
@@ -9,7 +9,7 @@ use Rattle.line_state.specs.Store.{FrameList, state_in, layout_in, IsIn, IsGrown
 use Rattle.line_state.specs.Layout.{Layout, layout_of, start_of, layout_after}
 use Rattle.line_state.specs.Line.{Line, Step, gap_at, gaps, first_layout}
 use Rattle.line_state.proofs.Steps.{placing, functional, one_more}
-use Rattle.break_search.specs.Starts.{IsAdmissible, starts_of, starts_by}
+use Rattle.break_search.specs.Starts.{starts_of, starts_by}
 use Rattle.break_search.specs.Vertices.{IsNextState, IsSuccessor, LeadsTo, states_in}
 
 -- what holds while the choices are followed
