@@ -21,3 +21,4 @@ mod Answering
 mod Thrifty
 pub mod Walking
 pub mod LeastBreaks
+mod Ruling

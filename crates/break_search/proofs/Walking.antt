@@ -1,5 +1,5 @@
 -- Admissible choices, one after another.
-use Rattle.std.proofs.Common.{◌≡◌, ◌∙◌, ℕ, suc, ◌+◌, ◌-◌, ◌*◌, ◌<◌, ◌≤◌, Bool, Option, Some, None, IfSome, List, [], ◌∷◌, ◌++◌, length, get_or, drop, append_assoc, refl, sym, ap, arith, subst}
+use Rattle.std.proofs.Common.{◌≡◌, ◌∙◌, ℕ, suc, ◌+◌, ◌<◌, Bool, Option, Some, None, IfSome, List, [], ◌∷◌, ◌++◌, length, get_or, drop, append_assoc, sym, ap, arith, subst}
 use Rattle.std.proofs.Math.Seq.{drop-cons}
 use Rattle.least_breaking.specs.Choices.{Leads}
 use Rattle.line_state.specs.declared.gap.Gap.{Gap}
@@ -9,13 +9,12 @@ use Rattle.line_state.specs.Store.{FrameList, state_in, layout_in, IsIn, IsGrown
 use Rattle.line_state.specs.Layout.{Layout, layout_of, start_of, layout_after}
 use Rattle.line_state.specs.Line.{Line, Step, gap_at, gaps, first_layout}
 use Rattle.line_state.proofs.Steps.{placing, functional, one_more}
-use Rattle.break_search.specs.Starts.{IsAdmissible, starts_of, starts_by}
-use Rattle.break_search.specs.Vertices.{IsNextState, IsSuccessor, states_in}
+use Rattle.break_search.specs.Starts.{starts_of, starts_by}
+use Rattle.break_search.specs.Vertices.{IsNextState, IsSuccessor, LeadsTo, states_in}
 
 -- what holds while the choices are followed
 pub record IsFollowed (line : Line) (breaks : List Bool) (starts : List ℕ) (state : State) (placed : ℕ) : Type 0 where
   pub index : state.index ≡ placed + 1
-  pub cheap : state.cost ≤ state.index * 18446744073709551615
   pub size : length breaks ≡ gaps line
   pub layout : Layout
   pub cost : ℕ
@@ -36,12 +35,12 @@ module _ (line : Line) (breaks : List Bool) (starts : List ℕ) (state : State) 
   pub goes : (t : Layout) × (k : ℕ) × Step line (layout_of state) brk t k
   goes = (leads_here.0, leads_here.1, leads_here.3)
 
-  pub follow : (start : ℕ) (next : State) (new : List ℕ) → ((gap : Gap) → gap_at line (layout_of state).index ≡ Some gap → start ≡ start_of line.style (layout_of state) gap brk) → IsNextState line (layout_of state) state.cost brk next
+  pub follow : (start : ℕ) (next : State) (new : List ℕ) → ((gap : Gap) → gap_at line (layout_of state).index ≡ Some gap → start ≡ start_of line.style (layout_of state) gap brk) → LeadsTo line (layout_of state) brk (layout_of next)
       → new ≡ starts ++ start ∷ [] → IsFollowed line breaks new next (placed + 1)
   follow start next new at go is_new =
       let s : Layout = layout_of state in
       let p = placing line s brk leads_here.0 leads_here.1 leads_here.3 in
-      let same : leads_here.0 ≡ layout_of next = (functional line s (gaps line) s brk leads_here.0 (layout_of next) leads_here.1 go.added leads_here.3 go.step).0 in
+      let same : leads_here.0 ≡ layout_of next = (functional line s (gaps line) s brk leads_here.0 (layout_of next) leads_here.1 go.0 leads_here.3 go.1).0 in
       let after : layout_after line.style s p.gap brk ≡ layout_of next = p.layout ∙ same in
       let later : List Bool = drop (placed + 1) breaks in
       let split : starts_of line s (drop placed breaks) ≡ start ∷ starts_of line (layout_of next) later =
@@ -50,8 +49,7 @@ module _ (line : Line) (breaks : List Bool) (starts : List ℕ) (state : State) 
       ∙ (ap (λ x. x ∷ starts_of line (layout_after line.style s p.gap brk) later) (sym (at p.gap p.at))
       ∙ ap (λ (x : Layout). start ∷ starts_of line x later) after)) in
       record {
-        index = omega (arith, (one_more line s brk (layout_of next) go.added go.step).index, f.index);
-        cheap = go.cheap;
+        index = omega (arith, (one_more line s brk (layout_of next) go.0 go.1).index, f.index);
         size = f.size;
         layout = f.layout;
         cost = leads_here.2;
@@ -87,15 +85,3 @@ module _ (line : Line) (state : NodeState) (brk : Bool) (lists between more : Li
 
   pub none_told_grown : o ≡ None → (t : Layout) (k : ℕ) → Step line (layout_in lists state) brk t k → ⊥
   none_told_grown e = none_told line (state_in lists state) brk more o as_before e
-
--- what holds while the choices are followed over a store
-pub record IsFollowedIn (line : Line) (breaks : List Bool) (starts : List ℕ) (lists : List FrameList) (state : NodeState) (placed : ℕ) : Type 0 where
-  pub followed : IsFollowed line breaks starts (state_in lists state) placed
-  pub known : IsIn lists state
-
--- an admissible choice leads on
-pub no_dead_end : (line : Line) (breaks : List Bool) (starts : List ℕ) (lists more : List FrameList) (state : NodeState) (placed : ℕ) → IsFollowed line breaks starts (state_in lists state) placed → (brk d : Bool) → placed < length breaks → get_or breaks placed d ≡ brk
-    → (o : Option NodeState) → IsSuccessor line (state_in lists state) brk (states_in more o) → o ≡ None → ⊥
-no_dead_end line breaks starts lists more state placed f brk d within is o gives e =
-    let go = goes line breaks starts (state_in lists state) placed f brk d within is in
-    none_told line (state_in lists state) brk more o gives e go.0 go.1 go.2

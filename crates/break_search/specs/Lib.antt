@@ -7,3 +7,4 @@ pub mod Ways
 pub mod Jumps
 pub mod Progress
 pub mod Thrift
+pub mod Rules

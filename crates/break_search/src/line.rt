@@ -1,24 +1,72 @@
 //! A line that is searched.
 
-ghost use Rattle.std.specs.Prelude.{◌≡◌, ◌*◌, ◌<◌, ◌≤◌, Some, length, slice_get, IfOk, IfSome};
-ghost use Rattle.line_state.specs.declared.gap.Gap.{Gap};
-ghost use Rattle.line_state.specs.Layout.{start_of};
+ghost use Rattle.std.specs.Prelude.{◌≡◌, ◌-◌, ◌*◌, ◌<◌, ◌≤◌, Some, length, slice_get, IfOk, IfSome, OnOk};
+ghost use Rattle.std.specs.Bool.{OnTrue, OnFalse};
+ghost use Rattle.style_table.specs.Range.{IsInRange};
+ghost use Rattle.line_tokens.specs.declared.LineTok.{LineTok};
+ghost use Rattle.line_state.specs.Layout.{AreRules, layout_of};
 ghost use Rattle.line_state.specs.Store.{layout_in, state_in, IsIn, IsGrown};
-ghost use Rattle.line_state.specs.Line.{gaps, gap_at, first_layout, first_cost, decision_at};
-ghost use Rattle.break_search.specs.Outcome.{IsSearchable};
-ghost use Rattle.break_search.specs.Vertices.{IsSuccessor, states_in};
+ghost use Rattle.line_state.specs.Line.{gaps, first_layout, first_cost, decision_at, joined};
+ghost use Rattle.break_search.specs.Outcome.{IsSearchable, line_of};
+ghost use Rattle.break_search.specs.Rules.{HaveRules};
+ghost use Rattle.break_search.specs.Vertices.{IsNextState, IsSuccessor, LeadsOn, LeadsNowhere, states_in};
 
-use line_state::{FrameStore, NoMemory, NodeState, start_in, step_in, token_start_in, try_step_in};
+use bumpalo::Bump;
+use bumpalo::collections::into_bump_slice;
+use line_state::{
+    FrameStore, GapRules, NoMemory, NodeState, State, advance, allowed_by, gap_rules, start,
+    start_in, step_in, try_step_by,
+};
 use line_tokens::{Fixed, LineTok};
+use std::alloc::Global;
 use std::marker::Model;
 use style_table::Style;
 
 /// The token at a place.
-fn token_at(tokens: &[LineTok], at: usize) -> &LineTok
+#[inline(always)]
+pub(crate) fn token_at(tokens: &[LineTok], at: usize) -> &LineTok
     requires { at < length tokens.now }
     ensures { slice_get tokens.now at ≡ Some result.now }
 {
     &tokens[at]
+}
+
+/// The decision at a place, if there is one.
+#[inline(always)]
+pub(crate) fn decision_in(fixed: &[Option<Fixed>], at: usize) -> Option<Fixed>
+    requires { at < length fixed.now }
+    ensures { result ≡ joined (slice_get fixed.now at) }
+{
+    fixed[at]
+}
+
+/// What the tables say of a gap.
+#[inline(always)]
+fn rules_at(rules: &[GapRules], at: usize) -> &GapRules
+    requires { at < length rules.now }
+    ensures { slice_get rules.now at ≡ Some result.now }
+{
+    &rules[at]
+}
+
+/// What the tables say of each gap inside a line.
+fn rules_of<'r>(
+    style: &Style,
+    tokens: &[LineTok],
+    run: &'r Bump,
+) -> Result<&'r [GapRules], NoMemory>
+    requires range { IsInRange style.now }
+    requires some { 0 < length tokens.now }
+    ensures { IfOk result (λ rules. HaveRules style.now tokens.now rules.now) }
+{
+    let count = tokens.len() - 1;
+    let mut rules = Vec::with_capacity(run, count)?;
+    for at in 0..count {
+        let left = token_at(tokens, at);
+        let right = token_at(tokens, at + 1);
+        rules.push(gap_rules(style, left, right))?;
+    }
+    Ok(into_bump_slice(rules))
 }
 
 /// A line, with its style and what is decided of its gaps.
@@ -32,6 +80,8 @@ pub(crate) struct SearchedLine<'a> {
     pub tokens: &'a [LineTok],
     /// For each token the decision of the gap before it, if it has one.
     pub fixed: &'a [Option<Fixed>],
+    /// What the tables say of each gap inside it.
+    rules: &'a [GapRules],
 }
 
 impl<'a> Model for SearchedLine<'a> {
@@ -39,10 +89,36 @@ impl<'a> Model for SearchedLine<'a> {
 
     ghost Value = { Line };
 
+    ghost use Rattle.break_search.specs.Rules.{HaveRules};
+
     ghost view = { λ l. record { style = l.style.now; column = l.column; tokens = l.tokens.now; fixed = l.fixed.now } };
+
+    ghost invariant = { λ l. HaveRules l.style.now l.tokens.now l.rules.now };
 }
 
-impl SearchedLine<'_> {
+impl<'a> SearchedLine<'a> {
+    /// A line that starts at a column. What the tables say of its gaps lies in the arena.
+    pub fn make(
+        style: &'a Style,
+        column: u32,
+        tokens: &'a [LineTok],
+        fixed: &'a [Option<Fixed>],
+        run: &'a Bump,
+    ) -> Result<SearchedLine<'a>, NoMemory>
+        requires range { IsInRange style.now }
+        requires some { 0 < length tokens.now }
+        ensures { IfOk result (λ line. line ≡ line_of style.now column tokens.now fixed.now) }
+    {
+        let rules = rules_of(style, tokens, run)?;
+        Ok(SearchedLine {
+            style,
+            column,
+            tokens,
+            fixed,
+            rules,
+        })
+    }
+
     /// How many gaps lie inside the line.
     pub fn gaps(&self) -> u32
         requires { IsSearchable self.now }
@@ -52,6 +128,7 @@ impl SearchedLine<'_> {
     }
 
     /// The token at a place.
+    #[inline(always)]
     fn token(&self, at: usize) -> &LineTok
         requires { at < length self.now.tokens }
         ensures { slice_get self.now.tokens at ≡ Some result.now }
@@ -60,6 +137,7 @@ impl SearchedLine<'_> {
     }
 
     /// The decision of the gap before the token at a place, if it has one.
+    #[inline(always)]
     fn decision(&self, at: usize) -> Option<Fixed>
         requires line { IsSearchable self.now }
         requires at { at < length self.now.tokens }
@@ -68,7 +146,47 @@ impl SearchedLine<'_> {
         self.fixed[at]
     }
 
-    /// The state of the first token.
+    /// What the tables say of the gap before the token at a place, which isn't the first one.
+    #[inline(always)]
+    fn rules_before(&self, at: usize) -> &GapRules
+        requires some { 0 < at }
+        requires at { at < length self.now.tokens }
+        ensures { (left right : LineTok) → slice_get self.now.tokens (at - 1) ≡ Some left → slice_get self.now.tokens at ≡ Some right → AreRules self.now.style left right result.now }
+    {
+        rules_at(self.rules, at - 1)
+    }
+
+    /// Whether the choices that break only where they have to can cost nothing. They can't where what stands between two
+    /// gaps that have to break is wider than a row. This test of widths alone spares many lines the walk over their states.
+    pub fn may_be_straight(&self) -> bool
+        requires { IsSearchable self.now }
+    {
+        let limit = self.style.column_limit;
+        if limit == 0 || self.style.penalty_excess_character == 0 {
+            return true;
+        }
+        let mut column = self.column;
+        for (at, token) in self.tokens.iter().enumerate() {
+            if self.decision(at).is_some() || token.rows > 1 || token.role.is_trailing() {
+                return true;
+            }
+            if at > 0 {
+                let rules = self.rules_before(at);
+                column = if rules.rule.must {
+                    0
+                } else {
+                    column.saturating_add(u32::from(rules.spaces))
+                };
+            }
+            column = column.saturating_add(token.first_width);
+            if column > limit {
+                return false;
+            }
+        }
+        true
+    }
+
+    /// The state of the first token, with its frames in a store.
     pub fn first<'r>(&self, store: &mut FrameStore<'r>) -> Result<NodeState, NoMemory>
         requires { IsSearchable self.now }
         ensures layout { IfOk result (λ state. layout_in store.new state ≡ first_layout self.now) }
@@ -90,6 +208,7 @@ impl SearchedLine<'_> {
     }
 
     /// The state that a choice leads to, where it is admissible.
+    #[inline(always)]
     pub fn successor<'r>(
         &self,
         store: &mut FrameStore<'r>,
@@ -109,23 +228,58 @@ impl SearchedLine<'_> {
         let left = self.token(at - 1);
         let right = self.token(at);
         let fixed = self.decision(at);
-        let next = try_step_in(store, self.style, state, left, right, fixed, brk)?;
+        let rules = self.rules_before(at);
+        let next = try_step_by(store, self.style, state, left, right, fixed, rules, brk)?;
         Ok(next)
     }
 
-    /// Where the next token starts by a choice.
-    pub fn start(&self, store: &FrameStore<'_>, state: &NodeState, brk: bool) -> u32
+    /// The state of the first token.
+    pub fn first_alone(&self, alloc: Global) -> Result<State, NoMemory>
+        requires { IsSearchable self.now }
+        ensures layout { IfOk result (λ state. layout_of state ≡ first_layout self.now) }
+        ensures cost { IfOk result (λ state. state.cost ≡ first_cost self.now) }
+        ensures small { IfOk result (λ state. state.cost ≤ 18446744073709551615) }
+    {
+        let mut state = start(alloc, self.style, self.column);
+        let token = self.token(0);
+        let rules = gap_rules(self.style, token, token);
+        let fixed = self.decision(0);
+        advance(self.style, &mut state, token, token, fixed, &rules, true)?;
+        Ok(state)
+    }
+
+    /// Whether a choice is admissible.
+    #[inline(always)]
+    pub fn admits(&self, state: &State, brk: bool) -> bool
         requires line { IsSearchable self.now }
-        requires known { IsIn store.now state.now }
         requires some { 0 < state.now.index }
         requires next { state.now.index < length self.now.tokens }
-        ensures { (gap : Gap) → gap_at self.now (layout_in store.now state.now).index ≡ Some gap → result ≡ start_of self.now.style (layout_in store.now state.now) gap brk }
+        ensures yes { OnTrue result (LeadsOn self.now (layout_of state.now) brk) }
+        ensures no { OnFalse result (LeadsNowhere self.now (layout_of state.now) brk) }
     {
         let at = state.index as usize;
         let left = self.token(at - 1);
         let right = self.token(at);
         let fixed = self.decision(at);
-        let start = token_start_in(store, self.style, state, left, right, fixed, brk);
-        start
+        let rules = self.rules_before(at);
+        allowed_by(self.style, state, left, right, fixed, rules, brk)
+    }
+
+    /// Takes an admissible choice.
+    pub fn go(&self, state: &mut State, brk: bool) -> Result<(), NoMemory>
+        requires line { IsSearchable self.now }
+        requires some { 0 < state.old.index }
+        requires next { state.old.index < length self.now.tokens }
+        requires cheap { state.old.cost ≤ state.old.index * 18446744073709551615 }
+        requires leads { LeadsOn self.now (layout_of state.old) brk }
+        ensures { OnOk result (IsNextState self.now (layout_of state.old) state.old.cost brk state.new) }
+    {
+        let at = state.index as usize;
+        let left = self.token(at - 1);
+        let right = self.token(at);
+        let fixed = self.decision(at);
+        let rules = self.rules_before(at);
+        advance(self.style, state, left, right, fixed, rules, brk)?;
+        Ok(())
     }
 }

@@ -1,20 +1,65 @@
 //! The layouts that given choices pass through.
 
-ghost use Rattle.std.specs.Prelude.{◌≡◌, ◌*◌, ◌<◌, ◌≤◌, length, IfOk};
+ghost use Rattle.std.specs.Prelude.{◌≡◌, ◌*◌, ◌<◌, ◌≤◌, Some, length, IfOk, OnOk};
+ghost use Rattle.line_state.specs.declared.gap.Gap.{Gap};
+ghost use Rattle.line_state.specs.Layout.{layout_of, start_of};
 ghost use Rattle.style_table.specs.Range.{IsInRange};
-ghost use Rattle.line_state.specs.Line.{first_layout};
+ghost use Rattle.line_state.specs.Line.{first_layout, gap_at};
 ghost use Rattle.line_state.specs.Store.{layout_in, state_in, IsIn};
 ghost use Rattle.break_search.specs.Outcome.{IsSearchable, line_of};
 ghost use Rattle.break_search.specs.Starts.{IsAdmissible, MayStay, starts_of};
-ghost use Rattle.break_search.specs.Vertices.{IsNextState};
+ghost use Rattle.break_search.specs.Vertices.{IsNextState, LeadsOn, LeadsTo};
 
-use crate::line::SearchedLine;
+use crate::line::{SearchedLine, decision_in, token_at};
 use bumpalo::Bump;
 use bumpalo::collections::into_bump_slice;
-use line_state::{FrameStore, NoMemory, NodeState};
+use line_state::{FrameStore, NoMemory, NodeState, State, lay, start};
 use line_tokens::{Fixed, LineTok};
 use std::alloc::Global;
 use style_table::Style;
+
+/// The state of a line's first token, as far as its layout goes.
+fn lay_first(
+    alloc: Global,
+    style: &Style,
+    line: &[LineTok],
+    column: u32,
+    fixed: &[Option<Fixed>],
+) -> Result<State, NoMemory>
+    requires { IsSearchable (line_of style.now column line.now fixed.now) }
+    ensures { IfOk result (λ state. layout_of state ≡ first_layout (line_of style.now column line.now fixed.now)) }
+{
+    let mut state = start(alloc, style, column);
+    let token = token_at(line, 0);
+    let decision = decision_in(fixed, 0);
+    lay(style, &mut state, token, token, decision, true)?;
+    Ok(state)
+}
+
+/// Takes an admissible choice, as far as the layout goes, and tells where its token starts.
+fn lay_next(
+    style: &Style,
+    line: &[LineTok],
+    column: u32,
+    fixed: &[Option<Fixed>],
+    state: &mut State,
+    brk: bool,
+) -> Result<u32, NoMemory>
+    requires line { IsSearchable (line_of style.now column line.now fixed.now) }
+    requires some { 0 < state.old.index }
+    requires next { state.old.index < length line.now }
+    requires leads { LeadsOn (line_of style.now column line.now fixed.now) (layout_of state.old) brk }
+    ensures start { IfOk result (λ start. (gap : Gap) → gap_at (line_of style.now column line.now fixed.now) (layout_of state.old).index ≡ Some gap → start ≡ start_of style.now (layout_of state.old) gap brk) }
+    ensures next { OnOk result (LeadsTo (line_of style.now column line.now fixed.now) (layout_of state.old) brk (layout_of state.new)) }
+{
+    let _ = column;
+    let at = state.index as usize;
+    let left = token_at(line, at - 1);
+    let right = token_at(line, at);
+    let decision = decision_in(fixed, at);
+    let start = lay(style, state, left, right, decision, brk)?;
+    Ok(start)
+}
 
 /// Where each token behind a line's first one starts, by admissible choices, one for each gap inside the line.
 ///
@@ -37,23 +82,11 @@ pub fn starts<'r>(
     requires admissible { IsAdmissible (line_of style.now column line.now fixed.now) breaks.now }
     ensures { IfOk result (λ starts. starts.now ≡ starts_of (line_of style.now column line.now fixed.now) (first_layout (line_of style.now column line.now fixed.now)) breaks.now) }
 {
-    let line = SearchedLine {
-        style,
-        column,
-        tokens: line,
-        fixed,
-    };
-    let scratch = Bump::new(alloc);
-    let mut store = FrameStore::make(&scratch)?;
-    let mut state = line.first(&mut store)?;
+    let mut state = lay_first(alloc, style, line, column, fixed)?;
     let mut starts = Vec::with_capacity(run, breaks.len())?;
     for brk in breaks {
-        let place = line.start(&store, &state, *brk);
+        let place = lay_next(style, line, column, fixed, &mut state, *brk)?;
         starts.push(place)?;
-        let Some(next) = line.successor(&mut store, &state, *brk)? else {
-            unreachable!()
-        };
-        state = next;
     }
     Ok(into_bump_slice(starts))
 }
@@ -102,13 +135,8 @@ pub fn least_breaks<'r>(
     requires range { IsInRange style.now }
     ensures { IfOk result (λ breaks. IsAdmissible (line_of style.now column line.now fixed.now) breaks.now) }
 {
-    let line = SearchedLine {
-        style,
-        column,
-        tokens: line,
-        fixed,
-    };
     let scratch = Bump::new(alloc);
+    let line = SearchedLine::make(style, column, line, fixed, &scratch)?;
     let mut store = FrameStore::make(&scratch)?;
     let mut state = line.first(&mut store)?;
     let count = line.gaps();

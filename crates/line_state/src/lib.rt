@@ -18,11 +18,13 @@ mod stepping;
 mod store;
 
 pub use frames::{Frame, Frames};
-pub use gap::Gap;
+pub use gap::{Gap, GapRules, gap_rules};
 pub use line_tokens::NoMemory;
 pub use node::{NodeState, digest, is_same_place};
-pub use placing::step;
-pub use rules::allowed;
+pub use placing::{advance, lay, step};
+pub use rules::{allowed, allowed_by};
 pub use state::{State, cells, start};
-pub use stepping::{allowed_in, cells_in, start_in, step_in, token_start_in, try_step_in};
+pub use stepping::{
+    allowed_in, cells_in, start_in, step_in, token_start_in, try_step_by, try_step_in,
+};
 pub use store::FrameStore;

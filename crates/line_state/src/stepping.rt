@@ -3,17 +3,19 @@
 ghost use Rattle.std.specs.Prelude.{◌≡◌, ◌+◌, ◌*◌, ◌^◌, ◌<◌, ◌≤◌, ◌↔◌, ◌&&◌, not, nat_le, true, false, length, IfOk, IsTrue, IfNone, IfSome, OnSome};
 ghost use Rattle.line_state.specs.Brackets.{opens_frame};
 ghost use Rattle.style_table.specs.Range.{IsInRange};
-ghost use Rattle.line_state.specs.Layout.{gap_before, is_allowed, spot_of, open_frames, placed_frame, placed_frames, frames_after, with_topmost, with_opened, layout_after, cost_of, cells_of, start_layout, start_of};
+ghost use Rattle.line_state.specs.Layout.{AreRules, gap_before, is_allowed, spot_of, open_frames, placed_frame, placed_frames, frames_after, with_topmost, with_opened, layout_after, cost_of, cells_of, start_layout, start_of};
 ghost use Rattle.line_state.specs.Store.{list_at, layout_in, IsIn, IsGrown, AreApart};
 
 use crate::frames::Frame;
-use crate::gap::{Gap, opens};
+use crate::gap::{Gap, GapRules, gap_rules, opens};
 use crate::node::NodeState;
 use crate::placing::{cost, end_column, frame_above, placed, start_column};
-use crate::rules::allows;
+use crate::rules::{allows, is_refused};
 use crate::spot::Spot;
 use crate::store::FrameStore;
 use line_tokens::{Fixed, LineTok, NoMemory, Role};
+use penalties::gap_rule;
+use spacing::spaces_before;
 use style_table::Style;
 
 /// The state before a line's first token, at the column at which the line starts.
@@ -58,6 +60,7 @@ pub fn cells_in(store: &FrameStore<'_>, state: &NodeState) -> u64
 }
 
 /// Whether the left token opened the topmost one of so many frames, and nothing has been placed in it.
+#[inline(always)]
 fn is_just_opened(gap: &Gap, count: u32) -> bool
     ensures { result ≡ (not gap.now.first && opens_frame gap.now.left.role && nat_le count gap.now.right.depth) }
 {
@@ -65,6 +68,7 @@ fn is_just_opened(gap: &Gap, count: u32) -> bool
 }
 
 /// The spot of a gap behind a state. `left_open` is the node of the frames that are open there.
+#[inline(always)]
 fn spot_in(store: &FrameStore<'_>, state: &NodeState, gap: &Gap, left_open: u32) -> Spot
     requires known { IsIn store.now state.now }
     requires known_open { left_open < length store.now }
@@ -104,10 +108,18 @@ pub fn allowed_in<'r>(
         first: state.index == 0,
     };
     let left_open = store.lowest(state.node, gap.right.depth);
-    allows(style, &spot_in(store, state, &gap, left_open), &gap, brk)
+    let rule = gap_rule(style, left, right);
+    allows(
+        style,
+        &spot_in(store, state, &gap, left_open),
+        &gap,
+        &rule,
+        brk,
+    )
 }
 
 /// The node of the frames once the token is placed, its own among them.
+#[inline(always)]
 fn place_in<'r>(
     store: &mut FrameStore<'r>,
     style: &Style,
@@ -131,11 +143,13 @@ fn place_in<'r>(
 }
 
 /// The state with the gap's token more. `left_open` is the node of the frames that are open there.
+#[inline(always)]
 fn step_from<'r>(
     store: &mut FrameStore<'r>,
     style: &Style,
     state: &NodeState,
     gap: &Gap,
+    rules: &GapRules,
     left_open: u32,
     spot: &Spot,
     brk: bool,
@@ -147,14 +161,15 @@ fn step_from<'r>(
     requires known_open { left_open < length store.old }
     requires list { list_at store.old left_open ≡ record { base = (list_at store.old state.now.node).base; frames = open_frames (layout_in store.old state.now) gap.now } }
     requires spot { spot.now ≡ spot_of (layout_in store.old state.now) gap.now }
+    requires rules { AreRules style.now gap.now.left gap.now.right rules.now }
     ensures layout { IfOk result (λ next. layout_in store.new next ≡ layout_after style.now (layout_in store.old state.now) gap.now brk) }
     ensures cost { IfOk result (λ next. next.cost ≡ state.now.cost + cost_of style.now (layout_in store.old state.now) gap.now brk) }
     ensures bound { IfOk result (λ next. next.cost ≤ next.index * 18446744073709551615) }
     ensures known { IfOk result (IsIn store.new) }
     ensures grown { IsGrown store.old store.new }
 {
-    let start = start_column(style, spot, gap, brk);
-    let cost = cost(style, spot, gap, brk, start);
+    let start = start_column(style, spot, gap, rules.spaces, brk);
+    let cost = cost(style, spot, gap, &rules.rule, brk, start);
     let top = placed(style, spot, gap, brk, start);
     let node = place_in(store, style, gap, left_open, top)?;
     Ok(NodeState {
@@ -207,7 +222,8 @@ pub fn step_in<'r>(
     };
     let left_open = store.lowest(state.node, gap.right.depth);
     let spot = spot_in(store, state, &gap, left_open);
-    step_from(store, style, state, &gap, left_open, &spot, brk)
+    let rules = gap_rules(style, left, right);
+    step_from(store, style, state, &gap, &rules, left_open, &spot, brk)
 }
 
 /// The state with one token more, as `step_in` tells it, where the choice is admissible.
@@ -244,18 +260,62 @@ pub fn try_step_in<'r>(
     ensures known { IfOk result (λ next. IfSome next (IsIn store.new)) }
     ensures grown { IsGrown store.old store.new }
 {
+    let rules = gap_rules(style, left, right);
+    try_step_by(store, style, state, left, right, fixed, &rules, brk)
+}
+
+/// The same, where the tables were asked of the gap before.
+///
+/// # Errors
+///
+/// `NoMemory` where memory ran out.
+#[inline(always)]
+pub fn try_step_by<'r>(
+    store: &mut FrameStore<'r>,
+    style: &Style,
+    state: &NodeState,
+    left: &LineTok,
+    right: &LineTok,
+    fixed: Option<Fixed>,
+    rules: &GapRules,
+    brk: bool,
+) -> Result<Option<NodeState>, NoMemory>
+    requires range { IsInRange style.now }
+    requires known { IsIn store.old state.now }
+    requires index { state.now.index < 4294967295 }
+    requires cost { state.now.cost ≤ state.now.index * 18446744073709551615 }
+    requires rules { AreRules style.now left.now right.now rules.now }
+    ensures none { let layout = layout_in store.old state.now in
+        let gap = gap_before layout left.now right.now fixed in
+        IfOk result (λ next. IfNone next (is_allowed style.now layout gap brk ≡ false)) }
+    ensures some { let layout = layout_in store.old state.now in
+        let gap = gap_before layout left.now right.now fixed in
+        IfOk result (λ next. OnSome next (is_allowed style.now layout gap brk ≡ true)) }
+    ensures layout { let layout = layout_in store.old state.now in
+        let gap = gap_before layout left.now right.now fixed in
+        IfOk result (λ next. IfSome next (λ n. layout_in store.new n ≡ layout_after style.now layout gap brk)) }
+    ensures cost { let layout = layout_in store.old state.now in
+        let gap = gap_before layout left.now right.now fixed in
+        IfOk result (λ next. IfSome next (λ n. n.cost ≡ state.now.cost + cost_of style.now layout gap brk)) }
+    ensures bound { IfOk result (λ next. IfSome next (λ n. n.cost ≤ n.index * 18446744073709551615)) }
+    ensures known { IfOk result (λ next. IfSome next (IsIn store.new)) }
+    ensures grown { IsGrown store.old store.new }
+{
     let gap = Gap {
         left: *left,
         right: *right,
         fixed,
         first: state.index == 0,
     };
-    let left_open = store.lowest(state.node, gap.right.depth);
-    let spot = spot_in(store, state, &gap, left_open);
-    if !allows(style, &spot, &gap, brk) {
+    if is_refused(style, &gap, &rules.rule, brk) {
         return Ok(None);
     }
-    let next = step_from(store, style, state, &gap, left_open, &spot, brk)?;
+    let left_open = store.lowest(state.node, gap.right.depth);
+    let spot = spot_in(store, state, &gap, left_open);
+    if !allows(style, &spot, &gap, &rules.rule, brk) {
+        return Ok(None);
+    }
+    let next = step_from(store, style, state, &gap, rules, left_open, &spot, brk)?;
     Ok(Some(next))
 }
 
@@ -281,5 +341,7 @@ pub fn token_start_in(
         first: state.index == 0,
     };
     let left_open = store.lowest(state.node, gap.right.depth);
-    start_column(style, &spot_in(store, state, &gap, left_open), &gap, brk)
+    let spot = spot_in(store, state, &gap, left_open);
+    let spaces = spaces_before(style, left, right);
+    start_column(style, &spot, &gap, spaces, brk)
 }

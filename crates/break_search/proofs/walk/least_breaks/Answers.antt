@@ -1,10 +1,12 @@
+use Rattle.std.proofs.Common.{◌<◌, length, sym, subst}
+use Rattle.line_state.specs.Line.{Line}
 use Rattle.line_state.specs.Store.{state_in}
 use Rattle.break_search.proofs.LeastBreaks.{little_begins_in, little_more}
 use Rattle.break_search.proofs.walk.least_breaks.Goals as goal
 
 pub tokens-init : goal.tokens-init
 tokens-init c =
-    little_begins_in _ c.in_ok-breaks.breaks.items c.first.new.store c.in_ok-state.state c.in_ok-breaks.ensures.items c.requires.some c.in_ok-state.ensures.layout c.in_ok-state.ensures.small c.in_ok-state.ensures.known
+    little_begins_in _ c.in_ok-breaks.breaks.items c.first.new.store c.in_ok-state.state c.in_ok-breaks.ensures.items (subst (λ (l : Line). 0 < length l.tokens) (sym c.in_ok-line.ensures) c.requires.some) c.in_ok-state.ensures.layout c.in_ok-state.ensures.small c.in_ok-state.ensures.known
 
 pub tokens-preserved : goal.tokens-preserved
 tokens-preserved c = record {
