@@ -156,8 +156,9 @@ impl<'a> SearchedLine<'a> {
         rules_at(self.rules, at - 1)
     }
 
-    /// Whether the choices that break only where they have to can cost nothing. They can't where what stands between two
-    /// gaps that have to break is wider than a row. This test of widths alone spares many lines the walk over their states.
+    /// Whether the choices that break only where they have to can cost nothing. They can't where what stands between
+    /// two gaps that have to break is wider than a row. This test of widths alone spares many lines the walk over their
+    /// states.
     pub fn may_be_straight(&self) -> bool
         requires { IsSearchable self.now }
     {

@@ -28,8 +28,8 @@ pub enum WordsFault<'w> {
     /// `--lines` stands beside two FILEs or more.
     #[error("clang_format: --lines takes one file")]
     ManyFiles,
-    /// This value of `--generate` isn't N:COUNT, N from 0 to 999999999 and COUNT from 1 to 100000, each in 1 to 9 decimal
-    /// digits.
+    /// This value of `--generate` isn't N:COUNT, N from 0 to 999999999 and COUNT from 1 to 100000, each in 1 to 9
+    /// decimal digits.
     #[error("clang_format: --generate {0}: not N:COUNT")]
     BadGenerate(&'w str),
     /// `--generate` stands beside a FILE, `-i` or `--dump-config`.

@@ -203,8 +203,8 @@ fn read_others<'w>(alloc: Global, words: &'w [String]) -> Result<Given<'w>, Word
 /// `Form`: they are not of the command's form. `BadLines`: they are, and the value of `--lines` is no list of ranges.
 /// `BadStates`: `--states` tells no budget. `NoInput`: they have `-i` and neither a FILE nor `--dump-config`.
 /// `ManyFiles`: they have `--lines` and two FILEs or more. `BadGenerate`: the value of `--generate` isn't N:COUNT.
-/// `GenerateBeside`: they have `--generate` and a FILE, `-i` or `--dump-config`. The first that fits is told. `NoMemory`:
-/// memory ran out.
+/// `GenerateBeside`: they have `--generate` and a FILE, `-i` or `--dump-config`. The first that fits is told.
+/// `NoMemory`: memory ran out.
 pub fn read_words<'w>(alloc: Global, words: &'w [String]) -> Result<Words<'w>, WordsFault<'w>>
     ensures reads { Reads (map string_bytes words.now) result }
     ensures most { IfOk result (λ said. said.budget ≤ 16000000) }
