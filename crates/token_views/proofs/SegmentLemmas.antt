@@ -44,7 +44,7 @@ well (s ∷ segments) n low (suc j) h order counted within =
     well segments (n + (s.end - s.first)) (s.end + 1) j (omega (arith, h, order.0, order.1)) order.2 counted.1 (omega arith)
 
 -- no fewer places stand before a segment than before the first
-after_first : (segments : List Segment) (n j : ℕ) → CountFrom n segments → j < length segments → n ≤ (get_or segments j no_segment).before
+pub after_first : (segments : List Segment) (n j : ℕ) → CountFrom n segments → j < length segments → n ≤ (get_or segments j no_segment).before
 after_first [] n j counted h = absurd (omega arith)
 after_first (s ∷ segments) n zero counted h = omega (arith, counted.0)
 after_first (s ∷ segments) n (suc j) counted h = omega (arith, after_first segments (n + (s.end - s.first)) j counted.1 (omega arith))

@@ -1,6 +1,6 @@
 //! Views and their segments.
 
-ghost use Rattle.std.specs.Prelude.{◌≡◌, ◌≢◌, ◌<◌, ◌≤◌, ◌+◌, ◌-◌, ◌↔◌, ℕ, All, map, length, get_or, IsTrue, IfOk};
+ghost use Rattle.std.specs.Prelude.{◌≡◌, ◌≢◌, ◌<◌, ◌≤◌, ◌+◌, ◌-◌, ◌↔◌, ℕ, All, map, length, get_or, min, slice_range, IsTrue, IfOk};
 ghost use Rattle.std.specs.Bool.{OnTrue};
 ghost use Rattle.std.specs.List.{range_with_len};
 ghost use Rattle.token_views.specs.Segments.{segment_bounds, ids_of, AreSegments, HasPlace, AscendFrom, bounds_of};
@@ -102,6 +102,25 @@ impl<'r> View<'r> {
         self.segments
     }
 
+    /// The view of its places from one to before another. Want of memory is the only error.
+    pub fn part<'b>(&self, first: u32, end: u32, bump: &'b Bump) -> Result<View<'b>, NoMemory>
+        requires some { first < end }
+        requires within { end ≤ length self.now }
+        ensures items { IfOk result (λ view. view ≡ slice_range self.now first end) }
+        ensures increase { IfOk result (λ view. Increase view) }
+    {
+        let segments = self.segments();
+        let mut stretches = Vec::new(bump);
+        for number in segment_at(segments, first)..segments.len() {
+            let segment = &segments[number];
+            if end <= segment.before {
+                break;
+            }
+            stretches.push(between(segment, first, end))?;
+        }
+        View::of_stretches(&stretches, bump)
+    }
+
     /// How many places there are.
     pub fn len(&self) -> u32
         ensures count { result ≡ length self.now }
@@ -152,6 +171,22 @@ impl<'r> View<'r> {
     {
         let segment = self.segments[segment_at(self.segments, k)];
         k > 0 && segment.before == k
+    }
+}
+
+// The items of a segment that stand at places from one to before another, of which there are some.
+fn between(segment: &Segment, first: u32, end: u32) -> Stretch
+    requires some { segment.now.first < segment.now.end }
+    requires room { segment.now.before ≤ segment.now.first }
+    requires early { first < segment.now.before + (segment.now.end - segment.now.first) }
+    requires late { segment.now.before < end }
+    ensures { result ≡ record { first = segment.now.first + (first - segment.now.before); end = segment.now.first + min (segment.now.end - segment.now.first) (end - segment.now.before) } }
+{
+    let skipped = first.saturating_sub(segment.before);
+    let count = (segment.end - segment.first).min(end - segment.before);
+    Stretch {
+        first: segment.first + skipped,
+        end: segment.first + count,
     }
 }
 
