@@ -1,5 +1,6 @@
 pub mod LineCounts
 pub mod Opens
+pub mod Parts
 pub mod Planned
 pub mod OfTexts
 pub mod Seen

@@ -1,5 +1,6 @@
 -- Runs, one after another, with what is told of their lines.
 use Rattle.std.proofs.Common.{◌≡◌, ◌∙◌, ℕ, suc, ◌+◌, ◌<◌, Option, List, [], ◌∷◌, ◌++◌, length, append_assoc, refl, sym, ap, arith, subst}
+use Rattle.std.specs.Prelude.{slice_range}
 use Rattle.std.proofs.lemmas.List.{append-nil}
 use Rattle.style_table.specs.declared.style.Style.{Style}
 use Rattle.line_tokens.specs.declared.LineTok.{LineTok}
@@ -10,6 +11,7 @@ use Rattle.token_classes.specs.Viewed.{classes_of}
 use Rattle.line_tokens.specs.declared.line.ULine.{ULine}
 use Rattle.line_tokens.specs.Lines.{CutPlaces}
 use Rattle.unwrapped_lines.proofs.Started.{lines_cut_views}
+use Rattle.view_parts.specs.Parts.{part_ends}
 use Rattle.replacements.specs.declared.slot.Slot.{Slot}
 use Rattle.run_layout.specs.Outcomes.{Kept, LaidLine, AfterLines, row_of}
 use Rattle.run_layout.specs.Reports.{report_by, reports_of, searched_of, cost_of}
@@ -19,10 +21,11 @@ use Rattle.run_layout.specs.declared.report.Tally.{Tally}
 use Rattle.run_layout.proofs.Views.{lines_cut}
 use Rattle.run_layout.proofs.WaitingComments.{nothing_waits}
 use Rattle.run_layout.proofs.Walked.{cut_within}
-use Rattle.format_core.specs.Plans.{AfterRuns}
+use Rattle.format_core.specs.Plans.{AfterParts, AfterSeen, AfterRuns}
 use Rattle.format_core.specs.Runs.{AreDecided, seen_by, lines_of_items, after_kept, toks_of_items}
-use Rattle.format_core.specs.RunsTold.{AreItemsTold, AreRunsTold}
+use Rattle.format_core.specs.RunsTold.{AreItemsTold, ArePartsTold, AreSeenTold, AreRunsTold}
 use Rattle.format_core.proofs.NothingNew.{kept_nothing}
+use Rattle.format_core.proofs.Parts.{part_decided}
 use Rattle.format_core.proofs.SoundPlan.{tell}
 
 -- ## Lists of what came of lines
@@ -39,7 +42,7 @@ cost_append : (done later : List LaidLine) → cost_of (done ++ later) ≡ cost_
 cost_append [] later = omega arith
 cost_append (l ∷ done) later = omega (arith, cost_append done later)
 
--- ## A run that sees nothing new
+-- ## Items whose gaps are decided
 
 -- lines whose gaps are decided
 record AllKept (style : Style) (budget : ℕ) (arena : Contents) (ids : List ℕ) (toks : List LineTok) (run : ℕ) (plan : List (Option Slot)) (lines : List ULine) : Type 0 where
@@ -63,7 +66,7 @@ all_kept style budget arena ids toks run plan at (line ∷ lines) cut some =
       cost = omega (arith, rest.cost);
     }
 
--- such a run leaves the plan as it is, and tells nothing
+-- such items leave the plan as it is, and tell nothing
 pub items_told_nothing : (style : Style) (budget : ℕ) (arena : Contents) (run : ℕ) (plan : List (Option Slot)) (ids : List ℕ) (tally : Tally) → AreDecided plan ids → AreItemsTold style budget arena run plan ids plan tally tally
 items_told_nothing style budget arena run plan ids tally some =
     let first : after_kept style arena plan ids ≡ plan = kept_nothing style arena plan 0 ids (kept_gaps_of (classes_of arena ids)) some in
@@ -81,7 +84,90 @@ items_told_nothing style budget arena run plan ids tally some =
       };
     }
 
--- ## What goes on from here goes on from the start
+-- ## The parts of a view
+
+pub record AllParts (style : Style) (budget : ℕ) (arena : Contents) (run : ℕ) (plan : List (Option Slot)) (ids : List ℕ) (ends : List ℕ) (before now : Tally) (final : List (Option Slot)) (done : List LaidLine) : Type 0 where
+  pub whole : List LaidLine
+  pub parts_are : AfterParts style budget arena run plan ids 0 ends final whole
+  pub reports : before.reports.items ++ reports_of whole ≡ now.reports.items ++ reports_of done
+  pub searched : before.searched + searched_of whole ≡ now.searched + searched_of done
+  pub cost : before.cost + cost_of whole ≡ now.cost + cost_of done
+
+-- what goes on from here goes on from the first part
+abbrev pub GoesOnParts : Style → ℕ → Contents → ℕ → List (Option Slot) → List ℕ → List ℕ → Tally → List (Option Slot) → ℕ → List ℕ → Tally → Type 0
+GoesOnParts style budget arena run plan ids ends before here first left now =
+    (final : List (Option Slot)) (done : List LaidLine) → AfterParts style budget arena run here ids first left final done → AllParts style budget arena run plan ids ends before now final done
+
+pub parts_begin : (style : Style) (budget : ℕ) (arena : Contents) (run : ℕ) (plan : List (Option Slot)) (ids ends left : List ℕ) (before : Tally) → left ≡ ends → GoesOnParts style budget arena run plan ids ends before plan 0 left before
+parts_begin style budget arena run plan ids ends left before all = λ final done h.
+    record { whole = done; parts_are = subst (λ (es : List ℕ). AfterParts style budget arena run plan ids 0 es final done) all h; reports = refl; searched = refl; cost = refl }
+
+pub part_done : (style : Style) (budget : ℕ) (arena : Contents) (run : ℕ) (plan : List (Option Slot)) (ids ends : List ℕ) (before now next : Tally) (here after : List (Option Slot)) (first end : ℕ) (left rest : List ℕ) → left ≡ end ∷ rest
+    → GoesOnParts style budget arena run plan ids ends before here first left now → AreItemsTold style budget arena run here (slice_range ids first end) after now next
+    → GoesOnParts style budget arena run plan ids ends before after end rest next
+part_done style budget arena run plan ids ends before now next here after first end left rest more on laid = λ final done h.
+    let all : List LaidLine = laid.done ++ done in
+    let parts : AfterParts style budget arena run here ids first (end ∷ rest) final all = (after, laid.done, done, laid.items, h, refl) in
+    let w = on final all (subst (λ (es : List ℕ). AfterParts style budget arena run here ids first es final all) (sym more) parts) in
+    record {
+      whole = w.whole;
+      parts_are = w.parts_are;
+      reports = w.reports
+          ∙ (ap (λ (xs : List Report). now.reports.items ++ xs) (reports_append laid.done done)
+          ∙ (sym (append_assoc now.reports.items (reports_of laid.done) (reports_of done)) ∙ ap (λ (xs : List Report). xs ++ reports_of done) (sym laid.told.reports)));
+      searched = omega (arith, w.searched, laid.told.searched, searched_append laid.done done);
+      cost = omega (arith, w.cost, laid.told.cost, cost_append laid.done done);
+    }
+
+pub parts_end : (style : Style) (budget : ℕ) (arena : Contents) (run : ℕ) (plan : List (Option Slot)) (ids ends left : List ℕ) (first : ℕ) (before now : Tally) (here : List (Option Slot)) → left ≡ []
+    → GoesOnParts style budget arena run plan ids ends before here first left now → ArePartsTold style budget arena run plan ids 0 ends here before now
+parts_end style budget arena run plan ids ends left first before now here none on =
+    let w = on here [] (subst (λ (es : List ℕ). AfterParts style budget arena run here ids first es here []) (sym none) (refl, refl)) in
+    record {
+      done = w.whole;
+      parts = w.parts_are;
+      told = record { reports = sym (w.reports ∙ append-nil now.reports.items); searched = omega (arith, w.searched); cost = omega (arith, w.cost) };
+    }
+
+-- parts whose gaps are decided tell nothing
+parts_told_nothing : (style : Style) (budget : ℕ) (arena : Contents) (run : ℕ) (plan : List (Option Slot)) (ids : List ℕ) (first : ℕ) (ends : List ℕ) (tally : Tally) → AreDecided plan ids
+    → ArePartsTold style budget arena run plan ids first ends plan tally tally
+parts_told_nothing style budget arena run plan ids first [] tally some = record {
+  done = [];
+  parts = (refl, refl);
+  told = record { reports = sym (append-nil tally.reports.items); searched = omega arith; cost = omega arith };
+}
+parts_told_nothing style budget arena run plan ids first (end ∷ ends) tally some =
+    let here = items_told_nothing style budget arena run plan (slice_range ids first end) tally (part_decided plan ids first end some) in
+    let later = parts_told_nothing style budget arena run plan ids end ends tally some in
+    let reports = tally.reports.items in
+    record {
+      done = here.done ++ later.done;
+      parts = (plan, here.done, later.done, here.items, later.parts, refl);
+      told = record {
+        reports = later.told.reports
+            ∙ (ap (λ (xs : List Report). xs ++ reports_of later.done) here.told.reports
+            ∙ (append_assoc reports (reports_of here.done) (reports_of later.done) ∙ ap (λ (xs : List Report). reports ++ xs) (sym (reports_append here.done later.done))));
+        searched = omega (arith, here.told.searched, later.told.searched, searched_append here.done later.done);
+        cost = omega (arith, here.told.cost, later.told.cost, cost_append here.done later.done);
+      };
+    }
+
+pub seen_told_nothing : (style : Style) (budget : ℕ) (arena : Contents) (run : ℕ) (plan : List (Option Slot)) (ids : List ℕ) (tally : Tally) → AreDecided plan ids → AreSeenTold style budget arena run plan ids plan tally tally
+seen_told_nothing style budget arena run plan ids tally some =
+    let all = parts_told_nothing style budget arena run plan ids 0 (part_ends arena ids) tally some in
+    record { done = all.done; seen = all.parts; told = all.told }
+
+-- all parts are the run's
+pub all_seen : (style : Style) (budget : ℕ) (arena : Contents) (run : ℕ) (plan : List (Option Slot)) (ids seen ends : List ℕ) (final : List (Option Slot)) (before after : Tally) → ids ≡ seen → ends ≡ part_ends arena ids
+    → ArePartsTold style budget arena run plan ids 0 ends final before after → AreSeenTold style budget arena run plan seen final before after
+all_seen style budget arena run plan ids seen ends final before after is all laid = record {
+  done = laid.done;
+  seen = subst (λ (xs : List ℕ). AfterSeen style budget arena run plan xs final laid.done) is (subst (λ (es : List ℕ). AfterParts style budget arena run plan ids 0 es final laid.done) all laid.parts);
+  told = laid.told;
+}
+
+-- ## The runs
 
 pub record AllRuns (style : Style) (budget : ℕ) (arena : Contents) (plan : List (Option Slot)) (count : ℕ) (before now : Tally) (final : List (Option Slot)) (done : List LaidLine) : Type 0 where
   pub whole : List LaidLine
@@ -90,6 +176,7 @@ pub record AllRuns (style : Style) (budget : ℕ) (arena : Contents) (plan : Lis
   pub searched : before.searched + searched_of whole ≡ now.searched + searched_of done
   pub cost : before.cost + cost_of whole ≡ now.cost + cost_of done
 
+-- what goes on from here goes on from the first run
 abbrev pub GoesOnRuns : Style → ℕ → Contents → List (Option Slot) → ℕ → Tally → List (Option Slot) → ℕ → ℕ → Tally → Type 0
 GoesOnRuns style budget arena plan count before here run left now =
     (final : List (Option Slot)) (done : List LaidLine) → AfterRuns style budget arena here run left final done → AllRuns style budget arena plan count before now final done
@@ -99,10 +186,10 @@ runs_begin style budget arena plan count left before all = λ final done h.
     record { whole = done; runs_are = subst (λ n. AfterRuns style budget arena plan 0 n final done) all h; reports = refl; searched = refl; cost = refl }
 
 pub run_done : (style : Style) (budget : ℕ) (arena : Contents) (plan : List (Option Slot)) (count : ℕ) (before now next : Tally) (here after : List (Option Slot)) (run rest left : ℕ) → left ≡ suc rest
-    → GoesOnRuns style budget arena plan count before here run left now → AreItemsTold style budget arena run here (seen_by arena run) after now next → GoesOnRuns style budget arena plan count before after (run + 1) rest next
+    → GoesOnRuns style budget arena plan count before here run left now → AreSeenTold style budget arena run here (seen_by arena run) after now next → GoesOnRuns style budget arena plan count before after (run + 1) rest next
 run_done style budget arena plan count before now next here after run rest left more on laid = λ final done h.
     let all : List LaidLine = laid.done ++ done in
-    let runs : AfterRuns style budget arena here run (suc rest) final all = (after, laid.done, done, laid.items, h, refl) in
+    let runs : AfterRuns style budget arena here run (suc rest) final all = (after, laid.done, done, laid.seen, h, refl) in
     let w = on final all (subst (λ n. AfterRuns style budget arena here run n final all) (sym more) runs) in
     record {
       whole = w.whole;
@@ -124,7 +211,7 @@ runs_end style budget arena plan count run left before now here none on =
       told = record { reports = sym (w.reports ∙ append-nil now.reports.items); searched = omega (arith, w.searched); cost = omega (arith, w.cost) };
     }
 
--- ## One run
+-- ## One part
 
 pub items_from : (style : Style) (budget : ℕ) (arena : Contents) (run : ℕ) (plan kept : List (Option Slot)) (ids : List ℕ) (toks : List LineTok) (lines : List ULine) (final : List (Option Slot)) (before after : Tally)
     → toks ≡ toks_of_items style arena ids → kept ≡ after_kept style arena plan ids → lines ≡ lines_of_items style arena ids → IsViewLaid style budget arena ids toks run kept lines final before after

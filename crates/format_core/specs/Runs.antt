@@ -1,11 +1,9 @@
 -- What a run sees: docs/PROFILE.md, "Runs".
-use Rattle.std.specs.Prelude.{◌≡◌, ◌<◌, ℕ, ◌+◌, Option, None, IsSome, List, get_or, length, replicate}
+use Rattle.std.specs.Prelude.{◌<◌, ℕ, Option, IsSome, List, get_or, length}
 use Rattle.style_table.specs.declared.style.Style.{Style}
 use Rattle.token_arena.specs.Gaps.{Contents}
 use Rattle.branch_runs.specs.Marks.{marks_of}
-use Rattle.branch_runs.specs.declared.mark.Mark.{Mark}
-use Rattle.branch_runs.specs.Cut.{end_of}
-use Rattle.branch_runs.specs.Reading.{effects, tree_of}
+use Rattle.branch_runs.specs.Reading.{tree_of}
 use Rattle.branch_runs.specs.Runs.{need, view_of}
 use Rattle.brackets.specs.Kept.{kept_gaps_of}
 use Rattle.brackets.specs.Partners.{partners_of}

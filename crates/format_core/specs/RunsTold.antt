@@ -8,14 +8,26 @@ use Rattle.run_layout.specs.Outcomes.{LaidLine}
 use Rattle.run_layout.specs.RunsLaid.{IsToldOf}
 use Rattle.run_layout.specs.declared.report.Tally.{Tally}
 use Rattle.run_layout.specs.Reports.{reports_of, searched_of, cost_of}
-use Rattle.format_core.specs.Plans.{AfterItems, AfterRuns, IsPlanOf}
+use Rattle.format_core.specs.Plans.{AfterItems, AfterParts, AfterSeen, AfterRuns, IsPlanOf}
 use Rattle.format_core.specs.Runs.{runs_of}
 use Rattle.format_core.specs.declared.runs.Planned.{Planned}
 
--- behind the run that sees these items stands this plan, and its lines are told so
+-- behind a part of these items stands this plan, and its lines are told so
 pub record AreItemsTold (style : Style) (budget : ℕ) (arena : Contents) (run : ℕ) (plan : List (Option Slot)) (ids : List ℕ) (final : List (Option Slot)) (before after : Tally) : Type 0 where
   pub done : List LaidLine
   pub items : AfterItems style budget arena run plan ids final done
+  pub told : IsToldOf done before after
+
+-- the same behind the parts of a view with these ends, the first of which begins at this place
+pub record ArePartsTold (style : Style) (budget : ℕ) (arena : Contents) (run : ℕ) (plan : List (Option Slot)) (ids : List ℕ) (first : ℕ) (ends : List ℕ) (final : List (Option Slot)) (before after : Tally) : Type 0 where
+  pub done : List LaidLine
+  pub parts : AfterParts style budget arena run plan ids first ends final done
+  pub told : IsToldOf done before after
+
+-- the same behind the run that sees these items
+pub record AreSeenTold (style : Style) (budget : ℕ) (arena : Contents) (run : ℕ) (plan : List (Option Slot)) (ids : List ℕ) (final : List (Option Slot)) (before after : Tally) : Type 0 where
+  pub done : List LaidLine
+  pub seen : AfterSeen style budget arena run plan ids final done
   pub told : IsToldOf done before after
 
 -- the same behind so many runs from this one on

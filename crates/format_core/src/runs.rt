@@ -1,6 +1,6 @@
 //! The plan of a text, run by run over one store of items.
 
-ghost use Rattle.std.specs.Prelude.{◌≡◌, ◌<◌, ◌≤◌, ◌+◌, ◌*◌, ◌^◌, All, IfOk, IsTrue, OnOk, length, option_map};
+ghost use Rattle.std.specs.Prelude.{◌≡◌, ◌<◌, ◌≤◌, ◌+◌, ◌*◌, ◌^◌, ◌-◌, All, IfOk, IsTrue, OnOk, length, option_map, slice_range};
 ghost use Rattle.c_chars.specs.declared.TheConstants.{LIMIT};
 ghost use Rattle.style_table.specs.Range.{IsInRange};
 ghost use Rattle.token_classes.specs.Viewed.{AreWithin, item_classes};
@@ -8,7 +8,7 @@ ghost use Rattle.directives.specs.Sections.{sections_of, IsCut};
 ghost use Rattle.early_gaps.specs.Dead.{IsTreeOf};
 ghost use Rattle.run_layout.specs.Counted.{IsCounted};
 ghost use Rattle.format_core.specs.Runs.{AreDecided, runs_of, seen_by};
-ghost use Rattle.format_core.specs.RunsTold.{AreItemsTold, AreRunsTold, IsPlanned};
+ghost use Rattle.format_core.specs.RunsTold.{AreItemsTold, AreRunsTold, AreSeenTold, IsPlanned};
 
 use crate::kept::keep_gaps;
 use annotator::roles_of_classes;
@@ -27,6 +27,7 @@ use token_arena::TokenArena;
 use token_classes::{TokenClass, classes_among, item_classes};
 use token_views::View;
 use unwrapped_lines::lines_of_classes;
+use view_parts::part_ends;
 
 /// The plan of a text, and what is told of its lines.
 #[derive(Drop)]
@@ -39,8 +40,8 @@ pub(crate) struct Planned<'a> {
     pub tally: Tally<'a>,
 }
 
-/// Decides the gaps of the items that a run sees, where they are open: first those that stay as they are. `all` are
-/// the classes of all items of the text.
+/// Decides the gaps of these items, where they are open: first those that stay as they are. `all` are the classes of all
+/// items of the text.
 fn lay_out_items(
     alloc: Global,
     style: &Style,
@@ -58,12 +59,12 @@ fn lay_out_items(
     requires all { all.now ≡ item_classes arena.now }
     requires within { AreWithin arena.now view.now }
     requires whole { length plan.old ≡ length arena.now.tokens + 1 }
-    requires room { tally.old.searched ≤ 2 ^ 59 }
+    requires room { tally.old.searched + length view.now < 2 ^ 60 }
     requires cheap { tally.old.cost ≤ tally.old.searched * 18446744073709551615 }
     requires counted { IsCounted arena.now tally.old.lines }
     ensures told { OnOk result (AreItemsTold style.now budget arena.now number plan.old view.now plan.new tally.old tally.new) }
     ensures len { OnOk result (length plan.new ≡ length plan.old) }
-    ensures room { OnOk result (tally.new.searched ≤ tally.old.searched + 33554432) }
+    ensures room { OnOk result (tally.new.searched ≤ tally.old.searched + length view.now) }
     ensures cheap { OnOk result (tally.new.cost ≤ tally.new.searched * 18446744073709551615) }
     ensures counted { OnOk result (IsCounted arena.now tally.new.lines) }
 {
@@ -94,8 +95,49 @@ fn are_decided(view: &View<'_>, plan: &Plan<'_>) -> bool
     true
 }
 
-/// Decides the gaps of the items that the run with this number sees, where they are open. A run of branches without
-/// text sees nothing new, and its lines aren't asked for.
+/// Decides the gaps of a part of a view, from one place to before another, where they are open. A part of which all gaps
+/// are decided, as an earlier run left it, isn't looked at.
+fn lay_out_part(
+    alloc: Global,
+    style: &Style,
+    budget: u64,
+    arena: &TokenArena<'_, '_>,
+    all: &[TokenClass],
+    number: u32,
+    view: &View<'_>,
+    first: u32,
+    end: u32,
+    plan: &mut Plan<'_>,
+    tally: &mut Tally<'_>,
+    room: &Bump,
+) -> Result<(), NoMemory>
+    requires range { IsInRange style.now }
+    requires budget { budget ≤ 16000000 }
+    requires all { all.now ≡ item_classes arena.now }
+    requires within { AreWithin arena.now view.now }
+    requires some { first < end }
+    requires inside { end ≤ length view.now }
+    requires whole { length plan.old ≡ length arena.now.tokens + 1 }
+    requires room { tally.old.searched + (end - first) < 2 ^ 60 }
+    requires cheap { tally.old.cost ≤ tally.old.searched * 18446744073709551615 }
+    requires counted { IsCounted arena.now tally.old.lines }
+    ensures told { OnOk result (AreItemsTold style.now budget arena.now number plan.old (slice_range view.now first end) plan.new tally.old tally.new) }
+    ensures len { OnOk result (length plan.new ≡ length plan.old) }
+    ensures room { OnOk result (tally.new.searched ≤ tally.old.searched + (end - first)) }
+    ensures cheap { OnOk result (tally.new.cost ≤ tally.new.searched * 18446744073709551615) }
+    ensures counted { OnOk result (IsCounted arena.now tally.new.lines) }
+{
+    let part = view.part(first, end, room)?;
+    if are_decided(&part, plan) {
+        return Ok(());
+    }
+    lay_out_items(
+        alloc, style, budget, arena, all, number, &part, plan, tally, room,
+    )
+}
+
+/// Decides the gaps of the items that the run with this number sees, where they are open, part after part. A run of branches
+/// without text sees nothing new, and its parts aren't asked for. What a part takes of memory serves the next one too.
 fn lay_out_seen(
     alloc: Global,
     style: &Style,
@@ -117,7 +159,7 @@ fn lay_out_seen(
     requires room { tally.old.searched ≤ 2 ^ 59 }
     requires cheap { tally.old.cost ≤ tally.old.searched * 18446744073709551615 }
     requires counted { IsCounted arena.now tally.old.lines }
-    ensures told { OnOk result (AreItemsTold style.now budget arena.now number plan.old (seen_by arena.now number) plan.new tally.old tally.new) }
+    ensures told { OnOk result (AreSeenTold style.now budget arena.now number plan.old (seen_by arena.now number) plan.new tally.old tally.new) }
     ensures len { OnOk result (length plan.new ≡ length plan.old) }
     ensures room { OnOk result (tally.new.searched ≤ tally.old.searched + 33554432) }
     ensures cheap { OnOk result (tally.new.cost ≤ tally.new.searched * 18446744073709551615) }
@@ -127,9 +169,22 @@ fn lay_out_seen(
     if are_decided(&view, plan) {
         return Ok(());
     }
-    lay_out_items(
-        alloc, style, budget, arena, all, number, &view, plan, tally, run,
-    )?;
+    let items = arena.len();
+    let count = view.len();
+    prove!(count <= items);
+    let classes = classes_among(all, arena, &view, run)?;
+    let ends = part_ends(arena, &view, classes, run)?;
+    let mut room = Bump::new(alloc);
+    let mut first = 0;
+    for end in ends {
+        lay_out_part(
+            alloc, style, budget, arena, all, number, &view, first, *end, plan, tally, &room,
+        )?;
+        first = *end;
+        if room.reset().is_err() {
+            room = Bump::new(alloc);
+        }
+    }
     Ok(())
 }
 

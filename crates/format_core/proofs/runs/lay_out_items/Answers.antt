@@ -34,8 +34,3 @@ returns-clause-told c =
     (c.in_ok-toks.ensures.roles ∙ (ap (λ (ps : List (Option ℕ)). roles_of arena ids ps lines) partners_is ∙ ap (λ (ls : List ULine). roles_of arena ids (partners_of (classes_of arena ids)) ls) lines_is))
     (c.keep_gaps.ensures.plan ∙ ap (λ (marks : List Bool). decided_all plan (kept_decisions style arena 0 ids marks)) (c.in_ok-facts.ensures.kept ∙ ap (λ (cs : List TokenClass). kept_gaps_of cs) classes))
     lines_is c.in_ok-lay_out_view.ensures.laid
-
-pub returns-clause-room : goal.returns-clause-room
-returns-clause-room c =
-    let most : c.len-items.result ≤ 8388608 = c.len-items.ensures.most in
-    omega (arith, c.in_ok-lay_out_view.ensures.room, c.if-prove.false, most, c.len-count.ensures.count)

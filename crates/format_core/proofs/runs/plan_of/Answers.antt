@@ -1,4 +1,4 @@
-use Rattle.std.proofs.Common.{◌≡◌, ◌∙◌, ◌++◌, List, ap, arith}
+use Rattle.std.proofs.Common.{◌∙◌, ◌++◌, List, ap, arith}
 use Rattle.branch_runs.specs.declared.mark.Mark.{Mark}
 use Rattle.branch_runs.specs.Reading.{read}
 use Rattle.branch_runs.specs.Runs.{need}

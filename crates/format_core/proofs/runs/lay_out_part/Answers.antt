@@ -1,0 +1,11 @@
+use Rattle.std.proofs.Common.{ℕ, List, subst}
+use Rattle.std.specs.Prelude.{slice_range}
+use Rattle.format_core.specs.Runs.{AreDecided}
+use Rattle.format_core.proofs.RunsTold.{items_told_nothing}
+use Rattle.format_core.proofs.runs.lay_out_part.Goals as goal
+
+pub returns-then-are_decided-clause-told : goal.returns-then-are_decided-clause-told
+returns-then-are_decided-clause-told c =
+    let plan = c.args.plan.now in
+    items_told_nothing c.args.style.now c.args.budget c.args.arena.now c.args.number plan (slice_range c.args.view.now c.args.first c.args.end) c.args.tally.now
+    (subst (λ (ids : List ℕ). AreDecided plan ids) c.in_ok-part.ensures.items (c.are_decided.ensures c.if-are_decided.true))
