@@ -9,8 +9,8 @@ use Rattle.token_classes.specs.Classes.{is_comment, is_word, is_opener}
 use Rattle.token_classes.specs.Viewed.{classes_of}
 use Rattle.brackets.specs.Partners.{partners_of}
 use Rattle.view_parts.specs.declared.walk.Walk.{Walk}
-use Rattle.view_parts.specs.Walk.{start, next_walk, goes_on_at, behind_partner, is_lost}
-use Rattle.view_parts.specs.Parts.{item_began, declares, declares_among, is_end, cuts_at, cuts_from, last_end, part_ends, AreEnds}
+use Rattle.view_parts.specs.Walk.{start, next_walk, goes_on_at, behind_partner, is_lost, is_end}
+use Rattle.view_parts.specs.Parts.{item_began, declares, declares_among, parts_rows, cuts_at, cuts_from, last_end, part_ends, AreEnds}
 
 -- whether a declaration begins at a place, told by the token there
 pub declares_here : (arena : Contents) (ids : List ℕ) (classes : List TokenClass) (place : ℕ) → place < length classes
@@ -63,15 +63,16 @@ cuts_in_order (suc n) arena ids classes partners w low some order later =
     rest : List ℕ
     rest = cuts_from n arena ids classes partners (next_walk classes partners w)
 
-    by_cut : (cut begins : Bool) → is_end w.before ≡ cut → w.place < count → ((from : ℕ) → from < count → from < (next_walk classes partners w).place → AreEnds from count (rest ++ last_end count))
-        → AreEnds low count (((if cut && begins then w.place ∷ [] else []) ++ rest) ++ last_end count)
-    by_cut true true is here on = (later is, on w.place here (on_later count partners w.place (get_or classes w.place Nothing) here))
-    by_cut true false is here on = on low some (let up = on_later count partners w.place (get_or classes w.place Nothing) here in omega (arith, up, order))
-    by_cut false begins is here on = on low some (let up = on_later count partners w.place (get_or classes w.place Nothing) here in omega (arith, up, order))
+    by_cut : (cut begins rows : Bool) → is_end w.before ≡ cut → w.place < count → ((from : ℕ) → from < count → from < (next_walk classes partners w).place → AreEnds from count (rest ++ last_end count))
+        → AreEnds low count (((if cut && begins && rows then w.place ∷ [] else []) ++ rest) ++ last_end count)
+    by_cut true true true is here on = (later is, on w.place here (on_later count partners w.place (get_or classes w.place Nothing) here))
+    by_cut true false rows is here on = on low some (let up = on_later count partners w.place (get_or classes w.place Nothing) here in omega (arith, up, order))
+    by_cut true true false is here on = on low some (let up = on_later count partners w.place (get_or classes w.place Nothing) here in omega (arith, up, order))
+    by_cut false begins rows is here on = on low some (let up = on_later count partners w.place (get_or classes w.place Nothing) here in omega (arith, up, order))
 
     by_place : (here : Bool) → nat_lt w.place count ≡ here → ((from : ℕ) → from < count → from < (next_walk classes partners w).place → AreEnds from count (rest ++ last_end count))
         → AreEnds low count ((if here then cuts_at arena ids classes w ++ rest else []) ++ last_end count)
-    by_place true is on = by_cut (is_end w.before) (declares arena ids classes w.place) refl (ltb-true w.place count is) on
+    by_place true is on = by_cut (is_end w.before) (declares arena ids classes w.place) (parts_rows classes w) refl (ltb-true w.place count is) on
     by_place false is on = last_is_end low count some
 
 pub as_many : (arena : Contents) (ids : List ℕ) → length (classes_of arena ids) ≡ length ids

@@ -1,5 +1,5 @@
 -- The parts of a view: docs/PROFILE.md, "Parts".
-use Rattle.std.specs.Prelude.{◌≡◌, ◌<◌, ℕ, zero, suc, ◌+◌, ◌-◌, nat_lt, Bool, true, false, ◌&&◌, if◌then◌else◌, Option, Some, None, List, [], ◌∷◌, ◌++◌, length, get_or, slice_get}
+use Rattle.std.specs.Prelude.{◌≡◌, ◌<◌, ℕ, zero, suc, ◌+◌, ◌-◌, nat_lt, Bool, true, false, ◌&&◌, ◌||◌, not, if◌then◌else◌, Option, Some, None, List, [], ◌∷◌, ◌++◌, length, get_or, slice_get, slice_range}
 use Rattle.token_arena.specs.Gaps.{Contents}
 use Rattle.token_arena.specs.Stored.{Stored}
 use Rattle.token_classes.specs.declared.class.TokenClass.{TokenClass}
@@ -8,9 +8,9 @@ use Rattle.token_classes.specs.Classes.{is_comment, is_word}
 use Rattle.token_classes.specs.Viewed.{classes_of}
 use Rattle.brackets.specs.Partners.{partners_of}
 use Rattle.view_parts.specs.declared.walk.Before.{Before}
-use Rattle.view_parts.specs.declared.walk.Before.TheVariants.{End}
+use Rattle.view_parts.specs.declared.walk.Before.TheVariants.{Body}
 use Rattle.view_parts.specs.declared.walk.Walk.{Walk}
-use Rattle.view_parts.specs.Walk.{start, next_walk}
+use Rattle.view_parts.specs.Walk.{start, next_walk, is_end}
 
 abbrev pub began_of : Option Stored → Bool
 began_of None = false
@@ -31,13 +31,22 @@ declares_among (suc n) arena ids classes place =
 abbrev pub declares : Contents → List ℕ → List TokenClass → ℕ → Bool
 declares arena ids classes place = declares_among (length classes - place) arena ids classes place
 
-abbrev pub is_end : Before → Bool
-is_end End = true
-is_end _ = false
+abbrev pub is_body : Before → Bool
+is_body Body = true
+is_body _ = false
+
+-- a comment stands among these
+abbrev pub has_comment : List TokenClass → Bool
+has_comment [] = false
+has_comment (class ∷ classes) = is_comment class || has_comment classes
+
+-- Comments of rows that follow one another are lined up: none of those on the last row before a place follows one on the row of the declaration there. Behind the `}` of a body there is none, and behind a `;` where the declaration has none, or where a comment on lines of its own comes between.
+abbrev pub parts_rows : List TokenClass → Walk → Bool
+parts_rows classes walk = is_body walk.before || is_comment (get_or classes walk.place Nothing) || not (has_comment (slice_range classes walk.begun walk.place))
 
 -- a part ends before the next place, or none does
 abbrev pub cuts_at : Contents → List ℕ → List TokenClass → Walk → List ℕ
-cuts_at arena ids classes walk = if is_end walk.before && declares arena ids classes walk.place then walk.place ∷ [] else []
+cuts_at arena ids classes walk = if is_end walk.before && declares arena ids classes walk.place && parts_rows classes walk then walk.place ∷ [] else []
 
 -- the places before which a part ends, from here on; each step passes a place, so the number of places suffices for `n`
 abbrev pub cuts_from : ℕ → Contents → List ℕ → List TokenClass → List (Option ℕ) → Walk → List ℕ

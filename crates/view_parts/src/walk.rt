@@ -2,7 +2,7 @@
 
 ghost use Rattle.std.specs.Prelude.{◌≡◌, ◌<◌, ◌≤◌, ◌^◌, length, get_or, None};
 ghost use Rattle.token_classes.specs.declared.class.TokenClass.TheVariants.{Nothing};
-ghost use Rattle.view_parts.specs.Walk.{behind_group, behind, is_lost, goes_on_at, next_walk, start};
+ghost use Rattle.view_parts.specs.Walk.{behind_group, behind, is_end, is_lost, goes_on_at, next_walk, start};
 
 use brackets::Partner;
 use token_classes::TokenClass;
@@ -14,8 +14,10 @@ pub enum Before {
     Name,
     /// The group directly behind such a word.
     Parameters,
-    /// The end of a declaration: its `;`, or the `}` of a function's body.
-    End,
+    /// The `;` that ends a declaration.
+    Semicolon,
+    /// The `}` of a function's body.
+    Body,
     /// Anything else, or nothing.
     Other,
 }
@@ -29,6 +31,17 @@ pub struct Walk {
     pub before: Before,
     /// An `=` or `return` stands before it, behind the last `;`.
     pub assigned: bool,
+    /// The place at which the declaration before it began, or where it stands between two, the first of them.
+    pub begun: u32,
+}
+
+impl Before {
+    /// Whether a declaration ends there.
+    pub(crate) fn is_end(self) -> bool
+        ensures { result ≡ is_end self }
+    {
+        matches!(self, Before::Semicolon | Before::Body)
+    }
 }
 
 /// What stands behind a group with this opener.
@@ -37,7 +50,7 @@ fn behind_group(walk: &Walk, opener: TokenClass) -> Before
 {
     match walk.before {
         Before::Name if opener.is_open_round() => Before::Parameters,
-        Before::Parameters if opener.is_open_brace() && !walk.assigned => Before::End,
+        Before::Parameters if opener.is_open_brace() && !walk.assigned => Before::Body,
         _ => Before::Other,
     }
 }
@@ -50,7 +63,7 @@ fn behind(walk: &Walk, class: TokenClass) -> Before
         return behind_group(walk, class);
     }
     if class.is_semicolon() {
-        return Before::End;
+        return Before::Semicolon;
     }
     if class.is_plain() {
         Before::Name
@@ -93,6 +106,7 @@ pub(crate) fn start() -> Walk
         place: 0,
         before: Before::Other,
         assigned: false,
+        begun: 0,
     }
 }
 
@@ -101,8 +115,10 @@ pub(crate) fn next_walk(classes: &[TokenClass], partners: &[Partner], walk: &Wal
     requires few { length classes.now < 2 ^ 32 }
     requires here { walk.now.place < length classes.now }
     requires as_many { length partners.now ≡ length classes.now }
+    requires begun { walk.now.begun ≤ walk.now.place }
     ensures next { result ≡ next_walk classes.now partners.now walk.now }
     ensures later { walk.now.place < result.place }
+    ensures begun { result.begun ≤ result.place }
     ensures within { result.place ≤ length classes.now }
 {
     let class = classes[walk.place as usize];
@@ -110,5 +126,10 @@ pub(crate) fn next_walk(classes: &[TokenClass], partners: &[Partner], walk: &Wal
         place: goes_on_at(classes, partners, walk.place, class),
         before: behind(walk, class),
         assigned: !class.is_semicolon() && (walk.assigned || class.is_assigning()),
+        begun: if walk.before.is_end() {
+            walk.place
+        } else {
+            walk.begun
+        },
     }
 }
