@@ -4,18 +4,11 @@
 //! comes before its words: words that are no text, and want of memory for them.
 #![tactic(auto)]
 
-use command_words::USAGE;
-use fmt_ports::{RealFiles, RealIn, RealOut, write_all};
-use format_cli::format_command;
+use fmt_ports::{RealFiles, RealIn, RealOut};
+use format_cli::{Refusal, format_command, status_of, tell};
 use std::env;
 use std::io::{self, ErrorKind};
 use std::process::ExitCode;
-
-/// The status of words that aren't of the command's form.
-const BAD_WORDS: u8 = 2;
-
-/// The status for want of memory.
-const NO_MEMORY: u8 = 7;
 
 // The words behind the program's name.
 fn words_of(rt: &HostRuntime) -> io::Result<Vec<String>> {
@@ -23,16 +16,10 @@ fn words_of(rt: &HostRuntime) -> io::Result<Vec<String>> {
 }
 
 // Tells a refusal by its row. A row that can't be written leaves the status.
-fn refuse(rt: &HostRuntime, row: &str, status: u8) -> ExitCode {
+fn refuse(rt: &HostRuntime, refusal: Refusal<'_>) -> ExitCode {
     let mut notes = RealOut::new(rt.stderr());
-    if write_all(&mut notes, row.as_bytes()).is_ok() {
-        let _ = write_all(&mut notes, b"\n");
-    }
-    ExitCode::from(status)
-}
-
-fn refuse_for_memory(rt: &HostRuntime) -> ExitCode {
-    refuse(rt, "clang_format: no memory", NO_MEMORY)
+    let _ = tell(refusal, &mut notes);
+    ExitCode::from(status_of(refusal))
 }
 
 fn main(rt: HostRuntime) -> ExitCode {
@@ -40,12 +27,12 @@ fn main(rt: HostRuntime) -> ExitCode {
     let words = match words_of(&rt) {
         Ok(words) => words,
         Err(error) if error.kind() == ErrorKind::InvalidData => {
-            return refuse(&rt, USAGE, BAD_WORDS);
+            return refuse(&rt, Refusal::BadWords);
         }
-        Err(_) => return refuse_for_memory(&rt),
+        Err(_) => return refuse(&rt, Refusal::NoMemory),
     };
     let Ok(system) = rt.clone() else {
-        return refuse_for_memory(&rt);
+        return refuse(&rt, Refusal::NoMemory);
     };
     let mut source = RealIn::new(rt.stdin());
     let mut out = RealOut::new(rt.stdout());

@@ -17,6 +17,7 @@ use fmt_ports::{Failed, FileFault, Files, Sink};
 use std::alloc::Global;
 use style_config::{ConfigFault, LIMIT, SkippedKey};
 use style_table::Style;
+use text_streams::{Stream, write_in_pieces};
 
 /// The configuration of the working folder.
 const DEFAULT_FILE: &str = ".clang-format";
@@ -114,12 +115,27 @@ fn tell_skipped<E: Sink>(file: &str, keys: &[SkippedKey], notes: &mut E) -> Resu
     Ok(())
 }
 
-/// Tells a key that no style has.
+/// The row of a key that no style has.
+#[derive(Drop)]
+struct SkippedRow<'r> {
+    file: &'r str,
+    key: &'r SkippedKey,
+}
+
+impl Stream for SkippedRow<'_> {
+    ghost bytes = { λ row. skipped_row row.file.now row.key.now };
+
+    fn write<E: Sink>(&self, notes: &mut E) -> Result<(), Failed> {
+        write_number(self.file, ":", self.key.line, ": skipped ", notes)?;
+        write_two(self.key.key.text(), "\n", notes)
+    }
+}
+
+/// Tells a key that no style has, in one write.
 fn tell_key<E: Sink>(file: &str, key: &SkippedKey, notes: &mut E) -> Result<(), Failed>
     ensures ok { OnOk result (Appends (E.taken notes.old) (E.taken notes.new) (skipped_row file.now key.now)) }
     ensures part { AppendsPart (E.taken notes.old) (E.taken notes.new) (skipped_row file.now key.now) }
     ensures counts { Counts (E.faults notes.old) (E.faults notes.new) result }
 {
-    write_number(file, ":", key.line, ": skipped ", notes)?;
-    write_two(key.key.text(), "\n", notes)
+    write_in_pieces(&SkippedRow { file, key }, notes)
 }

@@ -5,6 +5,7 @@ ghost use Rattle.fmt_ports.specs.Causes.{Counts};
 ghost use Rattle.fmt_ports.specs.Files.{KeepsAll, KeepsOthers};
 ghost use Rattle.c_grammar.specs.Grammar.{is_same};
 ghost use Rattle.style_table.specs.Range.{IsInRange};
+ghost use Rattle.format_core.specs.TextOf.{text_of as laid_text};
 ghost use Rattle.format_cli.specs.Counts.{Counted, Faults};
 ghost use Rattle.format_cli.specs.Generated.{IsGeneratedDoneWith, IsGeneratedRefused, text_of};
 ghost use Rattle.format_cli.specs.InForce.{IsHeld};
@@ -54,8 +55,8 @@ fn formatted<'a, 's, 'w>(
 ) -> Result<Formatted<'a, 's>, Refusal<'w>>
     requires range { IsInRange options.now.style }
     requires budget { options.now.budget ≤ 16000000 }
-    ensures formats { IfOk result (λ made. (is : IsFormatted options.now text.now made.text.items) × (made.reports.now ≡ is.reports) × (made.counts ≡ is.counts)) }
-    ensures changed { IfOk result (λ made. made.changed ≡ not (is_same made.text.items text.now)) }
+    ensures formats { IfOk result (λ made. (is : IsFormatted options.now text.now (laid_text made.laid)) × (made.reports.now ≡ is.reports) × (made.counts ≡ is.counts)) }
+    ensures changed { IfOk result (λ made. made.changed ≡ not (is_same (laid_text made.laid) text.now)) }
     ensures refused { IfErr result (IsTextCause name.entry.now text.now) }
     ensures counts { (f : Faults) → Counted f f result }
 {
@@ -81,8 +82,8 @@ fn put_source<'a, 's, K: Sink>(
     formatted: &Formatted<'a, 's>,
     out: &mut K,
 ) -> Result<(), Failed>
-    ensures ok { OnOk result (SourcePuts place formatted.now.text.items (K.taken out.old) (K.taken out.new)) }
-    ensures part { IfErr result (λ _. SourcePutFails place formatted.now.text.items (K.taken out.old) (K.taken out.new)) }
+    ensures ok { OnOk result (SourcePuts place (laid_text formatted.now.laid) (K.taken out.old) (K.taken out.new)) }
+    ensures part { IfErr result (λ _. SourcePutFails place (laid_text formatted.now.laid) (K.taken out.old) (K.taken out.new)) }
     ensures counts { Counts (K.faults out.old) (K.faults out.new) result }
 {
     match place {
@@ -168,13 +169,22 @@ fn read_file<'w, F: Files>(name: &'w str, files: &mut F) -> Result<Vec<u8>, Refu
     }
 }
 
-/// Writes a file back.
-fn write_back<'w, F: Files>(name: &'w str, text: &[u8], files: &mut F) -> Result<(), Refusal<'w>>
-    ensures done { IfOk result (λ _. IsHeld (F.holds files.new) name.entry.now text.now × KeepsOthers name.entry.now (F.holds files.old) (F.holds files.new)) }
+/// Writes a file back: its text is made in memory for that.
+fn write_back<'w, F: Files>(
+    alloc: Global,
+    name: &'w str,
+    formatted: &Formatted<'_, '_>,
+    files: &mut F,
+) -> Result<(), Refusal<'w>>
+    ensures done { IfOk result (λ _. IsHeld (F.holds files.new) name.entry.now (laid_text formatted.now.laid) × KeepsOthers name.entry.now (F.holds files.old) (F.holds files.new)) }
     ensures refused { IfErr result (IsWriteRefused name.entry.now (F.holds files.old) (F.holds files.new)) }
     ensures counts { (f : Faults) → Counted (record f { files = F.faults files.old; misses = F.misses files.old }) (record f { files = F.faults files.new; misses = F.misses files.new }) result }
 {
-    match files.write(name, text) {
+    let text = match formatted.bytes(alloc) {
+        Ok(text) => text,
+        Err(AllocError) => return Err(Refusal::NoMemory),
+    };
+    match files.write(name, &text) {
         Ok(()) => Ok(()),
         Err(FileFault::NoMemory) => Err(Refusal::NoMemory),
         Err(FileFault::Failed) => Err(Refusal::FileFailed(name)),
@@ -214,7 +224,7 @@ fn format_file<'w, K: Sink, E: Sink, F: Files>(
         },
         Place::Itself => {
             if formatted.changed {
-                write_back(name, &formatted.text, files)?;
+                write_back(alloc, name, &formatted, files)?;
                 Ok(true)
             } else {
                 Ok(false)

@@ -14,3 +14,4 @@ mod summary;
 
 pub use command::format_command;
 pub use laws::outputs_are_joined;
+pub use refusal::{Refusal, status_of, tell};

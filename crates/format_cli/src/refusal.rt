@@ -10,6 +10,7 @@ use fmt_ports::{Failed, Sink, write_all};
 use itoa::Buffer;
 use off_regions::RangeFault;
 use style_config::ConfigFault;
+use text_streams::{Stream, write_in_pieces};
 
 /// The name of the input where the words give no FILE.
 pub const STANDARD_INPUT: &str = "<stdin>";
@@ -83,8 +84,26 @@ pub fn status_of(refusal: Refusal) -> u8
     }
 }
 
-/// Writes the row that tells a refusal, nothing where the notes have failed. It takes no memory.
+impl Stream for Refusal<'_> {
+    /// Its row, nothing where the notes have failed.
+    ghost bytes = { row_of };
+
+    fn write<E: Sink>(&self, notes: &mut E) -> Result<(), Failed> {
+        write_row(*self, notes)
+    }
+}
+
+/// Writes the row that tells a refusal, nothing where the notes have failed, in one write. It takes no memory.
 pub fn tell<E: Sink>(refusal: Refusal, notes: &mut E) -> Result<(), Failed>
+    ensures part { AppendsPart (E.taken notes.old) (E.taken notes.new) (row_of refusal.entry) }
+    ensures ok { OnOk result (Appends (E.taken notes.old) (E.taken notes.new) (row_of refusal.entry)) }
+    ensures counts { Counts (E.faults notes.old) (E.faults notes.new) result }
+{
+    write_in_pieces(&refusal, notes)
+}
+
+/// Writes the row of a refusal.
+fn write_row<E: Sink>(refusal: Refusal, notes: &mut E) -> Result<(), Failed>
     ensures part { AppendsPart (E.taken notes.old) (E.taken notes.new) (row_of refusal.entry) }
     ensures ok { OnOk result (Appends (E.taken notes.old) (E.taken notes.new) (row_of refusal.entry)) }
     ensures counts { Counts (E.faults notes.old) (E.faults notes.new) result }

@@ -8,6 +8,7 @@ ghost use Rattle.format_cli.specs.Notes.{numbered_row, report_row, report_rows};
 use crate::refusal::write_number;
 use fmt_ports::{Failed, Sink};
 use format_core::Report;
+use text_streams::{Stream, write_in_pieces};
 
 /// Tells the lines of an input that are reported, a row each. It takes no memory.
 pub fn tell_reports<E: Sink>(
@@ -27,7 +28,25 @@ pub fn tell_reports<E: Sink>(
     Ok(())
 }
 
-/// Tells a line that is reported.
+/// The row of a line that is reported.
+#[derive(Drop)]
+struct ReportRow<'r> {
+    name: &'r str,
+    budget: u64,
+    report: &'r Report,
+    ghost within: { budget ≤ 16000000 },
+}
+
+impl Stream for ReportRow<'_> {
+    ghost bytes = { λ row. report_row row.name.now row.budget row.report.now };
+
+    fn write<E: Sink>(&self, notes: &mut E) -> Result<(), Failed> {
+        write_number(self.name, ":", self.report.line, ": run ", notes)?;
+        tell_run(self.report.run, self.budget, notes)
+    }
+}
+
+/// Tells a line that is reported, in one write.
 fn tell_report<E: Sink>(
     name: &str,
     budget: u64,
@@ -39,8 +58,12 @@ fn tell_report<E: Sink>(
     ensures part { AppendsPart (E.taken notes.old) (E.taken notes.new) (report_row name.now budget report.now) }
     ensures counts { Counts (E.faults notes.old) (E.faults notes.new) result }
 {
-    write_number(name, ":", report.line, ": run ", notes)?;
-    tell_run(report.run, budget, notes)
+    let row = ReportRow {
+        name,
+        budget,
+        report,
+    };
+    write_in_pieces(&row, notes)
 }
 
 /// Tells in which run a line is reported, and for how many cells.

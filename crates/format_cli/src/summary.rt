@@ -11,6 +11,7 @@ use crate::reports::tell_reports;
 use fmt_ports::{Failed, Sink};
 use format_core::{Counts, Formatted};
 use itoa::Buffer;
+use text_streams::{Stream, write_in_pieces};
 
 /// Tells the reports of an input, and in a dry run its summary behind them. It takes no memory.
 pub fn tell_input<'a, 's, E: Sink>(
@@ -35,7 +36,24 @@ pub fn tell_input<'a, 's, E: Sink>(
     }
 }
 
-/// Tells the summary of an input.
+/// The row that sums an input up.
+#[derive(Drop)]
+struct SummaryRow<'r> {
+    name: &'r str,
+    counts: &'r Counts,
+    changed: bool,
+}
+
+impl Stream for SummaryRow<'_> {
+    ghost bytes = { λ row. summary_row row.name.now row.counts.now row.changed };
+
+    fn write<E: Sink>(&self, notes: &mut E) -> Result<(), Failed> {
+        write_number(self.name, ": runs ", self.counts.runs, ", searched ", notes)?;
+        tell_lines(self.counts, self.changed, notes)
+    }
+}
+
+/// Tells the summary of an input, in one write.
 fn tell_summary<E: Sink>(
     name: &str,
     counts: &Counts,
@@ -46,8 +64,12 @@ fn tell_summary<E: Sink>(
     ensures part { AppendsPart (E.taken notes.old) (E.taken notes.new) (summary_row name.now counts.now changed) }
     ensures counts { FaultCounts (E.faults notes.old) (E.faults notes.new) result }
 {
-    write_number(name, ": runs ", counts.runs, ", searched ", notes)?;
-    tell_lines(counts, changed, notes)
+    let row = SummaryRow {
+        name,
+        counts,
+        changed,
+    };
+    write_in_pieces(&row, notes)
 }
 
 /// Tells how many lines were searched, and what comes behind it in a summary.

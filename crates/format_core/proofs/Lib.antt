@@ -8,3 +8,4 @@ pub mod SoundPlan
 pub mod NothingNew
 pub mod RowsDecided
 pub mod RunsTold
+pub mod Told

@@ -6,5 +6,6 @@ pub mod Plans
 pub mod Reports
 pub mod RunsTold
 pub mod Formats
+pub mod TextOf
 pub mod Exact
 pub mod Laws

@@ -9,12 +9,14 @@
 mod fault;
 mod formatted;
 mod kept;
+mod laid_text;
 mod laws;
 mod line_ends;
 mod runs;
 
 pub use fault::FormatFault;
 pub use formatted::{Formatted, Job, format};
+pub use laid_text::LaidText;
 pub use laws::{
     early_decisions_stay, every_gap_is_decided, kept_gaps_stay, open_texts_have_no_layout,
     planned_texts_are_twins,

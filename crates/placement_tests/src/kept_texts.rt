@@ -113,7 +113,8 @@ fn keeps_gaps(rt: HostRuntime) -> Result<(), Fail> {
             ranges: ranges.as_ref(),
         };
         let made = format(rt.alloc(), &bump, row.text, &style, &job)?;
-        assert_eq!(rt; made.text.as_slice(), row.out, "{}", row.name);
+        let bytes = made.bytes(rt.alloc())?;
+        assert_eq!(rt; bytes.as_slice(), row.out, "{}", row.name);
     }
     Ok(())
 }

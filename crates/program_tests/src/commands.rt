@@ -436,9 +436,17 @@ const DRY_RUNS: &[Row] = &[
         name: "notes that fail in a summary",
         words: &["--dry-run", "--Werror"],
         input: b"a=1;\n",
-        failing_notes: &[3],
+        failing_notes: &[1],
         status: 5,
-        notes: b"<stdin>: runs ",
+        ..QUIET
+    },
+    Row {
+        name: "a summary in one write",
+        words: &["--dry-run", "--Werror"],
+        input: b"int  a;\n",
+        failing_notes: &[2],
+        status: 1,
+        notes: b"<stdin>: runs 1, searched 1, over 0, cost 0, changed\n",
         ..QUIET
     },
     Row {
@@ -507,6 +515,38 @@ const FAILING_PORTS: &[Row] = &[
         files: &[(".clang-format", b"Skip: 1\n")],
         failing_notes: &[1],
         status: 5,
+        ..QUIET
+    },
+    Row {
+        name: "a skipped key in one write",
+        files: &[(".clang-format", b"Skip: 1\nLast: 1\n")],
+        failing_notes: &[2],
+        status: 5,
+        notes: b".clang-format:1: skipped Skip\n",
+        ..QUIET
+    },
+    Row {
+        name: "a report in one write",
+        words: &["--states", "2"],
+        input: b"x ;\n#ifdef A\n  f(a,b);\n#else\n  g(a ,b);\n#endif\n",
+        failing_notes: &[2],
+        status: 5,
+        notes: b"<stdin>:3: run 0: not searched within 2 cells\n",
+        ..QUIET
+    },
+    Row {
+        name: "a refusal in one write",
+        words: &["--style=Foo"],
+        failing_notes: &[2],
+        status: 3,
+        notes: b"clang_format: style Foo: unknown name\n",
+        ..QUIET
+    },
+    Row {
+        name: "a text in one write",
+        input: b"int  a;\nint  b;\n",
+        failing_writes: &[2],
+        out: b"int a;\nint b;\n",
         ..QUIET
     },
     Row {

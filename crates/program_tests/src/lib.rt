@@ -2,6 +2,7 @@
 //!
 //! - `broken_lines`: the rows of long lines, budgets and reports.
 //! - `commands`: the one table of calls, and the rows of words, styles, ports and files.
+//! - `deep_nesting`: a text whose layout is far longer than the text.
 //! - `formatted_texts`: the rows of texts and their layout.
 //! - `generated_inputs`: the rows of inputs that `--generate` makes.
 //! - `trailing_comments`: the rows of texts with trailing comments.
@@ -12,6 +13,8 @@
 mod broken_lines;
 #[cfg(test)]
 mod commands;
+#[cfg(test)]
+mod deep_nesting;
 #[cfg(test)]
 mod formatted_texts;
 #[cfg(test)]

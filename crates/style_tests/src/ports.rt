@@ -1,12 +1,15 @@
 //! The ends in memory and those of the process.
 
+ghost use Rattle.std.specs.Prelude.{◌++◌};
+
 use fmt_ports::{
-    FileFault, Files, InFault, MemFiles, MemSink, MemSource, Name, RealFiles, RealIn, RealOut,
-    TextSink, read_all, write_all,
+    Failed, FileFault, Files, InFault, MemFiles, MemSink, MemSource, Name, RealFiles, RealIn,
+    RealOut, Sink, TextSink, read_all, write_all,
 };
 use std::fs;
 use std::os::unix::fs::PermissionsExt;
 use std::test::Fail;
+use text_streams::{PIECE, Stream, bytes_of, is_same, write_in_pieces};
 
 /// A source of three bytes: the call that fails, the limit, and all its bytes or why they can't be had.
 type Reading = (&'static str, u64, u64, Result<&'static [u8], InFault>);
@@ -68,6 +71,64 @@ fn writes_all_bytes(rt: HostRuntime) -> Result<(), Fail> {
         write_all(&mut writer, b"abc").is_err(),
         "a writer that is full"
     );
+    Ok(())
+}
+
+/// Bytes that are written twice, in two calls.
+struct Twice<'t>(&'t [u8]);
+
+impl Stream for Twice<'_> {
+    ghost bytes = { λ s. s.0.now ++ s.0.now };
+
+    fn write<K: Sink>(&self, sink: &mut K) -> Result<(), Failed> {
+        write_all(sink, self.0)?;
+        write_all(sink, self.0)
+    }
+}
+
+/// Twice the bytes `ab`, and a text: whether they are the same.
+const COMPARISONS: &[(&[u8], bool)] = &[
+    (b"abab", true),
+    (b"abac", false),
+    (b"baba", false),
+    (b"aba", false),
+    (b"ababa", false),
+    (b"", false),
+];
+
+#[test]
+fn compares_what_is_written(rt: HostRuntime) -> Result<(), Fail> {
+    for (text, same) in COMPARISONS {
+        assert_eq!(rt; is_same(&Twice(b"ab"), text), *same, "{text:?}");
+    }
+    assert!(rt; is_same(&Twice(b""), b""), "nothing");
+    Ok(())
+}
+
+/// Twice so many bytes: the call that fails, whether all is written, and how many bytes the sink took.
+const PIECES: &[(usize, u64, bool, usize)] = &[
+    (2, 1, false, 0),
+    (2, 2, true, 4),
+    (PIECE / 2, 2, true, PIECE),
+    (PIECE, 2, false, PIECE),
+    (PIECE, 3, true, PIECE + PIECE),
+    (PIECE + 1, 2, false, PIECE + 1),
+    (PIECE + 1, 3, true, PIECE + PIECE + 2),
+    (0, 1, true, 0),
+];
+
+#[test]
+fn writes_in_pieces(rt: HostRuntime) -> Result<(), Fail> {
+    let alloc = rt.alloc();
+    for (size, failing, whole, taken) in PIECES {
+        let text = vec![in alloc; b'a'; *size]?;
+        let mut sink = MemSink::new(alloc, vec![in alloc; *failing; 1]?);
+        let written = write_in_pieces(&Twice(&text), &mut sink).is_ok();
+        assert_eq!(rt; written, *whole, "{size} bytes, {failing}");
+        assert_eq!(rt; sink.taken().len(), *taken, "{size} bytes, {failing}");
+    }
+    let made = bytes_of(alloc, &Twice(b"ab"), 1)?;
+    assert_eq!(rt; made.as_slice(), b"abab".as_slice());
     Ok(())
 }
 

@@ -5,6 +5,7 @@ use Rattle.format_cli.proofs.Rest.{passed}
 use Rattle.format_cli.proofs.Ends.{keeps_self}
 use Rattle.format_cli.proofs.Counts.{same_after, raises_after, counted_after}
 use Rattle.format_cli.proofs.Causes.{file_cause, write_refused, written_back, changes, stays}
+use Rattle.format_core.specs.TextOf.{text_of}
 use Rattle.format_cli.proofs.Done.{HasRows, rows_of_made, file_untold, file_done, output_cut}
 use Rattle.format_cli.proofs.input.format_file.Goals as goal
 
@@ -30,9 +31,9 @@ pub returns-in-Err-clause-refused : goal.returns-in-Err-clause-refused
 returns-in-Err-clause-refused g c =
     let text = c.in_ok-text.text.items in
     let made = c.in_ok-formatted.formatted in
-    let has : HasRows c.args.options.now text made.text.items made.reports.now made.counts made.changed =
+    let has : HasRows c.args.options.now text (text_of made.laid) made.reports.now made.counts made.changed =
     record { made = rw c.deref.ensures.value at c.in_ok-formatted.ensures.formats; tells = rw c.deref.ensures.value at c.in_ok-formatted.ensures.changed } in
-    file_untold c.args.options.now c.args.place c.args.name.now text made.text.items made.reports.now made.counts made.changed _ _ _ _ _ c.in_ok-text.ensures.bytes has c.in-Err.ensures.part c.in_ok-text.ensures.same
+    file_untold c.args.options.now c.args.place c.args.name.now text (text_of made.laid) made.reports.now made.counts made.changed _ _ _ _ _ c.in_ok-text.ensures.bytes has c.in-Err.ensures.part c.in_ok-text.ensures.same
 
 pub returns-in-Err-clause-counts : goal.returns-in-Err-clause-counts
 returns-in-Err-clause-counts g c = λ f.
@@ -42,10 +43,10 @@ pub returns-in-Ok-write-clause-done : goal.returns-in-Ok-write-clause-done
 returns-in-Ok-write-clause-done g c =
     let text = c.in_ok-text.text.items in
     let made = c.in_ok-formatted.formatted in
-    let has : HasRows c.args.options.now text made.text.items made.reports.now made.counts made.changed =
+    let has : HasRows c.args.options.now text (text_of made.laid) made.reports.now made.counts made.changed =
     record { made = rw c.deref.ensures.value at c.in_ok-formatted.ensures.formats; tells = rw c.deref.ensures.value at c.in_ok-formatted.ensures.changed } in
     rw c.in-Output.is
-    (file_done c.args.options.now Output c.args.name.now text made.text.items made.reports.now made.counts made.changed (ends (g.K.Sink.taken c.args.out.now) (g.F.Files.holds c.args.files.now) (g.E.Sink.taken c.args.notes.now)) (ends (g.K.Sink.taken c.write.new.sink) (g.F.Files.holds c.read_file.new.files) (g.E.Sink.taken c.tell_input.new.notes)) c.in_ok-text.ensures.bytes has (rw c.in-Output.is at c.in-Ok.ensures.ok)
+    (file_done c.args.options.now Output c.args.name.now text (text_of made.laid) made.reports.now made.counts made.changed (ends (g.K.Sink.taken c.args.out.now) (g.F.Files.holds c.args.files.now) (g.E.Sink.taken c.args.notes.now)) (ends (g.K.Sink.taken c.write.new.sink) (g.F.Files.holds c.read_file.new.files) (g.E.Sink.taken c.tell_input.new.notes)) c.in_ok-text.ensures.bytes has (rw c.in-Output.is at c.in-Ok.ensures.ok)
     (c.in-Ok-write.ensures.ok, c.in_ok-text.ensures.same))
 
 pub returns-in-Ok-write-clause-counts : goal.returns-in-Ok-write-clause-counts
@@ -57,10 +58,10 @@ pub returns-in-Output-clause-refused : goal.returns-in-Output-clause-refused
 returns-in-Output-clause-refused g c =
     let text = c.in_ok-text.text.items in
     let made = c.in_ok-formatted.formatted in
-    let has : HasRows c.args.options.now text made.text.items made.reports.now made.counts made.changed =
+    let has : HasRows c.args.options.now text (text_of made.laid) made.reports.now made.counts made.changed =
     record { made = rw c.deref.ensures.value at c.in_ok-formatted.ensures.formats; tells = rw c.deref.ensures.value at c.in_ok-formatted.ensures.changed } in
     rw c.in-Output.is
-    (output_cut c.args.options.now c.args.name.now text made.text.items made.reports.now made.counts made.changed _ _ _ _ _ _ c.in_ok-text.ensures.bytes has (rw c.in-Output.is at c.in-Ok.ensures.ok) c.in_ok-text.ensures.same
+    (output_cut c.args.options.now c.args.name.now text (text_of made.laid) made.reports.now made.counts made.changed _ _ _ _ _ _ c.in_ok-text.ensures.bytes has (rw c.in-Output.is at c.in-Ok.ensures.ok) c.in_ok-text.ensures.same
     c.in-Err-write.ensures.part)
 
 pub returns-in-Output-clause-counts : goal.returns-in-Output-clause-counts
@@ -74,13 +75,13 @@ pub returns-in_err-write_back-in-Itself-clause-refused : goal.returns-in_err-wri
 returns-in_err-write_back-in-Itself-clause-refused g c =
     let text = c.in_ok-text.text.items in
     let made = c.in_ok-formatted.formatted in
-    let has : HasRows c.args.options.now text made.text.items made.reports.now made.counts made.changed =
+    let has : HasRows c.args.options.now text (text_of made.laid) made.reports.now made.counts made.changed =
     record { made = rw c.deref.ensures.value at c.in_ok-formatted.ensures.formats; tells = rw c.deref.ensures.value at c.in_ok-formatted.ensures.changed } in
-    let changed : made.text.items ≢ text = changes made.changed text made.text.items has.tells c.if-formatted.true in
+    let changed : (text_of made.laid) ≢ text = changes made.changed text (text_of made.laid) has.tells c.if-formatted.true in
     rw c.in-Itself.is
     (rw (passed c.from_residual-in_err-write_back-in-Itself.result c.in_err-write_back-in-Itself.field-0.0 c.from_residual-in_err-write_back-in-Itself.ensures)
-    (write_refused c.args.options.now c.args.name.now text made.text.items _ _ _ _ _ _ c.in_err-write_back-in-Itself.field-0.0 c.in_ok-text.ensures.bytes has.made.0
-    (rows_of_made c.args.options.now Itself c.args.name.now text made.text.items made.reports.now made.counts made.changed _ _ has (rw c.in-Itself.is at c.in-Ok.ensures.ok)) changed c.in_ok-text.ensures.same
+    (write_refused c.args.options.now c.args.name.now text (text_of made.laid) _ _ _ _ _ _ c.in_err-write_back-in-Itself.field-0.0 c.in_ok-text.ensures.bytes has.made.0
+    (rows_of_made c.args.options.now Itself c.args.name.now text (text_of made.laid) made.reports.now made.counts made.changed _ _ has (rw c.in-Itself.is at c.in-Ok.ensures.ok)) changed c.in_ok-text.ensures.same
     c.in_err-write_back-in-Itself.ensures.refused))
 
 pub returns-in_err-write_back-in-Itself-clause-counts : goal.returns-in_err-write_back-in-Itself-clause-counts
@@ -96,12 +97,12 @@ pub returns-then-formatted-clause-done : goal.returns-then-formatted-clause-done
 returns-then-formatted-clause-done g c =
     let text = c.in_ok-text.text.items in
     let made = c.in_ok-formatted.formatted in
-    let has : HasRows c.args.options.now text made.text.items made.reports.now made.counts made.changed =
+    let has : HasRows c.args.options.now text (text_of made.laid) made.reports.now made.counts made.changed =
     record { made = rw c.deref.ensures.value at c.in_ok-formatted.ensures.formats; tells = rw c.deref.ensures.value at c.in_ok-formatted.ensures.changed } in
-    let changed : made.text.items ≢ text = changes made.changed text made.text.items has.tells c.if-formatted.true in
+    let changed : (text_of made.laid) ≢ text = changes made.changed text (text_of made.laid) has.tells c.if-formatted.true in
     rw c.in-Itself.is
-    (rw c.if-formatted.true at (file_done c.args.options.now Itself c.args.name.now text made.text.items made.reports.now made.counts made.changed (ends (g.K.Sink.taken c.args.out.now) (g.F.Files.holds c.args.files.now) (g.E.Sink.taken c.args.notes.now)) (ends (g.K.Sink.taken c.args.out.now) (g.F.Files.holds c.write_back.new.files) (g.E.Sink.taken c.tell_input.new.notes)) c.in_ok-text.ensures.bytes has (rw c.in-Itself.is at c.in-Ok.ensures.ok)
-    (written_back c.args.name.now text made.text.items (g.K.Sink.taken c.args.out.now) (g.E.Sink.taken c.args.notes.now) (g.E.Sink.taken c.tell_input.new.notes) _ _ _ changed c.in_ok-text.ensures.same (rw c.deref-then-formatted.ensures.value at c.in_ok-write_back-in-Itself.ensures.done))))
+    (rw c.if-formatted.true at (file_done c.args.options.now Itself c.args.name.now text (text_of made.laid) made.reports.now made.counts made.changed (ends (g.K.Sink.taken c.args.out.now) (g.F.Files.holds c.args.files.now) (g.E.Sink.taken c.args.notes.now)) (ends (g.K.Sink.taken c.args.out.now) (g.F.Files.holds c.write_back.new.files) (g.E.Sink.taken c.tell_input.new.notes)) c.in_ok-text.ensures.bytes has (rw c.in-Itself.is at c.in-Ok.ensures.ok)
+    (written_back c.args.name.now text (text_of made.laid) (g.K.Sink.taken c.args.out.now) (g.E.Sink.taken c.args.notes.now) (g.E.Sink.taken c.tell_input.new.notes) _ _ _ changed c.in_ok-text.ensures.same c.in_ok-write_back-in-Itself.ensures.done)))
 
 pub returns-then-formatted-clause-counts : goal.returns-then-formatted-clause-counts
 returns-then-formatted-clause-counts g c = λ f.
@@ -114,11 +115,11 @@ pub returns-in-Itself-clause-done : goal.returns-in-Itself-clause-done
 returns-in-Itself-clause-done g c =
     let text = c.in_ok-text.text.items in
     let made = c.in_ok-formatted.formatted in
-    let has : HasRows c.args.options.now text made.text.items made.reports.now made.counts made.changed =
+    let has : HasRows c.args.options.now text (text_of made.laid) made.reports.now made.counts made.changed =
     record { made = rw c.deref.ensures.value at c.in_ok-formatted.ensures.formats; tells = rw c.deref.ensures.value at c.in_ok-formatted.ensures.changed } in
-    let same : made.text.items ≡ text = stays made.changed text made.text.items has.tells c.if-formatted.false in
+    let same : (text_of made.laid) ≡ text = stays made.changed text (text_of made.laid) has.tells c.if-formatted.false in
     rw c.in-Itself.is
-    (rw c.if-formatted.false at (file_done c.args.options.now Itself c.args.name.now text made.text.items made.reports.now made.counts made.changed (ends (g.K.Sink.taken c.args.out.now) (g.F.Files.holds c.args.files.now) (g.E.Sink.taken c.args.notes.now)) (ends (g.K.Sink.taken c.args.out.now) (g.F.Files.holds c.read_file.new.files) (g.E.Sink.taken c.tell_input.new.notes)) c.in_ok-text.ensures.bytes has (rw c.in-Itself.is at c.in-Ok.ensures.ok)
+    (rw c.if-formatted.false at (file_done c.args.options.now Itself c.args.name.now text (text_of made.laid) made.reports.now made.counts made.changed (ends (g.K.Sink.taken c.args.out.now) (g.F.Files.holds c.args.files.now) (g.E.Sink.taken c.args.notes.now)) (ends (g.K.Sink.taken c.args.out.now) (g.F.Files.holds c.read_file.new.files) (g.E.Sink.taken c.tell_input.new.notes)) c.in_ok-text.ensures.bytes has (rw c.in-Itself.is at c.in-Ok.ensures.ok)
     (keeps_self _, inl (same, c.in_ok-text.ensures.same))))
 
 pub returns-in-Itself-clause-counts : goal.returns-in-Itself-clause-counts
@@ -130,10 +131,10 @@ pub returns-clause-done : goal.returns-clause-done
 returns-clause-done g c =
     let text = c.in_ok-text.text.items in
     let made = c.in_ok-formatted.formatted in
-    let has : HasRows c.args.options.now text made.text.items made.reports.now made.counts made.changed =
+    let has : HasRows c.args.options.now text (text_of made.laid) made.reports.now made.counts made.changed =
     record { made = rw c.deref.ensures.value at c.in_ok-formatted.ensures.formats; tells = rw c.deref.ensures.value at c.in_ok-formatted.ensures.changed } in
     rw c.in-Nowhere.is
-    (file_done c.args.options.now Nowhere c.args.name.now text made.text.items made.reports.now made.counts made.changed (ends (g.K.Sink.taken c.args.out.now) (g.F.Files.holds c.args.files.now) (g.E.Sink.taken c.args.notes.now)) (ends (g.K.Sink.taken c.args.out.now) (g.F.Files.holds c.read_file.new.files) (g.E.Sink.taken c.tell_input.new.notes)) c.in_ok-text.ensures.bytes has (rw c.in-Nowhere.is at c.in-Ok.ensures.ok)
+    (file_done c.args.options.now Nowhere c.args.name.now text (text_of made.laid) made.reports.now made.counts made.changed (ends (g.K.Sink.taken c.args.out.now) (g.F.Files.holds c.args.files.now) (g.E.Sink.taken c.args.notes.now)) (ends (g.K.Sink.taken c.args.out.now) (g.F.Files.holds c.read_file.new.files) (g.E.Sink.taken c.tell_input.new.notes)) c.in_ok-text.ensures.bytes has (rw c.in-Nowhere.is at c.in-Ok.ensures.ok)
     (keeps_self _, c.in_ok-text.ensures.same))
 
 pub returns-clause-counts : goal.returns-clause-counts

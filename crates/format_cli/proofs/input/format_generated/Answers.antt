@@ -1,4 +1,5 @@
 use Rattle.std.proofs.Common.{codes}
+use Rattle.format_core.specs.TextOf.{text_of}
 use Rattle.format_cli.specs.Inputs.{IsTextCause}
 use Rattle.format_cli.proofs.Done.{HasRows}
 use Rattle.format_cli.proofs.Generated.{made_done, made_refused, made_untold}
@@ -15,14 +16,14 @@ pub returns-in-Ok-tell_input-clause-done : goal.returns-in-Ok-tell_input-clause-
 returns-in-Ok-tell_input-clause-done g c =
     let text = c.in-Ok.text.items in
     let made = c.in_ok-formatted.formatted in
-    let has : HasRows c.args.options.now text made.text.items made.reports.now made.counts made.changed =
+    let has : HasRows c.args.options.now text (text_of made.laid) made.reports.now made.counts made.changed =
     record { made = rw c.deref.ensures.value at c.in_ok-formatted.ensures.formats; tells = rw c.deref.ensures.value at c.in_ok-formatted.ensures.changed } in
-    rw (← c.in-Ok.ensures) (made_done c.args.options.now _ _ text made.text.items made.reports.now made.counts made.changed has c.in-Ok-tell_input.ensures.ok)
+    rw (← c.in-Ok.ensures) (made_done c.args.options.now _ _ text (text_of made.laid) made.reports.now made.counts made.changed has c.in-Ok-tell_input.ensures.ok)
 
 pub returns-clause-refused : goal.returns-clause-refused
 returns-clause-refused g c =
     let text = c.in-Ok.text.items in
     let made = c.in_ok-formatted.formatted in
-    let has : HasRows c.args.options.now text made.text.items made.reports.now made.counts made.changed =
+    let has : HasRows c.args.options.now text (text_of made.laid) made.reports.now made.counts made.changed =
     record { made = rw c.deref.ensures.value at c.in_ok-formatted.ensures.formats; tells = rw c.deref.ensures.value at c.in_ok-formatted.ensures.changed } in
-    rw (← c.in-Ok.ensures) (made_untold c.args.options.now _ _ text made.text.items made.reports.now made.counts made.changed has c.in-Err-tell_input.ensures.part)
+    rw (← c.in-Ok.ensures) (made_untold c.args.options.now _ _ text (text_of made.laid) made.reports.now made.counts made.changed has c.in-Err-tell_input.ensures.part)

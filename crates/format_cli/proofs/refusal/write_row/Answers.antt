@@ -1,5 +1,5 @@
 use Rattle.format_cli.proofs.Rest.{on_ok}
-use Rattle.format_cli.proofs.refusal.tell.Goals as goal
+use Rattle.format_cli.proofs.refusal.write_row.Goals as goal
 
 pub returns-in-LongConfiguration-clause-part : goal.returns-in-LongConfiguration-clause-part
 returns-in-LongConfiguration-clause-part g c = rw c.in-LongConfiguration.is c.write_two-in-LongConfiguration.ensures.part

@@ -1,0 +1,14 @@
+use Rattle.std.proofs.Common.{◌++◌, [], refl, codes}
+use Rattle.fmt_ports.proofs.Parts.{part_of_front, part_of_rest}
+use Rattle.format_cli.specs.Notes.{numbered_row}
+use Rattle.format_cli.proofs.reports.ReportRowStream.write.Goals as goal
+
+pub returns-in_err-write_number-clause-part : goal.returns-in_err-write_number-clause-part
+returns-in_err-write_number-clause-part g c =
+    part_of_front _ _ (numbered_row c.args.self.now.name.now (codes ":") c.args.self.now.report.now.line (codes ": run "))
+    (numbered_row [] [] c.args.self.now.report.now.run (codes ": not searched within ") ++ numbered_row [] [] c.args.self.now.budget (codes " cells\n")) _ refl c.in_err-write_number.ensures.part
+
+pub returns-clause-part : goal.returns-clause-part
+returns-clause-part g c =
+    part_of_rest _ _ _ (numbered_row c.args.self.now.name.now (codes ":") c.args.self.now.report.now.line (codes ": run "))
+    (numbered_row [] [] c.args.self.now.report.now.run (codes ": not searched within ") ++ numbered_row [] [] c.args.self.now.budget (codes " cells\n")) _ refl c.in_ok-write_number.ensures.ok c.tell_run.ensures.part
