@@ -1,5 +1,6 @@
 //! What the store keeps of a text, worked out by hand.
 
+use crate::comparing::same;
 use bumpalo::Bump;
 use std::alloc::{AllocError, Global};
 use std::process::Abort;
@@ -50,11 +51,11 @@ fn compare(rt: &impl Abort, name: &str, arena: &TokenArena<'_, '_>, row: Row<'_>
     let (id, kind, raw, start, gap, line) = row;
     assert!(rt; id < arena.len());
     let token = arena.get(TokenId(id));
-    assert_eq!(rt; token.item.kind, kind, "{name}");
-    assert_eq!(rt; token.item.raw, raw, "{name}");
-    assert_eq!(rt; token.item.start, start, "{name}");
-    assert_eq!(rt; token.gap, gap, "{name}");
-    assert_eq!(rt; token.line(), line, "{name}");
+    same(rt, name, token.item.kind, kind);
+    same(rt, name, token.item.raw, raw);
+    same(rt, name, token.item.start, start);
+    same(rt, name, token.gap, gap);
+    same(rt, name, token.line(), line);
 }
 
 #[test]
@@ -77,8 +78,8 @@ fn keeps_each_item_with_its_facts(rt: HostRuntime) -> Result<(), Fail> {
     for (name, row) in cases {
         compare(&rt, name, &arena, row);
     }
-    assert_eq!(rt; arena.len(), 7);
-    assert_eq!(rt; arena.dialect(), Dialect::C11);
+    same(&rt, "how many items", arena.len(), 7);
+    same(&rt, "the dialect", arena.dialect(), Dialect::C11);
     Ok(())
 }
 
@@ -107,64 +108,70 @@ fn counts_lines_over_splices(rt: HostRuntime) -> Result<(), Fail> {
     for (name, row) in cases {
         compare(&rt, name, &arena, row);
     }
-    assert_eq!(rt; arena.len(), 6);
+    same(&rt, "how many items", arena.len(), 6);
     Ok(())
 }
 
+/// A text, whether a mark begins it, and the bytes of the gap before one of its items.
+const GAPS: &[(&str, &[u8], bool, u32, &[u8])] = &[
+    ("before the first item", b"\n a", false, 0, b"\n "),
+    ("behind a mark", b"\xef\xbb\xbf a", true, 0, b" "),
+    (
+        "between two items",
+        b"a \\\r\n\r\nb",
+        false,
+        1,
+        b" \\\r\n\r\n",
+    ),
+    ("between two that touch", b"a;", false, 1, b""),
+    ("behind the last item", b"a??/\n", false, 1, b"??/\n"),
+    ("of a text without items", b" \n", false, 0, b" \n"),
+];
+
 #[test]
 fn keeps_the_bytes_of_gaps(rt: HostRuntime) -> Result<(), Fail> {
-    let cases: [(&str, &[u8], bool, u32, &[u8]); 6] = [
-        ("before the first item", b"\n a", false, 0, b"\n "),
-        ("behind a mark", b"\xef\xbb\xbf a", true, 0, b" "),
-        (
-            "between two items",
-            b"a \\\r\n\r\nb",
-            false,
-            1,
-            b" \\\r\n\r\n",
-        ),
-        ("between two that touch", b"a;", false, 1, b""),
-        ("behind the last item", b"a??/\n", false, 1, b"??/\n"),
-        ("of a text without items", b" \n", false, 0, b" \n"),
-    ];
-    for (name, text, mark, place, gap) in cases {
+    for case in GAPS {
+        let (name, text, mark, place, gap) = *case;
         let bump = Bump::new(rt.alloc());
         let arena = build(&bump, text, Dialect::C11)?;
         assert!(rt; place <= arena.len());
-        assert_eq!(rt; arena.gap(place), gap, "{name}");
-        assert_eq!(rt; arena.mark(), mark, "{name}");
+        same(&rt, name, arena.gap(place), gap);
+        same(&rt, name, arena.mark(), mark);
     }
     Ok(())
 }
 
+/// An item: how many rows it has, and the widths of the first and of the last.
+const ROWS: &[(&str, &[u8], u32, u32, u32)] = &[
+    ("a word", b"word", 1, 4, 4),
+    ("a wide character", b"/* \xe4\xb8\x80 */", 1, 8, 8),
+    ("bytes of no character", b"\"\xff\xfe\"", 1, 4, 4),
+    (
+        "a tab in the last of three rows",
+        b"/* a\r\nbc\n\t*/",
+        3,
+        4,
+        3,
+    ),
+    ("a return that ends no row", b"/*\r*/", 1, 5, 5),
+    ("a splice", b"i\\\nnt", 2, 2, 2),
+    ("a comment of two rows", b"/* a\r\n  bc */", 2, 4, 7),
+];
+
 #[test]
 fn measures_each_row_in_columns(rt: HostRuntime) -> Result<(), Fail> {
-    let cases: [(&str, &[u8], u32, u32, u32); 7] = [
-        ("a word", b"word", 1, 4, 4),
-        ("a wide character", "/* \u{4e00} */".as_bytes(), 1, 8, 8),
-        ("bytes of no character", b"\"\xff\xfe\"", 1, 4, 4),
-        (
-            "a tab in the last of three rows",
-            b"/* a\r\nbc\n\t*/",
-            3,
-            4,
-            3,
-        ),
-        ("a return that ends no row", b"/*\r*/", 1, 5, 5),
-        ("a splice", b"i\\\nnt", 2, 2, 2),
-        ("a comment of two rows", b"/* a\r\n  bc */", 2, 4, 7),
-    ];
-    for (name, text, count, first_width, last_width) in cases {
+    for case in ROWS {
+        let (name, text, count, first_width, last_width) = *case;
         let bump = Bump::new(rt.alloc());
         let arena = build(&bump, text, Dialect::C11)?;
-        assert_eq!(rt; arena.len(), 1, "{name}");
+        assert!(rt; arena.len() == 1, "{name}");
         let token = arena.get(TokenId(0));
-        assert_eq!(rt; token.item.raw, text, "{name}");
-        assert!(rt; text.len() < 100);
+        same(&rt, name, token.item.raw, text);
+        assert!(rt; token.item.raw.len() < 100);
         let rows = token.rows();
-        assert_eq!(rt; rows.count, count, "{name}");
-        assert_eq!(rt; rows.first_width, first_width, "{name}");
-        assert_eq!(rt; rows.last_width, last_width, "{name}");
+        same(&rt, name, rows.count, count);
+        same(&rt, name, rows.first_width, first_width);
+        same(&rt, name, rows.last_width, last_width);
     }
     Ok(())
 }
@@ -191,7 +198,7 @@ fn refuses_what_has_no_arena(rt: HostRuntime) -> Result<(), Fail> {
     ];
     for (name, text, fault) in cases {
         let bump = Bump::new(rt.alloc());
-        assert_eq!(rt; build(&bump, text, Dialect::C23).err(), fault, "{name}");
+        same(&rt, name, build(&bump, text, Dialect::C23).err(), fault);
     }
     Ok(())
 }
@@ -202,7 +209,7 @@ fn takes_memory_for_its_items_alone(rt: HostRuntime) -> Result<(), Fail> {
     let bump = Bump::new(rt.alloc());
     let commas = repeated(rt.alloc(), b',', 100_000)?;
     let arena = build(&bump, commas.as_slice(), Dialect::C11)?;
-    assert_eq!(rt; arena.len(), 100_000);
+    same(&rt, "how many items", arena.len(), 100_000);
     assert!(rt; bump.allocated_bytes() < 100_000 * 32);
     Ok(())
 }

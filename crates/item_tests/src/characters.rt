@@ -1,5 +1,6 @@
 //! The characters of texts, by translation phases 1 and 2 of C11 5.1.1.2.
 
+use crate::comparing::same;
 use c_chars::{Chars, Dialect, LIMIT, LogicalChar};
 use std::process::Abort;
 
@@ -16,106 +17,121 @@ fn compare(rt: &impl Abort, name: &str, left: Chars<'_>, spans: &[Span]) {
     let mut chars = left;
     for span in spans {
         let expected = char_of(*span);
-        assert_eq!(rt; chars.peek(0), Some(expected), "{name}");
-        assert_eq!(rt; chars.next(), Some(expected), "{name}");
+        same(rt, name, chars.peek(0), Some(expected));
+        same(rt, name, chars.next(), Some(expected));
     }
-    assert_eq!(rt; chars.next(), None, "{name}");
+    same(rt, name, chars.next(), None);
 }
+
+/// A text and its characters.
+const CHARACTERS: &[(&str, Dialect, &[u8], &[Span])] = &[
+    ("no character", Dialect::C11, b"", &[]),
+    (
+        "splices, one of them spelled by a trigraph",
+        Dialect::C11,
+        b"a\\\nb??/\r\nc\\",
+        &[(b'a', 0, 1), (b'b', 3, 4), (b'c', 9, 10), (b'\\', 10, 11)],
+    ),
+    (
+        "a mark, a trigraph and a line end of two bytes",
+        Dialect::C11,
+        b"\xef\xbb\xbf??(\r\n\r",
+        &[(b'[', 3, 6), (b'\n', 6, 8), (b'\r', 8, 9)],
+    ),
+    (
+        "no trigraph",
+        Dialect::C11,
+        b"??a",
+        &[(b'?', 0, 1), (b'?', 1, 2), (b'a', 2, 3)],
+    ),
+    (
+        "no trigraph in C23",
+        Dialect::C23,
+        b"??(",
+        &[(b'?', 0, 1), (b'?', 1, 2), (b'(', 2, 3)],
+    ),
+];
 
 #[test]
 fn joins_lines_and_replaces_trigraphs(rt: HostRuntime) {
-    let cases: [(&str, Dialect, &[u8], &[Span]); 5] = [
-        ("no character", Dialect::C11, b"", &[]),
-        (
-            "splices, one of them spelled by a trigraph",
-            Dialect::C11,
-            b"a\\\nb??/\r\nc\\",
-            &[(b'a', 0, 1), (b'b', 3, 4), (b'c', 9, 10), (b'\\', 10, 11)],
-        ),
-        (
-            "a mark, a trigraph and a line end of two bytes",
-            Dialect::C11,
-            b"\xef\xbb\xbf??(\r\n\r",
-            &[(b'[', 3, 6), (b'\n', 6, 8), (b'\r', 8, 9)],
-        ),
-        (
-            "no trigraph",
-            Dialect::C11,
-            b"??a",
-            &[(b'?', 0, 1), (b'?', 1, 2), (b'a', 2, 3)],
-        ),
-        (
-            "no trigraph in C23",
-            Dialect::C23,
-            b"??(",
-            &[(b'?', 0, 1), (b'?', 1, 2), (b'(', 2, 3)],
-        ),
-    ];
-    for (name, dialect, text, spans) in cases {
+    for case in CHARACTERS {
+        let (name, dialect, text, spans) = *case;
         assert!(rt; text.len() <= LIMIT);
         compare(&rt, name, Chars::new(text, dialect), spans);
     }
 }
 
+/// How far ahead, and the character that stands there.
+const AHEAD: &[(&str, usize, Option<Span>)] = &[
+    ("the next one", 0, Some((b'a', 0, 1))),
+    ("one behind a splice", 1, Some((b'b', 3, 4))),
+    ("the last one", 2, Some((b'[', 4, 7))),
+    ("none", 3, None),
+];
+
 #[test]
 fn looks_ahead(rt: HostRuntime) {
-    let cases: [(&str, usize, Option<Span>); 4] = [
-        ("the next one", 0, Some((b'a', 0, 1))),
-        ("one behind a splice", 1, Some((b'b', 3, 4))),
-        ("the last one", 2, Some((b'[', 4, 7))),
-        ("none", 3, None),
-    ];
     let chars = Chars::new(b"a\\\nb??(", Dialect::C11);
-    for (name, k, span) in cases {
+    for case in AHEAD {
+        let (name, k, span) = *case;
         assert!(rt; k <= 8);
-        assert_eq!(rt; chars.ahead().peek(k), span.map(char_of), "{name}");
+        same(&rt, name, chars.ahead().peek(k), span.map(char_of));
     }
 }
+
+/// A text, and its first character where it is plain.
+const PLAIN: &[(&str, &[u8], Option<Span>)] = &[
+    ("a letter", b"a", Some((b'a', 0, 1))),
+    ("a new-line of one byte", b"\n", Some((b'\n', 0, 1))),
+    ("a letter behind a splice", b"\\\na", None),
+    ("no character", b"", None),
+];
 
 /// A short way may decline; one that is told is the next character.
 #[test]
 fn takes_plain_bytes_at_once(rt: HostRuntime) {
-    let cases: [(&str, &[u8], Option<Span>); 4] = [
-        ("a letter", b"a", Some((b'a', 0, 1))),
-        ("a new-line of one byte", b"\n", Some((b'\n', 0, 1))),
-        ("a letter behind a splice", b"\\\na", None),
-        ("no character", b"", None),
-    ];
-    for (name, text, span) in cases {
+    for case in PLAIN {
+        let (name, text, span) = *case;
         assert!(rt; text.len() <= LIMIT);
         let mut chars = Chars::new(text, Dialect::C11);
-        assert_eq!(rt; chars.peek_plain(), span.map(char_of), "{name}");
-        assert_eq!(rt; chars.next_plain(), span.map(char_of), "{name}");
+        same(&rt, name, chars.peek_plain(), span.map(char_of));
+        same(&rt, name, chars.next_plain(), span.map(char_of));
     }
 }
+
+/// A text, and where it goes on behind its first word.
+const WORDS: &[(&str, &[u8], usize)] = &[
+    ("letters, digits, _ and $ up to a splice", b"aZ_$9\\\nb", 5),
+    ("a word up to what is no part of it", b"b1+c", 2),
+    ("no word", b"+b", 0),
+];
 
 #[test]
 fn passes_words(rt: HostRuntime) {
-    let cases: [(&str, &[u8], usize); 3] = [
-        ("letters, digits, _ and $ up to a splice", b"aZ_$9\\\nb", 5),
-        ("a word up to what is no part of it", b"b1+c", 2),
-        ("no word", b"+b", 0),
-    ];
-    for (name, text, at) in cases {
+    for case in WORDS {
+        let (name, text, at) = *case;
         assert!(rt; text.len() <= LIMIT);
         let mut chars = Chars::new(text, Dialect::C11);
         chars.pass_word();
-        assert_eq!(rt; chars.at(), at, "{name}");
+        same(&rt, name, chars.at(), at);
     }
 }
 
+/// A text, and how many spaces begin it.
+const SPACES: &[(&str, &[u8], u32)] = &[
+    ("blanks and tabs before a line end", b" \t \r\n\t", 3),
+    ("a tab before a word", b"\ta", 1),
+    ("a blank before a splice", b" \\\n ", 1),
+    ("a line end", b"\r\n a", 0),
+];
+
 #[test]
 fn passes_spaces(rt: HostRuntime) {
-    let cases: [(&str, &[u8], u32); 4] = [
-        ("blanks and tabs before a line end", b" \t \r\n\t", 3),
-        ("a tab before a word", b"\ta", 1),
-        ("a blank before a splice", b" \\\n ", 1),
-        ("a line end", b"\r\n a", 0),
-    ];
-    for (name, text, count) in cases {
+    for case in SPACES {
+        let (name, text, count) = *case;
         assert!(rt; text.len() <= LIMIT);
         let mut chars = Chars::new(text, Dialect::C23);
-        assert_eq!(rt; chars.pass_spaces(), count, "{name}");
-        assert_eq!(rt; chars.at(), count as usize, "{name}");
+        same(&rt, name, chars.pass_spaces(), count);
+        same(&rt, name, chars.at(), count as usize);
     }
 }

@@ -1,5 +1,6 @@
 //! Items of texts, by C11 6.4.
 
+use crate::comparing::same;
 use c_lexer::{Dialect, ItemKind, LIMIT, LexFault, Lexer};
 use std::process::Abort;
 use std::test::Fail;
@@ -14,10 +15,10 @@ fn compare(rt: &impl Abort, cases: &[Case]) -> Result<(), Fail> {
         let mut lexer = Lexer::new(text, *dialect);
         for (kind, raw) in *items {
             let item = lexer.next_item()?.ok_or("an item")?;
-            assert_eq!(rt; item.kind, *kind, "{name}");
-            assert_eq!(rt; item.raw, *raw, "{name}");
+            same(rt, name, item.kind, *kind);
+            same(rt, name, item.raw, *raw);
         }
-        assert!(rt; lexer.next_item()?.is_none(), "{name}");
+        same(rt, name, lexer.next_item()?.is_none(), true);
     }
     Ok(())
 }
@@ -173,84 +174,98 @@ fn reads_other_characters(rt: HostRuntime) -> Result<(), Fail> {
     compare(&rt, &cases)
 }
 
+/// The kind, the bytes and the offset of an item.
+const KINDS: &[(&str, ItemKind, &[u8], u32)] = &[
+    ("a #", ItemKind::Punct, b"#", 0),
+    ("a name", ItemKind::Identifier, b"include", 1),
+    ("a header name", ItemKind::HeaderName, b"<a\\\nb.h>", 9),
+    ("a comment", ItemKind::BlockComment, b"/* x */", 18),
+    ("a string", ItemKind::StringLit, b"u8\"s\\\"\"", 26),
+    ("a constant", ItemKind::CharConst, b"L'c'", 34),
+    ("an open quote", ItemKind::StrayQuote, b"'z", 39),
+    ("a number", ItemKind::Number, b"1.5e+3", 42),
+    ("a trigraph", ItemKind::Punct, b"??(", 49),
+    ("another character", ItemKind::Other, b"@", 53),
+    ("a line's comment", ItemKind::LineComment, b"// end", 55),
+];
+
 #[test]
 fn reads_each_kind(rt: HostRuntime) -> Result<(), Fail> {
     let text = b"#include <a\\\nb.h>\n/* x */ u8\"s\\\"\" L'c' 'z\n1.5e+3 ??( @ // end  \n/*";
     let mut lexer = Lexer::new(text, Dialect::C11);
-    let cases: [(&str, ItemKind, &[u8], u32); 11] = [
-        ("a #", ItemKind::Punct, b"#", 0),
-        ("a name", ItemKind::Identifier, b"include", 1),
-        ("a header name", ItemKind::HeaderName, b"<a\\\nb.h>", 9),
-        ("a comment", ItemKind::BlockComment, b"/* x */", 18),
-        ("a string", ItemKind::StringLit, b"u8\"s\\\"\"", 26),
-        ("a constant", ItemKind::CharConst, b"L'c'", 34),
-        ("an open quote", ItemKind::StrayQuote, b"'z", 39),
-        ("a number", ItemKind::Number, b"1.5e+3", 42),
-        ("a trigraph", ItemKind::Punct, b"??(", 49),
-        ("another character", ItemKind::Other, b"@", 53),
-        ("a line's comment", ItemKind::LineComment, b"// end", 55),
-    ];
-    for (name, kind, raw, start) in cases {
+    for case in KINDS {
+        let (name, kind, raw, start) = *case;
         let item = lexer.next_item()?.ok_or("an item")?;
-        assert_eq!(rt; item.kind, kind, "{name}");
-        assert_eq!(rt; item.raw, raw, "{name}");
-        assert_eq!(rt; item.start, start, "{name}");
+        same(&rt, name, item.kind, kind);
+        same(&rt, name, item.raw, raw);
+        same(&rt, name, item.start, start);
     }
     // A comment without an end: each call tells of it.
     for call in ["the first call", "the next call"] {
         let open = lexer.next_item().err();
-        assert_eq!(rt;
+        same(
+            &rt,
+            call,
             open,
             Some(LexFault::UnterminatedComment { start: 64 }),
-            "{call}"
         );
     }
     Ok(())
 }
 
-/// What is told of each gap: its new-lines, how many bytes its characters are, and whether it has one.
+/// What is told of the gap before an item: its new-lines, how many bytes its characters are, and whether it has one.
+const GAPS: &[(&str, u32, u32, bool)] = &[
+    ("the first item", 0, 0, false),
+    ("behind a splice alone", 0, 0, false),
+    ("behind a blank, a splice and a line end", 1, 4, true),
+    ("behind a splice and a line end", 1, 3, true),
+    ("behind a blank", 0, 1, true),
+];
+
 #[test]
 fn tells_of_gaps(rt: HostRuntime) -> Result<(), Fail> {
     let mut lexer = Lexer::new(b"a\\\n/ \\\r\n\r\n\tb\\\n \n /* */ c", Dialect::C11);
-    let cases: [(&str, u32, u32, bool); 5] = [
-        ("the first item", 0, 0, false),
-        ("behind a splice alone", 0, 0, false),
-        ("behind a blank, a splice and a line end", 1, 4, true),
-        ("behind a splice and a line end", 1, 3, true),
-        ("behind a blank", 0, 1, true),
-    ];
-    for (name, lines, bytes, white) in cases {
+    for case in GAPS {
+        let (name, lines, bytes, white) = *case;
         let lexeme = lexer.next_lexeme()?.ok_or("an item")?;
-        assert_eq!(rt; lexeme.lines, lines, "{name}");
-        assert_eq!(rt; lexeme.bytes, bytes, "{name}");
-        assert_eq!(rt; lexeme.white, white, "{name}");
+        same(&rt, name, lexeme.lines, lines);
+        same(&rt, name, lexeme.bytes, bytes);
+        same(&rt, name, lexeme.white, white);
     }
-    assert!(rt; lexer.next_lexeme()?.is_none());
+    same(
+        &rt,
+        "behind the last one",
+        lexer.next_lexeme()?.is_none(),
+        true,
+    );
     Ok(())
 }
 
+/// A text of one item, and whether the item ends in a backslash.
+const ENDS: &[(&str, Dialect, &[u8], bool)] = &[
+    ("a trigraph", Dialect::C11, b"// a ??/", true),
+    ("no trigraph in C23", Dialect::C23, b"// a ??/", false),
+    ("a backslash", Dialect::C23, b"// a \\", true),
+    (
+        "a backslash and a splice",
+        Dialect::C11,
+        b"// a \\\\\n\n",
+        true,
+    ),
+    ("a slash", Dialect::C11, b"// a /", false),
+    ("an open quote", Dialect::C11, b"'\\", true),
+    ("a block comment", Dialect::C11, b"/* \\*/", false),
+    ("a closed quote", Dialect::C11, b"'\\\\'", false),
+    ("a word", Dialect::C11, b"a", false),
+];
+
 #[test]
 fn tells_a_backslash_at_the_end(rt: HostRuntime) -> Result<(), Fail> {
-    let cases: [(&str, Dialect, &[u8], bool); 9] = [
-        ("a trigraph", Dialect::C11, b"// a ??/", true),
-        ("no trigraph in C23", Dialect::C23, b"// a ??/", false),
-        ("a backslash", Dialect::C23, b"// a \\", true),
-        (
-            "a backslash and a splice",
-            Dialect::C11,
-            b"// a \\\\\n\n",
-            true,
-        ),
-        ("a slash", Dialect::C11, b"// a /", false),
-        ("an open quote", Dialect::C11, b"'\\", true),
-        ("a block comment", Dialect::C11, b"/* \\*/", false),
-        ("a closed quote", Dialect::C11, b"'\\\\'", false),
-        ("a word", Dialect::C11, b"a", false),
-    ];
-    for (name, dialect, text, back) in cases {
+    for case in ENDS {
+        let (name, dialect, text, back) = *case;
         assert!(rt; text.len() <= LIMIT);
         let lexeme = Lexer::new(text, dialect).next_lexeme()?.ok_or("an item")?;
-        assert_eq!(rt; lexeme.back, back, "{name}");
+        same(&rt, name, lexeme.back, back);
     }
     Ok(())
 }

@@ -17,6 +17,8 @@ mod arena;
 #[cfg(test)]
 mod characters;
 #[cfg(test)]
+mod comparing;
+#[cfg(test)]
 mod items;
 #[cfg(test)]
 mod runs;

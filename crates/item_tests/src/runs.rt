@@ -3,6 +3,7 @@
 ghost use Rattle.std.specs.Prelude.{◌≡◌, length};
 ghost use Rattle.branch_runs.specs.Cut.{end_of};
 
+use crate::comparing::{same, same_at};
 use branch_runs::{CondTree, TokenId};
 use bumpalo::Bump;
 use directives::sections;
@@ -43,53 +44,55 @@ fn seen(
     Ok(out)
 }
 
-/// What each run sees of a text.
+/// A text, and what each run sees of it.
+const RUNS: &[(&str, &str, &[&str])] = &[
+    ("no item", "", &[""]),
+    ("no conditional", "a\n#define X\nb", &["a b"]),
+    ("a conditional without an end", "a\n#if A\nb", &["a b"]),
+    (
+        "the example of docs/PROFILE.md",
+        "#ifdef A\na\n#ifdef B\nb\n#else\nc\n#endif\n#else\nd\n#endif\n#ifdef E\ne\n#endif",
+        &["a b e", "a c e", "d e"],
+    ),
+    (
+        "two conditionals",
+        "#if A\na\n#else\nb\n#endif\nc\n#if B\nd\n#elif C\ne\n#elif D\nf\n#endif",
+        &["a c d", "b c e", "b c f"],
+    ),
+    (
+        "one in the first branch of another",
+        "#if A\na\n#if B\nb\n#elif C\nc\n#else\nd\n#endif\n#else\ne\n#endif",
+        &["a b", "a c", "a d", "e"],
+    ),
+    (
+        "what fits no conditional",
+        "#endif\na\n#else\nb\n#if A\nc\n#else\nd\n#elif B\ne\n#else\nf",
+        &["a b c", "a b d e f"],
+    ),
+    ("a dead group alone", "#if 0\na\n#endif", &[""]),
+    (
+        "a dead group and its #else",
+        "a\n#if 0\nb\n#if A\nc\n#endif\n#else\nd\n#endif",
+        &["a d"],
+    ),
+    (
+        "an #elif of 0 is live",
+        "#if A\na\n#elif 0\nb\n#endif",
+        &["a", "b"],
+    ),
+];
+
 #[test]
 fn takes_one_branch_of_each_conditional(rt: HostRuntime) -> Result<(), Fail> {
-    let cases: [(&str, &str, &[&str]); 10] = [
-        ("no item", "", &[""]),
-        ("no conditional", "a\n#define X\nb", &["a b"]),
-        ("a conditional without an end", "a\n#if A\nb", &["a b"]),
-        (
-            "the example of docs/PROFILE.md",
-            "#ifdef A\na\n#ifdef B\nb\n#else\nc\n#endif\n#else\nd\n#endif\n#ifdef E\ne\n#endif",
-            &["a b e", "a c e", "d e"],
-        ),
-        (
-            "two conditionals",
-            "#if A\na\n#else\nb\n#endif\nc\n#if B\nd\n#elif C\ne\n#elif D\nf\n#endif",
-            &["a c d", "b c e", "b c f"],
-        ),
-        (
-            "one in the first branch of another",
-            "#if A\na\n#if B\nb\n#elif C\nc\n#else\nd\n#endif\n#else\ne\n#endif",
-            &["a b", "a c", "a d", "e"],
-        ),
-        (
-            "what fits no conditional",
-            "#endif\na\n#else\nb\n#if A\nc\n#else\nd\n#elif B\ne\n#else\nf",
-            &["a b c", "a b d e f"],
-        ),
-        ("a dead group alone", "#if 0\na\n#endif", &[""]),
-        (
-            "a dead group and its #else",
-            "a\n#if 0\nb\n#if A\nc\n#endif\n#else\nd\n#endif",
-            &["a d"],
-        ),
-        (
-            "an #elif of 0 is live",
-            "#if A\na\n#elif 0\nb\n#endif",
-            &["a", "b"],
-        ),
-    ];
-    for (name, text, views) in cases {
+    for case in RUNS {
+        let (name, text, views) = *case;
         let bump = Bump::new(rt.alloc());
         let arena = build(&bump, text.as_bytes(), Dialect::C11)?;
         let tree = CondTree::build(&arena, sections(&arena, &bump)?, &bump)?;
-        assert_eq!(rt; tree.runs() as usize, views.len(), "{name}");
+        same(&rt, name, tree.runs() as usize, views.len());
         for (r, items) in (0..tree.runs()).zip(views) {
             let told = seen(&rt, rt.alloc(), &arena, &tree, r)?;
-            assert_eq!(rt; told.as_str(), *items, "{name}, run {r}");
+            same_at(&rt, name, r as usize, told.as_str(), *items);
         }
     }
     Ok(())
@@ -112,32 +115,35 @@ fn dead(
     Ok(out)
 }
 
+/// A text, and the items in the groups of its literal `#if 0`.
+const DEAD: &[(&str, &str, &str)] = &[
+    (
+        "a conditional in a dead group",
+        "a\n#if 0\nb\n#if A\nc\n#endif\n#else\nd\n#endif",
+        "b # if A c # endif",
+    ),
+    (
+        "comments beside the 0",
+        "#if /* c */ 0 // d\na\n#endif",
+        "a",
+    ),
+    ("a 0 that is spliced", "#i\\\nf \\\n0\na\n#endif", "a"),
+    ("another number", "#if 00\na\n#endif", ""),
+    ("more behind the 0", "#if 0 + 1\na\n#endif", ""),
+    ("no operand", "#if\na\n#endif", ""),
+    ("an #ifdef", "#ifdef 0\na\n#endif", ""),
+    ("an #elif", "#if A\na\n#elif 0\nb\n#endif", ""),
+];
+
 #[test]
 fn tells_which_items_are_dead(rt: HostRuntime) -> Result<(), Fail> {
-    let cases = [
-        (
-            "a conditional in a dead group",
-            "a\n#if 0\nb\n#if A\nc\n#endif\n#else\nd\n#endif",
-            "b # if A c # endif",
-        ),
-        (
-            "comments beside the 0",
-            "#if /* c */ 0 // d\na\n#endif",
-            "a",
-        ),
-        ("a 0 that is spliced", "#i\\\nf \\\n0\na\n#endif", "a"),
-        ("another number", "#if 00\na\n#endif", ""),
-        ("more behind the 0", "#if 0 + 1\na\n#endif", ""),
-        ("no operand", "#if\na\n#endif", ""),
-        ("an #ifdef", "#ifdef 0\na\n#endif", ""),
-        ("an #elif", "#if A\na\n#elif 0\nb\n#endif", ""),
-    ];
-    for (name, text, items) in cases {
+    for case in DEAD {
+        let (name, text, items) = *case;
         let bump = Bump::new(rt.alloc());
         let arena = build(&bump, text.as_bytes(), Dialect::C11)?;
         let tree = CondTree::build(&arena, sections(&arena, &bump)?, &bump)?;
         let told = dead(rt.alloc(), &arena, &tree)?;
-        assert_eq!(rt; told.as_str(), items, "{name}");
+        same(&rt, name, told.as_str(), items);
     }
     Ok(())
 }
@@ -159,7 +165,7 @@ fn reads_a_hundred_thousand_conditionals_in_one_another(rt: HostRuntime) -> Resu
     let bump = Bump::new(rt.alloc());
     let arena = build(&bump, text.as_slice(), Dialect::C11)?;
     let tree = CondTree::build(&arena, sections(&arena, &bump)?, &bump)?;
-    assert_eq!(rt; tree.runs(), 100_001);
+    same(&rt, "how many runs", tree.runs(), 100_001);
     let cases = [
         ("the first run", 0, 100_000),
         ("the innermost #else", 1, 100_000),
@@ -170,7 +176,7 @@ fn reads_a_hundred_thousand_conditionals_in_one_another(rt: HostRuntime) -> Resu
     for (name, r, places) in cases {
         assert!(rt; r < tree.runs());
         let run = Bump::new(rt.alloc());
-        assert_eq!(rt; tree.view(r, &run)?.len(), places, "{name}");
+        same(&rt, name, tree.view(r, &run)?.len(), places);
     }
     Ok(())
 }
@@ -185,12 +191,12 @@ fn takes_each_of_a_hundred_thousand_branches(rt: HostRuntime) -> Result<(), Fail
     let bump = Bump::new(rt.alloc());
     let arena = build(&bump, text.as_slice(), Dialect::C11)?;
     let tree = CondTree::build(&arena, sections(&arena, &bump)?, &bump)?;
-    assert_eq!(rt; tree.runs(), 100_001);
+    same(&rt, "how many runs", tree.runs(), 100_001);
     for r in 0..tree.runs() {
         let run = Bump::new(rt.alloc());
         let view = tree.view(r, &run)?;
-        assert_eq!(rt; view.len(), 1, "run {r}");
-        assert_eq!(rt; view.at(0).0 / 4, r, "run {r}");
+        assert!(rt; view.len() == 1, "run {r}");
+        same_at(&rt, "what it sees", r as usize, view.at(0).0 / 4, r);
     }
     Ok(())
 }

@@ -3,6 +3,7 @@
 ghost use Rattle.std.specs.Prelude.{◌≡◌};
 ghost use Rattle.directives.specs.Sections.{sections_of};
 
+use crate::comparing::same;
 use bumpalo::Bump;
 use directives::{
     Dialect, Directive, DirectiveKind, Section, TokenId, begins_with, is_spelled, kept_after_name,
@@ -100,7 +101,7 @@ fn cuts_texts_into_sections(rt: HostRuntime) -> Result<(), Fail> {
     for (name, text, expected) in cases {
         let bump = Bump::new(rt.alloc());
         let arena = build(&bump, text.as_bytes(), Dialect::C11)?;
-        assert_eq!(rt; sections(&arena, &bump)?, expected, "{name}");
+        same(&rt, name, sections(&arena, &bump)?, expected);
     }
     Ok(())
 }
@@ -115,90 +116,99 @@ fn first_is_kept(arena: &TokenArena<'_, '_>, sections: &[Section]) -> bool
     }
 }
 
+/// A text, and whether the gaps behind the name of the directive that begins it are kept.
+const BEHIND_NAMES: &[(&str, bool)] = &[
+    ("#include <a.h>", false),
+    ("#include /* c */ \"a.h\" // d", false),
+    ("#include NAME", true),
+    ("#include <a.h> x", true),
+    ("#include", true),
+    ("#pragma once", true),
+    ("#error x", true),
+    ("#line 3", true),
+    ("# 33 \"f\"", true),
+    ("#ifdef __has_include", true),
+    ("#elif 1 && __ha\\\ns_embed(<x>)", true),
+    ("#if __has", false),
+    ("#if A /* __has_include */", false),
+    ("#define __has_x 1", false),
+    ("#undef  X", false),
+    ("#", false),
+];
+
 /// Each case is named by its text.
 #[test]
 fn keeps_gaps_behind_names(rt: HostRuntime) -> Result<(), Fail> {
-    let cases = [
-        ("#include <a.h>", false),
-        ("#include /* c */ \"a.h\" // d", false),
-        ("#include NAME", true),
-        ("#include <a.h> x", true),
-        ("#include", true),
-        ("#pragma once", true),
-        ("#error x", true),
-        ("#line 3", true),
-        ("# 33 \"f\"", true),
-        ("#ifdef __has_include", true),
-        ("#elif 1 && __ha\\\ns_embed(<x>)", true),
-        ("#if __has", false),
-        ("#if A /* __has_include */", false),
-        ("#define __has_x 1", false),
-        ("#undef  X", false),
-        ("#", false),
-    ];
-    for (text, kept) in cases {
+    for case in BEHIND_NAMES {
+        let (text, kept) = *case;
         let bump = Bump::new(rt.alloc());
         let arena = build(&bump, text.as_bytes(), Dialect::C11)?;
         let cut = sections(&arena, &bump)?;
-        assert_eq!(rt; first_is_kept(&arena, cut), kept, "of {text}");
+        same(&rt, text, first_is_kept(&arena, cut), kept);
     }
     Ok(())
 }
 
+/// The bytes of an item, a word, and whether the item is spelled so.
+const SPELLED: &[(&str, Dialect, &str, &str, bool)] = &[
+    ("itself", Dialect::C11, "#", "#", true),
+    ("a trigraph", Dialect::C11, "??=", "#", true),
+    ("no trigraph in C23", Dialect::C23, "??=", "#", false),
+    ("a spliced digraph", Dialect::C11, "%\\\n:", "%:", true),
+    ("two splices", Dialect::C11, "i\\\r\n\\\nf", "if", true),
+    (
+        "a splice by a trigraph",
+        Dialect::C11,
+        "i??/\nf",
+        "if",
+        true,
+    ),
+    (
+        "no such splice in C23",
+        Dialect::C23,
+        "i??/\nf",
+        "if",
+        false,
+    ),
+    ("a longer word", Dialect::C11, "ifdef", "if", false),
+    ("a shorter word", Dialect::C11, "i", "if", false),
+    (
+        "a mark within a text",
+        Dialect::C11,
+        "\u{feff}x",
+        "x",
+        false,
+    ),
+    (
+        "a mark that is spelled",
+        Dialect::C11,
+        "\u{feff}x",
+        "\u{feff}x",
+        true,
+    ),
+];
+
 #[test]
 fn reads_how_items_are_spelled(rt: HostRuntime) {
-    let cases = [
-        ("itself", Dialect::C11, "#", "#", true),
-        ("a trigraph", Dialect::C11, "??=", "#", true),
-        ("no trigraph in C23", Dialect::C23, "??=", "#", false),
-        ("a spliced digraph", Dialect::C11, "%\\\n:", "%:", true),
-        ("two splices", Dialect::C11, "i\\\r\n\\\nf", "if", true),
-        (
-            "a splice by a trigraph",
-            Dialect::C11,
-            "i??/\nf",
-            "if",
-            true,
-        ),
-        (
-            "no such splice in C23",
-            Dialect::C23,
-            "i??/\nf",
-            "if",
-            false,
-        ),
-        ("a longer word", Dialect::C11, "ifdef", "if", false),
-        ("a shorter word", Dialect::C11, "i", "if", false),
-        (
-            "a mark within a text",
-            Dialect::C11,
-            "\u{feff}x",
-            "x",
-            false,
-        ),
-        (
-            "a mark that is spelled",
-            Dialect::C11,
-            "\u{feff}x",
-            "\u{feff}x",
-            true,
-        ),
-    ];
-    for (name, dialect, raw, word, expected) in cases {
+    for case in SPELLED {
+        let (name, dialect, raw, word, expected) = *case;
         let spelled = is_spelled(dialect, raw.as_bytes(), word.as_bytes());
-        assert_eq!(rt; spelled, expected, "{name}");
+        same(&rt, name, spelled, expected);
     }
 }
 
+/// The bytes of an item, and whether its spelling begins with `__has_`.
+const BEGUN: &[(&str, &str, bool)] = &[
+    ("a longer word", "__ha\\\ns_x", true),
+    ("itself", "__has_", true),
+    ("a shorter word", "__has", false),
+];
+
 #[test]
 fn reads_how_items_begin(rt: HostRuntime) {
-    let cases = [
-        ("a longer word", "__ha\\\ns_x", true),
-        ("itself", "__has_", true),
-        ("a shorter word", "__has", false),
-    ];
-    for (name, raw, expected) in cases {
+    for case in BEGUN {
+        let (name, raw, expected) = *case;
         let begins = begins_with(Dialect::C11, raw.as_bytes(), b"__has_");
-        assert_eq!(rt; begins, expected, "{name}");
+        same(&rt, name, begins, expected);
     }
 }

@@ -1,5 +1,6 @@
 //! Places of a view, counted by hand.
 
+use crate::comparing::same;
 use bumpalo::Bump;
 use std::test::Fail;
 use token_views::{Stretch, View};
@@ -12,30 +13,33 @@ const CALL: [Stretch; 3] = [
     Stretch { first: 15, end: 18 },
 ];
 
+/// A place of the view of `CALL`, the number of its item, and whether a directive stands before it.
+const PLACES: &[(&str, u32, u32, bool)] = &[
+    ("f", 0, 0, false),
+    ("(", 1, 1, false),
+    ("a", 2, 2, false),
+    ("the first comma", 3, 3, false),
+    ("b", 4, 7, true),
+    ("the comma behind b", 5, 8, false),
+    ("d", 6, 15, true),
+    (")", 7, 16, false),
+    (";", 8, 17, false),
+];
+
 #[test]
 fn finds_each_place(rt: HostRuntime) -> Result<(), Fail> {
     let run = Bump::new(rt.alloc());
     let view = View::of_stretches(&CALL, &run)?;
-    let cases = [
-        ("f", 0, 0, false),
-        ("(", 1, 1, false),
-        ("a", 2, 2, false),
-        ("the first comma", 3, 3, false),
-        ("b", 4, 7, true),
-        ("the comma behind b", 5, 8, false),
-        ("d", 6, 15, true),
-        (")", 7, 16, false),
-        (";", 8, 17, false),
-    ];
     let mut number = 0;
-    for (name, k, id, behind_directive) in cases {
+    for case in PLACES {
+        let (name, k, id, behind_directive) = *case;
         assert!(rt; k < view.len());
-        assert_eq!(rt; view.at(k).0, id, "{name}");
-        assert_eq!(rt; view.at_near(k, &mut number).0, id, "{name}");
-        assert_eq!(rt; view.directive_before(k), behind_directive, "{name}");
+        same(&rt, name, view.at(k).0, id);
+        same(&rt, name, view.at_near(k, &mut number).0, id);
+        same(&rt, name, view.directive_before(k), behind_directive);
     }
-    assert_eq!(rt; view.len(), 9);
-    assert!(rt; !view.is_empty());
+    same(&rt, "how many places", view.len(), 9);
+    same(&rt, "whether it is empty", view.is_empty(), false);
     Ok(())
 }
 
@@ -44,33 +48,36 @@ fn keeps_a_segment_for_each_stretch(rt: HostRuntime) -> Result<(), Fail> {
     let run = Bump::new(rt.alloc());
     let view = View::of_stretches(&CALL, &run)?;
     let segments = View::from_segments(view.segments()).segments();
-    assert_eq!(rt; segments.len(), 3);
+    same(&rt, "how many segments", segments.len(), 3);
     let cases = [("the first", 0), ("the second", 4), ("the third", 6)];
     for (segment, (name, before)) in segments.iter().zip(cases) {
-        assert_eq!(rt; segment.before, before, "{name}");
+        same(&rt, name, segment.before, before);
     }
     let none = View::of_stretches(&[], &run)?;
     assert!(rt; none.is_empty() && none.segments().is_empty());
     Ok(())
 }
 
+/// The first item, the end and the items between.
+const ROWS: &[(&str, u32, u32, &[u32])] = &[
+    ("from the front", 0, 3, &[0, 1, 2]),
+    ("from another item", 5, 7, &[5, 6]),
+    ("no item", 4, 4, &[]),
+    ("an end before the front", 9, 2, &[]),
+];
+
 #[test]
 fn sees_all_items_in_a_row(rt: HostRuntime) -> Result<(), Fail> {
     let run = Bump::new(rt.alloc());
-    let cases: [(&str, u32, u32, &[u32]); 4] = [
-        ("from the front", 0, 3, &[0, 1, 2]),
-        ("from another item", 5, 7, &[5, 6]),
-        ("no item", 4, 4, &[]),
-        ("an end before the front", 9, 2, &[]),
-    ];
-    for (name, first, end, ids) in cases {
+    for case in ROWS {
+        let (name, first, end, ids) = *case;
         let view = View::of(first, end, &run)?;
-        assert_eq!(rt; view.len() as usize, ids.len(), "{name}");
+        same(&rt, name, view.len() as usize, ids.len());
         let mut k = 0;
         for id in ids {
             assert!(rt; k < view.len());
-            assert_eq!(rt; view.at(k).0, *id, "{name}");
-            assert!(rt; !view.directive_before(k), "{name}");
+            same(&rt, name, view.at(k).0, *id);
+            same(&rt, name, view.directive_before(k), false);
             k += 1;
         }
     }

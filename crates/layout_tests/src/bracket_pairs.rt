@@ -1,5 +1,6 @@
 //! Classes, partners and kept gaps, as `docs/PROFILE.md` says under "Statements and lines".
 
+use crate::comparing::{same, same_at};
 use crate::fixtures::{count_of, items_around, items_from};
 use brackets::{bracket_facts, partners_of_classes};
 use bumpalo::Bump;
@@ -38,67 +39,69 @@ fn letter_classes(alloc: Global, letters: &[u8]) -> Result<Vec<TokenClass>, Allo
     Ok(classes)
 }
 
+/// Tokens of one letter, and the place of the partner of each.
+const PAIRS: &[(&str, &[u8], &[Option<u32>])] = &[
+    ("crossing", b"([)]", &[None, Some(3), None, Some(1)]),
+    (
+        "a brace ends a bracket",
+        b"{(})",
+        &[Some(2), None, Some(0), None],
+    ),
+    (
+        "a brace that closes none",
+        b"}(})",
+        &[None, Some(3), None, Some(1)],
+    ),
+    ("nested", b"{{}}", &[Some(3), Some(2), Some(1), Some(0)]),
+];
+
 #[test]
 fn pairs_brackets(rt: HostRuntime) -> Result<(), Fail> {
     let run = Bump::new(rt.alloc());
-    let rows: [(&str, &[u8], &[Option<u32>]); 4] = [
-        ("crossing", b"([)]", &[None, Some(3), None, Some(1)]),
-        (
-            "a brace ends a bracket",
-            b"{(})",
-            &[Some(2), None, Some(0), None],
-        ),
-        (
-            "a brace that closes none",
-            b"}(})",
-            &[None, Some(3), None, Some(1)],
-        ),
-        ("nested", b"{{}}", &[Some(3), Some(2), Some(1), Some(0)]),
-    ];
-    for (name, letters, want) in rows {
+    for case in PAIRS {
+        let (name, letters, want) = *case;
         let classes = letter_classes(rt.alloc(), letters)?;
         assert!(rt; classes.len() < 100);
         let found = partners_of_classes(&classes, &run)?;
-        assert_eq!(rt; found.len(), want.len(), "{name}");
+        same(&rt, name, found.len(), want.len());
         for (k, (partner, place)) in found.iter().zip(want).enumerate() {
-            assert_eq!(rt; partner.place(), *place, "{name}, {k}");
+            same_at(&rt, name, k, partner.place(), *place);
         }
     }
     Ok(())
 }
 
+/// Tokens of one letter; below each stands whether the gap before it is kept.
+const KEPT: &[(&str, &[u8], &[u8])] = &[
+    ("an initializer", b"x=({iy=1;y;});", b"....^^^^^^^^.."),
+    ("a list of values", b"({1,2})", b"......."),
+    ("one in another", b"({a;({b;})})", b"..^^^^^^^^^."),
+    ("one in a list", b"({({b;})})", b"....^^^..."),
+    ("`;` behind another", b"({({b;});})", b"..^^^^^^^^."),
+    ("one behind another", b"({a;}{b})", b"..^^^...."),
+    ("square brackets", b"[{a;}]", b"..^^^."),
+    ("no brackets", b"{a;}", b"...."),
+    ("behind brackets", b"(){a;}", b"......"),
+    ("behind brackets that a brace ended", b"{(}{a;}", b"......."),
+    ("`;` in inner brackets", b"({(;}", b"....."),
+    ("`;` in brackets", b"a(;;){}", b"......."),
+    ("a bracket without partner", b"({a;}", b"..^^^"),
+    ("a brace without partner", b"({a;)", b"....."),
+];
+
 #[test]
 fn keeps_the_gaps_of_statement_braces(rt: HostRuntime) -> Result<(), Fail> {
     let run = Bump::new(rt.alloc());
-    // A token is a letter; below it stands whether the gap before it is kept.
-    let rows: [(&str, &[u8], &[u8]); 14] = [
-        ("an initializer", b"x=({iy=1;y;});", b"....^^^^^^^^.."),
-        ("a list of values", b"({1,2})", b"......."),
-        ("one in another", b"({a;({b;})})", b"..^^^^^^^^^."),
-        ("one in a list", b"({({b;})})", b"....^^^..."),
-        ("`;` behind another", b"({({b;});})", b"..^^^^^^^^."),
-        ("one behind another", b"({a;}{b})", b"..^^^...."),
-        ("square brackets", b"[{a;}]", b"..^^^."),
-        ("no brackets", b"{a;}", b"...."),
-        ("behind brackets", b"(){a;}", b"......"),
-        ("behind brackets that a brace ended", b"{(}{a;}", b"......."),
-        ("`;` in inner brackets", b"({(;}", b"....."),
-        ("`;` in brackets", b"a(;;){}", b"......."),
-        ("a bracket without partner", b"({a;}", b"..^^^"),
-        ("a brace without partner", b"({a;)", b"....."),
-    ];
-    for (name, letters, want) in rows {
+    for case in KEPT {
+        let (name, letters, want) = *case;
         let classes = letter_classes(rt.alloc(), letters)?;
         assert!(rt; classes.len() < 100);
         let facts = bracket_facts(&classes, &run)?;
-        assert_eq!(rt;
-            facts.partners,
-            partners_of_classes(&classes, &run)?,
-            "{name}"
-        );
-        assert_eq!(rt; facts.kept.len(), want.len(), "{name}");
+        let partners = partners_of_classes(&classes, &run)?;
+        same(&rt, name, facts.partners, partners);
+        same(&rt, name, facts.kept.len(), want.len());
         for (k, (kept, mark)) in facts.kept.iter().zip(want).enumerate() {
-            assert!(rt; *kept == (*mark == b'^'), "{name}, {k}");
+            same_at(&rt, name, k, *kept, *mark == b'^');
         }
     }
     Ok(())
@@ -121,77 +124,83 @@ fn keeps_the_gaps_of_many_statement_braces(rt: HostRuntime) -> Result<(), Fail> 
     assert!(rt; classes.len() < 1_000_000);
     let kept = bracket_facts(&classes, &run)?.kept;
     // All are, but those before the brackets outside and before the first brace.
-    assert_eq!(rt; kept.len(), 300_002);
-    assert_eq!(rt; count_of(kept), 299_999);
+    same(&rt, "how many gaps", kept.len(), 300_002);
+    same(&rt, "how many are kept", count_of(kept), 299_999);
     Ok(())
 }
+
+/// An item, and its class.
+const CLASSES: &[(&str, TokenClass)] = &[
+    ("if", If),
+    ("i\\\nf", If),
+    ("__attribute__", CallWord),
+    ("unsigned", TypeWord),
+    ("size_t", TypeWord),
+    ("struc", PlainWord),
+    ("structs", PlainWord),
+    ("FOO_1", CapitalWord),
+    ("X", PlainWord),
+    ("Foo", PlainWord),
+    ("if_", PlainWord),
+    ("{", OpenBrace),
+    ("<%", OpenBrace),
+    ("??<", OpenBrace),
+    (":>", CloseSquare),
+    ("+", Sign),
+];
 
 #[test]
 fn tells_the_classes_of_items(rt: HostRuntime) -> Result<(), Fail> {
     let run = Bump::new(rt.alloc());
-    let rows: [(&[u8], TokenClass); 16] = [
-        (b"if", If),
-        (b"i\\\nf", If),
-        (b"__attribute__", CallWord),
-        (b"unsigned", TypeWord),
-        (b"size_t", TypeWord),
-        (b"struc", PlainWord),
-        (b"structs", PlainWord),
-        (b"FOO_1", CapitalWord),
-        (b"X", PlainWord),
-        (b"Foo", PlainWord),
-        (b"if_", PlainWord),
-        (b"{", OpenBrace),
-        (b"<%", OpenBrace),
-        (b"??<", OpenBrace),
-        (b":>", CloseSquare),
-        (b"+", Sign),
-    ];
-    for (text, want) in rows {
-        let arena = build(&run, text, Dialect::C11)?;
-        assert!(rt; arena.len() == 1, "{text:?}");
-        let found = item_class(&arena, TokenId(0), &run)?;
-        assert_eq!(rt; found, want, "{text:?}");
+    for case in CLASSES {
+        let (text, want) = *case;
+        let arena = build(&run, text.as_bytes(), Dialect::C11)?;
+        assert!(rt; arena.len() == 1, "{text}");
+        same(&rt, text, item_class(&arena, TokenId(0), &run)?, want);
     }
     Ok(())
 }
+
+/// The classes of the items of the next test's text.
+const ALL: &[TokenClass] = &[
+    If,
+    OpenRound,
+    PlainWord,
+    CloseRound,
+    Hash,
+    PlainWord,
+    PlainWord,
+    PlainWord,
+    OpenSquare,
+    Literal,
+    CloseSquare,
+    Semicolon,
+];
+
+/// Those of the items around its directive.
+const AROUND: &[TokenClass] = &[
+    If,
+    OpenRound,
+    PlainWord,
+    CloseRound,
+    PlainWord,
+    OpenSquare,
+    Literal,
+    CloseSquare,
+    Semicolon,
+];
 
 #[test]
 fn takes_the_classes_of_views(rt: HostRuntime) -> Result<(), Fail> {
     let run = Bump::new(rt.alloc());
     let arena = build(&run, b"if (x)\n#undef y\ny[0];", Dialect::C11)?;
-    assert_eq!(rt; arena.len(), 12);
+    assert!(rt; arena.len() == 12);
     let all = item_classes(&arena, &run)?;
-    let want = [
-        If,
-        OpenRound,
-        PlainWord,
-        CloseRound,
-        Hash,
-        PlainWord,
-        PlainWord,
-        PlainWord,
-        OpenSquare,
-        Literal,
-        CloseSquare,
-        Semicolon,
-    ];
     let whole = items_from(&arena, 0, &run)?;
     let found = classes_among(all, &arena, &whole, &run)?;
-    assert_eq!(rt; found, want.as_slice(), "all");
-    let want = [
-        If,
-        OpenRound,
-        PlainWord,
-        CloseRound,
-        PlainWord,
-        OpenSquare,
-        Literal,
-        CloseSquare,
-        Semicolon,
-    ];
+    same(&rt, "all", found, ALL);
     let around = items_around(&arena, 4, 7, &run)?;
     let found = classes_among(all, &arena, &around, &run)?;
-    assert_eq!(rt; found, want.as_slice(), "around a directive");
+    same(&rt, "around a directive", found, AROUND);
     Ok(())
 }

@@ -2,6 +2,7 @@
 
 ghost use Rattle.style_table.specs.Range.{IsInRange};
 
+use crate::comparing::same;
 use crate::fixtures::style;
 use bumpalo::Bump;
 use directives::sections;
@@ -332,7 +333,7 @@ fn lays_out_each_row(rt: HostRuntime) -> Result<(), Fail> {
     let bump = Bump::new(rt.alloc());
     for row in &ROWS {
         let output = laid(rt.alloc(), &bump, row)?;
-        assert_eq!(rt; output.as_slice(), row.output, "{}", row.name);
+        same(&rt, row.name, output.as_slice(), row.output);
     }
     Ok(())
 }

@@ -4,6 +4,7 @@ ghost use Rattle.std.specs.Prelude.{◌≡◌, ◌+◌, ◌≤◌, length, IfOk,
 ghost use Rattle.token_classes.specs.Viewed.{AreWithin};
 ghost use Rattle.style_table.specs.Range.{IsInRange};
 
+use crate::comparing::{same, same_at};
 use crate::fixtures::{items_around, items_from, read_view, style};
 use bumpalo::Bump;
 use gap_text::Decision;
@@ -153,7 +154,13 @@ fn drawn(
         assert!(rt; id.0 < arena.len());
         let slot = plan.slot(id.0).ok_or("a decision")?;
         push_gap(&mut text, slot.decision, arena.gap(id.0))?;
-        assert_eq!(rt; column_of(text.as_slice()), slot.end);
+        same_at(
+            rt,
+            "the column",
+            k as usize,
+            column_of(text.as_slice()),
+            slot.end,
+        );
         text.extend_from_slice(arena.get(id).item.raw)?;
     }
     Ok(text)
@@ -240,7 +247,7 @@ fn breaks_behind_directives(rt: HostRuntime) -> Result<(), Fail> {
         "int a =\n\n    1;",
     );
     let arena = build(&run, case.2.as_bytes(), Dialect::C11)?;
-    assert_eq!(rt; arena.len(), 9);
+    assert!(rt; arena.len() == 9);
     let view = items_around(&arena, 3, 7, &run)?;
     is_laid_out(&rt, rt.alloc(), &run, &arena, &view, &case)
 }
@@ -250,10 +257,11 @@ fn goes_on_from_what_is_decided(rt: HostRuntime) -> Result<(), Fail> {
     let run = Bump::new(rt.alloc());
     let style = style("LLVM")?;
     let arena = build(&run, b"a b c", Dialect::C11)?;
-    assert_eq!(rt; arena.len(), 3);
+    assert!(rt; arena.len() == 3);
     let view = items_from(&arena, 0, &run)?;
     let mut plan = Plan::make(&arena, &run)?;
-    assert_eq!(rt; plan.decide(1, Decision::Old, 9), Decided::New);
+    let decided = plan.decide(1, Decision::Old, 9);
+    same(&rt, "a gap", decided, Decided::New);
     lay_out(
         &rt,
         rt.alloc(),
@@ -266,8 +274,14 @@ fn goes_on_from_what_is_decided(rt: HostRuntime) -> Result<(), Fail> {
     )?;
     for (place, decision, end) in [(1, Decision::Old, 9), (2, Decision::Spaces(1), 11)] {
         let slot = plan.slot(place).ok_or("a decision")?;
-        assert_eq!(rt; slot.decision, decision, "{place}");
-        assert_eq!(rt; slot.end, end, "{place}");
+        same_at(
+            &rt,
+            "what is decided",
+            place as usize,
+            slot.decision,
+            decision,
+        );
+        same_at(&rt, "where it ends", place as usize, slot.end, end);
     }
     Ok(())
 }
@@ -365,9 +379,9 @@ fn limited(limit: u32) -> Result<Style, Fail>
 
 /// This is noted of the lines of a text.
 fn is_noted(rt: &impl Abort, tally: &Tally<'_>, row: &Searched) {
-    assert_eq!(rt; tally.searched, row.searched, "{}", row.name);
-    assert_eq!(rt; tally.cost, row.cost, "{}", row.name);
-    assert_eq!(rt; tally.reports.as_slice(), row.reports, "{}", row.name);
+    same(rt, row.name, tally.searched, row.searched);
+    same(rt, row.name, tally.cost, row.cost);
+    same(rt, row.name, tally.reports.as_slice(), row.reports);
 }
 
 /// This comes of the lines of a text.

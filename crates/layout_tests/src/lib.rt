@@ -3,6 +3,7 @@
 //! The libraries have no tests of their own, so that they are proved once. All that is here speaks to their public calls.
 //!
 //! - `fixtures`: what several of these are made of
+//! - `comparing`: what is found beside what is wanted
 //! - `bracket_pairs`: classes, partners and kept gaps (`token_classes`, `brackets`)
 //! - `text_lines`: the lines of whole texts (`unwrapped_lines`)
 //! - `token_roles`: the roles of whole texts (`annotator`)
@@ -25,6 +26,8 @@ mod blanks;
 mod bracket_pairs;
 #[cfg(test)]
 mod break_costs;
+#[cfg(test)]
+mod comparing;
 #[cfg(test)]
 mod digests;
 #[cfg(test)]

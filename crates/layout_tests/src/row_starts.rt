@@ -1,5 +1,6 @@
 //! Rows of lines under the named styles, as `docs/PROFILE.md` says under "Rows of lines".
 
+use crate::comparing::{same, same_at};
 use crate::fixtures::{style, token};
 use indenter::{empty_lines, start_column};
 use line_tokens::{GapFacts, LineKind, LineTok, Role, TokenId, ULine};
@@ -29,90 +30,118 @@ fn line(kind: LineKind, level: u32) -> ULine {
     }
 }
 
+/// A style, a level and its column.
+const LEVELS: &[(&str, u32, u32)] = &[("LLVM", 3, 6), ("WebKit", 2, 8), ("LLVM", 0, 0)];
+
 #[test]
 fn starts_at_the_level(rt: HostRuntime) -> Result<(), Fail> {
-    for (name, level, column) in [("LLVM", 3, 6), ("WebKit", 2, 8), ("LLVM", 0, 0)] {
+    for (name, level, column) in LEVELS {
         let style = style(name)?;
-        let line = line(LineKind::Simple, level);
-        assert_eq!(rt; start_column(&style, &line), column, "{name}, {level}");
+        let line = line(LineKind::Simple, *level);
+        same_at(
+            &rt,
+            name,
+            *level as usize,
+            start_column(&style, &line),
+            *column,
+        );
     }
     Ok(())
 }
 
+/// The first token of a line, behind so many new-lines, and the empty lines that stay before it.
+struct Start {
+    name: &'static str,
+    style: &'static str,
+    before: Option<Role>,
+    kind: LineKind,
+    id: u32,
+    role: Role,
+    lines: u32,
+    empty: u32,
+}
+
+/// A line within a block.
+const WITHIN: Start = Start {
+    name: "two",
+    style: "LLVM",
+    before: Some(Role::Word),
+    kind: LineKind::Simple,
+    id: 5,
+    role: Role::Word,
+    lines: 3,
+    empty: 1,
+};
+
+const STARTS: &[Start] = &[
+    WITHIN,
+    Start {
+        name: "one",
+        lines: 2,
+        ..WITHIN
+    },
+    Start {
+        name: "none",
+        lines: 1,
+        empty: 0,
+        ..WITHIN
+    },
+    Start {
+        name: "no new-line",
+        lines: 0,
+        empty: 0,
+        ..WITHIN
+    },
+    Start {
+        name: "the file's start",
+        before: None,
+        id: 0,
+        empty: 0,
+        ..WITHIN
+    },
+    Start {
+        name: "behind directives",
+        before: None,
+        id: 9,
+        ..WITHIN
+    },
+    Start {
+        name: "before a brace",
+        kind: LineKind::Close,
+        role: Role::BlockClose,
+        empty: 0,
+        ..WITHIN
+    },
+    Start {
+        name: "behind a brace",
+        before: Some(Role::BlockOpen),
+        ..WITHIN
+    },
+    Start {
+        name: "behind a brace, Google",
+        style: "Google",
+        before: Some(Role::BlockOpen),
+        empty: 0,
+        ..WITHIN
+    },
+];
+
+/// How many empty lines stay before the first token of a line.
+fn empty_lines_of(start: &Start) -> Result<u32, Fail> {
+    let style = style(start.style)?;
+    let line = line(start.kind, 1);
+    let first = token_behind(start.id, start.role, start.lines);
+    let count = match start.before {
+        Some(role) => empty_lines(&style, Some(&token(role, 0, 1)), &line, &first),
+        None => empty_lines(&style, None, &line, &first),
+    };
+    Ok(count)
+}
+
 #[test]
 fn keeps_few_empty_lines(rt: HostRuntime) -> Result<(), Fail> {
-    let (llvm, google) = (style("LLVM")?, style("Google")?);
-    let word = token(Role::Word, 0, 1);
-    let open = token(Role::BlockOpen, 0, 1);
-    let simple = line(LineKind::Simple, 1);
-    let close = line(LineKind::Close, 1);
-    for (name, style, before, line, id, role, lines, want) in [
-        ("two", &llvm, Some(&word), &simple, 5, Role::Word, 3, 1),
-        ("one", &llvm, Some(&word), &simple, 5, Role::Word, 2, 1),
-        ("none", &llvm, Some(&word), &simple, 5, Role::Word, 1, 0),
-        (
-            "no new-line",
-            &llvm,
-            Some(&word),
-            &simple,
-            5,
-            Role::Word,
-            0,
-            0,
-        ),
-        (
-            "the file's start",
-            &llvm,
-            None,
-            &simple,
-            0,
-            Role::Word,
-            3,
-            0,
-        ),
-        (
-            "behind directives",
-            &llvm,
-            None,
-            &simple,
-            9,
-            Role::Word,
-            3,
-            1,
-        ),
-        (
-            "before a brace",
-            &llvm,
-            Some(&word),
-            &close,
-            5,
-            Role::BlockClose,
-            3,
-            0,
-        ),
-        (
-            "behind a brace",
-            &llvm,
-            Some(&open),
-            &simple,
-            5,
-            Role::Word,
-            3,
-            1,
-        ),
-        (
-            "behind a brace, Google",
-            &google,
-            Some(&open),
-            &simple,
-            5,
-            Role::Word,
-            3,
-            0,
-        ),
-    ] {
-        let first = token_behind(id, role, lines);
-        assert_eq!(rt; empty_lines(style, before, line, &first), want, "{name}");
+    for start in STARTS {
+        same(&rt, start.name, empty_lines_of(start)?, start.empty);
     }
     Ok(())
 }

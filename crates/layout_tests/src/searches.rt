@@ -3,6 +3,7 @@
 ghost use Rattle.std.specs.Prelude.{◌≡◌, ◌<◌, ◌≤◌, length};
 ghost use Rattle.style_table.specs.Range.{IsInRange};
 
+use crate::comparing::same;
 use crate::fixtures::{count_of, style, token};
 use break_search::{Outcome, search};
 use bumpalo::Bump;
@@ -26,30 +27,61 @@ fn call(name: u32, first: u32, second: u32) -> [LineTok; 7] {
     ]
 }
 
+/// The widths of a call's name and arguments, whether each of its gaps breaks, and the cost.
+const CALLS: &[(&str, u32, u32, u32, &[bool], u64)] = &[
+    ("fits", 4, 10, 10, &[false; 6], 0),
+    (
+        "behind the comma",
+        4,
+        50,
+        36,
+        &[false, false, false, true, false, false],
+        1,
+    ),
+    (
+        "behind the opener",
+        40,
+        40,
+        30,
+        &[false, true, false, false, false, false],
+        19,
+    ),
+    (
+        "past the limit",
+        4,
+        100,
+        1,
+        &[false, true, false, true, false, false],
+        25_000_020,
+    ),
+];
+
+/// What a search found, where it was within the budget.
+fn found_of<'r>(outcome: Outcome<'r>) -> Option<(&'r [bool], u64)> {
+    match outcome {
+        Outcome::Found { breaks, cost } => Some((breaks, cost)),
+        Outcome::OverBudget { cells: _ } => None,
+    }
+}
+
 #[test]
 fn breaks_calls_at_their_least_cost(rt: HostRuntime) -> Result<(), Fail> {
     let style = style("LLVM")?;
     let run = Bump::new(rt.alloc());
-    let free = [None; 7];
-    let behind_comma = [false, false, false, true, false, false];
-    let behind_opener = [false, true, false, false, false, false];
-    let behind_both = [false, true, false, true, false, false];
-    let nowhere = [false; 6];
-    for (name, line, want, want_cost) in [
-        ("fits", call(4, 10, 10), nowhere, 0),
-        ("behind the comma", call(4, 50, 36), behind_comma, 1),
-        ("behind the opener", call(40, 40, 30), behind_opener, 19),
-        ("past the limit", call(4, 100, 1), behind_both, 25_000_020),
-    ] {
-        match search(rt.alloc(), &style, &line, 0, &free, 2_000_000, &run)? {
-            Outcome::Found { breaks, cost } => {
-                assert_eq!(rt; breaks, want.as_slice(), "{name}");
-                assert_eq!(rt; cost, want_cost, "{name}");
-            }
-            Outcome::OverBudget { cells: _ } => assert!(rt; false, "{name}"),
-        }
+    for case in CALLS {
+        let (name, called, first, second, breaks, cost) = *case;
+        let line = call(called, first, second);
+        let outcome = search(rt.alloc(), &style, &line, 0, &[None; 7], 2_000_000, &run)?;
+        same(&rt, name, found_of(outcome), Some((breaks, cost)));
     }
-    match search(rt.alloc(), &style, &call(4, 50, 36), 0, &free, 1, &run)? {
+    Ok(())
+}
+
+#[test]
+fn tells_a_call_over_its_budget(rt: HostRuntime) -> Result<(), Fail> {
+    let style = style("LLVM")?;
+    let run = Bump::new(rt.alloc());
+    match search(rt.alloc(), &style, &call(4, 50, 36), 0, &[None; 7], 1, &run)? {
         Outcome::Found { breaks: _, cost: _ } => assert!(rt; false, "within one cell"),
         Outcome::OverBudget { cells } => assert!(rt; cells > 1, "over one cell"),
     }
@@ -85,15 +117,14 @@ fn cost_of(
     Ok(Some(state.cost))
 }
 
-/// Compares the search of a line with all of its breakings, told by their bits.
-fn compare(
+/// The least cost of all breakings of a line, and the first of these told by its bits.
+fn least_of(
     rt: &impl Abort,
     alloc: Global,
     style: &Style,
     line: &[LineTok],
     fixed: &[Option<Fixed>],
-    run: &Bump,
-) -> Result<(), Fail>
+) -> Result<(u128, u32), Fail>
     requires range { IsInRange style.now }
     requires some { 0 < length line.now }
     requires even { length fixed.now ≡ length line.now }
@@ -108,17 +139,38 @@ fn compare(
             };
         }
     }
-    let (want, bits) = least.ok_or("an admissible breaking")?;
-    match search(alloc, style, line, 0, fixed, 2_000_000, run)? {
-        Outcome::Found { breaks, cost } => {
-            assert!(rt; u128::from(cost) == want, "{line:?}");
-            let mut found: u32 = 0;
-            for brk in breaks {
-                found = found.wrapping_mul(2).wrapping_add(u32::from(*brk));
-            }
-            assert!(rt; found == bits, "{line:?}");
+    Ok(least.ok_or("an admissible breaking")?)
+}
+
+/// A breaking told by its bits.
+fn bits_of(breaks: &[bool]) -> u32 {
+    let mut bits: u32 = 0;
+    for brk in breaks {
+        bits = bits.wrapping_mul(2).wrapping_add(u32::from(*brk));
+    }
+    bits
+}
+
+/// Compares the search of a line with all of its breakings.
+fn compare(
+    rt: &impl Abort,
+    alloc: Global,
+    style: &Style,
+    line: &[LineTok],
+    fixed: &[Option<Fixed>],
+    run: &Bump,
+) -> Result<(), Fail>
+    requires range { IsInRange style.now }
+    requires some { 0 < length line.now }
+    requires even { length fixed.now ≡ length line.now }
+{
+    let want = least_of(rt, alloc, style, line, fixed)?;
+    assert!(rt; line.len() <= 8);
+    match found_of(search(alloc, style, line, 0, fixed, 2_000_000, run)?) {
+        Some((breaks, cost)) => {
+            assert!(rt; (u128::from(cost), bits_of(breaks)) == want, "{line:?}");
         }
-        Outcome::OverBudget { cells: _ } => assert!(rt; false, "{line:?}"),
+        None => assert!(rt; false, "{line:?}"),
     }
     Ok(())
 }
@@ -280,14 +332,11 @@ fn takes_the_first_of_two_ways_of_one_cost(rt: HostRuntime) -> Result<(), Fail> 
         let free = vec![in rt.alloc(); None; line.len()]?;
         let fixed = free.as_slice();
         assert!(rt; !line.is_empty() && line.len() < 4_294_967_295 && fixed.len() == line.len());
-        match search(rt.alloc(), &style, line, 0, fixed, 2_000_000, &run)? {
-            Outcome::Found { breaks, cost } => {
-                assert_eq!(rt; cost, 1, "{name}");
-                assert_eq!(rt; breaks.get(3), Some(&true), "{name}");
-                assert_eq!(rt; count_of(breaks), 1, "{name}");
-            }
-            Outcome::OverBudget { cells: _ } => assert!(rt; false, "{name}"),
-        }
+        let outcome = search(rt.alloc(), &style, line, 0, fixed, 2_000_000, &run)?;
+        let (breaks, cost) = found_of(outcome).ok_or("a breaking")?;
+        same(&rt, name, cost, 1);
+        same(&rt, name, breaks.get(3).copied(), Some(true));
+        same(&rt, name, count_of(breaks), 1);
     }
     Ok(())
 }
@@ -317,12 +366,9 @@ fn breaks_a_long_initialiser_into_rows(rt: HostRuntime) -> Result<(), Fail> {
     let free = vec![in rt.alloc(); None; line.len()]?;
     let fixed = free.as_slice();
     assert!(rt; !line.is_empty() && line.len() < 4_294_967_295 && fixed.len() == line.len());
-    match search(rt.alloc(), &style, line, 0, fixed, 2_000_000, &run)? {
-        Outcome::Found { breaks, cost } => {
-            assert_eq!(rt; cost, 351);
-            assert_eq!(rt; count_of(breaks), 342);
-        }
-        Outcome::OverBudget { cells: _ } => assert!(rt; false),
-    }
+    let outcome = search(rt.alloc(), &style, line, 0, fixed, 2_000_000, &run)?;
+    let (breaks, cost) = found_of(outcome).ok_or("a breaking")?;
+    same(&rt, "the cost", cost, 351);
+    same(&rt, "how many gaps break", count_of(breaks), 342);
     Ok(())
 }

@@ -1,5 +1,6 @@
 //! The lines of whole texts, as `docs/PROFILE.md` says under "Statements and lines".
 
+use crate::comparing::{same, same_at};
 use crate::fixtures::{items_from, style};
 use brackets::partners;
 use bumpalo::Bump;
@@ -344,13 +345,13 @@ fn has_lines(rt: &impl Abort, run: &Bump, case: &Case) -> Result<(), Fail> {
     let (name, style, text, want) = *case;
     let arena = build(run, text.as_bytes(), Dialect::C11)?;
     let found = lines_of(style, &arena, run)?;
-    assert_eq!(rt; found.len(), want.len(), "{name}");
-    for (line, row) in found.iter().zip(want) {
+    same(rt, name, found.len(), want.len());
+    for (k, (line, row)) in found.iter().zip(want).enumerate() {
         let (code, level, kind) = *row;
         let text = text_of(rt, &arena, line.first, line.last)?;
-        assert_eq!(rt; text, code.as_bytes(), "{name}: {code}");
-        assert_eq!(rt; line.level, level, "{name}: {code}");
-        assert_eq!(rt; line.kind, kind, "{name}: {code}");
+        same_at(rt, name, k, text, code.as_bytes());
+        same_at(rt, name, k, line.level, level);
+        same_at(rt, name, k, line.kind, kind);
     }
     Ok(())
 }
@@ -387,10 +388,10 @@ fn looks_for_no_colon_twice(rt: HostRuntime) -> Result<(), Fail> {
     let text = repeated(rt.alloc(), b"switch(x){", b"case a;", 10_000, b"}")?;
     let arena = build(&run, text.as_slice(), Dialect::C11)?;
     let found = lines_of("LLVM", &arena, &run)?;
-    assert_eq!(rt; found.len(), 10_002);
+    assert!(rt; found.len() == 10_002);
     for line in &found[1..10_001] {
-        assert_eq!(rt; line.level, 1);
-        assert_eq!(rt; line.kind, Simple);
+        same(&rt, "a level", line.level, 1);
+        same(&rt, "a kind", line.kind, Simple);
     }
     Ok(())
 }
@@ -402,17 +403,17 @@ fn nests_ten_thousand_braces(rt: HostRuntime) -> Result<(), Fail> {
     let text = repeated(rt.alloc(), open.as_slice(), b"}", 10_000, b"")?;
     let arena = build(&run, text.as_slice(), Dialect::C11)?;
     let found = lines_of("LLVM", &arena, &run)?;
-    assert_eq!(rt; found.len(), 20_000);
+    same(&rt, "how many lines", found.len(), 20_000);
     let mut level = 0;
     for line in found.iter().take(10_000) {
-        assert_eq!(rt; line.level, level);
-        assert_eq!(rt; line.kind, Brace);
+        same(&rt, "the level of an opener", line.level, level);
+        same(&rt, "its kind", line.kind, Brace);
         level = level.saturating_add(1);
     }
     for line in found.iter().skip(10_000) {
         level = level.saturating_sub(1);
-        assert_eq!(rt; line.level, level);
-        assert_eq!(rt; line.kind, Close);
+        same(&rt, "the level of a closer", line.level, level);
+        same(&rt, "its kind", line.kind, Close);
     }
     Ok(())
 }

@@ -1,5 +1,6 @@
 //! The roles of whole texts, as `docs/PROFILE.md` says under "Roles".
 
+use crate::comparing::{same, same_at};
 use crate::fixtures::{items_from, style};
 use annotator::roles;
 use brackets::partners;
@@ -322,9 +323,9 @@ fn tokens_of<'r>(text: &[u8], run: &'r Bump) -> Result<&'r [LineTok], Fail> {
 
 /// The tokens have these roles.
 fn have_roles(rt: &impl Abort, name: &str, found: &[LineTok], want: &[Role]) {
-    assert_eq!(rt; found.len(), want.len(), "{name}");
+    same(rt, name, found.len(), want.len());
     for (k, (token, role)) in found.iter().zip(want).enumerate() {
-        assert_eq!(rt; token.role, *role, "{name}, {k}");
+        same_at(rt, name, k, token.role, *role);
     }
 }
 
@@ -389,49 +390,68 @@ fn letter(token: &LineTok) -> u8 {
     }
 }
 
+/// A text; below each of its items stands how many brackets are open before it, how tightly it binds, and what the gap is.
+const LOOKED_AT: &[(&str, &str, &[u32], &[u8], &[u8])] = &[
+    (
+        "operators",
+        "x = a + (b * c) || d == - 1;",
+        &[0, 0, 0, 0, 0, 1, 1, 1, 1, 0, 0, 0, 0, 0, 0],
+        &[0, 0, 0, 13, 0, 0, 14, 0, 0, 4, 0, 9, 0, 0, 0],
+        b"...............",
+    ),
+    (
+        "a list with a last comma",
+        "a[] = { /* i */ 1, // c\n f(x, y), {2}, };",
+        &[
+            0, 0, 1, 0, 0, 1, 1, 1, 1, 1, 1, 2, 2, 2, 2, 1, 1, 2, 2, 1, 1, 0,
+        ],
+        &[0; 22],
+        b".....t...t......t...t.",
+    ),
+    (
+        "items that are held",
+        "x /* a */ /* b */ # y /* c */ z ## w;",
+        &[0; 10],
+        &[0; 10],
+        b".hhh......",
+    ),
+    (
+        "items that may not touch",
+        "int x = + +y;",
+        &[0; 7],
+        &[0; 7],
+        b".a..a..",
+    ),
+];
+
+/// The item `at` of a text has these.
+fn is_looked_at(
+    rt: &impl Abort,
+    name: &str,
+    at: usize,
+    token: &LineTok,
+    depth: u32,
+    power: u8,
+    gap: u8,
+) {
+    same_at(rt, name, at, token.depth, depth);
+    same_at(rt, name, at, token.power, power);
+    same_at(rt, name, at, letter(token), gap);
+}
+
 #[test]
 fn tells_what_else_tables_look_at(rt: HostRuntime) -> Result<(), Fail> {
     let run = Bump::new(rt.alloc());
-    // Below each item stands how many brackets are open before it, how tightly it binds, and what the gap is.
-    let rows: [(&str, &str, &[u32], &[u8], &[u8]); 4] = [
-        (
-            "operators",
-            "x = a + (b * c) || d == - 1;",
-            &[0, 0, 0, 0, 0, 1, 1, 1, 1, 0, 0, 0, 0, 0, 0],
-            &[0, 0, 0, 13, 0, 0, 14, 0, 0, 4, 0, 9, 0, 0, 0],
-            b"...............",
-        ),
-        (
-            "a list with a last comma",
-            "a[] = { /* i */ 1, // c\n f(x, y), {2}, };",
-            &[
-                0, 0, 1, 0, 0, 1, 1, 1, 1, 1, 1, 2, 2, 2, 2, 1, 1, 2, 2, 1, 1, 0,
-            ],
-            &[0; 22],
-            b".....t...t......t...t.",
-        ),
-        (
-            "items that are held",
-            "x /* a */ /* b */ # y /* c */ z ## w;",
-            &[0; 10],
-            &[0; 10],
-            b".hhh......",
-        ),
-        (
-            "items that may not touch",
-            "int x = + +y;",
-            &[0; 7],
-            &[0; 7],
-            b".a..a..",
-        ),
-    ];
-    for (name, text, depths, powers, gaps) in rows {
+    for case in LOOKED_AT {
+        let (name, text, depths, powers, gaps) = *case;
         let found = tokens_of(text.as_bytes(), &run)?;
-        assert_eq!(rt; found.len(), depths.len(), "{name}");
+        assert!(rt;
+            found.len() == depths.len() && found.len() == powers.len(),
+            "{name}"
+        );
+        assert!(rt; found.len() == gaps.len(), "{name}");
         for (k, token) in found.iter().enumerate() {
-            assert_eq!(rt; Some(&token.depth), depths.get(k), "{name}, {k}");
-            assert_eq!(rt; Some(&token.power), powers.get(k), "{name}, {k}");
-            assert_eq!(rt; Some(&letter(token)), gaps.get(k), "{name}, {k}");
+            is_looked_at(&rt, name, k, token, depths[k], powers[k], gaps[k]);
         }
     }
     Ok(())

@@ -3,6 +3,7 @@
 ghost use Rattle.std.specs.Prelude.{IfOk};
 ghost use Rattle.style_table.specs.Range.{IsInRange};
 
+use crate::comparing::same;
 use crate::fixtures::style;
 use fmt_ports::TextSink;
 use gap_text::{Decision, short_lines, write_gap};
@@ -45,66 +46,93 @@ const ROW: Decision = Decision::Lines {
     level: 3,
 };
 
+/// The same row behind a splice.
+const SPLICE: Decision = Decision::Splice { pad: 2, column: 9 };
+
+/// A use of tabs, and what is written of `ROW` and of `SPLICE`.
+const INDENTED: &[(&str, UseTab, &[u8], &[u8])] = &[
+    ("Never", UseTab::Never, b"\n\n         ", b"  \\\n         "),
+    (
+        "ForIndentation",
+        UseTab::ForIndentation,
+        b"\n\n\t     ",
+        b"  \\\n\t\t ",
+    ),
+    (
+        "ForContinuationAndIndentation",
+        UseTab::ForContinuationAndIndentation,
+        b"\n\n\t\t ",
+        b"  \\\n\t\t ",
+    ),
+    (
+        "AlignWithSpaces",
+        UseTab::AlignWithSpaces,
+        b"\n\n\t     ",
+        b"  \\\n\t\t ",
+    ),
+    ("Always", UseTab::Always, b"\n\n\t\t ", b"  \\\n\t\t "),
+];
+
 #[test]
 fn indents_as_the_style_says(rt: HostRuntime) -> Result<(), Fail> {
-    let splice = Decision::Splice { pad: 2, column: 9 };
-    let rows: [(UseTab, &[u8], &[u8]); 5] = [
-        (UseTab::Never, b"\n\n         ", b"  \\\n         "),
-        (UseTab::ForIndentation, b"\n\n\t     ", b"  \\\n\t\t "),
-        (
-            UseTab::ForContinuationAndIndentation,
-            b"\n\n\t\t ",
-            b"  \\\n\t\t ",
-        ),
-        (UseTab::AlignWithSpaces, b"\n\n\t     ", b"  \\\n\t\t "),
-        (UseTab::Always, b"\n\n\t\t ", b"  \\\n\t\t "),
-    ];
-    for (use_tab, row, spliced) in rows {
+    for case in INDENTED {
+        let (name, use_tab, row, spliced) = *case;
         let text = written(rt.alloc(), use_tab, false, ROW, b"")?;
-        assert_eq!(rt; text.as_slice(), row, "{use_tab:?}");
-        let text = written(rt.alloc(), use_tab, false, splice, b"")?;
-        assert_eq!(rt; text.as_slice(), spliced, "{use_tab:?}, a splice");
+        same(&rt, name, text.as_slice(), row);
+        let text = written(rt.alloc(), use_tab, false, SPLICE, b"")?;
+        same(&rt, name, text.as_slice(), spliced);
     }
     Ok(())
 }
+
+/// A row at column 3 of a line of the deepest level.
+const DEEP: Decision = Decision::Lines {
+    count: 1,
+    column: 3,
+    level: u32::MAX,
+};
+
+/// A decision, whether lines end in two bytes, and what is written.
+const DECIDED: &[(&str, Decision, bool, &[u8])] = &[
+    ("the old bytes", Decision::Old, false, b" \\\n\t"),
+    ("no blank", Decision::Spaces(0), false, b""),
+    ("three blanks", Decision::Spaces(3), true, b"   "),
+    ("two line ends", ROW, true, b"\r\n\r\n         "),
+    ("a deep row", DEEP, false, b"\n   "),
+    (
+        "a splice",
+        Decision::Splice { pad: 0, column: 0 },
+        true,
+        b"\\\r\n",
+    ),
+];
 
 #[test]
 fn writes_what_was_decided(rt: HostRuntime) -> Result<(), Fail> {
-    let deep = Decision::Lines {
-        count: 1,
-        column: 3,
-        level: u32::MAX,
-    };
-    let splice = Decision::Splice { pad: 0, column: 0 };
-    let rows: [(Decision, bool, &[u8]); 6] = [
-        (Decision::Old, false, b" \\\n\t"),
-        (Decision::Spaces(0), false, b""),
-        (Decision::Spaces(3), true, b"   "),
-        (ROW, true, b"\r\n\r\n         "),
-        (deep, false, b"\n   "),
-        (splice, true, b"\\\r\n"),
-    ];
-    for (decision, crlf, want) in rows {
+    for case in DECIDED {
+        let (name, decision, crlf, want) = *case;
         let text = written(rt.alloc(), UseTab::Never, crlf, decision, b" \\\n\t")?;
-        assert_eq!(rt; text.as_slice(), want, "{decision:?}");
+        same(&rt, name, text.as_slice(), want);
     }
     Ok(())
 }
 
+/// A use of tabs, whether lines end in two bytes, how many there are, the column, and what is told at once.
+const SHORT: &[(&str, UseTab, bool, u32, u32, Option<&[u8]>)] = &[
+    ("one line end", UseTab::Never, false, 1, 3, Some(b"\n   ")),
+    ("two line ends", UseTab::Never, false, 2, 0, Some(b"\n\n")),
+    ("three line ends", UseTab::Never, false, 3, 0, None),
+    ("many columns", UseTab::Never, false, 1, 65, None),
+    ("carriage returns", UseTab::Never, true, 1, 3, None),
+    ("tabs", UseTab::Always, false, 1, 3, None),
+];
+
 #[test]
 fn tells_short_lines_in_one_piece(rt: HostRuntime) -> Result<(), Fail> {
-    let rows: [(&str, UseTab, bool, u32, u32, Option<&[u8]>); 6] = [
-        ("one line end", UseTab::Never, false, 1, 3, Some(b"\n   ")),
-        ("two line ends", UseTab::Never, false, 2, 0, Some(b"\n\n")),
-        ("three line ends", UseTab::Never, false, 3, 0, None),
-        ("many columns", UseTab::Never, false, 1, 65, None),
-        ("carriage returns", UseTab::Never, true, 1, 3, None),
-        ("tabs", UseTab::Always, false, 1, 3, None),
-    ];
-    for (name, use_tab, crlf, count, column, want) in rows {
+    for case in SHORT {
+        let (name, use_tab, crlf, count, column, want) = *case;
         let style = tabbed(use_tab)?;
-        let found = short_lines(&style, crlf, count, column);
-        assert!(rt; found == want, "{name}");
+        same(&rt, name, short_lines(&style, crlf, count, column), want);
     }
     Ok(())
 }

@@ -2,6 +2,7 @@
 
 ghost use Rattle.std.specs.Prelude.{◌≡◌, ◌+◌, length, IfOk};
 
+use crate::comparing::same;
 use crate::fixtures::style;
 use bumpalo::Bump;
 use directives::sections;
@@ -203,8 +204,8 @@ fn writes_each_row(rt: HostRuntime) -> Result<(), Fail> {
     let bump = Bump::new(rt.alloc());
     for row in &ROWS {
         let (output, done) = written(rt.alloc(), &bump, row, Vec::new(rt.alloc()))?;
-        assert_eq!(rt; output.as_slice(), row.output, "{}", row.name);
-        assert!(rt; done, "{}", row.name);
+        same(&rt, row.name, output.as_slice(), row.output);
+        same(&rt, row.name, done, true);
     }
     Ok(())
 }
@@ -212,8 +213,9 @@ fn writes_each_row(rt: HostRuntime) -> Result<(), Fail> {
 #[test]
 fn tells_a_failed_write(rt: HostRuntime) -> Result<(), Fail> {
     let bump = Bump::new(rt.alloc());
-    let (output, done) = written(rt.alloc(), &bump, &FAILING, vec![in rt.alloc(); 2]?)?;
-    assert_eq!(rt; output.as_slice(), FAILING.output);
-    assert!(rt; !done);
+    let row = &FAILING;
+    let (output, done) = written(rt.alloc(), &bump, row, vec![in rt.alloc(); 2]?)?;
+    same(&rt, row.name, output.as_slice(), row.output);
+    same(&rt, row.name, done, false);
     Ok(())
 }

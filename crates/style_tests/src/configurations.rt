@@ -1,10 +1,13 @@
 //! What is read of configurations.
 
+ghost use Rattle.style_table.specs.Range.{IsInRange};
+
+use crate::comparing::same;
 use fmt_ports::MemSink;
 use std::alloc::Global;
 use std::process::Abort;
 use std::test::Fail;
-use style_config::{ConfigFault, LIMIT, read};
+use style_config::{ConfigFault, LIMIT, SkippedKey, read};
 use style_table::{Style, UseTab, dump};
 
 /// What is looked at of a style that was read, and the keys that were skipped, each behind its line.
@@ -227,44 +230,27 @@ const FAULTS: &[Row] = &[
     },
 ];
 
+/// The style and the skipped keys that were read are those that a row has.
+fn is_seen(rt: &impl Abort, name: &str, style: &Style, skipped: &[SkippedKey], seen: &Seen) {
+    same(rt, name, style.indent_width, seen.indent_width);
+    same(rt, name, style.column_limit, seen.column_limit);
+    let before_comments = style.spaces_before_trailing_comments;
+    same(rt, name, before_comments, seen.before_comments);
+    same(rt, name, style.brace_wrapping_after_enum, seen.after_enum);
+    same(rt, name, skipped.len(), seen.skipped.len());
+    for (key, wanted) in skipped.iter().zip(seen.skipped) {
+        same(rt, name, (key.line, key.key.text()), *wanted);
+    }
+}
+
 /// Sees that a configuration is read as its row says.
 fn check(rt: &impl Abort, alloc: Global, row: &Row) -> Result<(), Fail> {
     let name = row.name;
     let llvm = Style::named("LLVM").ok_or("a style")?;
     assert!(rt; row.text.len() <= LIMIT, "the length of {name}");
     match (read(alloc, row.text, llvm), &row.seen) {
-        (Ok((style, skipped)), Ok(seen)) => {
-            assert_eq!(rt;
-                style.indent_width,
-                seen.indent_width,
-                "the width of {name}"
-            );
-            assert_eq!(rt;
-                style.column_limit,
-                seen.column_limit,
-                "the limit of {name}"
-            );
-            assert_eq!(rt;
-                style.spaces_before_trailing_comments,
-                seen.before_comments,
-                "the blanks of {name}"
-            );
-            assert_eq!(rt;
-                style.brace_wrapping_after_enum,
-                seen.after_enum,
-                "the braces of {name}"
-            );
-            let keys = skipped.keys();
-            assert_eq!(rt;
-                keys.len(),
-                seen.skipped.len(),
-                "the skipped keys of {name}"
-            );
-            for (key, (line, label)) in keys.iter().zip(seen.skipped) {
-                assert_eq!(rt; (key.line, key.key.text()), (*line, *label), "{name}");
-            }
-        }
-        (Err(found), Err(fault)) => assert_eq!(rt; found, *fault, "{name}"),
+        (Ok((style, skipped)), Ok(seen)) => is_seen(rt, name, &style, skipped.keys(), seen),
+        (Err(found), Err(fault)) => same(rt, name, found, *fault),
         (found, _) => assert!(rt; false, "{name} is read: {}", found.is_ok()),
     }
     Ok(())
@@ -280,24 +266,32 @@ fn reads_configurations(rt: HostRuntime) -> Result<(), Fail> {
     Ok(())
 }
 
-/// What is dumped of a style is read back, whatever the base.
+/// What is dumped of a style is read back over a base.
+fn is_read_back(rt: &impl Abort, alloc: Global, style: &Style, base: &str) -> Result<(), Fail>
+    requires { IsInRange style.now }
+{
+    let mut sink = MemSink::new(alloc, Vec::new(alloc));
+    same(
+        rt,
+        "whether it is dumped",
+        dump(style, &mut sink).is_ok(),
+        true,
+    );
+    let base = Style::named(base).ok_or("a style")?;
+    let text = sink.taken();
+    assert!(rt; text.len() <= LIMIT, "the length of a dump");
+    let (read, skipped) = read(alloc, text, base).ok().ok_or("a style")?;
+    same(rt, "whether it is read back", read == *style, true);
+    same(rt, "how many keys are skipped", skipped.keys().len(), 0);
+    Ok(())
+}
+
 #[test]
 fn reads_back_what_is_dumped(rt: HostRuntime) -> Result<(), Fail> {
-    let alloc = rt.alloc();
-    for (name, use_tab, base) in [
-        ("Microsoft", UseTab::AlignWithSpaces, "Google"),
-        ("Google", UseTab::Never, "WebKit"),
-    ] {
-        let mut style = Style::named(name).ok_or("a style")?;
-        style.use_tab = use_tab;
-        let mut sink = MemSink::new(alloc, Vec::new(alloc));
-        assert!(rt; dump(&style, &mut sink).is_ok(), "the dump of {name}");
-        let base = Style::named(base).ok_or("a style")?;
-        let text = sink.taken();
-        assert!(rt; text.len() <= LIMIT, "the length of {name}");
-        let (read, skipped) = read(alloc, text, base).ok().ok_or("a style")?;
-        assert!(rt; read == style, "{name}");
-        assert!(rt; skipped.keys().is_empty(), "the skipped keys of {name}");
-    }
-    Ok(())
+    let mut tabbed = Style::named("Microsoft").ok_or("a style")?;
+    tabbed.use_tab = UseTab::AlignWithSpaces;
+    is_read_back(&rt, rt.alloc(), &tabbed, "Google")?;
+    let mut plain = Style::named("Google").ok_or("a style")?;
+    plain.use_tab = UseTab::Never;
+    is_read_back(&rt, rt.alloc(), &plain, "WebKit")
 }

@@ -3,10 +3,13 @@
 //! - `ports`: the ends in memory and those of the process, which fail and end where they should.
 //! - `named_styles`: the five named styles, and the values that keys take.
 //! - `configurations`: what is read of configurations, those of another tool among them, and their faults.
+//! - `comparing`: what is found beside what is wanted.
 //! - `generated`: the pieces of the text that `--generate` makes.
 //! - `words`: what the words of the command say, and why they are refused.
 #![tactic(auto)]
 
+#[cfg(test)]
+mod comparing;
 #[cfg(test)]
 mod configurations;
 #[cfg(test)]

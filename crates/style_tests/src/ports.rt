@@ -2,6 +2,7 @@
 
 ghost use Rattle.std.specs.Prelude.{◌++◌};
 
+use crate::comparing::same;
 use fmt_ports::{
     Failed, FileFault, Files, InFault, MemFiles, MemSink, MemSource, Name, RealFiles, RealIn,
     RealOut, Sink, TextSink, read_all, write_all,
@@ -27,13 +28,13 @@ fn reads_all_bytes(rt: HostRuntime) -> Result<(), Fail> {
     for (name, failing, limit, wanted) in READINGS {
         let mut source = MemSource::new(b"abc".to_vec(alloc)?, vec![in alloc; *failing; 1]?);
         match (read_all(alloc, &mut source, *limit), wanted) {
-            (Ok(found), Ok(bytes)) => assert_eq!(rt; found.as_slice(), *bytes, "{name}"),
-            (Err(found), Err(fault)) => assert_eq!(rt; found, *fault, "{name}"),
+            (Ok(found), Ok(bytes)) => same(&rt, name, found.as_slice(), *bytes),
+            (Err(found), Err(fault)) => same(&rt, name, found, *fault),
             (found, _) => assert!(rt; false, "{name}: {}", found.is_ok()),
         }
         let mut reader = RealIn::new(b"abc".as_slice());
         let all = read_all(alloc, &mut reader, *limit);
-        assert_eq!(rt; all.is_ok(), *limit == 3, "{name}, from a reader");
+        same(&rt, name, all.is_ok(), *limit == 3);
     }
     Ok(())
 }
@@ -50,27 +51,38 @@ fn writes_all_bytes(rt: HostRuntime) -> Result<(), Fail> {
     let alloc = rt.alloc();
     for (name, failing, taken) in WRITINGS {
         let mut sink = MemSink::new(alloc, vec![in alloc; *failing; 1]?);
-        assert_eq!(rt;
+        same(
+            &rt,
+            name,
             write_all(&mut sink, b"abc").is_ok(),
             *failing != 1,
-            "{name}"
         );
-        assert_eq!(rt;
+        same(
+            &rt,
+            name,
             write_all(&mut sink, b"de").is_ok(),
             *failing != 2,
-            "{name}"
         );
-        assert_eq!(rt; sink.taken(), *taken, "{name}");
+        same(&rt, name, sink.taken(), *taken);
     }
+    Ok(())
+}
+
+#[test]
+fn writes_into_texts_and_rooms(rt: HostRuntime) -> Result<(), Fail> {
+    let alloc = rt.alloc();
     let mut text = TextSink::with_room(alloc, 2)?;
-    assert!(rt; write_all(&mut text, b"abc").is_ok(), "a text");
-    assert_eq!(rt; text.into_text().as_slice(), b"abc".as_slice(), "a text");
+    same(&rt, "a text", write_all(&mut text, b"abc").is_ok(), true);
+    same(
+        &rt,
+        "a text",
+        text.into_text().as_slice(),
+        b"abc".as_slice(),
+    );
     let mut room = [0u8; 2];
     let mut writer = RealOut::new(room.as_mut_slice());
-    assert!(rt;
-        write_all(&mut writer, b"abc").is_err(),
-        "a writer that is full"
-    );
+    let written = write_all(&mut writer, b"abc");
+    same(&rt, "a writer that is full", written.is_err(), true);
     Ok(())
 }
 
@@ -138,11 +150,17 @@ fn holds_files_in_memory(rt: HostRuntime) -> Result<(), Fail> {
     let mut files = MemFiles::new(alloc, Vec::new(alloc));
     files.put("a.c", b"abc")?;
     let read = files.read("a.c", 3).ok().ok_or("a file")?;
-    assert!(rt; files.write("b.c", &read).is_ok());
+    same(&rt, "a write", files.write("b.c", &read).is_ok(), true);
     let found = files.find("b.c", 3).ok().ok_or("a search")?;
-    assert_eq!(rt; found.ok_or("a file")?.as_slice(), b"abc".as_slice());
-    assert_eq!(rt; files.held("a.c"), Some(b"abc".as_slice()));
-    assert_eq!(rt; Name::from_text(alloc, "a.c")?.text(), "a.c");
+    let found = found.ok_or("a file")?;
+    same(
+        &rt,
+        "a file that was written",
+        found.as_slice(),
+        b"abc".as_slice(),
+    );
+    same(&rt, "a file", files.held("a.c"), Some(b"abc".as_slice()));
+    same(&rt, "a name", Name::from_text(alloc, "a.c")?.text(), "a.c");
     Ok(())
 }
 
@@ -152,22 +170,18 @@ fn writes_real_files_and_keeps_their_permissions(rt: HostRuntime) -> Result<(), 
     let name = "written_by_a_test.c";
     let mut files = RealFiles::new(rt.clone()?, alloc);
     for mode in [0o600, 0o640] {
-        assert!(rt; files.write(name, b"old").is_ok(), "a new file, {mode}");
+        same(&rt, "a new file", files.write(name, b"old").is_ok(), true);
         fs::set_permissions(&rt, name, PermissionsExt::from_mode(mode))?;
-        assert!(rt; files.write(name, b"new").is_ok(), "an old file, {mode}");
+        same(&rt, "an old file", files.write(name, b"new").is_ok(), true);
         let read = files.read(name, 3).ok().ok_or("a file")?;
-        assert_eq!(rt; read.as_slice(), b"new".as_slice(), "{mode}");
-        assert_eq!(rt;
-            fs::metadata(&rt, name)?.permissions().mode() % 0o1000,
-            mode,
-            "the permissions, {mode}"
-        );
+        same(&rt, "its bytes", read.as_slice(), b"new".as_slice());
+        let permissions = fs::metadata(&rt, name)?.permissions();
+        same(&rt, "its permissions", permissions.mode() % 0o1000, mode);
         fs::remove_file(&rt, name)?;
-        assert!(rt;
-            matches!(files.read(name, 3), Err(FileFault::Missing)),
-            "{mode}"
-        );
-        assert!(rt; matches!(files.find(name, 3), Ok(None)), "{mode}");
+        let missing = matches!(files.read(name, 3), Err(FileFault::Missing));
+        same(&rt, "a file that isn't there", missing, true);
+        let none = matches!(files.find(name, 3), Ok(None));
+        same(&rt, "a search for it", none, true);
     }
     Ok(())
 }

@@ -1,8 +1,10 @@
 //! Worked rows of words.
 
+use crate::comparing::same;
 use command_words::{Generate, StyleChoice, Words, WordsFault, read_words};
 use off_regions::{LineRange, RangeFault};
 use std::alloc::{AllocError, Global};
+use std::process::Abort;
 use std::test::Fail;
 
 /// What words say.
@@ -338,76 +340,75 @@ fn has_lines(found: &Words<'_>, lines: Option<&[LineRange]>) -> bool {
     }
 }
 
+/// Words say what a row has.
+fn do_say(rt: &impl Abort, name: &str, found: &Words<'_>, said: &Said) {
+    same(rt, name, found.style, said.style);
+    same(rt, name, has_lines(found, said.lines), true);
+    let flags = [
+        found.in_place,
+        found.dry_run,
+        found.werror,
+        found.dump_config,
+    ];
+    let wanted = [said.in_place, said.dry_run, said.werror, said.dump_config];
+    same(rt, name, flags, wanted);
+    same(rt, name, found.generate, said.generate);
+    same(rt, name, found.files.as_slice(), said.files);
+}
+
 #[test]
 fn reads_words(rt: HostRuntime) -> Result<(), Fail> {
     let alloc = rt.alloc();
     for row in ROWS {
         let words = texts(alloc, row.words)?;
         match (read_words(alloc, &words), &row.said) {
-            (Ok(found), Ok(said)) => {
-                assert_eq!(rt; found.style, said.style, "the style of {}", row.name);
-                assert!(rt; has_lines(&found, said.lines), "the lines of {}", row.name);
-                assert_eq!(rt;
-                    [
-                        found.in_place,
-                        found.dry_run,
-                        found.werror,
-                        found.dump_config
-                    ],
-                    [said.in_place, said.dry_run, said.werror, said.dump_config],
-                    "the flags of {}",
-                    row.name
-                );
-                assert_eq!(rt; found.generate, said.generate, "what {} makes", row.name);
-                assert_eq!(rt;
-                    found.files.as_slice(),
-                    said.files,
-                    "the files of {}",
-                    row.name
-                );
-            }
-            (Err(found), Err(fault)) => assert_eq!(rt; found, *fault, "{}", row.name),
+            (Ok(found), Ok(said)) => do_say(&rt, row.name, &found, said),
+            (Err(found), Err(fault)) => same(&rt, row.name, found, *fault),
             (found, _) => assert!(rt; false, "{} is read: {}", row.name, found.is_ok()),
         }
     }
     Ok(())
 }
 
+/// A fault, and its row on standard error.
+const NOTES: &[(WordsFault<'static>, &str)] = &[
+    (
+        WordsFault::Form,
+        "usage: clang_format [--style S] [--lines L] [--states N] [-i] [--dry-run] [--Werror] [--dump-config] [--generate N:COUNT] [FILE ..]",
+    ),
+    (
+        WordsFault::BadStates("0"),
+        "clang_format: --states 0: not 1 to 16000000",
+    ),
+    (
+        WordsFault::BadLines {
+            word: "1:2,x",
+            fault: RangeFault::BadText { place: 4 },
+        },
+        "clang_format: --lines 1:2,x: bad text at 4",
+    ),
+    (
+        WordsFault::ManyFiles,
+        "clang_format: --lines takes one file",
+    ),
+    (WordsFault::NoInput, "clang_format: -i needs a file"),
+    (
+        WordsFault::BadGenerate("1:0"),
+        "clang_format: --generate 1:0: not N:COUNT",
+    ),
+    (
+        WordsFault::GenerateBeside,
+        "clang_format: --generate takes no file, -i or --dump-config",
+    ),
+    (WordsFault::NoMemory, "clang_format: no memory"),
+];
+
 #[test]
 fn shows_its_note(rt: HostRuntime) -> Result<(), Fail> {
     let alloc = rt.alloc();
-    for (fault, note) in [
-        (
-            WordsFault::Form,
-            "usage: clang_format [--style S] [--lines L] [--states N] [-i] [--dry-run] [--Werror] [--dump-config] [--generate N:COUNT] [FILE ..]",
-        ),
-        (
-            WordsFault::BadStates("0"),
-            "clang_format: --states 0: not 1 to 16000000",
-        ),
-        (
-            WordsFault::BadLines {
-                word: "1:2,x",
-                fault: RangeFault::BadText { place: 4 },
-            },
-            "clang_format: --lines 1:2,x: bad text at 4",
-        ),
-        (
-            WordsFault::ManyFiles,
-            "clang_format: --lines takes one file",
-        ),
-        (WordsFault::NoInput, "clang_format: -i needs a file"),
-        (
-            WordsFault::BadGenerate("1:0"),
-            "clang_format: --generate 1:0: not N:COUNT",
-        ),
-        (
-            WordsFault::GenerateBeside,
-            "clang_format: --generate takes no file, -i or --dump-config",
-        ),
-        (WordsFault::NoMemory, "clang_format: no memory"),
-    ] {
-        assert_eq!(rt; format!(in alloc; "{fault}")?.as_str(), note, "{fault:?}");
+    for (fault, note) in NOTES {
+        let shown = format!(in alloc; "{fault}")?;
+        same(&rt, note, shown.as_str(), *note);
     }
     Ok(())
 }
