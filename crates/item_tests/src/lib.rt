@@ -6,6 +6,7 @@
 //! - `characters`: the characters of a text, and the words and blanks that are passed at once (`c_chars`).
 //! - `items`: the items of a text, their gaps and their last characters (`c_lexer`).
 //! - `touching_items`: the table of the items that may touch (`touching`).
+//! - `two_views`: what two runs see of one text (`token_views` over `token_arena`).
 //! - `views`: the places of a view (`token_views`).
 //! - `arena`: what the store keeps of a text, and which texts it refuses (`token_arena`).
 //! - `sections`: texts and directives, the gaps that directives keep, and spellings (`directives`).
@@ -26,5 +27,7 @@ mod runs;
 mod sections;
 #[cfg(test)]
 mod touching_items;
+#[cfg(test)]
+mod two_views;
 #[cfg(test)]
 mod views;

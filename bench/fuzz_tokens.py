@@ -1,0 +1,140 @@
+"""The tokens of texts as clang and gcc read them, for bench/fuzz: where comments stand, what is switched off, and which
+texts needn't stay when they are formatted again."""
+import os
+import re
+import subprocess
+
+SECONDS = 60
+LINE_END = re.compile(rb"\r\n|\r|\n")
+SPLICE = rb"(?:\\|\?\?/)\r?\n"
+WHITE = re.compile(rb"(?:%s|[ \t\n\v\f\r])+" % SPLICE)
+LEADING = re.compile(rb"(?:%s)*" % SPLICE)
+TRAILING = re.compile(rb"(?:%s|[ \t\n\v\f\r])+$" % SPLICE)
+UNCLEAN = rb"(?: \[UnClean='(.*?)'\])?"
+TOKEN = re.compile(rb"(\w+) '(.*?)'\t((?: \[[A-Za-z]+\])*)%s\tLoc=<(\d+\.c):(\d+):(\d+)>\n" % UNCLEAN, re.S)
+# At the end of a text clang counts a NUL to an open quote or a comment.
+ENDS = b" \t\n\v\f\r\0"
+OFF = re.compile(rb"clang-format off(?::.*)?", re.S)
+ON = re.compile(rb"clang-format on(?::.*)?", re.S)
+# What the compilers read otherwise than C11.
+LATE_SPLICE = re.compile(rb"(?:\\|\?\?/)[ \t\v\f\0]+\r?\n|(?:\\|\?\?/)\r(?!\n)|(?:\\|\?\?/)\n\r")
+LONE_RETURN = re.compile(rb"\r(?!\n)")
+# What keeps bytes of the input, so that a column of it counts.
+STAYS = re.compile(rb"clang-|#[ \t]*if[ \t]+0")
+INCLUDE = re.compile(rb"^([ \t]*#[ \t]*)(?:include_next|include|import)\b", re.M)
+QUOTED = rb'"(?:[^"\\\n]|\\.)*"|\'(?:[^\'\\\n]|\\.)*\''
+WORD = re.compile(QUOTED + rb"|[A-Za-z_$][\w$]*|\.?\d(?:[eEpP][-+]|[\w.])*|\S", re.S)
+
+
+def bare(text):
+    """A text without white space and spliced line ends."""
+    return WHITE.sub(b"", text)
+
+
+def place(text, count, after):
+    """The place behind so many bytes that are no white space, and before or behind the white space there."""
+    seen = at = 0
+    for white in WHITE.finditer(text):
+        if seen + white.start() - at > count or (seen + white.start() - at == count and after):
+            break
+        seen, at = seen + white.start() - at, white.end()
+    return at + count - seen
+
+
+class Tokens:
+    """The tokens of a text as clang cuts it, and its comments with their places."""
+
+    def __init__(self, text):
+        self.text, self.found, self.comments, self.rows = text, [], [], None
+        # Whether the line is a directive, which brackets wait, and whether the text may change when formatted again.
+        self.in_directive, self.waiting, self.may_change = False, [], b"::" in text or STAYS.search(text)
+
+    def offset(self, line, column):
+        if self.rows is None:
+            self.rows = [0, *(end.end() for end in LINE_END.finditer(self.text))]
+        return self.rows[line - 1] + column - 1
+
+    def add_comment(self, spelling, raw, line, column):
+        begun = self.offset(int(line), int(column))
+        end = len(self.text) if spelling is None else begun + len(TRAILING.sub(b"", raw))
+        self.comments.append((spelling, begun + LEADING.match(raw).end(), end))
+
+    def add(self, kind, spelling, flags, raw, line, column):
+        if kind == b"comment":
+            self.add_comment(spelling, raw or spelling, line, column)
+            spelling = spelling.rstrip(ENDS)
+        elif kind == b"unknown":
+            is_quote = spelling[:1] in (b"'", b'"')
+            spelling = spelling.rstrip(ENDS) if is_quote else spelling.strip(b" \t\n\v\f\r\\")
+            if spelling[:2] == b"/*":
+                self.add_comment(None, raw, line, column)
+        if spelling:
+            begins = b"StartOfLine" in flags or not self.found
+            self.found.append((kind, spelling, kind == b"hash" and begins))
+            self.look(kind, begins)
+
+    def look(self, kind, begins):
+        """Sees a `#` in a text, and a brace inside parentheses or brackets, which may keep the bytes behind it."""
+        if begins:
+            self.in_directive = kind == b"hash"
+        elif kind == b"hash" and not self.in_directive:
+            self.may_change = True
+        if kind in (b"l_paren", b"l_square"):
+            self.waiting.append(kind)
+        elif kind in (b"r_paren", b"r_square") and self.waiting:
+            self.waiting.pop()
+        elif kind == b"l_brace" and self.waiting:
+            self.may_change = True
+
+    def open_comment(self):
+        """Where a comment begins that nothing ends."""
+        return self.comments[-1][1] if self.comments and self.comments[-1][0] is None else None
+
+    def regions(self):
+        """The places in which formatting is off, up to the comment that switches it on."""
+        begun = None
+        for spelling, at, end in self.comments:
+            inner = (spelling or b"")[2:].removesuffix(b"*/" if (spelling or b"")[:2] == b"/*" else b"").strip()
+            if begun is None and OFF.fullmatch(inner):
+                begun = end
+            elif begun is not None and ON.fullmatch(inner):
+                yield begun, at
+                begun = None
+        if begun is not None:
+            yield begun, len(self.text)
+
+    def moves(self, once):
+        """Whether a comment that stood inside a row begins one in the output, or one that ended a row does no more."""
+        for _, at, end in self.comments:
+            count = len(bare(self.text[:at]))
+            new = place(once, count, False)
+            new_end = place(once, count + len(bare(self.text[at:end])), True)
+            heads = (text[:it].rpartition(b"\n")[2] for text, it in ((self.text, at), (once, new)))
+            tails = (text[it:].partition(b"\n")[0] for text, it in ((self.text, end), (once, new_end)))
+            began, begins = (not head.strip() for head in heads)
+            ended, ends = (not tail.strip() for tail in tails)
+            if (begins and not began) or (ended and not ends):
+                return True
+        return False
+
+
+def cut(folder, texts):
+    """The tokens of each text, by its name."""
+    for name, text in texts.items():
+        with open(os.path.join(folder, name), "wb") as file:
+            file.write(text)
+    words = ["clang", "-cc1", "-std=c11", "-ftrigraphs", "-dump-raw-tokens", *texts]
+    ran = subprocess.run(words, cwd=folder, capture_output=True)
+    found = {name: Tokens(text) for name, text in texts.items()}
+    for kind, spelling, flags, raw, name, line, column in TOKEN.findall(ran.stderr):
+        found[name.decode()].add(kind, spelling, flags, raw, line, column)
+    return found
+
+
+def preprocessed(text):
+    """What gcc makes of a text, its includes left as they are, and whether it finds fault with it."""
+    words = ["gcc", "-E", "-P", "-std=c11", "-x", "c", "-w", "-D__LINE__=0", "-"]
+    ran = subprocess.run(words, input=INCLUDE.sub(rb"\1pragma include", text), capture_output=True, timeout=SECONDS)
+    if ran.returncode and b"_Pragma" in text:
+        return ran.returncode, None  # Behind such a fault gcc writes words without blanks between.
+    return ran.returncode, [re.sub(rb"[\s\0]+", b"", word) for word in WORD.findall(ran.stdout)]
