@@ -1,6 +1,14 @@
 -- Words at the front of what is spelled.
-use Rattle.std.proofs.Common.{◌≡◌, ◌==◌, ◌&&◌, ℕ, arith, true, false, List, [], ◌∷◌, ◌++◌, refl, sym, ◌∙◌}
+use Rattle.std.proofs.Common.{◌≡◌, ◌==◌, ◌&&◌, not, ℕ, suc, ◌-◌, ◌≤◌, arith, true, false, List, [], ◌∷◌, ◌++◌, length, take, drop, slice_index_or, refl, sym, ◌∙◌, ap}
+use Rattle.std.proofs.Math.Seq.{take-length}
+use Rattle.std.proofs.lemmas.Bool.{and_parts, not-true}
+use Rattle.c_chars.specs.Characters.{bytes_of, is_plain}
+use Rattle.c_chars.specs.declared.Dialect.{Dialect}
+use Rattle.c_chars.proofs.FirstUnits.{step_plain}
+use Rattle.c_chars.proofs.Moved.{bytes_at}
+use Rattle.c_grammar.proofs.White.{unit_plain}
 use Rattle.c_grammar.specs.Grammar.{is_same}
+use Rattle.c_grammar.specs.Rewritten.{read_alone}
 use Rattle.c_grammar.specs.Touch.{is_front}
 
 -- one more character of the word
@@ -46,3 +54,17 @@ word_and_more word s left more c e n = rw (e, n) (sym (longer_word word c more))
 
 pub begins : (word s left : List ℕ) → s ≡ word ++ left → true ≡ is_front word s
 begins word s left e = rw e (sym (front_of word left))
+
+-- a plain byte is a character
+plain_alone : (d : Dialect) (b : ℕ) (bytes : List ℕ) → is_plain b ≡ true → read_alone d (b ∷ bytes) ≡ b ∷ read_alone d bytes
+plain_alone d b bytes plain =
+    let first = and_parts (not (b == 63)) (not (b == 13) && not (b == 92)) plain in
+    let second = and_parts (not (b == 13)) (not (b == 92)) first.1 in
+    let unit = unit_plain d b bytes (not-true (b == 63) first.0) (not-true (b == 13) second.0) in
+    ap bytes_of (step_plain d (b ∷ bytes) bytes b 1 0 unit refl (not-true (b == 92) second.1)) ∙ ap (λ z. b ∷ z) (bytes_at d 1 bytes)
+
+pub plain_first : (d : Dialect) (bytes : List ℕ) → 1 ≤ length bytes → is_plain (slice_index_or bytes 0 0) ≡ true → read_alone d bytes ≡ slice_index_or bytes 0 0 ∷ read_alone d (take (length bytes - 1) (drop 1 bytes))
+plain_first d [] some plain = absurd (omega (arith, some))
+plain_first d (b ∷ bytes) some plain =
+    let fewer : suc (length bytes) - 1 ≡ length bytes = omega arith in
+    plain_alone d b bytes plain ∙ ap (λ z. b ∷ read_alone d z) (sym (ap (λ n. take n bytes) fewer ∙ take-length bytes))

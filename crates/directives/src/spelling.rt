@@ -3,12 +3,39 @@
 //! The bytes of an item stand for themselves: no byte order mark is taken off, and there is no limit to
 //! their number. Only as many are read as the word asked for has.
 
-ghost use Rattle.std.specs.Prelude.{◌≡◌, ◌++◌, false, MatchOption};
+ghost use Rattle.std.specs.Prelude.{◌≡◌, ◌∷◌, ◌++◌, [], false, MatchOption};
+ghost use Rattle.c_chars.specs.Characters.{is_plain};
 ghost use Rattle.c_grammar.specs.Grammar.{is_same};
 ghost use Rattle.c_grammar.specs.Touch.{is_front};
 ghost use Rattle.c_grammar.specs.Rewritten.{read_alone};
 
-use c_chars::{Dialect, next_character};
+use c_chars::Dialect;
+
+/// Whether a byte is a character by itself wherever it stands.
+#[inline(always)]
+fn is_plain(byte: u8) -> bool
+    ensures { result ≡ is_plain byte }
+{
+    byte != b'?' && byte != b'\r' && byte != b'\\'
+}
+
+/// The first character, and the bytes behind it; none exactly where there is none. Most are a byte by itself.
+#[inline(always)]
+fn next_character<'s>(dialect: Dialect, bytes: &'s [u8]) -> Option<(u8, &'s [u8])>
+    ensures { MatchOption result
+        (read_alone dialect bytes.now ≡ [])
+        (λ c. read_alone dialect bytes.now ≡ c.0 ∷ read_alone dialect c.1.now) }
+{
+    match bytes {
+        [] => None,
+        [byte, behind @ ..] => {
+            if is_plain(*byte) {
+                return Some((*byte, behind));
+            }
+            c_chars::next_character(dialect, bytes)
+        }
+    }
+}
 
 /// The bytes behind a word that the spelling begins with; none exactly where it doesn't.
 pub fn behind_word<'s>(dialect: Dialect, raw: &'s [u8], word: &[u8]) -> Option<&'s [u8]>

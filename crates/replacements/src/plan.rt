@@ -4,17 +4,32 @@ ghost use Rattle.std.specs.Prelude.{◌≡◌, ◌<◌, ◌≤◌, ◌+◌, ◌�
 ghost use Rattle.c_chars.specs.declared.TheConstants.{LIMIT};
 ghost use Rattle.replacements.specs.declared.slot.Decided.TheVariants as Decided;
 ghost use Rattle.replacements.specs.Decisions.{decided, slot_of};
-ghost use Rattle.replacements.specs.Breaks.{fixed_by};
+ghost use Rattle.replacements.specs.Breaks.{fixed_by, has_line_end, has_new_line_at};
 
 use crate::entry::Entry;
 use crate::reading::has_new_line_at;
-use crate::slot::{Decided, Slot, has_line_end};
+use crate::slot::{Decided, Slot};
 use bumpalo::Bump;
 use bumpalo::collections::into_bump_slice_mut;
 use gap_text::Decision;
 use line_tokens::{Fixed, NoMemory};
 use std::marker::Model;
 use token_arena::TokenArena;
+
+/// Whether a line ends in the gap at a place, which is decided so. The input's bytes are looked at only where they stay.
+#[inline(always)]
+fn ends_line(arena: &TokenArena<'_, '_>, place: u32, decision: Decision) -> bool
+    requires fits { length arena.now.text ≤ LIMIT }
+    requires within { place ≤ length arena.now.tokens }
+    ensures { result ≡ has_line_end decision (has_new_line_at arena.now place) }
+{
+    match decision {
+        Decision::Old => has_new_line_at(arena, place),
+        Decision::Spaces(_) => false,
+        Decision::Lines { count, .. } => count > 0,
+        Decision::Splice { .. } => true,
+    }
+}
 
 /// What is decided for the gaps of a text, and so far nothing for some. A contract sees the list of what is
 /// decided: one place for the gap before each item, and one for the last gap.
@@ -90,7 +105,7 @@ impl<'a> Plan<'a> {
         let slot = self.slot(place)?;
         Some(Fixed {
             column: slot.end,
-            broken: has_line_end(slot.decision, has_new_line_at(arena, place)),
+            broken: ends_line(arena, place, slot.decision),
         })
     }
 }

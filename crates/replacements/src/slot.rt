@@ -1,8 +1,5 @@
 //! What is kept of a decision.
 
-ghost use Rattle.std.specs.Prelude.{◌≡◌};
-ghost use Rattle.replacements.specs.Breaks.{has_line_end};
-
 use gap_text::Decision;
 
 /// Whether a decision was taken.
@@ -21,16 +18,4 @@ pub struct Slot {
     pub decision: Decision,
     /// The column at which the item behind the gap starts, from 0.
     pub end: u32,
-}
-
-/// Whether a line ends in a gap that was decided so, where the input's gap has a new-line or not.
-pub(crate) fn has_line_end(decision: Decision, old: bool) -> bool
-    ensures { result ≡ has_line_end decision old }
-{
-    match decision {
-        Decision::Old => old,
-        Decision::Spaces(_) => false,
-        Decision::Lines { count, .. } => count > 0,
-        Decision::Splice { .. } => true,
-    }
 }

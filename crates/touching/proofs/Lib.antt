@@ -1,5 +1,5 @@
 mod Ends
-mod PlainBytes
+pub mod PlainBytes
 mod Firsts
 pub mod Marks
 pub mod NoMark

@@ -1,6 +1,6 @@
 //! The table of the items that may touch.
 
-ghost use Rattle.std.specs.Prelude.{◌≡◌, ◌≤◌, ◌++◌, ◌∷◌, ◌||◌, [], codes, length, map};
+ghost use Rattle.std.specs.Prelude.{◌≡◌, ◌==◌, ◌≤◌, ◌++◌, ◌∷◌, ◌||◌, [], codes, length, map, slice_get};
 ghost use Rattle.std.specs.List.{list_any};
 ghost use Rattle.c_chars.specs.declared.TheConstants.{LIMIT};
 ghost use Rattle.c_grammar.specs.Grammar.{is_of, is_letter, is_sign, is_string_prefix, common_punctuators};
@@ -131,13 +131,45 @@ fn punct_goes_on(dialect: Dialect, left: &Item<'_>, right: &Item<'_>) -> bool
     matches!(left.kind, ItemKind::Punct) && goes_on(dialect, left.raw, right.raw)
 }
 
+/// Whether a word begins with this character.
+#[inline(always)]
+fn begins_with(first: u8, word: &[u8]) -> bool
+    ensures { result ≡ starts (λ b. first == b) word.now }
+{
+    match word {
+        [b, ..] => first == *b,
+        _ => false,
+    }
+}
+
+/// Whether a word begins with these characters, the first of which is known, and then this one. Most words begin with
+/// another.
+#[inline(always)]
+fn begins_behind(
+    first: Option<u8>,
+    dialect: Dialect,
+    raw: &[u8],
+    right: Option<u8>,
+    word: &[u8],
+) -> bool
+    requires fits { length raw.now ≤ LIMIT }
+    requires first { first ≡ slice_get (spelling dialect raw.now) 0 }
+    ensures { result ≡ is_front (spelling dialect raw.now ++ option_to_list right) word.now }
+{
+    match first {
+        Some(first) => begins_with(first, word) && begins(dialect, raw, right, word),
+        None => begins(dialect, raw, right, word),
+    }
+}
+
 /// Whether a word of this table begins with these characters and then this one.
 fn begins_some(dialect: Dialect, raw: &[u8], next: Option<u8>, table: &[&[u8]]) -> bool
     requires { length raw.now ≤ LIMIT }
     ensures { result ≡ list_any (is_front (spelling dialect raw.now ++ option_to_list next)) (map (λ p. p.now) table.now) }
 {
+    let first = first_char(dialect, raw);
     for word in table {
-        if begins(dialect, raw, next, word) {
+        if begins_behind(first, dialect, raw, next, word) {
             return true;
         }
     }

@@ -11,3 +11,4 @@ pub mod ColonLemmas
 pub mod PlainLemmas
 pub mod NumberLemmas
 pub mod SegmentLemmas
+pub mod Passed

@@ -1,7 +1,7 @@
 //! Where the lines of a view with its comments begin.
 
-ghost use Rattle.std.specs.Prelude.{◌≡◌, ◌<◌, ◌≤◌, ◌+◌, ◌^◌, ◌++◌, drop, length, IfOk, slice_get, ℕ};
-ghost use Rattle.unwrapped_lines.specs.Comments.{token_follows, is_between, new_begin, next_marks, begins_from, no_marks, list_of, begins_line, inner_run};
+ghost use Rattle.std.specs.Prelude.{◌≡◌, ◌<◌, ◌≤◌, ◌+◌, ◌^◌, ◌++◌, false, drop, length, IfOk, slice_get, ℕ};
+ghost use Rattle.unwrapped_lines.specs.Comments.{token_follows, between_at, is_between, new_begin, next_marks, begins_from, no_marks, list_of, begins_line, inner_run};
 
 use crate::line::Line;
 use crate::part::{Begin, Marks, Part, Run};
@@ -150,6 +150,51 @@ fn next_marks(
     }
 }
 
+/// How many tokens are passed where the next line begins, at least: before that each stands inside a line.
+#[inline(always)]
+fn next_first(lines: &[Line], total: usize, begun: usize) -> usize
+    ensures { (passed : ℕ) → passed < result → between_at total passed (slice_get lines.now begun) ≡ false }
+{
+    match lines.get(begun) {
+        Some(line) => line.first as usize,
+        None => total,
+    }
+}
+
+/// How a walk over the parts of a view stands: at a place, behind what is marked.
+#[derive(Clone, Copy)]
+struct Walk {
+    k: usize,
+    marks: Marks,
+}
+
+/// Passes tokens inside a line, as most are. What is told of the places behind them is all that is told.
+#[inline(always)]
+fn pass_tokens(lines: &[Line], total: usize, end_level: u32, parts: &[Part], from: Walk) -> Walk
+    requires most { from.k ≤ length parts.now }
+    requires few { length parts.now < 2 ^ 32 }
+    requires seen { from.marks.seen ≤ from.k }
+    ensures same { begins_from (record { lines = lines.now; total = total; end_level = end_level }) (drop result.k parts.now) result.k result.marks
+        ≡ begins_from (record { lines = lines.now; total = total; end_level = end_level }) (drop from.k parts.now) from.k from.marks }
+    ensures most { result.k ≤ length parts.now }
+    ensures on { from.k ≤ result.k }
+    ensures seen { result.marks.seen ≤ result.k }
+    ensures begun { result.marks.begun ≡ from.marks.begun }
+{
+    let next = next_first(lines, total, from.marks.begun);
+    let begun = from.marks.begun;
+    let Walk { mut k, mut marks } = from;
+    while k < parts.len() && marks.seen < next && parts[k] == Part::Token {
+        marks = Marks {
+            seen: marks.seen + 1,
+            begun,
+            run: Run::Apart,
+        };
+        k += 1;
+    }
+    Walk { k, marks }
+}
+
 /// Where each line of a view begins.
 pub fn begins<'r>(
     lines: &[Line],
@@ -169,21 +214,17 @@ pub fn begins<'r>(
     };
     let mut k = 0;
     while k < parts.len() {
-        let part = parts[k];
-        if part == Part::Token && !is_between(lines, total, end_level, m) {
-            // Most places: a token inside a line.
-            m = Marks {
-                seen: m.seen + 1,
-                begun: m.begun,
-                run: Run::Apart,
-            };
-        } else {
+        let behind = pass_tokens(lines, total, end_level, parts, Walk { k, marks: m });
+        k = behind.k;
+        m = behind.marks;
+        if k < parts.len() {
+            let part = parts[k];
             if let Some(b) = new_begin(lines, total, end_level, parts, k, part, m) {
                 out.push(b)?;
             }
             m = next_marks(lines, total, end_level, parts, k, part, m);
+            k += 1;
         }
-        k += 1;
     }
     Ok(out)
 }

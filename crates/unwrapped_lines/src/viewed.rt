@@ -281,10 +281,11 @@ pub(crate) fn parts<'r>(
     let mut parts = Vec::with_capacity(run, classes.len())?;
     let mut segment = 0;
     let mut started = false;
-    for (k, class) in classes.iter().enumerate() {
+    for k in 0..classes.len() {
+        let class = classes[k];
         if class.is_comment() {
             let id = view.at_near(k as u32, &mut segment);
-            parts.push(comment_part(arena, id.0, started, *class))?;
+            parts.push(comment_part(arena, id.0, started, class))?;
         } else {
             parts.push(Part::Token)?;
             started = true;

@@ -1,4 +1,4 @@
-use Rattle.std.proofs.Common.{◌∙◌, ap, sym, length}
+use Rattle.std.proofs.Common.{◌∙◌, ap, sym}
 use Rattle.annotator.proofs.Segmented.{first_held, known_from, all_behind}
 use Rattle.annotator.specs.Held.{is_held}
 use Rattle.annotator.specs.declared.mark.Mark.{Mark}

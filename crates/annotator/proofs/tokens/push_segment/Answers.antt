@@ -1,8 +1,7 @@
-use Rattle.std.proofs.Common.{◌≡◌, ◌∙◌, ◌+◌, ◌-◌, ◌<◌, ℕ, List, length, drop, get_or, ap, sym, subst, arith}
-use Rattle.annotator.specs.declared.mark.Mark.{Mark}
+use Rattle.std.proofs.Common.{◌≡◌, ◌∙◌, ◌+◌, ◌-◌, ◌<◌, ℕ, length, drop, get_or, ap, sym, subst, arith}
 use Rattle.annotator.specs.Held.{is_held}
 use Rattle.token_arena.specs.Stored.{Stored}
-use Rattle.annotator.specs.Edges.{edge_of}
+use Rattle.item_edges.specs.Edges.{edge_of}
 use Rattle.annotator.specs.Tokens.{stands_apart}
 use Rattle.annotator.proofs.Items.{edges_touch}
 use Rattle.annotator.proofs.Segmented.{follows, pushed_on, counted_on, known_on}

@@ -5,12 +5,12 @@ use Rattle.touching.specs.Spelling.{spelling}
 use Rattle.touching.proofs.Words.{some_yes, some_no}
 use Rattle.touching.proofs.touch.begins_some.Goals as goal
 
-pub returns-then-begins : goal.returns-then-begins
-returns-then-begins c =
-    sym (some_yes (is_front (spelling c.args.dialect c.args.raw.now ++ option_to_list c.args.next)) c.args.table.now c.loop-word.word-index (record { ref_ptr = (0, 0); now = [] }) c.loop-word-test.true (sym c.begins.ensures ∙ c.if-begins.true))
+pub returns-then-begins_behind : goal.returns-then-begins_behind
+returns-then-begins_behind c =
+    sym (some_yes (is_front (spelling c.args.dialect c.args.raw.now ++ option_to_list c.args.next)) c.args.table.now c.loop-word.word-index (record { ref_ptr = (0, 0); now = [] }) c.loop-word-test.true (sym c.begins_behind.ensures ∙ c.if-begins_behind.true))
     ∙ c.loop-word.invariant
 
 pub loop-word-preserved : goal.loop-word-preserved
 loop-word-preserved c =
-    sym (some_no (is_front (spelling c.args.dialect c.args.raw.now ++ option_to_list c.args.next)) c.args.table.now c.loop-word.word-index (record { ref_ptr = (0, 0); now = [] }) c.loop-word-test.true (sym c.begins.ensures ∙ c.if-begins.false))
+    sym (some_no (is_front (spelling c.args.dialect c.args.raw.now ++ option_to_list c.args.next)) c.args.table.now c.loop-word.word-index (record { ref_ptr = (0, 0); now = [] }) c.loop-word-test.true (sym c.begins_behind.ensures ∙ c.if-begins_behind.false))
     ∙ c.loop-word.invariant

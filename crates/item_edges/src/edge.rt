@@ -1,7 +1,7 @@
 //! What the first bytes of an item tell of the items beside it.
 
 ghost use Rattle.std.specs.Prelude.{◌≡◌, ◌==◌};
-ghost use Rattle.annotator.specs.Edges.{is_name_byte, is_number_byte, is_operator, byte_edge, punct_edge, begins_with, known, edge_of, touch_of};
+ghost use Rattle.item_edges.specs.Edges.{is_name_byte, is_number_byte, is_operator, byte_edge, punct_edge, begins_with, known, edge_of, touch_of};
 
 use line_tokens::ItemKind;
 
@@ -147,7 +147,7 @@ fn begins_number(raw: &[u8]) -> bool
 
 /// What an item of this kind with these bytes is to the items beside it.
 #[inline(always)]
-pub(crate) fn edge_of(kind: ItemKind, raw: &[u8]) -> Edge
+pub fn edge_of(kind: ItemKind, raw: &[u8]) -> Edge
     ensures { result ≡ edge_of kind raw.now }
 {
     match kind {
@@ -164,7 +164,7 @@ pub(crate) fn edge_of(kind: ItemKind, raw: &[u8]) -> Edge
 
 /// Whether two items may touch, where what they are to one another tells it.
 #[inline(always)]
-pub(crate) fn touch_of(left: Edge, right: Edge) -> Option<bool>
+pub fn touch_of(left: Edge, right: Edge) -> Option<bool>
     ensures { result ≡ touch_of left right }
 {
     if matches!(right, Edge::Unknown) {

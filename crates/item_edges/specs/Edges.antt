@@ -3,8 +3,8 @@ use Rattle.std.specs.Prelude.{◌==◌, ◌||◌, ◌&&◌, ℕ, nat_le, Bool, t
 use Rattle.c_grammar.specs.Grammar.{is_of}
 use Rattle.c_grammar.specs.declared.ItemKind.{ItemKind}
 use Rattle.c_grammar.specs.declared.ItemKind.TheVariants.{Identifier, Number as NumberKind, Punct, StringLit, CharConst, BlockComment, LineComment}
-use Rattle.annotator.specs.declared.edge.Edge.{Edge}
-use Rattle.annotator.specs.declared.edge.Edge.TheVariants.{Name, Number, Quiet, Operator, Text, Comment, Ending, Unknown}
+use Rattle.item_edges.specs.declared.edge.Edge.{Edge}
+use Rattle.item_edges.specs.declared.edge.Edge.TheVariants.{Name, Number, Quiet, Operator, Text, Comment, Ending, Unknown}
 
 -- a letter of ASCII or `_`
 abbrev pub is_name_byte : ℕ → Bool

@@ -10,10 +10,10 @@ use Rattle.c_grammar.specs.declared.ItemKind.{ItemKind}
 use Rattle.c_grammar.specs.declared.ItemKind.TheVariants.{Identifier, Number as NumberKind, Punct, StringLit, CharConst, BlockComment, LineComment, HeaderName, StrayQuote, Other}
 use Rattle.touching.specs.Near.{is_plain, seconds, thirds, going_on, pair_goes_on}
 use Rattle.touching.specs.Spelling.{spelling}
-use Rattle.annotator.proofs.PlainBytes.{near_is, one_goes_on, two_stay, pair_stays}
-use Rattle.annotator.specs.declared.edge.Edge.{Edge}
-use Rattle.annotator.specs.declared.edge.Edge.TheVariants.{Name, Number, Quiet, Operator, Text, Comment, Ending, Unknown}
-use Rattle.annotator.specs.Edges.{is_name_byte, is_number_byte, is_quiet, is_operator, punct_edge, begins_with, known, edge_of, touch_of_name, touch_of_number, touch_of_operator, touch_behind, touch_of}
+use Rattle.touching.proofs.PlainBytes.{near_is, one_goes_on, two_stay, pair_stays}
+use Rattle.item_edges.specs.declared.edge.Edge.{Edge}
+use Rattle.item_edges.specs.declared.edge.Edge.TheVariants.{Name, Number, Quiet, Operator, Text, Comment, Ending, Unknown}
+use Rattle.item_edges.specs.Edges.{is_name_byte, is_number_byte, is_quiet, is_operator, punct_edge, begins_with, known, edge_of, touch_of_name, touch_of_number, touch_of_operator, touch_behind, touch_of}
 
 -- ## Bytes
 
