@@ -14,6 +14,7 @@
 //! - `line_steps`: a line, one token after another (`line_state`)
 //! - `searches`: the least breaking, beside a search of every breaking (`break_search`)
 //! - `written_gaps`: the bytes of decisions (`gap_text`)
+//! - `parts`: parts of a view (`view_parts`)
 //! - `plans`: decisions for gaps (`replacements`)
 //! - `written_plans`: the texts of plans (`replacements`)
 //! - `directive_rows`: directives that are laid out (`directive_layout`, `laid_directives`)
@@ -38,6 +39,8 @@ mod fixtures;
 mod laid_runs;
 #[cfg(test)]
 mod line_steps;
+#[cfg(test)]
+mod parts;
 #[cfg(test)]
 mod plans;
 #[cfg(test)]

@@ -1,0 +1,48 @@
+//! Parts of a view, as `docs/PROFILE.md` says under "Parts".
+
+use crate::comparing::same;
+use crate::fixtures::items_from;
+use bumpalo::Bump;
+use std::test::Fail;
+use token_arena::{Dialect, build};
+use token_classes::classes;
+use view_parts::part_ends;
+
+/// A text, and behind how many of its items each part ends.
+const PARTS: &[(&str, &[u32])] = &[
+    ("", &[]),
+    ("int a;\nint b;", &[3, 6]),
+    ("int a; int b;", &[6]),
+    ("int a; // one\nint b;", &[7]),
+    ("int a;\n// one\n/* two */\nint b;", &[3, 8]),
+    ("int a;\n/* one */ /* two */ int b;", &[8]),
+    ("int a, /* one */ b;\nint c;", &[9]),
+    ("int a, /* one */ b;\n// two\nint c;", &[6, 10]),
+    ("int f(void) { return 1; }\n// two\nint b;", &[10, 14]),
+    ("int f(void) { /* one */ }\nint b;", &[8, 11]),
+    ("int f(void) /* one */ { }\nint b;", &[11]),
+    ("int f(void) { }\n;", &[8]),
+    ("x = f(a) { }\nint b;", &[11]),
+    ("x = 1;\nf(a) { }\nint b;", &[4, 10, 13]),
+    ("struct s { int a; }\nname;", &[9]),
+    ("struct s { int a; };\nint b;", &[8, 11]),
+    ("int k[] = { 1 };\nint b;", &[9, 12]),
+    ("int f(a) int a; { }\nint b;", &[13]),
+    ("f(\nint a;\nint b;", &[8]),
+    ("if (a) b;\nint c;", &[9]),
+    ("a;\ndefault: b;\nc;", &[2, 8]),
+];
+
+#[test]
+fn ends_parts_behind_declarations(rt: HostRuntime) -> Result<(), Fail> {
+    for case in PARTS {
+        let (text, want) = *case;
+        let run = Bump::new(rt.alloc());
+        let arena = build(&run, text.as_bytes(), Dialect::C11)?;
+        let view = items_from(&arena, 0, &run)?;
+        let classes = classes(&arena, &view, &run)?;
+        let found = part_ends(&arena, &view, classes, &run)?;
+        same(&rt, text, found, want);
+    }
+    Ok(())
+}
