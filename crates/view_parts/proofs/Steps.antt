@@ -17,15 +17,14 @@ pub record GoesOn (arena : Contents) (ids : List ℕ) (classes : List TokenClass
   pub fuel : ℕ
   pub enough : length classes - walk.place ≤ fuel
   pub within : walk.place ≤ length classes
-  pub begun : walk.begun ≤ walk.place
   pub same : cuts ++ cuts_from fuel arena ids classes partners walk ≡ cuts_from (length classes) arena ids classes partners start
 
 pub begins : (arena : Contents) (ids : List ℕ) (classes : List TokenClass) (partners : List (Option ℕ)) → GoesOn arena ids classes partners [] start
-begins arena ids classes partners = record { fuel = length classes; enough = omega arith; within = omega arith; begun = omega arith; same = refl }
+begins arena ids classes partners = record { fuel = length classes; enough = omega arith; within = omega arith; same = refl }
 
-pub steps : (arena : Contents) (ids : List ℕ) (classes : List TokenClass) (partners : List (Option ℕ)) (cuts after : List ℕ) (walk next : Walk) → walk.place < length classes → walk.place < next.place → next.place ≤ length classes → next.begun ≤ next.place
+pub steps : (arena : Contents) (ids : List ℕ) (classes : List TokenClass) (partners : List (Option ℕ)) (cuts after : List ℕ) (walk next : Walk) → walk.place < length classes → walk.place < next.place → next.place ≤ length classes
     → next ≡ next_walk classes partners walk → after ≡ cuts ++ cuts_at arena ids classes walk → GoesOn arena ids classes partners cuts walk → GoesOn arena ids classes partners after next
-steps arena ids classes partners cuts after walk next here later within low is made on = by_fuel on.fuel on.enough on.same
+steps arena ids classes partners cuts after walk next here later within is made on = by_fuel on.fuel on.enough on.same
   where
     by_fuel : (fuel : ℕ) → length classes - walk.place ≤ fuel → cuts ++ cuts_from fuel arena ids classes partners walk ≡ cuts_from (length classes) arena ids classes partners start → GoesOn arena ids classes partners after next
     by_fuel zero enough same = absurd (omega (arith, enough, here))
@@ -37,7 +36,6 @@ steps arena ids classes partners cuts after walk next here later within low is m
           fuel = fuel;
           enough = omega (arith, enough, later);
           within = within;
-          begun = low;
           same =
               ap (λ (xs : List ℕ). xs ++ cuts_from fuel arena ids classes partners next) made
               ∙ (ap (λ (w : Walk). (cuts ++ cuts_at arena ids classes walk) ++ cuts_from fuel arena ids classes partners w) is

@@ -1,5 +1,5 @@
 -- The parts of a view: docs/PROFILE.md, "Parts".
-use Rattle.std.specs.Prelude.{◌≡◌, ◌<◌, ℕ, zero, suc, ◌+◌, ◌-◌, nat_lt, Bool, true, false, ◌&&◌, ◌||◌, not, if◌then◌else◌, Option, Some, None, List, [], ◌∷◌, ◌++◌, length, get_or, slice_get, slice_range}
+use Rattle.std.specs.Prelude.{◌≡◌, ◌<◌, ℕ, zero, suc, ◌+◌, ◌-◌, nat_lt, Bool, false, ◌&&◌, ◌||◌, not, if◌then◌else◌, Option, Some, None, List, [], ◌∷◌, ◌++◌, length, get_or, slice_get}
 use Rattle.token_arena.specs.Gaps.{Contents}
 use Rattle.token_arena.specs.Stored.{Stored}
 use Rattle.token_classes.specs.declared.class.TokenClass.{TokenClass}
@@ -7,8 +7,6 @@ use Rattle.token_classes.specs.declared.class.TokenClass.TheVariants.{Nothing}
 use Rattle.token_classes.specs.Classes.{is_comment, is_word}
 use Rattle.token_classes.specs.Viewed.{classes_of}
 use Rattle.brackets.specs.Partners.{partners_of}
-use Rattle.view_parts.specs.declared.walk.Before.{Before}
-use Rattle.view_parts.specs.declared.walk.Before.TheVariants.{Body}
 use Rattle.view_parts.specs.declared.walk.Walk.{Walk}
 use Rattle.view_parts.specs.Walk.{start, next_walk, is_end}
 
@@ -31,18 +29,9 @@ declares_among (suc n) arena ids classes place =
 abbrev pub declares : Contents → List ℕ → List TokenClass → ℕ → Bool
 declares arena ids classes place = declares_among (length classes - place) arena ids classes place
 
-abbrev pub is_body : Before → Bool
-is_body Body = true
-is_body _ = false
-
--- a comment stands among these
-abbrev pub has_comment : List TokenClass → Bool
-has_comment [] = false
-has_comment (class ∷ classes) = is_comment class || has_comment classes
-
--- Comments of rows that follow one another are lined up: none of those on the last row before a place follows one on the row of the declaration there. Behind the `}` of a body there is none, and behind a `;` where the declaration has none, or where a comment on lines of its own comes between.
+-- Comments of rows that follow one another are lined up. None on the last row before a place and on the row of the declaration there are, where no comment stands in the declaration before, or one on lines of its own begins this one.
 abbrev pub parts_rows : List TokenClass → Walk → Bool
-parts_rows classes walk = is_body walk.before || is_comment (get_or classes walk.place Nothing) || not (has_comment (slice_range classes walk.begun walk.place))
+parts_rows classes walk = is_comment (get_or classes walk.place Nothing) || not walk.commented
 
 -- a part ends before the next place, or none does
 abbrev pub cuts_at : Contents → List ℕ → List TokenClass → Walk → List ℕ

@@ -3,9 +3,9 @@
 ghost use Rattle.std.specs.Prelude.{◌≡◌, ◌++◌, ◌<◌, ◌≤◌, ◌^◌, length, get_or, slice_get, IfOk, OnOk};
 ghost use Rattle.token_classes.specs.Viewed.{AreWithin, classes_of};
 ghost use Rattle.view_parts.specs.Walk.{start};
-ghost use Rattle.view_parts.specs.Parts.{item_began, declares, has_comment, parts_rows, cuts_at, part_ends, AreEnds};
+ghost use Rattle.view_parts.specs.Parts.{item_began, declares, cuts_at, part_ends, AreEnds};
 
-use crate::walk::{Before, Walk, next_walk, start};
+use crate::walk::{Walk, next_walk, start};
 use brackets::partners_of_classes;
 use bumpalo::Bump;
 use bumpalo::collections::into_bump_slice;
@@ -42,31 +42,6 @@ fn declares(arena: &TokenArena<'_, '_>, view: &View<'_>, classes: &[TokenClass],
     false
 }
 
-/// Whether a comment stands among these.
-fn has_comment(classes: &[TokenClass]) -> bool
-    ensures { result ≡ has_comment classes.now }
-{
-    for class in classes {
-        if class.is_comment() {
-            return true;
-        }
-    }
-    false
-}
-
-/// Whether no comment on the last row before a place is followed by one on the row of the declaration there, so that
-/// the two would be lined up.
-fn parts_rows(classes: &[TokenClass], walk: &Walk) -> bool
-    requires here { walk.now.place < length classes.now }
-    requires begun { walk.now.begun ≤ walk.now.place }
-    ensures { result ≡ parts_rows classes.now walk.now }
-{
-    let place = walk.place as usize;
-    walk.before == Before::Body
-        || classes[place].is_comment()
-        || !has_comment(&classes[walk.begun as usize..place])
-}
-
 /// Notes that a part ends before the place to which the view was passed, where one does.
 fn note_end(
     arena: &TokenArena<'_, '_>,
@@ -79,12 +54,11 @@ fn note_end(
     requires as_many { length classes.now ≡ length view.now }
     requires few { length classes.now < 2 ^ 32 }
     requires here { walk.now.place < length classes.now }
-    requires begun { walk.now.begun ≤ walk.now.place }
     ensures { OnOk result (ends.new.items ≡ ends.old.items ++ cuts_at arena.now view.now classes.now walk.now) }
 {
     if walk.before.is_end()
         && declares(arena, view, classes, walk.place)
-        && parts_rows(classes, walk)
+        && (classes[walk.place as usize].is_comment() || !walk.commented)
     {
         ends.push(walk.place)?;
     }

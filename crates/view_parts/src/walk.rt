@@ -2,7 +2,7 @@
 
 ghost use Rattle.std.specs.Prelude.{◌≡◌, ◌<◌, ◌≤◌, ◌^◌, length, get_or, None};
 ghost use Rattle.token_classes.specs.declared.class.TokenClass.TheVariants.{Nothing};
-ghost use Rattle.view_parts.specs.Walk.{behind_group, behind, is_end, is_lost, goes_on_at, next_walk, start};
+ghost use Rattle.view_parts.specs.Walk.{behind_group, behind, is_end, is_between, is_lost, goes_on_at, has_comment, is_commented, next_walk, start};
 
 use brackets::Partner;
 use token_classes::TokenClass;
@@ -18,7 +18,9 @@ pub enum Before {
     Semicolon,
     /// The `}` of a function's body.
     Body,
-    /// Anything else, or nothing.
+    /// Comments behind the end of a declaration, or nothing.
+    Between,
+    /// Anything else.
     Other,
 }
 
@@ -31,8 +33,8 @@ pub struct Walk {
     pub before: Before,
     /// An `=` or `return` stands before it, behind the last `;`.
     pub assigned: bool,
-    /// The place at which the declaration before it began, or where it stands between two, the first of them.
-    pub begun: u32,
+    /// A comment stands behind the first token of the declaration before it.
+    pub commented: bool,
 }
 
 impl Before {
@@ -42,6 +44,13 @@ impl Before {
     {
         matches!(self, Before::Semicolon | Before::Body)
     }
+
+    /// Whether no declaration goes on there.
+    pub(crate) fn is_between(self) -> bool
+        ensures { result ≡ is_between self }
+    {
+        matches!(self, Before::Semicolon | Before::Body | Before::Between)
+    }
 }
 
 /// What stands behind a group with this opener.
@@ -50,7 +59,9 @@ fn behind_group(walk: &Walk, opener: TokenClass) -> Before
 {
     match walk.before {
         Before::Name if opener.is_open_round() => Before::Parameters,
-        Before::Parameters if opener.is_open_brace() && !walk.assigned => Before::Body,
+        Before::Parameters if opener.is_open_brace() && !(walk.assigned || walk.commented) => {
+            Before::Body
+        }
         _ => Before::Other,
     }
 }
@@ -64,6 +75,9 @@ fn behind(walk: &Walk, class: TokenClass) -> Before
     }
     if class.is_semicolon() {
         return Before::Semicolon;
+    }
+    if class.is_comment() && walk.before.is_between() {
+        return Before::Between;
     }
     if class.is_plain() {
         Before::Name
@@ -104,10 +118,34 @@ pub(crate) fn start() -> Walk
 {
     Walk {
         place: 0,
-        before: Before::Other,
+        before: Before::Between,
         assigned: false,
-        begun: 0,
+        commented: false,
     }
+}
+
+/// Whether a comment stands among these.
+fn has_comment(classes: &[TokenClass]) -> bool
+    ensures { result ≡ has_comment classes.now }
+{
+    for class in classes {
+        if class.is_comment() {
+            return true;
+        }
+    }
+    false
+}
+
+/// Whether a comment stands behind the first token of the declaration that goes on or ends behind these. Those in a
+/// function's body stand on earlier rows than its `}`.
+fn is_commented(walk: &Walk, before: Before, passed: &[TokenClass]) -> bool
+    ensures { result ≡ is_commented walk.now before passed.now }
+{
+    if before == Before::Between {
+        return false;
+    }
+    let earlier = !walk.before.is_between() && walk.commented;
+    earlier || (before != Before::Body && has_comment(passed))
 }
 
 /// Behind the next token, or the group that it opens.
@@ -115,21 +153,18 @@ pub(crate) fn next_walk(classes: &[TokenClass], partners: &[Partner], walk: &Wal
     requires few { length classes.now < 2 ^ 32 }
     requires here { walk.now.place < length classes.now }
     requires as_many { length partners.now ≡ length classes.now }
-    requires begun { walk.now.begun ≤ walk.now.place }
     ensures next { result ≡ next_walk classes.now partners.now walk.now }
     ensures later { walk.now.place < result.place }
-    ensures begun { result.begun ≤ result.place }
     ensures within { result.place ≤ length classes.now }
 {
     let class = classes[walk.place as usize];
+    let before = behind(walk, class);
+    let place = goes_on_at(classes, partners, walk.place, class);
+    let passed = &classes[walk.place as usize..place as usize];
     Walk {
-        place: goes_on_at(classes, partners, walk.place, class),
-        before: behind(walk, class),
+        place,
+        before,
         assigned: !class.is_semicolon() && (walk.assigned || class.is_assigning()),
-        begun: if walk.before.is_end() {
-            walk.place
-        } else {
-            walk.begun
-        },
+        commented: is_commented(walk, before, passed),
     }
 }

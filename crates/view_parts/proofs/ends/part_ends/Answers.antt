@@ -18,7 +18,7 @@ loop-walk-preserved c =
     let classes = c.args.classes.now in
     let many : length classes ≡ length ids = ap (λ (xs : List TokenClass). length xs) c.requires.classes ∙ as_many arena ids in
     let e = c.next_walk-walk.ensures in
-    steps arena ids classes c.in_ok-partners.partners.now c.loop-walk.ends.items c.note_end.new.ends.items c.loop-walk.walk c.next_walk-walk.result (omega (arith, c.loop-walk-test.true, c.len-count.ensures.count, many)) e.later e.within e.begun
+    steps arena ids classes c.in_ok-partners.partners.now c.loop-walk.ends.items c.note_end.new.ends.items c.loop-walk.walk c.next_walk-walk.result (omega (arith, c.loop-walk-test.true, c.len-count.ensures.count, many)) e.later e.within
     e.next c.in_ok-note_end.ensures c.loop-walk.invariant
 
 last_is : (n m : ℕ) → 0 < n → n ≡ m → m ∷ [] ≡ last_end n
