@@ -19,7 +19,7 @@ const PARTS: &[(&str, &[u32])] = &[
     ("int a, /* one */ b;\nint c;", &[9]),
     ("int a, /* one */ b;\n// two\nint c;", &[6, 10]),
     ("int a;\n// one\nint b;\nint c;", &[3, 7, 10]),
-    ("int f(int a, // one\nint b) { }\nint c;", &[14]),
+    ("int f(int a, // one\nint b) { }\nint c;", &[15]),
     ("int f(void) { return 1; }\n// two\nint b;", &[10, 14]),
     ("int f(void) { /* one */ }\nint b;", &[8, 11]),
     ("int f(void) /* one */ { }\nint b;", &[11]),
