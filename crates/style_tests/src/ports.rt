@@ -75,6 +75,7 @@ fn writes_all_bytes(rt: HostRuntime) -> Result<(), Fail> {
 }
 
 /// Bytes that are written twice, in two calls.
+#[derive(Drop)]
 struct Twice<'t>(&'t [u8]);
 
 impl Stream for Twice<'_> {
