@@ -4,6 +4,7 @@ pub mod InForce
 pub mod Inputs
 pub mod Generated
 pub mod Account
+pub mod Causes
 pub mod Statuses
 pub mod Order
 pub mod Joined

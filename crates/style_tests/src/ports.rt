@@ -87,6 +87,7 @@ fn writes_into_texts_and_rooms(rt: HostRuntime) -> Result<(), Fail> {
 }
 
 /// Bytes that are written twice, in two calls.
+#[derive(Drop)]
 struct Twice<'t>(&'t [u8]);
 
 impl Stream for Twice<'_> {

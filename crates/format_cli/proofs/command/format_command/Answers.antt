@@ -13,11 +13,16 @@ returns-in-Err-clause-done g c is = elim is [
 
 pub returns-in-Err-clause-refused : goal.returns-in-Err-clause-refused
 returns-in-Err-clause-refused g c some more = record {
-  refusal = c.in-Err.refusal;
-  is_its = c.status_of.ensures;
-  told = g.E.Sink.taken c.run.new.notes;
-  refused = c.in-Err.ensures.refused;
-  row = row_told c.in-Err.refusal _ _ _ _ _ c.tell.result c.in-Err.ensures.counts c.tell.ensures.counts c.tell.ensures.ok c.tell.ensures.part;
+  refused = record {
+    refusal = c.in-Err.refusal;
+    is_its = c.status_of.ensures;
+    told = g.E.Sink.taken c.run.new.notes;
+    refused = c.in-Err.ensures.refused;
+    row = row_told c.in-Err.refusal _ _ _ _ _ c.tell.result c.in-Err.ensures.counts c.tell.ensures.counts c.tell.ensures.ok c.tell.ensures.part;
+  };
+  before_row = g.E.Sink.faults c.run.new.notes;
+  raised = c.in-Err.ensures.counts;
+  later = c.tell.ensures.counts.later;
 }
 
 pub returns-in-Err-clause-known : goal.returns-in-Err-clause-known
