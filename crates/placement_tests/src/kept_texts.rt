@@ -1,5 +1,6 @@
 //! Whole texts of which some gaps stay: in the LLVM style, with what is asked for.
 
+use crate::comparing::same;
 use bumpalo::Bump;
 use format_core::{Job, Ranges, format};
 use std::test::Fail;
@@ -113,7 +114,7 @@ fn keeps_gaps(rt: HostRuntime) -> Result<(), Fail> {
             ranges: ranges.as_ref(),
         };
         let made = format(rt.alloc(), &bump, row.text, &style, &job)?;
-        assert_eq!(rt; made.text.as_slice(), row.out, "{}", row.name);
+        same(&rt, row.name, made.text.as_slice(), row.out);
     }
     Ok(())
 }
