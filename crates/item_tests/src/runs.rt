@@ -156,6 +156,15 @@ fn push_lines(text: &mut Vec<u8>, lines: &[u8], times: usize) -> Result<(), Allo
     Ok(())
 }
 
+/// A run of a text of conditionals in one another, and how many places its view has.
+const PLACES: &[(&str, u32, u32)] = &[
+    ("the first run", 0, 100_000),
+    ("the innermost #else", 1, 100_000),
+    ("the next one", 2, 99_999),
+    ("the last but one", 99_999, 2),
+    ("the outermost #else", 100_000, 1),
+];
+
 /// Each run leaves one conditional more, from the innermost on, by its `#else`.
 #[test]
 fn reads_a_hundred_thousand_conditionals_in_one_another(rt: HostRuntime) -> Result<(), Fail> {
@@ -166,14 +175,8 @@ fn reads_a_hundred_thousand_conditionals_in_one_another(rt: HostRuntime) -> Resu
     let arena = build(&bump, text.as_slice(), Dialect::C11)?;
     let tree = CondTree::build(&arena, sections(&arena, &bump)?, &bump)?;
     same(&rt, "how many runs", tree.runs(), 100_001);
-    let cases = [
-        ("the first run", 0, 100_000),
-        ("the innermost #else", 1, 100_000),
-        ("the next one", 2, 99_999),
-        ("the last but one", 99_999, 2),
-        ("the outermost #else", 100_000, 1),
-    ];
-    for (name, r, places) in cases {
+    for case in PLACES {
+        let (name, r, places) = *case;
         assert!(rt; r < tree.runs());
         let run = Bump::new(rt.alloc());
         same(&rt, name, tree.view(r, &run)?.len(), places);

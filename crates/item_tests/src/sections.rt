@@ -5,100 +5,151 @@ ghost use Rattle.directives.specs.Sections.{sections_of};
 
 use crate::comparing::same;
 use bumpalo::Bump;
+use directives::DirectiveKind::{Define, Else, Endif, If, Include, Null, Unknown};
 use directives::{
-    Dialect, Directive, DirectiveKind, Section, TokenId, begins_with, is_spelled, kept_after_name,
-    sections,
+    Dialect, Directive, Section, TokenId, begins_with, is_spelled, kept_after_name, sections,
 };
 use std::test::Fail;
 use token_arena::{TokenArena, build};
 
-/// A directive without comments before its `#`.
-fn directive(hash: u32, end: u32, kind: DirectiveKind) -> Section {
-    Section::Dir(Directive {
-        first: hash,
-        hash: TokenId(hash),
-        end,
-        kind,
-        function_like: false,
-    })
-}
+/// The directive that begins a text with its `#`.
+const FIRST: Directive = Directive {
+    first: 0,
+    hash: TokenId(0),
+    end: 0,
+    kind: Null,
+    function_like: false,
+};
 
-/// A directive that begins a text and defines a function-like macro.
-fn function_like(end: u32) -> Section {
-    Section::Dir(Directive {
-        first: 0,
-        hash: TokenId(0),
-        end,
-        kind: DirectiveKind::Define,
-        function_like: true,
-    })
-}
+/// A text and its sections.
+const SECTIONS: &[(&str, &str, &[Section])] = &[
+    ("no item", " \n", &[]),
+    (
+        "a comment before the #",
+        "/* c */ #define X (a)",
+        &[Section::Dir(Directive {
+            hash: TokenId(1),
+            end: 7,
+            kind: Define,
+            ..FIRST
+        })],
+    ),
+    (
+        "parameters, 6.10.3p10",
+        "#define F(x) x",
+        &[Section::Dir(Directive {
+            end: 7,
+            kind: Define,
+            function_like: true,
+            ..FIRST
+        })],
+    ),
+    (
+        "parameters behind a splice",
+        "#define F\\\n(x) x",
+        &[Section::Dir(Directive {
+            end: 7,
+            kind: Define,
+            function_like: true,
+            ..FIRST
+        })],
+    ),
+    (
+        "no parameters behind a comment",
+        "#define F/**/(x)",
+        &[Section::Dir(Directive {
+            end: 7,
+            kind: Define,
+            ..FIRST
+        })],
+    ),
+    (
+        "a digraph of #",
+        "%:include <a.h>",
+        &[Section::Dir(Directive {
+            end: 3,
+            kind: Include,
+            ..FIRST
+        })],
+    ),
+    (
+        "a trigraph of #",
+        "??=if 1",
+        &[Section::Dir(Directive {
+            end: 3,
+            kind: If,
+            ..FIRST
+        })],
+    ),
+    (
+        "a null directive, 6.10.7",
+        "#",
+        &[Section::Dir(Directive {
+            end: 1,
+            kind: Null,
+            ..FIRST
+        })],
+    ),
+    (
+        "no name",
+        "# 33 \"f\"",
+        &[Section::Dir(Directive {
+            end: 3,
+            kind: Unknown,
+            ..FIRST
+        })],
+    ),
+    (
+        "a # further on",
+        "int x; #y",
+        &[Section::Text { first: 0, end: 5 }],
+    ),
+    (
+        "directives alone",
+        "#if A\n#else\n#endif",
+        &[
+            Section::Dir(Directive {
+                end: 3,
+                kind: If,
+                ..FIRST
+            }),
+            Section::Dir(Directive {
+                first: 3,
+                hash: TokenId(3),
+                end: 5,
+                kind: Else,
+                ..FIRST
+            }),
+            Section::Dir(Directive {
+                first: 5,
+                hash: TokenId(5),
+                end: 7,
+                kind: Endif,
+                ..FIRST
+            }),
+        ],
+    ),
+    (
+        "texts around a directive",
+        "a\n#if __has_include(<x>)\nb\nc",
+        &[
+            Section::Text { first: 0, end: 1 },
+            Section::Dir(Directive {
+                first: 1,
+                hash: TokenId(1),
+                end: 9,
+                kind: If,
+                ..FIRST
+            }),
+            Section::Text { first: 9, end: 11 },
+        ],
+    ),
+];
 
 #[test]
 fn cuts_texts_into_sections(rt: HostRuntime) -> Result<(), Fail> {
-    use DirectiveKind::{Define, Else, Endif, If, Include, Null, Unknown};
-    let behind_comment = Section::Dir(Directive {
-        first: 0,
-        hash: TokenId(1),
-        end: 7,
-        kind: Define,
-        function_like: false,
-    });
-    let cases: [(&str, &str, &[Section]); 12] = [
-        ("no item", " \n", &[]),
-        (
-            "a comment before the #",
-            "/* c */ #define X (a)",
-            &[behind_comment],
-        ),
-        (
-            "parameters, 6.10.3p10",
-            "#define F(x) x",
-            &[function_like(7)],
-        ),
-        (
-            "parameters behind a splice",
-            "#define F\\\n(x) x",
-            &[function_like(7)],
-        ),
-        (
-            "no parameters behind a comment",
-            "#define F/**/(x)",
-            &[directive(0, 7, Define)],
-        ),
-        (
-            "a digraph of #",
-            "%:include <a.h>",
-            &[directive(0, 3, Include)],
-        ),
-        ("a trigraph of #", "??=if 1", &[directive(0, 3, If)]),
-        ("a null directive, 6.10.7", "#", &[directive(0, 1, Null)]),
-        ("no name", "# 33 \"f\"", &[directive(0, 3, Unknown)]),
-        (
-            "a # further on",
-            "int x; #y",
-            &[Section::Text { first: 0, end: 5 }],
-        ),
-        (
-            "directives alone",
-            "#if A\n#else\n#endif",
-            &[
-                directive(0, 3, If),
-                directive(3, 5, Else),
-                directive(5, 7, Endif),
-            ],
-        ),
-        (
-            "texts around a directive",
-            "a\n#if __has_include(<x>)\nb\nc",
-            &[
-                Section::Text { first: 0, end: 1 },
-                directive(1, 9, If),
-                Section::Text { first: 9, end: 11 },
-            ],
-        ),
-    ];
-    for (name, text, expected) in cases {
+    for case in SECTIONS {
+        let (name, text, expected) = *case;
         let bump = Bump::new(rt.alloc());
         let arena = build(&bump, text.as_bytes(), Dialect::C11)?;
         same(&rt, name, sections(&arena, &bump)?, expected);

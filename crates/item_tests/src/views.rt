@@ -43,15 +43,17 @@ fn finds_each_place(rt: HostRuntime) -> Result<(), Fail> {
     Ok(())
 }
 
+/// The segments of the view of `CALL`, and how many places stand before each.
+const SEGMENTS: &[(&str, u32)] = &[("the first", 0), ("the second", 4), ("the third", 6)];
+
 #[test]
 fn keeps_a_segment_for_each_stretch(rt: HostRuntime) -> Result<(), Fail> {
     let run = Bump::new(rt.alloc());
     let view = View::of_stretches(&CALL, &run)?;
     let segments = View::from_segments(view.segments()).segments();
     same(&rt, "how many segments", segments.len(), 3);
-    let cases = [("the first", 0), ("the second", 4), ("the third", 6)];
-    for (segment, (name, before)) in segments.iter().zip(cases) {
-        same(&rt, name, segment.before, before);
+    for (segment, (name, before)) in segments.iter().zip(SEGMENTS) {
+        same(&rt, name, segment.before, *before);
     }
     let none = View::of_stretches(&[], &run)?;
     assert!(rt; none.is_empty() && none.segments().is_empty());

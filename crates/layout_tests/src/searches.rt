@@ -314,38 +314,46 @@ fn two_ways(alloc: Global, len: u32) -> Result<Vec<LineTok>, Fail> {
     Ok(tokens)
 }
 
+/// What the search of a line finds in LLVM: its cost, whether the fourth gap breaks, and how many gaps do.
+fn searched(
+    rt: &impl Abort,
+    alloc: Global,
+    line: &[LineTok],
+) -> Result<(u64, Option<bool>, u32), Fail> {
+    let style = style("LLVM")?;
+    let run = Bump::new(alloc);
+    let free = vec![in alloc; None; line.len()]?;
+    let fixed = free.as_slice();
+    assert!(rt; !line.is_empty() && line.len() < 4_294_967_295 && fixed.len() == line.len());
+    let outcome = search(alloc, &style, line, 0, fixed, 2_000_000, &run)?;
+    let (breaks, cost) = found_of(outcome).ok_or("a breaking")?;
+    Ok((cost, breaks.get(3).copied(), count_of(breaks)))
+}
+
+/// How many tokens such a line has.
+const LENGTHS: &[(&str, u32)] = &[
+    ("no closer", 5),
+    ("one closer", 6),
+    ("a point", 7),
+    ("nine tokens", 9),
+    ("sixteen tokens", 16),
+    ("forty tokens", 40),
+    ("four hundred tokens", 400),
+];
+
 #[test]
 fn takes_the_first_of_two_ways_of_one_cost(rt: HostRuntime) -> Result<(), Fail> {
-    let style = style("LLVM")?;
-    for (name, len) in [
-        ("no closer", 5),
-        ("one closer", 6),
-        ("a point", 7),
-        ("nine tokens", 9),
-        ("sixteen tokens", 16),
-        ("forty tokens", 40),
-        ("four hundred tokens", 400),
-    ] {
-        let run = Bump::new(rt.alloc());
-        let tokens = two_ways(rt.alloc(), len)?;
-        let line = tokens.as_slice();
-        let free = vec![in rt.alloc(); None; line.len()]?;
-        let fixed = free.as_slice();
-        assert!(rt; !line.is_empty() && line.len() < 4_294_967_295 && fixed.len() == line.len());
-        let outcome = search(rt.alloc(), &style, line, 0, fixed, 2_000_000, &run)?;
-        let (breaks, cost) = found_of(outcome).ok_or("a breaking")?;
-        same(&rt, name, cost, 1);
-        same(&rt, name, breaks.get(3).copied(), Some(true));
-        same(&rt, name, count_of(breaks), 1);
+    for (name, len) in LENGTHS {
+        let tokens = two_ways(rt.alloc(), *len)?;
+        let found = searched(&rt, rt.alloc(), tokens.as_slice())?;
+        same(&rt, name, found, (1, Some(true), 1));
     }
     Ok(())
 }
 
-#[test]
-fn breaks_a_long_initialiser_into_rows(rt: HostRuntime) -> Result<(), Fail> {
-    let style = style("LLVM")?;
-    let run = Bump::new(rt.alloc());
-    let mut tokens = vec![in rt.alloc();
+/// An initialiser of so many numbers.
+fn initialiser(alloc: Global, count: u32) -> Result<Vec<LineTok>, Fail> {
+    let mut tokens = vec![in alloc;
         token(Role::Word, 0, 8),
         token(Role::Word, 0, 4),
         token(Role::Word, 0, 1),
@@ -354,7 +362,7 @@ fn breaks_a_long_initialiser_into_rows(rt: HostRuntime) -> Result<(), Fail> {
         token(Role::Assign, 0, 1),
         token(Role::ListOpen, 0, 1),
     ]?;
-    for at in 0..4_096 {
+    for at in 0..count {
         if at > 0 {
             tokens.push(token(Role::Comma, 1, 1))?;
         }
@@ -362,13 +370,14 @@ fn breaks_a_long_initialiser_into_rows(rt: HostRuntime) -> Result<(), Fail> {
     }
     tokens.push(token(Role::ListClose, 1, 1))?;
     tokens.push(token(Role::Semi, 0, 1))?;
-    let line = tokens.as_slice();
-    let free = vec![in rt.alloc(); None; line.len()]?;
-    let fixed = free.as_slice();
-    assert!(rt; !line.is_empty() && line.len() < 4_294_967_295 && fixed.len() == line.len());
-    let outcome = search(rt.alloc(), &style, line, 0, fixed, 2_000_000, &run)?;
-    let (breaks, cost) = found_of(outcome).ok_or("a breaking")?;
+    Ok(tokens)
+}
+
+#[test]
+fn breaks_a_long_initialiser_into_rows(rt: HostRuntime) -> Result<(), Fail> {
+    let tokens = initialiser(rt.alloc(), 4_096)?;
+    let (cost, _, count) = searched(&rt, rt.alloc(), tokens.as_slice())?;
     same(&rt, "the cost", cost, 351);
-    same(&rt, "how many gaps break", count_of(breaks), 342);
+    same(&rt, "how many gaps break", count, 342);
     Ok(())
 }

@@ -21,7 +21,7 @@ type Row = (&'static str, u32, LineKind);
 /// A text with its lines in a style.
 type Case = (&'static str, &'static str, &'static str, &'static [Row]);
 
-const STATEMENTS: [Case; 16] = [
+const STATEMENTS: &[Case] = &[
     (
         "branches",
         "LLVM",
@@ -209,7 +209,7 @@ const STATEMENTS: [Case; 16] = [
     ),
 ];
 
-const COMMENTS: [Case; 5] = [
+const COMMENTS: &[Case] = &[
     (
         "comments behind and between lines",
         "LLVM",
@@ -262,7 +262,7 @@ const COMMENTS: [Case; 5] = [
     ),
 ];
 
-const UNBALANCED: [Case; 7] = [
+const UNBALANCED: &[Case] = &[
     (
         "a brace that opens nothing",
         "LLVM",
@@ -359,8 +359,10 @@ fn has_lines(rt: &impl Abort, run: &Bump, case: &Case) -> Result<(), Fail> {
 #[test]
 fn cuts_texts_into_lines(rt: HostRuntime) -> Result<(), Fail> {
     let run = Bump::new(rt.alloc());
-    for case in STATEMENTS.iter().chain(&COMMENTS).chain(&UNBALANCED) {
-        has_lines(&rt, &run, case)?;
+    for cases in [STATEMENTS, COMMENTS, UNBALANCED] {
+        for case in cases {
+            has_lines(&rt, &run, case)?;
+        }
     }
     Ok(())
 }

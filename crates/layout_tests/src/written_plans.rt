@@ -50,7 +50,7 @@ const LINES_AND_FOUR: Decision = Decision::Lines {
     level: 1,
 };
 
-const ROWS: [Row; 15] = [
+const ROWS: &[Row] = &[
     Row {
         name: "nothing is decided",
         input: b" a \n\tb /* c */ \\\n",
@@ -202,7 +202,7 @@ fn written(
 #[test]
 fn writes_each_row(rt: HostRuntime) -> Result<(), Fail> {
     let bump = Bump::new(rt.alloc());
-    for row in &ROWS {
+    for row in ROWS {
         let (output, done) = written(rt.alloc(), &bump, row, Vec::new(rt.alloc()))?;
         same(&rt, row.name, output.as_slice(), row.output);
         same(&rt, row.name, done, true);

@@ -1,5 +1,6 @@
 //! Worked ranges and worked texts.
 
+use crate::comparing::same;
 use bumpalo::Bump;
 use off_regions::{LineRange, MOST_RANGES, RangeFault, Ranges, frozen};
 use std::alloc::{AllocError, Global};
@@ -139,9 +140,21 @@ const FAULTS: [FaultRow; 30] = [
 fn tells_the_first_fault(rt: HostRuntime) {
     for row in &FAULTS {
         let fault = Ranges::parse(rt.alloc(), row.text).err();
-        assert_eq!(rt; fault, Some(row.fault), "{}", row.text);
+        same(&rt, row.text, fault, Some(row.fault));
     }
 }
+
+/// So many ranges and something behind them, and how many are read.
+const MANY: &[(&str, usize, &str, Result<usize, RangeFault>)] = &[
+    ("as many as are allowed", MOST_RANGES, "", Ok(MOST_RANGES)),
+    ("one more", MOST_RANGES + 1, "", Err(RangeFault::TooMany)),
+    (
+        "one more, and a fault behind them",
+        MOST_RANGES + 1,
+        ",2:1",
+        Err(RangeFault::Reversed { place: 16_388 }),
+    ),
+];
 
 /// `1:1` so many times, with commas between, and something behind it.
 fn repeated(alloc: Global, times: usize, behind: &str) -> Result<String, AllocError> {
@@ -155,46 +168,37 @@ fn repeated(alloc: Global, times: usize, behind: &str) -> Result<String, AllocEr
 
 #[test]
 fn counts_ranges_in_form(rt: HostRuntime) -> Result<(), Fail> {
-    let rows: [(&str, usize, &str, Result<usize, RangeFault>); 3] = [
-        ("as many as are allowed", MOST_RANGES, "", Ok(MOST_RANGES)),
-        ("one more", MOST_RANGES + 1, "", Err(RangeFault::TooMany)),
-        (
-            "one more, and a fault behind them",
-            MOST_RANGES + 1,
-            ",2:1",
-            Err(RangeFault::Reversed { place: 16_388 }),
-        ),
-    ];
-    for (name, times, behind, wanted) in rows {
+    for case in MANY {
+        let (name, times, behind, wanted) = *case;
         let text = repeated(rt.alloc(), times, behind)?;
         let read = Ranges::parse(rt.alloc(), &text);
         let told = read.map(|ranges| ranges.as_slice().len());
-        assert_eq!(rt; told, wanted, "{name}");
+        same(&rt, name, told, wanted);
     }
     Ok(())
 }
 
 /// Ranges in form, and the pairs of lines that they are.
-type InForm = (&'static str, &'static [(u32, u32)]);
+const IN_FORM: &[(&str, &[(u32, u32)])] = &[
+    ("1:1", &[(1, 1)]),
+    ("7:9,007:007", &[(7, 9), (7, 7)]),
+    ("4:5,1:999999999", &[(4, 5), (1, 999_999_999)]),
+    ("1:3,2:2,3:4", &[(1, 3), (2, 2), (3, 4)]),
+];
 
 #[test]
 fn reads_ranges(rt: HostRuntime) -> Result<(), Fail> {
-    let rows: [InForm; 4] = [
-        ("1:1", &[(1, 1)]),
-        ("7:9,007:007", &[(7, 9), (7, 7)]),
-        ("4:5,1:999999999", &[(4, 5), (1, 999_999_999)]),
-        ("1:3,2:2,3:4", &[(1, 3), (2, 2), (3, 4)]),
-    ];
-    for (text, pairs) in rows {
+    for case in IN_FORM {
+        let (text, pairs) = *case;
         let read = Ranges::parse(rt.alloc(), text).ok().ok_or("ranges")?;
-        assert!(rt; !read.is_empty(), "{text}");
-        assert_eq!(rt; read.as_slice().len(), pairs.len(), "{text}");
+        same(&rt, text, read.is_empty(), false);
+        same(&rt, text, read.as_slice().len(), pairs.len());
         for (range, (first, last)) in read.as_slice().iter().zip(pairs) {
             let wanted = LineRange {
                 first: *first,
                 last: *last,
             };
-            assert_eq!(rt; *range, wanted, "{text}");
+            same(&rt, text, *range, wanted);
         }
     }
     Ok(())
@@ -203,7 +207,7 @@ fn reads_ranges(rt: HostRuntime) -> Result<(), Fail> {
 #[test]
 fn makes_ranges_of_pairs(rt: HostRuntime) -> Result<(), Fail> {
     let none = Ranges::of(rt.alloc(), &[]).ok().ok_or("no ranges")?;
-    assert!(rt; none.is_empty());
+    same(&rt, "no ranges", none.is_empty(), true);
     let made = Ranges::of(rt.alloc(), &[(7, 9), (7, 7)])
         .ok()
         .ok_or("ranges")?;
@@ -211,7 +215,7 @@ fn makes_ranges_of_pairs(rt: HostRuntime) -> Result<(), Fail> {
         LineRange { first: 7, last: 9 },
         LineRange { first: 7, last: 7 },
     ];
-    assert_eq!(rt; made.as_slice(), wanted.as_slice());
+    same(&rt, "two ranges", made.as_slice(), wanted.as_slice());
     Ok(())
 }
 
@@ -405,7 +409,7 @@ fn marks_gaps(rt: HostRuntime) -> Result<(), Fail> {
         for mark in marks {
             told.push(if *mark { b'x' } else { b'.' })?;
         }
-        assert_eq!(rt; told.as_slice(), row.marks, "{}", row.name);
+        same(&rt, row.name, told.as_slice(), row.marks);
     }
     Ok(())
 }

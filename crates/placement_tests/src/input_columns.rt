@@ -2,13 +2,29 @@
 
 ghost use Rattle.std.specs.Prelude.{◌≤◌, length};
 
+use crate::comparing::same_at;
 use bumpalo::Bump;
 use run_layout::{column_behind, column_through};
 use std::test::Fail;
 use token_arena::{Dialect, TokenArena, build};
 
 /// A text, the width of a tab, a place, and the column of what stands behind the gap there.
-type Row<'t> = (&'t [u8], u32, u32, u32);
+const ROWS: &[(&str, u32, u32, u32)] = &[
+    ("a", 8, 0, 0),
+    ("  a", 8, 0, 2),
+    ("\u{feff}  a", 8, 0, 2),
+    ("a\t b", 8, 1, 9),
+    ("abc\td", 4, 1, 4),
+    ("abcd\te", 4, 1, 8),
+    ("a;\n\tb c", 8, 3, 10),
+    ("a \\\n  b c", 8, 1, 2),
+    ("a \\\n  b c", 8, 2, 4),
+    ("ab\\\ncd e", 8, 1, 3),
+    ("/* x\n y */ z", 8, 1, 6),
+    ("a\x0b\x0c\rb", 8, 1, 4),
+    ("/* \u{4e00} */ a", 8, 1, 9),
+    ("a  \n   ", 8, 1, 3),
+];
 
 /// The column of what stands behind the gap at a place, counted item by item from the text's start.
 fn column_at(tab: u32, arena: &TokenArena<'_, '_>, place: u32) -> u32
@@ -25,28 +41,13 @@ fn column_at(tab: u32, arena: &TokenArena<'_, '_>, place: u32) -> u32
 
 #[test]
 fn counts_columns_of_the_input(rt: HostRuntime) -> Result<(), Fail> {
-    let rows: [Row<'_>; 14] = [
-        (b"a", 8, 0, 0),
-        (b"  a", 8, 0, 2),
-        (b"\xEF\xBB\xBF  a", 8, 0, 2),
-        (b"a\t b", 8, 1, 9),
-        (b"abc\td", 4, 1, 4),
-        (b"abcd\te", 4, 1, 8),
-        (b"a;\n\tb c", 8, 3, 10),
-        (b"a \\\n  b c", 8, 1, 2),
-        (b"a \\\n  b c", 8, 2, 4),
-        (b"ab\\\ncd e", 8, 1, 3),
-        (b"/* x\n y */ z", 8, 1, 6),
-        (b"a\x0b\x0c\rb", 8, 1, 4),
-        ("/* \u{4e00} */ a".as_bytes(), 8, 1, 9),
-        (b"a  \n   ", 8, 1, 3),
-    ];
-    for (text, tab, place, column) in rows {
+    for row in ROWS {
+        let (text, tab, place, column) = *row;
         let bump = Bump::new(rt.alloc());
-        let arena = build(&bump, text, Dialect::C11)?;
+        let arena = build(&bump, text.as_bytes(), Dialect::C11)?;
         assert!(rt; 1 <= tab && place <= arena.len());
         let told = column_at(tab, &arena, place);
-        assert_eq!(rt; told, column, "at place {place} of {text:?}");
+        same_at(&rt, text, place as usize, told, column);
     }
     Ok(())
 }

@@ -4,6 +4,7 @@ ghost use Rattle.std.specs.Prelude.{◌≡◌, ◌≤◌, ◌<◌, length, IfOk}
 ghost use Rattle.style_table.specs.Range.{IsInRange};
 ghost use Rattle.token_classes.specs.Viewed.{AreWithin};
 
+use crate::comparing::same;
 use crate::joined_lines::With::{
     Blocks, Braces, Cases, Enums, Functions, Ifs, Limit, Loops, Unlimited,
 };
@@ -396,7 +397,7 @@ fn is_row(
         at = from.saturating_add(raw.len());
         assert!(rt; text.get(from..at) == Some(raw), "{row}");
     }
-    assert_eq!(rt; at, text.len(), "{row}");
+    same(rt, row, at, text.len());
     Ok(())
 }
 
@@ -409,7 +410,7 @@ fn are_rows(
     rows: &[&str],
     name: &str,
 ) -> Result<(), Fail> {
-    assert_eq!(rt; found.len(), rows.len(), "{name}");
+    same(rt, name, found.len(), rows.len());
     for (line, row) in found.iter().zip(rows) {
         is_row(rt, arena, toks, line, row)?;
     }
@@ -563,23 +564,35 @@ fn count_of(run: &Bump, keys: &[With], text: &[u8]) -> Result<usize, Fail> {
 }
 
 /// What changes in the style, a text by its head, a piece that stands 10,000 times, and its tail; and its lines.
-type LongCase<'t> = (&'t [With], &'t [u8], &'t [u8], &'t [u8], usize);
+const LONG: &[(&str, &[With], &[u8], &[u8], &[u8], usize)] = &[
+    ("enumerators", &[], b"enum{", b"A,", b"};", 10_002),
+    (
+        "enumerators without a limit",
+        &[Unlimited, Braces(BreakBeforeBraces::Attach)],
+        b"enum{",
+        b"A,",
+        b"};",
+        1,
+    ),
+    ("labels", &[Cases], b"switch(x){", b"case a:", b"}", 10_002),
+    (
+        "branches behind comments",
+        &[Ifs(ShortIfs::WithoutElse)],
+        b"",
+        b"if(a)b();\n// c\n",
+        b"",
+        20_000,
+    ),
+];
 
 #[test]
 fn joins_long_lists_in_one_pass(rt: HostRuntime) -> Result<(), Fail> {
     let run = Bump::new(rt.alloc());
-    let attached = [Unlimited, Braces(BreakBeforeBraces::Attach)];
-    let ifs = [Ifs(ShortIfs::WithoutElse)];
-    let cases: [LongCase<'_>; 4] = [
-        (&[], b"enum{", b"A,", b"};", 10_002),
-        (&attached, b"enum{", b"A,", b"};", 1),
-        (&[Cases], b"switch(x){", b"case a:", b"}", 10_002),
-        (&ifs, b"", b"if(a)b();\n// c\n", b"", 20_000),
-    ];
-    for (keys, head, piece, tail, count) in cases {
+    for case in LONG {
+        let (name, keys, head, piece, tail, count) = *case;
         let text = repeated(rt.alloc(), head, piece, 10_000, tail)?;
         let told = count_of(&run, keys, text.as_slice())?;
-        assert_eq!(rt; told, count, "{piece:?}");
+        same(&rt, name, told, count);
     }
     Ok(())
 }
@@ -611,6 +624,6 @@ fn text_without_classes(text: &[u8], run: &Bump) -> Result<usize, Fail> {
 fn joins_without_classes(rt: HostRuntime) -> Result<(), Fail> {
     let run = Bump::new(rt.alloc());
     let count = text_without_classes(b"int f(void){}if(a)b();", &run)?;
-    assert_eq!(rt; count, 3);
+    same(&rt, "how many lines", count, 3);
     Ok(())
 }

@@ -1,5 +1,6 @@
 //! Whole texts of which some gaps stay: in the LLVM style, with what is asked for.
 
+use crate::comparing::same;
 use bumpalo::Bump;
 use format_core::{Job, Ranges, format};
 use std::test::Fail;
@@ -114,7 +115,7 @@ fn keeps_gaps(rt: HostRuntime) -> Result<(), Fail> {
         };
         let made = format(rt.alloc(), &bump, row.text, &style, &job)?;
         let bytes = made.bytes(rt.alloc())?;
-        assert_eq!(rt; bytes.as_slice(), row.out, "{}", row.name);
+        same(&rt, row.name, bytes.as_slice(), row.out);
     }
     Ok(())
 }

@@ -2,6 +2,7 @@
 //! calls succeed with ample memory.
 //!
 //! - `asked_lines`: which gaps stay, since formatting is off or nobody asked for their lines (`off_regions`)
+//! - `comparing`: what is found beside what is wanted
 //! - `input_columns`: the columns of kept gaps (`run_layout`)
 //! - `kept_texts`: whole texts of which some gaps stay (`format_core`)
 //! - `joined_lines`: short lines that become one (`line_joiner`)
@@ -10,6 +11,8 @@
 
 #[cfg(test)]
 mod asked_lines;
+#[cfg(test)]
+mod comparing;
 #[cfg(test)]
 mod input_columns;
 #[cfg(test)]

@@ -1,113 +1,120 @@
 //! Worked rows of comments.
 
+use self::Comment::{Fixed, Open};
+use crate::comparing::same;
 use comment_place::{TrailRow, align};
 use std::test::Fail;
 use style_table::AlignTrailingCommentsKind::{Always, Never};
 use style_table::{AlignTrailingCommentsKind, Style};
 
-/// A row whose comment is to be placed.
-fn open(end: u32, column: u32, next: bool) -> TrailRow {
-    TrailRow {
-        end,
-        column,
-        next,
-        fixed: false,
-    }
-}
-
-/// A row whose comment stays.
-fn fixed(end: u32, column: u32, next: bool) -> TrailRow {
-    TrailRow {
-        end,
-        column,
-        next,
-        fixed: true,
-    }
-}
-
+/// The row of a comment: where its code ends, the column, and whether the next row follows it.
 #[derive(Clone, Copy)]
-struct Case {
-    name: &'static str,
-    kind: AlignTrailingCommentsKind,
-    rows: [TrailRow; 4],
-    columns: [u32; 4],
+enum Comment {
+    /// It is to be placed.
+    Open(u32, u32, bool),
+    /// It stays.
+    Fixed(u32, u32, bool),
+}
+
+/// A comment's row as the library has it.
+fn row_of(comment: Comment) -> TrailRow {
+    let (end, column, next, fixed) = match comment {
+        Open(end, column, next) => (end, column, next, false),
+        Fixed(end, column, next) => (end, column, next, true),
+    };
+    TrailRow {
+        end,
+        column,
+        next,
+        fixed,
+    }
 }
 
 /// Rows, and the columns at which their comments stand.
-fn cases() -> [Case; 6] {
-    [
-        Case {
-            name: "two rows, and two others behind a row without a comment",
-            kind: Always,
-            rows: [
-                open(4, 5, true),
-                open(7, 8, false),
-                open(20, 21, true),
-                open(3, 4, false),
-            ],
-            columns: [8, 8, 21, 21],
-        },
-        Case {
-            name: "a decided comment counts and stays",
-            kind: Always,
-            rows: [
-                open(4, 5, true),
-                fixed(7, 30, true),
-                fixed(7, 9, true),
-                open(3, 4, false),
-            ],
-            columns: [30, 30, 9, 30],
-        },
-        Case {
-            name: "the largest comes last",
-            kind: Always,
-            rows: [
-                open(1, 2, true),
-                open(2, 3, true),
-                open(3, 4, true),
-                open(4, 5, false),
-            ],
-            columns: [5, 5, 5, 5],
-        },
-        Case {
-            name: "each row alone",
-            kind: Always,
-            rows: [
-                open(1, 2, false),
-                open(2, 3, false),
-                open(3, 4, false),
-                open(4, 5, false),
-            ],
-            columns: [2, 3, 4, 5],
-        },
-        Case {
-            name: "the last row has nothing behind it",
-            kind: Always,
-            rows: [
-                open(9, 10, false),
-                open(2, 3, true),
-                open(3, 14, true),
-                open(4, 5, true),
-            ],
-            columns: [10, 14, 14, 14],
-        },
-        Case {
-            name: "no style that asks for it",
-            kind: Never,
-            rows: [
-                open(4, 5, true),
-                open(7, 8, true),
-                fixed(2, 9, true),
-                open(3, 4, false),
-            ],
-            columns: [5, 8, 9, 4],
-        },
-    ]
+struct Case {
+    name: &'static str,
+    kind: AlignTrailingCommentsKind,
+    rows: [Comment; 4],
+    columns: [u32; 4],
 }
 
+const CASES: &[Case] = &[
+    Case {
+        name: "two rows, and two others behind a row without a comment",
+        kind: Always,
+        rows: [
+            Open(4, 5, true),
+            Open(7, 8, false),
+            Open(20, 21, true),
+            Open(3, 4, false),
+        ],
+        columns: [8, 8, 21, 21],
+    },
+    Case {
+        name: "a decided comment counts and stays",
+        kind: Always,
+        rows: [
+            Open(4, 5, true),
+            Fixed(7, 30, true),
+            Fixed(7, 9, true),
+            Open(3, 4, false),
+        ],
+        columns: [30, 30, 9, 30],
+    },
+    Case {
+        name: "the largest comes last",
+        kind: Always,
+        rows: [
+            Open(1, 2, true),
+            Open(2, 3, true),
+            Open(3, 4, true),
+            Open(4, 5, false),
+        ],
+        columns: [5, 5, 5, 5],
+    },
+    Case {
+        name: "each row alone",
+        kind: Always,
+        rows: [
+            Open(1, 2, false),
+            Open(2, 3, false),
+            Open(3, 4, false),
+            Open(4, 5, false),
+        ],
+        columns: [2, 3, 4, 5],
+    },
+    Case {
+        name: "the last row has nothing behind it",
+        kind: Always,
+        rows: [
+            Open(9, 10, false),
+            Open(2, 3, true),
+            Open(3, 14, true),
+            Open(4, 5, true),
+        ],
+        columns: [10, 14, 14, 14],
+    },
+    Case {
+        name: "no style that asks for it",
+        kind: Never,
+        rows: [
+            Open(4, 5, true),
+            Open(7, 8, true),
+            Fixed(2, 9, true),
+            Open(3, 4, false),
+        ],
+        columns: [5, 8, 9, 4],
+    },
+];
+
 /// The columns of these rows behind a call.
-fn columns_of(style: &Style, rows: [TrailRow; 4]) -> [u32; 4] {
-    let mut rows = rows;
+fn columns_of(style: &Style, comments: &[Comment; 4]) -> [u32; 4] {
+    let mut rows = [
+        row_of(comments[0]),
+        row_of(comments[1]),
+        row_of(comments[2]),
+        row_of(comments[3]),
+    ];
     align(style, &mut rows);
     [
         rows[0].column,
@@ -120,10 +127,10 @@ fn columns_of(style: &Style, rows: [TrailRow; 4]) -> [u32; 4] {
 #[test]
 fn lines_comments_up(rt: HostRuntime) -> Result<(), Fail> {
     let mut style = Style::named("LLVM").ok_or("a style")?;
-    for case in &cases() {
+    for case in CASES {
         style.align_trailing_comments_kind = case.kind;
-        let columns = columns_of(&style, case.rows);
-        assert_eq!(rt; columns, case.columns, "{}", case.name);
+        let columns = columns_of(&style, &case.rows);
+        same(&rt, case.name, columns, case.columns);
     }
     Ok(())
 }
