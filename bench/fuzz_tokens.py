@@ -16,14 +16,13 @@ TOKEN = re.compile(rb"(\w+) '(.*?)'\t((?: \[[A-Za-z]+\])*)%s\tLoc=<(\d+\.c):(\d+
 ENDS = b" \t\n\v\f\r\0"
 OFF = re.compile(rb"clang-format off(?::.*)?", re.S)
 ON = re.compile(rb"clang-format on(?::.*)?", re.S)
-# What the compilers read otherwise than C11.
-LATE_SPLICE = re.compile(rb"(?:\\|\?\?/)[ \t\v\f\0]+\r?\n|(?:\\|\?\?/)\r(?!\n)|(?:\\|\?\?/)\n\r")
-LONE_RETURN = re.compile(rb"\r(?!\n)")
+# What the compilers read otherwise than C11: a late splice, and for clang a return alone.
+OTHERWISE = re.compile(rb"(?:\\|\?\?/)[ \t\v\f\0]+\r?\n|\r(?!\n)|\n\r")
 # What keeps bytes of the input, so that a column of it counts.
 STAYS = re.compile(rb"clang-|#[ \t]*if[ \t]+0")
 INCLUDE = re.compile(rb"^([ \t]*#[ \t]*)(?:include_next|include|import)\b", re.M)
 QUOTED = rb'"(?:[^"\\\n]|\\.)*"|\'(?:[^\'\\\n]|\\.)*\''
-WORD = re.compile(QUOTED + rb"|[A-Za-z_$][\w$]*|\.?\d(?:[eEpP][-+]|[\w.])*|\S", re.S)
+WORD = re.compile(QUOTED + rb"|[A-Za-z_$][\w$]*|\.{3}|\.?\d(?:[eEpP][-+]|[\w.])*|\S", re.S)
 
 
 def bare(text):
@@ -61,8 +60,10 @@ class Tokens:
 
     def add(self, kind, spelling, flags, raw, line, column):
         if kind == b"comment":
-            self.add_comment(spelling, raw or spelling, line, column)
-            spelling = spelling.rstrip(ENDS)
+            raw = raw or spelling
+            self.add_comment(spelling, raw, line, column)
+            # clang doesn't always clean the spelling of a comment, so its bytes are compared.
+            spelling = TRAILING.sub(b"", raw[LEADING.match(raw).end() :]).rstrip(ENDS)
         elif kind == b"unknown":
             is_quote = spelling[:1] in (b"'", b'"')
             spelling = spelling.rstrip(ENDS) if is_quote else spelling.strip(b" \t\n\v\f\r\\")
@@ -81,7 +82,7 @@ class Tokens:
             self.may_change = True
         if kind in (b"l_paren", b"l_square"):
             self.waiting.append(kind)
-        elif kind in (b"r_paren", b"r_square") and self.waiting:
+        elif kind in (b"r_paren", b"r_square") and self.waiting and self.waiting[-1][2:] == kind[2:]:
             self.waiting.pop()
         elif kind == b"l_brace" and self.waiting:
             self.may_change = True
