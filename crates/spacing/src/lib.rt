@@ -9,6 +9,7 @@ mod laws;
 ghost use Rattle.std.specs.Prelude.{◌≡◌, ◌≤◌};
 ghost use Rattle.style_table.specs.Range.{IsInRange};
 ghost use Rattle.spacing.specs.Spaces.{as_before, one_if, is_attached, is_line_comment, is_never, is_always, is_left, is_right, spaces_by_table, spaces_before};
+ghost use Rattle.spacing.specs.Told.{left_tells, right_tells};
 
 pub use laws::keeps_apart;
 use line_tokens::{ItemKind, LineTok, Role};
@@ -113,6 +114,39 @@ fn by_table(style: &Style, left: &LineTok, right: &LineTok) -> u8
     }
 }
 
+/// Whether a row may hold behind a token with this role, whatever follows. Of most roles none does.
+#[inline(always)]
+fn left_tells(l: Role) -> bool
+    ensures { result ≡ left_tells l }
+{
+    l.is_bracket_open()
+        || l.is_list_open()
+        || l.is_inner_or_stray()
+        || l.is_unary_or_prefix()
+        || l.is_member_or_desig_dot()
+        || l.is_cast_close()
+        || l.is_pointer()
+}
+
+/// Whether a row may hold before a token with this role, where none holds behind the other.
+#[inline(always)]
+fn right_tells(r: Role) -> bool
+    ensures { result ≡ right_tells r }
+{
+    r.is_trailing()
+        || r.is_comma_or_semi()
+        || r.is_bracket_close()
+        || r.is_list_close()
+        || r.is_block_close()
+        || r.is_inner_or_stray()
+        || r.is_ctrl_open()
+        || r.is_call_or_decl_open()
+        || is_attached(r)
+        || r.is_member()
+        || r.is_pointer()
+        || r.is_asm_colon()
+}
+
 /// The blanks before the right token, in columns, where the gap between the two doesn't break. At most 16.
 ///
 /// A gap that had bytes keeps a blank where the two tokens without one could be read as something else.
@@ -121,6 +155,9 @@ pub fn spaces_before(style: &Style, left: &LineTok, right: &LineTok) -> u8
     ensures table { result ≡ spaces_before style.now left.now right.now }
     ensures few { result ≤ 16 }
 {
+    if !left_tells(left.role) && !right_tells(right.role) {
+        return 1;
+    }
     let spaces = by_table(style, left, right);
     if spaces == 0 && !right.gap.empty && !right.touch {
         1
