@@ -9,6 +9,7 @@ use c_chars::LIMIT;
 use fmt_ports::{MemFiles, MemSink, MemSource};
 use format_cli::format_command;
 use std::alloc::{AllocError, Global};
+use std::fmt::Debug;
 use std::process::Abort;
 use std::test::Fail;
 
@@ -605,21 +606,21 @@ fn status_of(alloc: Global, words: &[String], ends: &mut Ends) -> u8 {
     )
 }
 
+/// What is found by the row of this name is what is wanted. One function compares all values, so that it is proved once.
+fn same<T: Copy + PartialEq + Debug>(rt: &impl Abort, what: &str, name: &str, found: T, want: T) {
+    assert_eq!(rt; found, want, "{what} of {name}");
+}
+
 /// Sees that a call does what its row says.
 fn check(rt: &impl Abort, alloc: Global, row: &Row, input: Vec<u8>) -> Result<(), Fail> {
     let words = texts(alloc, row.words)?;
     let mut ends = ends_of(alloc, row, input)?;
     let status = status_of(alloc, &words, &mut ends);
-    assert_eq!(rt; status, row.status, "the status of {}", row.name);
-    assert_eq!(rt; ends.out.taken(), row.out, "the output of {}", row.name);
-    assert_eq!(rt; ends.notes.taken(), row.notes, "the notes of {}", row.name);
+    same(rt, "the status", row.name, status, row.status);
+    same(rt, "the output", row.name, ends.out.taken(), row.out);
+    same(rt, "the notes", row.name, ends.notes.taken(), row.notes);
     for (name, bytes) in row.held {
-        assert_eq!(rt;
-            ends.files.held(name),
-            Some(*bytes),
-            "{name} after {}",
-            row.name
-        );
+        same(rt, name, row.name, ends.files.held(name), Some(*bytes));
     }
     Ok(())
 }
@@ -696,29 +697,38 @@ fn breaks_a_long_list(rt: HostRuntime) -> Result<(), Fail> {
     for input in [long_list(alloc, b"", b"", b"")?, want.clone()?] {
         let mut ends = ends_of(alloc, &QUIET, input)?;
         let status = status_of(alloc, &[], &mut ends);
-        assert_eq!(rt; status, 0);
+        same(&rt, "the status", "a long list", status, 0);
         assert!(rt; ends.out.taken() == want.as_slice());
-        assert_eq!(rt; ends.notes.taken().len(), 0);
+        same(&rt, "the notes", "a long list", ends.notes.taken().len(), 0);
     }
     Ok(())
 }
 
-/// An input of blanks, as many as the limit allows and one more.
+/// Inputs of blanks, as many as the limit allows and one more.
+const BLANKS: &[(Row, usize)] = &[
+    (
+        Row {
+            name: "the longest input",
+            ..QUIET
+        },
+        LIMIT,
+    ),
+    (
+        Row {
+            name: "an input past the limit",
+            status: 4,
+            notes: b"<stdin>: more than 8388608 bytes\n",
+            ..QUIET
+        },
+        LIMIT + 1,
+    ),
+];
+
 #[test]
 fn takes_the_limit_and_no_more(rt: HostRuntime) -> Result<(), Fail> {
     let alloc = rt.alloc();
-    let within = Row {
-        name: "the longest input",
-        ..QUIET
-    };
-    let past = Row {
-        name: "an input past the limit",
-        status: 4,
-        notes: b"<stdin>: more than 8388608 bytes\n",
-        ..QUIET
-    };
-    for (row, len) in [(within, LIMIT), (past, LIMIT + 1)] {
-        check(&rt, alloc, &row, vec![in alloc; b' '; len]?)?;
+    for (row, len) in BLANKS {
+        check(&rt, alloc, row, vec![in alloc; b' '; *len]?)?;
     }
     Ok(())
 }
