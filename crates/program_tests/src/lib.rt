@@ -4,6 +4,7 @@
 //! - `commands`: the one table of calls, and the rows of words, styles, ports and files.
 //! - `formatted_texts`: the rows of texts and their layout.
 //! - `generated_inputs`: the rows of inputs that `--generate` makes.
+//! - `hostile_cases`: the one table of texts that nobody would write, and of ports that fail at each of their calls.
 //! - `trailing_comments`: the rows of texts with trailing comments.
 //! - `whole_files`: the rows of whole files, with directives and what stays.
 #![tactic(auto)]
@@ -16,6 +17,8 @@ mod commands;
 mod formatted_texts;
 #[cfg(test)]
 mod generated_inputs;
+#[cfg(test)]
+mod hostile_cases;
 #[cfg(test)]
 mod trailing_comments;
 #[cfg(test)]
