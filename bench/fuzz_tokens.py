@@ -14,6 +14,7 @@ UNCLEAN = rb"(?: \[UnClean='(.*?)'\])?"
 TOKEN = re.compile(rb"(\w+) '(.*?)'\t((?: \[[A-Za-z]+\])*)%s\tLoc=<(\d+\.c):(\d+):(\d+)>\n" % UNCLEAN, re.S)
 # At the end of a text clang counts a NUL to an open quote or a comment.
 ENDS = b" \t\n\v\f\r\0"
+EMPTY = [b"L''", b"u''", b"U''"]
 OFF = re.compile(rb"clang-format off(?::.*)?", re.S)
 ON = re.compile(rb"clang-format on(?::.*)?", re.S)
 # What the compilers read otherwise than C11: a late splice, and for clang a return alone.
@@ -47,6 +48,7 @@ class Tokens:
         self.text, self.found, self.comments, self.rows = text, [], [], None
         # Whether the line is a directive, which brackets wait, and whether the text may change when formatted again.
         self.in_directive, self.waiting, self.may_change = False, [], b"::" in text or STAYS.search(text)
+        self.is_read_otherwise = bool(OTHERWISE.search(text))
 
     def offset(self, line, column):
         if self.rows is None:
@@ -69,6 +71,8 @@ class Tokens:
             spelling = spelling.rstrip(ENDS) if is_quote else spelling.strip(b" \t\n\v\f\r\\")
             if spelling[:2] == b"/*":
                 self.add_comment(None, raw, line, column)
+            # An empty character constant is no item of C11, and the compilers go on behind it.
+            self.is_read_otherwise |= is_quote and spelling.endswith(b"''") or spelling in EMPTY
         if spelling:
             begins = b"StartOfLine" in flags or not self.found
             self.found.append((kind, spelling, kind == b"hash" and begins))
