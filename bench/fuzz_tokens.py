@@ -49,6 +49,8 @@ class Tokens:
         # Whether the line is a directive, which brackets wait, and whether the text may change when formatted again.
         self.in_directive, self.waiting, self.may_change = False, [], b"::" in text or STAYS.search(text)
         self.is_read_otherwise = bool(OTHERWISE.search(text))
+        # The line begins with white space that clang takes for its first token.
+        self.is_begun = False
 
     def offset(self, line, column):
         if self.rows is None:
@@ -73,8 +75,11 @@ class Tokens:
                 self.add_comment(None, raw, line, column)
             # An empty character constant is no item of C11, and the compilers go on behind it.
             self.is_read_otherwise |= is_quote and spelling.endswith(b"''") or spelling in EMPTY
-        if spelling:
-            begins = b"StartOfLine" in flags or not self.found
+        if not spelling:
+            self.is_begun |= b"StartOfLine" in flags
+        else:
+            begins = b"StartOfLine" in flags or self.is_begun or not self.found
+            self.is_begun = False
             self.found.append((kind, spelling, kind == b"hash" and begins))
             self.look(kind, begins)
 
