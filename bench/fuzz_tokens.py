@@ -21,7 +21,7 @@ ON = re.compile(rb"clang-format on(?::.*)?", re.S)
 OTHERWISE = re.compile(rb"(?:\\|\?\?/)[ \t\v\f\0]+\r?\n|\r(?!\n)|\n\r")
 # What keeps bytes of the input, so that a column of it counts.
 STAYS = re.compile(rb"clang-|#[ \t]*if[ \t]+0")
-INCLUDE = re.compile(rb"^([ \t]*#[ \t]*)(?:include_next|include|import)\b", re.M)
+INCLUDE = re.compile(rb"(?<!\\\n)(?<!\\\r\n)(?<!\?\?/\n)(?<!\?\?/\r\n)^([ \t]*#[ \t]*)(?:include_next|include|import)\b", re.M)
 QUOTED = rb'"(?:[^"\\\n]|\\.)*"|\'(?:[^\'\\\n]|\\.)*\''
 WORD = re.compile(QUOTED + rb"|[A-Za-z_$][\w$]*|\.{3}|\.?\d(?:[eEpP][-+]|[\w.])*|\S", re.S)
 
@@ -70,7 +70,7 @@ class Tokens:
             spelling = TRAILING.sub(b"", raw[LEADING.match(raw).end() :]).rstrip(ENDS)
         elif kind == b"unknown":
             is_quote = spelling[:1] in (b"'", b'"')
-            spelling = spelling.rstrip(ENDS) if is_quote else spelling.strip(b" \t\n\v\f\r\\")
+            spelling = spelling.rstrip(ENDS) if is_quote else spelling.strip(b" \t\n\v\f\r")
             if spelling[:2] == b"/*":
                 self.add_comment(None, raw, line, column)
             # An empty character constant is no item of C11, and the compilers go on behind it.
