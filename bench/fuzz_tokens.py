@@ -21,7 +21,8 @@ ON = re.compile(rb"clang-format on(?::.*)?", re.S)
 OTHERWISE = re.compile(rb"(?:\\|\?\?/)[ \t\v\f\0]+\r?\n|\r(?!\n)|\n\r")
 # What keeps bytes of the input, so that a column of it counts.
 STAYS = re.compile(rb"clang-|#[ \t]*if[ \t]+0")
-INCLUDE = re.compile(rb"(?<!\\\n)(?<!\\\r\n)(?<!\?\?/\n)(?<!\?\?/\r\n)^([ \t]*#[ \t]*)(?:include_next|include|import)\b", re.M)
+NO_SPLICE = rb"(?<!\\\n)(?<!\\\r\n)(?<!\?\?/\n)(?<!\?\?/\r\n)"
+INCLUDE = re.compile(NO_SPLICE + rb"^([ \t]*#[ \t]*)(?:include_next|include|import)\b", re.M)
 QUOTED = rb'"(?:[^"\\\n]|\\.)*"|\'(?:[^\'\\\n]|\\.)*\''
 WORD = re.compile(QUOTED + rb"|[A-Za-z_$][\w$]*|\.{3}|\.?\d(?:[eEpP][-+]|[\w.])*|\S", re.S)
 
@@ -145,6 +146,6 @@ def preprocessed(text):
     """What gcc makes of a text, its includes left as they are, and whether it finds fault with it."""
     words = ["gcc", "-E", "-P", "-std=c11", "-x", "c", "-w", "-D__LINE__=0", "-"]
     ran = subprocess.run(words, input=INCLUDE.sub(rb"\1pragma include", text), capture_output=True, timeout=SECONDS)
-    if ran.returncode and b"_Pragma" in text:
-        return ran.returncode, None  # Behind such a fault gcc writes words without blanks between.
+    if ran.returncode and (b"_Pragma" in text or b"__has_" in text):
+        return ran.returncode, None  # Behind such a fault gcc goes on in more than one way.
     return ran.returncode, [re.sub(rb"[\s\0]+", b"", word) for word in WORD.findall(ran.stdout)]
