@@ -14,13 +14,15 @@ UNCLEAN = rb"(?: \[UnClean='(.*?)'\])?"
 TOKEN = re.compile(rb"(\w+) '(.*?)'\t((?: \[[A-Za-z]+\])*)%s\tLoc=<(\d+\.c):(\d+):(\d+)>\n" % UNCLEAN, re.S)
 # At the end of a text clang counts a NUL to an open quote or a comment.
 ENDS = b" \t\n\v\f\r\0"
+EMPTY = [b"L''", b"u''", b"U''"]
 OFF = re.compile(rb"clang-format off(?::.*)?", re.S)
 ON = re.compile(rb"clang-format on(?::.*)?", re.S)
 # What the compilers read otherwise than C11: a late splice, and for clang a return alone.
 OTHERWISE = re.compile(rb"(?:\\|\?\?/)[ \t\v\f\0]+\r?\n|\r(?!\n)|\n\r")
 # What keeps bytes of the input, so that a column of it counts.
 STAYS = re.compile(rb"clang-|#[ \t]*if[ \t]+0")
-INCLUDE = re.compile(rb"^([ \t]*#[ \t]*)(?:include_next|include|import)\b", re.M)
+NO_SPLICE = rb"(?<!\\\n)(?<!\\\r\n)(?<!\?\?/\n)(?<!\?\?/\r\n)"
+INCLUDE = re.compile(NO_SPLICE + rb"^([ \t]*#[ \t]*)(?:include_next|include|import)\b", re.M)
 QUOTED = rb'"(?:[^"\\\n]|\\.)*"|\'(?:[^\'\\\n]|\\.)*\''
 WORD = re.compile(QUOTED + rb"|[A-Za-z_$][\w$]*|\.{3}|\.?\d(?:[eEpP][-+]|[\w.])*|\S", re.S)
 
@@ -47,6 +49,9 @@ class Tokens:
         self.text, self.found, self.comments, self.rows = text, [], [], None
         # Whether the line is a directive, which brackets wait, and whether the text may change when formatted again.
         self.in_directive, self.waiting, self.may_change = False, [], b"::" in text or STAYS.search(text)
+        self.is_read_otherwise = bool(OTHERWISE.search(text))
+        # The line begins with white space that clang takes for its first token.
+        self.is_begun = False
 
     def offset(self, line, column):
         if self.rows is None:
@@ -66,11 +71,16 @@ class Tokens:
             spelling = TRAILING.sub(b"", raw[LEADING.match(raw).end() :]).rstrip(ENDS)
         elif kind == b"unknown":
             is_quote = spelling[:1] in (b"'", b'"')
-            spelling = spelling.rstrip(ENDS) if is_quote else spelling.strip(b" \t\n\v\f\r\\")
+            spelling = spelling.rstrip(ENDS) if is_quote else spelling.strip(b" \t\n\v\f\r")
             if spelling[:2] == b"/*":
                 self.add_comment(None, raw, line, column)
-        if spelling:
-            begins = b"StartOfLine" in flags or not self.found
+            # An empty character constant is no item of C11, and the compilers go on behind it.
+            self.is_read_otherwise |= is_quote and spelling.endswith(b"''") or spelling in EMPTY
+        if not spelling:
+            self.is_begun |= b"StartOfLine" in flags
+        else:
+            begins = b"StartOfLine" in flags or self.is_begun or not self.found
+            self.is_begun = False
             self.found.append((kind, spelling, kind == b"hash" and begins))
             self.look(kind, begins)
 
@@ -136,6 +146,6 @@ def preprocessed(text):
     """What gcc makes of a text, its includes left as they are, and whether it finds fault with it."""
     words = ["gcc", "-E", "-P", "-std=c11", "-x", "c", "-w", "-D__LINE__=0", "-"]
     ran = subprocess.run(words, input=INCLUDE.sub(rb"\1pragma include", text), capture_output=True, timeout=SECONDS)
-    if ran.returncode and b"_Pragma" in text:
-        return ran.returncode, None  # Behind such a fault gcc writes words without blanks between.
+    if ran.returncode and (b"_Pragma" in text or b"__has_" in text):
+        return ran.returncode, None  # Behind such a fault gcc goes on in more than one way.
     return ran.returncode, [re.sub(rb"[\s\0]+", b"", word) for word in WORD.findall(ran.stdout)]

@@ -561,14 +561,15 @@ const FAILING_PORTS: &[Row] = &[
 
 /// The ends of a call.
 #[derive(Drop)]
-struct Ends {
-    source: MemSource,
-    out: MemSink,
-    notes: MemSink,
-    files: MemFiles,
+pub struct Ends {
+    pub source: MemSource,
+    pub out: MemSink,
+    pub notes: MemSink,
+    pub files: MemFiles,
 }
 
-fn texts(alloc: Global, words: &[&str]) -> Result<Vec<String>, AllocError> {
+/// The words of a call.
+pub fn texts(alloc: Global, words: &[&str]) -> Result<Vec<String>, AllocError> {
     let mut all = Vec::new(alloc);
     for word in words {
         all.push(String::from_str(alloc, word)?)?;
@@ -585,7 +586,7 @@ fn files_of(alloc: Global, row: &Row) -> Result<MemFiles, AllocError> {
 }
 
 /// The ends of a row's call, with this input.
-fn ends_of(alloc: Global, row: &Row, input: Vec<u8>) -> Result<Ends, AllocError> {
+pub fn ends_of(alloc: Global, row: &Row, input: Vec<u8>) -> Result<Ends, AllocError> {
     Ok(Ends {
         source: MemSource::new(input, row.failing_reads.to_vec(alloc)?),
         out: MemSink::new(alloc, row.failing_writes.to_vec(alloc)?),
@@ -595,7 +596,7 @@ fn ends_of(alloc: Global, row: &Row, input: Vec<u8>) -> Result<Ends, AllocError>
 }
 
 /// The status of a call.
-fn status_of(alloc: Global, words: &[String], ends: &mut Ends) -> u8 {
+pub fn status_of(alloc: Global, words: &[String], ends: &mut Ends) -> u8 {
     format_command(
         alloc,
         words,
@@ -612,7 +613,7 @@ fn same<T: Copy + PartialEq + Debug>(rt: &impl Abort, what: &str, name: &str, fo
 }
 
 /// Sees that a call does what its row says.
-fn check(rt: &impl Abort, alloc: Global, row: &Row, input: Vec<u8>) -> Result<(), Fail> {
+pub fn check(rt: &impl Abort, alloc: Global, row: &Row, input: Vec<u8>) -> Result<(), Fail> {
     let words = texts(alloc, row.words)?;
     let mut ends = ends_of(alloc, row, input)?;
     let status = status_of(alloc, &words, &mut ends);

@@ -5,6 +5,7 @@
 //! - `deep_nesting`: a text whose layout is far longer than the text.
 //! - `formatted_texts`: the rows of texts and their layout.
 //! - `generated_inputs`: the rows of inputs that `--generate` makes.
+//! - `hostile_cases`: the one table of texts that nobody would write, and of ports that fail at each of their calls.
 //! - `trailing_comments`: the rows of texts with trailing comments.
 //! - `whole_files`: the rows of whole files, with directives and what stays.
 #![tactic(auto)]
@@ -19,6 +20,8 @@ mod deep_nesting;
 mod formatted_texts;
 #[cfg(test)]
 mod generated_inputs;
+#[cfg(test)]
+mod hostile_cases;
 #[cfg(test)]
 mod trailing_comments;
 #[cfg(test)]

@@ -3,7 +3,7 @@
 use crate::commands::{QUIET, Row};
 
 /// The style of the driver.
-const DRIVER_STYLE: &[u8] = b"BasedOnStyle: LLVM
+pub const DRIVER_STYLE: &[u8] = b"BasedOnStyle: LLVM
 IndentWidth: 4
 BreakBeforeBraces: Linux
 AllowShortFunctionsOnASingleLine: None
@@ -12,7 +12,7 @@ ColumnLimit: 60
 ";
 
 /// A driver's source, as somebody wrote it.
-const DRIVER: &[u8] = b"#include<stdint.h>
+pub const DRIVER: &[u8] = b"#include<stdint.h>
 #ifdef __cplusplus
 extern \"C\" {
 #endif
@@ -40,7 +40,7 @@ out:
 ";
 
 /// The same in its style. The head of the function costs 2: its further rows stand at column 44 and end at 59 and 60.
-const DRIVER_LAID_OUT: &[u8] = b"#include <stdint.h>
+pub const DRIVER_LAID_OUT: &[u8] = b"#include <stdint.h>
 #ifdef __cplusplus
 extern \"C\" {
 #endif
