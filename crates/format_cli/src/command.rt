@@ -153,8 +153,8 @@ pub fn format_command<S: Source, K: Sink, E: Sink, F: Files>(
     // each input. The status is 1 exactly where the words have `--dry-run` and `--Werror` and some input's text changes.
     ensures done { (result ≡ 0) ⊎ (result ≡ 1) → EndsWell (map string_bytes words.now) (world (S.left source.old) (K.taken out.old) (F.holds files.old) (E.taken notes.old)) (world (S.left source.new) (K.taken out.new) (F.holds files.new) (E.taken notes.new)) result }
 
-    // What was done before a refusal, its cause, what the notes took, and the count that it raised: that of what its row
-    // names, and no other. Where the notes don't tell what they take, all but the row is said.
+    // What was done before a refusal, its cause, what the notes took, and the count that it raised: that of what its
+    // row names, and no other. Where the notes don't tell what they take, all but the row is said.
     ensures refused { result ≢ 0 → result ≢ 1 → IsRefusedFor (map string_bytes words.now) (world (S.left source.old) (K.taken out.old) (F.holds files.old) (E.taken notes.old)) (world (S.left source.new) (K.taken out.new) (F.holds files.new) (E.taken notes.new)) (record { source = S.faults source.old; out = K.faults out.old; notes = E.faults notes.old; files = F.faults files.old; misses = F.misses files.old }) (record { source = S.faults source.new; out = K.faults out.new; notes = E.faults notes.new; files = F.faults files.new; misses = F.misses files.new }) result }
     ensures known { IsStatus result }
 

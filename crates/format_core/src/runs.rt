@@ -40,8 +40,8 @@ pub(crate) struct Planned<'a> {
     pub tally: Tally<'a>,
 }
 
-/// Decides the gaps of these items, where they are open: first those that stay as they are. `all` are the classes of all
-/// items of the text.
+/// Decides the gaps of these items, where they are open: first those that stay as they are. `all` are the classes of
+/// all items of the text.
 fn lay_out_items(
     alloc: Global,
     style: &Style,
@@ -95,8 +95,8 @@ fn are_decided(view: &View<'_>, plan: &Plan<'_>) -> bool
     true
 }
 
-/// Decides the gaps of a part of a view, from one place to before another, where they are open. A part of which all gaps
-/// are decided, as an earlier run left it, isn't looked at.
+/// Decides the gaps of a part of a view, from one place to before another, where they are open. A part of which all
+/// gaps are decided, as an earlier run left it, isn't looked at.
 fn lay_out_part(
     alloc: Global,
     style: &Style,
@@ -136,8 +136,9 @@ fn lay_out_part(
     )
 }
 
-/// Decides the gaps of the items that the run with this number sees, where they are open, part after part. A run of branches
-/// without text sees nothing new, and its parts aren't asked for. What a part takes of memory serves the next one too.
+/// Decides the gaps of the items that the run with this number sees, where they are open, part after part. A run of
+/// branches without text sees nothing new, and its parts aren't asked for. What a part takes of memory serves the
+/// next one too.
 fn lay_out_seen(
     alloc: Global,
     style: &Style,

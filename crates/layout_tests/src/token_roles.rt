@@ -390,7 +390,8 @@ fn letter(token: &LineTok) -> u8 {
     }
 }
 
-/// A text; below each of its items stands how many brackets are open before it, how tightly it binds, and what the gap is.
+/// A text; below each of its items stands how many brackets are open before it, how tightly it binds, and what the
+/// gap is.
 const LOOKED_AT: &[(&str, &str, &[u32], &[u8], &[u8])] = &[
     (
         "operators",

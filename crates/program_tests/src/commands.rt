@@ -607,7 +607,8 @@ pub fn status_of(alloc: Global, words: &[String], ends: &mut Ends) -> u8 {
     )
 }
 
-/// What is found by the row of this name is what is wanted. One function compares all values, so that it is proved once.
+/// What is found by the row of this name is what is wanted. One function compares all values, so that it is proved
+/// once.
 fn same<T: Copy + PartialEq + Debug>(rt: &impl Abort, what: &str, name: &str, found: T, want: T) {
     assert_eq!(rt; found, want, "{what} of {name}");
 }

@@ -23,8 +23,8 @@ enum Calls {
     One,
     /// One with this input, which gives this text.
     Long { input: Text, out: Text },
-    /// One for each prefix of the row's input. It ends as the row says where its length is one from the first to the last,
-    /// and otherwise its items stay.
+    /// One for each prefix of the row's input. It ends as the row says where its length is one from the first to the
+    /// last, and otherwise its items stay.
     EachPrefix { first: usize, last: usize },
     /// One for each input of one byte. Its items stay.
     EachByte,

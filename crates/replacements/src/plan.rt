@@ -16,7 +16,8 @@ use line_tokens::{Fixed, NoMemory};
 use std::marker::Model;
 use token_arena::TokenArena;
 
-/// Whether a line ends in the gap at a place, which is decided so. The input's bytes are looked at only where they stay.
+/// Whether a line ends in the gap at a place, which is decided so. The input's bytes are looked at only where they
+/// stay.
 #[inline(always)]
 fn ends_line(arena: &TokenArena<'_, '_>, place: u32, decision: Decision) -> bool
     requires fits { length arena.now.text ≤ LIMIT }

@@ -92,8 +92,8 @@ impl<'k, K: Sink> Pieces<'k, K> {
     }
 }
 
-/// Which sink stands behind [`Pieces`], and what it had taken at first. A call over any sink says nothing of that, so the
-/// type of [`PieceSink`] does.
+/// Which sink stands behind [`Pieces`], and what it had taken at first. A call over any sink says nothing of that, so
+/// the type of [`PieceSink`] does.
 trait Behind {
     ghost name: { ℕ };
 

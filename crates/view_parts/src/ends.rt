@@ -22,7 +22,8 @@ fn item_began(arena: &TokenArena<'_, '_>, id: TokenId) -> bool
     arena.get(id).gap.began
 }
 
-/// Whether a declaration begins at a place: a word, behind comments or not, where each of these began its line in the input.
+/// Whether a declaration begins at a place: a word, behind comments or not, where each of these began its line in the
+/// input.
 fn declares(arena: &TokenArena<'_, '_>, view: &View<'_>, classes: &[TokenClass], first: u32) -> bool
     requires within { AreWithin arena.now view.now }
     requires as_many { length classes.now ≡ length view.now }
@@ -65,7 +66,8 @@ fn note_end(
     Ok(())
 }
 
-/// The places behind the last item of each part of a view, which has these classes: the parts cut it whole and in order.
+/// The places behind the last item of each part of a view, which has these classes: the parts cut it whole and in
+/// order.
 ///
 /// `docs/PROFILE.md` says under "Parts" which these are. Want of memory is the only error.
 pub fn part_ends<'r>(
