@@ -271,71 +271,24 @@ impl Key {
         self.outer().as_bytes() == outer && self.label().as_bytes() == label
     }
 
-    /// How it is spelled: the key that it stands under, empty where there is none, and its own part.
-    fn spelling(self) -> (&'static str, &'static str)
-        ensures outer { result.0.now ≡ outer_of self }
-        ensures label { result.1.now ≡ label_of self }
-        ensures short { (length result.0.now ≤ 40) × (length result.1.now ≤ 40) }
-    {
-        match self {
-            Key::ColumnLimit => ("", "ColumnLimit"),
-            Key::IndentWidth => ("", "IndentWidth"),
-            Key::ContinuationIndentWidth => ("", "ContinuationIndentWidth"),
-            Key::TabWidth => ("", "TabWidth"),
-            Key::UseTab => ("", "UseTab"),
-            Key::BreakBeforeBraces => ("", "BreakBeforeBraces"),
-            Key::BraceWrappingAfterCaseLabel => ("BraceWrapping", "AfterCaseLabel"),
-            Key::BraceWrappingAfterEnum => ("BraceWrapping", "AfterEnum"),
-            Key::BraceWrappingAfterExternBlock => ("BraceWrapping", "AfterExternBlock"),
-            Key::BraceWrappingAfterFunction => ("BraceWrapping", "AfterFunction"),
-            Key::BraceWrappingAfterStruct => ("BraceWrapping", "AfterStruct"),
-            Key::BraceWrappingAfterUnion => ("BraceWrapping", "AfterUnion"),
-            Key::BraceWrappingBeforeElse => ("BraceWrapping", "BeforeElse"),
-            Key::BraceWrappingBeforeWhile => ("BraceWrapping", "BeforeWhile"),
-            Key::BraceWrappingAfterControlStatement => ("BraceWrapping", "AfterControlStatement"),
-            Key::PointerAlignment => ("", "PointerAlignment"),
-            Key::SpaceBeforeParens => ("", "SpaceBeforeParens"),
-            Key::AlignAfterOpenBracket => ("", "AlignAfterOpenBracket"),
-            Key::BinPackArguments => ("", "BinPackArguments"),
-            Key::BinPackParameters => ("", "BinPackParameters"),
-            Key::BreakBeforeBinaryOperators => ("", "BreakBeforeBinaryOperators"),
-            Key::BreakBeforeTernaryOperators => ("", "BreakBeforeTernaryOperators"),
-            Key::MaxEmptyLinesToKeep => ("", "MaxEmptyLinesToKeep"),
-            Key::KeepEmptyLinesAtTheStartOfBlocks => ("", "KeepEmptyLinesAtTheStartOfBlocks"),
-            Key::IndentCaseLabels => ("", "IndentCaseLabels"),
-            Key::IndentGotoLabels => ("", "IndentGotoLabels"),
-            Key::IndentPPDirectives => ("", "IndentPPDirectives"),
-            Key::AllowShortFunctionsOnASingleLine => ("", "AllowShortFunctionsOnASingleLine"),
-            Key::AllowShortIfStatementsOnASingleLine => ("", "AllowShortIfStatementsOnASingleLine"),
-            Key::AllowShortLoopsOnASingleLine => ("", "AllowShortLoopsOnASingleLine"),
-            Key::AllowShortBlocksOnASingleLine => ("", "AllowShortBlocksOnASingleLine"),
-            Key::AllowShortCaseLabelsOnASingleLine => ("", "AllowShortCaseLabelsOnASingleLine"),
-            Key::AllowShortEnumsOnASingleLine => ("", "AllowShortEnumsOnASingleLine"),
-            Key::SpacesBeforeTrailingComments => ("", "SpacesBeforeTrailingComments"),
-            Key::SpaceAfterCStyleCast => ("", "SpaceAfterCStyleCast"),
-            Key::Cpp11BracedListStyle => ("", "Cpp11BracedListStyle"),
-            Key::AlignEscapedNewlines => ("", "AlignEscapedNewlines"),
-            Key::AlignTrailingCommentsKind => ("AlignTrailingComments", "Kind"),
-            Key::LineEnding => ("", "LineEnding"),
-            Key::InsertNewlineAtEOF => ("", "InsertNewlineAtEOF"),
-            Key::SkipMacroDefinitionBody => ("", "SkipMacroDefinitionBody"),
-            Key::PenaltyBreakAssignment => ("", "PenaltyBreakAssignment"),
-            Key::PenaltyBreakBeforeFirstCallParameter => (
-                "",
-                "PenaltyBreakBeforeFirstCallParameter",
-            ),
-            Key::PenaltyBreakOpenParenthesis => ("", "PenaltyBreakOpenParenthesis"),
-            Key::PenaltyExcessCharacter => ("", "PenaltyExcessCharacter"),
-            Key::PenaltyReturnTypeOnItsOwnLine => ("", "PenaltyReturnTypeOnItsOwnLine"),
-        }
-    }
-
     /// The key that it stands under, empty where it stands under none.
     pub fn outer(self) -> &'static str
         ensures text { result.now ≡ outer_of self }
         ensures short { length result.now ≤ 40 }
     {
-        self.spelling().0
+        match self {
+            Key::BraceWrappingAfterCaseLabel
+            | Key::BraceWrappingAfterEnum
+            | Key::BraceWrappingAfterExternBlock
+            | Key::BraceWrappingAfterFunction
+            | Key::BraceWrappingAfterStruct
+            | Key::BraceWrappingAfterUnion
+            | Key::BraceWrappingBeforeElse
+            | Key::BraceWrappingBeforeWhile
+            | Key::BraceWrappingAfterControlStatement => "BraceWrapping",
+            Key::AlignTrailingCommentsKind => "AlignTrailingComments",
+            _ => "",
+        }
     }
 
     /// How it is spelled, the key that it stands under aside.
@@ -343,7 +296,54 @@ impl Key {
         ensures text { result.now ≡ label_of self }
         ensures short { length result.now ≤ 40 }
     {
-        self.spelling().1
+        match self {
+            Key::ColumnLimit => "ColumnLimit",
+            Key::IndentWidth => "IndentWidth",
+            Key::ContinuationIndentWidth => "ContinuationIndentWidth",
+            Key::TabWidth => "TabWidth",
+            Key::UseTab => "UseTab",
+            Key::BreakBeforeBraces => "BreakBeforeBraces",
+            Key::BraceWrappingAfterCaseLabel => "AfterCaseLabel",
+            Key::BraceWrappingAfterEnum => "AfterEnum",
+            Key::BraceWrappingAfterExternBlock => "AfterExternBlock",
+            Key::BraceWrappingAfterFunction => "AfterFunction",
+            Key::BraceWrappingAfterStruct => "AfterStruct",
+            Key::BraceWrappingAfterUnion => "AfterUnion",
+            Key::BraceWrappingBeforeElse => "BeforeElse",
+            Key::BraceWrappingBeforeWhile => "BeforeWhile",
+            Key::BraceWrappingAfterControlStatement => "AfterControlStatement",
+            Key::PointerAlignment => "PointerAlignment",
+            Key::SpaceBeforeParens => "SpaceBeforeParens",
+            Key::AlignAfterOpenBracket => "AlignAfterOpenBracket",
+            Key::BinPackArguments => "BinPackArguments",
+            Key::BinPackParameters => "BinPackParameters",
+            Key::BreakBeforeBinaryOperators => "BreakBeforeBinaryOperators",
+            Key::BreakBeforeTernaryOperators => "BreakBeforeTernaryOperators",
+            Key::MaxEmptyLinesToKeep => "MaxEmptyLinesToKeep",
+            Key::KeepEmptyLinesAtTheStartOfBlocks => "KeepEmptyLinesAtTheStartOfBlocks",
+            Key::IndentCaseLabels => "IndentCaseLabels",
+            Key::IndentGotoLabels => "IndentGotoLabels",
+            Key::IndentPPDirectives => "IndentPPDirectives",
+            Key::AllowShortFunctionsOnASingleLine => "AllowShortFunctionsOnASingleLine",
+            Key::AllowShortIfStatementsOnASingleLine => "AllowShortIfStatementsOnASingleLine",
+            Key::AllowShortLoopsOnASingleLine => "AllowShortLoopsOnASingleLine",
+            Key::AllowShortBlocksOnASingleLine => "AllowShortBlocksOnASingleLine",
+            Key::AllowShortCaseLabelsOnASingleLine => "AllowShortCaseLabelsOnASingleLine",
+            Key::AllowShortEnumsOnASingleLine => "AllowShortEnumsOnASingleLine",
+            Key::SpacesBeforeTrailingComments => "SpacesBeforeTrailingComments",
+            Key::SpaceAfterCStyleCast => "SpaceAfterCStyleCast",
+            Key::Cpp11BracedListStyle => "Cpp11BracedListStyle",
+            Key::AlignEscapedNewlines => "AlignEscapedNewlines",
+            Key::AlignTrailingCommentsKind => "Kind",
+            Key::LineEnding => "LineEnding",
+            Key::InsertNewlineAtEOF => "InsertNewlineAtEOF",
+            Key::SkipMacroDefinitionBody => "SkipMacroDefinitionBody",
+            Key::PenaltyBreakAssignment => "PenaltyBreakAssignment",
+            Key::PenaltyBreakBeforeFirstCallParameter => "PenaltyBreakBeforeFirstCallParameter",
+            Key::PenaltyBreakOpenParenthesis => "PenaltyBreakOpenParenthesis",
+            Key::PenaltyExcessCharacter => "PenaltyExcessCharacter",
+            Key::PenaltyReturnTypeOnItsOwnLine => "PenaltyReturnTypeOnItsOwnLine",
+        }
     }
 
     /// Whether it is the first of the keys under its outer key.
