@@ -14,7 +14,7 @@ use token_classes::{TokenClass, classes};
 use token_views::View;
 
 /// An opening bracket that waits for its partner.
-#[derive(Clone, Copy, Debug, Drop)]
+#[derive(Clone, Copy, Drop)]
 pub(crate) struct Opener {
     pub place: u32,
     pub kind: TokenClass,

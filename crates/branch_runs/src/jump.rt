@@ -16,7 +16,7 @@ use bumpalo::Bump;
 use bumpalo::collections::into_bump_slice_mut;
 
 /// From a section to a branch that follows in the conditional around what is behind it.
-#[derive(Clone, Copy, Debug, PartialEq, Eq)]
+#[derive(Clone, Copy)]
 pub(crate) struct Jump {
     /// The section that begins this branch, or where no branch follows the section itself.
     pub to: u32,

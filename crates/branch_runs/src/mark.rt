@@ -41,7 +41,7 @@ pub struct Mark {
 }
 
 /// A conditional that is open, by the group of it that is being read.
-#[derive(Clone, Copy, Debug, PartialEq, Eq)]
+#[derive(Clone, Copy)]
 pub(crate) enum Open {
     /// The group of a literal `#if 0`.
     Zero,

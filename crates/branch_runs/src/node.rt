@@ -7,7 +7,7 @@ use crate::stack::Stack;
 use crate::{MarkKind, NoMemory};
 
 /// A section, and what a walk needs where it begins a group. Sections are named by their numbers.
-#[derive(Clone, Copy, Debug, PartialEq, Eq)]
+#[derive(Clone, Copy)]
 pub(crate) struct Node {
     /// Its first item.
     pub first: u32,
@@ -26,7 +26,7 @@ pub(crate) struct Node {
 }
 
 /// A conditional that is open for a reading from the end.
-#[derive(Clone, Copy, Debug, PartialEq, Eq)]
+#[derive(Clone, Copy)]
 pub(crate) struct Level {
     /// How many runs its live branches that were read need together.
     pub later: u32,

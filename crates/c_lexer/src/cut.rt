@@ -22,7 +22,7 @@ use c_chars::{Chars, Dialect};
 use c_grammar::ItemKind;
 
 /// Why no item is cut off.
-#[derive(Clone, Copy, Debug)]
+#[derive(Clone, Copy)]
 pub(crate) enum Stop {
     /// Nothing ends the block comment that begins.
     Unterminated,

@@ -20,7 +20,7 @@ use std::alloc::Global;
 use style_table::{Style, dump};
 
 /// How a call ends that does all that its words ask for.
-#[derive(Clone, Copy, Debug)]
+#[derive(Clone, Copy)]
 pub enum Outcome {
     /// No text was to be told of.
     Done,

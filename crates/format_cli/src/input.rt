@@ -35,7 +35,7 @@ pub struct Options {
 }
 
 /// Where the texts go.
-#[derive(Clone, Copy, Debug)]
+#[derive(Clone, Copy)]
 pub enum Place {
     /// To the output, in order.
     Output,

@@ -19,7 +19,7 @@ pub const STANDARD_INPUT: &str = "<stdin>";
 pub const GENERATED: &str = "<generated>";
 
 /// Why the command ends early. A name is that of an input, a configuration or a style.
-#[derive(Clone, Copy, Debug)]
+#[derive(Clone, Copy)]
 pub enum Refusal<'w> {
     /// The words aren't of the command's form.
     BadWords,

@@ -6,7 +6,7 @@ ghost use Rattle.item_edges.specs.Edges.{is_name_byte, is_number_byte, is_operat
 use line_tokens::ItemKind;
 
 /// What an item is to the items beside it.
-#[derive(Clone, Copy, Debug, PartialEq, Eq)]
+#[derive(Clone, Copy, PartialEq, Eq)]
 pub enum Edge {
     /// An identifier that begins with a letter of ASCII or `_`.
     Name,

@@ -23,7 +23,7 @@ pub struct GapRule {
 }
 
 /// What a row of the table says.
-#[derive(Clone, Copy, PartialEq, Eq, Debug)]
+#[derive(Clone, Copy)]
 enum Break {
     /// The gap breaks.
     Must,

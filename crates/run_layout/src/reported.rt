@@ -18,7 +18,7 @@ use token_classes::TokenClass;
 use token_views::View;
 
 /// Up to where the columns of the input are told. They are told only where a line is reported, each once in a run.
-#[derive(Clone, Copy, Debug)]
+#[derive(Clone, Copy)]
 pub(crate) struct InputCursor {
     /// How many items of the view are passed.
     pub place: u32,

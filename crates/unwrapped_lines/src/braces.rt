@@ -6,7 +6,7 @@ ghost use Rattle.unwrapped_lines.specs.Wrapping.{always_wraps, plain_braces, cus
 use style_table::{BraceWrappingAfterControlStatement, BreakBeforeBraces, Style};
 
 /// What a style says of braces and labels.
-#[derive(Clone, Copy, Debug, Drop)]
+#[derive(Clone, Copy, Drop)]
 pub struct Braces {
     /// The `{` of a block behind a case label begins a line.
     pub after_case_label: bool,

@@ -4,7 +4,7 @@ use crate::open::{Head, Open, Start};
 use line_tokens::LineKind;
 
 /// What a line leaves open.
-#[derive(Clone, Copy, Debug, Drop)]
+#[derive(Clone, Copy, Drop)]
 pub enum Next {
     /// Its statement ends.
     Ends,
@@ -17,7 +17,7 @@ pub enum Next {
 }
 
 /// A line: where it ends, its block's `{` aside, and what it leaves open.
-#[derive(Clone, Copy, Debug, Drop)]
+#[derive(Clone, Copy, Drop)]
 pub struct Form {
     /// What it is.
     pub kind: LineKind,
@@ -30,7 +30,7 @@ pub struct Form {
 }
 
 /// Where a statement ends, or the `{` of its block stands.
-#[derive(Clone, Copy, Debug, Drop)]
+#[derive(Clone, Copy, Drop)]
 pub struct Stop {
     /// The first place behind the statement, or the place of the `{`.
     pub at: usize,

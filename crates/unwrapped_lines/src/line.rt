@@ -3,7 +3,7 @@
 use line_tokens::LineKind;
 
 /// A line of tokens that are no comments.
-#[derive(Clone, Copy, Debug, Drop)]
+#[derive(Clone, Copy, Drop)]
 pub struct Line {
     /// Its first token.
     pub first: u32,

@@ -4,7 +4,7 @@ ghost use Rattle.std.specs.Prelude.{◌≡◌};
 ghost use Rattle.unwrapped_lines.specs.Forms.{is_code, is_enumerators, is_switch_head, is_if_head, is_do_head, is_tagged};
 
 /// What a list holds.
-#[derive(Clone, Copy, Debug, PartialEq, Eq)]
+#[derive(Clone, Copy, PartialEq, Eq)]
 pub enum Context {
     /// Declarations of a file or an extern block.
     File,
@@ -33,7 +33,7 @@ impl Context {
 }
 
 /// What a body or a block belongs to, as far as what follows it depends on that.
-#[derive(Clone, Copy, Debug, PartialEq, Eq)]
+#[derive(Clone, Copy, PartialEq, Eq)]
 pub enum Head {
     /// `if` or `else if`: an `else` may follow.
     If,
@@ -78,7 +78,7 @@ impl Head {
 }
 
 /// An open list: a block, or a header that waits for its one statement.
-#[derive(Clone, Copy, Debug, Drop)]
+#[derive(Clone, Copy, Drop)]
 pub struct Open {
     /// It is a block.
     pub block: bool,
@@ -99,7 +99,7 @@ pub struct Open {
 }
 
 /// What begins at a place.
-#[derive(Clone, Copy, Debug, Drop)]
+#[derive(Clone, Copy, Drop)]
 pub enum Start {
     /// A statement.
     Fresh,

@@ -16,7 +16,7 @@ pub enum Part {
 }
 
 /// The inner comments directly before a place: none, or they begin a line, or they belong to the line before.
-#[derive(Clone, Copy, Debug, PartialEq, Eq)]
+#[derive(Clone, Copy, PartialEq, Eq)]
 pub enum Run {
     /// There is none.
     Apart,
@@ -27,7 +27,7 @@ pub enum Run {
 }
 
 /// How many tokens were passed and lines begun.
-#[derive(Clone, Copy, Debug, Drop)]
+#[derive(Clone, Copy, Drop)]
 pub struct Marks {
     /// The tokens that were passed.
     pub seen: usize,
@@ -38,7 +38,7 @@ pub struct Marks {
 }
 
 /// The first place of a line.
-#[derive(Clone, Copy, Debug, Drop)]
+#[derive(Clone, Copy, Drop)]
 pub struct Begin {
     /// The place.
     pub first: u32,

@@ -4,7 +4,7 @@ use brackets::Partner;
 use token_classes::TokenClass;
 
 /// A token that is no comment.
-#[derive(Clone, Copy, Debug, Drop)]
+#[derive(Clone, Copy, Drop)]
 pub struct CodeToken {
     /// What it is spelled.
     pub class: TokenClass,

@@ -21,7 +21,7 @@ use line_tokens::{LineKind, NoMemory};
 const TOKENS_IN_A_LINE: usize = 4;
 
 /// What begins at a place.
-#[derive(Clone, Copy, Debug, Drop)]
+#[derive(Clone, Copy, Drop)]
 pub struct Place {
     pub start: Start,
     pub at: usize,
