@@ -1,5 +1,6 @@
 //! What C11 says of define directives, conditionals and line numbers.
 
+use crate::comparing::same;
 use pp_directives::{World, define_of, jump_of};
 use pp_events::{ItemKind, Macro, PpToken, Tok};
 use std::alloc::{AllocError, Global};
@@ -38,49 +39,51 @@ fn tokens(alloc: Global, text: &str) -> Result<VecDeque<Tok>, AllocError> {
 }
 
 /// Whether the macro is function-like, the operand, and how many parts the body has where 6.10.3 allows it.
+const DEFINITIONS: &[(&str, bool, &str, Option<usize>)] = &[
+    ("no name", false, "", None),
+    ("a number as the name", false, "1", None),
+    ("defined as the name", false, "defined 1", None),
+    ("__LINE__ as the name", false, "__LINE__", None),
+    ("the same parameter twice", true, "f ( x , x )", None),
+    (
+        "__VA_ARGS__ as a parameter",
+        true,
+        "f ( __VA_ARGS__ )",
+        None,
+    ),
+    ("nothing behind a comma", true, "f ( x , )", None),
+    ("a parameter behind ...", true, "f ( ... , x )", None),
+    ("a list without an end", true, "f ( x", None),
+    ("# before no parameter", true, "f ( x ) # y", None),
+    ("# at the end", true, "f ( x ) #", None),
+    ("## at the front", false, "f ## x", None),
+    ("## at the end", false, "f x ##", None),
+    ("an empty body", false, "EMPTY", Some(0)),
+    (
+        "# in an object-like macro",
+        false,
+        "hash_hash # ## #",
+        Some(2),
+    ),
+    ("# before a parameter", true, "str ( s ) # s", Some(1)),
+    (
+        "a variadic macro",
+        true,
+        "showlist ( ... ) puts ( # __VA_ARGS__ )",
+        Some(4),
+    ),
+];
+
 #[test]
 fn refuses_what_the_constraints_of_6_10_3_refuse(rt: HostRuntime) -> Result<(), Fail> {
     let alloc = rt.alloc();
-    let cases = [
-        ("no name", false, "", None),
-        ("a number as the name", false, "1", None),
-        ("defined as the name", false, "defined 1", None),
-        ("__LINE__ as the name", false, "__LINE__", None),
-        ("the same parameter twice", true, "f ( x , x )", None),
-        (
-            "__VA_ARGS__ as a parameter",
-            true,
-            "f ( __VA_ARGS__ )",
-            None,
-        ),
-        ("nothing behind a comma", true, "f ( x , )", None),
-        ("a parameter behind ...", true, "f ( ... , x )", None),
-        ("a list without an end", true, "f ( x", None),
-        ("# before no parameter", true, "f ( x ) # y", None),
-        ("# at the end", true, "f ( x ) #", None),
-        ("## at the front", false, "f ## x", None),
-        ("## at the end", false, "f x ##", None),
-        ("an empty body", false, "EMPTY", Some(0)),
-        (
-            "# in an object-like macro",
-            false,
-            "hash_hash # ## #",
-            Some(2),
-        ),
-        ("# before a parameter", true, "str ( s ) # s", Some(1)),
-        (
-            "a variadic macro",
-            true,
-            "showlist ( ... ) puts ( # __VA_ARGS__ )",
-            Some(4),
-        ),
-    ];
-    for (name, function_like, operand, expected) in cases {
+    for case in DEFINITIONS {
+        let (name, function_like, operand, expected) = *case;
         let parts = match define_of(alloc, function_like, tokens(alloc, operand)?)? {
             None => None,
             Some(m) => Some(m.body.len()),
         };
-        assert_eq!(rt; parts, expected, "{name}");
+        same(&rt, name, parts, expected);
     }
     Ok(())
 }
@@ -122,63 +125,87 @@ fn take(alloc: Global, world: &mut World, step: Step) -> Result<(), AllocError> 
     }
 }
 
-/// The directives, whether the group behind them is taken, and how many of them 6.10p1 doesn't allow.
+/// Directives, whether the group behind them is taken, and how many of them 6.10p1 doesn't allow.
+const GROUPS: &[(&str, &[Step], bool, usize)] = &[
+    ("a group that holds", &[Step::If(true)], true, 0),
+    ("a group that doesn't", &[Step::If(false)], false, 0),
+    (
+        "the next that holds",
+        &[Step::If(false), Step::Elif(true)],
+        true,
+        0,
+    ),
+    (
+        "only the first that holds",
+        &[Step::If(true), Step::Elif(true)],
+        false,
+        0,
+    ),
+    (
+        "the last, where none holds",
+        &[Step::If(false), Step::Else],
+        true,
+        0,
+    ),
+    (
+        "not the last, where one holds",
+        &[Step::If(true), Step::Else],
+        false,
+        0,
+    ),
+    (
+        "nothing in a skipped group",
+        &[Step::If(false), Step::If(true), Step::Else],
+        false,
+        0,
+    ),
+    (
+        "what is behind the conditional",
+        &[Step::If(false), Step::Endif],
+        true,
+        0,
+    ),
+    (
+        "no second #else",
+        &[Step::If(false), Step::Else, Step::Else],
+        true,
+        1,
+    ),
+];
+
 #[test]
 fn takes_the_first_group_that_holds(rt: HostRuntime) -> Result<(), Fail> {
-    use Step::{Elif, Else, Endif, If};
     let alloc = rt.alloc();
-    let cases: [(&str, &[Step], bool, usize); 9] = [
-        ("a group that holds", &[If(true)], true, 0),
-        ("a group that doesn't", &[If(false)], false, 0),
-        ("the next that holds", &[If(false), Elif(true)], true, 0),
-        (
-            "only the first that holds",
-            &[If(true), Elif(true)],
-            false,
-            0,
-        ),
-        ("the last, where none holds", &[If(false), Else], true, 0),
-        ("not the last, where one holds", &[If(true), Else], false, 0),
-        (
-            "nothing in a skipped group",
-            &[If(false), If(true), Else],
-            false,
-            0,
-        ),
-        (
-            "what is behind the conditional",
-            &[If(false), Endif],
-            true,
-            0,
-        ),
-        ("no second #else", &[If(false), Else, Else], true, 1),
-    ];
-    for (name, steps, active, malformed) in cases {
+    for case in GROUPS {
+        let (name, steps, active, malformed) = *case;
         let mut world = World::starting(alloc, table_with_y(alloc)?, 0);
         for step in steps {
             take(alloc, &mut world, *step)?;
         }
-        assert_eq!(rt; world.conds.is_active(), active, "{name}");
-        assert_eq!(rt; world.events.len(), malformed, "{name}");
+        same(&rt, name, world.conds.is_active(), active);
+        same(&rt, name, world.events.len(), malformed);
     }
     Ok(())
 }
 
+/// The operand of a line directive, and its number.
+const NUMBERS: &[(&str, &str, Option<u32>)] = &[
+    ("digits", "100", Some(100)),
+    ("a 0 first", "010", Some(10)),
+    (
+        "more than any number has",
+        "99999999999999999999999999999999",
+        None,
+    ),
+    ("a suffix", "12u", None),
+];
+
 #[test]
 fn reads_numbers_of_lines(rt: HostRuntime) -> Result<(), Fail> {
-    let cases = [
-        ("digits", "100", Some(100)),
-        ("a 0 first", "010", Some(10)),
-        (
-            "more than any number has",
-            "99999999999999999999999999999999",
-            None,
-        ),
-        ("a suffix", "12u", None),
-    ];
-    for (name, text, number) in cases {
+    for case in NUMBERS {
+        let (name, text, number) = *case;
         let operand = [token(rt.alloc(), text.as_bytes())?];
-        assert_eq!(rt; jump_of(&operand), number, "{name}");
+        same(&rt, name, jump_of(&operand), number);
     }
     Ok(())
 }

@@ -2,6 +2,7 @@
 
 ghost use Rattle.std.specs.Prelude.{None};
 
+use crate::comparing::same;
 use pp_events::{ItemKind, Macro, Part, PpToken, Spellings, Tok, What, expand};
 use std::alloc::{AllocError, Global};
 use std::collections::VecDeque;
@@ -67,7 +68,7 @@ fn replaces_a_name_once(rt: HostRuntime) -> Result<(), Fail> {
             Some((tokens, left)) => Some((tokens.len(), left)),
             None => None,
         };
-        assert_eq!(rt; told, expected, "{name}");
+        same(&rt, name, told, expected);
     }
     Ok(())
 }

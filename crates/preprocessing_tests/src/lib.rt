@@ -3,6 +3,7 @@
 //! They stand above the libraries, so that a library is proved once. Each layer is proved equal to the model of
 //! preprocessing; a case has what the C standard says of an example, by which the model is tested too.
 //!
+//! - `comparing`: what is found beside what is wanted.
 //! - `expansion`: names that are replaced, and the turns that it takes (`pp_events`).
 //! - `stream`: the sections of texts, in both editions (`pp_stream`).
 //! - `kinds`: the kinds of spellings (`pp_kinds`).
@@ -11,6 +12,8 @@
 //!   the same events of formatted texts (`pp_text`).
 #![tactic(auto)]
 
+#[cfg(test)]
+mod comparing;
 #[cfg(test)]
 mod directive_acts;
 #[cfg(test)]
