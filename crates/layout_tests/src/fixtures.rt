@@ -1,4 +1,4 @@
-//! Named styles, tokens by their roles, views of texts, and what the lower layers tell of a view.
+//! Named styles, views of texts, and what the lower layers tell of a view.
 
 ghost use Rattle.std.specs.Prelude.{◌≡◌, ◌<◌, length, IfOk};
 ghost use Rattle.annotator.specs.Tokens.{TellItems};
@@ -9,7 +9,7 @@ ghost use Rattle.line_tokens.specs.Lines.{CutPlaces};
 use annotator::roles_of_classes;
 use brackets::partners_of_classes;
 use bumpalo::Bump;
-use line_tokens::{GapFacts, ItemKind, LineTok, NoMemory, Role, TokenId, ULine};
+use line_tokens::{LineTok, NoMemory, ULine};
 use std::test::Fail;
 use style_table::Style;
 use token_arena::TokenArena;
@@ -23,31 +23,6 @@ pub fn style(name: &str) -> Result<Style, Fail>
 {
     let style = Style::named(name).ok_or("a style")?;
     Ok(style)
-}
-
-/// A token of this role, depth and width, behind a blank. An operator binds as `||` does.
-pub fn token(role: Role, depth: u32, width: u32) -> LineTok {
-    LineTok {
-        id: TokenId(0),
-        role,
-        power: 4,
-        depth,
-        trailing_list: false,
-        held: false,
-        touch: true,
-        directive: false,
-        gap: GapFacts {
-            lines: 0,
-            empty: false,
-            white: true,
-            splice: false,
-            began: false,
-        },
-        kind: ItemKind::Identifier,
-        rows: 1,
-        first_width: width,
-        last_width: width,
-    }
 }
 
 /// The view of a text's items from one on.
