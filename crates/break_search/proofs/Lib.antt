@@ -19,6 +19,9 @@ mod TurnFacts
 mod Beginning
 mod Answering
 mod Thrifty
+mod Narrow
+mod Passing
 pub mod Walking
 pub mod LeastBreaks
 mod Ruling
+mod Reaches

@@ -40,7 +40,7 @@ module _ (line : Line) (breaks : List Bool) (starts : List ℕ) (state : State) 
   follow start next new at go is_new =
       let s : Layout = layout_of state in
       let p = placing line s brk leads_here.0 leads_here.1 leads_here.3 in
-      let same : leads_here.0 ≡ layout_of next = (functional line s (gaps line) s brk leads_here.0 (layout_of next) leads_here.1 go.0 leads_here.3 go.1).0 in
+      let same : leads_here.0 ≡ layout_of next = (functional line s brk leads_here.0 (layout_of next) leads_here.1 go.0 leads_here.3 go.1).0 in
       let after : layout_after line.style s p.gap brk ≡ layout_of next = p.layout ∙ same in
       let later : List Bool = drop (placed + 1) breaks in
       let split : starts_of line s (drop placed breaks) ≡ start ∷ starts_of line (layout_of next) later =

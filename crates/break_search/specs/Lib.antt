@@ -8,3 +8,5 @@ pub mod Jumps
 pub mod Progress
 pub mod Thrift
 pub mod Rules
+pub mod Saturation
+pub mod Passing

@@ -1,16 +1,20 @@
 //! A line that is searched.
 
-ghost use Rattle.std.specs.Prelude.{◌≡◌, ◌-◌, ◌*◌, ◌<◌, ◌≤◌, Some, length, slice_get, IfOk, IfSome, OnOk};
+ghost use Rattle.std.specs.Prelude.{◌≡◌, ◌+◌, ◌-◌, ◌*◌, ◌<◌, ◌≤◌, Some, length, slice_get, IfOk, IfSome, OnOk};
 ghost use Rattle.std.specs.Bool.{OnTrue, OnFalse};
 ghost use Rattle.style_table.specs.Range.{IsInRange};
 ghost use Rattle.line_tokens.specs.declared.LineTok.{LineTok};
+ghost use Rattle.line_tokens.specs.Columns.{stored_or};
 ghost use Rattle.line_state.specs.Layout.{AreRules, layout_of};
 ghost use Rattle.line_state.specs.Store.{layout_in, state_in, IsIn, IsGrown};
 ghost use Rattle.line_state.specs.Line.{gaps, first_layout, first_cost, decision_at, joined};
 ghost use Rattle.break_search.specs.Outcome.{IsSearchable, line_of};
 ghost use Rattle.break_search.specs.Rules.{HaveRules};
+ghost use Rattle.line_state.specs.declared.gap.Gap.{Gap};
+ghost use Rattle.break_search.specs.Saturation.{IsSaturation, gap_into, reach};
 ghost use Rattle.break_search.specs.Vertices.{IsNextState, IsSuccessor, LeadsOn, LeadsNowhere, states_in};
 
+use crate::outcome::Saturation;
 use bumpalo::Bump;
 use bumpalo::collections::into_bump_slice;
 use line_state::{
@@ -47,6 +51,28 @@ fn rules_at(rules: &[GapRules], at: usize) -> &GapRules
     ensures { slice_get rules.now at ≡ Some result.now }
 {
     &rules[at]
+}
+
+/// As far as a gap and the token behind it can move a column.
+fn reach_of(indent: u32, token: &LineTok, decision: Option<Fixed>, rules: &GapRules) -> u64
+    ensures { result ≡ rules.now.spaces + stored_or decision 0 + token.now.first_width + token.now.last_width + indent }
+{
+    let decided = match decision {
+        Some(fixed) => fixed.column,
+        None => 0,
+    };
+    let moved = u64::from(rules.spaces) + u64::from(decided);
+    let wide = u64::from(token.first_width) + u64::from(token.last_width);
+    moved + wide + u64::from(indent)
+}
+
+/// Whether no column comes to the largest number, where each of the line's tokens moves one by no more than the width.
+fn has_room(column: u32, count: usize, width: u64) -> bool
+    requires { count < 4294967296 }
+    ensures { OnTrue result (column + (count + 1) * width ≤ 4294967295) }
+{
+    let room = u64::from(u32::MAX - column);
+    width <= room / (count as u64 + 1)
 }
 
 /// What the tables say of each gap inside a line.
@@ -185,6 +211,48 @@ impl<'a> SearchedLine<'a> {
             }
         }
         true
+    }
+
+    /// What the tables say of the gap before a token. The first one stands on both sides of its gap.
+    fn rules_into(&self, at: usize) -> GapRules
+        requires line { IsSearchable self.now }
+        requires at { at < length self.now.tokens }
+        ensures { (left right : LineTok) → slice_get self.now.tokens (at - 1) ≡ Some left → slice_get self.now.tokens at ≡ Some right → AreRules self.now.style left right result }
+    {
+        if at == 0 {
+            let token = self.token(0);
+            return gap_rules(self.style, token, token);
+        }
+        *self.rules_before(at)
+    }
+
+    /// As far as the gap before a token and the token can move a column.
+    fn reach(&self, at: usize) -> u64
+        requires line { IsSearchable self.now }
+        requires at { at < length self.now.tokens }
+        ensures { (gap : Gap) → gap_into self.now at ≡ Some gap → reach self.now.style gap ≤ result }
+    {
+        let rules = self.rules_into(at);
+        let decision = self.decision(at);
+        let indent = self.style.continuation_indent_width;
+        reach_of(indent, self.token(at), decision, &rules)
+    }
+
+    /// Whether the columns of the line's layouts can come to the largest number.
+    pub fn saturation(&self) -> Saturation
+        requires { IsSearchable self.now }
+        ensures { IsSaturation self.now result }
+    {
+        let count = self.tokens.len();
+        let mut width = 0;
+        'tokens: for at in 0..count {
+            width = self.reach(at).max(width);
+        }
+        if has_room(self.column, count, width) {
+            Saturation::Never
+        } else {
+            Saturation::Possible
+        }
     }
 
     /// The state of the first token, with its frames in a store.

@@ -1,4 +1,5 @@
 pub mod Ways
+pub mod Dominance
 pub mod Cover
 pub mod Table
 pub mod Updates

@@ -1,9 +1,11 @@
 -- The steps of the search keep its table, and its end is the least list of choices.
 use Rattle.std.proofs.Common.{◌≡◌, ◌≢◌, ℕ, ◌+◌, ◌*◌, ◌≤◌, ◌<◌, ◌⊎◌, inl, inr, Bool, true, false, Option, Some, List, [], ◌∷◌, length, refl, arith, ap, sym, ◌∙◌, subst, suc, zero, slice_get}
+use Rattle.std.proofs.lemmas.Bool.{cases_eq}
 use Rattle.std.proofs.lemmas.List.{append-nil}
 use Rattle.least_breaking.specs.Choices.{Leads, IsLeast}
-use Rattle.least_breaking.proofs.Ways.{bit, rank, Reached, AtMost, AtMost-refl, onto, length-onto, Reached-onto, Leads-onto, IsNotAfter-rank, onto-onto}
-use Rattle.least_breaking.proofs.Cover.{OnTheWay, covered}
+use Rattle.least_breaking.proofs.Ways.{bit, rank, Reached, AtMost, AtMost-refl, AtMost-trans, AtMost-step, onto, length-onto, Reached-onto, Leads-onto, IsNotAfter-rank, onto-onto}
+use Rattle.least_breaking.proofs.Dominance.{Dominates, dominates_itself, dominates_over, IsFunctional, StepsOver, steps_over}
+use Rattle.least_breaking.proofs.Cover.{Knows, OnTheWay, covered}
 use Rattle.least_breaking.proofs.Table.{Vertex, path, path_by, Puts, HasParent, HaveParents, IsOpen, path-Puts, path-put, Known, Has, IsSound, IsTable, Nothing, IsNext, IsLayered, best_of_next, expanded}
 use Rattle.least_breaking.proofs.Updates.{Fits, put_in}
 
@@ -47,9 +49,9 @@ abbrev pub vertex_of : {S : Type 0} → ℕ → Vertex S → Bool → S → ℕ 
 vertex_of v vertex b t k = record { state = t; cost = vertex.cost + k; depth = suc vertex.depth; parent = v; brk = b; settled = false }
 
 module _ {S : Type 0} (step : S → Bool → S → ℕ → Type 0) (root : S) (n : ℕ) where
-  pub settle : IsLayered step root n → (vertices new_vertices : List (Vertex S)) (v : ℕ) (vertex : Vertex S) → IsTable step root n vertices Nothing → slice_get vertices v ≡ Some vertex → vertex.settled ≡ false →
+  pub settle : IsFunctional step → IsLayered step root n → (vertices new_vertices : List (Vertex S)) (v : ℕ) (vertex : Vertex S) → IsTable step root n vertices Nothing → slice_get vertices v ≡ Some vertex → vertex.settled ≡ false →
       IsNext step root n vertices vertex → Puts vertices new_vertices v (settled_vertex vertex) → IsTable step root n new_vertices (AllOf v)
-  settle layered vertices new_vertices v vertex t at free first p =
+  settle functional layered vertices new_vertices v vertex t at free first p =
       put_in step root n vertices new_vertices v (settled_vertex vertex) Nothing t fits (AllOf v) (λ u b ne out x here flag deep. inl (λ z. z)) (λ flag deep b out s k go. absurd (out refl))
     where
       is_open : IsOpen vertices v
@@ -69,7 +71,7 @@ module _ {S : Type 0} (step : S → Bool → S → ℕ → Type 0) (root : S) (n
         });
         parent = (λ deep. let h = t.parents v vertex at deep in record { up = h.up; at = h.at; settled = h.settled; depth = h.depth });
         apart = λ u other ne there same. ne (t.apart u v other vertex there at same);
-        best = λ flag r c short h. subst (λ (q : List Bool). AtMost vertex.cost (rank q) c (rank r)) (sym same_path) (best_of_next step root n layered vertices t v vertex at free first r c short h);
+        best = λ flag r c short h. best_of_next step root n functional layered vertices t v vertex at free first r c short h;
         keeps = λ old there. (let e : Some old ≡ Some vertex = sym there ∙ at in let same : old ≡ vertex = cc in (
           ap (λ (x : Vertex S). x.state) same,
           ap (λ (x : Vertex S). x.depth) same,
@@ -91,11 +93,46 @@ module _ {S : Type 0} (step : S → Bool → S → ℕ → Type 0) (root : S) (n
     next = λ v vertex at flag deep b out s k go. elim (less v b out vertex at flag deep) [ inl free ↦ t.next v vertex at flag deep b free s k go | inr found ↦ found s k go ];
   }
 
-  abbrev pub IsFunctional : Type 0
-  IsFunctional = (s : S) (b : Bool) (t u : S) (k l : ℕ) → step s b t k → step s b u l → (t ≡ u) × (k ≡ l)
+  -- a settled vertex that is dominated by another that is no worse, and has been followed, needs not be
+  pub drop : IsFunctional step → (vertices : List (Vertex S)) (v w : ℕ) (vertex other : Vertex S) → IsTable step root n vertices (AllOf v) → slice_get vertices v ≡ Some vertex → slice_get vertices w ≡ Some other → w ≢ v →
+      other.settled ≡ true → other.depth ≡ vertex.depth → Dominates step other.state vertex.state → AtMost other.cost (rank (path vertices other.depth w)) vertex.cost (rank (path vertices vertex.depth v)) → IsTable step root n vertices Nothing
+  drop functional vertices v w vertex other t at there ne flag level over good = fewer vertices (AllOf v) Nothing t less
+    where
+      moved : (settled : Bool) (z s : S) (k l : ℕ) (b : Bool) → l ≤ k → Dominates step z s → Knows step root n (Known step root n vertices) settled z (other.cost + l) (b ∷ path vertices other.depth w) →
+          Knows step root n (Known step root n vertices) settled s (vertex.cost + k) (b ∷ path vertices vertex.depth v)
+      moved settled z s k l b cheap up h = record {
+        layout = h.layout;
+        over = dominates_over step h.layout z s h.over up;
+        cost = h.cost;
+        choices = h.choices;
+        known = h.known;
+        deep = omega (arith, h.deep, (t.sound v vertex at).deep, (t.sound w other there).deep, level);
+        good = AtMost-trans h.cost (rank h.choices) (other.cost + l) (rank (b ∷ path vertices other.depth w)) (vertex.cost + k) (rank (b ∷ path vertices vertex.depth v)) h.good
+            (AtMost-step other.cost (rank (path vertices other.depth w)) vertex.cost (rank (path vertices vertex.depth v)) k l (bit b) good cheap);
+      }
+
+      found : vertex.depth < n → (b : Bool) (s : S) (k : ℕ) → step vertex.state b s k → Has step root n vertices s (vertex.cost + k) (b ∷ path vertices vertex.depth v)
+      found deep b s k go =
+          let o : StepsOver step other.state b s k = steps_over step functional other.state vertex.state s b k over go in
+          elim (t.next w other there flag (omega (arith, level, deep)) b ne o.other o.cost o.go) [
+            | inl h ↦ inl (moved false o.other s k o.cost b o.cheap o.over h)
+            | inr h ↦ inr (moved true o.other s k o.cost b o.cheap o.over h)
+          ]
+
+      less : (u : ℕ) (b : Bool) → (Nothing u b → ⊥) → (x : Vertex S) → slice_get vertices u ≡ Some x → x.settled ≡ true → x.depth < n →
+          (AllOf v u b → ⊥) ⊎ ((s : S) (k : ℕ) → step x.state b s k → Has step root n vertices s (x.cost + k) (b ∷ path vertices x.depth u))
+      less u b out x here settled deep = elim (cases_eq u v) [
+        | inr apart ↦ inl apart
+        | inl e ↦ inr (λ s k go.
+            let same_at : Some x ≡ Some vertex = sym here ∙ ap (λ (y : ℕ). slice_get vertices y) e ∙ at in
+            let same : x ≡ vertex = cc in
+            subst (λ (y : ℕ). Has step root n vertices s (x.cost + k) (b ∷ path vertices x.depth y)) (sym e)
+            (subst (λ (y : Vertex S). Has step root n vertices s (y.cost + k) (b ∷ path vertices y.depth v)) (sym same)
+            (found (subst (λ (y : Vertex S). y.depth < n) same deep) b s k (subst (λ (y : Vertex S). step y.state b s k) same go))))
+      ]
 
   -- a step from a settled vertex is put where it is new, or better than an open vertex of its layout
-  pub relax : IsFunctional → (vertices new_vertices : List (Vertex S)) (v w : ℕ) (vertex : Vertex S) (b : Bool) (t : S) (k : ℕ) (Left Left' : ℕ → Bool → Type 0) → IsTable step root n vertices Left →
+  pub relax : IsFunctional step → (vertices new_vertices : List (Vertex S)) (v w : ℕ) (vertex : Vertex S) (b : Bool) (t : S) (k : ℕ) (Left Left' : ℕ → Bool → Type 0) → IsTable step root n vertices Left →
       slice_get vertices v ≡ Some vertex → vertex.settled ≡ true → vertex.depth < n → step vertex.state b t k → Puts vertices new_vertices w (vertex_of v vertex b t k) →
       ((u : ℕ) (other : Vertex S) → slice_get vertices u ≡ Some other → other.state ≡ t → u ≡ w) →
       ((old : Vertex S) → slice_get vertices w ≡ Some old → (old.settled ≡ false) × (old.state ≡ t) × (old.depth ≡ suc vertex.depth) ×
@@ -135,6 +172,8 @@ module _ {S : Type 0} (step : S → Bool → S → ℕ → Type 0) (root : S) (n
 
       found : Has step root n new_vertices t (vertex.cost + k) (b ∷ path vertices vertex.depth v)
       found = inl (record {
+        layout = t;
+        over = dominates_itself step t;
         cost = vertex.cost + k;
         choices = b ∷ path vertices vertex.depth v;
         known = record { id = w; vertex = vertex_of v vertex b t k; at = p.here; flag = refl; state = refl; cost = refl; path = new_path };
@@ -159,11 +198,11 @@ module _ {S : Type 0} (step : S → Bool → S → ℕ → Type 0) (root : S) (n
       ]
 
   -- the end: the best settled vertex at the depth n, with nothing open that costs as little
-  pub found_least : (vertices : List (Vertex S)) (v : ℕ) (vertex : Vertex S) → IsTable step root n vertices Nothing → slice_get vertices v ≡ Some vertex → vertex.depth ≡ n →
+  pub found_least : IsFunctional step → (vertices : List (Vertex S)) (v : ℕ) (vertex : Vertex S) → IsTable step root n vertices Nothing → slice_get vertices v ≡ Some vertex → vertex.depth ≡ n →
       ((u : ℕ) (x : Vertex S) → slice_get vertices u ≡ Some x → x.settled ≡ true → x.depth ≡ n → AtMost vertex.cost (rank (path vertices vertex.depth v)) x.cost (rank (path vertices x.depth u))) →
       ((u : ℕ) (x : Vertex S) → slice_get vertices u ≡ Some x → x.settled ≡ false → vertex.cost < x.cost) →
       IsLeast step root n (onto (path vertices vertex.depth v) []) vertex.cost
-  found_least vertices v vertex t at deep best dear = record {
+  found_least functional vertices v vertex t at deep best dear = record {
     reaches = (vertex.state, subst (λ (c : ℕ). Leads step root (onto (path vertices vertex.depth v) []) vertex.state c) (omega arith) (Leads-onto step root vertex.state vertex.state vertex.cost 0 (path vertices vertex.depth v) [] sound.reaches (refl, refl)));
     count = omega (arith, length-onto (path vertices vertex.depth v) [], sound.deep, deep);
     least = λ other s c len h. (any_other other s c len h).cost;
@@ -182,7 +221,7 @@ module _ {S : Type 0} (step : S → Bool → S → ℕ → Type 0) (root : S) (n
       any_other other s c len h =
           let there : Reached step root (onto other []) s c = from_left step root s c other h in
           let size : length (onto other []) ≡ n = omega (arith, length-onto other [], len) in
-          elim (covered step root n (Known step root n vertices) (expanded step root n vertices t) s c (onto other []) (omega arith) there) [
+          elim (covered step root n (Known step root n vertices) functional (expanded step root n vertices t) s c (onto other []) (omega arith) there) [
             | inl k ↦
                 let whole : k.known.vertex.depth ≡ n = omega (arith, k.deep, size, ap length k.known.path, (t.sound k.known.id k.known.vertex k.known.at).deep) in
                 let b = best k.known.id k.known.vertex k.known.at k.known.flag whole in
@@ -203,13 +242,13 @@ module _ {S : Type 0} (step : S → Bool → S → ℕ → Type 0) (root : S) (n
               record { cost = omega (arith, more, o.cost, w.cheap); tie = λ e. absurd (omega (arith, more, o.cost, w.cheap, e)) }
 
   -- the next vertex costs no more than any whole list of choices
-  pub next_within : (vertices : List (Vertex S)) (vertex : Vertex S) → IsTable step root n vertices Nothing → IsNext step root n vertices vertex →
+  pub next_within : IsFunctional step → (vertices : List (Vertex S)) (vertex : Vertex S) → IsTable step root n vertices Nothing → IsNext step root n vertices vertex →
       ((u : ℕ) (x : Vertex S) → slice_get vertices u ≡ Some x → x.settled ≡ true → x.depth ≡ n → vertex.cost ≤ x.cost) →
       (whole : List Bool) (s : S) (c : ℕ) → length whole ≡ n → Leads step root whole s c → vertex.cost ≤ c
-  next_within vertices vertex t first ends whole s c len h =
+  next_within functional vertices vertex t first ends whole s c len h =
       let there : Reached step root (onto whole []) s c = from_left step root s c whole h in
       let size : length (onto whole []) ≡ n = omega (arith, length-onto whole [], len) in
-      elim (covered step root n (Known step root n vertices) (expanded step root n vertices t) s c (onto whole []) (omega arith) there) [
+      elim (covered step root n (Known step root n vertices) functional (expanded step root n vertices t) s c (onto whole []) (omega arith) there) [
         | inl k ↦
             let deep : k.known.vertex.depth ≡ n = omega (arith, k.deep, size, ap length k.known.path, (t.sound k.known.id k.known.vertex k.known.at).deep) in
             omega (arith, ends k.known.id k.known.vertex k.known.at k.known.flag deep, k.known.cost, k.good.cost)
@@ -217,12 +256,12 @@ module _ {S : Type 0} (step : S → Bool → S → ℕ → Type 0) (root : S) (n
       ]
 
   -- where nothing is open and no whole list was settled, there is none
-  pub none_open : (vertices : List (Vertex S)) → IsTable step root n vertices Nothing → ((u : ℕ) (x : Vertex S) → slice_get vertices u ≡ Some x → (x.settled ≡ true) × (x.depth ≡ n → ⊥)) →
+  pub none_open : IsFunctional step → (vertices : List (Vertex S)) → IsTable step root n vertices Nothing → ((u : ℕ) (x : Vertex S) → slice_get vertices u ≡ Some x → (x.settled ≡ true) × (x.depth ≡ n → ⊥)) →
       (whole : List Bool) (s : S) (c : ℕ) → length whole ≡ n → Leads step root whole s c → ⊥
-  none_open vertices t all whole s c len h =
+  none_open functional vertices t all whole s c len h =
       let there : Reached step root (onto whole []) s c = from_left step root s c whole h in
       let size : length (onto whole []) ≡ n = omega (arith, length-onto whole [], len) in
-      elim (covered step root n (Known step root n vertices) (expanded step root n vertices t) s c (onto whole []) (omega arith) there) [
+      elim (covered step root n (Known step root n vertices) functional (expanded step root n vertices t) s c (onto whole []) (omega arith) there) [
         | inl k ↦
             let deep : k.known.vertex.depth ≡ n = omega (arith, k.deep, size, ap length k.known.path, (t.sound k.known.id k.known.vertex k.known.at).deep) in
             (all k.known.id k.known.vertex k.known.at).1 deep

@@ -1,7 +1,9 @@
 -- The table of a search by uniform cost: a vertex for each layout that was met, with its least known cost and the vertex before it.
 use Rattle.std.proofs.Common.{◌≡◌, ◌≢◌, ℕ, ◌+◌, ◌≤◌, ◌<◌, ◌⊎◌, inl, inr, Bool, true, false, Option, Some, None, List, [], ◌∷◌, length, refl, arith, ap, sym, ◌∙◌, subst, suc, zero, slice_get}
-use Rattle.least_breaking.proofs.Ways.{rank, Reached, AtMost}
-use Rattle.least_breaking.proofs.Cover.{Knows, IsExpanded, covered}
+use Rattle.std.proofs.lemmas.Bool.{cases_eq}
+use Rattle.least_breaking.proofs.Ways.{rank, Reached}
+use Rattle.least_breaking.proofs.Dominance.{Dominates, dominates_itself, IsFunctional}
+use Rattle.least_breaking.proofs.Cover.{Knows, OnTheWay, IsExpanded, covered}
 
 pub record Vertex (S : Type 0) : Type 0 where
   pub state : S
@@ -78,6 +80,7 @@ module _ {S : Type 0} (step : S → Bool → S → ℕ → Type 0) (root : S) (n
     pub cost : vertex.cost ≡ c
     pub path : path vertices vertex.depth id ≡ r
 
+  -- some vertex dominates the layout, and is at least as good as the choices r at the cost c
   abbrev pub Has : List (Vertex S) → S → ℕ → List Bool → Type 0
   Has vertices s c r = Knows step root n (Known vertices) false s c r ⊎ Knows step root n (Known vertices) true s c r
 
@@ -92,8 +95,7 @@ module _ {S : Type 0} (step : S → Bool → S → ℕ → Type 0) (root : S) (n
     pub sound : (v : ℕ) (vertex : Vertex S) → slice_get vertices v ≡ Some vertex → IsSound vertices v vertex
     pub parents : HaveParents vertices
     pub apart : (v w : ℕ) (a b : Vertex S) → slice_get vertices v ≡ Some a → slice_get vertices w ≡ Some b → a.state ≡ b.state → v ≡ w
-    pub best : (v : ℕ) (vertex : Vertex S) → slice_get vertices v ≡ Some vertex → vertex.settled ≡ true → (r : List Bool) (c : ℕ) → length r ≤ n → Reached step root r vertex.state c →
-        AtMost vertex.cost (rank (path vertices vertex.depth v)) c (rank r)
+    pub best : (v : ℕ) (vertex : Vertex S) → slice_get vertices v ≡ Some vertex → vertex.settled ≡ true → (r : List Bool) (c : ℕ) → length r ≤ n → Reached step root r vertex.state c → Has vertices vertex.state c r
     pub next : (v : ℕ) (vertex : Vertex S) → slice_get vertices v ≡ Some vertex → vertex.settled ≡ true → vertex.depth < n → (b : Bool) → (Left v b → ⊥) → (t : S) (k : ℕ) → step vertex.state b t k →
         Has vertices t (vertex.cost + k) (b ∷ path vertices vertex.depth v)
 
@@ -115,33 +117,38 @@ module _ {S : Type 0} (step : S → Bool → S → ℕ → Type 0) (root : S) (n
   abbrev pub IsLayered : Type 0
   IsLayered = (r q : List Bool) (s : S) (c d : ℕ) → Reached step root r s c → Reached step root q s d → length r ≡ length q
 
-  -- the open vertex that comes first is the best of its layout
-  pub best_of_next : IsLayered → (vertices : List (Vertex S)) → IsTable vertices Nothing → (v : ℕ) (vertex : Vertex S) → slice_get vertices v ≡ Some vertex → vertex.settled ≡ false → IsNext vertices vertex →
-      (r : List Bool) (c : ℕ) → length r ≤ n → Reached step root r vertex.state c → AtMost vertex.cost (rank (path vertices vertex.depth v)) c (rank r)
-  best_of_next layered vertices t v vertex at free first r c short h =
-      elim (covered step root n (Known vertices) (expanded vertices t) vertex.state c r short h) [
-        | inl k ↦ absurd (clash k.known)
-        | inr w ↦ let o : Known vertices false w.at w.cost w.choices = w.known in record {
-          cost = omega (arith, first.cost o.id o.vertex o.at o.flag, o.cost, w.cheap);
-          tie = λ e.
-              let c1 : o.vertex.cost ≡ vertex.cost = omega (arith, first.cost o.id o.vertex o.at o.flag, o.cost, w.cheap, e) in
-              let d1 : vertex.depth ≤ o.vertex.depth = first.depth o.id o.vertex o.at o.flag c1 in
-              let len : length (path vertices vertex.depth v) ≡ length r = layered (path vertices vertex.depth v) r vertex.state vertex.cost c (t.sound v vertex at).reaches h in
-              let c2 : w.cost ≡ c = omega (arith, o.cost, c1, e) in
-              let l2 : length w.choices ≡ length r = omega (arith, w.depth, d1, len, (t.sound v vertex at).deep, (t.sound o.id o.vertex o.at).deep, ap length o.path) in
-              let both : (w.at ≡ vertex.state) × (rank w.choices ≤ rank r) = w.same c2 l2 in
-              let id : v ≡ o.id = t.apart v o.id vertex o.vertex at o.at (sym (o.state ∙ both.0)) in
-              let vertices_same : Some vertex ≡ Some o.vertex = sym at ∙ ap (λ (x : ℕ). slice_get vertices x) id ∙ o.at in
-              let vertex_same : vertex ≡ o.vertex = cc in
-              let paths : path vertices vertex.depth v ≡ w.choices = subst (λ (x : Vertex S). path vertices x.depth v ≡ w.choices) (sym vertex_same) (subst (λ (x : ℕ). path vertices o.vertex.depth x ≡ w.choices) (sym id) o.path) in
-              omega (arith, ap rank paths, both.1);
-        }
+  -- no choices to the layout of the open vertex that comes first are better than what is known
+  pub best_of_next : IsFunctional step → IsLayered → (vertices : List (Vertex S)) → IsTable vertices Nothing → (v : ℕ) (vertex : Vertex S) → slice_get vertices v ≡ Some vertex → vertex.settled ≡ false → IsNext vertices vertex →
+      (r : List Bool) (c : ℕ) → length r ≤ n → Reached step root r vertex.state c → Has vertices vertex.state c r
+  best_of_next functional layered vertices t v vertex at free first r c short h =
+      elim (covered step root n (Known vertices) functional (expanded vertices t) vertex.state c r short h) [
+        | inl k ↦ inr k
+        | inr w ↦ inl (elim (cases_eq vertex.cost c) [ inl e ↦ tied w e | inr ne ↦ cheaper w ne ])
       ]
     where
-      clash : {c' : ℕ} {r' : List Bool} → Known vertices true vertex.state c' r' → ⊥
-      clash k =
-          let id : k.id ≡ v = t.apart k.id v k.vertex vertex k.at at k.state in
-          let same : Some k.vertex ≡ Some vertex = sym k.at ∙ ap (λ (x : ℕ). slice_get vertices x) id ∙ at in
-          let flags : k.vertex.settled ≡ vertex.settled = ap (λ (x : Vertex S). x.settled) (let e : k.vertex ≡ vertex = cc in e) in
-          let yes : k.vertex.settled ≡ true = k.flag in
-          cc
+      len : length (path vertices vertex.depth v) ≡ length r
+      len = layered (path vertices vertex.depth v) r vertex.state vertex.cost c (t.sound v vertex at).reaches h
+
+      tied : OnTheWay step root n (Known vertices) vertex.state c r → vertex.cost ≡ c → Knows step root n (Known vertices) false vertex.state c r
+      tied w e =
+          let o : Known vertices false w.at w.cost w.choices = w.known in
+          let c1 : o.vertex.cost ≡ vertex.cost = omega (arith, first.cost o.id o.vertex o.at o.flag, o.cost, w.cheap, e) in
+          let d1 : vertex.depth ≤ o.vertex.depth = first.depth o.id o.vertex o.at o.flag c1 in
+          let c2 : w.cost ≡ c = omega (arith, o.cost, c1, e) in
+          let l2 : length w.choices ≡ length r = omega (arith, w.depth, d1, len, (t.sound v vertex at).deep, (t.sound o.id o.vertex o.at).deep, ap length o.path) in
+          let both : Dominates step w.at vertex.state × (rank w.choices ≤ rank r) = w.same c2 l2 in
+          record { layout = w.at; over = both.0; cost = w.cost; choices = w.choices; known = o; deep = l2; good = record { cost = w.cheap; tie = λ _. both.1 } }
+
+      cheaper : OnTheWay step root n (Known vertices) vertex.state c r → vertex.cost ≢ c → Knows step root n (Known vertices) false vertex.state c r
+      cheaper w ne =
+          let o : Known vertices false w.at w.cost w.choices = w.known in
+          let le : vertex.cost ≤ c = omega (arith, first.cost o.id o.vertex o.at o.flag, o.cost, w.cheap) in
+          record {
+            layout = vertex.state;
+            over = dominates_itself step vertex.state;
+            cost = vertex.cost;
+            choices = path vertices vertex.depth v;
+            known = record { id = v; vertex = vertex; at = at; flag = free; state = refl; cost = refl; path = refl };
+            deep = len;
+            good = record { cost = le; tie = λ e. absurd (ne e) };
+          }

@@ -30,7 +30,7 @@ module _ {S : Type 0} (step : S → Bool → S → ℕ → Type 0) (root : S) (n
     pub sound : IsSound step root n new_vertices w new
     pub parent : 0 < new.depth → HasParent vertices new
     pub apart : (u : ℕ) (other : Vertex S) → u ≢ w → slice_get vertices u ≡ Some other → other.state ≡ new.state → ⊥
-    pub best : new.settled ≡ true → (r : List Bool) (c : ℕ) → length r ≤ n → Reached step root r new.state c → AtMost new.cost (rank (path new_vertices new.depth w)) c (rank r)
+    pub best : new.settled ≡ true → (r : List Bool) (c : ℕ) → length r ≤ n → Reached step root r new.state c → Has step root n vertices new.state c r
     pub keeps : (old : Vertex S) → slice_get vertices w ≡ Some old → (old.state ≡ new.state) × (old.depth ≡ new.depth) × AtMost new.cost (rank (path new_vertices new.depth w)) old.cost (rank (path vertices old.depth w))
 
   has_flag : (vertices : List (Vertex S)) (settled : Bool) (s : S) (c : ℕ) (r : List Bool) → Knows step root n (Known step root n vertices) settled s c r → Has step root n vertices s c r
@@ -48,6 +48,8 @@ module _ {S : Type 0} (step : S → Bool → S → ℕ → Type 0) (root : S) (n
     still_knows settled s c r k = elim (cases_eq k.known.id w) [
       | inl e ↦ at_new e
       | inr ne ↦ has_flag new_vertices settled s c r (record {
+        layout = k.layout;
+        over = k.over;
         cost = k.cost;
         choices = k.choices;
         deep = k.deep;
@@ -76,6 +78,8 @@ module _ {S : Type 0} (step : S → Bool → S → ℕ → Type 0) (root : S) (n
               tie = λ same. let one : new.cost ≡ old.cost = omega (arith, same, k.known.cost) in omega (arith, better.2.tie one, ranks);
             } in
             has_flag new_vertices new.settled s c r (record {
+              layout = k.layout;
+              over = k.over;
               cost = new.cost;
               choices = path new_vertices new.depth w;
               known = record { id = w; vertex = new; at = f.puts.here; flag = refl; state = sym better.0 ∙ k.known.state; cost = refl; path = refl };
@@ -121,13 +125,13 @@ module _ {S : Type 0} (step : S → Bool → S → ℕ → Type 0) (root : S) (n
       ]
     ]
 
-    new_best : (u : ℕ) (x : Vertex S) → slice_get new_vertices u ≡ Some x → x.settled ≡ true → (r : List Bool) (c : ℕ) → length r ≤ n → Reached step root r x.state c →
-        AtMost x.cost (rank (path new_vertices x.depth u)) c (rank r)
-    new_best u x at settled = elim (where_is vertices new_vertices w new f.puts u x at) [
-      | here e same ↦ subst (λ (y : Vertex S). (r : List Bool) (c : ℕ) → length r ≤ n → Reached step root r y.state c → AtMost y.cost (rank (path new_vertices y.depth u)) c (rank r)) (sym same)
-          (subst (λ (v : ℕ). (r : List Bool) (c : ℕ) → length r ≤ n → Reached step root r new.state c → AtMost new.cost (rank (path new_vertices new.depth v)) c (rank r)) (sym e)
-          (f.best (sym (ap (λ (y : Vertex S). y.settled) same) ∙ settled)))
-      | there ne old ↦ λ r c short h. subst (λ (q : List Bool). AtMost x.cost (rank q) c (rank r)) (sym (same_path u x ne old)) (t.best u x old settled r c short h)
+    new_best : (u : ℕ) (x : Vertex S) → slice_get new_vertices u ≡ Some x → x.settled ≡ true → (r : List Bool) (c : ℕ) → length r ≤ n → Reached step root r x.state c → Has step root n new_vertices x.state c r
+    new_best u x at settled r c short h = elim (where_is vertices new_vertices w new f.puts u x at) [
+      | here e same ↦
+          let states : x.state ≡ new.state = ap (λ (y : Vertex S). y.state) same in
+          let flag : new.settled ≡ true = sym (ap (λ (y : Vertex S). y.settled) same) ∙ settled in
+          subst (λ (z : S). Has step root n new_vertices z c r) (sym states) (still_has new.state c r (f.best flag r c short (subst (λ (z : S). Reached step root r z c) states h)))
+      | there ne old ↦ still_has x.state c r (t.best u x old settled r c short h)
     ]
 
     -- the table with the new vertex

@@ -33,12 +33,12 @@ AtMost-trans c p d q e r h j = record {
       omega (arith, h.tie one, j.tie two);
 }
 
--- one more step keeps the order
-pub AtMost-step : (c p d q k b : ℕ) → AtMost c p d q → AtMost (c + k) (2 * p + b) (d + k) (2 * q + b)
-AtMost-step c p d q k b h = record {
-  cost = omega (arith, h.cost);
+-- one more step keeps the order, where the better one takes it at no greater cost
+pub AtMost-step : (c p d q k l b : ℕ) → AtMost c p d q → l ≤ k → AtMost (c + l) (2 * p + b) (d + k) (2 * q + b)
+AtMost-step c p d q k l b h cheap = record {
+  cost = omega (arith, h.cost, cheap);
   tie = λ same.
-      let one : c ≡ d = omega arith in
+      let one : c ≡ d = omega (arith, h.cost, cheap) in
       omega (arith, h.tie one);
 }
 

@@ -1,0 +1,83 @@
+//! Layouts that need not be followed: what follows others is at least as good.
+
+ghost use Rattle.std.specs.Prelude.{◌≡◌, ◌≢◌, ℕ, ◌<◌, length};
+ghost use Rattle.std.specs.Bool.{OnTrue};
+ghost use Rattle.least_breaking.proofs.Table.{HaveParents};
+ghost use Rattle.break_search.specs.Passing.{IsBetter, Passes};
+ghost use Rattle.break_search.specs.Vertices.{HavePaths, HaveLevels, AreLevel};
+
+use crate::outcome::Saturation;
+use crate::table::Table;
+use crate::ties::is_before;
+
+/// With how many of the layouts that were followed last a layout is compared.
+const MOST_COMPARED: u32 = 8;
+
+/// Whether the way to the first node is better.
+fn is_better(table: &Table<'_>, first: usize, second: usize) -> bool
+    requires parents { HaveParents table.now }
+    requires apart { HavePaths table.now }
+    requires level { AreLevel table.now first second }
+    ensures { OnTrue result (IsBetter table.now first second) }
+{
+    let cost = table.cost(first);
+    let other = table.cost(second);
+    if cost == other {
+        return is_before(table, first, second);
+    }
+    cost < other
+}
+
+/// Whether the first node is another one that is settled, stands ahead of the second and has a better way.
+fn passes(table: &Table<'_>, first: usize, second: usize) -> bool
+    requires parents { HaveParents table.now }
+    requires apart { HavePaths table.now }
+    requires levels { HaveLevels table.now }
+    requires second { second < length table.now }
+    ensures { OnTrue result (Passes table.now first second) }
+{
+    if first >= table.len() || first == second {
+        return false;
+    }
+    if !table.is_settled(first) || !table.is_ahead(first, second) {
+        return false;
+    }
+    is_better(table, first, second)
+}
+
+/// Whether one of the nodes that were followed last passes a node.
+fn is_passed(table: &Table<'_>, at: usize) -> bool
+    requires parents { HaveParents table.now }
+    requires apart { HavePaths table.now }
+    requires levels { HaveLevels table.now }
+    requires at { at < length table.now }
+    ensures { OnTrue result ((v : ℕ) × Passes table.now v at) }
+{
+    let mut last = table.last_followed(at);
+    for _ in 0..MOST_COMPARED {
+        let Some(followed) = last else {
+            return false;
+        };
+        if passes(table, followed.node, at) {
+            return true;
+        }
+        last = table.followed(followed.before);
+    }
+    false
+}
+
+/// Whether a node need not be followed: the choices that are made there are no better than the same ones at a node that
+/// was followed before. This is told only where no column comes to the largest number.
+pub(crate) fn is_dominated(table: &Table<'_>, saturation: Saturation, at: usize) -> bool
+    requires parents { HaveParents table.now }
+    requires apart { HavePaths table.now }
+    requires levels { HaveLevels table.now }
+    requires at { at < length table.now }
+    ensures passed { OnTrue result ((v : ℕ) × Passes table.now v at) }
+    ensures never { OnTrue result (saturation ≡ Saturation.Never) }
+{
+    match saturation {
+        Saturation::Never => is_passed(table, at),
+        Saturation::Possible => false,
+    }
+}
