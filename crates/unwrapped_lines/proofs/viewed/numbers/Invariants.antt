@@ -1,0 +1,9 @@
+use Rattle.std.proofs.Common.{◌≡◌, ◌≤◌, ◌++◌, drop}
+use Rattle.unwrapped_lines.specs.Viewed.{numbers_from, numbers_of}
+use Rattle.unwrapped_lines.proofs.viewed.numbers.Given as goal
+
+abbrev pub invariant-loop-class : goal.invariant-loop-class
+invariant-loop-class l = record {
+  same : l.numbers.items ++ numbers_from l.number (drop l.class-index l.classes) ≡ numbers_of l.classes;
+  most : l.number ≤ l.class-index;
+}
