@@ -1,6 +1,6 @@
 //! A view as a list of tokens and comments.
 
-ghost use Rattle.std.specs.Prelude.{◌≡◌, ◌&&◌, ◌<◌, ◌≤◌, ◌+◌, ◌^◌, length, map, get_or, slice_get, IfOk, Some, true};
+ghost use Rattle.std.specs.Prelude.{◌≡◌, ◌&&◌, ◌<◌, ◌≤◌, ◌+◌, ◌^◌, length, map, get_or, slice_get, vec_capacity, IfOk, OnOk, Some, true};
 ghost use Rattle.token_classes.specs.Viewed.{AreWithin, classes_of};
 ghost use Rattle.token_classes.specs.Classes.{is_colon, is_comment};
 ghost use Rattle.token_classes.specs.declared.class.TokenClass.TheVariants.{Nothing};
@@ -68,7 +68,7 @@ fn numbers<'r>(classes: &[TokenClass], run: &'r Bump) -> Result<Vec<u32, &'r Bum
     let mut numbers = Vec::with_capacity(run, classes.len())?;
     let mut number: u32 = 0;
     for class in classes {
-        numbers.push(number)?;
+        numbers.push_reserved(number);
         if !class.is_comment() {
             number += 1;
         }
@@ -149,8 +149,10 @@ fn push_segment(
     requires places { length classes.now ≡ length (ids_of (map segment_bounds segments.now)) }
     requires few { length classes.now ≤ LIMIT }
     requires numbers { numbers.now ≡ numbers_of classes.now }
+    requires room { length classes.now ≤ vec_capacity tokens.old }
     requires before { AreTokensBefore arena.now (ids_of (map segment_bounds segments.now)) classes.now partners.now (get_or segments.now number no_segment).before tokens.old.items }
-    ensures { IfOk result (λ u. AreTokensBefore arena.now (ids_of (map segment_bounds segments.now)) classes.now partners.now (segment_stop (get_or segments.now number no_segment)) tokens.new.items) }
+    ensures tokens { IfOk result (λ u. AreTokensBefore arena.now (ids_of (map segment_bounds segments.now)) classes.now partners.now (segment_stop (get_or segments.now number no_segment)) tokens.new.items) }
+    ensures room { OnOk result (vec_capacity tokens.new ≡ vec_capacity tokens.old) }
 {
     let segment = segments[number];
     let mut k = segment.before as usize;
@@ -158,7 +160,7 @@ fn push_segment(
         let class = classes[k];
         if !class.is_comment() {
             let partner = partner_number(classes, numbers, partners, k);
-            tokens.push(code_token(arena, id, class, partner, run)?)?;
+            tokens.push_reserved(code_token(arena, id, class, partner, run)?);
         }
         k += 1;
     }
@@ -233,9 +235,9 @@ pub(crate) fn parts<'r>(
         let class = classes[k];
         if class.is_comment() {
             let id = view.at_near(k as u32, &mut segment);
-            parts.push(comment_part(arena, id.0, started, class))?;
+            parts.push_reserved(comment_part(arena, id.0, started, class));
         } else {
-            parts.push(Part::Token)?;
+            parts.push_reserved(Part::Token);
             started = true;
         }
     }
