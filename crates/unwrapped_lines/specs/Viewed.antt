@@ -1,6 +1,5 @@
 -- A view as a list of tokens and comments.
-use Rattle.std.specs.Prelude.{◌≡◌, ◌<◌, ◌≤◌, ◌*◌, take, ◌-◌, ◌⊎◌, ◌++◌, drop, ◌&&◌, ◌||◌, not, ℕ, ◌+◌, nat_le, Bool, false, Option, Some, None, List, [], ◌∷◌, length, map, get_or, slice_get, if◌then◌else◌}
-use Rattle.std.specs.List.{range_with_len}
+use Rattle.std.specs.Prelude.{◌≡◌, ◌≤◌, ◌-◌, ◌++◌, drop, ◌&&◌, ◌||◌, not, ℕ, ◌+◌, nat_le, Bool, false, Option, Some, None, List, [], ◌∷◌, length, map, get_or, slice_get, if◌then◌else◌}
 use Rattle.token_views.specs.declared.view.Segment.{Segment}
 use Rattle.token_arena.specs.Gaps.{Contents}
 use Rattle.token_arena.specs.Stored.{Stored}
@@ -43,20 +42,6 @@ numbers_from n (c ∷ cs) = n ∷ numbers_from (if is_comment c then n else n + 
 
 abbrev pub numbers_of : List TokenClass → List ℕ
 numbers_of classes = numbers_from 0 classes
-
--- the number behind some places, where the first has this one
-abbrev pub number_behind : ℕ → List TokenClass → ℕ
-number_behind n [] = n
-number_behind n (c ∷ cs) = number_behind (if is_comment c then n else n + 1) cs
-
--- the numbers of the places 0, 16, 32 and so on
-pub record AreBlocks (numbers : List ℕ) (classes : List TokenClass) : Type 0 where
-  pub at : (j : ℕ) → j < length numbers → get_or numbers j 0 ≡ number_behind 0 (take (j * 16) classes)
-  pub reach : length classes ≤ length numbers * 16
-
--- These are the numbers of every sixteenth place; or there are none, and each place is its own number.
-abbrev pub AreNumbers : List ℕ → List TokenClass → Type 0
-AreNumbers numbers classes = AreBlocks numbers classes ⊎ ((numbers ≡ []) × (numbers_of classes ≡ range_with_len 0 (length classes)))
 
 -- a partner, counted over them
 abbrev pub partner_number : List ℕ → Option (Option ℕ) → Option ℕ

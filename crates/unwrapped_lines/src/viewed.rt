@@ -1,12 +1,10 @@
 //! A view as a list of tokens and comments.
 
-ghost use Rattle.std.specs.Prelude.{◌≡◌, ◌&&◌, ◌<◌, ◌≤◌, ◌+◌, ◌^◌, length, map, get_or, slice_get, IfOk, Some, true};
+ghost use Rattle.std.specs.Prelude.{◌≡◌, ◌&&◌, ◌<◌, ◌≤◌, ◌+◌, ◌^◌, length, map, get_or, slice_get, vec_capacity, IfOk, OnOk, Some, true};
 ghost use Rattle.token_classes.specs.Viewed.{AreWithin, classes_of};
 ghost use Rattle.token_classes.specs.Classes.{is_colon, is_comment};
 ghost use Rattle.token_classes.specs.declared.class.TokenClass.TheVariants.{Nothing};
-ghost use Rattle.unwrapped_lines.specs.Viewed.{item_began, line_ends_behind, colon_touches, numbers_of, AreNumbers, AreBlocks, number_behind, AreTokensBefore, segment_stop, partner_number, token_at, code_tokens, part_of, parts_of};
-ghost use Rattle.std.specs.Bool.{OnFalse};
-ghost use Rattle.std.specs.List.{range_with_len};
+ghost use Rattle.unwrapped_lines.specs.Viewed.{item_began, line_ends_behind, colon_touches, numbers_of, AreTokensBefore, segment_stop, partner_number, token_at, code_tokens, part_of, parts_of};
 ghost use Rattle.token_views.specs.Segments.{ids_of, segment_bounds, AreSegments, no_segment};
 ghost use Rattle.c_chars.specs.declared.TheConstants.{LIMIT};
 
@@ -18,9 +16,6 @@ use line_tokens::{NoMemory, TokenId};
 use token_arena::TokenArena;
 use token_classes::{TokenClass, item_class};
 use token_views::{Segment, View};
-
-/// The number of a token is kept for one place of so many.
-const BLOCK: usize = 16;
 
 /// Whether an item began its line.
 fn item_began(arena: &TokenArena<'_, '_>, id: u32) -> bool
@@ -65,62 +60,18 @@ fn colon_touches(arena: &TokenArena<'_, '_>, id: u32, run: &Bump) -> Result<bool
     Ok(class.is_colon())
 }
 
-/// Whether a comment stands among the classes.
-fn has_comment(classes: &[TokenClass]) -> bool
-    ensures { OnFalse result (numbers_of classes.now ≡ range_with_len 0 (length classes.now)) }
-{
-    for class in classes {
-        if class.is_comment() {
-            return true;
-        }
-    }
-    false
-}
-
-/// How many tokens that are no comments stand before each sixteenth place; nothing where there is no comment.
+/// How many tokens that are no comments stand before each place.
 fn numbers<'r>(classes: &[TokenClass], run: &'r Bump) -> Result<Vec<u32, &'r Bump>, NoMemory>
     requires { length classes.now ≤ LIMIT }
-    ensures { IfOk result (λ numbers. AreNumbers numbers.items classes.now) }
+    ensures { IfOk result (λ numbers. numbers.items ≡ numbers_of classes.now) }
 {
-    if has_comment(classes) {
-        block_numbers(classes, run)
-    } else {
-        Ok(Vec::new(run))
-    }
-}
-
-/// The number behind these places, where the first has this one.
-fn number_behind(first: u32, classes: &[TokenClass]) -> u32
-    requires { first + length classes.now ≤ LIMIT }
-    ensures same { result ≡ number_behind first classes.now }
-    ensures most { result ≤ first + length classes.now }
-{
-    let mut number = first;
+    let mut numbers = Vec::with_capacity(run, classes.len())?;
+    let mut number: u32 = 0;
     for class in classes {
+        numbers.push_reserved(number);
         if !class.is_comment() {
             number += 1;
         }
-    }
-    number
-}
-
-/// How many tokens that are no comments stand before each sixteenth place.
-fn block_numbers<'r>(classes: &[TokenClass], run: &'r Bump) -> Result<Vec<u32, &'r Bump>, NoMemory>
-    requires { length classes.now ≤ LIMIT }
-    ensures { IfOk result (λ numbers. AreBlocks numbers.items classes.now) }
-{
-    let mut numbers = Vec::with_capacity(run, classes.len() / BLOCK + 1)?;
-    let mut number: u32 = 0;
-    let mut from = 0;
-    while from < classes.len() {
-        numbers.push(number)?;
-        let end = if classes.len() - from > BLOCK {
-            from + BLOCK
-        } else {
-            classes.len()
-        };
-        number = number_behind(number, &classes[from..end]);
-        from = end;
     }
     Ok(numbers)
 }
@@ -129,18 +80,14 @@ fn block_numbers<'r>(classes: &[TokenClass], run: &'r Bump) -> Result<Vec<u32, &
 #[inline(always)]
 fn number_at(classes: &[TokenClass], numbers: &[u32], place: u32) -> Partner
     requires few { length classes.now ≤ LIMIT }
-    requires numbers { AreNumbers numbers.now classes.now }
+    requires numbers { numbers.now ≡ numbers_of classes.now }
     ensures { result ≡ slice_get (numbers_of classes.now) place }
 {
     let k = place as usize;
     if k >= classes.len() {
         return Partner::none();
     }
-    if numbers.is_empty() {
-        return Partner::at(place);
-    }
-    let block = k / BLOCK;
-    Partner::at(number_behind(numbers[block], &classes[block * BLOCK..k]))
+    Partner::at(numbers[k])
 }
 
 /// A partner, counted over the tokens that are no comments.
@@ -152,7 +99,7 @@ fn partner_number(
     k: usize,
 ) -> Partner
     requires few { length classes.now ≤ LIMIT }
-    requires numbers { AreNumbers numbers.now classes.now }
+    requires numbers { numbers.now ≡ numbers_of classes.now }
     ensures { result ≡ partner_number (numbers_of classes.now) (slice_get partners.now k) }
 {
     match partners.get(k) {
@@ -201,9 +148,11 @@ fn push_segment(
     requires within { AreWithin arena.now (ids_of (map segment_bounds segments.now)) }
     requires places { length classes.now ≡ length (ids_of (map segment_bounds segments.now)) }
     requires few { length classes.now ≤ LIMIT }
-    requires numbers { AreNumbers numbers.now classes.now }
+    requires numbers { numbers.now ≡ numbers_of classes.now }
+    requires room { length classes.now ≤ vec_capacity tokens.old }
     requires before { AreTokensBefore arena.now (ids_of (map segment_bounds segments.now)) classes.now partners.now (get_or segments.now number no_segment).before tokens.old.items }
-    ensures { IfOk result (λ u. AreTokensBefore arena.now (ids_of (map segment_bounds segments.now)) classes.now partners.now (segment_stop (get_or segments.now number no_segment)) tokens.new.items) }
+    ensures tokens { IfOk result (λ u. AreTokensBefore arena.now (ids_of (map segment_bounds segments.now)) classes.now partners.now (segment_stop (get_or segments.now number no_segment)) tokens.new.items) }
+    ensures room { OnOk result (vec_capacity tokens.new ≡ vec_capacity tokens.old) }
 {
     let segment = segments[number];
     let mut k = segment.before as usize;
@@ -211,7 +160,7 @@ fn push_segment(
         let class = classes[k];
         if !class.is_comment() {
             let partner = partner_number(classes, numbers, partners, k);
-            tokens.push(code_token(arena, id, class, partner, run)?)?;
+            tokens.push_reserved(code_token(arena, id, class, partner, run)?);
         }
         k += 1;
     }
@@ -232,8 +181,9 @@ pub(crate) fn code_tokens<'r>(
     ensures tokens { IfOk result (λ tokens. tokens.items ≡ code_tokens arena.now view.now classes.now partners.now) }
     ensures few { IfOk result (λ tokens. length tokens.items ≤ LIMIT) }
 {
-    let numbers = numbers(classes, run)?;
+    // What the numbers take behind the tokens is given back when they are dropped.
     let mut tokens = Vec::with_capacity(run, classes.len())?;
+    let numbers = numbers(classes, run)?;
     let segments = view.segments();
     for number in 0..segments.len() {
         push_segment(
@@ -285,9 +235,9 @@ pub(crate) fn parts<'r>(
         let class = classes[k];
         if class.is_comment() {
             let id = view.at_near(k as u32, &mut segment);
-            parts.push(comment_part(arena, id.0, started, class))?;
+            parts.push_reserved(comment_part(arena, id.0, started, class));
         } else {
-            parts.push(Part::Token)?;
+            parts.push_reserved(Part::Token);
             started = true;
         }
     }

@@ -1,8 +1,12 @@
-use Rattle.std.proofs.Common.{map}
+use Rattle.std.proofs.Common.{map, length, ◌≤◌}
+use Rattle.std.specs.Prelude.{vec_capacity}
 use Rattle.token_views.specs.Segments.{ids_of, segment_bounds}
 use Rattle.unwrapped_lines.specs.Viewed.{AreTokensBefore}
 use Rattle.unwrapped_lines.proofs.SegmentLemmas.{places_before}
 use Rattle.unwrapped_lines.proofs.viewed.code_tokens.Given as goal
 
 abbrev pub invariant-loop-number : goal.invariant-loop-number
-invariant-loop-number l = AreTokensBefore l.arena (ids_of (map segment_bounds l.segments)) l.classes l.partners (places_before 0 l.segments l.number) l.tokens.items
+invariant-loop-number l = record {
+  tokens : AreTokensBefore l.arena (ids_of (map segment_bounds l.segments)) l.classes l.partners (places_before 0 l.segments l.number) l.tokens.items;
+  room : length l.classes ≤ vec_capacity l.tokens;
+}

@@ -1,4 +1,5 @@
 use Rattle.std.proofs.Common.{◌≡◌, ◌+◌, map, get_or}
+use Rattle.std.specs.Prelude.{vec_capacity}
 use Rattle.token_views.specs.Segments.{ids_of, segment_bounds, no_segment}
 use Rattle.unwrapped_lines.specs.Viewed.{AreTokensBefore}
 use Rattle.unwrapped_lines.proofs.viewed.push_segment.Given as goal
@@ -7,4 +8,5 @@ abbrev pub invariant-loop-id : goal.invariant-loop-id
 invariant-loop-id l = record {
   place : l.k + (get_or l.segments l.number no_segment).first ≡ (get_or l.segments l.number no_segment).before + l.id;
   tokens : AreTokensBefore l.arena (ids_of (map segment_bounds l.segments)) l.classes l.partners l.k l.tokens.items;
+  room : vec_capacity l.tokens ≡ vec_capacity l.initial.tokens;
 }
