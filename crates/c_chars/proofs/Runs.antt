@@ -4,7 +4,7 @@ use Rattle.std.specs.List.{list_all, prefix_len}
 use Rattle.std.proofs.lemmas.List.Folds.{length-prefix_len}
 use Rattle.std.proofs.lemmas.Bool.{and_parts, and_from, and_right, cases_Bool, not-true}
 use Rattle.std.proofs.lemmas.Bool.Decides.{nat_tests}
-use Rattle.c_chars.specs.Characters.{chars, placed, IsUnit, begins_trigraph, begins_return, has_trigraphs, is_plain, is_space_byte, is_word_byte}
+use Rattle.c_chars.specs.Characters.{chars, placed, IsUnit, begins_trigraph, begins_return, has_trigraphs, is_ink_byte, is_plain, is_space_byte, is_text_byte, is_word_byte}
 use Rattle.c_chars.specs.Coming.{Coming, ArePassed, AreSpacesPassed}
 use Rattle.c_chars.specs.declared.Dialect.{Dialect}
 use Rattle.c_chars.specs.declared.LogicalChar.{LogicalChar}
@@ -61,14 +61,23 @@ run p d at (b ∷ s) plain = elim (cases_Bool (p b)) [
       (ap (λ k. record { dialect = d; at = at + k; chars = chars d (at + k) (drop k (b ∷ s)) }) len ∙ ap (λ k. record { dialect = d; at = k; chars = chars d k (b ∷ s) }) z)
 ]
 
--- a reader that passed a word's bytes
-pub word_passed : (d d2 : Dialect) (at at2 n : ℕ) (s rest : List ℕ) → n ≡ prefix_len is_word_byte s → d2 ≡ d → at2 ≡ at + n → rest ≡ drop n s →
-    ArePassed is_word_byte (record { dialect = d; at = at; chars = chars d at s }) (record { dialect = d2; at = at2; chars = chars d2 at2 rest })
+-- a reader that passed bytes of a run
+pub run_passed : (p : ℕ → Bool) (d d2 : Dialect) (at at2 n : ℕ) (s rest : List ℕ) → ((b : ℕ) → p b ≡ true → is_plain b ≡ true) → n ≡ prefix_len p s → d2 ≡ d → at2 ≡ at + n → rest ≡ drop n s →
+    ArePassed p (record { dialect = d; at = at; chars = chars d at s }) (record { dialect = d2; at = at2; chars = chars d2 at2 rest })
 unfolding behind_run
-word_passed d d2 at at2 n s rest e dd aa rr =
-    let far : at2 ≡ at + prefix_len is_word_byte s = aa ∙ ap (λ k. at + k) e in
-    let left : rest ≡ drop (prefix_len is_word_byte s) s = rr ∙ ap (λ k. drop k s) e in
-    rw (dd, far, left) (run is_word_byte d at s word_plain)
+run_passed p d d2 at at2 n s rest plain e dd aa rr =
+    let far : at2 ≡ at + prefix_len p s = aa ∙ ap (λ k. at + k) e in
+    let left : rest ≡ drop (prefix_len p s) s = rr ∙ ap (λ k. drop k s) e in
+    rw (dd, far, left) (run p d at s plain)
+
+-- the bytes of comments and strings are characters by themselves
+pub ink_plain : (b : ℕ) → is_ink_byte b ≡ true → is_plain b ≡ true
+unfolding is_ink_byte
+ink_plain b h = grind (arith, nat_tests)
+
+pub text_plain : (b : ℕ) → is_text_byte b ≡ true → is_plain b ≡ true
+unfolding is_text_byte is_ink_byte is_space_byte
+text_plain b h = grind (arith, nat_tests)
 
 -- The characters of a run are its bytes, one by one.
 

@@ -1,11 +1,11 @@
 //! Reads the characters of a text one after another.
 
 ghost use Rattle.std.specs.Prelude.{◌≡◌, ◌+◌, ◌<◌, ◌≤◌, ◌^◌, length, drop, MatchOption, Some, IfSome, IfNone, ◌∷◌, [], slice_get};
-ghost use Rattle.c_chars.specs.Characters.{chars, logical, mark_len, is_word_byte};
+ghost use Rattle.c_chars.specs.Characters.{chars, logical, mark_len, is_ink_byte, is_text_byte, is_word_byte};
 ghost use Rattle.c_chars.specs.Coming.{AreBetween, ArePassed, AreSpacesPassed};
 
 use crate::alone::first_character;
-use crate::units::{is_plain, space_len, word_len};
+use crate::units::{ink_len, is_plain, space_len, text_len, word_len};
 use crate::{Dialect, LIMIT, LogicalChar};
 use std::marker::Model;
 
@@ -237,6 +237,29 @@ impl<'s> Chars<'s> {
         let len = space_len(self.cursor.rest);
         self.cursor.pass(len);
         len as u32
+    }
+
+    /// Steps behind the characters that come next and are no white space and none of `"'*?\\`, in one pass over
+    /// their bytes.
+    ///
+    /// It may stop before a further one, where lines are spliced between the two.
+    #[inline(always)]
+    pub fn pass_ink(&mut self)
+        ensures { ArePassed is_ink_byte self.old self.new }
+    {
+        let len = ink_len(self.cursor.rest);
+        self.cursor.pass(len);
+    }
+
+    /// Steps behind such characters, spaces and tabs: what comments and strings are mostly made of.
+    ///
+    /// It may stop before a further one, where lines are spliced between the two.
+    #[inline(always)]
+    pub fn pass_text(&mut self)
+        ensures { ArePassed is_text_byte self.old self.new }
+    {
+        let len = text_len(self.cursor.rest);
+        self.cursor.pass(len);
     }
 
     /// The character that stands behind the next k characters, 0 for the next one.

@@ -2,7 +2,7 @@
 
 ghost use Rattle.std.specs.Prelude.{◌≡◌, ◌&&◌, ◌<◌, ◌≤◌, false, get_or, length};
 ghost use Rattle.std.specs.List.{prefix_len};
-ghost use Rattle.c_chars.specs.Characters.{trigraph, IsUnit, begins_trigraph, begins_return, has_trigraphs, is_plain, is_space_byte, is_word_byte};
+ghost use Rattle.c_chars.specs.Characters.{trigraph, IsUnit, begins_trigraph, begins_return, has_trigraphs, is_ink_byte, is_plain, is_space_byte, is_text_byte, is_word_byte};
 
 use crate::Dialect;
 
@@ -133,6 +133,51 @@ pub(crate) fn space_len(s: &[u8]) -> usize
 {
     for i in 0..s.len() {
         if !is_space_byte(s[i]) {
+            return i;
+        }
+    }
+    s.len()
+}
+
+/// Whether the byte is a character by itself that is no white space, and that comments and literals don't look
+/// at: none of `"'*?\\`.
+#[tactic(auto, unfolding(crate::specs::Characters::is_ink_byte))]
+#[inline(always)]
+fn is_ink_byte(b: u8) -> bool
+    ensures { result ≡ is_ink_byte b }
+{
+    b > b'\\' || (b > b' ' && b != b'"' && (b != b'\'' && b != b'*' && (b != b'?' && b != b'\\')))
+}
+
+/// How many such bytes the bytes begin with.
+#[inline(always)]
+pub(crate) fn ink_len(s: &[u8]) -> usize
+    ensures { result ≡ prefix_len is_ink_byte s.now }
+{
+    for i in 0..s.len() {
+        if !is_ink_byte(s[i]) {
+            return i;
+        }
+    }
+    s.len()
+}
+
+/// Such a byte, a space or a tab.
+#[tactic(auto, unfolding(crate::specs::Characters::is_text_byte))]
+#[inline(always)]
+fn is_text_byte(b: u8) -> bool
+    ensures { result ≡ is_text_byte b }
+{
+    is_ink_byte(b) || is_space_byte(b)
+}
+
+/// How many such bytes, spaces and tabs the bytes begin with.
+#[inline(always)]
+pub(crate) fn text_len(s: &[u8]) -> usize
+    ensures { result ≡ prefix_len is_text_byte s.now }
+{
+    for i in 0..s.len() {
+        if !is_text_byte(s[i]) {
             return i;
         }
     }

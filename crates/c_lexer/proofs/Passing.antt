@@ -8,9 +8,10 @@ use Rattle.std.proofs.lemmas.Bool.{both_ways, cases_Bool, eqb-true, eq-eqb, fals
 use Rattle.std.proofs.lemmas.Bool.Decides.{nat_tests}
 use Rattle.c_grammar.specs.Grammar.{is_white, is_new_line, is_letter, is_digit}
 use Rattle.c_grammar.specs.Touch.{starts}
+use Rattle.c_lexer.specs.Class.{is_quote_mark}
 use Rattle.std.proofs.Common.{true, inl, inr, ◌≡◌, ◌≤◌, ◌==◌, ◌&&◌, Bool, false, ℕ, zero, suc, length, ◌+◌, ◌||◌, List, [], ◌∷◌, take, refl, sym, ◌∙◌, ap, arith}
 use Rattle.c_chars.specs.Coming.{Coming, ArePassed, behind, passed}
-use Rattle.c_chars.specs.Characters.{bytes_of, is_word_byte}
+use Rattle.c_chars.specs.Characters.{bytes_of, is_ink_byte, is_space_byte, is_text_byte, is_word_byte}
 use Rattle.c_chars.specs.declared.Dialect.{Dialect}
 use Rattle.c_chars.specs.declared.LogicalChar.{LogicalChar}
 
@@ -192,3 +193,113 @@ passed_run p q x y more r =
         let one : 1 + prefix_len p (bytes_of s) ≡ suc (prefix_len p (bytes_of s)) = omega arith in
         let yes : p c.byte ≡ true = more c.byte parts.0 in
         go d c.to s n (omega (arith, within)) parts.1 ∙ sym (rw (yes, one) refl)
+
+-- Bytes of comments and strings that end neither.
+
+pub ink_means : (b : ℕ) → is_ink_byte b ≡ true → (is_new_line b ≡ false) × ((is_white b ≡ false) × ((b == 92) ≡ false))
+unfolding is_ink_byte is_new_line is_white
+ink_means b h = (grind (arith, nat_tests), (grind (arith, nat_tests), grind (arith, nat_tests)))
+
+pub text_means : (b : ℕ) → is_text_byte b ≡ true → (is_new_line b ≡ false) × (((b == 42) ≡ false) × ((b == 92) ≡ false))
+unfolding is_text_byte is_ink_byte is_space_byte is_new_line
+text_means b h = (grind (arith, nat_tests), (grind (arith, nat_tests), grind (arith, nat_tests)))
+
+pub text_quote : (q b : ℕ) → is_quote_mark q ≡ true → is_text_byte b ≡ true → (b == q) ≡ false
+unfolding is_text_byte is_ink_byte is_space_byte
+text_quote q b k h = grind (arith, nat_tests)
+
+-- what passed ends no block comment
+pub passed_block : (x y : Coming) → ArePassed is_text_byte x y →
+    (closes_block false (bytes_of y.chars) ≡ closes_block false (bytes_of x.chars)) × (behind y (block_len false (bytes_of y.chars)) ≡ behind x (block_len false (bytes_of x.chars)))
+passed_block x y r = (
+  ap (λ z. closes_block false (bytes_of z.chars)) r.new_is ∙ closes x.dialect x.at x.chars r.n r.within r.all,
+  ap (λ z. behind z (block_len false (bytes_of z.chars))) r.new_is ∙ on x.dialect x.at x.chars r.n r.within r.all,
+)
+  where
+    closes : (d : Dialect) (at : ℕ) (s : List LogicalChar) (n : ℕ) → n ≤ length s → list_all is_text_byte (take n (bytes_of s)) ≡ true →
+        closes_block false (bytes_of (passed d at s n).chars) ≡ closes_block false (bytes_of s)
+    closes d at s zero within all = refl
+    closes d at [] (suc n) within all = absurd (omega arith)
+    closes d at (c ∷ s) (suc n) within all =
+        let parts = and_parts (is_text_byte c.byte) (list_all is_text_byte (take n (bytes_of s))) all in
+        let star = (text_means c.byte parts.0).1.0 in
+        closes d c.to s n (omega (arith, within)) parts.1 ∙ sym (ap (λ b. closes_block b (bytes_of s)) star)
+
+    on : (d : Dialect) (at : ℕ) (s : List LogicalChar) (n : ℕ) → n ≤ length s → list_all is_text_byte (take n (bytes_of s)) ≡ true →
+        behind (passed d at s n) (block_len false (bytes_of (passed d at s n).chars)) ≡ passed d at s (block_len false (bytes_of s))
+    on d at s zero within all = refl
+    on d at [] (suc n) within all = absurd (omega arith)
+    on d at (c ∷ s) (suc n) within all =
+        let parts = and_parts (is_text_byte c.byte) (list_all is_text_byte (take n (bytes_of s))) all in
+        let star = (text_means c.byte parts.0).1.0 in
+        let one : 1 + block_len false (bytes_of s) ≡ suc (block_len false (bytes_of s)) = omega arith in
+        on d c.to s n (omega (arith, within)) parts.1 ∙ sym (ap (λ b. passed d at (c ∷ s) (1 + block_len b (bytes_of s))) star ∙ rw one refl)
+
+-- what passed closes no quote
+pub passed_quote : (q : ℕ) (x y : Coming) → is_quote_mark q ≡ true → ArePassed is_text_byte x y →
+    (closes_quote q false (bytes_of y.chars) ≡ closes_quote q false (bytes_of x.chars)) × (behind y (quote_len q false (bytes_of y.chars)) ≡ behind x (quote_len q false (bytes_of x.chars)))
+passed_quote q x y mark r = (
+  ap (λ z. closes_quote q false (bytes_of z.chars)) r.new_is ∙ closes x.dialect x.at x.chars r.n r.within r.all,
+  ap (λ z. behind z (quote_len q false (bytes_of z.chars))) r.new_is ∙ on x.dialect x.at x.chars r.n r.within r.all,
+)
+  where
+    closes : (d : Dialect) (at : ℕ) (s : List LogicalChar) (n : ℕ) → n ≤ length s → list_all is_text_byte (take n (bytes_of s)) ≡ true →
+        closes_quote q false (bytes_of (passed d at s n).chars) ≡ closes_quote q false (bytes_of s)
+    closes d at s zero within all = refl
+    closes d at [] (suc n) within all = absurd (omega arith)
+    closes d at (c ∷ s) (suc n) within all =
+        let parts = and_parts (is_text_byte c.byte) (list_all is_text_byte (take n (bytes_of s))) all in
+        let means = text_means c.byte parts.0 in
+        let line = means.0 in
+        let slash = means.1.1 in
+        let other = text_quote q c.byte mark parts.0 in
+        closes d c.to s n (omega (arith, within)) parts.1 ∙ sym (rw (line, other, slash) refl)
+
+    on : (d : Dialect) (at : ℕ) (s : List LogicalChar) (n : ℕ) → n ≤ length s → list_all is_text_byte (take n (bytes_of s)) ≡ true →
+        behind (passed d at s n) (quote_len q false (bytes_of (passed d at s n).chars)) ≡ passed d at s (quote_len q false (bytes_of s))
+    on d at s zero within all = refl
+    on d at [] (suc n) within all = absurd (omega arith)
+    on d at (c ∷ s) (suc n) within all =
+        let parts = and_parts (is_text_byte c.byte) (list_all is_text_byte (take n (bytes_of s))) all in
+        let means = text_means c.byte parts.0 in
+        let line = means.0 in
+        let slash = means.1.1 in
+        let other = text_quote q c.byte mark parts.0 in
+        let one : 1 + quote_len q false (bytes_of s) ≡ suc (quote_len q false (bytes_of s)) = omega arith in
+        on d c.to s n (omega (arith, within)) parts.1 ∙ sym (rw (line, other, slash, one) refl)
+
+-- only whether the last character is a backslash tells how long a line comment is
+same_last : (a b : ℕ) (s : List ℕ) → (a == 92) ≡ (b == 92) → line_len a s ≡ line_len b s
+same_last a b [] e = refl
+same_last a b (c ∷ s) e = elim (cases_Bool (is_new_line c)) [
+  | inl y ↦ rw y refl
+  | inr n ↦ elim (cases_Bool (is_white c)) [
+    | inl w ↦ rw (n, w) ((λ i. over_white (e i) (line_len a s)) ∙ ap (λ k. over_white (b == 92) k) (same_last a b s e))
+    | inr w ↦ rw (n, w) refl
+  ]
+]
+
+-- what passed is within a line comment, and its last character is no white space
+pub passed_line : (last : ℕ) (x y : Coming) → (last == 92) ≡ false → ArePassed is_ink_byte x y → behind y (line_len last (bytes_of y.chars)) ≡ behind x (line_len last (bytes_of x.chars))
+passed_line last x y other r = ap (λ z. behind z (line_len last (bytes_of z.chars))) r.new_is ∙ on x.dialect x.at x.chars r.n r.within r.all
+  where
+    on : (d : Dialect) (at : ℕ) (s : List LogicalChar) (n : ℕ) → n ≤ length s → list_all is_ink_byte (take n (bytes_of s)) ≡ true →
+        behind (passed d at s n) (line_len last (bytes_of (passed d at s n).chars)) ≡ passed d at s (line_len last (bytes_of s))
+    on d at s zero within all = refl
+    on d at [] (suc n) within all = absurd (omega arith)
+    on d at (c ∷ s) (suc n) within all =
+        let parts = and_parts (is_ink_byte c.byte) (list_all is_ink_byte (take n (bytes_of s))) all in
+        let means = ink_means c.byte parts.0 in
+        let len : line_len last (c.byte ∷ bytes_of s) ≡ 1 + line_len c.byte (bytes_of s) = black_len last c.byte (bytes_of s) means.0 means.1.0 in
+        let same : line_len c.byte (bytes_of s) ≡ line_len last (bytes_of s) = same_last c.byte last (bytes_of s) (means.1.1 ∙ sym other) in
+        let one : line_len last (c.byte ∷ bytes_of s) ≡ suc (line_len last (bytes_of s)) = omega (arith, len, same) in
+        on d c.to s n (omega (arith, within)) parts.1 ∙ sym (ap (λ k. passed d at (c ∷ s) k) one)
+
+-- no more are left than were
+pub fewer_left : (p : ℕ → Bool) (x y : Coming) → ArePassed p x y → length y.chars ≤ length x.chars
+fewer_left p x y r = let e : length y.chars ≡ length (behind x r.n).chars = ap (λ z. length z.chars) r.new_is in rw e (left x.dialect x.at x.chars r.n)
+  where
+    left : (d : Dialect) (at : ℕ) (s : List LogicalChar) (n : ℕ) → length (passed d at s n).chars ≤ length s
+    left d at s zero = omega arith
+    left d at [] (suc n) = omega arith
+    left d at (c ∷ s) (suc n) = let h = left d c.to s n in omega (arith, h)

@@ -1,6 +1,6 @@
 //! Comments (C11 6.4.9).
 
-ghost use Rattle.std.specs.Prelude.{◌≡◌, ◌==◌, ◌&&◌, true, false, IsTrue, IsFalse, MatchOption};
+ghost use Rattle.std.specs.Prelude.{◌≡◌, ◌==◌, ◌≤◌, ◌&&◌, length, true, false, IsTrue, IsFalse, MatchOption};
 ghost use Rattle.c_chars.specs.Characters.{bytes_of};
 ghost use Rattle.c_chars.specs.Coming.{behind};
 ghost use Rattle.c_lexer.specs.Comment.{closes_block, block_len, line_len};
@@ -16,6 +16,18 @@ fn ends_block(star: bool, b: u8) -> bool
     star && b == b'/'
 }
 
+/// Passes characters that end no block comment, unless a star stands before them.
+#[inline(always)]
+fn pass_within_block(chars: &mut Chars, star: bool)
+    ensures closes { closes_block star (bytes_of chars.new.chars) ≡ closes_block star (bytes_of chars.old.chars) }
+    ensures rest { behind chars.new (block_len star (bytes_of chars.new.chars)) ≡ behind chars.old (block_len star (bytes_of chars.old.chars)) }
+    ensures fewer { length chars.new.chars ≤ length chars.old.chars }
+{
+    if !star {
+        chars.pass_text();
+    }
+}
+
 /// What stands behind the first `*/`; none where there is none.
 pub(crate) fn behind_block<'s>(text: &Chars<'s>) -> Option<Chars<'s>>
     ensures { MatchOption result
@@ -24,13 +36,27 @@ pub(crate) fn behind_block<'s>(text: &Chars<'s>) -> Option<Chars<'s>>
 {
     let mut rest = text.ahead();
     let mut star = false;
+    pass_within_block(&mut rest, star);
     while let Some(c) = rest.next() {
         if ends_block(star, c.byte) {
             return Some(rest);
         }
         star = c.byte == b'*';
+        pass_within_block(&mut rest, star);
     }
     None
+}
+
+/// Passes the rest of a word of a line comment, whose last character before it is this one and no white space. It
+/// passes nothing behind a backslash, which may be the comment's last character.
+#[inline(always)]
+fn pass_within_line(chars: &mut Chars, last: u8)
+    ensures rest { behind chars.new (line_len last (bytes_of chars.new.chars)) ≡ behind chars.old (line_len last (bytes_of chars.old.chars)) }
+    ensures fewer { length chars.new.chars ≤ length chars.old.chars }
+{
+    if last != b'\\' {
+        chars.pass_ink();
+    }
 }
 
 /// What stands behind the line comment whose two slashes stand before the text.
@@ -45,6 +71,7 @@ pub(crate) fn behind_line<'s>(text: &Chars<'s>) -> Chars<'s>
     while let Some(c) = line::next_of_line(&mut rest) {
         if !class::is_white(c.byte) {
             last = c.byte;
+            pass_within_line(&mut rest, last);
             kept = rest.ahead();
         }
     }

@@ -130,8 +130,9 @@ impl<'s> Lexer<'s> {
         self.standing
     }
 
-    /// The next item, with what it and its gap tell, where plain bytes tell all of it; none elsewhere,
-    /// where it stays. Where `again` is false no character is read again, and nothing is called.
+    /// The next item, with what it and its gap tell, where its gap and its first byte are plain; none
+    /// elsewhere, where it stays. Where `again` is false only plain bytes tell an item, no character is read
+    /// again, and nothing is called.
     #[inline(always)]
     fn next_plain(&mut self, again: bool) -> Option<Lexeme<'s>>
         ensures text { self.new.text ≡ self.old.text }
@@ -143,7 +144,7 @@ impl<'s> Lexer<'s> {
             return None;
         };
         let standing = self.standing.past_gap(begun.lines != 0);
-        let Some((kind, left)) = next::cut_plain(self.dialect, standing, &begun) else {
+        let Some((kind, left)) = next::cut_begun(again, self.dialect, standing, &begun) else {
             return None;
         };
         let Some(past) = place::past_begun(

@@ -124,6 +124,7 @@ pub(crate) fn begin_plain<'s>(text: &Chars<'s>) -> Option<Begun<'s>>
     requires { IsSpanned text.now }
     ensures gap { IfSome result (λ begun. IsGap text.now begun.lines begun.bytes begun.text) }
     ensures begun { IfSome result (λ begun. IsBegun begun.text begun.first begun.behind) }
+    ensures ink { IfSome result (λ begun. IsFalse (is_white begun.first.byte || is_new_line begun.first.byte)) }
 {
     let mut rest = text.ahead();
     let mut behind = text.ahead();

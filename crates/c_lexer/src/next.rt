@@ -7,7 +7,7 @@ ghost use Rattle.c_grammar.specs.Items.{AfterInclude, BeginsHeader};
 ghost use Rattle.c_grammar.specs.Touch.{starts};
 ghost use Rattle.c_grammar.specs.declared.ItemKind.TheVariants.{HeaderName};
 ghost use Rattle.c_lexer.specs.Class.{IsFirst};
-ghost use Rattle.c_lexer.specs.Cut.{IsStop};
+ghost use Rattle.c_lexer.specs.Cut.{IsCutOff, IsStop};
 ghost use Rattle.c_lexer.specs.Next.{IsCutNext};
 ghost use Rattle.c_lexer.specs.Place.{place_of};
 ghost use Rattle.c_lexer.specs.Reading.{IsBegun};
@@ -64,21 +64,53 @@ fn is_behind_include(standing: Standing) -> bool
     matches!(standing, Standing::BehindInclude)
 }
 
-/// The item that is begun and what stands behind it, where plain bytes tell all of it; none elsewhere.
+/// The item that is begun and what stands behind it, whatever its bytes are; none where nothing ends it.
 #[inline(always)]
-pub(crate) fn cut_plain<'s>(
+fn cut_any<'s>(dialect: Dialect, begun: &Begun<'s>) -> Option<(ItemKind, Chars<'s>)>
+    requires dialect { dialect ≡ begun.now.text.dialect }
+    requires begun { IsBegun begun.now.text begun.now.first begun.now.behind }
+    requires ink { IsFalse (is_white begun.now.first.byte || is_new_line begun.now.first.byte) }
+    ensures { IfSome result (λ r. IsCutOff begun.now.text r.1 r.0) }
+{
+    match cut::cut_item(dialect, &begun.text, begun.first.byte) {
+        Ok((kind, left)) => Some((kind, left)),
+        Err(Stop::Unterminated) => None,
+    }
+}
+
+/// The item that is begun and what stands behind it, where it is a word, a number or a punctuator of plain
+/// bytes; where `any` is true also of any other kind, by calls. None elsewhere.
+#[inline(always)]
+fn cut_off<'s>(any: bool, dialect: Dialect, begun: &Begun<'s>) -> Option<(ItemKind, Chars<'s>)>
+    requires dialect { dialect ≡ begun.now.text.dialect }
+    requires begun { IsBegun begun.now.text begun.now.first begun.now.behind }
+    requires ink { IsFalse (is_white begun.now.first.byte || is_new_line begun.now.first.byte) }
+    ensures { IfSome result (λ r. IsCutOff begun.now.text r.1 r.0) }
+{
+    if let Some((kind, left)) = cut::cut_plain(dialect, begun) {
+        return Some((kind, left));
+    }
+    if any { cut_any(dialect, begun) } else { None }
+}
+
+/// The item that is begun and what stands behind it, where it can be cut off so and no header name may stand
+/// here; none elsewhere.
+#[inline(always)]
+pub(crate) fn cut_begun<'s>(
+    any: bool,
     dialect: Dialect,
     standing: Standing,
     begun: &Begun<'s>,
 ) -> Option<(ItemKind, Chars<'s>)>
     requires dialect { dialect ≡ begun.now.text.dialect }
     requires begun { IsBegun begun.now.text begun.now.first begun.now.behind }
+    requires ink { IsFalse (is_white begun.now.first.byte || is_new_line begun.now.first.byte) }
     ensures { IfSome result (λ r. IsCutNext (place_of standing) begun.now.text r.1 r.0) }
 {
     if is_behind_include(standing) {
         return None;
     }
-    match cut::cut_plain(dialect, begun) {
+    match cut_off(any, dialect, begun) {
         Some((kind, left)) => Some((kind, left)),
         None => None,
     }

@@ -1,12 +1,12 @@
 //! What stands behind a quote, and header names.
 
-ghost use Rattle.std.specs.Prelude.{◌≡◌, ◌==◌, ◌&&◌, not, true, false, IsTrue, IsFalse, MatchOption};
+ghost use Rattle.std.specs.Prelude.{◌≡◌, ◌==◌, ◌≤◌, ◌&&◌, length, not, true, false, IsTrue, IsFalse, MatchOption};
 ghost use Rattle.c_chars.specs.Characters.{bytes_of};
 ghost use Rattle.c_chars.specs.Coming.{behind};
 ghost use Rattle.c_lexer.specs.Quote.{closes_quote, quote_len};
 ghost use Rattle.c_lexer.specs.Header.{ends_name, name_len, begins_header, header_len};
 
-use crate::line;
+use crate::{class, line};
 use c_chars::Chars;
 
 /// Whether the byte is this one, and no backslash takes its meaning.
@@ -17,6 +17,18 @@ fn stands_for(escaped: bool, b: u8, byte: u8) -> bool
     !escaped && b == byte
 }
 
+/// Passes characters that close no quote, unless a backslash takes the meaning of the first.
+#[inline(always)]
+fn pass_within_quote(chars: &mut Chars, quote: u8, escaped: bool)
+    ensures closes { closes_quote quote escaped (bytes_of chars.new.chars) ≡ closes_quote quote escaped (bytes_of chars.old.chars) }
+    ensures rest { behind chars.new (quote_len quote escaped (bytes_of chars.new.chars)) ≡ behind chars.old (quote_len quote escaped (bytes_of chars.old.chars)) }
+    ensures fewer { length chars.new.chars ≤ length chars.old.chars }
+{
+    if !escaped && class::is_quote_mark(quote) {
+        chars.pass_text();
+    }
+}
+
 /// Whether the line closes the quote that stands before the text (C11 6.4.4.4, 6.4.5), and what
 /// stands behind the closing quote, or is the line's end.
 pub(crate) fn behind_quote<'s>(text: &Chars<'s>, quote: u8) -> (bool, Chars<'s>)
@@ -25,11 +37,13 @@ pub(crate) fn behind_quote<'s>(text: &Chars<'s>, quote: u8) -> (bool, Chars<'s>)
 {
     let mut rest = text.ahead();
     let mut escaped = false;
+    pass_within_quote(&mut rest, quote, escaped);
     while let Some(c) = line::next_of_line(&mut rest) {
         if stands_for(escaped, c.byte, quote) {
             return (true, rest);
         }
         escaped = stands_for(escaped, c.byte, b'\\');
+        pass_within_quote(&mut rest, quote, escaped);
     }
     (false, rest)
 }

@@ -1,7 +1,7 @@
 -- Words at the front of what is spelled.
-use Rattle.std.proofs.Common.{◌≡◌, ◌==◌, ◌&&◌, not, ℕ, suc, ◌-◌, ◌≤◌, arith, true, false, List, [], ◌∷◌, ◌++◌, length, take, drop, slice_index_or, refl, sym, ◌∙◌, ap}
+use Rattle.std.proofs.Common.{◌≡◌, ◌==◌, ◌&&◌, not, ℕ, suc, ◌-◌, ◌<◌, ◌≤◌, arith, true, false, List, [], ◌∷◌, ◌++◌, length, take, drop, get_or, slice_index_or, refl, sym, ◌∙◌, ap}
 use Rattle.std.proofs.Math.Seq.{take-length}
-use Rattle.std.proofs.lemmas.Bool.{and_parts, not-true}
+use Rattle.std.proofs.lemmas.Bool.{and_parts, not-true, both_ways, eq-eqb}
 use Rattle.c_chars.specs.Characters.{bytes_of, is_plain}
 use Rattle.c_chars.specs.declared.Dialect.{Dialect}
 use Rattle.c_chars.proofs.FirstUnits.{step_plain}
@@ -68,3 +68,10 @@ plain_first d [] some plain = absurd (omega (arith, some))
 plain_first d (b ∷ bytes) some plain =
     let fewer : suc (length bytes) - 1 ≡ length bytes = omega arith in
     plain_alone d b bytes plain ∙ ap (λ z. b ∷ read_alone d z) (sym (ap (λ n. take n bytes) fewer ∙ take-length bytes))
+
+-- another plain byte first
+pub apart : (d : Dialect) (raw word : List ℕ) → 0 < length raw → 0 < length word → is_plain (get_or raw 0 0) ≡ true → (get_or raw 0 0 == get_or word 0 0) ≡ false
+    → is_front word (read_alone d raw) ≡ false
+apart d [] word some more plain ne = absurd (omega (arith, some))
+apart d (b ∷ raw) [] some more plain ne = absurd (omega (arith, more))
+apart d (b ∷ raw) (c ∷ word) some more plain ne = front_other c b (c ∷ word) (read_alone d (b ∷ raw)) word (read_alone d raw) refl (plain_alone d b raw plain) (λ e. both_ways (b == c) ne (eq-eqb b c e))

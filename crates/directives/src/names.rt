@@ -30,6 +30,7 @@ pub(crate) fn is_identifier(kind: ItemKind) -> bool
 }
 
 /// Whether the item is a `#` or its digraph.
+#[inline(always)]
 pub(crate) fn is_hash(token: &Token<'_>, dialect: Dialect) -> bool
     ensures { result ≡ is_hash_token dialect (told_by token.now) }
 {
@@ -61,6 +62,7 @@ fn item_at<'s>(arena: &TokenArena<'_, 's>, at: u32, end: u32) -> Option<Token<'s
 }
 
 /// The first item from a place up to an end that is no comment, with its place.
+#[inline(always)]
 pub(crate) fn first_code<'s>(
     arena: &TokenArena<'_, 's>,
     from: u32,

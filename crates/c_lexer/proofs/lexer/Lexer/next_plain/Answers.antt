@@ -10,20 +10,20 @@ use Rattle.c_lexer.proofs.Plains.{begun_first}
 use Rattle.c_lexer.proofs.NextItems.{spanned, gap_of, at_rest, bounds, next_there}
 use Rattle.c_lexer.proofs.lexer.Lexer.next_plain.Goals as goal
 
-pub cut_plain-requires-clause-dialect : goal.cut_plain-requires-clause-dialect
-cut_plain-requires-clause-dialect c =
+pub cut_begun-requires-clause-dialect : goal.cut_begun-requires-clause-dialect
+cut_begun-requires-clause-dialect c =
     let rest = at_rest c.self.inside.text.now c.self.inside.dialect c.self.inside.chars c.in-Some.begun.text (gap_of c.self.inside.chars) c.self.invariant.0 c.in-Some.ensures.gap.rest_is in
     sym rest.dialect_is
 
 pub ends_plainly-requires-clause-some : goal.ends_plainly-requires-clause-some
 ends_plainly-requires-clause-some c =
     let rest = at_rest c.self.inside.text.now c.self.inside.dialect c.self.inside.chars c.in-Some.begun.text (gap_of c.self.inside.chars) c.self.invariant.0 c.in-Some.ensures.gap.rest_is in
-    some_before c.self.inside.text.now c.self.inside.dialect (place_of c.past_gap-standing.result) c.in-Some.begun.text c.in-Some-cut_plain.left c.in-Some-cut_plain.kind rest c.in-Some-cut_plain.ensures
+    some_before c.self.inside.text.now c.self.inside.dialect (place_of c.past_gap-standing.result) c.in-Some.begun.text c.in-Some-cut_begun.left c.in-Some-cut_begun.kind rest c.in-Some-cut_begun.ensures
 
 pub ends_plainly-requires-clause-within : goal.ends_plainly-requires-clause-within
 ends_plainly-requires-clause-within c =
     let rest = at_rest c.self.inside.text.now c.self.inside.dialect c.self.inside.chars c.in-Some.begun.text (gap_of c.self.inside.chars) c.self.invariant.0 c.in-Some.ensures.gap.rest_is in
-    (bounds c.self.inside.text.now c.self.inside.dialect (place_of c.past_gap-standing.result) c.in-Some.begun.text c.in-Some-cut_plain.left c.in-Some-cut_plain.kind c.in-Some.begun.first rest (ap (λ z. slice_get z 0) c.in-Some.ensures.begun.chars_are) c.in-Some-cut_plain.ensures).1
+    (bounds c.self.inside.text.now c.self.inside.dialect (place_of c.past_gap-standing.result) c.in-Some.begun.text c.in-Some-cut_begun.left c.in-Some-cut_begun.kind c.in-Some.begun.first rest (ap (λ z. slice_get z 0) c.in-Some.ensures.begun.chars_are) c.in-Some-cut_begun.ensures).1
 
 pub ends_plainly-requires-clause-slashed : goal.ends_plainly-requires-clause-slashed
 ends_plainly-requires-clause-slashed c = slashed_rest c.self.inside.text.now c.self.inside.chars c.in-Some.begun.text (gap_of c.self.inside.chars) c.self.invariant.1 c.in-Some.ensures.gap.rest_is
@@ -31,43 +31,43 @@ ends_plainly-requires-clause-slashed c = slashed_rest c.self.inside.text.now c.s
 pub between-raw-requires-clause-order : goal.between-raw-requires-clause-order
 between-raw-requires-clause-order c =
     let rest = at_rest c.self.inside.text.now c.self.inside.dialect c.self.inside.chars c.in-Some.begun.text (gap_of c.self.inside.chars) c.self.invariant.0 c.in-Some.ensures.gap.rest_is in
-    rw c.at.ensures (bounds c.self.inside.text.now c.self.inside.dialect (place_of c.past_gap-standing.result) c.in-Some.begun.text c.in-Some-cut_plain.left c.in-Some-cut_plain.kind c.in-Some.begun.first rest (ap (λ z. slice_get z 0) c.in-Some.ensures.begun.chars_are) c.in-Some-cut_plain.ensures).0
+    rw c.at.ensures (bounds c.self.inside.text.now c.self.inside.dialect (place_of c.past_gap-standing.result) c.in-Some.begun.text c.in-Some-cut_begun.left c.in-Some-cut_begun.kind c.in-Some.begun.first rest (ap (λ z. slice_get z 0) c.in-Some.ensures.begun.chars_are) c.in-Some-cut_begun.ensures).0
 
 pub between-raw-requires-clause-within : goal.between-raw-requires-clause-within
 between-raw-requires-clause-within c =
     let rest = at_rest c.self.inside.text.now c.self.inside.dialect c.self.inside.chars c.in-Some.begun.text (gap_of c.self.inside.chars) c.self.invariant.0 c.in-Some.ensures.gap.rest_is in
-    rw c.at.ensures (bounds c.self.inside.text.now c.self.inside.dialect (place_of c.past_gap-standing.result) c.in-Some.begun.text c.in-Some-cut_plain.left c.in-Some-cut_plain.kind c.in-Some.begun.first rest (ap (λ z. slice_get z 0) c.in-Some.ensures.begun.chars_are) c.in-Some-cut_plain.ensures).1
+    rw c.at.ensures (bounds c.self.inside.text.now c.self.inside.dialect (place_of c.past_gap-standing.result) c.in-Some.begun.text c.in-Some-cut_begun.left c.in-Some-cut_begun.kind c.in-Some.begun.first rest (ap (λ z. slice_get z 0) c.in-Some.ensures.begun.chars_are) c.in-Some-cut_begun.ensures).1
 
 pub invariant_of-self : goal.invariant_of-self
 invariant_of-self c =
     let rest = at_rest c.self.inside.text.now c.self.inside.dialect c.self.inside.chars c.in-Some.begun.text (gap_of c.self.inside.chars) c.self.invariant.0 c.in-Some.ensures.gap.rest_is in (
-      at_rest c.self.inside.text.now c.self.inside.dialect c.in-Some.begun.text c.in-Some-cut_plain.left c.in-Some-cut_plain.ensures.n rest c.in-Some-cut_plain.ensures.left_is,
-      slashed_rest c.self.inside.text.now c.in-Some.begun.text c.in-Some-cut_plain.left c.in-Some-cut_plain.ensures.n
-          (slashed_rest c.self.inside.text.now c.self.inside.chars c.in-Some.begun.text (gap_of c.self.inside.chars) c.self.invariant.1 c.in-Some.ensures.gap.rest_is) c.in-Some-cut_plain.ensures.left_is,
+      at_rest c.self.inside.text.now c.self.inside.dialect c.in-Some.begun.text c.in-Some-cut_begun.left c.in-Some-cut_begun.ensures.n rest c.in-Some-cut_begun.ensures.left_is,
+      slashed_rest c.self.inside.text.now c.in-Some.begun.text c.in-Some-cut_begun.left c.in-Some-cut_begun.ensures.n
+          (slashed_rest c.self.inside.text.now c.self.inside.chars c.in-Some.begun.text (gap_of c.self.inside.chars) c.self.invariant.1 c.in-Some.ensures.gap.rest_is) c.in-Some-cut_begun.ensures.left_is,
     )
 
 pub returns-clause-some : goal.returns-clause-some
 returns-clause-some c =
     let old : Reading = record { text = c.self.inside.text.now; dialect = c.self.inside.dialect; left = record { place = place_of c.self.inside.standing; chars = c.self.inside.chars.chars } } in
-    let new : Reading = record { text = c.self.inside.text.now; dialect = c.self.inside.dialect; left = record { place = place_of c.in-Some-past_begun.past; chars = c.in-Some-cut_plain.left.chars } } in
+    let new : Reading = record { text = c.self.inside.text.now; dialect = c.self.inside.dialect; left = record { place = place_of c.in-Some-past_begun.past; chars = c.in-Some-cut_begun.left.chars } } in
     let gap = c.in-Some.ensures.gap in
     let new_line = ap (λ k. not (k == 0)) gap.lines_are ∙ gap_lines c.self.inside.chars.chars in
-    let next : IsNextItem old new c.in-Some-cut_plain.kind c.in-Some.begun.first.from c.between-raw.result.now =
+    let next : IsNextItem old new c.in-Some-cut_begun.kind c.in-Some.begun.first.from c.between-raw.result.now =
     next_there c.self.inside.text.now c.self.inside.dialect (place_of c.self.inside.standing) (place_of c.past_gap-standing.result) (place_of c.in-Some-past_begun.past)
-    c.self.inside.chars c.in-Some.begun.text c.in-Some-cut_plain.left (not (c.in-Some.begun.lines == 0)) c.in-Some.begun.first c.in-Some-cut_plain.kind c.between-raw.result.now c.self.invariant.0
-    new_line gap.rest_is (ap (λ z. slice_get z 0) c.in-Some.ensures.begun.chars_are) c.past_gap-standing.ensures c.in-Some-cut_plain.ensures
+    c.self.inside.chars c.in-Some.begun.text c.in-Some-cut_begun.left (not (c.in-Some.begun.lines == 0)) c.in-Some.begun.first c.in-Some-cut_begun.kind c.between-raw.result.now c.self.invariant.0
+    new_line gap.rest_is (ap (λ z. slice_get z 0) c.in-Some.ensures.begun.chars_are) c.past_gap-standing.ensures c.in-Some-cut_begun.ensures
     c.in-Some-past_begun.ensures
     (c.between-raw.ensures ∙ ap (λ k. take (k - c.in-Some.begun.first.from) (drop c.in-Some.begun.first.from c.self.inside.text.now)) c.at.ensures) in
     let lexeme : Lexeme = record {
-      item = record { kind = c.in-Some-cut_plain.kind; raw = c.between-raw.result; start = c.in-Some.begun.first.from };
+      item = record { kind = c.in-Some-cut_begun.kind; raw = c.between-raw.result; start = c.in-Some.begun.first.from };
       lines = c.in-Some.begun.lines;
       bytes = c.in-Some.begun.bytes;
       white = not (c.in-Some.begun.bytes == 0);
       back = false;
     } in
     subst (λ v. IsNextLexeme v new lexeme) c.self.view_is
-    (lexeme_there old new c.self.inside.chars c.in-Some.begun.text c.in-Some-cut_plain.left (place_of c.past_gap-standing.result) c.in-Some-cut_plain.kind lexeme c.self.invariant.0 refl gap.rest_is
-    c.in-Some-cut_plain.ensures refl gap.lines_are gap.bytes_are refl (λ n within e. sym (c.ends_plainly.ensures c.if-not-ends_plainly.false n within e)) next)
+    (lexeme_there old new c.self.inside.chars c.in-Some.begun.text c.in-Some-cut_begun.left (place_of c.past_gap-standing.result) c.in-Some-cut_begun.kind lexeme c.self.invariant.0 refl gap.rest_is
+    c.in-Some-cut_begun.ensures refl gap.lines_are gap.bytes_are refl (λ n within e. sym (c.ends_plainly.ensures c.if-not-ends_plainly.false n within e)) next)
 
 pub past_begun-requires-clause-spans : goal.past_begun-requires-clause-spans
 past_begun-requires-clause-spans c =

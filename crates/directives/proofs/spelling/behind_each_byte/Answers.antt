@@ -2,7 +2,7 @@ use Rattle.std.proofs.Common.{◌∙◌, ◌+◌, ◌<◌, arith, length, drop, 
 use Rattle.std.proofs.lemmas.List.{drop_more}
 use Rattle.c_grammar.specs.Rewritten.{read_alone}
 use Rattle.directives.proofs.Spellings.{front_none}
-use Rattle.directives.proofs.spelling.behind_word.Goals as goal
+use Rattle.directives.proofs.spelling.behind_each_byte.Goals as goal
 
 pub returns-in-None : goal.returns-in-None
 returns-in-None c =

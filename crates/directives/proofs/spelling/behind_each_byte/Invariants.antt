@@ -1,7 +1,7 @@
 use Rattle.std.proofs.Common.{◌≡◌, ◌++◌, take, drop}
 use Rattle.c_grammar.specs.Touch.{is_front}
 use Rattle.c_grammar.specs.Rewritten.{read_alone}
-use Rattle.directives.proofs.spelling.behind_word.Given as goal
+use Rattle.directives.proofs.spelling.behind_each_byte.Given as goal
 
 abbrev pub invariant-loop-byte : goal.invariant-loop-byte
 invariant-loop-byte l = record {

@@ -1,7 +1,7 @@
 use Rattle.std.proofs.Common.{◌<◌, length, subst, sym, arith}
 use Rattle.c_lexer.specs.Place.{place_of}
 use Rattle.c_lexer.proofs.Nexts.{next_of_cut}
-use Rattle.c_lexer.proofs.next.cut_plain.Goals as goal
+use Rattle.c_lexer.proofs.next.cut_begun.Goals as goal
 
 pub returns-in-Some : goal.returns-in-Some
 returns-in-Some c =
