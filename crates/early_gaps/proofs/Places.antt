@@ -41,6 +41,9 @@ pub one_more : (f : ℕ → Option Slot) (plan after : List (Option Slot)) (plac
 one_more f plan after place rest count made more is here =
     rw (here, more, is) (sym (decided_all-append plan (made_at place (f place)) (made_from f (place + 1) rest)))
 
+pub within_or : (n place : ℕ) → (place < n) ⊎ (n ≤ place)
+within_or n place = grind arith
+
 -- where nothing is decided for some places, there are no decisions
 pub none_from : (f : ℕ → Option Slot) (at n : ℕ) → ((place : ℕ) → at ≤ place → place < at + n → f place ≡ None) → made_from f at n ≡ []
 none_from f at zero none = refl

@@ -1,11 +1,11 @@
 -- The gaps that stay before the runs: docs/PROFILE.md, "Gaps that no run decides".
-use Rattle.std.specs.Prelude.{◌≡◌, ◌||◌, ℕ, Bool, false, Option, Some, None, List, get_or, if◌then◌else◌}
+use Rattle.std.specs.Prelude.{◌≡◌, ◌<◌, ◌||◌, ℕ, Bool, false, Option, Some, None, List, get_or, if◌then◌else◌, slice_get}
 use Rattle.token_arena.specs.Gaps.{Contents}
 use Rattle.replacements.specs.Sound.{item_before}
 use Rattle.replacements.specs.declared.slot.Slot.{Slot}
 use Rattle.run_layout.specs.InputColumns.{kept_slot}
 use Rattle.early_gaps.specs.Columns.{column_at}
-use Rattle.early_gaps.specs.Dead.{is_beside_dead, is_behind_dead}
+use Rattle.early_gaps.specs.Dead.{is_beside_dead, is_behind_dead, is_dead_item}
 use Rattle.early_gaps.specs.Joined.{is_backslash, is_beside_joined, is_behind_joined}
 use Rattle.early_gaps.specs.declared.behind.Behind.{Behind}
 use Rattle.early_gaps.specs.declared.columns.InputColumn.{InputColumn}
@@ -29,3 +29,7 @@ pub record IsBehind (arena : Contents) (place : ℕ) (behind : Behind) : Type 0 
 -- the column of a place is known
 abbrev pub IsColumn : ℕ → Contents → InputColumn → Type 0
 IsColumn tab arena known = known.column ≡ column_at tab arena known.place
+
+-- Of so many items none is dead, and none a backslash alone.
+abbrev pub ArePlain : Contents → ℕ → Type 0
+ArePlain arena count = (id : ℕ) → id < count → (is_dead_item arena id ≡ false) × (is_backslash (slice_get arena.tokens id) ≡ false)

@@ -1,10 +1,10 @@
 //! What the items before a place make of its gap.
 
-ghost use Rattle.std.specs.Prelude.{◌≡◌, ◌≤◌, ◌+◌, ◌||◌, false, length, slice_get};
+ghost use Rattle.std.specs.Prelude.{◌≡◌, ◌≤◌, ◌+◌, ◌||◌, false, length, slice_get, IsTrue};
 ghost use Rattle.c_chars.specs.declared.TheConstants.{LIMIT};
 ghost use Rattle.early_gaps.specs.Dead.{IsTreeOf, is_dead_item};
 ghost use Rattle.early_gaps.specs.Joined.{is_backslash, is_joined};
-ghost use Rattle.early_gaps.specs.Kept.{IsBehind};
+ghost use Rattle.early_gaps.specs.Kept.{ArePlain, IsBehind};
 
 use branch_runs::CondTree;
 use c_grammar::ItemKind;
@@ -61,6 +61,19 @@ fn is_joined(arena: &TokenArena<'_, '_>, behind: Behind, place: u32) -> bool
     } else {
         behind.joined
     }
+}
+
+/// Whether no item is dead and none is a backslash alone, as in most texts: then no gap stays for what is beside it.
+pub(crate) fn are_all_plain(arena: &TokenArena<'_, '_>, tree: &CondTree<'_>) -> bool
+    requires { IsTreeOf arena.now tree.now }
+    ensures { IsTrue result → ArePlain arena.now (length arena.now.tokens) }
+{
+    for id in 0..arena.len() {
+        if is_dead_item(arena, tree, id) || is_backslash(arena, id) {
+            return false;
+        }
+    }
+    true
 }
 
 /// Nothing stands before the first place.

@@ -1,7 +1,8 @@
 //! The gaps that stay as they are.
 
-ghost use Rattle.std.specs.Prelude.{◌≡◌, ◌≤◌, ◌<◌, ◌+◌, ◌||◌, Some, None, if◌then◌else◌, false, get_or, length};
+ghost use Rattle.std.specs.Prelude.{◌≡◌, ◌≤◌, ◌<◌, ◌+◌, ◌||◌, [], Some, None, if◌then◌else◌, false, get_or, length, option_map, IsTrue, OnOk};
 ghost use Rattle.c_chars.specs.declared.TheConstants.{LIMIT};
+ghost use Rattle.off_regions.specs.Frozen.{frozen_gaps};
 ghost use Rattle.replacements.specs.Decisions.{decided_all};
 ghost use Rattle.run_layout.specs.InputColumns.{kept_slot};
 ghost use Rattle.early_gaps.specs.Columns.{column_at};
@@ -9,10 +10,13 @@ ghost use Rattle.early_gaps.specs.Dead.{IsTreeOf};
 ghost use Rattle.early_gaps.specs.Kept.{IsBehind, IsColumn, is_kept, kept_at};
 ghost use Rattle.early_gaps.specs.Made.{made_at, made_from};
 
-use crate::behind::{Behind, next_behind, nothing_before};
+use crate::behind::{Behind, are_all_plain, next_behind, nothing_before};
 use crate::columns::{InputColumn, column_from, first_column};
 use branch_runs::CondTree;
+use bumpalo::Bump;
 use gap_text::Decision;
+use line_tokens::NoMemory;
+use off_regions::{Ranges, frozen, is_never_off};
 use replacements::Plan;
 use token_arena::TokenArena;
 
@@ -78,4 +82,45 @@ pub(crate) fn keep_gaps(
         known = keep(tab, arena, kept, known, place, plan);
         behind = here;
     }
+}
+
+/// Whether it is told at once that no gap stays, as in most texts whose lines are all asked for.
+fn keeps_none(
+    tab: u32,
+    arena: &TokenArena<'_, '_>,
+    tree: &CondTree<'_>,
+    ranges: Option<&Ranges>,
+) -> bool
+    requires { IsTreeOf arena.now tree.now }
+    ensures { IsTrue result → made_from (kept_at tab arena.now (frozen_gaps arena.now (option_map (λ ranges. ranges.now) ranges.entry))) 0 (length arena.now.tokens + 1) ≡ [] }
+{
+    match ranges {
+        Some(_) => false,
+        None => is_never_off(arena) && are_all_plain(arena, tree),
+    }
+}
+
+/// Keeps the bytes of all gaps that stay, where they are open, and where these lines are asked for. Want of memory is the
+/// only error.
+pub(crate) fn keep_staying(
+    tab: u32,
+    arena: &TokenArena<'_, '_>,
+    tree: &CondTree<'_>,
+    ranges: Option<&Ranges>,
+    bump: &Bump,
+    plan: &mut Plan<'_>,
+) -> Result<(), NoMemory>
+    requires tab { 1 ≤ tab }
+    requires fits { length arena.now.text ≤ LIMIT }
+    requires tree { IsTreeOf arena.now tree.now }
+    requires whole { length plan.old ≡ length arena.now.tokens + 1 }
+    ensures plan { OnOk result (plan.new ≡ decided_all plan.old (made_from (kept_at tab arena.now (frozen_gaps arena.now (option_map (λ ranges. ranges.now) ranges.entry))) 0 (length arena.now.tokens + 1))) }
+    ensures len { length plan.new ≡ length plan.old }
+{
+    if keeps_none(tab, arena, tree, ranges) {
+        return Ok(());
+    }
+    let marks = frozen(arena, ranges, bump)?;
+    keep_gaps(tab, arena, tree, marks, plan);
+    Ok(())
 }

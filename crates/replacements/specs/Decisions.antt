@@ -1,5 +1,5 @@
 -- What is decided for the gaps of a text, one decision after another. docs/PROFILE.md, "Runs": the first run that sees a gap decides it.
-use Rattle.std.specs.Prelude.{◌==◌, ℕ, List, [], ◌∷◌, Option, Some, None, is_some, if◌then◌else◌, slice_index_or, slice_set}
+use Rattle.std.specs.Prelude.{◌≡◌, ◌==◌, ◌<◌, ◌≤◌, ℕ, List, [], ◌∷◌, Option, Some, None, is_some, IsSome, if◌then◌else◌, slice_index_or, slice_set}
 use Rattle.replacements.specs.declared.slot.Slot.{Slot}
 
 -- what a plan has for the gap at a place: nothing where it is open
@@ -19,3 +19,14 @@ decided_all plan (made ∷ later) = decided_all (decided plan made.0 made.1) lat
 abbrev pub first_for : ℕ → List (ℕ × Slot) → Option Slot
 first_for place [] = None
 first_for place (made ∷ later) = if made.0 == place then Some made.1 else first_for place later
+
+-- the gaps at the places from one up to another are decided
+abbrev pub AreDecided : List (Option Slot) → ℕ → ℕ → Type 0
+AreDecided plan first end = (place : ℕ) → first ≤ place → place < end → IsSome (slot_of plan place)
+
+-- one of them is open
+pub record IsSomeOpen (plan : List (Option Slot)) (first end : ℕ) : Type 0 where
+  pub place : ℕ
+  pub from : first ≤ place
+  pub within : place < end
+  pub open_gap : slot_of plan place ≡ None

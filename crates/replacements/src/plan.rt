@@ -1,10 +1,12 @@
 //! The decisions for the gaps of a text.
 
 ghost use Rattle.std.specs.Prelude.{◌≡◌, ◌<◌, ◌≤◌, ◌+◌, ◌↔◌, None, length, replicate, IfOk, IsSome, IsTrue};
+ghost use Rattle.std.specs.Bool.{OnFalse, OnTrue};
 ghost use Rattle.c_chars.specs.declared.TheConstants.{LIMIT};
 ghost use Rattle.replacements.specs.declared.slot.Decided.TheVariants as Decided;
-ghost use Rattle.replacements.specs.Decisions.{decided, slot_of};
+ghost use Rattle.replacements.specs.Decisions.{AreDecided, IsSomeOpen, decided, slot_of};
 ghost use Rattle.replacements.specs.Breaks.{fixed_by, has_line_end, has_new_line_at};
+ghost use Rattle.replacements.specs.Entries.{slots_in};
 
 use crate::entry::Entry;
 use crate::reading::has_new_line_at;
@@ -30,6 +32,20 @@ fn ends_line(arena: &TokenArena<'_, '_>, place: u32, decision: Decision) -> bool
         Decision::Lines { count, .. } => count > 0,
         Decision::Splice { .. } => true,
     }
+}
+
+/// Whether each of these entries is that of a decided gap.
+#[inline(always)]
+fn all_decided(entries: &[Entry]) -> bool
+    ensures yes { OnTrue result (AreDecided (slots_in entries.now) 0 (length entries.now)) }
+    ensures no { OnFalse result (IsSomeOpen (slots_in entries.now) 0 (length entries.now)) }
+{
+    for at in 0..entries.len() {
+        if !entries[at].is_decided() {
+            return false;
+        }
+    }
+    true
 }
 
 /// What is decided for the gaps of a text, and so far nothing for some. A contract sees the list of what is
@@ -84,6 +100,18 @@ impl<'a> Plan<'a> {
     {
         let entries = &*self.entries;
         entries[place as usize].is_decided()
+    }
+
+    /// Whether the gaps at the places from one up to another are decided.
+    #[inline(always)]
+    pub fn are_decided(&self, first: u32, end: u32) -> bool
+        requires order { first ≤ end }
+        requires within { end ≤ length self.now }
+        ensures yes { OnTrue result (AreDecided self.now first end) }
+        ensures no { OnFalse result (IsSomeOpen self.now first end) }
+    {
+        let entries = &*self.entries;
+        all_decided(&entries[first as usize..end as usize])
     }
 
     /// What is decided for a gap.

@@ -147,21 +147,32 @@ fn right_tells(r: Role) -> bool
         || r.is_asm_colon()
 }
 
-/// The blanks before the right token, in columns, where the gap between the two doesn't break. At most 16.
-///
-/// A gap that had bytes keeps a blank where the two tokens without one could be read as something else.
-pub fn spaces_before(style: &Style, left: &LineTok, right: &LineTok) -> u8
+/// The blanks before the right token, by the table. A gap that had bytes keeps one where the two tokens may not touch.
+fn by_rows(style: &Style, left: &LineTok, right: &LineTok) -> u8
     requires { IsInRange style.now }
     ensures table { result ≡ spaces_before style.now left.now right.now }
     ensures few { result ≤ 16 }
 {
-    if !left_tells(left.role) && !right_tells(right.role) {
-        return 1;
-    }
     let spaces = by_table(style, left, right);
     if spaces == 0 && !right.gap.empty && !right.touch {
         1
     } else {
         spaces
     }
+}
+
+/// The blanks before the right token, in columns, where the gap between the two doesn't break. At most 16.
+///
+/// A gap that had bytes keeps a blank where the two tokens without one could be read as something else.
+#[inline(always)]
+pub fn spaces_before(style: &Style, left: &LineTok, right: &LineTok) -> u8
+    requires { IsInRange style.now }
+    ensures table { result ≡ spaces_before style.now left.now right.now }
+    ensures few { result ≤ 16 }
+{
+    // For most pairs no row holds, and the table isn't read.
+    if !left_tells(left.role) && !right_tells(right.role) {
+        return 1;
+    }
+    by_rows(style, left, right)
 }
