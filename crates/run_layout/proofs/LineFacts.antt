@@ -107,6 +107,6 @@ row_decides style arena ids toks plan line budget start behind token tell some a
     let column : s.column ≡ behind = ap (λ (x : Layout). x.column) (sym w.thrifty) ∙ w.column_is in
     let index : s.index ≡ 1 = first_index l some in
     let before : s.index - 1 ≡ 0 = omega (arith, index) in
-    let least : IsLeast (Step l) s (gaps l) (stays (gaps l)) 0 = thrifty_least (Step l) (functional l s (gaps l)) s row.straight.layout (gaps l) (stays (gaps l)) row.straight.count row.straight.thrifty in
+    let least : IsLeast (Step l) s (gaps l) (stays (gaps l)) 0 = thrifty_least (Step l) (functional l) s row.straight.layout (gaps l) (stays (gaps l)) row.straight.count row.straight.thrifty in
     row_is_made line (of_line line ids) l s least.reaches.0 0 (gaps l) token is.inside (line_has_numbers arena ids toks line tell) least.reaches.1 (omega (arith, index)) (omega (arith, index, some)) (ap (λ i. slice_get (of_line line toks) i) before ∙ at)
     ∙ (ap (λ x. row_made style x token (drop s.index (of_line line toks))) column ∙ ap (λ i. row_made style behind token (drop i (of_line line toks))) index)

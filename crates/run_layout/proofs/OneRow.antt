@@ -242,7 +242,7 @@ row_found l budget row =
     let s = row.straight in
     record {
       whole = 0;
-      least = thrifty_least (Step l) (functional l (first_layout l) (gaps l)) (first_layout l) s.layout (gaps l) (stays (gaps l)) s.count s.thrifty;
+      least = thrifty_least (Step l) (functional l) (first_layout l) s.layout (gaps l) (stays (gaps l)) s.count s.thrifty;
       told = ap (λ x. min (x + 0) 18446744073709551615) (sym row.free);
       own = s.own;
     }
