@@ -37,12 +37,12 @@ fn lines_between<'r>(
             Some(next) => next.first,
             None => count,
         };
-        lines.push(ULine {
+        lines.push_reserved(ULine {
             first: begin.first,
             last: end.saturating_sub(1),
             level: begin.level,
             kind: begin.kind,
-        })?;
+        });
     }
     Ok(lines)
 }
@@ -53,12 +53,12 @@ fn token_lines<'r>(lines: &[Line], run: &'r Bump) -> Result<Vec<ULine, &'r Bump>
 {
     let mut view_lines = Vec::with_capacity(run, lines.len())?;
     for line in lines {
-        view_lines.push(ULine {
+        view_lines.push_reserved(ULine {
             first: line.first,
             last: line.end.saturating_sub(1),
             level: line.level,
             kind: line.kind,
-        })?;
+        });
     }
     Ok(view_lines)
 }

@@ -1,7 +1,5 @@
 use Rattle.std.proofs.Common.{◌≡◌, ◌∙◌, ◌+◌, ◌-◌, ◌<◌, ℕ, length, drop, get_or, ap, sym, subst, arith}
 use Rattle.annotator.specs.Held.{is_held}
-use Rattle.token_arena.specs.Stored.{Stored}
-use Rattle.item_edges.specs.Edges.{edge_of}
 use Rattle.annotator.specs.Tokens.{stands_apart}
 use Rattle.annotator.proofs.Items.{edges_touch}
 use Rattle.annotator.proofs.Segmented.{follows, pushed_on, counted_on, known_on}
@@ -17,9 +15,9 @@ loop-id-preserved c =
     let first = c.args.segment.first in
     let toks = c.loop-id.toks.items in
     let after = c.push_reserved.new.self.items in
-    let k = c.len-place.result in
+    let k = c.loop-id.place in
     let i : ℕ = id - first in
-    let count : k ≡ length toks = c.len-place.ensures ∙ c.loop-id.toks.ok.0 in
+    let count : k ≡ length toks = v.place in
     let within : k < length marks = omega (arith, count, v.count, v.from, c.loop-id-test.true, c.requires.places) in
     let place : length c.args.toks.now.items + i ≡ k = omega (arith, count, v.count) in
     let next_place : length c.args.toks.now.items + (i + 1) ≡ k + 1 = omega (arith, place) in
@@ -30,9 +28,10 @@ loop-id-preserved c =
     record {
       from = omega (arith, v.from);
       count = counted_on toks after c.tok_of.result (length c.args.toks.now.items) i made v.count ∙ omega (arith, v.from);
+      place = omega (arith, v.place, v.count, counted_on toks after c.tok_of.result (length c.args.toks.now.items) i made v.count);
       room = c.push_reserved.ensures.capacity ∙ v.room;
       same = pushed_on arena ids marks toks after k id _ c.loop-id.apart c.holds-held.result c.tok_of.result count within at apart holds c.tok_of.ensures made ∙ v.same;
-      left = edges_touch arena id c.edge_of-edge.result (c.edge_of-edge.ensures ∙ ap (λ (token : Stored). edge_of token.kind token.raw) c.item-token.ensures.is);
+      left = edges_touch arena id c.edge_at-edge.result c.edge_at-edge.ensures;
       apart = λ more.
           let next : get_or ids (k + 1) 0 ≡ id + 1 = subst (λ x. get_or ids x 0 ≡ first + (i + 1)) next_place (c.requires.items (i + 1) (omega (arith, v.from, more))) ∙ omega (arith, v.from) in
           sym (ap (λ n. stands_apart ids n) (counted_on toks after c.tok_of.result (length c.args.toks.now.items) i made v.count ∙ next_place) ∙ follows ids k id at next);
