@@ -218,7 +218,7 @@ impl<'s> Lexer<'s> {
     /// The next item, with what it and its gap tell, where it isn't told at once; none exactly where no
     /// item is left.
     #[inline(never)]
-    fn next_any(&mut self) -> Result<Option<Lexeme<'s>>, LexFault>
+    pub fn next_any(&mut self) -> Result<Option<Lexeme<'s>>, LexFault>
         ensures text { self.new.text ≡ self.old.text }
         ensures dialect { self.new.dialect ≡ self.old.dialect }
         ensures some { IfOk result (λ next. MatchOption next (IsTrue (is_gap (bytes_of self.old.left.chars))) (λ lexeme. IsNextLexeme self.old self.new lexeme)) }
@@ -230,6 +230,18 @@ impl<'s> Lexer<'s> {
             Some(lexeme) => Ok(Some(lexeme)),
             None => self.next_rest(),
         }
+    }
+
+    /// The next item, with what it and its gap tell, where it is a word, a number or a punctuator that plain bytes
+    /// tell at once; none elsewhere, where the reader stays. It calls nothing.
+    #[inline(always)]
+    pub fn next_plain_lexeme(&mut self) -> Option<Lexeme<'s>>
+        ensures text { self.new.text ≡ self.old.text }
+        ensures dialect { self.new.dialect ≡ self.old.dialect }
+        ensures some { IfSome result (λ lexeme. IsNextLexeme self.old self.new lexeme) }
+        ensures none { IfNone result (self.new ≡ self.old) }
+    {
+        self.next_plain(false)
     }
 
     /// The next item, with what it and its gap tell; none exactly where no item is left.

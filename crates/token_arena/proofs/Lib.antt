@@ -5,3 +5,4 @@ pub mod StepLemmas
 pub mod KeptLemmas
 pub mod NextLemmas
 pub mod Spans
+pub mod Eights

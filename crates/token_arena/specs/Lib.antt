@@ -2,4 +2,5 @@ pub mod Stored
 pub mod Gaps
 pub mod Holds
 pub mod Entries
+pub mod Eight
 pub mod Building

@@ -1,10 +1,11 @@
 //! What is kept of an item, from its bytes and those of the gap before it.
 
-ghost use Rattle.std.specs.Prelude.{◌≡◌, ◌<◌, ◌≤◌, ◌-◌, ◌^◌, not, length, count_by};
+ghost use Rattle.std.specs.Prelude.{◌≡◌, ◌<◌, ◌≤◌, ◌-◌, ◌^◌, not, length, count_by, IsTrue};
 ghost use Rattle.std.specs.Int.{is_in_range};
 ghost use Rattle.std.specs.List.{list_all, position_or_len, suffix_len};
 ghost use Rattle.std.specs.Io.BufRead.{strip_last};
 ghost use Rattle.token_arena.specs.Stored.{is_line_feed, rows_of, first_row, last_row, width_of};
+ghost use Rattle.token_arena.specs.Eight.{unprintable};
 ghost use Rattle.token_arena.specs.Entries.{entry_of};
 
 use crate::arena::Entry;
@@ -70,11 +71,61 @@ fn last_row(raw: &[u8]) -> &[u8]
     &raw[last_row_start(raw)..]
 }
 
+/// The highest bit of each of eight bytes.
+const HIGH_BITS: u64 = 0x8080_8080_8080_8080;
+
+/// The other bits of each of eight bytes.
+const LOW_BITS: u64 = 0x7f7f_7f7f_7f7f_7f7f;
+
+/// The highest bit of each of eight bytes that is no printable character of ASCII.
+///
+/// No sum carries into the next byte: the first sets the highest bit from 0x20 on, and the second at 0x7F.
+#[tactic(auto, using(std::proofs::lemmas::Nat::and_le_r), unfolding(crate::specs::Eight::unprintable))]
+#[inline(always)]
+fn unprintable(eight: u64) -> u64
+    ensures { result ≡ unprintable eight }
+{
+    let low = eight & LOW_BITS;
+    let ink = low + 0x6060_6060_6060_6060;
+    let delete = low + 0x0101_0101_0101_0101;
+    ((ink ^ HIGH_BITS) | delete | eight) & HIGH_BITS
+}
+
+/// Whether eight bytes are printable characters of ASCII.
+#[inline(always)]
+fn are_printable(eight: &[u8; 8]) -> bool
+    ensures { IsTrue result → IsTrue (list_all (is_in_range 0x20 0x7E) eight.now) }
+{
+    unprintable(u64::from_le_bytes(*eight)) == 0
+}
+
+/// What stands in a row behind bytes that are told to be printable eight at a time.
+#[inline(always)]
+fn behind_printable(row: &[u8]) -> &[u8]
+    ensures { list_all (is_in_range 0x20 0x7E) result.now ≡ list_all (is_in_range 0x20 0x7E) row.now }
+{
+    let mut rest = row;
+    while let Some((eight, behind)) = rest.split_first_chunk::<8>() {
+        if !are_printable(eight) {
+            return rest;
+        }
+        rest = behind;
+    }
+    rest
+}
+
 /// Whether each byte is a printable character of ASCII.
+#[inline(always)]
 fn is_printable(row: &[u8]) -> bool
     ensures { result ≡ list_all (is_in_range 0x20 0x7E) row.now }
 {
-    row.iter().all(|b| (0x20..=0x7E).contains(b))
+    let rest = behind_printable(row);
+    for byte in rest {
+        if !(0x20..=0x7E).contains(byte) {
+            return false;
+        }
+    }
+    true
 }
 
 /// How many columns a row takes. Most rows are printable ASCII.

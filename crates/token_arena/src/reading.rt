@@ -35,7 +35,13 @@ fn entries_of<'a>(bump: &'a Bump, text: &[u8], dialect: Dialect) -> Result<&'a [
     let mut lexer = Lexer::new(text, dialect);
     let mut at = mark_len(text);
     loop {
-        match lexer.next_lexeme() {
+        if let Some(lexeme) = lexer.next_plain_lexeme() {
+            let entry = entry_of(&lexeme, at);
+            entries.push(entry)?;
+            at = entry.start + entry.len;
+            continue;
+        }
+        match lexer.next_any() {
             Ok(Some(lexeme)) => {
                 let entry = entry_of(&lexeme, at);
                 entries.push(entry)?;

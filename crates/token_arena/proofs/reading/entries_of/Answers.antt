@@ -1,4 +1,5 @@
-use Rattle.std.proofs.Common.{◌∙◌, sym, subst, arith}
+use Rattle.std.proofs.Common.{◌≡◌, ◌∙◌, ◌<◌, length, sym, subst, ap, arith}
+use Rattle.c_lexer.specs.Reading.{Reading}
 use Rattle.token_arena.proofs.KeptLemmas.{IsKeptUpTo, kept_begun, kept_ended}
 use Rattle.token_arena.proofs.NextLemmas.{next_behind, next_kept, at_some, at_none}
 use Rattle.token_arena.proofs.Spans.{step_shorter}
@@ -13,40 +14,83 @@ loop-lexeme-init c = record {
       (rw (c.in_ok-entries.ensures.items, c.mark_len-at.ensures) (kept_begun c.args.dialect c.args.text.now));
 }
 
+-- an item that plain bytes tell
+
 pub entry_of-entry-requires-clause-fits : goal.entry_of-entry-requires-clause-fits
 entry_of-entry-requires-clause-fits c =
-    let next = at_some _ _ _ _ c.in-Ok-Some.field-0-is c.in-Ok-Some.ensures.some in
-    omega (arith, (next_behind _ _ _ _ _ _ c.in-Ok-Some.lexeme c.loop-lexeme.invariant.text_stays c.loop-lexeme.invariant.kept next).within, c.requires.fits)
+    omega (arith, (next_behind _ _ _ _ _ _ c.in-Some.lexeme c.loop-lexeme.invariant.text_stays c.loop-lexeme.invariant.kept c.in-Some.ensures.some).within, c.requires.fits)
 
 pub entry_of-entry-requires-clause-order : goal.entry_of-entry-requires-clause-order
 entry_of-entry-requires-clause-order c =
-    let next = at_some _ _ _ _ c.in-Ok-Some.field-0-is c.in-Ok-Some.ensures.some in
-    (next_behind _ _ _ _ _ _ c.in-Ok-Some.lexeme c.loop-lexeme.invariant.text_stays c.loop-lexeme.invariant.kept next).later
+    (next_behind _ _ _ _ _ _ c.in-Some.lexeme c.loop-lexeme.invariant.text_stays c.loop-lexeme.invariant.kept c.in-Some.ensures.some).later
 
 pub overflow_add-at : goal.overflow_add-at
 overflow_add-at c =
-    let next = at_some _ _ _ _ c.in-Ok-Some.field-0-is c.in-Ok-Some.ensures.some in
-    let within = (next_behind _ _ _ _ _ _ c.in-Ok-Some.lexeme c.loop-lexeme.invariant.text_stays c.loop-lexeme.invariant.kept next).within in
+    let within = (next_behind _ _ _ _ _ _ c.in-Some.lexeme c.loop-lexeme.invariant.text_stays c.loop-lexeme.invariant.kept c.in-Some.ensures.some).within in
     rw c.entry_of-entry.ensures (omega (arith, within, c.requires.fits))
+
+pub loop-lexeme-smaller-in-Some : goal.loop-lexeme-smaller-in-Some
+loop-lexeme-smaller-in-Some c = (step_shorter _ _ _ _ c.in-Some.ensures.some.next.step).1
+
+pub loop-lexeme-preserved-in-Some : goal.loop-lexeme-preserved-in-Some
+loop-lexeme-preserved-in-Some c = record {
+  text_stays = c.in-Some.ensures.text ∙ c.loop-lexeme.invariant.text_stays;
+  dialect_stays = c.in-Some.ensures.dialect ∙ c.loop-lexeme.invariant.dialect_stays;
+  kept =
+      rw c.in_ok-push.ensures.items
+      (next_kept _ _ _ _ _ _ c.in-Some.lexeme c.loop-lexeme.invariant.text_stays c.loop-lexeme.invariant.dialect_stays c.loop-lexeme.invariant.kept c.in-Some.ensures.some _ c.entry_of-entry.ensures);
+}
+
+-- any other item: the reader stands where it stood
+
+pub entry_of-entry-requires-in-Ok-Some-clause-fits : goal.entry_of-entry-requires-in-Ok-Some-clause-fits
+entry_of-entry-requires-in-Ok-Some-clause-fits c =
+    let same : c.next_plain_lexeme.new.self ≡ c.loop-lexeme.lexer = c.in_default.ensures.none in
+    let text_is = ap (λ (r : Reading). r.text) same ∙ c.loop-lexeme.invariant.text_stays in
+    let kept = subst (λ (r : Reading). IsKeptUpTo c.args.dialect c.args.text.now r.left c.loop-lexeme.entries.items c.loop-lexeme.at) (sym same) c.loop-lexeme.invariant.kept in
+    let next = at_some _ _ _ _ c.in-Ok-Some.field-0-is c.in-Ok-Some.ensures.some in
+    omega (arith, (next_behind _ _ _ _ _ _ c.in-Ok-Some.lexeme text_is kept next).within, c.requires.fits)
+
+pub entry_of-entry-requires-in-Ok-Some-clause-order : goal.entry_of-entry-requires-in-Ok-Some-clause-order
+entry_of-entry-requires-in-Ok-Some-clause-order c =
+    let same : c.next_plain_lexeme.new.self ≡ c.loop-lexeme.lexer = c.in_default.ensures.none in
+    let text_is = ap (λ (r : Reading). r.text) same ∙ c.loop-lexeme.invariant.text_stays in
+    let kept = subst (λ (r : Reading). IsKeptUpTo c.args.dialect c.args.text.now r.left c.loop-lexeme.entries.items c.loop-lexeme.at) (sym same) c.loop-lexeme.invariant.kept in
+    let next = at_some _ _ _ _ c.in-Ok-Some.field-0-is c.in-Ok-Some.ensures.some in
+    (next_behind _ _ _ _ _ _ c.in-Ok-Some.lexeme text_is kept next).later
+
+pub overflow_add-at-in-Ok-Some : goal.overflow_add-at-in-Ok-Some
+overflow_add-at-in-Ok-Some c =
+    let same : c.next_plain_lexeme.new.self ≡ c.loop-lexeme.lexer = c.in_default.ensures.none in
+    let text_is = ap (λ (r : Reading). r.text) same ∙ c.loop-lexeme.invariant.text_stays in
+    let kept = subst (λ (r : Reading). IsKeptUpTo c.args.dialect c.args.text.now r.left c.loop-lexeme.entries.items c.loop-lexeme.at) (sym same) c.loop-lexeme.invariant.kept in
+    let next = at_some _ _ _ _ c.in-Ok-Some.field-0-is c.in-Ok-Some.ensures.some in
+    let within = (next_behind _ _ _ _ _ _ c.in-Ok-Some.lexeme text_is kept next).within in
+    rw c.entry_of-entry-in-Ok-Some.ensures (omega (arith, within, c.requires.fits))
 
 pub loop-lexeme-smaller : goal.loop-lexeme-smaller
 loop-lexeme-smaller c =
+    let same : c.next_plain_lexeme.new.self ≡ c.loop-lexeme.lexer = c.in_default.ensures.none in
     let next = at_some _ _ _ _ c.in-Ok-Some.field-0-is c.in-Ok-Some.ensures.some in
-    (step_shorter _ _ _ _ next.next.step).1
+    subst (λ (r : Reading). length c.next_any.new.self.left.chars < length r.left.chars) same (step_shorter _ _ _ _ next.next.step).1
 
 pub loop-lexeme-preserved : goal.loop-lexeme-preserved
 loop-lexeme-preserved c =
+    let same : c.next_plain_lexeme.new.self ≡ c.loop-lexeme.lexer = c.in_default.ensures.none in
+    let text_is = ap (λ (r : Reading). r.text) same ∙ c.loop-lexeme.invariant.text_stays in
+    let dialect_is = ap (λ (r : Reading). r.dialect) same ∙ c.loop-lexeme.invariant.dialect_stays in
+    let kept = subst (λ (r : Reading). IsKeptUpTo c.args.dialect c.args.text.now r.left c.loop-lexeme.entries.items c.loop-lexeme.at) (sym same) c.loop-lexeme.invariant.kept in
     let next = at_some _ _ _ _ c.in-Ok-Some.field-0-is c.in-Ok-Some.ensures.some in
     record {
-      text_stays = c.in-Ok-Some.ensures.text ∙ c.loop-lexeme.invariant.text_stays;
-      dialect_stays = c.in-Ok-Some.ensures.dialect ∙ c.loop-lexeme.invariant.dialect_stays;
-      kept =
-          rw c.in_ok-push-in-Ok-Some.ensures.items
-          (next_kept _ _ _ _ _ _ c.in-Ok-Some.lexeme c.loop-lexeme.invariant.text_stays c.loop-lexeme.invariant.dialect_stays c.loop-lexeme.invariant.kept next _ c.entry_of-entry.ensures);
+      text_stays = c.in-Ok-Some.ensures.text ∙ text_is;
+      dialect_stays = c.in-Ok-Some.ensures.dialect ∙ dialect_is;
+      kept = rw c.in_ok-push-in-Ok-Some.ensures.items (next_kept _ _ _ _ _ _ c.in-Ok-Some.lexeme text_is dialect_is kept next _ c.entry_of-entry-in-Ok-Some.ensures);
     }
 
 pub returns-in-Ok-None-clause-entries : goal.returns-in-Ok-None-clause-entries
 returns-in-Ok-None-clause-entries c =
+    let same : c.next_plain_lexeme.new.self ≡ c.loop-lexeme.lexer = c.in_default.ensures.none in
+    let kept = subst (λ (r : Reading). IsKeptUpTo c.args.dialect c.args.text.now r.left c.loop-lexeme.entries.items c.loop-lexeme.at) (sym same) c.loop-lexeme.invariant.kept in
     rw c.into_bump_slice.ensures
-    (kept_ended c.args.dialect c.args.text.now c.loop-lexeme.lexer.left c.loop-lexeme.entries.items c.loop-lexeme.at c.requires.fits c.loop-lexeme.invariant.kept
+    (kept_ended c.args.dialect c.args.text.now c.next_plain_lexeme.new.self.left c.loop-lexeme.entries.items c.loop-lexeme.at c.requires.fits kept
     (at_none _ _ _ c.in-Ok-None.field-0-is c.in-Ok-None.ensures.some))
