@@ -41,15 +41,18 @@ pub one_more : (f : ℕ → Option Slot) (plan after : List (Option Slot)) (plac
 one_more f plan after place rest count made more is here =
     rw (here, more, is) (sym (decided_all-append plan (made_at place (f place)) (made_from f (place + 1) rest)))
 
-pub within_or : (n place : ℕ) → (place < n) ⊎ (n ≤ place)
-within_or n place = grind arith
-
 -- where nothing is decided for some places, there are no decisions
 pub none_from : (f : ℕ → Option Slot) (at n : ℕ) → ((place : ℕ) → at ≤ place → place < at + n → f place ≡ None) → made_from f at n ≡ []
 none_from f at zero none = refl
 none_from f at (suc n) none =
     ap (λ d. made_at at d ++ made_from f (at + 1) n) (none at (omega arith) (omega arith))
     ∙ none_from f (at + 1) n (λ place low high. none place (omega (arith, low)) (omega (arith, high)))
+
+-- where nothing is decided for the places up to an end, those behind it are left
+pub none_between : (f : ℕ → Option Slot) (plan : List (Option Slot)) (at end total : ℕ) → at ≤ end → end ≤ total → ((place : ℕ) → at ≤ place → place < end → f place ≡ None)
+    → decided_all plan (made_from f end (total - end)) ≡ decided_all plan (made_from f at (total - at))
+none_between f plan at end total low high none =
+    from_on f plan plan at end total low high (sym (ap (decided_all plan) (none_from f at (end - at) (λ place from within. none place from (omega (arith, within, low))))))
 
 -- ## The first decision for a place
 

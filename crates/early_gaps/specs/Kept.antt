@@ -1,5 +1,5 @@
 -- The gaps that stay before the runs: docs/PROFILE.md, "Gaps that no run decides".
-use Rattle.std.specs.Prelude.{◌≡◌, ◌<◌, ◌||◌, ℕ, Bool, false, Option, Some, None, List, get_or, if◌then◌else◌, slice_get}
+use Rattle.std.specs.Prelude.{◌≡◌, ◌||◌, ℕ, Bool, false, Option, Some, None, List, get_or, if◌then◌else◌, slice_get}
 use Rattle.token_arena.specs.Gaps.{Contents}
 use Rattle.replacements.specs.Sound.{item_before}
 use Rattle.replacements.specs.declared.slot.Slot.{Slot}
@@ -30,6 +30,14 @@ pub record IsBehind (arena : Contents) (place : ℕ) (behind : Behind) : Type 0 
 abbrev pub IsColumn : ℕ → Contents → InputColumn → Type 0
 IsColumn tab arena known = known.column ≡ column_at tab arena known.place
 
--- Of so many items none is dead, and none a backslash alone.
-abbrev pub ArePlain : Contents → ℕ → Type 0
-ArePlain arena count = (id : ℕ) → id < count → (is_dead_item arena id ≡ false) × (is_backslash (slice_get arena.tokens id) ≡ false)
+-- the item before a place makes no gap stay
+pub record IsPlain (behind : Behind) : Type 0 where
+  pub dead : behind.dead ≡ false
+  pub joined : behind.joined ≡ false
+  pub backslash : behind.backslash ≡ false
+
+-- The gap at a place isn't marked, and the item there makes no gap stay.
+pub record Passes (arena : Contents) (frozen : Bool) (place : ℕ) : Type 0 where
+  pub mark : frozen ≡ false
+  pub dead : is_dead_item arena place ≡ false
+  pub backslash : is_backslash (slice_get arena.tokens place) ≡ false

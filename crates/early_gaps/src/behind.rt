@@ -4,7 +4,7 @@ ghost use Rattle.std.specs.Prelude.{◌≡◌, ◌≤◌, ◌+◌, ◌||◌, fal
 ghost use Rattle.c_chars.specs.declared.TheConstants.{LIMIT};
 ghost use Rattle.early_gaps.specs.Dead.{IsTreeOf, is_dead_item};
 ghost use Rattle.early_gaps.specs.Joined.{is_backslash, is_joined};
-ghost use Rattle.early_gaps.specs.Kept.{ArePlain, IsBehind};
+ghost use Rattle.early_gaps.specs.Kept.{IsBehind, IsPlain, Passes};
 
 use branch_runs::CondTree;
 use c_grammar::ItemKind;
@@ -63,17 +63,36 @@ fn is_joined(arena: &TokenArena<'_, '_>, behind: Behind, place: u32) -> bool
     }
 }
 
-/// Whether no item is dead and none is a backslash alone, as in most texts: then no gap stays for what is beside it.
-pub(crate) fn are_all_plain(arena: &TokenArena<'_, '_>, tree: &CondTree<'_>) -> bool
-    requires { IsTreeOf arena.now tree.now }
-    ensures { IsTrue result → ArePlain arena.now (length arena.now.tokens) }
+/// Whether the item before a place is nothing of this, as most are.
+#[inline(always)]
+pub(crate) fn is_plain(behind: Behind) -> bool
+    ensures { IsTrue result → IsPlain behind }
 {
-    for id in 0..arena.len() {
-        if is_dead_item(arena, tree, id) || is_backslash(arena, id) {
-            return false;
-        }
+    match behind {
+        Behind {
+            dead: false,
+            joined: false,
+            backslash: false,
+        } => true,
+        _ => false,
     }
-    true
+}
+
+/// Whether no gap stays at a place behind a plain item, and the item there is plain too; its gap is frozen or not.
+#[inline(always)]
+pub(crate) fn passes(
+    arena: &TokenArena<'_, '_>,
+    tree: &CondTree<'_>,
+    frozen: bool,
+    place: u32,
+) -> bool
+    requires { IsTreeOf arena.now tree.now }
+    ensures { IsTrue result → Passes arena.now frozen place }
+{
+    if frozen || is_dead_item(arena, tree, place) {
+        return false;
+    }
+    !is_backslash(arena, place)
 }
 
 /// Nothing stands before the first place.

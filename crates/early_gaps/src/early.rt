@@ -8,14 +8,14 @@ ghost use Rattle.style_table.specs.Range.{IsInRange};
 ghost use Rattle.early_gaps.specs.BeforeRuns.{early_decisions};
 ghost use Rattle.early_gaps.specs.Dead.{IsTreeOf};
 
-use crate::keep::keep_staying;
+use crate::keep::keep_gaps;
 use crate::last::last_decision;
 use branch_runs::CondTree;
 use bumpalo::Bump;
 use directives::Section;
 use laid_directives::lay_all;
 use line_tokens::NoMemory;
-use off_regions::Ranges;
+use off_regions::{Ranges, frozen};
 use replacements::Plan;
 use std::alloc::Global;
 use style_table::Style;
@@ -43,7 +43,8 @@ pub fn decide_early(
     ensures plan { OnOk result (plan.new ≡ decided_all plan.old (early_decisions style.now arena.now (option_map (λ ranges. ranges.now) ranges.entry))) }
     ensures len { OnOk result (length plan.new ≡ length plan.old) }
 {
-    keep_staying(style.tab_width, arena, tree, ranges, bump, plan)?;
+    let marks = frozen(arena, ranges, bump)?;
+    keep_gaps(style.tab_width, arena, tree, marks, plan);
     lay_all(alloc, style, arena, sections, plan)?;
     let last = last_decision(style, arena);
     let _ = plan.decide(arena.len(), last, 0);

@@ -1,8 +1,7 @@
 //! The gaps that stay as they are.
 
-ghost use Rattle.std.specs.Prelude.{◌≡◌, ◌≤◌, ◌<◌, ◌+◌, ◌||◌, [], Some, None, if◌then◌else◌, false, get_or, length, option_map, IsTrue, OnOk};
+ghost use Rattle.std.specs.Prelude.{◌≡◌, ◌≤◌, ◌<◌, ◌+◌, ◌||◌, ℕ, Some, None, if◌then◌else◌, false, get_or, length};
 ghost use Rattle.c_chars.specs.declared.TheConstants.{LIMIT};
-ghost use Rattle.off_regions.specs.Frozen.{frozen_gaps};
 ghost use Rattle.replacements.specs.Decisions.{decided_all};
 ghost use Rattle.run_layout.specs.InputColumns.{kept_slot};
 ghost use Rattle.early_gaps.specs.Columns.{column_at};
@@ -10,13 +9,10 @@ ghost use Rattle.early_gaps.specs.Dead.{IsTreeOf};
 ghost use Rattle.early_gaps.specs.Kept.{IsBehind, IsColumn, is_kept, kept_at};
 ghost use Rattle.early_gaps.specs.Made.{made_at, made_from};
 
-use crate::behind::{Behind, are_all_plain, next_behind, nothing_before};
+use crate::behind::{Behind, is_plain, next_behind, nothing_before, passes};
 use crate::columns::{InputColumn, column_from, first_column};
 use branch_runs::CondTree;
-use bumpalo::Bump;
 use gap_text::Decision;
-use line_tokens::NoMemory;
-use off_regions::{Ranges, frozen, is_never_off};
 use replacements::Plan;
 use token_arena::TokenArena;
 
@@ -57,6 +53,36 @@ fn keep(
     InputColumn { place, column }
 }
 
+/// Passes places at which no gap stays: the items from the one before a place on are plain. The first place for which
+/// this isn't told, or the last one.
+fn pass_plain(
+    arena: &TokenArena<'_, '_>,
+    tree: &CondTree<'_>,
+    frozen: &[bool],
+    behind: Behind,
+    place: u32,
+) -> u32
+    requires tree { IsTreeOf arena.now tree.now }
+    requires marks { length frozen.now ≡ length arena.now.tokens + 1 }
+    requires behind { IsBehind arena.now place behind }
+    requires within { place ≤ length arena.now.tokens }
+    ensures later { place ≤ result }
+    ensures within { result ≤ length arena.now.tokens }
+    ensures behind { IsBehind arena.now result behind }
+    ensures none { (k : ℕ) → place ≤ k → k < result → is_kept arena.now frozen.now k ≡ false }
+{
+    if !is_plain(behind) {
+        return place;
+    }
+    let count = arena.len();
+    for at in place..count {
+        if !passes(arena, tree, frozen[at as usize], at) {
+            return at;
+        }
+    }
+    count
+}
+
 /// Keeps the bytes of all gaps that stay, where they are open. `frozen` marks those at which formatting is off or whose
 /// lines aren't asked for. It goes over the items once.
 pub(crate) fn keep_gaps(
@@ -76,51 +102,13 @@ pub(crate) fn keep_gaps(
 {
     let mut known = first_column(tab, arena);
     let mut behind = nothing_before(arena);
-    for place in 0..arena.len() + 1 {
+    let mut place = 0;
+    while place <= arena.len() {
+        place = pass_plain(arena, tree, frozen, behind, place);
         let here = next_behind(arena, tree, behind, place);
         let kept = stays(frozen[place as usize], behind, here);
         known = keep(tab, arena, kept, known, place, plan);
         behind = here;
+        place += 1;
     }
-}
-
-/// Whether it is told at once that no gap stays, as in most texts whose lines are all asked for.
-fn keeps_none(
-    tab: u32,
-    arena: &TokenArena<'_, '_>,
-    tree: &CondTree<'_>,
-    ranges: Option<&Ranges>,
-) -> bool
-    requires { IsTreeOf arena.now tree.now }
-    ensures { IsTrue result → made_from (kept_at tab arena.now (frozen_gaps arena.now (option_map (λ ranges. ranges.now) ranges.entry))) 0 (length arena.now.tokens + 1) ≡ [] }
-{
-    match ranges {
-        Some(_) => false,
-        None => is_never_off(arena) && are_all_plain(arena, tree),
-    }
-}
-
-/// Keeps the bytes of all gaps that stay, where they are open, and where these lines are asked for. Want of memory is the
-/// only error.
-pub(crate) fn keep_staying(
-    tab: u32,
-    arena: &TokenArena<'_, '_>,
-    tree: &CondTree<'_>,
-    ranges: Option<&Ranges>,
-    bump: &Bump,
-    plan: &mut Plan<'_>,
-) -> Result<(), NoMemory>
-    requires tab { 1 ≤ tab }
-    requires fits { length arena.now.text ≤ LIMIT }
-    requires tree { IsTreeOf arena.now tree.now }
-    requires whole { length plan.old ≡ length arena.now.tokens + 1 }
-    ensures plan { OnOk result (plan.new ≡ decided_all plan.old (made_from (kept_at tab arena.now (frozen_gaps arena.now (option_map (λ ranges. ranges.now) ranges.entry))) 0 (length arena.now.tokens + 1))) }
-    ensures len { length plan.new ≡ length plan.old }
-{
-    if keeps_none(tab, arena, tree, ranges) {
-        return Ok(());
-    }
-    let marks = frozen(arena, ranges, bump)?;
-    keep_gaps(tab, arena, tree, marks, plan);
-    Ok(())
 }

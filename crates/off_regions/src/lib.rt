@@ -1,7 +1,7 @@
 //! Which gaps stay as they are, since formatting is off there, or nobody asked for their lines.
 //!
 //! [`Ranges`] are the lines that are asked for. [`frozen`] marks the gaps of a text that comments switch off, and those
-//! before items that begin on no line that is asked for; [`is_never_off`] tells at once that comments switch off none.
+//! before items that begin on no line that is asked for.
 #![tactic(auto)]
 
 mod asked;
@@ -15,5 +15,5 @@ mod switch;
 pub use fault::RangeFault;
 pub use laws::{ranges_stay, regions_stay};
 pub use line_tokens::NoMemory;
-pub use marks::{frozen, is_never_off};
+pub use marks::frozen;
 pub use range::{LineRange, MOST_RANGES, Ranges};

@@ -1,4 +1,5 @@
 pub mod Items
+pub mod OpenGaps
 pub mod Counting
 pub mod Walked
 pub mod Stands

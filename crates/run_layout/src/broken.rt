@@ -1,6 +1,6 @@
 //! Lines that are broken.
 
-ghost use Rattle.std.specs.Prelude.{◌≡◌, ◌||◌, ◌+◌, ◌<◌, ◌≤◌, ◌^◌, ◌∷◌, All, IfOk, OnOk, Some, length, map, get_or, slice_get, if◌then◌else◌};
+ghost use Rattle.std.specs.Prelude.{◌≡◌, ◌||◌, ◌+◌, ◌<◌, ◌≤◌, ◌^◌, ◌∷◌, All, IfOk, IsTrue, None, OnOk, Some, length, map, get_or, slice_get, if◌then◌else◌};
 ghost use Rattle.style_table.specs.Range.{IsInRange};
 ghost use Rattle.token_classes.specs.Viewed.{AreWithin, classes_of};
 ghost use Rattle.line_state.specs.Layout.{is_some_decision};
@@ -8,7 +8,7 @@ ghost use Rattle.line_state.specs.Line.{first_layout};
 ghost use Rattle.break_search.specs.Outcome.{line_of};
 ghost use Rattle.break_search.specs.Starts.{IsAdmissible, starts_of};
 ghost use Rattle.indenter.specs.Rows.{start_column};
-ghost use Rattle.replacements.specs.Decisions.{decided, decided_all};
+ghost use Rattle.replacements.specs.Decisions.{decided, decided_all, slot_of};
 ghost use Rattle.line_tokens.specs.declared.LineTok.{LineTok};
 ghost use Rattle.run_layout.specs.Broken.{decision_by, empty_inside, first_made, fixed_of_token, inside_made, number, waits};
 
@@ -119,7 +119,21 @@ fn write_breaks(
     }
 }
 
-/// What is decided of the gaps before these tokens.
+/// Whether the gap before each of these tokens is open.
+fn are_open(plan: &Plan<'_>, tokens: &[LineTok]) -> bool
+    requires { All (λ token. token.id.0 < length plan.now) tokens.now }
+    ensures { IsTrue result → All (λ token. slot_of plan.now token.id.0 ≡ None) tokens.now }
+{
+    for token in tokens {
+        if plan.is_decided(token.id.0) {
+            return false;
+        }
+    }
+    true
+}
+
+/// What is decided of the gaps before these tokens. Before those of a part of which no run has decided anything it is
+/// nothing, as the first run finds it in most parts.
 pub(crate) fn fixed_of<'r>(
     arena: &TokenArena<'_, '_>,
     tokens: &[LineTok],
@@ -131,6 +145,9 @@ pub(crate) fn fixed_of<'r>(
     ensures { IfOk result (λ fixed. fixed.now ≡ map (fixed_of_token arena.now plan.now) tokens.now) }
 {
     let count = arena.len();
+    if are_open(plan, tokens) {
+        return Ok(into_bump_slice(vec![in run; None; tokens.len()]?));
+    }
     let mut fixed = Vec::with_capacity(run, tokens.len())?;
     for token in tokens {
         fixed.push(plan.fixed_of(arena, token.id.0))?;

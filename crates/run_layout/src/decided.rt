@@ -18,12 +18,10 @@ pub fn is_row_decided(plan: &Plan<'_>, first: u32, end: u32) -> bool
     ensures yes { OnTrue result (IsRowDecided plan.now first end) }
     ensures no { OnFalse result (IsRowOpen plan.now first end) }
 {
-    for id in first..end {
-        if plan.slot(id).is_none() {
-            return false;
-        }
+    if first >= end {
+        return true;
     }
-    true
+    plan.are_decided(first, end)
 }
 
 /// Whether each gap of a line is decided, as in most lines that an earlier run saw.
