@@ -10,8 +10,8 @@ use crate::outcome::Saturation;
 use crate::table::Table;
 use crate::ties::is_before;
 
-/// With how many of the layouts that were followed last a layout is compared.
-const MOST_COMPARED: u32 = 8;
+/// With how many of the layouts of as many tokens that were met last a layout is compared.
+const MOST_COMPARED: usize = 8;
 
 /// Whether the way to the first node is better.
 fn is_better(table: &Table<'_>, first: usize, second: usize) -> bool
@@ -45,7 +45,7 @@ fn passes(table: &Table<'_>, first: usize, second: usize) -> bool
     is_better(table, first, second)
 }
 
-/// Whether one of the nodes that were followed last passes a node.
+/// Whether one of the nodes that were met last passes a node.
 fn is_passed(table: &Table<'_>, at: usize) -> bool
     requires parents { HaveParents table.now }
     requires apart { HavePaths table.now }
@@ -53,15 +53,12 @@ fn is_passed(table: &Table<'_>, at: usize) -> bool
     requires at { at < length table.now }
     ensures { OnTrue result ((v : ℕ) × Passes table.now v at) }
 {
-    let mut last = table.last_followed(at);
-    for _ in 0..MOST_COMPARED {
-        let Some(followed) = last else {
-            return false;
-        };
-        if passes(table, followed.node, at) {
+    let links = table.listed_with(at);
+    let from = links.len().saturating_sub(MOST_COMPARED);
+    for link in &links[from..] {
+        if passes(table, link.number, at) {
             return true;
         }
-        last = table.followed(followed.before);
     }
     false
 }
