@@ -114,18 +114,36 @@ fn behind_printable(row: &[u8]) -> &[u8]
     rest
 }
 
-/// Whether each byte is a printable character of ASCII.
+/// Whether each byte is a printable character of ASCII, told byte by byte.
 #[inline(always)]
-fn is_printable(row: &[u8]) -> bool
+fn is_each_printable(row: &[u8]) -> bool
     ensures { result ≡ list_all (is_in_range 0x20 0x7E) row.now }
 {
-    let rest = behind_printable(row);
-    for byte in rest {
+    for byte in row {
         if !(0x20..=0x7E).contains(byte) {
             return false;
         }
     }
     true
+}
+
+/// Whether each byte of a row of several words is a printable character of ASCII.
+#[inline(never)]
+fn is_long_printable(row: &[u8]) -> bool
+    ensures { result ≡ list_all (is_in_range 0x20 0x7E) row.now }
+{
+    is_each_printable(behind_printable(row))
+}
+
+/// Whether each byte is a printable character of ASCII. Most rows are a word or a mark.
+#[inline(always)]
+fn is_printable(row: &[u8]) -> bool
+    ensures { result ≡ list_all (is_in_range 0x20 0x7E) row.now }
+{
+    if row.len() >= 16 {
+        return is_long_printable(row);
+    }
+    is_each_printable(row)
 }
 
 /// How many columns a row takes. Most rows are printable ASCII.

@@ -1,7 +1,7 @@
 use Rattle.std.proofs.Common.{◌≡◌, true, take}
 use Rattle.std.specs.Int.{is_in_range}
 use Rattle.std.specs.List.{list_all}
-use Rattle.token_arena.proofs.facts.is_printable.Given as goal
+use Rattle.token_arena.proofs.facts.is_each_printable.Given as goal
 
 abbrev pub invariant-loop-byte : goal.invariant-loop-byte
-invariant-loop-byte l = list_all (is_in_range 0x20 0x7E) (take l.byte-index l.rest) ≡ true
+invariant-loop-byte l = list_all (is_in_range 0x20 0x7E) (take l.byte-index l.row) ≡ true
