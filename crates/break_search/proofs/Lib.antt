@@ -1,6 +1,7 @@
 mod Forks
 mod Orders
 mod Heaps
+mod Queue
 mod Nodes
 mod Jumping
 mod Striding

@@ -1,6 +1,8 @@
 //! Where the lines of a view with its comments begin.
 
-ghost use Rattle.std.specs.Prelude.{◌≡◌, ◌<◌, ◌≤◌, ◌+◌, ◌^◌, ◌++◌, false, drop, length, IfOk, slice_get, ℕ};
+ghost use Rattle.std.specs.Prelude.{◌≡◌, ◌<◌, ◌≤◌, ◌+◌, ◌^◌, ◌++◌, false, drop, length, IfOk, IfSome, Some, List, slice_get, ℕ};
+ghost use Rattle.unwrapped_lines.specs.declared.part.Part.{Part};
+ghost use Rattle.unwrapped_lines.specs.declared.part.Run.TheVariants.{Apart};
 ghost use Rattle.unwrapped_lines.specs.Comments.{token_follows, between_at, is_between, new_begin, next_marks, begins_from, no_marks, list_of, begins_line, inner_run};
 
 use crate::line::Line;
@@ -195,6 +197,25 @@ fn pass_tokens(lines: &[Line], total: usize, end_level: u32, parts: &[Part], fro
     Walk { k, marks }
 }
 
+/// The line whose first token stands at a place, as nearly every line begins: no inner comments before it have begun it.
+#[inline(always)]
+fn starting(lines: &[Line], total: usize, end_level: u32, p: Part, m: Marks) -> Option<Line>
+    ensures begin { IfSome result (λ line. (k : ℕ) → (ps : List Part) → new_begin (record { lines = lines.now; total = total; end_level = end_level }) k p ps m ≡ Some (record { first = k; level = line.level; kind = line.kind })) }
+    ensures next { IfSome result (λ line. (ps : List Part) → next_marks (record { lines = lines.now; total = total; end_level = end_level }) p ps m ≡ record { seen = m.seen + 1; begun = m.begun + 1; run = Apart }) }
+{
+    match lines.get(m.begun) {
+        Some(line) => {
+            let first = line.first as usize == m.seen;
+            if p == Part::Token && first && m.run != Run::Begun {
+                Some(*line)
+            } else {
+                None
+            }
+        }
+        None => None,
+    }
+}
+
 /// Where each line of a view begins.
 pub fn begins<'r>(
     lines: &[Line],
@@ -219,10 +240,23 @@ pub fn begins<'r>(
         m = behind.marks;
         if k < parts.len() {
             let part = parts[k];
-            if let Some(b) = new_begin(lines, total, end_level, parts, k, part, m) {
-                out.push(b)?;
+            if let Some(line) = starting(lines, total, end_level, part, m) {
+                out.push(Begin {
+                    first: k as u32,
+                    level: line.level,
+                    kind: line.kind,
+                })?;
+                m = Marks {
+                    seen: m.seen + 1,
+                    begun: m.begun + 1,
+                    run: Run::Apart,
+                };
+            } else {
+                if let Some(b) = new_begin(lines, total, end_level, parts, k, part, m) {
+                    out.push(b)?;
+                }
+                m = next_marks(lines, total, end_level, parts, k, part, m);
             }
-            m = next_marks(lines, total, end_level, parts, k, part, m);
             k += 1;
         }
     }

@@ -22,6 +22,7 @@ use line_tokens::LineKind;
 use token_classes::TokenClass;
 
 /// A block at the brace at `i`.
+#[inline(always)]
 fn block_at(
     tokens: &[CodeToken],
     end: usize,
@@ -48,6 +49,7 @@ fn block_at(
     }
 }
 
+#[inline(always)]
 fn label_form(
     tokens: &[CodeToken],
     o: Open,
@@ -100,6 +102,7 @@ fn goto_level(braces: &Braces, o: Open) -> u32
 }
 
 /// A label.
+#[inline(always)]
 fn label(braces: &Braces, tokens: &[CodeToken], colons: &[u32], o: Open, at: usize) -> Option<Form>
     requires colons { AreCaseColons colons.now tokens.now }
     requires here { at < o.end }
@@ -152,6 +155,7 @@ fn label(braces: &Braces, tokens: &[CodeToken], colons: &[u32], o: Open, at: usi
 }
 
 /// The end of the header of a control word.
+#[inline(always)]
 fn header_end(tokens: &[CodeToken], end: usize, at: usize) -> usize
     requires here { at < end }
     requires list { end ≤ length tokens.now }
@@ -172,6 +176,7 @@ fn header_end(tokens: &[CodeToken], end: usize, at: usize) -> usize
     }
 }
 
+#[inline(always)]
 fn head_of(tokens: &[CodeToken], end: usize, at: usize) -> Head
     requires here { at < end }
     requires list { end ≤ length tokens.now }
@@ -201,6 +206,7 @@ fn label_level(braces: &Braces, level: u32) -> u32
     }
 }
 
+#[inline(always)]
 fn control_block(
     braces: &Braces,
     tokens: &[CodeToken],
@@ -254,6 +260,7 @@ fn kind_or_close(closes: bool, kind: LineKind) -> LineKind
 }
 
 /// A header, on a line of its own or behind a closing brace.
+#[inline(always)]
 fn control_form(
     braces: &Braces,
     tokens: &[CodeToken],
@@ -290,6 +297,7 @@ fn control_form(
 }
 
 /// The end of the tail of a `do`, or the place where there is none.
+#[inline(always)]
 pub fn tail_end(tokens: &[CodeToken], end: usize, i: usize) -> usize
     requires { i < 2 ^ 33 }
     ensures same { result ≡ tail_end tokens.now end i }
@@ -304,6 +312,7 @@ pub fn tail_end(tokens: &[CodeToken], end: usize, i: usize) -> usize
     }
 }
 
+#[inline(always)]
 fn ends_macro(tokens: &[CodeToken], i: usize) -> bool
     ensures { result ≡ ends_macro tokens.now i }
 {
@@ -312,6 +321,7 @@ fn ends_macro(tokens: &[CodeToken], i: usize) -> bool
             && (class_at(tokens, i).is_word() || class_at(tokens, i).is_close_brace()))
 }
 
+#[inline(always)]
 fn macro_end(tokens: &[CodeToken], end: usize, at: usize) -> usize
     requires here { at < end }
     requires list { end ≤ length tokens.now }
@@ -377,6 +387,7 @@ fn tagged_head(c: TokenClass) -> Head
 }
 
 /// Any other statement, or what goes on behind the closing brace of a struct, union or enum.
+#[inline(always)]
 fn other_form(
     braces: &Braces,
     tokens: &[CodeToken],
@@ -428,6 +439,7 @@ fn other_form(
 }
 
 /// A line alone.
+#[inline(always)]
 fn line_alone(kind: LineKind, level: u32, end: usize) -> Form
     ensures { result ≡ record { kind = kind; level = level; end = end; next = Ends } }
 {
@@ -440,6 +452,7 @@ fn line_alone(kind: LineKind, level: u32, end: usize) -> Form
 }
 
 /// A line that opens a block of code at its end.
+#[inline(always)]
 fn opens_code(tokens: &[CodeToken], o: Open, kind: LineKind, brace: usize, wrapped: bool) -> Form
     requires here { brace < o.end }
     requires low { o.level < 2 ^ 31 }
@@ -466,6 +479,7 @@ fn opens_code(tokens: &[CodeToken], o: Open, kind: LineKind, brace: usize, wrapp
 }
 
 /// The head of an extern block, whose brace stands two places behind.
+#[inline(always)]
 fn extern_form(braces: &Braces, tokens: &[CodeToken], o: Open, at: usize) -> Form
     requires here { at + 2 < o.end }
     requires low { o.level < 2 ^ 31 }
@@ -492,6 +506,7 @@ fn extern_form(braces: &Braces, tokens: &[CodeToken], o: Open, at: usize) -> For
 }
 
 /// The cases behind labels and control statements.
+#[inline(always)]
 fn unlabelled(braces: &Braces, tokens: &[CodeToken], o: Open, at: usize) -> Form
     requires here { at < o.end }
     requires list { o.end ≤ length tokens.now }
@@ -523,6 +538,7 @@ fn unlabelled(braces: &Braces, tokens: &[CodeToken], o: Open, at: usize) -> Form
 }
 
 /// The cases, the first that fits.
+#[inline(always)]
 pub fn statement(braces: &Braces, tokens: &[CodeToken], colons: &[u32], o: Open, at: usize) -> Form
     requires colons { AreCaseColons colons.now tokens.now }
     requires here { at < o.end }
@@ -555,6 +571,7 @@ pub fn statement(braces: &Braces, tokens: &[CodeToken], colons: &[u32], o: Open,
 }
 
 /// The line of a block's closing brace.
+#[inline(always)]
 pub fn close_form(braces: &Braces, tokens: &[CodeToken], o: Open, b: Open, at: usize) -> Form
     requires here { at < o.end }
     requires list { o.end ≤ length tokens.now }
@@ -598,6 +615,7 @@ pub fn close_form(braces: &Braces, tokens: &[CodeToken], o: Open, b: Open, at: u
 }
 
 /// The line that begins at a place of the innermost list.
+#[inline(always)]
 pub fn form_of(
     braces: &Braces,
     tokens: &[CodeToken],

@@ -12,6 +12,7 @@ use crate::token::CodeToken;
 use token_classes::TokenClass;
 
 /// The end of an enumerator, its comma included.
+#[inline(always)]
 pub fn enumerator_end(tokens: &[CodeToken], end: usize, at: usize) -> usize
     requires here { at < end }
     requires list { end ≤ length tokens.now }
@@ -54,6 +55,7 @@ fn enum_or(c: TokenClass, found: TokenClass) -> TokenClass
 }
 
 /// Where a statement that is no other case ends.
+#[inline(always)]
 #[tactic(auto, using(crate::proofs::ScanLemmas::stop_at_end))]
 pub fn statement_stop(tokens: &[CodeToken], end: usize, from: usize, assigned: bool) -> Stop
     requires here { from ≤ end }
@@ -128,6 +130,7 @@ fn behind(tokens: &[CodeToken], first: usize, i: usize) -> usize
 }
 
 /// `struct`, `union` or `enum` before the brace.
+#[inline(always)]
 #[tactic(auto, using(crate::proofs::ScanLemmas::tag_at_end, crate::proofs::ScanLemmas::tag_member, crate::proofs::ScanLemmas::tag_other))]
 pub fn tag_before(tokens: &[CodeToken], first: usize, brace: usize) -> TokenClass
     requires { brace ≤ length tokens.now }

@@ -43,6 +43,7 @@ fn answers_tail(tokens: &[CodeToken], o: Open, at: usize) -> bool
 }
 
 /// Ends the headers that waited for the statement that has ended.
+#[inline(always)]
 #[tactic(auto, using(crate::proofs::Lists::reverse_snoc))]
 pub(crate) fn settle(
     tokens: &[CodeToken],
@@ -83,6 +84,7 @@ fn leave(stack: &mut Vec<Open, &Bump>) -> Option<Open>
 }
 
 /// The level of an own comment before a line.
+#[inline(always)]
 fn comment_level(o: Open, start: Start, f: Form) -> u32
     ensures { result ≡ comment_level o start f }
 {
@@ -94,6 +96,7 @@ fn comment_level(o: Open, start: Start, f: Form) -> u32
 }
 
 /// The line at a place.
+#[inline(always)]
 fn line_of(o: Open, start: Start, at: usize, f: Form) -> Line
     requires begins { at < 2 ^ 32 }
     requires ends { f.end < 2 ^ 32 }
@@ -109,6 +112,7 @@ fn line_of(o: Open, start: Start, at: usize, f: Form) -> Line
 }
 
 /// Appends the lines of a head and its block's brace.
+#[inline(always)]
 fn push_head(
     out: &mut Vec<Line, &Bump>,
     o: Open,
@@ -143,6 +147,7 @@ fn push_head(
 }
 
 /// The statement that a header waits for.
+#[inline(always)]
 pub(crate) fn body_of(o: Open, head: Head, level: u32) -> Open
     requires { level < 2 ^ 31 }
     ensures { result ≡ body_of o head level }
@@ -176,6 +181,7 @@ pub(crate) fn whole_file(tokens: &[CodeToken]) -> Open
 }
 
 /// Leaves a list that has ended.
+#[inline(always)]
 fn leave_list(
     braces: &Braces,
     tokens: &[CodeToken],
@@ -206,6 +212,7 @@ fn leave_list(
 }
 
 /// Appends a line, and opens or ends what it opens or ends.
+#[inline(always)]
 fn take_line(
     braces: &Braces,
     tokens: &[CodeToken],
@@ -284,6 +291,7 @@ pub fn tree_lines<'r>(
 }
 
 /// One line, or the end of a list.
+#[inline(always)]
 fn turn(
     braces: &Braces,
     tokens: &[CodeToken],

@@ -111,24 +111,18 @@ fn partner_number(
     }
 }
 
-/// The token with a number, of this class, with this partner.
+/// Whether the item with a number, of this class, is a colon that another colon touches.
 #[inline(always)]
-fn code_token(
+fn touched(
     arena: &TokenArena<'_, '_>,
     id: u32,
     class: TokenClass,
-    partner: Partner,
     run: &Bump,
-) -> Result<CodeToken, NoMemory>
+) -> Result<bool, NoMemory>
     requires { id < length arena.now.tokens }
-    ensures { IfOk result (λ token. token ≡ record { class = class; began = item_began arena.now id; touched = is_colon class && colon_touches arena.now id; partner = partner }) }
+    ensures { IfOk result (λ touched. touched ≡ (is_colon class && colon_touches arena.now id)) }
 {
-    Ok(CodeToken {
-        class,
-        began: began(arena, id),
-        touched: class.is_colon() && colon_touches(arena, id, run)?,
-        partner,
-    })
+    Ok(class.is_colon() && colon_touches(arena, id, run)?)
 }
 
 /// Appends the tokens of the segment with a number that are no comments, with their partners.
@@ -159,8 +153,13 @@ fn push_segment(
     for id in segment.first..segment.end {
         let class = classes[k];
         if !class.is_comment() {
-            let partner = partner_number(classes, numbers, partners, k);
-            tokens.push_reserved(code_token(arena, id, class, partner, run)?);
+            let touched = touched(arena, id, class, run)?;
+            tokens.push_reserved(CodeToken {
+                class,
+                began: began(arena, id),
+                touched,
+                partner: partner_number(classes, numbers, partners, k),
+            });
         }
         k += 1;
     }

@@ -8,7 +8,6 @@ abbrev pub invariant-loop-id : goal.invariant-loop-id
 invariant-loop-id l = record {
   from : l.fn.segment.first ≤ l.id;
   count : length l.toks.items ≡ length l.initial.toks.items + (l.id - l.fn.segment.first);
-  place : l.place ≡ length l.toks.items;
   room : vec_capacity l.toks ≡ vec_capacity l.initial.toks;
   same : l.toks.items ++ toks_from l.arena l.view (length l.toks.items) (drop (length l.toks.items) l.marks) ≡ l.initial.toks.items ++ toks_from l.arena l.view (length l.initial.toks.items) (drop (length l.initial.toks.items) l.marks);
   left : TellsTouch l.arena l.id l.left (edge_at l.arena l.id);

@@ -1,13 +1,13 @@
-use Rattle.std.proofs.Common.{◌≡◌, ◌∙◌, ◌<◌, ◌+◌, ◌++◌, List, [], ◌∷◌, true, false, ap, length, map, get_or, arith, subst, sym}
+use Rattle.std.proofs.Common.{◌≡◌, ◌∙◌, ◌<◌, ◌+◌, ◌++◌, List, [], ◌∷◌, Bool, true, false, ap, length, map, get_or, arith, subst, sym}
 use Rattle.std.specs.Prelude.{vec_capacity}
 use Rattle.token_views.specs.Segments.{ids_of, segment_bounds, no_segment}
-use Rattle.unwrapped_lines.specs.Viewed.{AreTokensBefore, segment_stop, token_at}
+use Rattle.unwrapped_lines.specs.Viewed.{AreTokensBefore, segment_stop, token_at, item_began}
 use Rattle.unwrapped_lines.proofs.SegmentLemmas.{at_item, stop_most, in_order, comment_before, token_before, token_same}
 use Rattle.token_classes.specs.Classes.{is_comment}
 use Rattle.token_classes.specs.declared.class.TokenClass.TheVariants.{If}
 use Rattle.unwrapped_lines.specs.declared.token.CodeToken.{CodeToken}
 use Rattle.unwrapped_lines.proofs.viewed.push_segment.Goals as goal
-use Rattle.unwrapped_lines.proofs.viewed.push_segment.Goals.{then-not-is_comment+in_ok-code_token, else-not-is_comment}
+use Rattle.unwrapped_lines.proofs.viewed.push_segment.Goals.{then-not-is_comment+in_ok-touched, else-not-is_comment}
 
 pub overflow_cast-k : goal.overflow_cast-k
 overflow_cast-k c =
@@ -19,8 +19,13 @@ bounds-classes-k c =
     let at = at_item (length c.args.arena.now.tokens) c.args.segments.now c.args.number c.loop-id.k c.loop-id.id c.requires.rule c.requires.within c.requires.number c.loop-id.auto.id c.loop-id-test.true c.loop-id.invariant.place in
     omega (arith, at.place, c.requires.places)
 
-pub code_token-requires : goal.code_token-requires
-code_token-requires c =
+pub touched-requires : goal.touched-requires
+touched-requires c =
+    let at = at_item (length c.args.arena.now.tokens) c.args.segments.now c.args.number c.loop-id.k c.loop-id.id c.requires.rule c.requires.within c.requires.number c.loop-id.auto.id c.loop-id-test.true c.loop-id.invariant.place in
+    at.within
+
+pub began-requires : goal.began-requires
+began-requires c =
     let at = at_item (length c.args.arena.now.tokens) c.args.segments.now c.args.number c.loop-id.k c.loop-id.id c.requires.rule c.requires.within c.requires.number c.loop-id.auto.id c.loop-id-test.true c.loop-id.invariant.place in
     at.within
 
@@ -56,10 +61,12 @@ loop-id-preserved c =
     let here : k < length classes = omega (arith, at.place, c.requires.places) in
     let P : List CodeToken → Type 0 = λ tokens. AreTokensBefore arena ids classes partners (k + 1) tokens in
     let tokens : P c.if-not-is_comment.tokens.items = elim c.if-not-is_comment.branch [
-      | then-not-is_comment+in_ok-code_token w ↦
-          let token = w.in_ok-code_token.field-0 in
+      | then-not-is_comment+in_ok-touched w ↦
           let is : is_comment (get_or classes k If) ≡ false = sym w.if-not-is_comment.ensures in
-          let same : token ≡ token_at arena ids classes partners k = w.in_ok-code_token.ensures ∙ token_same arena ids classes partners k c.loop-id.id If w.partner_number-partner.result here at.item w.partner_number-partner.ensures in
+          let make : Bool → Bool → CodeToken = λ b t. record { class = get_or classes k If; began = b; touched = t; partner = w.partner_number.result } in
+          let token : CodeToken = make w.began.result w.in_ok-touched.touched in
+          let same : token ≡ token_at arena ids classes partners k = ap (λ b. make b w.in_ok-touched.touched) w.began.ensures ∙ ap (make (item_began arena c.loop-id.id)) w.in_ok-touched.ensures
+          ∙ token_same arena ids classes partners k c.loop-id.id If w.partner_number.result here at.item w.partner_number.ensures in
           let items : c.if-not-is_comment.tokens.items ≡ c.loop-id.tokens.items ++ token ∷ [] = ap (λ v. v.items) w.tokens-is ∙ w.push_reserved.ensures.items in
           subst P (sym items) (token_before arena ids classes partners k If c.loop-id.tokens.items token c.loop-id.invariant.tokens here is same)
       | else-not-is_comment w ↦
@@ -68,7 +75,7 @@ loop-id-preserved c =
           subst P (sym items) (comment_before arena ids classes partners k If c.loop-id.tokens.items c.loop-id.invariant.tokens here is)
     ] in
     let room : vec_capacity c.if-not-is_comment.tokens ≡ vec_capacity c.args.tokens.now = elim c.if-not-is_comment.branch [
-      | then-not-is_comment+in_ok-code_token w ↦ ap (λ v. vec_capacity v) w.tokens-is ∙ (w.push_reserved.ensures.capacity ∙ c.loop-id.invariant.room)
+      | then-not-is_comment+in_ok-touched w ↦ ap (λ v. vec_capacity v) w.tokens-is ∙ (w.push_reserved.ensures.capacity ∙ c.loop-id.invariant.room)
       | else-not-is_comment w ↦ ap (λ v. vec_capacity v) w.tokens-is ∙ c.loop-id.invariant.room
     ] in
     record {

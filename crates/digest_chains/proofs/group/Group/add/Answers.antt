@@ -1,8 +1,8 @@
-use Rattle.std.proofs.Common.{◌≡◌, ◌<◌, ℕ, true, ◌==◌, ◌∙◌, length, sym, subst, arith, rules}
+use Rattle.std.proofs.Common.{◌≡◌, ℕ, true, ◌==◌, ◌∙◌, length, sym, subst, arith, rules}
 use Rattle.std.proofs.lemmas.Bool.Decides.{nat_tests}
 use Rattle.digest_chains.specs.Chains.{Chained, Lists}
 use Rattle.std.specs.Vec.{vec_len}
-use Rattle.digest_chains.proofs.Chaining.{one_kept, slots_kept}
+use Rattle.digest_chains.proofs.Chaining.{one_kept}
 use Rattle.digest_chains.proofs.group.Group.add.Goals as goal
 
 is_none : (n m : ℕ) → true ≡ (n == 0) → n ≡ m → m ≡ 0
@@ -13,9 +13,3 @@ returns-then-len-lt-MOST_ON_ONE_CHAIN-clause-kept c = λ d u h.
     let old : Lists (record { ends = c.self.inside.ends.items; links = c.self.inside.links.items }) d u = subst (λ (g : Chained). Lists g d u) (sym c.self.view_is) h in
     let count : vec_len c.self.inside.ends ≡ length c.self.inside.ends.items = first_of (omega (arith), search (rules), grind (arith, rules)) in
     one_kept c.self.inside.ends.items c.self.inside.links.items c.chain.new.links.items (is_none (vec_len c.self.inside.ends) (length c.self.inside.ends.items) (sym c.if-is_empty.true ∙ c.is_empty.ensures) count) c.chain.ensures.kept d u old
-
-pub returns-clause-kept : goal.returns-clause-kept
-returns-clause-kept c = λ d u h.
-    let old : Lists (record { ends = c.self-2.inside.ends.items; links = c.self-2.inside.links.items }) d u = subst (λ (g : Chained). Lists g d u) (sym c.self-2.view_is) (c.in_ok-make_room.ensures.kept d u h) in
-    let some : 0 < length c.self-2.inside.ends.items = subst (λ (g : Chained). 0 < length g.ends) (sym c.self-2.view_is) c.in_ok-make_room.ensures.some in
-    slots_kept c.self-2.inside.ends.items c.list.new.ends.items c.self-2.inside.links.items c.list.new.links.items some c.list.ensures.len c.list.ensures.kept d u old
