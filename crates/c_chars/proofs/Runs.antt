@@ -5,7 +5,7 @@ use Rattle.std.proofs.lemmas.List.Folds.{length-prefix_len}
 use Rattle.std.proofs.lemmas.Bool.{and_parts, and_from, and_right, cases_Bool, not-true}
 use Rattle.std.proofs.lemmas.Bool.Decides.{nat_tests}
 use Rattle.c_chars.specs.Characters.{chars, placed, IsUnit, begins_trigraph, begins_return, has_trigraphs, is_ink_byte, is_plain, is_space_byte, is_text_byte, is_word_byte}
-use Rattle.c_chars.specs.Coming.{Coming, ArePassed, AreSpacesPassed}
+use Rattle.c_chars.specs.Coming.{Coming, AreBytesPassed, ArePassed, AreSpacesPassed}
 use Rattle.c_chars.specs.declared.Dialect.{Dialect}
 use Rattle.c_chars.specs.declared.LogicalChar.{LogicalChar}
 use Rattle.c_chars.proofs.FirstUnits.{at_plain, step_plain}
@@ -103,6 +103,20 @@ run_chars p d at (b ∷ s) plain = elim (cases_Bool (p b)) [
       let z : at + 0 ≡ at = omega arith in
       sym (ap (λ k. placed at (take k (b ∷ s)) ++ chars d (at + k) (drop k (b ∷ s))) len ∙ ap (λ k. chars d k (b ∷ s)) z)
 ]
+
+-- a reader that passed bytes of a run, each by itself
+pub bytes_passed : (p : ℕ → Bool) (d d2 : Dialect) (at at2 n : ℕ) (s rest : List ℕ) → ((b : ℕ) → p b ≡ true → is_plain b ≡ true) → n ≡ prefix_len p s → d2 ≡ d → at2 ≡ at + n → rest ≡ drop n s →
+    AreBytesPassed p (record { dialect = d; at = at; chars = chars d at s }) (record { dialect = d2; at = at2; chars = chars d2 at2 rest })
+bytes_passed p d d2 at at2 n s rest plain e dd aa rr =
+    let far : at2 ≡ at + prefix_len p s = aa ∙ ap (λ k. at + k) e in
+    let left : rest ≡ drop (prefix_len p s) s = rr ∙ ap (λ k. drop k s) e in
+    let same : chars d2 at2 rest ≡ chars d (at + prefix_len p s) (drop (prefix_len p s) s) = rw (dd, far, left) refl in
+    record {
+      bytes = take (prefix_len p s) s;
+      all = run_passes p s;
+      chars_are = run_chars p d at s plain ∙ ap (λ z. placed at (take (prefix_len p s) s) ++ z) (sym same);
+      at_is = far ∙ ap (λ k. at + k) (sym (length-prefix_len p s));
+    }
 
 space_plain : (b : ℕ) → is_space_byte b ≡ true → is_plain b ≡ true
 unfolding is_space_byte

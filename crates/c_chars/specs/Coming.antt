@@ -33,6 +33,13 @@ pub record ArePassed (p : ℕ → Bool) (old new : Coming) : Type 0 where
   pub all : IsTrue (list_all p (take n (bytes_of old.chars)))
   pub new_is : new ≡ behind old n
 
+-- Bytes were passed of which each holds: `old` begins with them, each one byte of the text, and `new` is what is to come behind them.
+pub record AreBytesPassed (p : ℕ → Bool) (old new : Coming) : Type 0 where
+  pub bytes : List ℕ
+  pub all : IsTrue (list_all p bytes)
+  pub chars_are : old.chars ≡ placed old.at bytes ++ new.chars
+  pub at_is : new.at ≡ old.at + length bytes
+
 -- Spaces and tabs were passed: `old` begins with n of them, each one byte of the text, and `new` is what is to come behind them.
 pub record AreSpacesPassed (old new : Coming) (n : ℕ) : Type 0 where
   pub bytes : List ℕ

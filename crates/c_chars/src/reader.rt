@@ -2,7 +2,7 @@
 
 ghost use Rattle.std.specs.Prelude.{◌≡◌, ◌+◌, ◌<◌, ◌≤◌, ◌^◌, length, drop, MatchOption, Some, IfSome, IfNone, ◌∷◌, [], slice_get};
 ghost use Rattle.c_chars.specs.Characters.{chars, logical, mark_len, is_ink_byte, is_text_byte, is_word_byte};
-ghost use Rattle.c_chars.specs.Coming.{AreBetween, ArePassed, AreSpacesPassed};
+ghost use Rattle.c_chars.specs.Coming.{AreBetween, AreBytesPassed, ArePassed, AreSpacesPassed};
 
 use crate::alone::first_character;
 use crate::units::{ink_len, is_plain, space_len, text_len, word_len};
@@ -44,6 +44,7 @@ impl<'s> Cursor<'s> {
         ensures next { MatchOption result
             ((self.new.at ≡ self.old.at) × (self.new.rest.now ≡ self.old.rest.now))
             (λ c. (chars self.old.dialect self.old.at self.old.rest.now ≡ c ∷ chars self.new.dialect self.new.at self.new.rest.now) × (self.new.at ≡ c.to)) }
+        ensures plain { IfSome result (λ c. (c.from ≡ self.old.at) × (c.to ≡ self.old.at + 1)) }
     {
         let [byte, behind @ ..] = self.rest else {
             return None;
@@ -200,6 +201,7 @@ impl<'s> Chars<'s> {
     pub fn next_plain(&mut self) -> Option<LogicalChar>
         ensures dialect { self.new.dialect ≡ self.old.dialect }
         ensures some { IfSome result (λ c. (self.old.chars ≡ c ∷ self.new.chars) × (self.new.at ≡ c.to)) }
+        ensures plain { IfSome result (λ c. (c.from ≡ self.old.at) × (c.to ≡ self.old.at + 1)) }
         ensures none { IfNone result (self.new ≡ self.old) }
     {
         self.cursor.next_plain()
@@ -209,7 +211,8 @@ impl<'s> Chars<'s> {
     /// written otherwise, and at the end.
     #[inline(always)]
     pub fn peek_plain(&self) -> Option<LogicalChar>
-        ensures { IfSome result (λ c. slice_get self.now.chars 0 ≡ Some c) }
+        ensures some { IfSome result (λ c. slice_get self.now.chars 0 ≡ Some c) }
+        ensures plain { IfSome result (λ c. (c.from ≡ self.now.at) × (c.to ≡ self.now.at + 1)) }
     {
         let mut ahead = self.cursor;
         ahead.next_plain()
@@ -220,7 +223,8 @@ impl<'s> Chars<'s> {
     /// It may stop before a further one, where lines are spliced between the two.
     #[inline(always)]
     pub fn pass_word(&mut self)
-        ensures { ArePassed is_word_byte self.old self.new }
+        ensures passed { ArePassed is_word_byte self.old self.new }
+        ensures bytes { AreBytesPassed is_word_byte self.old self.new }
     {
         let len = word_len(self.cursor.rest);
         self.cursor.pass(len);

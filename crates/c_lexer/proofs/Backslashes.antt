@@ -49,7 +49,7 @@ slash_of : (c : ℕ) → trigraph c ≡ 92 → c ≡ 47
 unfolding trigraph
 slash_of c h = grind arith
 
-by_test : {A : Type 0} (P : A → Type 0) (t : Bool) (x y : A) → P x → P y → P (if t then x else y)
+pub by_test : {A : Type 0} (P : A → Type 0) (t : Bool) (x y : A) → P x → P y → P (if t then x else y)
 by_test P true x y p q = p
 by_test P false x y p q = q
 

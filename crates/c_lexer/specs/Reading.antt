@@ -1,8 +1,9 @@
 -- A text that is being read, the item that comes next, and what it and the gap before it tell.
-use Rattle.std.specs.Prelude.{◌≡◌, ◌≤◌, ◌==◌, ◌||◌, ◌&&◌, not, ℕ, ◌-◌, Bool, false, List, [], ◌∷◌, ⊤, length, take, get_or, sum_by, count_by, IsTrue}
+use Rattle.std.specs.Prelude.{◌≡◌, ◌≤◌, ◌==◌, ◌||◌, ◌&&◌, not, ℕ, ◌+◌, ◌-◌, Bool, false, List, [], ◌∷◌, ⊤, length, take, get_or, sum_by, count_by, IsTrue}
+use Rattle.std.specs.Int.{is_in_range}
 use Rattle.std.specs.List.{prefix_len}
 use Rattle.c_chars.specs.Characters.{bytes_of}
-use Rattle.c_chars.specs.Coming.{Coming, behind}
+use Rattle.c_chars.specs.Coming.{Coming, AreBytesPassed, behind}
 use Rattle.c_chars.specs.declared.Dialect.{Dialect}
 use Rattle.c_chars.specs.declared.LogicalChar.{LogicalChar}
 use Rattle.c_grammar.specs.Grammar.{is_white, is_new_line}
@@ -54,6 +55,11 @@ pub record IsBegun (text : Coming) (first : LogicalChar) (left : Coming) : Type 
   pub at_is : left.at ≡ first.to
   pub dialect_is : left.dialect ≡ text.dialect
 
+-- An item begins with this character, goes on behind it up to what is left, and is of printable characters of ASCII; those behind the first are bytes by themselves.
+pub record ArePrintable (first : LogicalChar) (behind left : Coming) : Type 0 where
+  pub first_is : IsTrue (is_in_range 0x20 0x7E first.byte)
+  pub rest_are : AreBytesPassed (is_in_range 0x20 0x7E) behind left
+
 -- The next item of the text is this one, and this is what its characters and those of its gap tell.
 pub record IsNextLexeme (old new : Reading) (lexeme : Lexeme) : Type 0 where
   pub next : IsNextItem old new lexeme.item.kind lexeme.item.start lexeme.item.raw.now
@@ -70,6 +76,11 @@ ends_backslash before last = last == 92 || (before == 63 && last == 47)
 abbrev pub AreSlashed : List ℕ → List LogicalChar → Type 0
 AreSlashed text [] = ⊤
 AreSlashed text (c ∷ s) = (c.byte ≡ 92 → IsTrue (ends_backslash (get_or text (c.to - 2) 0) (get_or text (c.to - 1) 0))) × AreSlashed text s
+
+-- Each of these characters of the text that has one byte is that byte.
+abbrev pub AreRaw : List ℕ → List LogicalChar → Type 0
+AreRaw text [] = ⊤
+AreRaw text (c ∷ s) = (c.to ≡ c.from + 1 → c.byte ≡ get_or text c.from 0) × AreRaw text s
 
 -- It holds of the characters up to what is left of them.
 abbrev pub BeforeLeft : Coming → Coming → (List LogicalChar → Type 0) → Type 0

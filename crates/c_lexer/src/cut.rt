@@ -11,7 +11,7 @@ ghost use Rattle.c_grammar.specs.Items.{IsLongest};
 ghost use Rattle.c_grammar.specs.declared.ItemKind.TheVariants.{Identifier, Number, Punct, Other, CharConst, StringLit, StrayQuote, LineComment, BlockComment};
 ghost use Rattle.c_lexer.specs.Cut.{IsCutOff, IsStop};
 ghost use Rattle.c_lexer.specs.Class.{IsFirst, begins_punctuator, is_quote_mark};
-ghost use Rattle.c_lexer.specs.Reading.{IsBegun};
+ghost use Rattle.c_lexer.specs.Reading.{ArePrintable, IsBegun};
 ghost use Rattle.c_lexer.specs.Run.{begins_number, head_len};
 ghost use Rattle.c_lexer.specs.Unit.{BeginsUnit, is_rare_unit};
 ghost use Rattle.unicode_ident.specs.Ident.{is_xid_start};
@@ -170,7 +170,8 @@ pub(crate) fn cut_quoted<'s>(text: &Chars<'s>) -> (ItemKind, Chars<'s>)
 fn behind_plain_mark<'s>(dialect: Dialect, begun: &Begun<'s>) -> Option<Chars<'s>>
     requires dialect { dialect ≡ begun.now.text.dialect }
     requires begun { IsBegun begun.now.text begun.now.first begun.now.behind }
-    ensures { IfSome result (λ left. IsCutOff begun.now.text left Punct) }
+    ensures off { IfSome result (λ left. IsCutOff begun.now.text left Punct) }
+    ensures plain { IfSome result (λ left. ArePrintable begun.now.first begun.now.behind left) }
 {
     let first = begun.first.byte;
     let left = begun.behind.ahead();
@@ -202,7 +203,8 @@ fn behind_plain_number<'s>(dialect: Dialect, begun: &Begun<'s>) -> Option<Chars<
     requires dialect { dialect ≡ begun.now.text.dialect }
     requires begun { IsBegun begun.now.text begun.now.first begun.now.behind }
     requires digit { IsTrue (is_digit begun.now.first.byte) }
-    ensures { IfSome result (λ left. IsCutOff begun.now.text left Number) }
+    ensures off { IfSome result (λ left. IsCutOff begun.now.text left Number) }
+    ensures plain { IfSome result (λ left. ArePrintable begun.now.first begun.now.behind left) }
 {
     unit::behind_plain_number(dialect, &begun.behind)
 }
@@ -213,7 +215,8 @@ fn behind_plain_number<'s>(dialect: Dialect, begun: &Begun<'s>) -> Option<Chars<
 pub(crate) fn cut_plain<'s>(dialect: Dialect, begun: &Begun<'s>) -> Option<(ItemKind, Chars<'s>)>
     requires dialect { dialect ≡ begun.now.text.dialect }
     requires begun { IsBegun begun.now.text begun.now.first begun.now.behind }
-    ensures { IfSome result (λ r. IsCutOff begun.now.text r.1 r.0) }
+    ensures off { IfSome result (λ r. IsCutOff begun.now.text r.1 r.0) }
+    ensures plain { IfSome result (λ r. ArePrintable begun.now.first begun.now.behind r.1) }
 {
     if class::is_letter(begun.first.byte) {
         return match word::behind_plain_word(begun) {

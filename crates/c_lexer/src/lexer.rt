@@ -1,6 +1,8 @@
 //! Reads the items of a text one after another.
 
 ghost use Rattle.std.specs.Prelude.{◌≡◌, ◌≤◌, ◌<◌, ◌-◌, length, take, drop, get_or, IsFalse, IsTrue, IfSome, IfNone, IfOk, IfErr, MatchOption, ⊤};
+ghost use Rattle.std.specs.Int.{is_in_range};
+ghost use Rattle.std.specs.List.{list_all};
 ghost use Rattle.c_grammar.specs.Items.{is_gap, LineStart};
 ghost use Rattle.c_chars.specs.Characters.{logical, bytes_of};
 ghost use Rattle.c_lexer.specs.Place.{IsSpanned, place_of};
@@ -96,7 +98,7 @@ pub struct Lexer<'s> {
 }
 
 impl<'s> Model for Lexer<'s> {
-    ghost use Rattle.c_lexer.specs.Reading.{Reading, AreSlashed};
+    ghost use Rattle.c_lexer.specs.Reading.{Reading, AreRaw, AreSlashed};
     ghost use Rattle.c_lexer.specs.Place.{place_of};
     ghost use Rattle.c_lexer.specs.Fault.{IsAt};
 
@@ -104,7 +106,7 @@ impl<'s> Model for Lexer<'s> {
 
     ghost view = { λ a. record { text = a.text.now; dialect = a.dialect; left = record { place = place_of a.standing; chars = a.chars.chars } } };
 
-    ghost invariant = { λ a. IsAt a.text.now a.dialect a.chars × AreSlashed a.text.now a.chars.chars };
+    ghost invariant = { λ a. IsAt a.text.now a.dialect a.chars × AreSlashed a.text.now a.chars.chars × AreRaw a.text.now a.chars.chars };
 }
 
 impl<'s> Lexer<'s> {
@@ -138,6 +140,7 @@ impl<'s> Lexer<'s> {
         ensures text { self.new.text ≡ self.old.text }
         ensures dialect { self.new.dialect ≡ self.old.dialect }
         ensures some { IfSome result (λ lexeme. IsNextLexeme self.old self.new lexeme) }
+        ensures plain { IfSome result (λ lexeme. IsFalse again → IsTrue (list_all (is_in_range 0x20 0x7E) lexeme.item.raw.now)) }
         ensures none { IfNone result (self.new ≡ self.old) }
     {
         let Some(begun) = line::begin_plain(&self.chars) else {
@@ -233,12 +236,14 @@ impl<'s> Lexer<'s> {
     }
 
     /// The next item, with what it and its gap tell, where it is a word, a number or a punctuator that plain bytes
-    /// tell at once; none elsewhere, where the reader stays. It calls nothing.
+    /// tell at once, each of them a printable character of ASCII; none elsewhere, where the reader stays. It calls
+    /// nothing.
     #[inline(always)]
     pub fn next_plain_lexeme(&mut self) -> Option<Lexeme<'s>>
         ensures text { self.new.text ≡ self.old.text }
         ensures dialect { self.new.dialect ≡ self.old.dialect }
         ensures some { IfSome result (λ lexeme. IsNextLexeme self.old self.new lexeme) }
+        ensures plain { IfSome result (λ lexeme. IsTrue (list_all (is_in_range 0x20 0x7E) lexeme.item.raw.now)) }
         ensures none { IfNone result (self.new ≡ self.old) }
     {
         self.next_plain(false)

@@ -1,6 +1,6 @@
 //! The characters of one line, of a gap and of a word.
 
-ghost use Rattle.std.specs.Prelude.{◌≡◌, ◌∷◌, ◌||◌, not, IfSome, IfNone, IsTrue, IsFalse, if◌then◌else◌};
+ghost use Rattle.std.specs.Prelude.{◌≡◌, ◌∷◌, ◌||◌, ◌+◌, not, IfSome, IfNone, IsTrue, IsFalse, if◌then◌else◌};
 ghost use Rattle.std.specs.List.{prefix_len};
 ghost use Rattle.c_chars.specs.Coming.{behind};
 ghost use Rattle.c_chars.specs.Characters.{bytes_of};
@@ -125,6 +125,7 @@ pub(crate) fn begin_plain<'s>(text: &Chars<'s>) -> Option<Begun<'s>>
     ensures gap { IfSome result (λ begun. IsGap text.now begun.lines begun.bytes begun.text) }
     ensures begun { IfSome result (λ begun. IsBegun begun.text begun.first begun.behind) }
     ensures ink { IfSome result (λ begun. IsFalse (is_white begun.first.byte || is_new_line begun.first.byte)) }
+    ensures plain { IfSome result (λ begun. (begun.first.from ≡ begun.text.at) × (begun.first.to ≡ begun.text.at + 1)) }
 {
     let mut rest = text.ahead();
     let mut behind = text.ahead();

@@ -10,7 +10,7 @@ ghost use Rattle.c_lexer.specs.Class.{IsFirst};
 ghost use Rattle.c_lexer.specs.Cut.{IsCutOff, IsStop};
 ghost use Rattle.c_lexer.specs.Next.{IsCutNext};
 ghost use Rattle.c_lexer.specs.Place.{place_of};
-ghost use Rattle.c_lexer.specs.Reading.{IsBegun};
+ghost use Rattle.c_lexer.specs.Reading.{ArePrintable, IsBegun};
 
 use crate::cut::{self, Stop};
 use crate::line::Begun;
@@ -85,7 +85,8 @@ fn cut_off<'s>(any: bool, dialect: Dialect, begun: &Begun<'s>) -> Option<(ItemKi
     requires dialect { dialect ≡ begun.now.text.dialect }
     requires begun { IsBegun begun.now.text begun.now.first begun.now.behind }
     requires ink { IsFalse (is_white begun.now.first.byte || is_new_line begun.now.first.byte) }
-    ensures { IfSome result (λ r. IsCutOff begun.now.text r.1 r.0) }
+    ensures off { IfSome result (λ r. IsCutOff begun.now.text r.1 r.0) }
+    ensures plain { IfSome result (λ r. IsFalse any → ArePrintable begun.now.first begun.now.behind r.1) }
 {
     if let Some((kind, left)) = cut::cut_plain(dialect, begun) {
         return Some((kind, left));
@@ -105,7 +106,8 @@ pub(crate) fn cut_begun<'s>(
     requires dialect { dialect ≡ begun.now.text.dialect }
     requires begun { IsBegun begun.now.text begun.now.first begun.now.behind }
     requires ink { IsFalse (is_white begun.now.first.byte || is_new_line begun.now.first.byte) }
-    ensures { IfSome result (λ r. IsCutNext (place_of standing) begun.now.text r.1 r.0) }
+    ensures next { IfSome result (λ r. IsCutNext (place_of standing) begun.now.text r.1 r.0) }
+    ensures plain { IfSome result (λ r. IsFalse any → ArePrintable begun.now.first begun.now.behind r.1) }
 {
     if is_behind_include(standing) {
         return None;

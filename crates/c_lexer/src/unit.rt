@@ -2,7 +2,8 @@
 
 ghost use Rattle.std.specs.Prelude.{◌≡◌, IsTrue, IsFalse, IfSome, MatchOption};
 ghost use Rattle.unicode_ident.specs.Ident.{is_xid_start, is_xid_continue};
-ghost use Rattle.c_chars.specs.Characters.{bytes_of};
+ghost use Rattle.c_chars.specs.Characters.{bytes_of, is_word_byte};
+ghost use Rattle.c_chars.specs.Coming.{AreBytesPassed};
 ghost use Rattle.c_grammar.specs.Grammar.{is_universal_name, is_word_unit, is_number_unit};
 ghost use Rattle.c_grammar.specs.Touch.{starts};
 ghost use Rattle.c_lexer.specs.Unit.{BeginsUnit, IsUnitOff, IsRunOff, is_rare_unit, is_single, begins_hex, begins_name, begins_pair};
@@ -152,7 +153,8 @@ fn behind_number_unit<'s>(dialect: Dialect, text: &Chars<'s>) -> Option<Chars<'s
 #[inline(always)]
 pub(crate) fn behind_plain_number<'s>(dialect: Dialect, text: &Chars<'s>) -> Option<Chars<'s>>
     requires { dialect ≡ text.now.dialect }
-    ensures { IfSome result (λ left. IsRunOff (is_number_unit dialect) text.now left) }
+    ensures off { IfSome result (λ left. IsRunOff (is_number_unit dialect) text.now left) }
+    ensures bytes { IfSome result (λ left. AreBytesPassed is_word_byte text.now left) }
 {
     let mut left = text.ahead();
     left.pass_word();

@@ -172,6 +172,7 @@ fn measures_each_row_in_columns(rt: HostRuntime) -> Result<(), Fail> {
         same(&rt, name, rows.count, count);
         same(&rt, name, rows.first_width, first_width);
         same(&rt, name, rows.last_width, last_width);
+        same(&rt, name, arena.rows(TokenId(0)), rows);
     }
     Ok(())
 }

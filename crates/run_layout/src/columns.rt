@@ -1,12 +1,10 @@
 //! Columns of rows.
 
-ghost use Rattle.std.specs.Prelude.{◌≡◌, ◌<◌, ◌^◌, length};
-ghost use Rattle.token_arena.specs.Entries.{told_by};
+ghost use Rattle.std.specs.Prelude.{◌≡◌, ◌<◌, length};
 ghost use Rattle.run_layout.specs.Rows.{item_at, start_behind, column_behind};
 
-use crate::item::item;
 use gap_text::Decision;
-use token_arena::{Token, TokenArena};
+use token_arena::{TokenArena, TokenId};
 
 /// Where an item starts behind a decision, where what stands before the gap ends at `column`.
 pub(crate) fn start_behind(column: u32, decision: Decision) -> u32
@@ -19,24 +17,16 @@ pub(crate) fn start_behind(column: u32, decision: Decision) -> u32
     }
 }
 
-/// The column behind an item that starts at a column: only its last row counts.
-#[inline(always)]
-pub(crate) fn behind(token: &Token<'_>, start: u32) -> u32
-    requires { length token.now.item.raw.now < 2 ^ 31 }
-    ensures { result ≡ column_behind start (told_by token.now) }
+/// The column behind the item with this number, which starts at a column: only its last row counts. No column
+/// passes 4,294,967,295.
+pub fn column_behind(arena: &TokenArena<'_, '_>, start: u32, id: u32) -> u32
+    requires { id < length arena.now.tokens }
+    ensures { result ≡ column_behind start (item_at arena.now id) }
 {
-    let rows = token.rows();
+    let rows = arena.rows(TokenId(id));
     if rows.count == 1 {
         start.saturating_add(rows.first_width)
     } else {
         rows.last_width
     }
-}
-
-/// The column behind the item with this number, which starts at a column. No column passes 4,294,967,295.
-pub fn column_behind(arena: &TokenArena<'_, '_>, start: u32, id: u32) -> u32
-    requires { id < length arena.now.tokens }
-    ensures { result ≡ column_behind start (item_at arena.now id) }
-{
-    behind(&item(arena, id), start)
 }

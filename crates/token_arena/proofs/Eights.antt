@@ -1,6 +1,9 @@
 -- What the highest bits of eight bytes tell of each of them.
-use Rattle.std.proofs.Common.{◌≡◌, ◌==◌, ◌&&◌, ◌∙◌, ℕ, zero, suc, ◌+◌, ◌*◌, ◌^◌, ◌<◌, ◌≤◌, Bool, true, List, [], ◌∷◌, length, get_or, take, drop, w64, refl, sym, ap, subst, arith, inl, inr, if◌then◌else◌}
+use Rattle.std.proofs.Common.{◌≡◌, ◌==◌, ◌&&◌, ◌∙◌, ℕ, zero, suc, ◌+◌, ◌-◌, ◌*◌, ◌^◌, ◌<◌, ◌≤◌, Bool, true, List, [], ◌∷◌, length, get_or, take, drop, w64, refl, sym, ap, subst, arith, inl, inr, if◌then◌else◌}
 use Rattle.std.proofs.lemmas.Bool.{and_from, and_parts, both_ways, cases_Bool, eqb-true, eq-eqb}
+use Rattle.std.proofs.lemmas.Bool.Decides.{nat_tests}
+use Rattle.std.proofs.lemmas.List.{drop-drop}
+use Rattle.std.specs.Prelude.{nat_lt}
 use Rattle.std.proofs.lemmas.Nat.{and_block, or_block, xor_block, and_le_r, or_lt, xor_lt}
 use Rattle.std.specs.Int.{is_in_range, from_le_bytes}
 use Rattle.std.specs.List.{list_all}
@@ -111,3 +114,24 @@ behind_front p (suc n) [] h = refl
 behind_front p (suc n) (b ∷ row) h =
     let parts = and_parts (p b) (list_all p (take n row)) h in
     behind_front p n row parts.1 ∙ sym (ap (λ t. t && list_all p row) parts.0)
+
+all_behind : (p : ℕ → Bool) (n : ℕ) (row : List ℕ) → list_all p row ≡ true → list_all p (drop n row) ≡ true
+all_behind p zero row h = h
+all_behind p (suc n) [] h = h
+all_behind p (suc n) (b ∷ row) h = all_behind p n row (and_parts (p b) (list_all p row) h).1
+
+-- where the last eight are printable so are those that are left, fewer than eight
+pub last_front : (p : ℕ → Bool) (row rest : List ℕ) → 8 ≤ length row → length rest < 8 → rest ≡ drop (length row - length rest) row → list_all p (drop (length row - 8) row) ≡ true → list_all p rest ≡ true
+last_front p row rest some few rest_is last =
+    let far : (length row - 8) + (8 - length rest) ≡ length row - length rest = omega (arith, some, few) in
+    let same : drop (8 - length rest) (drop (length row - 8) row) ≡ rest = drop-drop (8 - length rest) (length row - 8) row ∙ (ap (λ k. drop k row) far ∙ sym rest_is) in
+    subst (λ z. list_all p z ≡ true) same (all_behind p (8 - length rest) (drop (length row - 8) row) last)
+
+-- eight bytes further on
+pub eight_on : (row rest behind : List ℕ) → rest ≡ drop (length row - length rest) row → length rest ≤ length row → behind ≡ drop 8 rest → length behind + 8 ≡ length rest → behind ≡ drop (length row - length behind) row
+eight_on row rest behind rest_is within behind_is len =
+    let far : (length row - length rest) + 8 ≡ length row - length behind = omega (arith, within, len) in
+    behind_is ∙ (ap (drop 8) rest_is ∙ (drop-drop 8 (length row - length rest) row ∙ ap (λ k. drop k row) far))
+
+pub below_eight : (n : ℕ) → nat_lt n 8 ≡ true → n < 8
+below_eight n h = grind (arith, nat_tests)

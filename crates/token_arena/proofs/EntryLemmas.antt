@@ -2,10 +2,11 @@
 use Rattle.std.proofs.Common.{◌≡◌, ◌==◌, ◌∙◌, ℕ, zero, suc, ◌+◌, ◌-◌, ◌<◌, ◌≤◌, Bool, true, false, List, [], ◌∷◌, length, take, drop, get_or, refl, ap, arith, count_by, Some, slice_get}
 use Rattle.std.proofs.lemmas.Bool.{ne_eqb}
 use Rattle.std.proofs.lemmas.List.{length-drop, length-take-le}
+use Rattle.std.proofs.lemmas.Option.{get_or_from_slice_get}
 use Rattle.std.proofs.lemmas.List.Elements.{All-get_or}
 use Rattle.token_arena.specs.Gaps.{behind, gap_start, gap_end}
-use Rattle.token_arena.specs.Stored.{is_line_feed, rows_of, first_row, last_row, width_of}
-use Rattle.token_arena.specs.Entries.{gap_kept, kept_by, kept_from, kept_by_all, AllWithin}
+use Rattle.token_arena.specs.Stored.{Stored, is_line_feed, rows_of, first_row, last_row, width_of}
+use Rattle.token_arena.specs.Entries.{gap_kept, is_back, kept_by, kept_from, kept_by_all, AllWithin}
 use Rattle.line_tokens.specs.declared.GapFacts.{GapFacts}
 use Rattle.token_arena.specs.declared.arena.Entry.{Entry}
 
@@ -64,10 +65,11 @@ any_at text (entry ∷ entries) (suc place) d h =
     rw later (later_at text entries place d (omega arith))
 
 -- at a place stands what its entry, its bytes and those before it say
-pub kept_at : (text : List ℕ) (entries : List Entry) (place : ℕ) (d : Entry) (raw before : List ℕ) (gap : GapFacts) → place < length entries
+pub kept_at : (text : List ℕ) (entries : List Entry) (place : ℕ) (d : Entry) (raw before : List ℕ) (gap : GapFacts) (back : Bool) → place < length entries
     → raw ≡ take (get_or entries place d).len (drop (get_or entries place d).start text)
     → before ≡ take (get_or entries place d).start text
     → gap ≡ gap_kept (place == 0) (get_or entries place d)
+    → back ≡ is_back (get_or entries place d).spelled
     → slice_get (kept_by_all text entries) place ≡ Some (record {
       kind = (get_or entries place d).kind;
       start = (get_or entries place d).start;
@@ -77,6 +79,11 @@ pub kept_at : (text : List ℕ) (entries : List Entry) (place : ℕ) (d : Entry)
       rows = rows_of raw;
       first_width = width_of (first_row raw);
       last_width = width_of (last_row raw);
-      back = (get_or entries place d).back;
+      back = back;
     })
-kept_at text entries place d raw before gap within raw_is before_is gap_is = rw (raw_is, before_is, gap_is) (any_at text entries place d within)
+kept_at text entries place d raw before gap back within raw_is before_is gap_is back_is = rw (raw_is, before_is, gap_is, back_is) (any_at text entries place d within)
+
+-- what an entry says of its item is kept at its place
+pub kept_there : (text : List ℕ) (entries : List Entry) (place : ℕ) (d : Entry) (token : Stored) → place < length entries
+    → get_or (kept_by_all text entries) place token ≡ kept_by text (place == 0) (get_or entries place d)
+kept_there text entries place d token within = get_or_from_slice_get (kept_by_all text entries) place (kept_by text (place == 0) (get_or entries place d)) token (any_at text entries place d within)

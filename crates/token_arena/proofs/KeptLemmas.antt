@@ -11,7 +11,7 @@ use Rattle.c_grammar.specs.Text.{ReadItem, Left, IsStep, IsReadUpTo, start_of, e
 use Rattle.c_grammar.proofs.Reading.{begun, stepped, ended}
 use Rattle.token_arena.specs.Stored.{Stored, stored_of, stored_from, stored_items}
 use Rattle.token_arena.specs.Gaps.{Stands, StandFrom, behind}
-use Rattle.token_arena.specs.Entries.{kept_by, kept_from, kept_by_all, AllWithin, AreEntries}
+use Rattle.token_arena.specs.Entries.{kept_by, kept_from, kept_by_all, AllWithin, AreEntries, ArePlain, IsPlain}
 use Rattle.token_arena.specs.declared.arena.Entry.{Entry}
 use Rattle.c_chars.proofs.Spans.{Ascend, chars_ascend}
 use Rattle.token_arena.proofs.EntryLemmas.{length_kept}
@@ -87,6 +87,7 @@ pub record IsKeptUpTo (d : Dialect) (text : List ℕ) (left : Left) (entries : L
   pub stand : StandFrom text (mark_len text) (kept_by_all text entries)
   pub stop : end_from (mark_len text) (kept_by_all text entries) ≡ at
   pub within : AllWithin text entries
+  pub plain : ArePlain text entries
 
 -- A byte order mark is in its text.
 pub record IsMarked (text : List ℕ) : Type 0 where
@@ -126,6 +127,7 @@ kept_begun d text =
       stand = mark.within;
       stop = refl;
       within = λ k d below. absurd (omega arith);
+      plain = λ k d below. absurd (omega arith);
     }
 
 pub kept_step : (d : Dialect) (text : List ℕ) (old new : Left) (entries : List Entry) (entry : Entry) (at at2 : ℕ) (read : ReadItem)
@@ -134,9 +136,10 @@ pub kept_step : (d : Dialect) (text : List ℕ) (old new : Left) (entries : List
     → IsSpanned at (length text) read new.chars
     → kept_by text (length entries == 0) entry ≡ stored_of text (length entries == 0) at read
     → entry.start + entry.len ≤ length text
+    → IsPlain text entry
     → at2 ≡ end_of read
     → IsKeptUpTo d text new (entries ++ entry ∷ []) at2
-kept_step d text old new entries entry at at2 read before step span told room at2_is =
+kept_step d text old new entries entry at at2 read before step span told room plain at2_is =
     let mark : ℕ = mark_len text in
     let tokens : List Stored = kept_by_all text entries in
     let made : Stored = kept_by text (length entries == 0) entry in
@@ -176,12 +179,14 @@ kept_step d text old new entries entry at at2 read before step span told room at
       stand = subst (StandFrom text mark) (sym pushed) stand;
       stop = ap (end_from mark) pushed ∙ (end_from-push mark tokens made ∙ stops);
       within = All-append (λ (e : Entry). e.start + e.len ≤ length text) entries (entry ∷ []) before.within (λ k other below. let first : k ≡ 0 = omega arith in rw first room);
+      plain = All-append (IsPlain text) entries (entry ∷ []) before.plain (λ k other below. let first : k ≡ 0 = omega arith in rw first plain);
     }
 
 pub kept_ended : (d : Dialect) (text : List ℕ) (left : Left) (entries : List Entry) (at : ℕ) → length text ≤ LIMIT → IsKeptUpTo d text left entries at
     → is_gap (bytes_of left.chars) ≡ true → AreEntries text d entries
 kept_ended d text left entries at fits all gap = record {
   within = all.within;
+  plain = all.plain;
   sound = record {
     stand = all.stand;
     fits = fits;

@@ -6,3 +6,4 @@ pub mod KeptLemmas
 pub mod NextLemmas
 pub mod Spans
 pub mod Eights
+pub mod RowsKept

@@ -2,7 +2,7 @@
 use Rattle.std.proofs.Common.{◌≡◌, ◌==◌, ◌∙◌, ℕ, zero, suc, ◌+◌, ◌-◌, ◌<◌, ◌≤◌, not, Bool, true, false, List, [], ◌∷◌, length, get_or, refl, sym, ap, arith, eq-eqb, count_by, if◌then◌else◌}
 use Rattle.std.specs.List.{position_or_len, suffix_len, list_all}
 use Rattle.std.proofs.lemmas.List.Sums.{position_or_len_is, suffix_len_is, sum_by-cons}
-use Rattle.token_arena.specs.Stored.{is_line_feed, first_row, last_row, width_of}
+use Rattle.token_arena.specs.Stored.{is_line_feed, rows_of, first_row, last_row, width_of}
 use Rattle.std.specs.Str.{IsAscii, IsUtf8, chars}
 use Rattle.std.specs.Int.{is_in_range}
 use Rattle.std.proofs.lemmas.Bool.{and_parts, ne_eqb}
@@ -86,3 +86,13 @@ no_feed-printable (b ∷ row) h =
   where
     other : (b : ℕ) → is_in_range 0x20 0x7E b ≡ true → is_line_feed b ≡ false
     other b h = ne_eqb b 10 (λ e. grind (arith, nat_tests))
+
+-- printable ASCII is one row, as wide as it is long
+pub rows-printable : (raw : List ℕ) → list_all (is_in_range 0x20 0x7E) raw ≡ true → rows_of raw ≡ 1
+rows-printable raw h = ap (λ (n : ℕ). 1 + n) (no_feed-printable raw h)
+
+pub first-printable : (raw : List ℕ) → list_all (is_in_range 0x20 0x7E) raw ≡ true → width_of (first_row raw) ≡ length raw
+first-printable raw h = ap width_of (first_row-one raw (no_feed-printable raw h)) ∙ width_of-printable raw h
+
+pub last-printable : (raw : List ℕ) → list_all (is_in_range 0x20 0x7E) raw ≡ true → width_of (last_row raw) ≡ length raw
+last-printable raw h = ap width_of (last_row-one raw (no_feed-printable raw h)) ∙ width_of-printable raw h

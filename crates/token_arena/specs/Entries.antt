@@ -1,5 +1,7 @@
 -- How the items lie in memory.
-use Rattle.std.specs.Prelude.{◌==◌, ◌||◌, ◌≤◌, ◌+◌, ◌-◌, not, ℕ, Bool, true, false, List, [], ◌∷◌, All, length, take, drop, count_by}
+use Rattle.std.specs.Prelude.{◌≡◌, ◌==◌, ◌||◌, ◌≤◌, ◌+◌, ◌-◌, not, ℕ, Bool, true, false, List, [], ◌∷◌, All, length, take, drop, count_by, IsTrue}
+use Rattle.std.specs.Int.{is_in_range}
+use Rattle.std.specs.List.{list_all}
 use Rattle.token_arena.specs.Gaps.{Contents}
 use Rattle.token_arena.specs.Holds.{IsSound}
 use Rattle.c_chars.specs.declared.Dialect.{Dialect}
@@ -7,7 +9,21 @@ use Rattle.c_lexer.specs.declared.item.Lexeme.{Lexeme}
 use Rattle.line_tokens.specs.declared.GapFacts.{GapFacts}
 use Rattle.token_arena.specs.Stored.{Stored, is_line_feed, line_at, rows_of, first_row, last_row, width_of}
 use Rattle.token_arena.specs.declared.arena.Entry.{Entry}
+use Rattle.token_arena.specs.declared.arena.Spelled.{Spelled}
+use Rattle.token_arena.specs.declared.arena.Spelled.TheVariants.{Plain, Backslash, Other}
 use Rattle.token_arena.specs.declared.arena.Token.{Token}
+
+-- a backslash is the last character of an item that is spelled so
+abbrev pub is_back : Spelled → Bool
+is_back Plain = false
+is_back Backslash = true
+is_back Other = false
+
+-- how an item is spelled, where a backslash is its last character or not, and its bytes are told to be printable ASCII or not
+abbrev pub spelled : Bool → Bool → Spelled
+spelled true printable = Backslash
+spelled false true = Plain
+spelled false false = Other
 
 -- what an entry says of the gap of its item, which is the first of its text or not: without a character and a splice it is empty
 abbrev pub gap_kept : Bool → Entry → GapFacts
@@ -30,7 +46,7 @@ kept_by text is_first entry = record {
   rows = rows_of (take entry.len (drop entry.start text));
   first_width = width_of (first_row (take entry.len (drop entry.start text)));
   last_width = width_of (last_row (take entry.len (drop entry.start text)));
-  back = entry.back;
+  back = is_back entry.spelled;
 }
 
 -- what entries that follow one another say of their items, where the first of these is the first of its text or not
@@ -60,6 +76,14 @@ told_by token = record {
 abbrev pub AllWithin : List ℕ → List Entry → Type 0
 AllWithin text entries = All (λ entry. entry.start + entry.len ≤ length text) entries
 
+-- an entry that says so has bytes of printable ASCII alone
+abbrev pub IsPlain : List ℕ → Entry → Type 0
+IsPlain text entry = entry.spelled ≡ Plain → IsTrue (list_all (is_in_range 0x20 0x7E) (take entry.len (drop entry.start text)))
+
+-- each entry that says so
+abbrev pub ArePlain : List ℕ → List Entry → Type 0
+ArePlain text entries = All (IsPlain text) entries
+
 -- a text, its dialect and what these entries keep of it
 abbrev pub contents_of : List ℕ → Dialect → List Entry → Contents
 contents_of text dialect entries = record { text = text; dialect = dialect; tokens = kept_by_all text entries }
@@ -67,16 +91,17 @@ contents_of text dialect entries = record { text = text; dialect = dialect; toke
 -- these entries are an arena of this text
 pub record AreEntries (text : List ℕ) (dialect : Dialect) (entries : List Entry) : Type 0 where
   pub within : AllWithin text entries
+  pub plain : ArePlain text entries
   pub sound : IsSound (contents_of text dialect entries)
 
--- the entry of this item behind a gap that begins at this offset: a spliced line end is in no character
-abbrev pub entry_of : Lexeme → ℕ → Entry
-entry_of lexeme gap = record {
+-- the entry of this item, whose bytes are told to be printable ASCII or not, behind a gap that begins at this offset: a spliced line end is in no character
+abbrev pub entry_of : Lexeme → ℕ → Bool → Entry
+entry_of lexeme gap printable = record {
   start = lexeme.item.start;
   len = length lexeme.item.raw.now;
   lines = lexeme.lines;
   kind = lexeme.item.kind;
   white = lexeme.white;
   splice = not (lexeme.bytes == lexeme.item.start - gap);
-  back = lexeme.back;
+  spelled = spelled lexeme.back printable;
 }

@@ -1,13 +1,14 @@
 //! The store of items, and what it answers.
 
-ghost use Rattle.std.specs.Prelude.{◌≡◌, ◌==◌, ◌<◌, ◌≤◌, ◌+◌, ◌^◌, length, take, drop, Some, slice_get, if◌then◌else◌};
+ghost use Rattle.std.specs.Prelude.{◌≡◌, ◌==◌, ◌<◌, ◌≤◌, ◌+◌, ◌^◌, length, take, drop, Some, get_or, slice_get, if◌then◌else◌};
 ghost use Rattle.c_chars.specs.Characters.{mark_len};
 ghost use Rattle.c_chars.specs.declared.TheConstants.{LIMIT};
 ghost use Rattle.token_arena.specs.Gaps.{gap_of, gap_start, gap_end, joined, StandFrom};
 ghost use Rattle.token_arena.specs.Holds.{HoldsItems};
-ghost use Rattle.token_arena.specs.Entries.{told_by, AreEntries, contents_of, gap_kept};
+ghost use Rattle.token_arena.specs.Entries.{told_by, AreEntries, contents_of, gap_kept, is_back};
+ghost use Rattle.token_arena.specs.Stored.{Stored};
 
-use crate::facts::{Rows, line_feeds, rows_of};
+use crate::facts::{Rows, line_feeds, one_row, rows_of, rows_of_any};
 use c_lexer::{Dialect, Item, ItemKind};
 use line_tokens::{GapFacts, TokenId};
 use std::marker::Model;
@@ -48,6 +49,25 @@ impl Token<'_> {
     }
 }
 
+/// What is known of an item's bytes.
+#[derive(Clone, Copy)]
+pub(crate) enum Spelled {
+    /// They are printable ASCII, and no backslash is the last character.
+    Plain,
+    /// A backslash is the last character.
+    Backslash,
+    /// Neither is known.
+    Other,
+}
+
+/// Whether a backslash is the last character of an item that is spelled so.
+#[inline(always)]
+fn is_back(spelled: Spelled) -> bool
+    ensures { result ≡ is_back spelled }
+{
+    matches!(spelled, Spelled::Backslash)
+}
+
 /// An item as it lies in memory; its bytes are those of the text from `start` on. It has `lines` new-lines before it,
 /// `white` space other than splices, and a `splice`; the other facts of its gap follow from these.
 #[derive(Clone, Copy)]
@@ -58,7 +78,7 @@ pub(crate) struct Entry {
     pub kind: ItemKind,
     pub white: bool,
     pub splice: bool,
-    pub back: bool,
+    pub spelled: Spelled,
 }
 
 const _: () = prove!(size_of::<Entry>() <= 16);
@@ -157,8 +177,26 @@ impl<'a, 's> TokenArena<'a, 's> {
                 start: entry.start,
             },
             gap: gap_kept(&entry, id.0 == 0),
-            back: entry.back,
+            back: is_back(entry.spelled),
             before: bytes_of(self.text, 0, entry.start),
+        }
+    }
+
+    /// The rows of the item with this number. Of most items the entry alone tells them.
+    #[inline(always)]
+    #[tactic(auto, using(crate::proofs::EntryLemmas::length_kept))]
+    pub fn rows(&self, id: TokenId) -> Rows
+        requires { id.0 < length self.now.tokens }
+        ensures count { (no_token : Stored) → result.count ≡ (get_or self.now.tokens id.0 no_token).rows }
+        ensures first { (no_token : Stored) → result.first_width ≡ (get_or self.now.tokens id.0 no_token).first_width }
+        ensures last { (no_token : Stored) → result.last_width ≡ (get_or self.now.tokens id.0 no_token).last_width }
+    {
+        let entry = self.entries[id.0 as usize];
+        match entry.spelled {
+            Spelled::Plain => one_row(entry.len),
+            Spelled::Backslash | Spelled::Other => {
+                rows_of_any(bytes_of(self.text, entry.start, entry.len))
+            }
         }
     }
 

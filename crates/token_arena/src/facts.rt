@@ -1,14 +1,14 @@
 //! What is kept of an item, from its bytes and those of the gap before it.
 
-ghost use Rattle.std.specs.Prelude.{◌≡◌, ◌<◌, ◌≤◌, ◌-◌, ◌^◌, not, length, count_by, IsTrue};
+ghost use Rattle.std.specs.Prelude.{◌≡◌, ◌<◌, ◌≤◌, ◌-◌, ◌^◌, not, drop, length, count_by, IsTrue};
 ghost use Rattle.std.specs.Int.{is_in_range};
 ghost use Rattle.std.specs.List.{list_all, position_or_len, suffix_len};
 ghost use Rattle.std.specs.Io.BufRead.{strip_last};
 ghost use Rattle.token_arena.specs.Stored.{is_line_feed, rows_of, first_row, last_row, width_of};
 ghost use Rattle.token_arena.specs.Eight.{unprintable};
-ghost use Rattle.token_arena.specs.Entries.{entry_of};
+ghost use Rattle.token_arena.specs.Entries.{entry_of, spelled};
 
-use crate::arena::Entry;
+use crate::arena::{Entry, Spelled};
 use c_lexer::Lexeme;
 use std::str::from_utf8;
 use unicode_width::UnicodeWidthStr;
@@ -102,7 +102,9 @@ fn are_printable(eight: &[u8; 8]) -> bool
 /// What stands in a row behind bytes that are told to be printable eight at a time.
 #[inline(always)]
 fn behind_printable(row: &[u8]) -> &[u8]
-    ensures { list_all (is_in_range 0x20 0x7E) result.now ≡ list_all (is_in_range 0x20 0x7E) row.now }
+    ensures same { list_all (is_in_range 0x20 0x7E) result.now ≡ list_all (is_in_range 0x20 0x7E) row.now }
+    ensures rest { result.now ≡ drop (length row.now - length result.now) row.now }
+    ensures within { length result.now ≤ length row.now }
 {
     let mut rest = row;
     while let Some((eight, behind)) = rest.split_first_chunk::<8>() {
@@ -125,6 +127,18 @@ fn is_each_printable(row: &[u8]) -> bool
         }
     }
     true
+}
+
+/// Whether each byte is told to be a printable character of ASCII: where there are eight and more, eight at a time, with
+/// the last eight once more for those that are left behind the others.
+#[inline(never)]
+pub(crate) fn looks_printable(row: &[u8]) -> bool
+    ensures { IsTrue result → IsTrue (list_all (is_in_range 0x20 0x7E) row.now) }
+{
+    let Some((_, last)) = row.split_last_chunk::<8>() else {
+        return is_each_printable(row);
+    };
+    are_printable(last) && behind_printable(row).len() < 8
 }
 
 /// Whether each byte of a row of several words is a printable character of ASCII.
@@ -173,7 +187,8 @@ pub struct Rows {
 }
 
 /// The only row of an item, of this width.
-fn one_row(width: u32) -> Rows
+#[inline(always)]
+pub(crate) fn one_row(width: u32) -> Rows
     ensures { result ≡ record { count = 1; first_width = width; last_width = width } }
 {
     Rows {
@@ -185,7 +200,7 @@ fn one_row(width: u32) -> Rows
 
 /// The rows of an item of any bytes.
 #[inline(never)]
-fn rows_of_any(raw: &[u8]) -> Rows
+pub(crate) fn rows_of_any(raw: &[u8]) -> Rows
     requires { length raw.now < 2 ^ 31 }
     ensures count { result.count ≡ rows_of raw.now }
     ensures first { result.first_width ≡ width_of (first_row raw.now) }
@@ -216,12 +231,28 @@ pub(crate) fn rows_of(raw: &[u8]) -> Rows
     rows_of_any(raw)
 }
 
-/// The entry of an item behind a gap that begins at this offset. Spliced line ends are bytes of no character.
+/// How an item is spelled, where a backslash is its last character or not, and its bytes are told to be printable
+/// ASCII or not.
 #[inline(always)]
-pub(crate) fn entry_of(lexeme: &Lexeme<'_>, gap: u32) -> Entry
+fn spelled(back: bool, printable: bool) -> Spelled
+    ensures { result ≡ spelled back printable }
+{
+    if back {
+        Spelled::Backslash
+    } else if printable {
+        Spelled::Plain
+    } else {
+        Spelled::Other
+    }
+}
+
+/// The entry of an item, whose bytes are told to be printable ASCII or not, behind a gap that begins at this offset.
+/// Spliced line ends are bytes of no character.
+#[inline(always)]
+pub(crate) fn entry_of(lexeme: &Lexeme<'_>, gap: u32, printable: bool) -> Entry
     requires fits { length lexeme.now.item.raw.now < 2 ^ 31 }
     requires order { gap ≤ lexeme.now.item.start }
-    ensures { result ≡ entry_of lexeme.now gap }
+    ensures { result ≡ entry_of lexeme.now gap printable }
 {
     let item = &lexeme.item;
     Entry {
@@ -231,6 +262,6 @@ pub(crate) fn entry_of(lexeme: &Lexeme<'_>, gap: u32) -> Entry
         kind: item.kind,
         white: lexeme.white,
         splice: lexeme.bytes != item.start - gap,
-        back: lexeme.back,
+        spelled: spelled(lexeme.back, printable),
     }
 }

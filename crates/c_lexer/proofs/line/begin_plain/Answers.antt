@@ -1,4 +1,4 @@
-use Rattle.std.proofs.Common.{◌∙◌, ◌||◌, sym, ap, subst, arith}
+use Rattle.std.proofs.Common.{◌∙◌, ◌||◌, ◌+◌, sym, ap, subst, arith}
 use Rattle.std.specs.List.{prefix_len}
 use Rattle.c_chars.specs.Characters.{bytes_of}
 use Rattle.c_chars.specs.Coming.{behind}
@@ -66,3 +66,8 @@ returns-then-not-is_blank-clause-begun c = record {
   at_is = c.in-Some.ensures.some.1;
   dialect_is = c.next_plain.ensures.dialect ∙ ap (λ z. z.dialect) c.loop-first.invariant.behind_is;
 }
+
+pub returns-then-not-is_blank-clause-plain : goal.returns-then-not-is_blank-clause-plain
+returns-then-not-is_blank-clause-plain c =
+    let at_is = ap (λ z. z.at) c.loop-first.invariant.behind_is in
+    (c.in-Some.ensures.plain.0 ∙ at_is, c.in-Some.ensures.plain.1 ∙ ap (λ k. k + 1) at_is)

@@ -8,7 +8,7 @@ use Rattle.c_lexer.proofs.line.behind_word.Goals as goal
 
 pub loop-init : goal.loop-init
 loop-init c =
-    passed_run (λ x. is_letter x || is_digit x) is_word_byte c.ahead-rest.result c.pass_word.new.self word_byte c.pass_word.ensures
+    passed_run (λ x. is_letter x || is_digit x) is_word_byte c.ahead-rest.result c.pass_word.new.self word_byte c.pass_word.ensures.passed
     ∙ ap (λ z. behind z (prefix_len (λ x. is_letter x || is_digit x) (bytes_of z.chars))) c.ahead-rest.ensures
 
 pub loop-preserved : goal.loop-preserved

@@ -3,7 +3,7 @@ use Rattle.c_lexer.specs.Place.{place_of}
 use Rattle.c_lexer.proofs.Nexts.{next_of_cut}
 use Rattle.c_lexer.proofs.next.cut_begun.Goals as goal
 
-pub returns-in-Some : goal.returns-in-Some
-returns-in-Some c =
+pub returns-in-Some-clause-next : goal.returns-in-Some-clause-next
+returns-in-Some-clause-next c =
     next_of_cut (place_of c.args.standing) c.args.begun.now.text c.in-Some.left c.in-Some.kind (subst (λ z. 0 < length z) (sym c.requires.begun.chars_are) (omega arith))
-    (λ e b. c.is_behind_include.ensures c.if-is_behind_include.false e) c.in-Some.ensures
+    (λ e b. c.is_behind_include.ensures c.if-is_behind_include.false e) c.in-Some.ensures.off

@@ -1,4 +1,4 @@
-use Rattle.std.proofs.Common.{◌≡◌, ◌∙◌, ◌<◌, length, sym, subst, ap, arith}
+use Rattle.std.proofs.Common.{◌≡◌, ◌∙◌, ◌<◌, true, length, sym, subst, ap, arith}
 use Rattle.c_lexer.specs.Reading.{Reading}
 use Rattle.token_arena.proofs.KeptLemmas.{IsKeptUpTo, kept_begun, kept_ended}
 use Rattle.token_arena.proofs.NextLemmas.{next_behind, next_kept, at_some, at_none}
@@ -38,7 +38,7 @@ loop-lexeme-preserved-in-Some c = record {
   dialect_stays = c.in-Some.ensures.dialect ∙ c.loop-lexeme.invariant.dialect_stays;
   kept =
       rw c.in_ok-push.ensures.items
-      (next_kept _ _ _ _ _ _ c.in-Some.lexeme c.loop-lexeme.invariant.text_stays c.loop-lexeme.invariant.dialect_stays c.loop-lexeme.invariant.kept c.in-Some.ensures.some _ c.entry_of-entry.ensures);
+      (next_kept _ _ _ _ _ _ c.in-Some.lexeme c.loop-lexeme.invariant.text_stays c.loop-lexeme.invariant.dialect_stays c.loop-lexeme.invariant.kept c.in-Some.ensures.some true (λ told. c.in-Some.ensures.plain) _ c.entry_of-entry.ensures);
 }
 
 -- any other item: the reader stands where it stood
@@ -84,7 +84,7 @@ loop-lexeme-preserved c =
     record {
       text_stays = c.in-Ok-Some.ensures.text ∙ text_is;
       dialect_stays = c.in-Ok-Some.ensures.dialect ∙ dialect_is;
-      kept = rw c.in_ok-push-in-Ok-Some.ensures.items (next_kept _ _ _ _ _ _ c.in-Ok-Some.lexeme text_is dialect_is kept next _ c.entry_of-entry-in-Ok-Some.ensures);
+      kept = rw c.in_ok-push-in-Ok-Some.ensures.items (next_kept _ _ _ _ _ _ c.in-Ok-Some.lexeme text_is dialect_is kept next c.looks_printable.result c.looks_printable.ensures _ c.entry_of-entry-in-Ok-Some.ensures);
     }
 
 pub returns-in-Ok-None-clause-entries : goal.returns-in-Ok-None-clause-entries

@@ -1,5 +1,7 @@
 use Rattle.std.proofs.Common.{◌==◌, ◌∙◌, ◌-◌, false, not, refl, sym, subst, ap, take, drop}
 use Rattle.std.specs.Prelude.{slice_get}
+use Rattle.std.specs.Int.{is_in_range}
+use Rattle.std.specs.List.{list_all}
 use Rattle.c_lexer.specs.Place.{place_of}
 use Rattle.c_lexer.specs.Reading.{Reading, IsNextItem, IsNextLexeme}
 use Rattle.c_lexer.specs.declared.item.Lexeme.{Lexeme}
@@ -7,6 +9,7 @@ use Rattle.c_lexer.proofs.Backslashes.{slashed_rest}
 use Rattle.c_lexer.proofs.Gaps.{gap_lines}
 use Rattle.c_lexer.proofs.Lexemes.{lexeme_there, some_before}
 use Rattle.c_lexer.proofs.Plains.{begun_first}
+use Rattle.c_lexer.proofs.PlainBytes.{raw_printable, raw_rest}
 use Rattle.c_lexer.proofs.NextItems.{spanned, gap_of, at_rest, bounds, next_there}
 use Rattle.c_lexer.proofs.lexer.Lexer.next_plain.Goals as goal
 
@@ -18,12 +21,12 @@ cut_begun-requires-clause-dialect c =
 pub ends_plainly-requires-clause-some : goal.ends_plainly-requires-clause-some
 ends_plainly-requires-clause-some c =
     let rest = at_rest c.self.inside.text.now c.self.inside.dialect c.self.inside.chars c.in-Some.begun.text (gap_of c.self.inside.chars) c.self.invariant.0 c.in-Some.ensures.gap.rest_is in
-    some_before c.self.inside.text.now c.self.inside.dialect (place_of c.past_gap-standing.result) c.in-Some.begun.text c.in-Some-cut_begun.left c.in-Some-cut_begun.kind rest c.in-Some-cut_begun.ensures
+    some_before c.self.inside.text.now c.self.inside.dialect (place_of c.past_gap-standing.result) c.in-Some.begun.text c.in-Some-cut_begun.left c.in-Some-cut_begun.kind rest c.in-Some-cut_begun.ensures.next
 
 pub ends_plainly-requires-clause-within : goal.ends_plainly-requires-clause-within
 ends_plainly-requires-clause-within c =
     let rest = at_rest c.self.inside.text.now c.self.inside.dialect c.self.inside.chars c.in-Some.begun.text (gap_of c.self.inside.chars) c.self.invariant.0 c.in-Some.ensures.gap.rest_is in
-    (bounds c.self.inside.text.now c.self.inside.dialect (place_of c.past_gap-standing.result) c.in-Some.begun.text c.in-Some-cut_begun.left c.in-Some-cut_begun.kind c.in-Some.begun.first rest (ap (λ z. slice_get z 0) c.in-Some.ensures.begun.chars_are) c.in-Some-cut_begun.ensures).1
+    (bounds c.self.inside.text.now c.self.inside.dialect (place_of c.past_gap-standing.result) c.in-Some.begun.text c.in-Some-cut_begun.left c.in-Some-cut_begun.kind c.in-Some.begun.first rest (ap (λ z. slice_get z 0) c.in-Some.ensures.begun.chars_are) c.in-Some-cut_begun.ensures.next).1
 
 pub ends_plainly-requires-clause-slashed : goal.ends_plainly-requires-clause-slashed
 ends_plainly-requires-clause-slashed c = slashed_rest c.self.inside.text.now c.self.inside.chars c.in-Some.begun.text (gap_of c.self.inside.chars) c.self.invariant.1 c.in-Some.ensures.gap.rest_is
@@ -31,19 +34,21 @@ ends_plainly-requires-clause-slashed c = slashed_rest c.self.inside.text.now c.s
 pub between-raw-requires-clause-order : goal.between-raw-requires-clause-order
 between-raw-requires-clause-order c =
     let rest = at_rest c.self.inside.text.now c.self.inside.dialect c.self.inside.chars c.in-Some.begun.text (gap_of c.self.inside.chars) c.self.invariant.0 c.in-Some.ensures.gap.rest_is in
-    rw c.at.ensures (bounds c.self.inside.text.now c.self.inside.dialect (place_of c.past_gap-standing.result) c.in-Some.begun.text c.in-Some-cut_begun.left c.in-Some-cut_begun.kind c.in-Some.begun.first rest (ap (λ z. slice_get z 0) c.in-Some.ensures.begun.chars_are) c.in-Some-cut_begun.ensures).0
+    rw c.at.ensures (bounds c.self.inside.text.now c.self.inside.dialect (place_of c.past_gap-standing.result) c.in-Some.begun.text c.in-Some-cut_begun.left c.in-Some-cut_begun.kind c.in-Some.begun.first rest (ap (λ z. slice_get z 0) c.in-Some.ensures.begun.chars_are) c.in-Some-cut_begun.ensures.next).0
 
 pub between-raw-requires-clause-within : goal.between-raw-requires-clause-within
 between-raw-requires-clause-within c =
     let rest = at_rest c.self.inside.text.now c.self.inside.dialect c.self.inside.chars c.in-Some.begun.text (gap_of c.self.inside.chars) c.self.invariant.0 c.in-Some.ensures.gap.rest_is in
-    rw c.at.ensures (bounds c.self.inside.text.now c.self.inside.dialect (place_of c.past_gap-standing.result) c.in-Some.begun.text c.in-Some-cut_begun.left c.in-Some-cut_begun.kind c.in-Some.begun.first rest (ap (λ z. slice_get z 0) c.in-Some.ensures.begun.chars_are) c.in-Some-cut_begun.ensures).1
+    rw c.at.ensures (bounds c.self.inside.text.now c.self.inside.dialect (place_of c.past_gap-standing.result) c.in-Some.begun.text c.in-Some-cut_begun.left c.in-Some-cut_begun.kind c.in-Some.begun.first rest (ap (λ z. slice_get z 0) c.in-Some.ensures.begun.chars_are) c.in-Some-cut_begun.ensures.next).1
 
 pub invariant_of-self : goal.invariant_of-self
 invariant_of-self c =
     let rest = at_rest c.self.inside.text.now c.self.inside.dialect c.self.inside.chars c.in-Some.begun.text (gap_of c.self.inside.chars) c.self.invariant.0 c.in-Some.ensures.gap.rest_is in (
-      at_rest c.self.inside.text.now c.self.inside.dialect c.in-Some.begun.text c.in-Some-cut_begun.left c.in-Some-cut_begun.ensures.n rest c.in-Some-cut_begun.ensures.left_is,
-      slashed_rest c.self.inside.text.now c.in-Some.begun.text c.in-Some-cut_begun.left c.in-Some-cut_begun.ensures.n
-          (slashed_rest c.self.inside.text.now c.self.inside.chars c.in-Some.begun.text (gap_of c.self.inside.chars) c.self.invariant.1 c.in-Some.ensures.gap.rest_is) c.in-Some-cut_begun.ensures.left_is,
+      at_rest c.self.inside.text.now c.self.inside.dialect c.in-Some.begun.text c.in-Some-cut_begun.left c.in-Some-cut_begun.ensures.next.n rest c.in-Some-cut_begun.ensures.next.left_is,
+      slashed_rest c.self.inside.text.now c.in-Some.begun.text c.in-Some-cut_begun.left c.in-Some-cut_begun.ensures.next.n
+          (slashed_rest c.self.inside.text.now c.self.inside.chars c.in-Some.begun.text (gap_of c.self.inside.chars) c.self.invariant.1 c.in-Some.ensures.gap.rest_is) c.in-Some-cut_begun.ensures.next.left_is,
+      raw_rest c.self.inside.text.now c.in-Some.begun.text c.in-Some-cut_begun.left c.in-Some-cut_begun.ensures.next.n
+          (raw_rest c.self.inside.text.now c.self.inside.chars c.in-Some.begun.text (gap_of c.self.inside.chars) c.self.invariant.2 c.in-Some.ensures.gap.rest_is) c.in-Some-cut_begun.ensures.next.left_is,
     )
 
 pub returns-clause-some : goal.returns-clause-some
@@ -55,7 +60,7 @@ returns-clause-some c =
     let next : IsNextItem old new c.in-Some-cut_begun.kind c.in-Some.begun.first.from c.between-raw.result.now =
     next_there c.self.inside.text.now c.self.inside.dialect (place_of c.self.inside.standing) (place_of c.past_gap-standing.result) (place_of c.in-Some-past_begun.past)
     c.self.inside.chars c.in-Some.begun.text c.in-Some-cut_begun.left (not (c.in-Some.begun.lines == 0)) c.in-Some.begun.first c.in-Some-cut_begun.kind c.between-raw.result.now c.self.invariant.0
-    new_line gap.rest_is (ap (λ z. slice_get z 0) c.in-Some.ensures.begun.chars_are) c.past_gap-standing.ensures c.in-Some-cut_begun.ensures
+    new_line gap.rest_is (ap (λ z. slice_get z 0) c.in-Some.ensures.begun.chars_are) c.past_gap-standing.ensures c.in-Some-cut_begun.ensures.next
     c.in-Some-past_begun.ensures
     (c.between-raw.ensures ∙ ap (λ k. take (k - c.in-Some.begun.first.from) (drop c.in-Some.begun.first.from c.self.inside.text.now)) c.at.ensures) in
     let lexeme : Lexeme = record {
@@ -67,7 +72,17 @@ returns-clause-some c =
     } in
     subst (λ v. IsNextLexeme v new lexeme) c.self.view_is
     (lexeme_there old new c.self.inside.chars c.in-Some.begun.text c.in-Some-cut_begun.left (place_of c.past_gap-standing.result) c.in-Some-cut_begun.kind lexeme c.self.invariant.0 refl gap.rest_is
-    c.in-Some-cut_begun.ensures refl gap.lines_are gap.bytes_are refl (λ n within e. sym (c.ends_plainly.ensures c.if-not-ends_plainly.false n within e)) next)
+    c.in-Some-cut_begun.ensures.next refl gap.lines_are gap.bytes_are refl (λ n within e. sym (c.ends_plainly.ensures c.if-not-ends_plainly.false n within e)) next)
+
+pub returns-clause-plain : goal.returns-clause-plain
+returns-clause-plain c = λ once.
+    let rest = at_rest c.self.inside.text.now c.self.inside.dialect c.self.inside.chars c.in-Some.begun.text (gap_of c.self.inside.chars) c.self.invariant.0 c.in-Some.ensures.gap.rest_is in
+    let within =
+    (bounds c.self.inside.text.now c.self.inside.dialect (place_of c.past_gap-standing.result) c.in-Some.begun.text c.in-Some-cut_begun.left c.in-Some-cut_begun.kind c.in-Some.begun.first rest (ap (λ z. slice_get z 0) c.in-Some.ensures.begun.chars_are) c.in-Some-cut_begun.ensures.next).1 in
+    let raw = raw_rest c.self.inside.text.now c.self.inside.chars c.in-Some.begun.text (gap_of c.self.inside.chars) c.self.invariant.2 c.in-Some.ensures.gap.rest_is in
+    ap (list_all (is_in_range 0x20 0x7E)) (c.between-raw.ensures ∙ ap (λ k. take (k - c.in-Some.begun.first.from) (drop c.in-Some.begun.first.from c.self.inside.text.now)) c.at.ensures)
+    ∙ raw_printable c.self.inside.text.now c.in-Some.begun.text c.in-Some.begun.behind c.in-Some-cut_begun.left c.in-Some.begun.first raw within c.in-Some.ensures.begun.chars_are c.in-Some.ensures.begun.at_is
+    c.in-Some.ensures.plain.0 c.in-Some.ensures.plain.1 (c.in-Some-cut_begun.ensures.plain once)
 
 pub past_begun-requires-clause-spans : goal.past_begun-requires-clause-spans
 past_begun-requires-clause-spans c =

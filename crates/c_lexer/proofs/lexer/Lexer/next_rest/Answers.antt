@@ -11,6 +11,7 @@ use Rattle.c_lexer.proofs.FirstBytes.{first_there}
 use Rattle.c_lexer.proofs.Gaps.{gap_lines}
 use Rattle.c_lexer.proofs.Lexemes.{lexeme_there, some_before}
 use Rattle.c_lexer.proofs.NextItems.{gap_of, at_rest, spanned, begins_item, only_gap, bounds, fault_there, next_there}
+use Rattle.c_lexer.proofs.PlainBytes.{raw_rest}
 use Rattle.c_lexer.proofs.lexer.Lexer.next_rest.Goals as goal
 
 pub returns-in_default-clause-some : goal.returns-in_default-clause-some
@@ -68,6 +69,8 @@ invariant_of-self c = (
       (at_rest c.self.inside.text.now c.self.inside.dialect c.self.inside.chars c.behind_gap-gap.result.rest (gap_of c.self.inside.chars) c.self.invariant.0 c.behind_gap-gap.ensures.rest) c.in-Ok.ensures.left_is,
   slashed_rest c.self.inside.text.now c.behind_gap-gap.result.rest c.in-Ok.left c.in-Ok.ensures.n
       (slashed_rest c.self.inside.text.now c.self.inside.chars c.behind_gap-gap.result.rest (gap_of c.self.inside.chars) c.self.invariant.1 c.behind_gap-gap.ensures.rest) c.in-Ok.ensures.left_is,
+  raw_rest c.self.inside.text.now c.behind_gap-gap.result.rest c.in-Ok.left c.in-Ok.ensures.n
+      (raw_rest c.self.inside.text.now c.self.inside.chars c.behind_gap-gap.result.rest (gap_of c.self.inside.chars) c.self.invariant.2 c.behind_gap-gap.ensures.rest) c.in-Ok.ensures.left_is,
 )
 
 pub returns-in-Ok-clause-some : goal.returns-in-Ok-clause-some
