@@ -1,18 +1,16 @@
 -- The tokens of a view, made segment by segment.
-use Rattle.std.proofs.Common.{◌≡◌, ◌∙◌, ℕ, suc, ◌+◌, ◌-◌, ◌<◌, ◌≤◌, Bool, true, false, Option, Some, None, ◌&&◌, ◌||◌, not, nat_lt, List, [], ◌∷◌, ◌++◌, length, map, take, drop, get_or, append_assoc, length-append, length-drop, refl, sym, ap, subst, arith, eq-eqb}
-use Rattle.std.specs.Prelude.{IfSome}
-use Rattle.std.proofs.lemmas.Bool.{and_left}
+use Rattle.std.proofs.Common.{◌≡◌, ◌∙◌, ℕ, zero, suc, ◌==◌, ◌+◌, ◌-◌, ◌<◌, ◌≤◌, Bool, true, false, ◌&&◌, not, nat_lt, List, [], ◌∷◌, ◌++◌, length, map, drop, get_or, append_assoc, length-append, refl, sym, ap, subst, arith, eq-eqb}
 use Rattle.std.proofs.Math.ListN.{drop_of_length-le}
-use Rattle.std.proofs.Math.Seq.{drop-cons, take-length}
+use Rattle.std.proofs.Math.Seq.{drop-cons, get_or-append_seam}
 use Rattle.token_views.specs.declared.view.Segment.{Segment}
 use Rattle.token_views.specs.Segments.{ids_of, segment_bounds, AreSegments, CountFrom, HasPlace, no_segment}
 use Rattle.token_views.proofs.SegmentLemmas.{item_at_start, length_items}
 use Rattle.token_arena.specs.Gaps.{Contents}
 use Rattle.line_tokens.specs.declared.LineTok.{LineTok}
 use Rattle.annotator.specs.declared.mark.Mark.{Mark}
-use Rattle.annotator.specs.Classes.{is_hash}
-use Rattle.annotator.specs.Held.{is_held, is_inner}
-use Rattle.annotator.specs.Tokens.{stands_apart, tok_of, toks_from}
+use Rattle.annotator.specs.Held.{is_held, TellsHeld}
+use Rattle.annotator.specs.Left.{no_token, outside}
+use Rattle.annotator.specs.Tokens.{stands_apart, tok_of, toks_from, IsPushed}
 
 -- ## Segments
 
@@ -60,26 +58,6 @@ in_segment segments ids i k j is rule within before below =
 
 -- ## Tokens
 
--- all places from one on
-pub all_behind : (marks : List Mark) (k : ℕ) → take (length marks - k) (drop k marks) ≡ drop k marks
-all_behind marks k = ap (λ n. take n (drop k marks)) (sym (length-drop k marks)) ∙ take-length (drop k marks)
-
-or_not : (x : Bool) → (x || false) ≡ x
-or_not true = refl
-or_not false = refl
-
--- a token that is no inner comment stays where it stood if it is a `#`
-pub first_held : (marks : List Mark) (k : ℕ) (d : Mark) → k < length marks → is_inner (get_or marks k d).seen.role ≡ false → is_hash (get_or marks k d).seen.class ≡ is_held (drop k marks)
-first_held marks k d within other =
-    let mark : Mark = get_or marks k d in
-    let split : drop k marks ≡ mark ∷ drop (suc k) marks = drop-cons marks k d within in
-    let none : (is_inner mark.seen.role && is_held (drop (suc k) marks)) ≡ false = and_left (is_inner mark.seen.role) (is_held (drop (suc k) marks)) other in
-    sym (ap (λ (ms : List Mark). is_held ms) split ∙ (ap (λ b. is_hash mark.seen.class || b) none ∙ or_not (is_hash mark.seen.class)))
-
--- what is known of the places from one on
-pub known_from : (marks : List Mark) (k : ℕ) (known : Option Bool) → IfSome known (λ held. held ≡ is_held (drop k marks)) → IfSome known (λ held. held ≡ is_held (take (length marks - k) (drop k marks)))
-known_from marks k known h = subst (λ (ms : List Mark). IfSome known (λ held. held ≡ is_held ms)) (sym (all_behind marks k)) h
-
 and_not : (b : Bool) → (b && not true) ≡ false
 and_not true = refl
 and_not false = refl
@@ -91,8 +69,14 @@ follows ids k id at next =
     let same : get_or ids (k + 1) 0 ≡ get_or ids (k + 1 - 1) 0 + 1 = next ∙ ap (λ x. x + 1) (sym at ∙ ap (λ i. get_or ids i 0) (sym less)) in
     ap (λ (b : Bool). nat_lt 0 (k + 1) && not b) (eq-eqb (get_or ids (k + 1) 0) (get_or ids (k + 1 - 1) 0 + 1) same) ∙ and_not (nat_lt 0 (k + 1))
 
+-- whether a directive stands before the first item of a segment is told by the item before it
+pub apart_first : (ids : List ℕ) (k before id : ℕ) → get_or ids k 0 ≡ id → (0 < k → get_or ids (k - 1) 0 ≡ before) → (nat_lt 0 k && not (id == before + 1)) ≡ stands_apart ids k
+apart_first ids zero before id at last = refl
+apart_first ids (suc k) before id at last =
+    ap (λ (x : ℕ). nat_lt 0 (suc k) && not (x == before + 1)) (sym at) ∙ ap (λ (y : ℕ). nat_lt 0 (suc k) && not (get_or ids (suc k) 0 == y + 1)) (sym (last (omega arith)))
+
 -- one more token is made
-pub pushed : (arena : Contents) (ids : List ℕ) (marks : List Mark) (toks : List LineTok) (k id : ℕ) (d : Mark) (apart held : Bool) → k < length marks → get_or ids k 0 ≡ id → apart ≡ stands_apart ids k
+pushed : (arena : Contents) (ids : List ℕ) (marks : List Mark) (toks : List LineTok) (k id : ℕ) (d : Mark) (apart held : Bool) → k < length marks → get_or ids k 0 ≡ id → apart ≡ stands_apart ids k
     → held ≡ is_held (drop k marks)
     → (toks ++ tok_of arena id apart (get_or marks k d) held ∷ []) ++ toks_from arena ids (k + 1) (drop (k + 1) marks) ≡ toks ++ toks_from arena ids k (drop k marks)
 pushed arena ids marks toks k id d apart held within at is holds =
@@ -109,25 +93,33 @@ pushed arena ids marks toks k id d apart held within at is holds =
 longer : (toks after : List LineTok) (tok : LineTok) → after ≡ toks ++ tok ∷ [] → length after ≡ length toks + 1
 longer toks after tok made = ap (λ (xs : List LineTok). length xs) made ∙ length-append toks (tok ∷ [])
 
+abbrev no_mark : Mark
+no_mark = record { seen = no_token; trailing_list = false; around = outside }
+
+-- the token that is made of an item
+abbrev made_of : Contents → ℕ → Bool → List Mark → List LineTok → LineTok
+made_of arena id apart marks toks = tok_of arena id apart (get_or marks (length toks) no_mark) (is_held (drop (length toks) marks))
+
 -- the tokens so far with one more
-pub pushed_on : (arena : Contents) (ids : List ℕ) (marks : List Mark) (toks after : List LineTok) (k id : ℕ) (d : Mark) (apart held : Bool) (tok : LineTok) → k ≡ length toks → k < length marks → get_or ids k 0 ≡ id
-    → apart ≡ stands_apart ids k → held ≡ is_held (drop k marks) → tok ≡ tok_of arena id apart (get_or marks k d) held → after ≡ toks ++ tok ∷ []
-    → after ++ toks_from arena ids (length after) (drop (length after) marks) ≡ toks ++ toks_from arena ids (length toks) (drop (length toks) marks)
-pushed_on arena ids marks toks after k id d apart held tok count within at is holds told made =
-    let more : length after ≡ k + 1 = longer toks after tok made ∙ ap (λ n. n + 1) (sym count) in
+pub pushed_on : (arena : Contents) (ids : List ℕ) (marks : List Mark) (toks after : List LineTok) (id : ℕ) (apart : Bool) → length toks < length marks → get_or ids (length toks) 0 ≡ id → apart ≡ stands_apart ids (length toks)
+    → IsPushed arena id apart marks toks after → after ++ toks_from arena ids (length after) (drop (length after) marks) ≡ toks ++ toks_from arena ids (length toks) (drop (length toks) marks)
+pushed_on arena ids marks toks after id apart within at is push =
+    let k : ℕ = length toks in
+    let made : after ≡ toks ++ made_of arena id apart marks toks ∷ [] = push no_mark in
+    let more : length after ≡ k + 1 = longer toks after (made_of arena id apart marks toks) made in
     ap (λ n. after ++ toks_from arena ids n (drop n marks)) more
-    ∙ (ap (λ (xs : List LineTok). xs ++ toks_from arena ids (k + 1) (drop (k + 1) marks)) (made ∙ ap (λ (t : LineTok). toks ++ t ∷ []) told)
-    ∙ (pushed arena ids marks toks k id d apart held within at is holds ∙ ap (λ n. toks ++ toks_from arena ids n (drop n marks)) count))
+    ∙ (ap (λ (xs : List LineTok). xs ++ toks_from arena ids (k + 1) (drop (k + 1) marks)) made
+    ∙ pushed arena ids marks toks k id no_mark apart (is_held (drop k marks)) within at is refl)
 
-pub counted_on : (toks after : List LineTok) (tok : LineTok) (before i : ℕ) → after ≡ toks ++ tok ∷ [] → length toks ≡ before + i → length after ≡ before + (i + 1)
-counted_on toks after tok before i made count = omega (arith, longer toks after tok made, count)
+pub counted_on : (arena : Contents) (id : ℕ) (apart : Bool) (marks : List Mark) (toks after : List LineTok) (before i : ℕ) → IsPushed arena id apart marks toks after → length toks ≡ before + i → length after ≡ before + (i + 1)
+counted_on arena id apart marks toks after before i push count = omega (arith, longer toks after (made_of arena id apart marks toks) (push no_mark), count)
 
--- what is known of the token behind it
-pub known_on : (marks : List Mark) (toks after : List LineTok) (k : ℕ) (d : Mark) (held : Bool) (known : Option Bool) (tok : LineTok) → k ≡ length toks → k < length marks → held ≡ is_held (drop k marks) → after ≡ toks ++ tok ∷ []
-    → IfSome known (λ behind. (later : List Mark) → held ≡ is_held (get_or marks k d ∷ later) → behind ≡ is_held later) → IfSome known (λ behind. behind ≡ is_held (drop (length after) marks))
-known_on marks toks after k d held None tok count within holds made told = tt
-known_on marks toks after k d held (Some behind) tok count within holds made told =
-    let one : suc k ≡ k + 1 = omega arith in
-    let more : k + 1 ≡ length after = ap (λ n. n + 1) count ∙ sym (longer toks after tok made) in
-    let split : drop k marks ≡ get_or marks k d ∷ drop (k + 1) marks = drop-cons marks k d within ∙ ap (λ j. get_or marks k d ∷ drop j marks) one in
-    told (drop (k + 1) marks) (holds ∙ ap (λ (ms : List Mark). is_held ms) split) ∙ ap (λ n. is_held (drop n marks)) more
+-- it tells whether it is held
+pub told_on : (arena : Contents) (id : ℕ) (apart : Bool) (marks : List Mark) (toks after : List LineTok) → IsPushed arena id apart marks toks after → TellsHeld marks after
+told_on arena id apart marks toks after push d some =
+    let k : ℕ = length toks in
+    let tok : LineTok = made_of arena id apart marks toks in
+    let made : after ≡ toks ++ tok ∷ [] = push no_mark in
+    let last : length after - 1 ≡ k = omega (arith, longer toks after tok made) in
+    let here : get_or after (length after - 1) d ≡ tok = ap (λ n. get_or after n d) last ∙ (ap (λ (xs : List LineTok). get_or xs k d) made ∙ get_or-append_seam toks tok [] d) in
+    ap (λ (t : LineTok). t.held) here ∙ ap (λ n. is_held (drop n marks)) (sym last)

@@ -1,6 +1,7 @@
 //! What the first bytes of an item tell of the items beside it.
 
 ghost use Rattle.std.specs.Prelude.{◌≡◌, ◌==◌};
+ghost use Rattle.item_edges.specs.declared.edge.Edge.TheVariants.{Quiet};
 ghost use Rattle.item_edges.specs.Edges.{is_name_byte, is_number_byte, is_operator, byte_edge, punct_edge, begins_with, known, edge_of, touch_of};
 
 use line_tokens::ItemKind;
@@ -47,8 +48,12 @@ fn is_number_byte(b: u8) -> bool
 fn byte_edge(b: u8) -> Edge
     ensures { result ≡ byte_edge b }
 {
+    // Every fifth item is one of these two.
+    if matches!(b, b'(' | b')') {
+        return Edge::Quiet;
+    }
     match b {
-        b'(' | b')' | b',' | b';' | b'[' | b']' | b'{' | b'}' => Edge::Quiet,
+        b',' | b';' | b'[' | b']' | b'{' | b'}' => Edge::Quiet,
         b'!'
         | b'#'
         | b'%'
@@ -162,31 +167,43 @@ pub fn edge_of(kind: ItemKind, raw: &[u8]) -> Edge
     }
 }
 
+/// Whether an item may touch one behind it with which nothing goes on, where what it is tells that.
+#[inline(always)]
+fn touch_of_quiet(left: Edge) -> Option<bool>
+    ensures { result ≡ touch_of left Quiet }
+{
+    match left {
+        Edge::Ending => Some(false),
+        Edge::Unknown => None,
+        _ => Some(true),
+    }
+}
+
 /// Whether two items may touch, where what they are to one another tells it.
+///
+/// It asks for the second first, which its reader has just told.
 #[inline(always)]
 pub fn touch_of(left: Edge, right: Edge) -> Option<bool>
     ensures { result ≡ touch_of left right }
 {
-    if matches!(right, Edge::Unknown) {
-        return None;
-    }
-    match left {
-        Edge::Name => match right {
+    match right {
+        Edge::Name | Edge::Number => match left {
             Edge::Name | Edge::Number => Some(false),
-            Edge::Text => None,
-            _ => Some(true),
+            _ => touch_of_quiet(left),
         },
-        Edge::Number => match right {
-            Edge::Name | Edge::Number => Some(false),
-            Edge::Operator | Edge::Text => None,
-            _ => Some(true),
+        Edge::Quiet => touch_of_quiet(left),
+        Edge::Operator => match left {
+            Edge::Number | Edge::Operator => None,
+            _ => touch_of_quiet(left),
         },
-        Edge::Operator => match right {
-            Edge::Operator | Edge::Comment | Edge::Ending => None,
-            _ => Some(true),
+        Edge::Text => match left {
+            Edge::Name | Edge::Number => None,
+            _ => touch_of_quiet(left),
         },
-        Edge::Quiet | Edge::Text | Edge::Comment => Some(true),
-        Edge::Ending => Some(false),
+        Edge::Comment | Edge::Ending => match left {
+            Edge::Operator => None,
+            _ => touch_of_quiet(left),
+        },
         Edge::Unknown => None,
     }
 }
