@@ -7,5 +7,5 @@ mod partner;
 
 pub use kept::{BracketFacts, bracket_facts};
 pub use line_tokens::NoMemory;
-pub use pairing::{partners, partners_of_classes};
+pub use pairing::{Opener, partners, partners_of_classes, waiting_step};
 pub use partner::Partner;

@@ -15,8 +15,10 @@ use token_views::View;
 
 /// An opening bracket that waits for its partner.
 #[derive(Clone, Copy, Drop)]
-pub(crate) struct Opener {
+pub struct Opener {
+    /// Where it stands.
     pub place: u32,
+    /// Which bracket it is.
     pub kind: TokenClass,
 }
 
@@ -121,8 +123,11 @@ fn push_opener(stack: &mut Vec<Opener, &Bump>, place: u32, kind: TokenClass) -> 
 }
 
 /// One token, as far as the openers that wait go: the place of the opener that it takes off.
+///
+/// `stack` has the openers, the topmost last, and `braces` says how many of them are a `{`. Who reads tokens from the
+/// left begins with none.
 #[inline(always)]
-pub(crate) fn waiting_step(
+pub fn waiting_step(
     stack: &mut Vec<Opener, &Bump>,
     braces: &mut usize,
     i: u32,

@@ -1,6 +1,7 @@
 pub mod LineCounts
 pub mod Opens
 pub mod Parts
+pub mod PartsTold
 pub mod Planned
 pub mod OfTexts
 pub mod Seen

@@ -1,9 +1,7 @@
 -- The items of a part of a view.
-use Rattle.std.proofs.Common.{◌≡◌, ◌∙◌, ◌⊎◌, ℕ, suc, ◌+◌, ◌-◌, ◌<◌, ◌≤◌, Option, List, [], ◌∷◌, length, get_or, drop, min, sym, ap, subst, arith}
+use Rattle.std.proofs.Common.{◌≡◌, ◌∙◌, ◌⊎◌, ℕ, ◌+◌, ◌-◌, ◌<◌, ◌≤◌, Option, List, length, get_or, drop, min, sym, ap, subst, arith}
 use Rattle.std.specs.Prelude.{All, IsSome, slice_range}
-use Rattle.std.proofs.Math.Seq.{drop-cons}
 use Rattle.std.proofs.lemmas.List.{get_or-drop, get_or-take, length-drop, length-take}
-use Rattle.view_parts.specs.Parts.{AreEnds}
 use Rattle.replacements.specs.declared.slot.Slot.{Slot}
 use Rattle.replacements.specs.Decisions.{slot_of}
 use Rattle.format_core.specs.Runs.{AreDecided}
@@ -29,14 +27,3 @@ part_decided plan ids first end all = λ k below.
 
 pub before_or_behind : (place end : ℕ) → (place < end) ⊎ (end ≤ place)
 before_or_behind place end = grind arith
-
--- parts begin no later than the view ends
-pub ends_below : (from count : ℕ) (ends : List ℕ) → AreEnds from count ends → from ≤ count
-ends_below from count [] cut = omega (arith, cut)
-ends_below from count (end ∷ ends) cut = (let rest = ends_below end count ends cut.1 in omega (arith, rest, cut.0))
-
--- the next end, and those behind it
-pub next_end : (ends : List ℕ) (i d : ℕ) → i < length ends → drop i ends ≡ get_or ends i d ∷ drop (i + 1) ends
-next_end ends i d within =
-    let e : suc i ≡ i + 1 = omega arith in
-    drop-cons ends i d within ∙ ap (λ j. get_or ends i d ∷ drop j ends) e

@@ -1,15 +1,17 @@
 -- Segments of a view all of whose gaps are decided.
-use Rattle.std.proofs.Common.{◌≡◌, ◌∙◌, ◌⊎◌, inl, inr, ℕ, suc, ◌+◌, ◌-◌, ◌<◌, ◌≤◌, Option, List, ◌∷◌, ◌++◌, length, length-append, get_or, drop, map, sym, ap, subst, arith}
-use Rattle.std.specs.Prelude.{IsSome}
+use Rattle.std.proofs.Common.{◌≡◌, ◌∙◌, ◌⊎◌, inl, inr, ℕ, suc, ◌+◌, ◌-◌, ◌<◌, ◌≤◌, Option, List, ◌∷◌, ◌++◌, length, length-append, get_or, take, drop, map, sym, ap, subst, arith}
+use Rattle.std.specs.Prelude.{IsSome, slice_range}
 use Rattle.std.specs.List.{range_with_len}
 use Rattle.std.proofs.Math.Seq.{drop-cons}
 use Rattle.std.proofs.lemmas.List.{get_or_append_left, get_or-append-add}
 use Rattle.std.proofs.lemmas.List.FromFn.{length-range_with_len, get_or-range_with_len}
 use Rattle.token_views.specs.declared.view.Segment.{Segment}
+use Rattle.token_views.specs.Ids.{Increase}
 use Rattle.token_views.specs.Segments.{ids_of, segment_bounds}
 use Rattle.replacements.specs.declared.slot.Slot.{Slot}
 use Rattle.replacements.specs.Decisions.{slot_of}
 use Rattle.run_layout.specs.OpenGaps.{IsRowDecided}
+use Rattle.view_parts.proofs.Rows.{row_from}
 use Rattle.format_core.specs.Runs.{AreDecided}
 
 in_or_past : (place n : ℕ) → (place < n) ⊎ (n ≤ place)
@@ -39,3 +41,17 @@ segment_first plan segments i d within row rest =
     let segment = get_or segments i d in
     let is : drop i segments ≡ segment ∷ drop (i + 1) segments = drop-cons segments i d within ∙ ap (λ j. segment ∷ drop j segments) e in
     subst (λ (s : List Segment). AreDecided plan (ids_of (map segment_bounds s))) (sym is) (row_first plan segment.first segment.end (ids_of (map segment_bounds (drop (i + 1) segments))) row rest)
+
+-- a part that stands in a row
+pub row_part : (plan : List (Option Slot)) (view : List ℕ) (first end id last : ℕ) → Increase view → first < end → end ≤ length view → get_or view first 0 ≡ id → get_or view (end - 1) 0 ≡ last → id ≤ last → last - id ≡ end - 1 - first → IsRowDecided plan id (last + 1)
+    → AreDecided plan (slice_range view first end)
+row_part plan view first end id last increase some inside at at_last low is row = λ place below.
+    let behind = end - 1 - first in
+    let e : first + behind ≡ end - 1 = omega (arith, some) in
+    let n : suc behind ≡ end - first = omega (arith, some) in
+    let far : get_or view (first + behind) 0 ≡ id + behind = ap (λ k. get_or view k 0) e ∙ (at_last ∙ omega (arith, low, is)) in
+    let same : take (end - first) (drop first view) ≡ range_with_len id (end - first) = subst (λ k. take k (drop first view) ≡ range_with_len id k) n (row_from view first id behind increase (omega (arith, some, inside)) at far) in
+    let len : length (take (end - first) (drop first view)) ≡ end - first = ap (λ (ids : List ℕ). length ids) same ∙ length-range_with_len id (end - first) in
+    let short : place < end - first = omega (arith, below, len) in
+    let item : id + place ≡ get_or (take (end - first) (drop first view)) place 0 = sym (ap (λ (ids : List ℕ). get_or ids place 0) same ∙ get_or-range_with_len id (end - first) place 0 short) in
+    subst (λ k. IsSome (slot_of plan k)) item (row (id + place) (omega arith) (omega (arith, short, low, is)))

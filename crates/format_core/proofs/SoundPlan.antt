@@ -15,8 +15,8 @@ use Rattle.brackets.specs.Kept.{kept_gaps_of}
 use Rattle.brackets.specs.Partners.{partners_of}
 use Rattle.token_classes.specs.Viewed.{AreWithin, classes_of}
 use Rattle.unwrapped_lines.proofs.Started.{lines_cut_views}
-use Rattle.view_parts.specs.Parts.{part_ends, AreEnds}
-use Rattle.view_parts.proofs.InOrder.{ends_cut}
+use Rattle.view_parts.specs.Parts.{part_ends}
+use Rattle.view_parts.proofs.InOrder.{AreEnds, ends_cut}
 use Rattle.annotator.proofs.Counts.{as_many_roles, roles_tell}
 use Rattle.replacements.specs.declared.slot.Slot.{Slot}
 use Rattle.replacements.specs.Decisions.{slot_of}

@@ -7,6 +7,7 @@ ghost use Rattle.token_classes.specs.Viewed.{AreWithin, item_classes};
 ghost use Rattle.directives.specs.Sections.{sections_of, IsCut};
 ghost use Rattle.early_gaps.specs.Dead.{IsTreeOf};
 ghost use Rattle.run_layout.specs.Counted.{IsCounted};
+ghost use Rattle.view_parts.specs.Known.{AreKnown, AreSpans};
 ghost use Rattle.format_core.specs.Runs.{AreDecided, runs_of, seen_by};
 ghost use Rattle.format_core.specs.RunsTold.{AreItemsTold, AreRunsTold, AreSeenTold, IsPlanned};
 
@@ -15,6 +16,7 @@ use annotator::roles_of_classes;
 use brackets::bracket_facts;
 use branch_runs::CondTree;
 use bumpalo::Bump;
+use bumpalo::collections::into_bump_slice_mut;
 use directives::Section;
 use early_gaps::decide_early;
 use line_tokens::NoMemory;
@@ -27,7 +29,7 @@ use token_arena::TokenArena;
 use token_classes::{TokenClass, classes_among, item_classes};
 use token_views::View;
 use unwrapped_lines::lines_of_classes;
-use view_parts::part_ends;
+use view_parts::{KnownEnd, KnownSpans, known_part_end};
 
 /// The plan of a text, and what is told of its lines.
 #[derive(Drop)]
@@ -95,6 +97,33 @@ fn are_decided(view: &View<'_>, plan: &Plan<'_>) -> bool
     true
 }
 
+/// Whether a part of a view stands in a row and the gap before each of its items is decided.
+fn is_decided_row(
+    arena: &TokenArena<'_, '_>,
+    view: &View<'_>,
+    first: u32,
+    end: u32,
+    plan: &Plan<'_>,
+    segment: &mut usize,
+) -> bool
+    requires within { AreWithin arena.now view.now }
+    requires some { first < end }
+    requires inside { end ≤ length view.now }
+    requires whole { length plan.now ≡ length arena.now.tokens + 1 }
+    ensures { IsTrue result → AreDecided plan.now (slice_range view.now first end) }
+{
+    let count = view.len();
+    prove!(end <= count);
+    let items = arena.len();
+    let id = view.at_near(first, segment);
+    let last = view.at_near(end - 1, segment);
+    prove!(last.0 < items);
+    if last.0 < id.0 || last.0 - id.0 != end - 1 - first {
+        return false;
+    }
+    is_row_decided(plan, id.0, last.0 + 1)
+}
+
 /// Decides the gaps of a part of a view, from one place to before another, where they are open. A part of which all
 /// gaps are decided, as an earlier run left it, isn't looked at.
 fn lay_out_part(
@@ -109,6 +138,7 @@ fn lay_out_part(
     end: u32,
     plan: &mut Plan<'_>,
     tally: &mut Tally<'_>,
+    segment: &mut usize,
     room: &Bump,
 ) -> Result<(), NoMemory>
     requires range { IsInRange style.now }
@@ -127,6 +157,9 @@ fn lay_out_part(
     ensures cheap { OnOk result (tally.new.cost ≤ tally.new.searched * 18446744073709551615) }
     ensures counted { OnOk result (IsCounted arena.now tally.new.lines) }
 {
+    if number > 0 && is_decided_row(arena, view, first, end, plan, segment) {
+        return Ok(());
+    }
     let part = view.part(first, end, room)?;
     if are_decided(&part, plan) {
         return Ok(());
@@ -137,9 +170,9 @@ fn lay_out_part(
 }
 
 /// Decides the gaps of the items that the run with this number sees, where they are open, part after part. A run of
-/// branches without text sees nothing new, and its parts aren't asked for. What a part takes of memory serves the
-/// next one too.
-fn lay_out_seen(
+/// branches without text sees nothing new, and its parts aren't asked for. Where a part ends that an earlier run saw is
+/// known. What a part takes of memory serves the next one too.
+fn lay_out_seen<'k>(
     alloc: Global,
     style: &Style,
     budget: u64,
@@ -147,6 +180,9 @@ fn lay_out_seen(
     all: &[TokenClass],
     tree: &CondTree<'_>,
     number: u32,
+    known: &mut [KnownEnd],
+    spans: &mut KnownSpans<'k>,
+    keep: &'k Bump,
     plan: &mut Plan<'_>,
     tally: &mut Tally<'_>,
     run: &Bump,
@@ -160,11 +196,15 @@ fn lay_out_seen(
     requires room { tally.old.searched ≤ 2 ^ 59 }
     requires cheap { tally.old.cost ≤ tally.old.searched * 18446744073709551615 }
     requires counted { IsCounted arena.now tally.old.lines }
+    requires known { AreKnown arena.now known.old }
+    requires spans { AreSpans arena.now spans.old.spans.items }
     ensures told { OnOk result (AreSeenTold style.now budget arena.now number plan.old (seen_by arena.now number) plan.new tally.old tally.new) }
     ensures len { OnOk result (length plan.new ≡ length plan.old) }
     ensures room { OnOk result (tally.new.searched ≤ tally.old.searched + 33554432) }
     ensures cheap { OnOk result (tally.new.cost ≤ tally.new.searched * 18446744073709551615) }
     ensures counted { OnOk result (IsCounted arena.now tally.new.lines) }
+    ensures known { OnOk result (AreKnown arena.now known.new) }
+    ensures spans { OnOk result (AreSpans arena.now spans.new.spans.items) }
 {
     let view = tree.view(number, run)?;
     if are_decided(&view, plan) {
@@ -173,15 +213,37 @@ fn lay_out_seen(
     let items = arena.len();
     let count = view.len();
     prove!(count <= items);
-    let classes = classes_among(all, arena, &view, run)?;
-    let ends = part_ends(arena, &view, classes, run)?;
     let mut room = Bump::new(alloc);
+    let mut segment = 0;
     let mut first = 0;
-    for end in ends {
-        lay_out_part(
-            alloc, style, budget, arena, all, number, &view, first, *end, plan, tally, &room,
+    while first < count {
+        let end = known_part_end(
+            arena,
+            &view,
+            all,
+            first,
+            known,
+            spans,
+            keep,
+            &mut segment,
+            &room,
         )?;
-        first = *end;
+        lay_out_part(
+            alloc,
+            style,
+            budget,
+            arena,
+            all,
+            number,
+            &view,
+            first,
+            end,
+            plan,
+            tally,
+            &mut segment,
+            &room,
+        )?;
+        first = end;
         if room.reset().is_err() {
             room = Bump::new(alloc);
         }
@@ -189,14 +251,29 @@ fn lay_out_seen(
     Ok(())
 }
 
+/// How many items tell the end of a part at least that is noted for later runs, where it stands in no row: few do not
+/// take longer to be read again once, and behind the last run nothing is read again.
+fn least_noted(number: u32, runs: u32) -> u32 {
+    if number >= runs.saturating_sub(1) {
+        u32::MAX
+    } else if number == 0 {
+        16
+    } else {
+        0
+    }
+}
+
 /// Decides the gaps of all items of texts, run by run. What a run takes of memory serves the next one too.
-fn lay_out_runs(
+fn lay_out_runs<'k>(
     alloc: Global,
     style: &Style,
     budget: u64,
     arena: &TokenArena<'_, '_>,
     all: &[TokenClass],
     tree: &CondTree<'_>,
+    known: &mut [KnownEnd],
+    spans: &mut KnownSpans<'k>,
+    keep: &'k Bump,
     plan: &mut Plan<'_>,
     tally: &mut Tally<'_>,
 ) -> Result<(), NoMemory>
@@ -208,14 +285,17 @@ fn lay_out_runs(
     requires none { tally.old.searched ≡ 0 }
     requires free { tally.old.cost ≡ 0 }
     requires counted { IsCounted arena.now tally.old.lines }
+    requires known { AreKnown arena.now known.old }
+    requires spans { AreSpans arena.now spans.old.spans.items }
     ensures told { OnOk result (AreRunsTold style.now budget arena.now plan.old 0 (runs_of arena.now) plan.new tally.old tally.new) }
     ensures len { OnOk result (length plan.new ≡ length plan.old) }
 {
     let mut run = Bump::new(alloc);
     let count = tree.runs();
     for number in 0..count {
+        spans.least = least_noted(number, count);
         lay_out_seen(
-            alloc, style, budget, arena, all, tree, number, plan, tally, &run,
+            alloc, style, budget, arena, all, tree, number, known, spans, keep, plan, tally, &run,
         )?;
         if run.reset().is_err() {
             run = Bump::new(alloc);
@@ -249,12 +329,12 @@ pub(crate) fn plan_of<'a>(
     )?;
     let all = item_classes(arena, bump)?;
     let mut tally = Tally::new(bump);
+    let runs = tree.runs();
+    let again = if runs > 1 { all.len() } else { 0 };
+    let known = into_bump_slice_mut(vec![in bump; KnownEnd::none(); again]?);
+    let mut spans = KnownSpans::none(again / 2, bump);
     lay_out_runs(
-        alloc, style, budget, arena, all, &tree, &mut plan, &mut tally,
+        alloc, style, budget, arena, all, &tree, known, &mut spans, bump, &mut plan, &mut tally,
     )?;
-    Ok(Planned {
-        plan,
-        runs: tree.runs(),
-        tally,
-    })
+    Ok(Planned { plan, runs, tally })
 }

@@ -1,12 +1,17 @@
 //! Parts of a view, as `docs/PROFILE.md` says under "Parts".
 
+ghost use Rattle.token_classes.specs.Viewed.{AreWithin};
+
 use crate::comparing::same;
 use crate::fixtures::items_from;
 use bumpalo::Bump;
+use bumpalo::collections::into_bump_slice;
+use line_tokens::NoMemory;
 use std::test::Fail;
-use token_arena::{Dialect, build};
-use token_classes::classes;
-use view_parts::part_ends;
+use token_arena::{Dialect, TokenArena, build};
+use token_classes::item_classes;
+use token_views::View;
+use view_parts::part_end;
 
 /// A text, and behind how many of its items each part ends.
 const PARTS: &[(&str, &[u32])] = &[
@@ -35,6 +40,28 @@ const PARTS: &[(&str, &[u32])] = &[
     ("a;\ndefault: b;\nc;", &[2, 8]),
 ];
 
+/// The places behind the last item of each part of a view.
+fn ends_of<'r>(
+    arena: &TokenArena<'_, '_>,
+    view: &View<'_>,
+    run: &'r Bump,
+) -> Result<&'r [u32], NoMemory>
+    requires { AreWithin arena.now view.now }
+{
+    let all = item_classes(arena, run)?;
+    let count = view.len();
+    let mut ends = Vec::new(run);
+    let mut segment = 0;
+    let mut first = 0;
+    for _ in 0..count {
+        if first < count {
+            first = part_end(arena, view, all, first, &mut segment, run)?.end;
+            ends.push(first)?;
+        }
+    }
+    Ok(into_bump_slice(ends))
+}
+
 #[test]
 fn ends_parts_behind_declarations(rt: HostRuntime) -> Result<(), Fail> {
     for case in PARTS {
@@ -42,8 +69,7 @@ fn ends_parts_behind_declarations(rt: HostRuntime) -> Result<(), Fail> {
         let run = Bump::new(rt.alloc());
         let arena = build(&run, text.as_bytes(), Dialect::C11)?;
         let view = items_from(&arena, 0, &run)?;
-        let classes = classes(&arena, &view, &run)?;
-        let found = part_ends(&arena, &view, classes, &run)?;
+        let found = ends_of(&arena, &view, &run)?;
         same(&rt, text, found, want);
     }
     Ok(())

@@ -1,2 +1,4 @@
+pub mod Walked
 pub mod InOrder
-pub mod Steps
+pub mod Rows
+pub mod Spans

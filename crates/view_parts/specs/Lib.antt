@@ -1,2 +1,4 @@
-pub mod Walk
+pub mod Known
 pub mod Parts
+pub mod Rows
+pub mod Walk

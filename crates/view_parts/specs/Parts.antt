@@ -1,62 +1,53 @@
 -- The parts of a view: docs/PROFILE.md, "Parts".
-use Rattle.std.specs.Prelude.{◌≡◌, ◌<◌, ℕ, zero, suc, ◌+◌, ◌-◌, nat_lt, Bool, false, ◌&&◌, ◌||◌, not, if◌then◌else◌, Option, Some, None, List, [], ◌∷◌, ◌++◌, length, get_or, slice_get}
+use Rattle.std.specs.Prelude.{◌≡◌, ℕ, zero, suc, ◌+◌, nat_lt, Bool, true, false, if◌then◌else◌, Option, Some, None, List, [], ◌∷◌, ◌++◌, length, drop}
 use Rattle.token_arena.specs.Gaps.{Contents}
-use Rattle.token_arena.specs.Stored.{Stored}
 use Rattle.token_classes.specs.declared.class.TokenClass.{TokenClass}
-use Rattle.token_classes.specs.declared.class.TokenClass.TheVariants.{Nothing}
-use Rattle.token_classes.specs.Classes.{is_comment, is_word}
-use Rattle.token_classes.specs.Viewed.{classes_of}
-use Rattle.brackets.specs.Partners.{partners_of}
+use Rattle.token_classes.specs.Viewed.{item_class}
+use Rattle.brackets.specs.declared.pairing.Opener.{Opener}
+use Rattle.brackets.specs.Partners.{bracket_step}
+use Rattle.view_parts.specs.declared.walk.Reading.TheVariants.{Ends, Never, GoesOn}
 use Rattle.view_parts.specs.declared.walk.Walk.{Walk}
-use Rattle.view_parts.specs.Walk.{start, next_walk, is_end}
+use Rattle.view_parts.specs.Walk.{start, reading}
 
-abbrev pub began_of : Option Stored → Bool
-began_of None = false
-began_of (Some token) = token.gap.began
+-- the openers that wait behind a token ("Partners")
+abbrev pub waiting_behind : TokenClass → ℕ → List Opener → List Opener
+waiting_behind class place waiting = (bracket_step class place (record { open_brackets = waiting; partners = [] })).open_brackets
 
--- the item with this number began its line
-abbrev pub item_began : Contents → ℕ → Bool
-item_began arena id = began_of (slice_get arena.tokens id)
+-- a group is open
+abbrev pub is_open : List Opener → Bool
+is_open [] = false
+is_open (opener ∷ below) = true
 
--- among so many places from this one on a word stands, behind comments or not, and each of these began its line
-abbrev pub declares_among : ℕ → Contents → List ℕ → List TokenClass → ℕ → Bool
-declares_among zero arena ids classes place = false
-declares_among (suc n) arena ids classes place =
-    let class = get_or classes place Nothing in
-    item_began arena (get_or ids place 0) && (if is_comment class then declares_among n arena ids classes (place + 1) else is_word class)
+-- behind how many items a part ends, read so far, where these openers wait and these items follow; none where it goes on up to their end
+abbrev pub next_end : Contents → Walk → List Opener → List ℕ → Option ℕ
+next_end arena walk waiting [] = None
+next_end arena walk waiting (id ∷ ids) =
+    elim (reading arena walk (is_open waiting) id (item_class arena id)) [
+      | Ends count ↦ Some count
+      | Never ↦ None
+      | GoesOn next ↦ next_end arena next (waiting_behind (item_class arena id) walk.place waiting) ids
+    ]
 
--- a declaration begins at a place
-abbrev pub declares : Contents → List ℕ → List TokenClass → ℕ → Bool
-declares arena ids classes place = declares_among (length classes - place) arena ids classes place
+abbrev pub or_all : Option ℕ → ℕ → ℕ
+or_all None all = all
+or_all (Some count) all = count
 
--- Comments of rows that follow one another are lined up. None on the last row before a place and on the row of the declaration there are, where no comment stands in the declaration before, or one on lines of its own begins this one.
-abbrev pub parts_rows : List TokenClass → Walk → Bool
-parts_rows classes walk = is_comment (get_or classes walk.place Nothing) || not walk.commented
+-- how many of these items are the first part: its end depends on them alone, whatever stands before them
+abbrev pub part_len : Contents → List ℕ → ℕ
+part_len arena ids = or_all (next_end arena start [] ids) (length ids)
 
--- a part ends before the next place, or none does
-abbrev pub cuts_at : Contents → List ℕ → List TokenClass → Walk → List ℕ
-cuts_at arena ids classes walk = if is_end walk.before && declares arena ids classes walk.place && parts_rows classes walk then walk.place ∷ [] else []
-
--- the places before which a part ends, from here on; each step passes a place, so the number of places suffices for `n`
-abbrev pub cuts_from : ℕ → Contents → List ℕ → List TokenClass → List (Option ℕ) → Walk → List ℕ
-cuts_from zero arena ids classes partners walk = []
-cuts_from (suc n) arena ids classes partners walk =
-    if nat_lt walk.place (length classes)
-    then cuts_at arena ids classes walk ++ cuts_from n arena ids classes partners (next_walk classes partners walk)
+-- the places behind the last item of each part from this place on; each part has an item, so the number of places suffices for `n`
+abbrev pub ends_from : ℕ → Contents → List ℕ → ℕ → List ℕ
+ends_from zero arena ids first = []
+ends_from (suc n) arena ids first =
+    if nat_lt first (length ids)
+    then (let end = first + part_len arena (drop first ids) in end ∷ ends_from n arena ids end)
     else []
-
--- the last part ends where the view does
-abbrev pub last_end : ℕ → List ℕ
-last_end zero = []
-last_end (suc n) = suc n ∷ []
 
 -- the places behind the last item of each part of a view
 abbrev pub part_ends : Contents → List ℕ → List ℕ
-part_ends arena ids =
-    let classes = classes_of arena ids in
-    cuts_from (length classes) arena ids classes (partners_of classes) start ++ last_end (length ids)
+part_ends arena ids = ends_from (length ids) arena ids 0
 
--- these are the ends of parts that cut the places from one to before another whole and in order
-abbrev pub AreEnds : ℕ → ℕ → List ℕ → Type 0
-AreEnds from count [] = from ≡ count
-AreEnds from count (end ∷ ends) = (from < end) × AreEnds end count ends
+-- These items tell where a part ends that they begin, whatever follows them: behind so many.
+abbrev pub EndsBehind : Contents → List ℕ → ℕ → Type 0
+EndsBehind arena ids count = (rest : List ℕ) → next_end arena start [] (ids ++ rest) ≡ Some count

@@ -1,11 +1,22 @@
--- The way along a view outside brackets: a group is passed over whole.
-use Rattle.std.specs.Prelude.{ℕ, ◌+◌, nat_lt, Bool, true, false, ◌&&◌, ◌||◌, not, if◌then◌else◌, Option, Some, None, List, [], ◌∷◌, length, get_or, slice_range}
+-- The way along the items of a part: outside brackets, and through the groups between them.
+use Rattle.std.specs.Prelude.{ℕ, ◌+◌, Bool, true, false, ◌&&◌, ◌||◌, not, if◌then◌else◌, Option, Some, None, slice_get}
+use Rattle.token_arena.specs.Gaps.{Contents}
+use Rattle.token_arena.specs.Stored.{Stored}
 use Rattle.token_classes.specs.declared.class.TokenClass.{TokenClass}
-use Rattle.token_classes.specs.declared.class.TokenClass.TheVariants.{Nothing}
-use Rattle.token_classes.specs.Classes.{is_opener, is_open_round, is_open_brace, is_semicolon, is_plain, is_assigning, is_control, is_case, is_default, is_comment}
+use Rattle.token_classes.specs.Classes.{is_opener, is_open_round, is_open_brace, is_semicolon, is_plain, is_assigning, is_control, is_case, is_default, is_comment, is_word}
 use Rattle.view_parts.specs.declared.walk.Before.{Before}
 use Rattle.view_parts.specs.declared.walk.Before.TheVariants.{Name, Parameters, Semicolon, Body, Between, Other}
+use Rattle.view_parts.specs.declared.walk.Reading.{Reading}
+use Rattle.view_parts.specs.declared.walk.Reading.TheVariants.{Ends, Never, GoesOn}
 use Rattle.view_parts.specs.declared.walk.Walk.{Walk}
+
+abbrev pub began_of : Option Stored → Bool
+began_of None = false
+began_of (Some token) = token.gap.began
+
+-- the item with this number began its line
+abbrev pub item_began : Contents → ℕ → Bool
+item_began arena id = began_of (slice_get arena.tokens id)
 
 -- behind a group with this opener: directly behind a name a `(` opens what may be the parameters of a function, and directly behind those a `{` its body; where an `=` or `return` stands before, it opens a list
 abbrev pub behind_group : Walk → TokenClass → Before
@@ -41,25 +52,9 @@ behind walk class =
 abbrev pub is_lost : TokenClass → Bool
 is_lost class = is_control class || (is_case class || is_default class)
 
--- behind the group of an opener at a place, or at the end where it has no partner
-abbrev pub behind_partner : ℕ → ℕ → Option ℕ → ℕ
-behind_partner end place None = end
-behind_partner end place (Some partner) = if nat_lt place partner && nat_lt partner end then partner + 1 else end
-
--- where it goes on behind a token
-abbrev pub goes_on_at : ℕ → List (Option ℕ) → ℕ → TokenClass → ℕ
-goes_on_at end partners place class =
-    if is_opener class then behind_partner end place (get_or partners place None)
-    else (if is_lost class then end else place + 1)
-
--- before the first place
+-- before the first item
 abbrev pub start : Walk
-start = record { place = 0; before = Between; assigned = false; commented = false }
-
--- a comment stands among these
-abbrev pub has_comment : List TokenClass → Bool
-has_comment [] = false
-has_comment (class ∷ classes) = is_comment class || has_comment classes
+start = record { place = 0; before = Between; assigned = false; commented = false; asked = None }
 
 abbrev pub is_body : Before → Bool
 is_body Body = true
@@ -69,19 +64,47 @@ abbrev pub is_between_comments : Before → Bool
 is_between_comments Between = true
 is_between_comments _ = false
 
--- A comment stands behind the first token of the declaration that goes on or ends behind these tokens. Those in a function's body don't count: they stand on earlier rows than its `}`.
-abbrev pub is_commented : Walk → Before → List TokenClass → Bool
-is_commented walk before passed =
-    not (is_between_comments before) && ((not (is_between walk.before) && walk.commented) || (not (is_body before) && has_comment passed))
+-- Behind how many items a part ends, where a declaration begins with the next one: it ends where a declaration does. Comments of rows that follow one another are lined up. None on the last row before a place and on the row of the declaration there are, where no comment stands in the declaration before, or one on lines of its own begins this one.
+abbrev pub asked_behind : Option ℕ → Walk → TokenClass → Option ℕ
+asked_behind (Some place) walk class = Some place
+asked_behind None walk class = if is_end walk.before && (is_comment class || not walk.commented) then Some walk.place else None
 
--- behind the next token, or the group that it opens
-abbrev pub next_walk : List TokenClass → List (Option ℕ) → Walk → Walk
-next_walk classes partners walk =
-    let class = get_or classes walk.place Nothing in
-    let place = goes_on_at (length classes) partners walk.place class in
-    record {
-      place = place;
-      before = behind walk class;
-      assigned = not (is_semicolon class) && (walk.assigned || is_assigning class);
-      commented = is_commented walk (behind walk class) (slice_range classes walk.place place);
-    }
+-- The same, of an item that begins the declaration, or the comments before it: it began its line.
+abbrev pub asked_at : Contents → Walk → ℕ → TokenClass → Option ℕ
+asked_at arena walk id class = if item_began arena id then asked_behind walk.asked walk class else None
+
+-- a comment stands behind the first token of the declaration that goes on or ends behind this token, which stands outside brackets
+abbrev pub is_commented : Walk → Before → TokenClass → Bool
+is_commented walk before class = not (is_between_comments before) && ((not (is_between walk.before) && walk.commented) || is_comment class)
+
+-- behind the next token, which stands in a group: comments in a function's body don't count, since they stand on earlier rows than its `}`
+abbrev pub inside : Walk → TokenClass → Walk
+inside walk class = record {
+  place = walk.place + 1;
+  before = walk.before;
+  assigned = walk.assigned;
+  commented = walk.commented || (is_comment class && not (is_body walk.before));
+  asked = walk.asked;
+}
+
+-- behind the next token, which stands outside brackets
+abbrev pub outside : Walk → TokenClass → Option ℕ → Walk
+outside walk class asked = record {
+  place = walk.place + 1;
+  before = behind walk class;
+  assigned = not (is_semicolon class) && (walk.assigned || is_assigning class);
+  commented = is_commented walk (behind walk class) class;
+  asked = if is_comment class then asked else None;
+}
+
+-- A declaration begins with a word.
+abbrev pub ends_or : Option ℕ → TokenClass → Reading → Reading
+ends_or None class later = later
+ends_or (Some count) class later = if is_word class then Ends count else later
+
+-- what comes of the next item, where it stands in a group or not
+abbrev pub reading : Contents → Walk → Bool → ℕ → TokenClass → Reading
+reading arena walk true id class = GoesOn (inside walk class)
+reading arena walk false id class =
+    let asked = asked_at arena walk id class in
+    ends_or asked class (if is_lost class then Never else GoesOn (outside walk class asked))

@@ -1,96 +1,168 @@
 //! Where the parts of a view end.
 
-ghost use Rattle.std.specs.Prelude.{◌≡◌, ◌++◌, ◌<◌, ◌≤◌, ◌^◌, length, get_or, slice_get, IfOk, OnOk};
-ghost use Rattle.token_classes.specs.Viewed.{AreWithin, classes_of};
-ghost use Rattle.view_parts.specs.Walk.{start};
-ghost use Rattle.view_parts.specs.Parts.{item_began, declares, cuts_at, part_ends, AreEnds};
+ghost use Rattle.std.specs.Prelude.{not, true, ◌&&◌, ◌≡◌, ◌<◌, ◌≤◌, ◌+◌, ◌-◌, ◌^◌, ℕ, length, drop, get_or, slice_range, IfOk};
+ghost use Rattle.std.specs.Option.{ForSome};
+ghost use Rattle.token_classes.specs.declared.class.TokenClass.{TokenClass};
+ghost use Rattle.token_classes.specs.Classes.{is_bracket, is_comment};
+ghost use Rattle.token_classes.specs.Viewed.{AreWithin, item_classes};
+ghost use Rattle.token_views.specs.Ids.{Increase};
+ghost use Rattle.view_parts.specs.Parts.{part_len, EndsBehind};
+ghost use Rattle.view_parts.specs.Rows.{IsRow};
 
-use crate::walk::{Walk, next_walk, start};
-use brackets::partners_of_classes;
+use crate::walk::{Reading, read, start};
+use brackets::{Opener, waiting_step};
 use bumpalo::Bump;
-use bumpalo::collections::into_bump_slice;
 use line_tokens::{NoMemory, TokenId};
 use token_arena::TokenArena;
 use token_classes::TokenClass;
 use token_views::View;
 
-/// Whether an item began its line in the input.
-fn item_began(arena: &TokenArena<'_, '_>, id: TokenId) -> bool
-    requires { id.0 < length arena.now.tokens }
-    ensures { result ≡ item_began arena.now id.0 }
-{
-    arena.get(id).gap.began
+/// Where a part ends.
+#[derive(Clone, Copy)]
+pub struct PartEnd {
+    /// The place behind its last item.
+    pub end: u32,
+    /// The place behind the items that tell so, whatever follows them. There is none where the part ends with the view.
+    pub seen: Option<u32>,
 }
 
-/// Whether a declaration begins at a place: a word, behind comments or not, where each of these began its line in the
-/// input.
-fn declares(arena: &TokenArena<'_, '_>, view: &View<'_>, classes: &[TokenClass], first: u32) -> bool
-    requires within { AreWithin arena.now view.now }
-    requires as_many { length classes.now ≡ length view.now }
-    requires few { length classes.now < 2 ^ 32 }
-    ensures { result ≡ declares arena.now view.now classes.now first }
+/// Whether a token in a group changes nothing but the place.
+#[inline(always)]
+fn is_quiet(class: TokenClass) -> bool
+    ensures { result ≡ (not (is_bracket class) && not (is_comment class)) }
 {
-    let mut segment = 0;
-    for place in first..classes.len() as u32 {
-        let class = classes[place as usize];
-        if !item_began(arena, view.at_near(place, &mut segment)) {
-            return false;
-        }
-        if !class.is_comment() {
-            return class.is_word();
+    !class.is_bracket() && !class.is_comment()
+}
+
+/// How many quiet tokens stand at the beginning of these.
+#[inline(always)]
+fn quiet_count(classes: &[TokenClass]) -> usize
+    ensures within { result ≤ length classes.now }
+    ensures quiet { (k : ℕ) → (d : TokenClass) → k < result → not (is_bracket (get_or classes.now k d)) && not (is_comment (get_or classes.now k d)) ≡ true }
+{
+    let mut count = 0;
+    while count < classes.len() && is_quiet(classes[count]) {
+        count += 1;
+    }
+    count
+}
+
+/// How many items follow the one at a place in its segment: none where `number` isn't that of its segment.
+#[inline(always)]
+fn row_behind(view: &View<'_>, place: u32, id: TokenId, number: usize) -> u32
+    requires here { place < length view.now }
+    requires item { get_or view.now place 0 ≡ id.0 }
+    ensures within { place + result < length view.now }
+    ensures row { (k : ℕ) → k ≤ result → get_or view.now (place + k) 0 ≡ id.0 + k }
+    ensures fits { id.0 + result < 2 ^ 32 }
+{
+    let segments = view.segments();
+    if number < segments.len() {
+        let segment = segments[number];
+        if segment.before <= place && place - segment.before < segment.end - segment.first {
+            return segment.end - 1 - id.0;
         }
     }
-    false
+    0
 }
 
-/// Notes that a part ends before the place to which the view was passed, where one does.
-fn note_end(
-    arena: &TokenArena<'_, '_>,
-    view: &View<'_>,
-    classes: &[TokenClass],
-    walk: &Walk,
-    ends: &mut Vec<u32, &Bump>,
-) -> Result<(), NoMemory>
-    requires within { AreWithin arena.now view.now }
-    requires as_many { length classes.now ≡ length view.now }
-    requires few { length classes.now < 2 ^ 32 }
-    requires here { walk.now.place < length classes.now }
-    ensures { OnOk result (ends.new.items ≡ ends.old.items ++ cuts_at arena.now view.now classes.now walk.now) }
+/// Places of a view whose items stand in a row.
+#[derive(Clone, Copy)]
+pub(crate) struct Row {
+    /// How much greater the number of each item is than that of its place.
+    pub shift: u32,
+    /// The place behind the last one.
+    pub end: u32,
+}
+
+/// The item at a place. It is read from the row of the place before, which becomes that of the place.
+#[inline(always)]
+fn item_at(view: &View<'_>, place: u32, row: &mut Row, segment: &mut usize) -> TokenId
+    requires here { place < length view.now }
+    requires few { length view.now < 2 ^ 32 }
+    requires increase { Increase view.now }
+    requires row { IsRow view.now place row.old }
+    ensures item { (d : ℕ) → get_or view.now place d ≡ result.0 }
+    ensures row { IsRow view.now place row.new }
+    ensures some { place < row.new.end }
+    ensures shift { result.0 ≡ place + row.new.shift }
 {
-    if walk.before.is_end()
-        && declares(arena, view, classes, walk.place)
-        && (classes[walk.place as usize].is_comment() || !walk.commented)
-    {
-        ends.push(walk.place)?;
+    if place >= row.end {
+        let id = view.at_near(place, segment);
+        let behind = row_behind(view, place, id, *segment);
+        *row = Row {
+            shift: id.0 - place,
+            end: place + behind + 1,
+        };
     }
-    Ok(())
+    TokenId(place + row.shift)
 }
 
-/// The places behind the last item of each part of a view, which has these classes: the parts cut it whole and in
-/// order.
+/// How many quiet tokens follow a place directly in its row.
+#[inline(always)]
+fn quiet_behind(all: &[TokenClass], place: u32, row: &Row) -> u32
+    requires here { place < row.now.end }
+    requires within { row.now.end + row.now.shift ≤ length all.now }
+    ensures within { place + result < row.now.end }
+    ensures quiet { (k : ℕ) → (d : TokenClass) → place < k → k ≤ place + result → not (is_bracket (get_or all.now (k + row.now.shift) d)) && not (is_comment (get_or all.now (k + row.now.shift) d)) ≡ true }
+{
+    let shift = row.shift as usize;
+    let next = place as usize + 1 + shift;
+    quiet_count(&all[next..row.end as usize + shift]) as u32
+}
+
+/// Where the part of a view ends that begins at a place. `all` are the classes of all items of the text. `segment` is
+/// kept from one place of a view to the next, and starts at 0.
 ///
-/// `docs/PROFILE.md` says under "Parts" which these are. Want of memory is the only error.
-pub fn part_ends<'r>(
+/// `docs/PROFILE.md` says under "Parts" which these are. Items before the place aren't looked at, nor those behind the
+/// first token of the next part. Want of memory, for brackets that are open, is the only error.
+pub fn part_end(
     arena: &TokenArena<'_, '_>,
     view: &View<'_>,
-    classes: &[TokenClass],
-    run: &'r Bump,
-) -> Result<&'r [u32], NoMemory>
+    all: &[TokenClass],
+    first: u32,
+    segment: &mut usize,
+    room: &Bump,
+) -> Result<PartEnd, NoMemory>
     requires within { AreWithin arena.now view.now }
-    requires classes { classes.now ≡ classes_of arena.now view.now }
-    ensures ends { IfOk result (λ ends. ends.now ≡ part_ends arena.now view.now) }
-    ensures cut { IfOk result (λ ends. AreEnds 0 (length view.now) ends.now) }
+    requires all { all.now ≡ item_classes arena.now }
+    requires here { first < length view.now }
+    ensures end { IfOk result (λ part. part.end ≡ first + part_len arena.now (drop first view.now)) }
+    ensures some { IfOk result (λ part. first < part.end) }
+    ensures inside { IfOk result (λ part. part.end ≤ length view.now) }
+    ensures seen { IfOk result (λ part. ForSome part.seen (λ seen. EndsBehind arena.now (slice_range view.now first seen) (part.end - first))) }
+    ensures later { IfOk result (λ part. ForSome part.seen (λ seen. part.end < seen)) }
+    ensures below { IfOk result (λ part. ForSome part.seen (λ seen. seen ≤ length view.now)) }
 {
     let count = view.len();
-    let partners = partners_of_classes(classes, run)?;
-    let mut ends = Vec::new(run);
+    let mut waiting: Vec<Opener, &Bump> = Vec::new(room);
+    let mut braces: usize = 0;
     let mut walk = start();
-    while walk.place < count {
-        note_end(arena, view, classes, &walk, &mut ends)?;
-        walk = next_walk(classes, partners, &walk);
+    let mut row = Row { shift: 0, end: 0 };
+    while walk.place < count - first {
+        let id = item_at(view, first + walk.place, &mut row, segment);
+        let class = all[id.0 as usize];
+        let alone = waiting.is_empty();
+        if !alone && is_quiet(class) {
+            walk.place += 1 + quiet_behind(all, first + walk.place, &row);
+            continue;
+        }
+        match read(arena, &walk, !alone, id, class) {
+            Reading::Ends(items) => {
+                return Ok(PartEnd {
+                    end: first + items,
+                    seen: Some(first + walk.place + 1),
+                });
+            }
+            Reading::Never => break,
+            Reading::GoesOn(next) => {
+                waiting_step(&mut waiting, &mut braces, walk.place, class)?;
+                walk = next;
+            }
+        }
     }
-    if count > 0 {
-        ends.push(count)?;
-    }
-    Ok(into_bump_slice(ends))
+    Ok(PartEnd {
+        end: count,
+        seen: None,
+    })
 }

@@ -1,14 +1,14 @@
-//! The way along a view, outside brackets.
+//! The way along the items of a part.
 
-ghost use Rattle.std.specs.Prelude.{◌≡◌, ◌<◌, ◌≤◌, ◌^◌, length, get_or, None};
-ghost use Rattle.token_classes.specs.declared.class.TokenClass.TheVariants.{Nothing};
-ghost use Rattle.view_parts.specs.Walk.{behind_group, behind, is_end, is_between, is_lost, goes_on_at, has_comment, is_commented, next_walk, start};
+ghost use Rattle.std.specs.Prelude.{◌≡◌, ◌<◌, length};
+ghost use Rattle.view_parts.specs.Walk.{behind_group, behind, is_end, is_between, is_lost, asked_at, is_commented, item_began, inside, outside, reading, start};
 
-use brackets::Partner;
+use line_tokens::TokenId;
+use token_arena::TokenArena;
 use token_classes::TokenClass;
 
-/// What stands directly before a place, outside brackets.
-#[derive(Clone, Copy, Debug, PartialEq, Eq)]
+/// What stands directly before a place, outside brackets. In a group it is what will stand before the place behind it.
+#[derive(Clone, Copy)]
 pub enum Before {
     /// A word that may be a function's name.
     Name,
@@ -24,33 +24,54 @@ pub enum Before {
     Other,
 }
 
-/// How far a view has been passed.
-#[derive(Clone, Copy, Debug, PartialEq, Eq)]
+/// How far a part has been read.
+#[derive(Clone, Copy)]
 pub struct Walk {
-    /// The next place.
+    /// How many of its items were read.
     pub place: u32,
-    /// What stands before it.
+    /// What stands before the next one.
     pub before: Before,
     /// An `=` or `return` stands before it, behind the last `;`.
     pub assigned: bool,
     /// A comment stands behind the first token of the declaration before it.
     pub commented: bool,
+    /// Behind so many items the part ends, if a declaration begins with the next item that is no comment.
+    pub asked: Option<u32>,
+}
+
+/// What comes of an item.
+#[derive(Clone, Copy)]
+pub enum Reading {
+    /// The part ends behind so many items.
+    Ends(u32),
+    /// No part ends behind it.
+    Never,
+    /// The part goes on behind it.
+    GoesOn(Walk),
 }
 
 impl Before {
     /// Whether a declaration ends there.
-    pub(crate) fn is_end(self) -> bool
+    fn is_end(self) -> bool
         ensures { result ≡ is_end self }
     {
         matches!(self, Before::Semicolon | Before::Body)
     }
 
     /// Whether no declaration goes on there.
-    pub(crate) fn is_between(self) -> bool
+    fn is_between(self) -> bool
         ensures { result ≡ is_between self }
     {
         matches!(self, Before::Semicolon | Before::Body | Before::Between)
     }
+}
+
+/// Whether an item began its line in the input.
+fn item_began(arena: &TokenArena<'_, '_>, id: TokenId) -> bool
+    requires { id.0 < length arena.now.tokens }
+    ensures { result ≡ item_began arena.now id.0 }
+{
+    arena.get(id).gap.began
 }
 
 /// What stands behind a group with this opener.
@@ -93,26 +114,7 @@ fn is_lost(class: TokenClass) -> bool
     class.is_control() || class.is_case() || class.is_default()
 }
 
-/// Where it goes on behind a token: behind the group that it opens, and at the end where no part ends behind it.
-fn goes_on_at(classes: &[TokenClass], partners: &[Partner], place: u32, class: TokenClass) -> u32
-    requires few { length classes.now < 2 ^ 32 }
-    requires here { place < length classes.now }
-    requires as_many { length partners.now ≡ length classes.now }
-    ensures next { result ≡ goes_on_at (length classes.now) partners.now place class }
-    ensures later { place < result }
-    ensures within { result ≤ length classes.now }
-{
-    let end = classes.len() as u32;
-    if class.is_opener() {
-        return match partners[place as usize].place() {
-            Some(partner) if place < partner && partner < end => partner + 1,
-            _ => end,
-        };
-    }
-    if is_lost(class) { end } else { place + 1 }
-}
-
-/// Before the first place.
+/// Before the first item.
 pub(crate) fn start() -> Walk
     ensures { result ≡ start }
 {
@@ -121,50 +123,93 @@ pub(crate) fn start() -> Walk
         before: Before::Between,
         assigned: false,
         commented: false,
+        asked: None,
     }
 }
 
-/// Whether a comment stands among these.
-fn has_comment(classes: &[TokenClass]) -> bool
-    ensures { result ≡ has_comment classes.now }
+/// Behind how many items the part ends, if a declaration begins with this item or behind it and comments.
+fn asked_at(arena: &TokenArena<'_, '_>, walk: &Walk, id: TokenId, class: TokenClass) -> Option<u32>
+    requires { id.0 < length arena.now.tokens }
+    ensures { result ≡ asked_at arena.now walk.now id.0 class }
 {
-    for class in classes {
-        if class.is_comment() {
-            return true;
-        }
+    let asked = match walk.asked {
+        Some(place) => place,
+        None if walk.before.is_end() && (class.is_comment() || !walk.commented) => walk.place,
+        None => return None,
+    };
+    if item_began(arena, id) {
+        Some(asked)
+    } else {
+        None
     }
-    false
 }
 
-/// Whether a comment stands behind the first token of the declaration that goes on or ends behind these. Those in a
-/// function's body stand on earlier rows than its `}`.
-fn is_commented(walk: &Walk, before: Before, passed: &[TokenClass]) -> bool
-    ensures { result ≡ is_commented walk.now before passed.now }
+/// Whether a comment stands behind the first token of the declaration that goes on or ends behind this one.
+fn is_commented(walk: &Walk, before: Before, class: TokenClass) -> bool
+    ensures { result ≡ is_commented walk.now before class }
 {
-    if before == Before::Between {
+    if matches!(before, Before::Between) {
         return false;
     }
     let earlier = !walk.before.is_between() && walk.commented;
-    earlier || (before != Before::Body && has_comment(passed))
+    earlier || class.is_comment()
 }
 
-/// Behind the next token, or the group that it opens.
-pub(crate) fn next_walk(classes: &[TokenClass], partners: &[Partner], walk: &Walk) -> Walk
-    requires few { length classes.now < 2 ^ 32 }
-    requires here { walk.now.place < length classes.now }
-    requires as_many { length partners.now ≡ length classes.now }
-    ensures next { result ≡ next_walk classes.now partners.now walk.now }
-    ensures later { walk.now.place < result.place }
-    ensures within { result.place ≤ length classes.now }
+/// Behind the next token, which stands in a group. Comments in a function's body stand on earlier rows than its `}`.
+fn inside(walk: &Walk, class: TokenClass) -> Walk
+    requires { walk.now.place < 4294967295 }
+    ensures { result ≡ inside walk.now class }
 {
-    let class = classes[walk.place as usize];
-    let before = behind(walk, class);
-    let place = goes_on_at(classes, partners, walk.place, class);
-    let passed = &classes[walk.place as usize..place as usize];
+    let counts = !matches!(walk.before, Before::Body);
     Walk {
-        place,
+        place: walk.place + 1,
+        before: walk.before,
+        assigned: walk.assigned,
+        commented: walk.commented || (class.is_comment() && counts),
+        asked: walk.asked,
+    }
+}
+
+/// Behind the next token, which stands outside brackets.
+fn outside(walk: &Walk, class: TokenClass, asked: Option<u32>) -> Walk
+    requires { walk.now.place < 4294967295 }
+    ensures { result ≡ outside walk.now class asked }
+{
+    let before = behind(walk, class);
+    Walk {
+        place: walk.place + 1,
         before,
         assigned: !class.is_semicolon() && (walk.assigned || class.is_assigning()),
-        commented: is_commented(walk, before, passed),
+        commented: is_commented(walk, before, class),
+        asked: if class.is_comment() { asked } else { None },
+    }
+}
+
+/// What comes of the next item, which stands in a group or outside brackets.
+#[inline(always)]
+pub(crate) fn read(
+    arena: &TokenArena<'_, '_>,
+    walk: &Walk,
+    is_open: bool,
+    id: TokenId,
+    class: TokenClass,
+) -> Reading
+    requires item { id.0 < length arena.now.tokens }
+    requires room { walk.now.place < 4294967295 }
+    ensures { result ≡ reading arena.now walk.now is_open id.0 class }
+{
+    if is_open {
+        return Reading::GoesOn(inside(walk, class));
+    }
+    let asked = asked_at(arena, walk, id, class);
+    if let Some(count) = asked {
+        if class.is_word() {
+            return Reading::Ends(count);
+        }
+    }
+    if is_lost(class) {
+        Reading::Never
+    } else {
+        Reading::GoesOn(outside(walk, class, asked))
     }
 }

@@ -9,3 +9,7 @@ returns-then-are_decided-clause-told c =
     let plan = c.args.plan.now in
     items_told_nothing c.args.style.now c.args.budget c.args.arena.now c.args.number plan (slice_range c.args.view.now c.args.first c.args.end) c.args.tally.now
     (subst (λ (ids : List ℕ). AreDecided plan ids) c.in_ok-part.ensures.items (c.are_decided.ensures c.if-are_decided.true))
+
+pub returns-then-is_decided_row-clause-told : goal.returns-then-is_decided_row-clause-told
+returns-then-is_decided_row-clause-told c =
+    items_told_nothing c.args.style.now c.args.budget c.args.arena.now c.args.number c.args.plan.now (slice_range c.args.view.now c.args.first c.args.end) c.args.tally.now (c.is_decided_row.ensures c.if-is_decided_row.true)

@@ -13,6 +13,8 @@ loop-number-init c = record {
   room = omega (arith, c.requires.none);
   cheap = omega (arith, c.requires.none, c.requires.free);
   counted = c.requires.counted;
+  known = c.requires.known;
+  spans = c.requires.spans;
   on = runs_begin c.args.style.now c.args.budget c.args.arena.now c.args.plan.now c.runs-count.result (c.runs-count.result - 0) c.args.tally.now (omega arith);
 }
 
@@ -28,6 +30,8 @@ loop-number-preserved c =
       room = omega (arith, made.room, v.room);
       cheap = made.cheap;
       counted = made.counted;
+      known = made.known;
+      spans = made.spans;
       on = run_done c.args.style.now c.args.budget c.args.arena.now c.args.plan.now count c.args.tally.now c.loop-number.tally c.lay_out_seen.new.tally c.loop-number.plan c.lay_out_seen.new.plan number (count - (number + 1)) (count - number)
           more v.on made.told;
     }

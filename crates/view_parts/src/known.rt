@@ -1,0 +1,290 @@
+//! Where parts end that earlier runs saw.
+
+ghost use Rattle.std.specs.Prelude.{◌≡◌, ◌<◌, ◌≤◌, ◌+◌, ◌-◌, ℕ, [], length, drop, get_or, slice_range, IfOk, IfSome, IsTrue, OnOk};
+ghost use Rattle.token_classes.specs.Viewed.{AreWithin, item_classes};
+ghost use Rattle.view_parts.specs.Known.{no_end, AreKnown, AreSpans, IsKnown};
+ghost use Rattle.view_parts.specs.Parts.{part_len, EndsBehind};
+
+use crate::ends::part_end;
+use bumpalo::Bump;
+use line_tokens::{NoMemory, TokenId};
+use token_arena::TokenArena;
+use token_classes::TokenClass;
+use token_views::View;
+
+/// Where a part ends that begins with an item, where it goes on in a row up to what tells so.
+#[derive(Clone, Copy)]
+pub struct KnownEnd {
+    /// The item behind its last one. Where nothing is known of a row, the number of its span, counted from 1, or 0.
+    pub end: u32,
+    /// The item behind those that tell so, or 0 where nothing is known of a row.
+    pub seen: u32,
+}
+
+/// A part that stands in no row.
+#[derive(Drop)]
+pub struct KnownSpan<'k> {
+    /// How many items it has.
+    pub count: u32,
+    /// Its items, and those behind it that tell where it ends.
+    pub told: View<'k>,
+}
+
+/// Parts that stand in no row.
+#[derive(Drop)]
+pub struct KnownSpans<'k> {
+    /// What is known of them.
+    pub spans: Vec<KnownSpan<'k>, &'k Bump>,
+    /// How many segments more are kept at most.
+    pub left: usize,
+    /// Where fewer items tell the end of a part, it isn't noted.
+    pub least: u32,
+}
+
+impl KnownEnd {
+    /// Nothing is known.
+    pub fn none() -> KnownEnd
+        ensures { result ≡ no_end }
+    {
+        KnownEnd { end: 0, seen: 0 }
+    }
+}
+
+impl<'k> KnownSpans<'k> {
+    /// Nothing is known. So many segments are kept at most.
+    pub fn none(segments: usize, keep: &'k Bump) -> KnownSpans<'k>
+        ensures { result.spans.items ≡ [] }
+    {
+        KnownSpans {
+            spans: Vec::new(keep),
+            left: segments,
+            least: 0,
+        }
+    }
+}
+
+/// The end of the part that begins at a place with this item, where it is known and a view has the items in a row that
+/// tell it.
+fn recalled(
+    arena: &TokenArena<'_, '_>,
+    view: &View<'_>,
+    first: u32,
+    id: TokenId,
+    known: KnownEnd,
+    segment: &mut usize,
+) -> Option<u32>
+    requires here { first < length view.now }
+    requires item { (d : ℕ) → get_or view.now first d ≡ id.0 }
+    requires known { 0 < known.seen → IsKnown arena.now id.0 known }
+    ensures end { IfSome result (λ end. end ≡ first + part_len arena.now (drop first view.now)) }
+    ensures some { IfSome result (λ end. first < end) }
+    ensures inside { IfSome result (λ end. end ≤ length view.now) }
+{
+    if known.seen == 0 {
+        return None;
+    }
+    let count = view.len();
+    let last = known.seen - 1;
+    let behind = last - id.0;
+    if behind >= count - first || view.at_near(first + behind, segment).0 != last {
+        return None;
+    }
+    Some(first + (known.end - id.0))
+}
+
+/// What is known of a part that begins at a place with this item: nothing where its items, or those that tell its end,
+/// stand in no row.
+fn noted(
+    arena: &TokenArena<'_, '_>,
+    view: &View<'_>,
+    first: u32,
+    id: TokenId,
+    end: u32,
+    seen: u32,
+    segment: &mut usize,
+) -> KnownEnd
+    requires within { AreWithin arena.now view.now }
+    requires item { (d : ℕ) → get_or view.now first d ≡ id.0 }
+    requires some { first < end }
+    requires later { end < seen }
+    requires inside { seen ≤ length view.now }
+    requires ends { EndsBehind arena.now (slice_range view.now first seen) (end - first) }
+    ensures { 0 < result.seen → IsKnown arena.now id.0 result }
+{
+    let count = view.len();
+    let items = arena.len();
+    let last = view.at_near(seen - 1, segment);
+    prove!(last.0 < items);
+    if last.0 < id.0 || last.0 - id.0 != seen - 1 - first {
+        return KnownEnd::none();
+    }
+    KnownEnd {
+        end: id.0 + (end - first),
+        seen: last.0 + 1,
+    }
+}
+
+/// Whether a view has these items from a place on.
+fn has_items(view: &View<'_>, first: u32, items: &View<'_>, segment: &mut usize) -> bool
+    requires { first < length view.now }
+    ensures items { IsTrue result → slice_range view.now first (first + length items.now) ≡ items.now }
+    ensures within { IsTrue result → first + length items.now ≤ length view.now }
+{
+    if items.len() > view.len() - first {
+        return false;
+    }
+    for row in items.segments() {
+        let place = first + row.before;
+        let last = row.end - 1;
+        let begun = view.at_near(place, segment);
+        if begun.0 != row.first {
+            return false;
+        }
+        let ended = view.at_near(place + (last - row.first), segment);
+        if ended.0 != last {
+            return false;
+        }
+    }
+    true
+}
+
+/// The end of the part that begins at a place with an item of which this is known, where the view has the items of its
+/// span.
+fn recalled_span(
+    arena: &TokenArena<'_, '_>,
+    view: &View<'_>,
+    first: u32,
+    known: KnownEnd,
+    spans: &KnownSpans<'_>,
+    segment: &mut usize,
+) -> Option<u32>
+    requires here { first < length view.now }
+    requires known { AreSpans arena.now spans.now.spans.items }
+    ensures end { IfSome result (λ end. end ≡ first + part_len arena.now (drop first view.now)) }
+    ensures some { IfSome result (λ end. first < end) }
+    ensures inside { IfSome result (λ end. end ≤ length view.now) }
+{
+    let count = view.len();
+    prove!(first < count);
+    let number = known.end as usize;
+    if known.seen > 0 || number == 0 || number > spans.spans.len() {
+        return None;
+    }
+    let span = &spans.spans[number - 1];
+    if !has_items(view, first, &span.told, segment) {
+        return None;
+    }
+    Some(first + span.count)
+}
+
+/// Notes a part that stands in no row, and gives its number in place of what is known of a row.
+fn noted_span<'k>(
+    arena: &TokenArena<'_, '_>,
+    view: &View<'_>,
+    first: u32,
+    end: u32,
+    seen: u32,
+    segments: usize,
+    spans: &mut KnownSpans<'k>,
+    keep: &'k Bump,
+) -> Result<KnownEnd, NoMemory>
+    requires some { first < end }
+    requires later { end < seen }
+    requires inside { seen ≤ length view.now }
+    requires ends { EndsBehind arena.now (slice_range view.now first seen) (end - first) }
+    requires known { AreSpans arena.now spans.old.spans.items }
+    ensures row { IfOk result (λ known. known.seen ≡ 0) }
+    ensures known { OnOk result (AreSpans arena.now spans.new.spans.items) }
+{
+    let number = spans.spans.len() + 1;
+    if segments > spans.left || number > u32::MAX as usize {
+        return Ok(KnownEnd::none());
+    }
+    let told = view.part(first, seen, keep)?;
+    spans.left -= segments;
+    spans.spans.push(KnownSpan {
+        count: end - first,
+        told,
+    })?;
+    Ok(KnownEnd {
+        end: number as u32,
+        seen: 0,
+    })
+}
+
+/// What is known of a part that begins at a place with this item. A part that stands in no row is noted.
+fn noted_part<'k>(
+    arena: &TokenArena<'_, '_>,
+    view: &View<'_>,
+    first: u32,
+    id: TokenId,
+    end: u32,
+    seen: u32,
+    spans: &mut KnownSpans<'k>,
+    keep: &'k Bump,
+    segment: &mut usize,
+) -> Result<KnownEnd, NoMemory>
+    requires within { AreWithin arena.now view.now }
+    requires item { (d : ℕ) → get_or view.now first d ≡ id.0 }
+    requires some { first < end }
+    requires later { end < seen }
+    requires inside { seen ≤ length view.now }
+    requires ends { EndsBehind arena.now (slice_range view.now first seen) (end - first) }
+    requires known { AreSpans arena.now spans.old.spans.items }
+    ensures row { IfOk result (λ known. 0 < known.seen → IsKnown arena.now id.0 known) }
+    ensures known { OnOk result (AreSpans arena.now spans.new.spans.items) }
+{
+    let row = noted(arena, view, first, id, end, seen, segment);
+    if row.seen > 0 || seen - first < spans.least {
+        return Ok(row);
+    }
+    let behind = *segment;
+    view.at_near(first, segment);
+    let segments = behind.saturating_sub(*segment);
+    noted_span(arena, view, first, end, seen, segments, spans, keep)
+}
+
+/// Where the part of a view ends that begins at a place, as [`part_end`](crate::part_end) says, and in one step where
+/// it is known.
+///
+/// `known` has what is known for each item of the text, or for none where nothing is to be kept. `segment` is kept from
+/// one place of a view to the next, and starts at 0.
+pub fn known_part_end<'k>(
+    arena: &TokenArena<'_, '_>,
+    view: &View<'_>,
+    all: &[TokenClass],
+    first: u32,
+    known: &mut [KnownEnd],
+    spans: &mut KnownSpans<'k>,
+    keep: &'k Bump,
+    segment: &mut usize,
+    room: &Bump,
+) -> Result<u32, NoMemory>
+    requires within { AreWithin arena.now view.now }
+    requires all { all.now ≡ item_classes arena.now }
+    requires here { first < length view.now }
+    requires known { AreKnown arena.now known.old }
+    requires spans { AreSpans arena.now spans.old.spans.items }
+    ensures end { IfOk result (λ end. end ≡ first + part_len arena.now (drop first view.now)) }
+    ensures some { IfOk result (λ end. first < end) }
+    ensures inside { IfOk result (λ end. end ≤ length view.now) }
+    ensures known { AreKnown arena.now known.new }
+    ensures spans { OnOk result (AreSpans arena.now spans.new.spans.items) }
+{
+    let id = view.at_near(first, segment);
+    let number = id.0 as usize;
+    if number >= known.len() {
+        return Ok(part_end(arena, view, all, first, segment, room)?.end);
+    }
+    if let Some(end) = recalled(arena, view, first, id, known[number], segment) {
+        return Ok(end);
+    }
+    if let Some(end) = recalled_span(arena, view, first, known[number], spans, segment) {
+        return Ok(end);
+    }
+    let part = part_end(arena, view, all, first, segment, room)?;
+    if let Some(seen) = part.seen {
+        known[number] = noted_part(arena, view, first, id, part.end, seen, spans, keep, segment)?;
+    }
+    Ok(part.end)
+}
