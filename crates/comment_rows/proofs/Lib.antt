@@ -1,2 +1,3 @@
 pub mod NextRows
 pub mod CommentLists
+pub mod BehindTokens

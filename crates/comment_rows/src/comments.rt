@@ -1,12 +1,12 @@
 //! The trailing comments of a view.
 
-ghost use Rattle.std.specs.Prelude.{◌≡◌, ◌∷◌, ◌+◌, ◌++◌, ◌<◌, All, IfOk, IsSome, OnOk, Some, length, map, slice_get, if◌then◌else◌, true};
+ghost use Rattle.std.specs.Prelude.{◌≡◌, ◌∷◌, ◌+◌, ◌-◌, ◌++◌, ◌<◌, ◌≤◌, All, IfOk, IsSome, OnOk, Some, drop, get_or, length, map, slice_get, if◌then◌else◌, true};
 ghost use Rattle.std.specs.Bool.{OnFalse};
 ghost use Rattle.style_table.specs.Range.{IsInRange};
 ghost use Rattle.line_tokens.specs.declared.LineTok.{LineTok};
 ghost use Rattle.line_tokens.specs.Roles.{is_trailing};
 ghost use Rattle.replacements.specs.Decisions.{decided, decided_all, slot_of};
-ghost use Rattle.comment_rows.specs.Comments.{comment_at, comment_of, comments_in, comments_made, placed, placed_slot, row_of};
+ghost use Rattle.comment_rows.specs.Comments.{column_behind, comment_at, comment_of, comments_in, comments_made, no_token, placed, placed_slot, row_of};
 
 use crate::rows::{end_of, first_start, is_next, start_by};
 use bumpalo::Bump;
@@ -77,23 +77,80 @@ fn comment_of(
     }
 }
 
-/// Keeps a token that is a trailing comment.
+/// A place of a view, and the column behind the token there.
+#[derive(Clone, Copy)]
+struct Behind {
+    place: usize,
+    column: u32,
+}
+
+/// The column behind the token at a place, from that behind an earlier one on.
+fn walk_to(style: &Style, plan: &Plan<'_>, tokens: &[LineTok], known: Behind, place: usize) -> u32
+    requires range { IsInRange style.now }
+    requires within { All (λ token. token.id.0 < length plan.now) tokens.now }
+    requires inside { place < length tokens.now }
+    requires order { known.place ≤ place }
+    requires known { known.column ≡ column_behind style.now plan.now tokens.now known.place }
+    ensures { result ≡ column_behind style.now plan.now tokens.now place }
+{
+    let mut column = known.column;
+    for at in known.place..place {
+        let left = token_at(tokens, at);
+        let token = token_at(tokens, at + 1);
+        let start = start_by(style, left, column, token, plan.slot(token.id.0));
+        column = end_of(token, start);
+    }
+    column
+}
+
+/// The column behind the token at a place. Where its gap is decided, as most are, no other token is looked at.
+fn column_behind(
+    style: &Style,
+    plan: &Plan<'_>,
+    tokens: &[LineTok],
+    known: Behind,
+    place: usize,
+) -> u32
+    requires range { IsInRange style.now }
+    requires within { All (λ token. token.id.0 < length plan.now) tokens.now }
+    requires inside { place < length tokens.now }
+    requires order { known.place ≤ place }
+    requires known { known.column ≡ column_behind style.now plan.now tokens.now known.place }
+    ensures { result ≡ column_behind style.now plan.now tokens.now place }
+{
+    let token = token_at(tokens, place);
+    match plan.slot(token.id.0) {
+        Some(slot) => end_of(token, slot.end),
+        None => walk_to(style, plan, tokens, known, place),
+    }
+}
+
+/// Keeps the token at a place if it is a trailing comment. Before it the column behind a token is known.
+#[inline(always)]
 fn keep_comment(
     style: &Style,
     plan: &Plan<'_>,
-    left: &LineTok,
-    column: u32,
-    token: &LineTok,
     tokens: &[LineTok],
+    at: usize,
+    known: &mut Behind,
     comments: &mut Vec<Comment, &Bump>,
 ) -> Result<(), NoMemory>
     requires range { IsInRange style.now }
-    requires within { token.now.id.0 < length plan.now }
-    requires behind { All (λ token. token.id.0 < length plan.now) tokens.now }
-    ensures { OnOk result (comments.new.items ≡ comments.old.items ++ comment_at style.now plan.now left.now column token.now tokens.now) }
+    requires within { All (λ token. token.id.0 < length plan.now) tokens.now }
+    requires inside { at < length tokens.now }
+    requires order { known.old.place < at }
+    requires known { known.old.column ≡ column_behind style.now plan.now tokens.now known.old.place }
+    ensures order { OnOk result (known.new.place < at) }
+    ensures known { OnOk result (known.new.column ≡ column_behind style.now plan.now tokens.now known.new.place) }
+    ensures comments { OnOk result (comments.new.items ≡ comments.old.items ++ comment_at style.now plan.now (get_or tokens.now (at - 1) no_token) (column_behind style.now plan.now tokens.now (at - 1)) (get_or tokens.now at no_token) (drop (at + 1) tokens.now)) }
 {
+    let token = token_at(tokens, at);
     if token.role.is_trailing() {
-        comments.push(comment_of(style, plan, left, column, token, tokens))?;
+        let place = at - 1;
+        let column = column_behind(style, plan, tokens, *known, place);
+        *known = Behind { place, column };
+        let left = token_at(tokens, place);
+        comments.push(comment_of(style, plan, left, column, token, &tokens[at + 1..]))?;
     }
     Ok(())
 }
@@ -113,22 +170,13 @@ fn comments_in<'r>(
     if tokens.is_empty() {
         return Ok(comments);
     }
-    let mut left = token_at(tokens, 0);
-    let mut column = end_of(left, first_start(plan.slot(left.id.0)));
+    let first = token_at(tokens, 0);
+    let mut known = Behind {
+        place: 0,
+        column: end_of(first, first_start(plan.slot(first.id.0))),
+    };
     for at in 1..tokens.len() {
-        let token = token_at(tokens, at);
-        keep_comment(
-            style,
-            plan,
-            left,
-            column,
-            token,
-            &tokens[at + 1..],
-            &mut comments,
-        )?;
-        let start = start_by(style, left, column, token, plan.slot(token.id.0));
-        column = end_of(token, start);
-        left = token;
+        keep_comment(style, plan, tokens, at, &mut known, &mut comments)?;
     }
     Ok(comments)
 }

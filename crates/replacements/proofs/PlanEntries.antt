@@ -2,6 +2,7 @@
 use Rattle.std.proofs.Common.{◌≡◌, ◌∙◌, ◌<◌, ◌≤◌, ◌+◌, ◌-◌, ◌⊎◌, inl, inr, ℕ, zero, suc, false, Some, None, Option, List, ◌∷◌, length, get_or, take, drop, replicate, set, refl, ap, sym, subst, arith}
 use Rattle.std.specs.Prelude.{is_some, IsSome, if◌then◌else◌}
 use Rattle.std.proofs.lemmas.List.{drop-map, get_or-drop, get_or-map, get_or-take, length-drop, length-map, length-take-le, map-set, take-map}
+use Rattle.std.proofs.lemmas.Bool.{cases_lt}
 use Rattle.replacements.specs.Decisions.{AreDecided, IsSomeOpen, decided, slot_of}
 use Rattle.replacements.specs.Entries.{slot_in, slots_in}
 use Rattle.replacements.specs.declared.entry.Entry.{Entry}
@@ -33,6 +34,22 @@ pub decided_on : (entries : List Entry) (at : ℕ) (d : Entry) → at < length e
 decided_on entries at d within before here place on = elim (before_or at place on) [
   | inl earlier ↦ before place earlier
   | inr same ↦ subst (λ (k : ℕ). IsSome (slot_of (slots_in entries) k)) (sym same) (subst (λ (s : Option Slot). IsSome s) (sym (get_or-map slot_in entries at d None within)) here)
+]
+
+-- so are those from a place on
+pub decided_next : (entries : List Entry) (from at : ℕ) (d : Entry) → at < length entries → ((place : ℕ) → from ≤ place → place < at → IsSome (slot_of (slots_in entries) place)) → IsSome (slot_in (get_or entries at d))
+    → (place : ℕ) → from ≤ place → place < at + 1 → IsSome (slot_of (slots_in entries) place)
+decided_next entries from at d within before here place low on = elim (before_or at place on) [
+  | inl earlier ↦ before place low earlier
+  | inr same ↦ subst (λ (k : ℕ). IsSome (slot_of (slots_in entries) k)) (sym same) (subst (λ (s : Option Slot). IsSome s) (sym (get_or-map slot_in entries at d None within)) here)
+]
+
+-- those before a place are decided, and so are those from it up to another
+pub decided_both : (entries : List Entry) (first end : ℕ) → ((place : ℕ) → place < first → IsSome (slot_of (slots_in entries) place))
+    → ((place : ℕ) → first ≤ place → place < end → IsSome (slot_of (slots_in entries) place)) → (place : ℕ) → place < end → IsSome (slot_of (slots_in entries) place)
+decided_both entries first end before there place on = elim (cases_lt place first) [
+  | inl earlier ↦ before place earlier
+  | inr later ↦ there place later on
 ]
 
 -- what the entries from one up to another have is what the plan has there

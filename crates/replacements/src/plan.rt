@@ -1,6 +1,6 @@
 //! The decisions for the gaps of a text.
 
-ghost use Rattle.std.specs.Prelude.{◌≡◌, ◌<◌, ◌≤◌, ◌+◌, ◌↔◌, None, length, replicate, IfOk, IsSome, IsTrue};
+ghost use Rattle.std.specs.Prelude.{◌≡◌, ◌<◌, ◌≤◌, ◌+◌, ◌↔◌, ℕ, None, length, replicate, IfOk, IsSome, IsTrue};
 ghost use Rattle.std.specs.Bool.{OnFalse, OnTrue};
 ghost use Rattle.c_chars.specs.declared.TheConstants.{LIMIT};
 ghost use Rattle.replacements.specs.declared.slot.Decided.TheVariants as Decided;
@@ -34,13 +34,43 @@ fn ends_line(arena: &TokenArena<'_, '_>, place: u32, decision: Decision) -> bool
     }
 }
 
+/// Whether eight entries from a place on are those of decided gaps.
+#[inline(always)]
+fn are_eight_decided(entries: &[Entry], first: usize) -> bool
+    requires { first + 8 ≤ length entries.now }
+    ensures { IsTrue result → (place : ℕ) → first ≤ place → place < first + 8 → IsSome (slot_of (slots_in entries.now) place) }
+{
+    for at in first..first + 8 {
+        if !entries[at].is_decided() {
+            return false;
+        }
+    }
+    true
+}
+
+/// A place up to which all gaps are decided, looked at by eights.
+#[inline(always)]
+fn decided_front(entries: &[Entry]) -> usize
+    ensures within { result ≤ length entries.now }
+    ensures decided { (place : ℕ) → place < result → IsSome (slot_of (slots_in entries.now) place) }
+{
+    let mut first = 0;
+    while first + 8 <= entries.len() {
+        if !are_eight_decided(entries, first) {
+            return first;
+        }
+        first += 8;
+    }
+    first
+}
+
 /// Whether each of these entries is that of a decided gap.
 #[inline(always)]
 fn all_decided(entries: &[Entry]) -> bool
     ensures yes { OnTrue result (AreDecided (slots_in entries.now) 0 (length entries.now)) }
     ensures no { OnFalse result (IsSomeOpen (slots_in entries.now) 0 (length entries.now)) }
 {
-    for at in 0..entries.len() {
+    for at in decided_front(entries)..entries.len() {
         if !entries[at].is_decided() {
             return false;
         }

@@ -11,6 +11,7 @@ pub mod LaidLines
 pub mod OneBreaking
 pub mod OneRow
 pub mod RowSteps
+pub mod RowBounds
 pub mod LineFacts
 pub mod Writing
 pub mod RowLines

@@ -1,5 +1,5 @@
 -- Tokens before which nothing is decided.
-use Rattle.std.proofs.Common.{◌≡◌, ◌∙◌, suc, ℕ, Option, None, List, [], ◌∷◌, length, map, replicate, refl, sym, ap, arith}
+use Rattle.std.proofs.Common.{◌≡◌, ◌∙◌, suc, Option, None, List, [], ◌∷◌, length, map, replicate, refl, sym, ap, arith}
 use Rattle.std.specs.Prelude.{All}
 use Rattle.line_tokens.specs.declared.Fixed.{Fixed}
 use Rattle.line_tokens.specs.declared.LineTok.{LineTok}

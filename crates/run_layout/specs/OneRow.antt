@@ -1,5 +1,5 @@
 -- Lines that stay on one row: nothing in them breaks, and no token goes past the limit. They need no search.
-use Rattle.std.specs.Prelude.{◌≡◌, ◌==◌, ◌<◌, ◌≤◌, ◌⊎◌, ◌+◌, ℕ, suc, min, Bool, true, false, Option, Some, None, List, [], ◌∷◌, length, replicate, slice_get, if◌then◌else◌}
+use Rattle.std.specs.Prelude.{◌≡◌, ◌==◌, ◌<◌, ◌≤◌, ◌⊎◌, ◌+◌, ◌*◌, nat_lt, ℕ, suc, min, Bool, true, false, Option, Some, None, List, [], ◌∷◌, length, replicate, slice_get, if◌then◌else◌}
 use Rattle.least_breaking.proofs.Thrift.{IsThrifty}
 use Rattle.line_tokens.specs.declared.LineTok.{LineTok}
 use Rattle.line_tokens.specs.declared.Fixed.{Fixed}
@@ -51,6 +51,20 @@ pub record IsOneRow (l : Line) (n column frames count : ℕ) : Type 0 where
   pub own : own_cells l (first_layout l) (stays n) ≡ count
   pub base : (layout.base.comma == 2) ≡ false
   pub together : StayTogether layout.frames
+
+-- the most that the column behind a token may be which starts here or before it
+abbrev pub most_behind : LineTok → ℕ → ℕ
+most_behind token most = if nat_lt 1 token.rows then token.last_width else most + token.last_width
+
+-- So it is up to here: behind this column at most, with no more frames and cells than so many tokens may have.
+pub record IsOneRowUpTo (l : Line) (n most : ℕ) : Type 0 where
+  pub column : ℕ
+  pub frames : ℕ
+  pub count : ℕ
+  pub row : IsOneRow l n column frames count
+  pub within : column ≤ most
+  pub few : frames ≤ n + 1
+  pub cheap : count ≤ 1001 * (n + 1)
 
 -- the whole line is: it is laid out with no break, within the budget and at no cost
 pub record IsRow (l : Line) (budget : ℕ) : Type 0 where

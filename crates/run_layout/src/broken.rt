@@ -1,6 +1,6 @@
 //! Lines that are broken.
 
-ghost use Rattle.std.specs.Prelude.{◌≡◌, ◌||◌, ◌+◌, ◌<◌, ◌≤◌, ◌^◌, ◌∷◌, All, IfOk, IsTrue, None, OnOk, Some, length, map, get_or, slice_get, if◌then◌else◌};
+ghost use Rattle.std.specs.Prelude.{◌≡◌, ◌||◌, ◌+◌, ◌<◌, ◌≤◌, ◌^◌, ◌∷◌, All, IfOk, IsTrue, None, OnOk, Some, length, map, get_or, replicate, slice_get, if◌then◌else◌};
 ghost use Rattle.style_table.specs.Range.{IsInRange};
 ghost use Rattle.token_classes.specs.Viewed.{AreWithin, classes_of};
 ghost use Rattle.line_state.specs.Layout.{is_some_decision};
@@ -132,6 +132,27 @@ fn are_open(plan: &Plan<'_>, tokens: &[LineTok]) -> bool
     true
 }
 
+/// Gaps of which nothing is decided, more than most parts of a text have.
+const OPEN: [Option<Fixed>; 4096] = [None; 4096];
+
+/// So many gaps of which nothing is decided.
+fn some_open(count: usize) -> &'static [Option<Fixed>]
+    requires { count ≤ 4096 }
+    ensures { result.now ≡ replicate count None }
+{
+    &OPEN[..count]
+}
+
+/// So many gaps of which nothing is decided. They take memory only where there are very many.
+fn all_open<'r>(count: usize, run: &'r Bump) -> Result<&'r [Option<Fixed>], NoMemory>
+    ensures { IfOk result (λ fixed. fixed.now ≡ replicate count None) }
+{
+    if count <= OPEN.len() {
+        return Ok(some_open(count));
+    }
+    Ok(into_bump_slice(vec![in run; None; count]?))
+}
+
 /// What is decided of the gaps before these tokens. Before those of a part of which no run has decided anything it is
 /// nothing, as the first run finds it in most parts.
 pub(crate) fn fixed_of<'r>(
@@ -146,7 +167,8 @@ pub(crate) fn fixed_of<'r>(
 {
     let count = arena.len();
     if are_open(plan, tokens) {
-        return Ok(into_bump_slice(vec![in run; None; tokens.len()]?));
+        let fixed = all_open(tokens.len(), run)?;
+        return Ok(fixed);
     }
     let mut fixed = Vec::with_capacity(run, tokens.len())?;
     for token in tokens {

@@ -12,7 +12,7 @@ ghost use Rattle.run_layout.specs.Counted.{IsCounted};
 ghost use Rattle.run_layout.specs.Broken.{broken_line, broken_made, of_line};
 ghost use Rattle.run_layout.specs.InputColumns.{input_before};
 ghost use Rattle.run_layout.specs.OneRow.{AreOpenInside, IsRow, stays};
-ghost use Rattle.run_layout.specs.Outcomes.{IsOpen};
+ghost use Rattle.run_layout.specs.OpenGaps.{AreDecided, IsOpen};
 ghost use Rattle.line_tokens.specs.Lines.{CutPlaces};
 ghost use Rattle.run_layout.specs.RunsLaid.{IsRunLaid};
 ghost use Rattle.run_layout.specs.Told.{IsLaid};
@@ -159,6 +159,33 @@ fn lay_out_searched(
     }
 }
 
+/// Whether each gap of a line is decided. Before the first item of most lines it isn't, and no other gap is looked at.
+#[inline(always)]
+fn is_line_decided(
+    arena: &TokenArena<'_, '_>,
+    view: &View<'_>,
+    toks: &[LineTok],
+    line: &ULine,
+    plan: &Plan<'_>,
+    segment: &mut usize,
+) -> bool
+    requires items { AreWithin arena.now view.now }
+    requires tell { StandForItems arena.now view.now toks.now }
+    requires some { line.now.first ≤ line.now.last }
+    requires places { line.now.last < length view.now }
+    requires whole { length plan.now ≡ length arena.now.tokens + 1 }
+    ensures yes { OnTrue result (AreDecided plan.now view.now line.now) }
+    ensures no { OnFalse result (IsOpen plan.now view.now line.now) }
+{
+    if plan
+        .slot(token_at(toks, line.first as usize).id.0)
+        .is_none()
+    {
+        return false;
+    }
+    is_decided(arena, view, line, plan, segment)
+}
+
 /// Lays out a line: decides its open gaps, and tells what came of it. `segment` is the number of the view's segment that
 /// was looked into last.
 fn lay_out_line(
@@ -190,7 +217,7 @@ fn lay_out_line(
     ensures before { OnOk result (cursor.new.place ≤ line.now.last + 1) }
     ensures column { OnOk result (cursor.new.column ≡ input_before style.now arena.now view.now cursor.new.place) }
 {
-    if is_decided(arena, view, line, plan, segment) {
+    if is_line_decided(arena, view, toks, line, plan, segment) {
         return Ok(Laid::Unsearched);
     }
     if lay_out_row(style, budget, arena, view, classes, toks, line, plan) {

@@ -1,6 +1,6 @@
 //! Lines that stay on one row. They need no search, and take no memory.
 
-ghost use Rattle.std.specs.Prelude.{◌≡◌, ◌<◌, ◌≤◌, ◌^◌, ℕ, All, IsTrue, None, Some, drop, get_or, length, slice_get, if◌then◌else◌};
+ghost use Rattle.std.specs.Prelude.{◌≡◌, ◌+◌, ◌<◌, ◌≤◌, ◌^◌, ℕ, All, IsTrue, None, Some, drop, get_or, length, slice_get, if◌then◌else◌};
 ghost use Rattle.line_tokens.specs.Roles.{is_trailing};
 ghost use Rattle.style_table.specs.Range.{IsInRange};
 ghost use Rattle.line_state.specs.Brackets.{opens_frame};
@@ -9,7 +9,7 @@ ghost use Rattle.line_state.specs.Line.{Line};
 ghost use Rattle.run_layout.specs.Rows.{no_tok};
 ghost use Rattle.gap_text.specs.declared.Decision.TheVariants.{Spaces};
 ghost use Rattle.replacements.specs.Decisions.{decided, decided_all};
-ghost use Rattle.run_layout.specs.OneRow.{Fits, IsRow, IsRowLine, open_behind, row_made};
+ghost use Rattle.run_layout.specs.OneRow.{Fits, IsRow, IsRowLine, most_behind, open_behind, row_made};
 
 use gap_text::Decision;
 use line_tokens::{Fixed, LineTok};
@@ -87,9 +87,8 @@ fn first_fits(style: &Style, token: &LineTok, start: u32, first: Option<Fixed>) 
     }
 }
 
-/// Whether a line stays on one row that doesn't pass the limit, within the budget. Of its gaps only the first may be
-/// decided.
-pub(crate) fn is_row(
+/// Whether a line stays on one row as [`is_row`] says it, told by the blanks that stand in its gaps.
+fn is_row_by_table(
     style: &Style,
     tokens: &[LineTok],
     column: u32,
@@ -127,6 +126,100 @@ pub(crate) fn is_row(
         left = right;
     }
     cells <= budget
+}
+
+/// Whether the cells of a line with these tokens need no count, since so few have never more than the budget.
+#[inline(always)]
+fn are_few(tokens: &[LineTok], budget: u64) -> bool
+    ensures few { IsTrue result → length tokens.now ≤ 1000 }
+    ensures budget { IsTrue result → 1001000 ≤ budget }
+{
+    tokens.len() <= 1000 && budget >= 1_001_000
+}
+
+/// Whether the first row of a token that starts here or before it doesn't pass the limit.
+#[inline(always)]
+fn fits_from(style: &Style, token: &LineTok, most: u64) -> bool
+    requires { most ≤ 2 ^ 40 }
+    ensures { IsTrue result → most + token.now.first_width ≤ style.now.column_limit }
+{
+    most + u64::from(token.first_width) <= u64::from(style.column_limit)
+}
+
+/// The most that the column behind a token may be which starts here or before it.
+#[inline(always)]
+fn most_behind(token: &LineTok, most: u64) -> u64
+    requires { most ≤ 2 ^ 40 }
+    ensures is { result ≡ most_behind token.now most }
+    ensures few { result ≤ most + 2 ^ 32 }
+{
+    if token.rows > 1 {
+        u64::from(token.last_width)
+    } else {
+        most + u64::from(token.last_width)
+    }
+}
+
+/// Whether a line stays on one row as [`is_row`] says it, told by one blank in each of its gaps: the table has no more
+/// but before trailing comments.
+#[inline(always)]
+fn is_row_by_most(
+    style: &Style,
+    tokens: &[LineTok],
+    column: u32,
+    first: Option<Fixed>,
+    budget: u64,
+) -> bool
+    requires range { IsInRange style.now }
+    requires some { 0 < length tokens.now }
+    ensures { IsTrue result → (l : Line) → IsRowLine l style.now column tokens.now first → IsRow l budget }
+{
+    if style.column_limit == 0 || !are_few(tokens, budget) {
+        return false;
+    }
+    let mut left = token_at(tokens, 0);
+    let start = first_start(column, first);
+    if !first_fits(style, left, start, first) {
+        return false;
+    }
+    let mut most = u64::from(end_of(left, start));
+    for at in 1..tokens.len() {
+        let right = token_at(tokens, at);
+        let must = must_break(style, left, right);
+        if must {
+            return false;
+        }
+        if right.role.is_trailing() {
+            return false;
+        }
+        if !fits_from(style, right, most + 1) {
+            return false;
+        }
+        most = most_behind(right, most + 1);
+        left = right;
+    }
+    true
+}
+
+/// Whether a line stays on one row that doesn't pass the limit, within the budget. Of its gaps only the first may be
+/// decided.
+pub(crate) fn is_row(
+    style: &Style,
+    tokens: &[LineTok],
+    column: u32,
+    first: Option<Fixed>,
+    budget: u64,
+) -> bool
+    requires range { IsInRange style.now }
+    requires some { 0 < length tokens.now }
+    requires budget { budget ≤ 16000000 }
+    ensures { IsTrue result → (l : Line) → IsRowLine l style.now column tokens.now first → IsRow l budget }
+{
+    // Most lines are far from the limit, and the table of blanks isn't read.
+    if is_row_by_most(style, tokens, column, first, budget) {
+        return true;
+    }
+    is_row_by_table(style, tokens, column, first, budget)
 }
 
 /// Decides the gap before a token that stays behind another; a trailing comment waits.

@@ -119,13 +119,25 @@ fn by_table(style: &Style, left: &LineTok, right: &LineTok) -> u8
 fn left_tells(l: Role) -> bool
     ensures { result ≡ left_tells l }
 {
-    l.is_bracket_open()
-        || l.is_list_open()
-        || l.is_inner_or_stray()
-        || l.is_unary_or_prefix()
-        || l.is_member_or_desig_dot()
-        || l.is_cast_close()
-        || l.is_pointer()
+    matches!(
+        l,
+        Role::CtrlOpen
+            | Role::CallOpen
+            | Role::CastOpen
+            | Role::DeclOpen
+            | Role::GroupOpen
+            | Role::IndexOpen
+            | Role::DesigOpen
+            | Role::ListOpen
+            | Role::Inner
+            | Role::Stray
+            | Role::Unary
+            | Role::Prefix
+            | Role::Member
+            | Role::DesigDot
+            | Role::CastClose
+            | Role::Pointer
+    )
 }
 
 /// Whether a row may hold before a token with this role, where none holds behind the other.
@@ -133,18 +145,32 @@ fn left_tells(l: Role) -> bool
 fn right_tells(r: Role) -> bool
     ensures { result ≡ right_tells r }
 {
-    r.is_trailing()
-        || r.is_comma_or_semi()
-        || r.is_bracket_close()
-        || r.is_list_close()
-        || r.is_block_close()
-        || r.is_inner_or_stray()
-        || r.is_ctrl_open()
-        || r.is_call_or_decl_open()
-        || is_attached(r)
-        || r.is_member()
-        || r.is_pointer()
-        || r.is_asm_colon()
+    matches!(
+        r,
+        Role::Trailing
+            | Role::Comma
+            | Role::Semi
+            | Role::CtrlClose
+            | Role::CallClose
+            | Role::CastClose
+            | Role::DeclClose
+            | Role::GroupClose
+            | Role::IndexClose
+            | Role::DesigClose
+            | Role::ListClose
+            | Role::BlockClose
+            | Role::Inner
+            | Role::Stray
+            | Role::CtrlOpen
+            | Role::CallOpen
+            | Role::DeclOpen
+            | Role::IndexOpen
+            | Role::Postfix
+            | Role::LabelColon
+            | Role::Member
+            | Role::Pointer
+            | Role::AsmColon
+    )
 }
 
 /// The blanks before the right token, by the table. A gap that had bytes keeps one where the two tokens may not touch.

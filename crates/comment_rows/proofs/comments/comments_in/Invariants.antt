@@ -1,11 +1,11 @@
-use Rattle.std.proofs.Common.{◌≡◌, ◌≤◌, ◌-◌, ◌++◌, drop, slice_get}
-use Rattle.std.specs.Prelude.{Some}
-use Rattle.comment_rows.specs.Comments.{comments_behind, comments_in}
+use Rattle.std.proofs.Common.{◌≡◌, ◌≤◌, ◌<◌, ◌-◌, ◌++◌, drop, get_or}
+use Rattle.comment_rows.specs.Comments.{column_behind, comments_behind, comments_in, no_token}
 use Rattle.comment_rows.proofs.comments.comments_in.Given as goal
 
 abbrev pub invariant-loop-at : goal.invariant-loop-at
 invariant-loop-at l = record {
   from : 1 ≤ l.at;
-  left : slice_get l.tokens (l.at - 1) ≡ Some l.left;
-  kept : l.comments.items ++ comments_behind l.style l.plan l.left l.column (drop l.at l.tokens) ≡ comments_in l.style l.plan l.tokens;
+  order : l.known.place < l.at;
+  known : l.known.column ≡ column_behind l.style l.plan l.tokens l.known.place;
+  kept : l.comments.items ++ comments_behind l.style l.plan (get_or l.tokens (l.at - 1) no_token) (column_behind l.style l.plan l.tokens (l.at - 1)) (drop l.at l.tokens) ≡ comments_in l.style l.plan l.tokens;
 }

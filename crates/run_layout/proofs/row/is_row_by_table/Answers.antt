@@ -3,7 +3,7 @@ use Rattle.std.proofs.lemmas.Bool.{leb-true}
 use Rattle.line_tokens.specs.Columns.{columns}
 use Rattle.run_layout.specs.OneRow.{IsOneRow}
 use Rattle.run_layout.proofs.RowSteps.{row_begins, row_begins_free, row_goes_on, row_ends}
-use Rattle.run_layout.proofs.row.is_row.Goals as goal
+use Rattle.run_layout.proofs.row.is_row_by_table.Goals as goal
 
 pub loop-at-init : goal.loop-at-init
 loop-at-init c = record {
