@@ -331,7 +331,7 @@ pub(crate) fn plan_of<'a>(
     let mut tally = Tally::new(bump);
     let runs = tree.runs();
     let again = if runs > 1 { all.len() } else { 0 };
-    let known = into_bump_slice_mut(vec![in bump; KnownEnd::none(); again]?);
+    let known = into_bump_slice_mut(vec![in bump; KnownEnd::Unknown; again]?);
     let mut spans = KnownSpans::none(again / 2, bump);
     lay_out_runs(
         alloc, style, budget, arena, all, &tree, known, &mut spans, bump, &mut plan, &mut tally,

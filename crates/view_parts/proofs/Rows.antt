@@ -11,7 +11,9 @@ use Rattle.token_views.specs.declared.view.Segment.{Segment}
 use Rattle.token_views.specs.Segments.{ids_of, segment_bounds, AreSegments, CountFrom, HasPlace, no_segment}
 use Rattle.token_views.proofs.SegmentLemmas.{item_at_start, length_items}
 use Rattle.view_parts.specs.declared.known.KnownEnd.{KnownEnd}
-use Rattle.view_parts.specs.Known.{no_end, IsKnown, AreKnown}
+use Rattle.view_parts.specs.declared.known.KnownEnd.TheVariants.{Unknown}
+use Rattle.view_parts.specs.declared.known.KnownRow.{KnownRow}
+use Rattle.view_parts.specs.Known.{IsKnown, IsKnownRow, AreKnown}
 use Rattle.view_parts.specs.declared.ends.Row.{Row}
 use Rattle.view_parts.specs.Rows.{IsRow}
 use Rattle.view_parts.specs.Parts.{part_len, EndsBehind}
@@ -53,8 +55,8 @@ row_from view first id behind increase below at last =
 
 -- ## What is known of a part
 
-pub recalled_len : (arena : Contents) (view : List ℕ) (first id behind : ℕ) (known : KnownEnd) → Increase view → first + behind < length view → get_or view first 0 ≡ id → get_or view (first + behind) 0 ≡ known.seen - 1 → behind ≡ known.seen - 1 - id
-    → IsKnown arena id known → first + (known.end - id) ≡ first + part_len arena (drop first view)
+pub recalled_len : (arena : Contents) (view : List ℕ) (first id behind : ℕ) (known : KnownRow) → Increase view → first + behind < length view → get_or view first 0 ≡ id → get_or view (first + behind) 0 ≡ known.seen - 1 → behind ≡ known.seen - 1 - id
+    → IsKnownRow arena id known → first + (known.end - id) ≡ first + part_len arena (drop first view)
 recalled_len arena view first id behind known increase below at last is so =
     let n : suc behind ≡ known.seen - id = omega (arith, is, so.some, so.later) in
     let far : get_or view (first + behind) 0 ≡ id + behind = omega (arith, last, is, so.some, so.later) in
@@ -62,7 +64,7 @@ recalled_len arena view first id behind known increase below at last is so =
     ap (λ k. first + k) (sym (len_behind arena (drop first view) (known.seen - id) (known.end - id) (subst (λ (xs : List ℕ). EndsBehind arena xs (known.end - id)) same so.ends)))
 
 pub noted_end : (arena : Contents) (view : List ℕ) (first id end seen last : ℕ) → Increase view → first < end → end < seen → seen ≤ length view → get_or view first 0 ≡ id → get_or view (seen - 1) 0 ≡ last → id ≤ last → last - id ≡ seen - 1 - first
-    → EndsBehind arena (slice_range view first seen) (end - first) → IsKnown arena id (record { end = id + (end - first); seen = last + 1 })
+    → EndsBehind arena (slice_range view first seen) (end - first) → IsKnownRow arena id (record { end = id + (end - first); seen = last + 1 })
 noted_end arena view first id end seen last increase some later inside at at_last low is ends =
     let behind = seen - 1 - first in
     let e : first + behind ≡ seen - 1 = omega (arith, some, later) in
@@ -79,28 +81,27 @@ noted_end arena view first id end seen last increase some later inside at at_las
       ends = subst (λ k. EndsBehind arena (range_with_len id ((last + 1) - id)) k) c row_told;
     }
 
-pub noted_all : (arena : Contents) (knowns : List KnownEnd) (at : ℕ) (known : KnownEnd) → (0 < known.seen → IsKnown arena at known) → AreKnown arena knowns → at < length knowns → length (slice_set knowns at known) ≡ length knowns
-    → AreKnown arena (slice_set knowns at known)
-noted_all arena knowns at known so all within whole = λ id below some.
+pub noted_all : (arena : Contents) (knowns : List KnownEnd) (at : ℕ) (known : KnownEnd) → IsKnown arena at known → AreKnown arena knowns → at < length knowns → length (slice_set knowns at known) ≡ length knowns → AreKnown arena (slice_set knowns at known)
+noted_all arena knowns at known so all within whole = λ id below.
     elim (here_or_not at id) [
       | inl e ↦
-          let is : get_or (slice_set knowns at known) id no_end ≡ known = ap (λ k. get_or (slice_set knowns at known) k no_end) (sym e) ∙ get_or-set_same knowns at known no_end within in
-          subst (λ (k : KnownEnd). IsKnown arena id k) (sym is) (subst (λ n. IsKnown arena n known) e (so (subst (λ (k : KnownEnd). 0 < k.seen) is some)))
+          let is : get_or (slice_set knowns at known) id Unknown ≡ known = ap (λ k. get_or (slice_set knowns at known) k Unknown) (sym e) ∙ get_or-set_same knowns at known Unknown within in
+          subst (λ (k : KnownEnd). IsKnown arena id k) (sym is) (subst (λ n. IsKnown arena n known) e so)
       | inr other ↦
-          let is : get_or (slice_set knowns at known) id no_end ≡ get_or knowns id no_end = get_or-set_other knowns at id known no_end (λ e. other (sym e)) in
-          subst (λ (k : KnownEnd). IsKnown arena id k) (sym is) (all id (omega (arith, below, whole)) (subst (λ (k : KnownEnd). 0 < k.seen) is some))
+          let is : get_or (slice_set knowns at known) id Unknown ≡ get_or knowns id Unknown = get_or-set_other knowns at id known Unknown (λ e. other (sym e)) in
+          subst (λ (k : KnownEnd). IsKnown arena id k) (sym is) (all id (omega (arith, below, whole)))
     ]
   where
     here_or_not : (at id : ℕ) → (at ≡ id) ⊎ (at ≡ id → ⊥)
     here_or_not at id = grind arith
 
 -- nothing is known yet
-pub none_known : (arena : Contents) (n : ℕ) (knowns : List KnownEnd) → knowns ≡ replicate n no_end → AreKnown arena knowns
-none_known arena n knowns is = λ id below some.
-    let none : get_or knowns id no_end ≡ no_end = ap (λ (ks : List KnownEnd). get_or ks id no_end) is ∙ all_none n id in
-    absurd (omega (arith, some, ap (λ (k : KnownEnd). k.seen) none))
+pub none_known : (arena : Contents) (n : ℕ) (knowns : List KnownEnd) → knowns ≡ replicate n Unknown → AreKnown arena knowns
+none_known arena n knowns is = λ id below.
+    let none : get_or knowns id Unknown ≡ Unknown = ap (λ (ks : List KnownEnd). get_or ks id Unknown) is ∙ all_none n id in
+    subst (λ (k : KnownEnd). IsKnown arena id k) (sym none) tt
   where
-    all_none : (n id : ℕ) → get_or (replicate n no_end) id no_end ≡ no_end
+    all_none : (n id : ℕ) → get_or (replicate n Unknown) id Unknown ≡ Unknown
     all_none zero id = refl
     all_none (suc n) zero = refl
     all_none (suc n) (suc id) = all_none n id

@@ -2,7 +2,7 @@
 
 ghost use Rattle.std.specs.Prelude.{◌≡◌, ◌<◌, ◌≤◌, ◌+◌, ◌-◌, ℕ, [], length, drop, get_or, slice_range, IfOk, IfSome, IsTrue, OnOk};
 ghost use Rattle.token_classes.specs.Viewed.{AreWithin, item_classes};
-ghost use Rattle.view_parts.specs.Known.{no_end, AreKnown, AreSpans, IsKnown};
+ghost use Rattle.view_parts.specs.Known.{AreKnown, AreSpans, IsKnown, IsKnownRow};
 ghost use Rattle.view_parts.specs.Parts.{part_len, EndsBehind};
 
 use crate::ends::part_end;
@@ -12,13 +12,24 @@ use token_arena::TokenArena;
 use token_classes::TokenClass;
 use token_views::View;
 
-/// Where a part ends that begins with an item, where it goes on in a row up to what tells so.
+/// Where a part ends that goes on in a row up to what tells so.
 #[derive(Clone, Copy)]
-pub struct KnownEnd {
-    /// The item behind its last one. Where nothing is known of a row, the number of its span, counted from 1, or 0.
+pub struct KnownRow {
+    /// The item behind its last one.
     pub end: u32,
-    /// The item behind those that tell so, or 0 where nothing is known of a row.
+    /// The item behind those that tell so.
     pub seen: u32,
+}
+
+/// What is known of where a part ends that begins with an item.
+#[derive(Clone, Copy)]
+pub enum KnownEnd {
+    /// Nothing.
+    Unknown,
+    /// It goes on in a row.
+    InRow(KnownRow),
+    /// It stands in no row, and is the one with this number of those that are known.
+    InSpan(u32),
 }
 
 /// A part that stands in no row.
@@ -41,15 +52,6 @@ pub struct KnownSpans<'k> {
     pub least: u32,
 }
 
-impl KnownEnd {
-    /// Nothing is known.
-    pub fn none() -> KnownEnd
-        ensures { result ≡ no_end }
-    {
-        KnownEnd { end: 0, seen: 0 }
-    }
-}
-
 impl<'k> KnownSpans<'k> {
     /// Nothing is known. So many segments are kept at most.
     pub fn none(segments: usize, keep: &'k Bump) -> KnownSpans<'k>
@@ -63,26 +65,22 @@ impl<'k> KnownSpans<'k> {
     }
 }
 
-/// The end of the part that begins at a place with this item, where it is known and a view has the items in a row that
-/// tell it.
-fn recalled(
+/// The end of the part that begins at a place with this item, where a view has the items in a row that tell it.
+fn recalled_row(
     arena: &TokenArena<'_, '_>,
     view: &View<'_>,
     first: u32,
     id: TokenId,
-    known: KnownEnd,
+    known: KnownRow,
     segment: &mut usize,
 ) -> Option<u32>
     requires here { first < length view.now }
     requires item { (d : ℕ) → get_or view.now first d ≡ id.0 }
-    requires known { 0 < known.seen → IsKnown arena.now id.0 known }
+    requires known { IsKnownRow arena.now id.0 known }
     ensures end { IfSome result (λ end. end ≡ first + part_len arena.now (drop first view.now)) }
     ensures some { IfSome result (λ end. first < end) }
     ensures inside { IfSome result (λ end. end ≤ length view.now) }
 {
-    if known.seen == 0 {
-        return None;
-    }
     let count = view.len();
     let last = known.seen - 1;
     let behind = last - id.0;
@@ -92,9 +90,9 @@ fn recalled(
     Some(first + (known.end - id.0))
 }
 
-/// What is known of a part that begins at a place with this item: nothing where its items, or those that tell its end,
-/// stand in no row.
-fn noted(
+/// What is known of a part that begins at a place with this item, where its items and those that tell its end stand in a
+/// row.
+fn noted_row(
     arena: &TokenArena<'_, '_>,
     view: &View<'_>,
     first: u32,
@@ -102,26 +100,26 @@ fn noted(
     end: u32,
     seen: u32,
     segment: &mut usize,
-) -> KnownEnd
+) -> Option<KnownRow>
     requires within { AreWithin arena.now view.now }
     requires item { (d : ℕ) → get_or view.now first d ≡ id.0 }
     requires some { first < end }
     requires later { end < seen }
     requires inside { seen ≤ length view.now }
     requires ends { EndsBehind arena.now (slice_range view.now first seen) (end - first) }
-    ensures { 0 < result.seen → IsKnown arena.now id.0 result }
+    ensures { IfSome result (λ known. IsKnownRow arena.now id.0 known) }
 {
     let count = view.len();
     let items = arena.len();
     let last = view.at_near(seen - 1, segment);
     prove!(last.0 < items);
     if last.0 < id.0 || last.0 - id.0 != seen - 1 - first {
-        return KnownEnd::none();
+        return None;
     }
-    KnownEnd {
+    Some(KnownRow {
         end: id.0 + (end - first),
         seen: last.0 + 1,
-    }
+    })
 }
 
 /// Whether a view has these items from a place on.
@@ -148,13 +146,12 @@ fn has_items(view: &View<'_>, first: u32, items: &View<'_>, segment: &mut usize)
     true
 }
 
-/// The end of the part that begins at a place with an item of which this is known, where the view has the items of its
-/// span.
+/// The end of the part that begins at a place, where the view has the items of the span with this number.
 fn recalled_span(
     arena: &TokenArena<'_, '_>,
     view: &View<'_>,
     first: u32,
-    known: KnownEnd,
+    number: u32,
     spans: &KnownSpans<'_>,
     segment: &mut usize,
 ) -> Option<u32>
@@ -166,18 +163,44 @@ fn recalled_span(
 {
     let count = view.len();
     prove!(first < count);
-    let number = known.end as usize;
-    if known.seen > 0 || number == 0 || number > spans.spans.len() {
+    let number = number as usize;
+    if number >= spans.spans.len() {
         return None;
     }
-    let span = &spans.spans[number - 1];
+    let span = &spans.spans[number];
     if !has_items(view, first, &span.told, segment) {
         return None;
     }
     Some(first + span.count)
 }
 
-/// Notes a part that stands in no row, and gives its number in place of what is known of a row.
+/// The end of the part that begins at a place with this item, of which this is known, where the view has the items that
+/// tell it.
+fn recalled(
+    arena: &TokenArena<'_, '_>,
+    view: &View<'_>,
+    first: u32,
+    id: TokenId,
+    known: KnownEnd,
+    spans: &KnownSpans<'_>,
+    segment: &mut usize,
+) -> Option<u32>
+    requires here { first < length view.now }
+    requires item { (d : ℕ) → get_or view.now first d ≡ id.0 }
+    requires known { IsKnown arena.now id.0 known }
+    requires spans { AreSpans arena.now spans.now.spans.items }
+    ensures end { IfSome result (λ end. end ≡ first + part_len arena.now (drop first view.now)) }
+    ensures some { IfSome result (λ end. first < end) }
+    ensures inside { IfSome result (λ end. end ≤ length view.now) }
+{
+    match known {
+        KnownEnd::Unknown => None,
+        KnownEnd::InRow(row) => recalled_row(arena, view, first, id, row, segment),
+        KnownEnd::InSpan(number) => recalled_span(arena, view, first, number, spans, segment),
+    }
+}
+
+/// Notes a part that stands in no row, where there is room.
 fn noted_span<'k>(
     arena: &TokenArena<'_, '_>,
     view: &View<'_>,
@@ -193,12 +216,12 @@ fn noted_span<'k>(
     requires inside { seen ≤ length view.now }
     requires ends { EndsBehind arena.now (slice_range view.now first seen) (end - first) }
     requires known { AreSpans arena.now spans.old.spans.items }
-    ensures row { IfOk result (λ known. known.seen ≡ 0) }
+    ensures end { IfOk result (λ known. (id : ℕ) → IsKnown arena.now id known) }
     ensures known { OnOk result (AreSpans arena.now spans.new.spans.items) }
 {
-    let number = spans.spans.len() + 1;
+    let number = spans.spans.len();
     if segments > spans.left || number > u32::MAX as usize {
-        return Ok(KnownEnd::none());
+        return Ok(KnownEnd::Unknown);
     }
     let told = view.part(first, seen, keep)?;
     spans.left -= segments;
@@ -206,10 +229,7 @@ fn noted_span<'k>(
         count: end - first,
         told,
     })?;
-    Ok(KnownEnd {
-        end: number as u32,
-        seen: 0,
-    })
+    Ok(KnownEnd::InSpan(number as u32))
 }
 
 /// What is known of a part that begins at a place with this item. A part that stands in no row is noted.
@@ -231,12 +251,14 @@ fn noted_part<'k>(
     requires inside { seen ≤ length view.now }
     requires ends { EndsBehind arena.now (slice_range view.now first seen) (end - first) }
     requires known { AreSpans arena.now spans.old.spans.items }
-    ensures row { IfOk result (λ known. 0 < known.seen → IsKnown arena.now id.0 known) }
+    ensures end { IfOk result (λ known. IsKnown arena.now id.0 known) }
     ensures known { OnOk result (AreSpans arena.now spans.new.spans.items) }
 {
-    let row = noted(arena, view, first, id, end, seen, segment);
-    if row.seen > 0 || seen - first < spans.least {
-        return Ok(row);
+    if let Some(row) = noted_row(arena, view, first, id, end, seen, segment) {
+        return Ok(KnownEnd::InRow(row));
+    }
+    if seen - first < spans.least {
+        return Ok(KnownEnd::Unknown);
     }
     let behind = *segment;
     view.at_near(first, segment);
@@ -276,10 +298,7 @@ pub fn known_part_end<'k>(
     if number >= known.len() {
         return Ok(part_end(arena, view, all, first, segment, room)?.end);
     }
-    if let Some(end) = recalled(arena, view, first, id, known[number], segment) {
-        return Ok(end);
-    }
-    if let Some(end) = recalled_span(arena, view, first, known[number], spans, segment) {
+    if let Some(end) = recalled(arena, view, first, id, known[number], spans, segment) {
         return Ok(end);
     }
     let part = part_end(arena, view, all, first, segment, room)?;

@@ -9,5 +9,5 @@ mod known;
 mod walk;
 
 pub use ends::{PartEnd, part_end};
-pub use known::{KnownEnd, KnownSpan, KnownSpans, known_part_end};
+pub use known::{KnownEnd, KnownRow, KnownSpan, KnownSpans, known_part_end};
 pub use line_tokens::NoMemory;

@@ -1,4 +1,4 @@
-use Rattle.std.proofs.Common.{◌≡◌, ◌-◌, ◌<◌, length, sym, subst, arith, rules}
+use Rattle.std.proofs.Common.{◌≡◌, ◌<◌, length, sym, subst, arith, rules}
 use Rattle.std.specs.Vec.{vec_len}
 use Rattle.view_parts.specs.declared.known.KnownSpan.{KnownSpan}
 use Rattle.view_parts.specs.Known.{IsSpan}
@@ -10,8 +10,8 @@ overflow_add-result c =
     let arena = c.args.arena.now in
     let spans = c.args.spans.now.spans in
     let many : vec_len spans ≡ length spans.items = first_of (omega (arith), search (rules), grind (arith, rules)) in
-    let here : c.args.known.end - 1 < length spans.items = omega (arith, c.if-number-eq0.false, c.if-number-len.false, c.len.ensures, many) in
-    let so : IsSpan arena c.index-span.result.now = subst (λ (span : KnownSpan). IsSpan arena span) (sym c.index-span.ensures) (c.requires.known (c.args.known.end - 1) _ here) in
+    let here : c.args.number < length spans.items = omega (arith, c.if-number-len.false, c.len.ensures, many) in
+    let so : IsSpan arena c.index-span.result.now = subst (λ (span : KnownSpan). IsSpan arena span) (sym c.index-span.ensures) (c.requires.known c.args.number _ here) in
     let inside = c.has_items.ensures.within c.if-not-has_items.false in
     omega (arith, so.later, inside, c.len-count.ensures.count)
 
@@ -20,6 +20,6 @@ returns-clause-end c =
     let arena = c.args.arena.now in
     let spans = c.args.spans.now.spans in
     let many : vec_len spans ≡ length spans.items = first_of (omega (arith), search (rules), grind (arith, rules)) in
-    let here : c.args.known.end - 1 < length spans.items = omega (arith, c.if-number-eq0.false, c.if-number-len.false, c.len.ensures, many) in
-    let so : IsSpan arena c.index-span.result.now = subst (λ (span : KnownSpan). IsSpan arena span) (sym c.index-span.ensures) (c.requires.known (c.args.known.end - 1) _ here) in
+    let here : c.args.number < length spans.items = omega (arith, c.if-number-len.false, c.len.ensures, many) in
+    let so : IsSpan arena c.index-span.result.now = subst (λ (span : KnownSpan). IsSpan arena span) (sym c.index-span.ensures) (c.requires.known c.args.number _ here) in
     recalled_so arena c.args.view.now c.args.first c.index-span.result.now (c.has_items.ensures.items c.if-not-has_items.false) so

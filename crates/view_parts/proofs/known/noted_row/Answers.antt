@@ -1,9 +1,9 @@
 use Rattle.std.proofs.Common.{◌≡◌, ◌-◌, ◌≤◌, arith}
 use Rattle.view_parts.proofs.Rows.{noted_end}
-use Rattle.view_parts.proofs.known.noted.Goals as goal
+use Rattle.view_parts.proofs.known.noted_row.Goals as goal
 
 pub returns : goal.returns
-returns c = λ some.
+returns c =
     let last = c.at_near-last.result.0 in
     let low : c.args.id.0 ≤ last = omega (arith, c.if-last-id.false) in
     let is : last - c.args.id.0 ≡ c.args.seen - 1 - c.args.first = omega (arith, c.if-last-id-2.false) in
