@@ -97,14 +97,15 @@ fn are_decided(view: &View<'_>, plan: &Plan<'_>) -> bool
     true
 }
 
-/// Whether a part of a view stands in a row and the gap before each of its items is decided.
+/// Whether a part of a view stands in a row and the gap before each of its items is decided. Its first item is looked for
+/// in the segment with this number first.
 fn is_decided_row(
     arena: &TokenArena<'_, '_>,
     view: &View<'_>,
     first: u32,
     end: u32,
     plan: &Plan<'_>,
-    segment: &mut usize,
+    segment: usize,
 ) -> bool
     requires within { AreWithin arena.now view.now }
     requires some { first < end }
@@ -115,8 +116,9 @@ fn is_decided_row(
     let count = view.len();
     prove!(end <= count);
     let items = arena.len();
-    let id = view.at_near(first, segment);
-    let last = view.at_near(end - 1, segment);
+    let mut near = segment;
+    let id = view.at_near(first, &mut near);
+    let last = view.at_near(end - 1, &mut near);
     prove!(last.0 < items);
     if last.0 < id.0 || last.0 - id.0 != end - 1 - first {
         return false;
@@ -138,7 +140,7 @@ fn lay_out_part(
     end: u32,
     plan: &mut Plan<'_>,
     tally: &mut Tally<'_>,
-    segment: &mut usize,
+    segment: usize,
     room: &Bump,
 ) -> Result<(), NoMemory>
     requires range { IsInRange style.now }
@@ -217,6 +219,7 @@ fn lay_out_seen<'k>(
     let mut segment = 0;
     let mut first = 0;
     while first < count {
+        let begun = segment;
         let end = known_part_end(
             arena,
             &view,
@@ -229,19 +232,7 @@ fn lay_out_seen<'k>(
             &room,
         )?;
         lay_out_part(
-            alloc,
-            style,
-            budget,
-            arena,
-            all,
-            number,
-            &view,
-            first,
-            end,
-            plan,
-            tally,
-            &mut segment,
-            &room,
+            alloc, style, budget, arena, all, number, &view, first, end, plan, tally, begun, &room,
         )?;
         first = end;
         if room.reset().is_err() {
@@ -253,7 +244,11 @@ fn lay_out_seen<'k>(
 
 /// How many items tell the end of a part at least that is noted for later runs, where it stands in no row: few do not
 /// take longer to be read again once, and behind the last run nothing is read again.
-fn least_noted(number: u32, runs: u32) -> u32 {
+fn least_noted(number: u32, runs: u32) -> u32
+    ensures last { runs ≤ number + 1 → result ≡ 4294967295 }
+    ensures first { number ≡ 0 → 1 < runs → result ≡ 16 }
+    ensures later { 0 < number → number + 1 < runs → result ≡ 0 }
+{
     if number >= runs.saturating_sub(1) {
         u32::MAX
     } else if number == 0 {

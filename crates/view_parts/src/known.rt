@@ -232,7 +232,8 @@ fn noted_span<'k>(
     Ok(KnownEnd::InSpan(number as u32))
 }
 
-/// What is known of a part that begins at a place with this item. A part that stands in no row is noted.
+/// What is known of a part that begins at a place with this item, in the segment with the number `begun`. A part that
+/// stands in no row is noted.
 fn noted_part<'k>(
     arena: &TokenArena<'_, '_>,
     view: &View<'_>,
@@ -240,6 +241,7 @@ fn noted_part<'k>(
     id: TokenId,
     end: u32,
     seen: u32,
+    begun: usize,
     spans: &mut KnownSpans<'k>,
     keep: &'k Bump,
     segment: &mut usize,
@@ -260,9 +262,7 @@ fn noted_part<'k>(
     if seen - first < spans.least {
         return Ok(KnownEnd::Unknown);
     }
-    let behind = *segment;
-    view.at_near(first, segment);
-    let segments = behind.saturating_sub(*segment);
+    let segments = segment.saturating_sub(begun);
     noted_span(arena, view, first, end, seen, segments, spans, keep)
 }
 
@@ -294,16 +294,20 @@ pub fn known_part_end<'k>(
     ensures spans { OnOk result (AreSpans arena.now spans.new.spans.items) }
 {
     let id = view.at_near(first, segment);
+    let begun = *segment;
     let number = id.0 as usize;
-    if number >= known.len() {
-        return Ok(part_end(arena, view, all, first, segment, room)?.end);
-    }
-    if let Some(end) = recalled(arena, view, first, id, known[number], spans, segment) {
-        return Ok(end);
+    if number < known.len() {
+        if let Some(end) = recalled(arena, view, first, id, known[number], spans, segment) {
+            return Ok(end);
+        }
     }
     let part = part_end(arena, view, all, first, segment, room)?;
     if let Some(seen) = part.seen {
-        known[number] = noted_part(arena, view, first, id, part.end, seen, spans, keep, segment)?;
+        if number < known.len() {
+            known[number] = noted_part(
+                arena, view, first, id, part.end, seen, begun, spans, keep, segment,
+            )?;
+        }
     }
     Ok(part.end)
 }
