@@ -18,7 +18,7 @@ fn words_of(rt: &HostRuntime) -> io::Result<Vec<String>> {
 // Tells a refusal by its row. A row that can't be written leaves the status.
 fn refuse(rt: &HostRuntime, refusal: Refusal<'_>) -> ExitCode {
     let mut notes = RealOut::new(rt.stderr());
-    let _ = tell(refusal, &mut notes);
+    let _ = tell(rt.alloc(), refusal, &mut notes);
     ExitCode::from(status_of(refusal))
 }
 

@@ -200,7 +200,7 @@ pub fn format_command<S: Source, K: Sink, E: Sink, F: Files>(
         Ok(Outcome::WouldChange) => 1,
         Err(refusal) => {
             // The status stays where the row can't be told.
-            let _ = tell(refusal, notes);
+            let _ = tell(alloc, refusal, notes);
             status_of(refusal)
         }
     }

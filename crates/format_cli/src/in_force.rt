@@ -94,7 +94,7 @@ fn configured<'w, E: Sink>(
 {
     let base = named_style(BASE)?;
     match style_config::read(alloc, text, base) {
-        Ok((style, skipped)) => match tell_skipped(file, skipped.keys(), notes) {
+        Ok((style, skipped)) => match tell_skipped(alloc, file, skipped.keys(), notes) {
             Ok(()) => Ok(style),
             Err(Failed) => Err(Refusal::NotesFailed),
         },
@@ -103,14 +103,19 @@ fn configured<'w, E: Sink>(
     }
 }
 
-/// Tells the skipped keys of a configuration, a row each. It takes no memory.
-fn tell_skipped<E: Sink>(file: &str, keys: &[SkippedKey], notes: &mut E) -> Result<(), Failed>
+/// Tells the skipped keys of a configuration, a row each.
+fn tell_skipped<E: Sink>(
+    alloc: Global,
+    file: &str,
+    keys: &[SkippedKey],
+    notes: &mut E,
+) -> Result<(), Failed>
     ensures ok { OnOk result (Appends (E.taken notes.old) (E.taken notes.new) (skipped_rows file.now keys.now)) }
     ensures part { AppendsPart (E.taken notes.old) (E.taken notes.new) (skipped_rows file.now keys.now) }
     ensures counts { Counts (E.faults notes.old) (E.faults notes.new) result }
 {
     for key in keys {
-        tell_key(file, key, notes)?;
+        tell_key(alloc, file, key, notes)?;
     }
     Ok(())
 }
@@ -132,10 +137,15 @@ impl Stream for SkippedRow<'_> {
 }
 
 /// Tells a key that no style has, in one write.
-fn tell_key<E: Sink>(file: &str, key: &SkippedKey, notes: &mut E) -> Result<(), Failed>
+fn tell_key<E: Sink>(
+    alloc: Global,
+    file: &str,
+    key: &SkippedKey,
+    notes: &mut E,
+) -> Result<(), Failed>
     ensures ok { OnOk result (Appends (E.taken notes.old) (E.taken notes.new) (skipped_row file.now key.now)) }
     ensures part { AppendsPart (E.taken notes.old) (E.taken notes.new) (skipped_row file.now key.now) }
     ensures counts { Counts (E.faults notes.old) (E.faults notes.new) result }
 {
-    write_in_pieces(&SkippedRow { file, key }, notes)
+    write_in_pieces(alloc, &SkippedRow { file, key }, notes)
 }

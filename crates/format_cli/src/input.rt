@@ -78,6 +78,7 @@ fn formatted<'a, 's, 'w>(
 
 /// Writes the formatted text of standard input, or in a dry run nothing.
 fn put_source<'a, 's, K: Sink>(
+    alloc: Global,
     place: Place,
     formatted: &Formatted<'a, 's>,
     out: &mut K,
@@ -87,8 +88,8 @@ fn put_source<'a, 's, K: Sink>(
     ensures counts { Counts (K.faults out.old) (K.faults out.new) result }
 {
     match place {
-        Place::Output => formatted.write(out),
-        Place::Itself => formatted.write(out),
+        Place::Output => formatted.write(alloc, out),
+        Place::Itself => formatted.write(alloc, out),
         Place::Nowhere => Ok(()),
     }
 }
@@ -117,11 +118,18 @@ pub fn format_source<S: Source, K: Sink, E: Sink>(
     };
     let bump = Bump::new(alloc);
     let formatted = formatted(alloc, &bump, options, STANDARD_INPUT, &text)?;
-    match tell_input(STANDARD_INPUT, options.budget, place, &formatted, notes) {
+    match tell_input(
+        alloc,
+        STANDARD_INPUT,
+        options.budget,
+        place,
+        &formatted,
+        notes,
+    ) {
         Ok(()) => {}
         Err(Failed) => return Err(Refusal::NotesFailed),
     }
-    match put_source(place, &formatted, out) {
+    match put_source(alloc, place, &formatted, out) {
         Ok(()) => Ok(formatted.changed),
         Err(Failed) => Err(Refusal::OutFailed),
     }
@@ -147,7 +155,14 @@ pub fn format_generated<E: Sink>(
     };
     let bump = Bump::new(alloc);
     let formatted = formatted(alloc, &bump, options, GENERATED, &text)?;
-    match tell_input(GENERATED, options.budget, Place::Nowhere, &formatted, notes) {
+    match tell_input(
+        alloc,
+        GENERATED,
+        options.budget,
+        Place::Nowhere,
+        &formatted,
+        notes,
+    ) {
         Ok(()) => Ok(formatted.changed),
         Err(Failed) => Err(Refusal::NotesFailed),
     }
@@ -213,12 +228,12 @@ fn format_file<'w, K: Sink, E: Sink, F: Files>(
     let text = read_file(name, files)?;
     let bump = Bump::new(alloc);
     let formatted = formatted(alloc, &bump, options, name, &text)?;
-    match tell_input(name, options.budget, place, &formatted, notes) {
+    match tell_input(alloc, name, options.budget, place, &formatted, notes) {
         Ok(()) => {}
         Err(Failed) => return Err(Refusal::NotesFailed),
     }
     match place {
-        Place::Output => match formatted.write(out) {
+        Place::Output => match formatted.write(alloc, out) {
             Ok(()) => Ok(formatted.changed),
             Err(Failed) => Err(Refusal::OutFailed),
         },

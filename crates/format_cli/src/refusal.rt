@@ -9,6 +9,7 @@ use command_words::USAGE;
 use fmt_ports::{Failed, Sink, write_all};
 use itoa::Buffer;
 use off_regions::RangeFault;
+use std::alloc::Global;
 use style_config::ConfigFault;
 use text_streams::{Stream, write_in_pieces};
 
@@ -93,13 +94,13 @@ impl Stream for Refusal<'_> {
     }
 }
 
-/// Writes the row that tells a refusal, nothing where the notes have failed, in one write. It takes no memory.
-pub fn tell<E: Sink>(refusal: Refusal, notes: &mut E) -> Result<(), Failed>
+/// Writes the row that tells a refusal, nothing where the notes have failed: in one write, where there is memory for it.
+pub fn tell<E: Sink>(alloc: Global, refusal: Refusal, notes: &mut E) -> Result<(), Failed>
     ensures part { AppendsPart (E.taken notes.old) (E.taken notes.new) (row_of refusal.entry) }
     ensures ok { OnOk result (Appends (E.taken notes.old) (E.taken notes.new) (row_of refusal.entry)) }
     ensures counts { Counts (E.faults notes.old) (E.faults notes.new) result }
 {
-    write_in_pieces(&refusal, notes)
+    write_in_pieces(alloc, &refusal, notes)
 }
 
 /// Writes the row of a refusal.

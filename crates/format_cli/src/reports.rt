@@ -8,10 +8,12 @@ ghost use Rattle.format_cli.specs.Notes.{numbered_row, report_row, report_rows};
 use crate::refusal::write_number;
 use fmt_ports::{Failed, Sink};
 use format_core::Report;
+use std::alloc::Global;
 use text_streams::{Stream, write_in_pieces};
 
-/// Tells the lines of an input that are reported, a row each. It takes no memory.
+/// Tells the lines of an input that are reported, a row each.
 pub fn tell_reports<E: Sink>(
+    alloc: Global,
     name: &str,
     budget: u64,
     reports: &[Report],
@@ -23,7 +25,7 @@ pub fn tell_reports<E: Sink>(
     ensures counts { Counts (E.faults notes.old) (E.faults notes.new) result }
 {
     for report in reports {
-        tell_report(name, budget, report, notes)?;
+        tell_report(alloc, name, budget, report, notes)?;
     }
     Ok(())
 }
@@ -48,6 +50,7 @@ impl Stream for ReportRow<'_> {
 
 /// Tells a line that is reported, in one write.
 fn tell_report<E: Sink>(
+    alloc: Global,
     name: &str,
     budget: u64,
     report: &Report,
@@ -63,7 +66,7 @@ fn tell_report<E: Sink>(
         budget,
         report,
     };
-    write_in_pieces(&row, notes)
+    write_in_pieces(alloc, &row, notes)
 }
 
 /// Tells in which run a line is reported, and for how many cells.

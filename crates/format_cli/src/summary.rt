@@ -11,10 +11,12 @@ use crate::reports::tell_reports;
 use fmt_ports::{Failed, Sink};
 use format_core::{Counts, Formatted};
 use itoa::Buffer;
+use std::alloc::Global;
 use text_streams::{Stream, write_in_pieces};
 
-/// Tells the reports of an input, and in a dry run its summary behind them. It takes no memory.
+/// Tells the reports of an input, and in a dry run its summary behind them.
 pub fn tell_input<'a, 's, E: Sink>(
+    alloc: Global,
     name: &str,
     budget: u64,
     place: Place,
@@ -27,11 +29,11 @@ pub fn tell_input<'a, 's, E: Sink>(
     ensures counts { FaultCounts (E.faults notes.old) (E.faults notes.new) result }
 {
     match place {
-        Place::Output => tell_reports(name, budget, formatted.reports, notes),
-        Place::Itself => tell_reports(name, budget, formatted.reports, notes),
+        Place::Output => tell_reports(alloc, name, budget, formatted.reports, notes),
+        Place::Itself => tell_reports(alloc, name, budget, formatted.reports, notes),
         Place::Nowhere => {
-            tell_reports(name, budget, formatted.reports, notes)?;
-            tell_summary(name, &formatted.counts, formatted.changed, notes)
+            tell_reports(alloc, name, budget, formatted.reports, notes)?;
+            tell_summary(alloc, name, &formatted.counts, formatted.changed, notes)
         }
     }
 }
@@ -55,6 +57,7 @@ impl Stream for SummaryRow<'_> {
 
 /// Tells the summary of an input, in one write.
 fn tell_summary<E: Sink>(
+    alloc: Global,
     name: &str,
     counts: &Counts,
     changed: bool,
@@ -69,7 +72,7 @@ fn tell_summary<E: Sink>(
         counts,
         changed,
     };
-    write_in_pieces(&row, notes)
+    write_in_pieces(alloc, &row, notes)
 }
 
 /// Tells how many lines were searched, and what comes behind it in a summary.

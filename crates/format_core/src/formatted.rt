@@ -100,14 +100,14 @@ pub fn format<'a, 's>(
 }
 
 impl<'a, 's> Formatted<'a, 's> {
-    /// Writes the formatted text gap by gap, in pieces. It takes no memory; after `Failed`, the sink took a part of the
-    /// text.
-    pub fn write<K: Sink>(&self, sink: &mut K) -> Result<(), Failed>
+    /// Writes the formatted text gap by gap, in pieces. It takes memory for one piece at most; after `Failed`, the sink
+    /// took a part of the text.
+    pub fn write<K: Sink>(&self, alloc: Global, sink: &mut K) -> Result<(), Failed>
         ensures ok { OnOk result (Appends (K.taken sink.old) (K.taken sink.new) (text_of self.now.laid)) }
         ensures part { AppendsPart (K.taken sink.old) (K.taken sink.new) (text_of self.now.laid) }
         ensures counts { FaultCounts (K.faults sink.old) (K.faults sink.new) result }
     {
-        write_in_pieces(&self.laid, sink)
+        write_in_pieces(alloc, &self.laid, sink)
     }
 
     /// The formatted text in memory.

@@ -136,7 +136,7 @@ fn writes_in_pieces(rt: HostRuntime) -> Result<(), Fail> {
     for (size, failing, whole, taken) in PIECES {
         let text = vec![in alloc; b'a'; *size]?;
         let mut sink = MemSink::new(alloc, vec![in alloc; *failing; 1]?);
-        let written = write_in_pieces(&Twice(&text), &mut sink).is_ok();
+        let written = write_in_pieces(alloc, &Twice(&text), &mut sink).is_ok();
         assert_eq!(rt; written, *whole, "{size} bytes, {failing}");
         assert_eq!(rt; sink.taken().len(), *taken, "{size} bytes, {failing}");
     }

@@ -9,6 +9,7 @@ ghost use Rattle.text_streams.specs.Taken.{Grows, taken_by};
 use crate::Stream;
 use crate::room::Room;
 use fmt_ports::{Failed, Sink};
+use std::alloc::Global;
 use std::marker::{Brand, PhantomData};
 
 /// A sink, and a room that collects small writes in front of it.
@@ -185,13 +186,18 @@ fn write_through<'k, T: Stream, K: Sink, B: Behind>(
 }
 
 /// Writes a text in pieces of [`PIECE`](crate::PIECE) bytes, however small the writes are of which it is made. It takes
-/// no memory; after `Failed` the sink took a front of the text.
-pub fn write_in_pieces<T: Stream, K: Sink>(text: &T, sink: &mut K) -> Result<(), Failed>
+/// memory for one piece; where that isn't there, the text is written as it is made. After `Failed` the sink took a front
+/// of the text.
+pub fn write_in_pieces<T: Stream, K: Sink>(
+    alloc: Global,
+    text: &T,
+    sink: &mut K,
+) -> Result<(), Failed>
     ensures ok { OnOk result (Appends (K.taken sink.old) (K.taken sink.new) (T.bytes text.now)) }
     ensures part { AppendsPart (K.taken sink.old) (K.taken sink.new) (T.bytes text.now) }
     ensures counts { Counts (K.faults sink.old) (K.faults sink.new) result }
 {
-    let mut room = Room::new();
+    let mut room = Room::new(alloc);
     let pieces = Pieces::new(sink, &mut room);
     let (_, result) = write_through::<T, K, Brand>(text, pieces);
     result

@@ -1,7 +1,8 @@
 //! Room for bytes that are collected.
 
-ghost use Rattle.std.specs.Prelude.{◌≡◌, ◌≤◌, ◌+◌, ℕ, List, [], ◌++◌, IsFalse, IsTrue, drop, length, take};
+ghost use Rattle.std.specs.Prelude.{◌≡◌, ◌≤◌, ℕ, List, [], ◌++◌, IsFalse, IsTrue, drop, length};
 
+use std::alloc::{AllocError, Global};
 use std::marker::Model;
 
 /// How many bytes a piece has at most, a single write of more aside: what a pipe holds.
@@ -10,46 +11,36 @@ pub const PIECE: usize = 65_536;
 /// Room for a piece. Contracts see the bytes that it holds.
 #[derive(Drop)]
 pub(crate) struct Room {
-    bytes: [u8; PIECE],
-    // The bytes from `sent` on up to `end` are held.
+    bytes: Vec<u8>,
+    // The bytes from `sent` on are held.
     sent: usize,
-    end: usize,
 }
 
 impl Model for Room {
     ghost Value = { List ℕ };
 
-    ghost view = { λ room. drop room.sent (take room.end room.bytes) };
+    ghost view = { λ room. drop room.sent room.bytes.items };
 
-    ghost invariant = { λ room. (room.sent ≤ room.end) × (room.end ≤ 65536) };
-}
-
-/// Copies bytes behind the first ones, so many of which stay.
-#[inline(always)]
-fn copy_behind(all: &mut [u8], end: usize, bytes: &[u8])
-    requires { end + length bytes.now ≤ length all.old }
-    ensures { take (end + length bytes.now) all.new ≡ take end all.old ++ bytes.now }
-{
-    all[end..end + bytes.len()].copy_from_slice(bytes);
+    ghost invariant = { λ room. room.sent ≤ length room.bytes.items };
 }
 
 impl Room {
-    /// Holds nothing.
-    pub(crate) fn new() -> Room
+    /// Holds nothing. Where memory ran out it has no place for any byte.
+    pub(crate) fn new(alloc: Global) -> Room
         ensures { result ≡ [] }
     {
-        Room {
-            bytes: [0; PIECE],
-            sent: 0,
-            end: 0,
-        }
+        let bytes = match Vec::with_capacity(alloc, PIECE) {
+            Ok(bytes) => bytes,
+            Err(AllocError) => Vec::new(alloc),
+        };
+        Room { bytes, sent: 0 }
     }
 
     /// The bytes that it holds.
     pub(crate) fn held(&self) -> &[u8]
         ensures { result.now ≡ self.now }
     {
-        &self.bytes[self.sent..self.end]
+        &self.bytes[self.sent..]
     }
 
     /// Takes bytes, all where they find room behind those that it holds, and none otherwise.
@@ -58,12 +49,10 @@ impl Room {
         ensures added { IsTrue result → self.new ≡ self.old ++ bytes.now }
         ensures kept { IsFalse result → self.new ≡ self.old }
     {
-        if bytes.len() > PIECE - self.end {
+        if bytes.len() > self.bytes.capacity() - self.bytes.len() {
             return false;
         }
-        copy_behind(&mut self.bytes, self.end, bytes);
-        self.end += bytes.len();
-        true
+        self.bytes.extend_from_slice(bytes).is_ok()
     }
 
     /// Gives up the first of the bytes.
@@ -72,9 +61,9 @@ impl Room {
         ensures { self.new ≡ drop count self.old }
     {
         self.sent += count;
-        if self.sent == self.end {
+        if self.sent == self.bytes.len() {
             self.sent = 0;
-            self.end = 0;
+            self.bytes.clear();
         }
     }
 }
