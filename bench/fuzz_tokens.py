@@ -7,6 +7,7 @@ import subprocess
 SECONDS = 60
 LINE_END = re.compile(rb"\r\n|\r|\n")
 SPLICE = rb"(?:\\|\?\?/)\r?\n"
+SPLICED = re.compile(SPLICE)
 WHITE = re.compile(rb"(?:%s|[ \t\n\v\f\r])+" % SPLICE)
 LEADING = re.compile(rb"(?:%s)*" % SPLICE)
 TRAILING = re.compile(rb"(?:%s|[ \t\n\v\f\r])+$" % SPLICE)
@@ -32,6 +33,21 @@ def bare(text):
     return WHITE.sub(b"", text)
 
 
+def is_read_otherwise(text):
+    """Whether the compilers read it otherwise than C11, whatever its tokens are."""
+    return bool(OTHERWISE.search(text))
+
+
+def behind_row(text):
+    """What stands in the row of its end: rows that a splice joins are one."""
+    return SPLICED.sub(b"", text).rpartition(b"\n")[2]
+
+
+def before_row(text):
+    """What stands in the row of its beginning."""
+    return SPLICED.sub(b"", text).partition(b"\n")[0]
+
+
 def place(text, count, after):
     """The place behind so many bytes that are no white space, and before or behind the white space there."""
     seen = at = 0
@@ -49,7 +65,7 @@ class Tokens:
         self.text, self.found, self.comments, self.rows = text, [], [], None
         # Whether the line is a directive, which brackets wait, and whether the text may change when formatted again.
         self.in_directive, self.waiting, self.may_change = False, [], b"::" in text or STAYS.search(text)
-        self.is_read_otherwise = bool(OTHERWISE.search(text))
+        self.is_read_otherwise = is_read_otherwise(text)
         # The line begins with white space that clang takes for its first token.
         self.is_begun = False
 
@@ -120,8 +136,8 @@ class Tokens:
             count = len(bare(self.text[:at]))
             new = place(once, count, False)
             new_end = place(once, count + len(bare(self.text[at:end])), True)
-            heads = (text[:it].rpartition(b"\n")[2] for text, it in ((self.text, at), (once, new)))
-            tails = (text[it:].partition(b"\n")[0] for text, it in ((self.text, end), (once, new_end)))
+            heads = (behind_row(text[:it]) for text, it in ((self.text, at), (once, new)))
+            tails = (before_row(text[it:]) for text, it in ((self.text, end), (once, new_end)))
             began, begins = (not head.strip() for head in heads)
             ended, ends = (not tail.strip() for tail in tails)
             if (begins and not began) or (ended and not ends):
