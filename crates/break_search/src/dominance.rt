@@ -56,7 +56,7 @@ fn is_passed(table: &Table<'_>, at: usize) -> bool
     let links = table.listed_with(at);
     let from = links.len().saturating_sub(MOST_COMPARED);
     for link in &links[from..] {
-        if passes(table, link.number, at) {
+        if passes(table, link.number as usize, at) {
             return true;
         }
     }

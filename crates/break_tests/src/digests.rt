@@ -11,10 +11,10 @@ fn is_on_chain(group: &Group<'_>, digest: u64, number: usize) -> bool {
         let Some(link) = group.links().get(end.wrapping_sub(1)) else {
             return false;
         };
-        if link.digest == digest && link.number == number {
+        if link.digest == digest && link.number as usize == number {
             return true;
         }
-        end = link.before;
+        end = link.before as usize;
     }
     false
 }
