@@ -47,8 +47,9 @@ impl<T: Drop> From<AllocFailed<T>> for InFault {
     }
 }
 
-/// How many bytes `read_all` asks for at a time: what a pipe holds.
-pub const BUFFER: usize = 65_536;
+/// How many bytes `read_all` asks for at a time: as many as most sources have, since zeros are written to all of them
+/// before the first read.
+pub const BUFFER: usize = 20_480;
 
 // So many zeros.
 fn zeros(alloc: Global, len: usize) -> Result<Vec<u8>, AllocError>
