@@ -55,6 +55,7 @@ fn keep(
 
 /// Passes places at which no gap stays: the items from the one before a place on are plain. The first place for which
 /// this isn't told, or the last one.
+#[inline(never)]
 fn pass_plain(
     arena: &TokenArena<'_, '_>,
     tree: &CondTree<'_>,
