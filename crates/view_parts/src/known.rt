@@ -12,7 +12,7 @@ use token_arena::TokenArena;
 use token_classes::TokenClass;
 use token_views::View;
 
-/// Where a part ends that goes on in a row up to what tells so.
+/// Where a part ends that goes on in a row up to what tells so, or the last of parts that follow one another in a row.
 #[derive(Clone, Copy)]
 pub struct KnownRow {
     /// The item behind its last one.
@@ -21,13 +21,15 @@ pub struct KnownRow {
     pub seen: u32,
 }
 
-/// What is known of where a part ends that begins with an item.
+/// What is known of where a part ends, or parts that follow one another, that begins with an item.
 #[derive(Clone, Copy)]
 pub enum KnownEnd {
     /// Nothing.
     Unknown,
     /// It goes on in a row.
     InRow(KnownRow),
+    /// It and others that follow one another go on in a row.
+    InRows(KnownRow),
     /// It stands in no row, and is the one with this number of those that are known.
     InSpan(u32),
 }
@@ -194,7 +196,7 @@ fn recalled(
     ensures inside { IfSome result (λ end. end ≤ length view.now) }
 {
     match known {
-        KnownEnd::Unknown => None,
+        KnownEnd::Unknown | KnownEnd::InRows(_) => None,
         KnownEnd::InRow(row) => recalled_row(arena, view, first, id, row, segment),
         KnownEnd::InSpan(number) => recalled_span(arena, view, first, number, spans, segment),
     }
