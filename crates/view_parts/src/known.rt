@@ -50,8 +50,8 @@ pub struct KnownSpans<'k> {
     pub spans: Vec<KnownSpan<'k>, &'k Bump>,
     /// How many segments more are kept at most.
     pub left: usize,
-    /// Where fewer items tell the end of a part, it isn't noted.
-    pub least: u32,
+    /// The fewest items that tell the end of a part that is noted. Where there is none, none is.
+    pub least: Option<u32>,
 }
 
 impl<'k> KnownSpans<'k> {
@@ -62,7 +62,7 @@ impl<'k> KnownSpans<'k> {
         KnownSpans {
             spans: Vec::new(keep),
             left: segments,
-            least: 0,
+            least: None,
         }
     }
 }
@@ -261,11 +261,13 @@ fn noted_part<'k>(
     if let Some(row) = noted_row(arena, view, first, id, end, seen, segment) {
         return Ok(KnownEnd::InRow(row));
     }
-    if seen - first < spans.least {
-        return Ok(KnownEnd::Unknown);
+    match spans.least {
+        Some(least) if seen - first >= least => {
+            let segments = segment.saturating_sub(begun);
+            noted_span(arena, view, first, end, seen, segments, spans, keep)
+        }
+        _ => Ok(KnownEnd::Unknown),
     }
-    let segments = segment.saturating_sub(begun);
-    noted_span(arena, view, first, end, seen, segments, spans, keep)
 }
 
 /// Where the part of a view ends that begins at a place, as [`part_end`](crate::part_end) says, and in one step where
