@@ -23,6 +23,7 @@ impl KnownEnd {
 }
 
 /// The parts of two rows as one row, where the second begins with this item behind the first.
+#[inline(always)]
 fn joined(first: KnownEnd, next: TokenId, later: KnownEnd) -> Option<KnownRow>
     ensures { result ≡ joined first next.0 later }
 {
@@ -39,6 +40,7 @@ fn joined(first: KnownEnd, next: TokenId, later: KnownEnd) -> Option<KnownRow>
 }
 
 /// What is noted for an item, or nothing.
+#[inline(always)]
 fn noted(known: &[KnownEnd], id: TokenId) -> KnownEnd
     ensures { result ≡ get_or known.now id.0 Unknown }
 {
@@ -50,6 +52,7 @@ fn noted(known: &[KnownEnd], id: TokenId) -> KnownEnd
 
 /// Notes the parts of the row that begins with the item `first`, and those of the row behind it that begins with
 /// `next`, as one row, where both are known. The result is the item with which the row begins that has those of `next`.
+#[inline(always)]
 pub fn join_rows(
     arena: &TokenArena<'_, '_>,
     known: &mut [KnownEnd],
@@ -70,21 +73,24 @@ pub fn join_rows(
     }
 }
 
-/// Where the parts of a view end that begin at a place and are noted as one row, where the view has that row.
+/// Where the parts of a view end that begin at a place with this item and are noted as one row, where the view has that
+/// row.
+#[inline(always)]
 pub fn known_parts_end(
     arena: &TokenArena<'_, '_>,
     view: &View<'_>,
     first: u32,
+    id: TokenId,
     known: &[KnownEnd],
     segment: &mut usize,
 ) -> Option<u32>
     requires here { first < length view.now }
+    requires item { (d : ℕ) → get_or view.now first d ≡ id.0 }
     requires known { AreKnown arena.now known.now }
     ensures parts { IfSome result (λ end. ArePartsUpTo arena.now view.now first end) }
     ensures some { IfSome result (λ end. first < end) }
     ensures inside { IfSome result (λ end. end ≤ length view.now) }
 {
-    let id = view.at_near(first, segment);
     let KnownEnd::InRows(row) = noted(known, id) else {
         return None;
     };
