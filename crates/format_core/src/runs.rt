@@ -294,7 +294,8 @@ fn lay_out_next<'k>(
 }
 
 /// Decides the gaps of the items that the run with this number sees, where they are open, part after part. A run of
-/// branches without text sees nothing new, and its parts aren't asked for. What a part takes of memory serves the next one too.
+/// branches without text sees nothing new, and its parts aren't asked for. What a part takes of memory serves the next
+/// one too.
 fn lay_out_seen<'k>(
     alloc: Global,
     style: &Style,
