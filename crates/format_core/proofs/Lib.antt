@@ -2,6 +2,7 @@ pub mod LineCounts
 pub mod Opens
 pub mod Parts
 pub mod PartsTold
+pub mod RowsPassed
 pub mod Planned
 pub mod OfTexts
 pub mod Seen

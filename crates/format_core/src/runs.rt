@@ -1,6 +1,6 @@
 //! The plan of a text, run by run over one store of items.
 
-ghost use Rattle.std.specs.Prelude.{◌≡◌, ◌<◌, ◌≤◌, ◌+◌, ◌*◌, ◌^◌, ◌-◌, All, IfOk, IsTrue, OnOk, length, option_map, slice_range};
+ghost use Rattle.std.specs.Prelude.{◌≡◌, ◌<◌, ◌≤◌, ◌+◌, ◌*◌, ◌^◌, ◌-◌, ℕ, All, None, Some, IfOk, IsFalse, IsTrue, OnOk, drop, get_or, length, option_map, slice_range};
 ghost use Rattle.c_chars.specs.declared.TheConstants.{LIMIT};
 ghost use Rattle.style_table.specs.Range.{IsInRange};
 ghost use Rattle.token_classes.specs.Viewed.{AreWithin, item_classes};
@@ -8,6 +8,7 @@ ghost use Rattle.directives.specs.Sections.{sections_of, IsCut};
 ghost use Rattle.early_gaps.specs.Dead.{IsTreeOf};
 ghost use Rattle.run_layout.specs.Counted.{IsCounted};
 ghost use Rattle.view_parts.specs.Known.{AreKnown, AreSpans};
+ghost use Rattle.view_parts.specs.Parts.{part_len, ArePartsUpTo};
 ghost use Rattle.format_core.specs.Runs.{AreDecided, runs_of, seen_by};
 ghost use Rattle.format_core.specs.RunsTold.{AreItemsTold, AreRunsTold, AreSeenTold, IsPlanned};
 
@@ -19,7 +20,7 @@ use bumpalo::Bump;
 use bumpalo::collections::into_bump_slice_mut;
 use directives::Section;
 use early_gaps::decide_early;
-use line_tokens::NoMemory;
+use line_tokens::{NoMemory, TokenId};
 use off_regions::Ranges;
 use replacements::Plan;
 use run_layout::{Tally, is_row_decided, lay_out_view};
@@ -29,7 +30,7 @@ use token_arena::TokenArena;
 use token_classes::{TokenClass, classes_among, item_classes};
 use token_views::View;
 use unwrapped_lines::lines_of_classes;
-use view_parts::{KnownEnd, KnownSpans, known_part_end};
+use view_parts::{KnownEnd, KnownSpans, join_rows, known_part_end, known_parts_end};
 
 /// The plan of a text, and what is told of its lines.
 #[derive(Drop)]
@@ -99,6 +100,7 @@ fn are_decided(view: &View<'_>, plan: &Plan<'_>) -> bool
 
 /// Whether a part of a view stands in a row and the gap before each of its items is decided. Its first item is looked for
 /// in the segment with this number first.
+#[inline(always)]
 fn is_decided_row(
     arena: &TokenArena<'_, '_>,
     view: &View<'_>,
@@ -171,9 +173,129 @@ fn lay_out_part(
     )
 }
 
+/// How far a run has come in its view.
+#[derive(Drop)]
+struct Way {
+    /// The place of the next part.
+    first: u32,
+    /// The number of the segment that is looked at first.
+    segment: usize,
+    /// The item with which the row of parts begins that ends there.
+    row: TokenId,
+}
+
+impl Way {
+    /// At the first part.
+    fn start() -> Way
+        ensures { result.first ≡ 0 }
+    {
+        Way {
+            first: 0,
+            segment: 0,
+            row: TokenId(0),
+        }
+    }
+}
+
+/// Goes on behind parts that are noted as one row, where the gap before each of their items is decided.
+fn pass_row(
+    arena: &TokenArena<'_, '_>,
+    view: &View<'_>,
+    id: TokenId,
+    known: &mut [KnownEnd],
+    plan: &Plan<'_>,
+    way: &mut Way,
+) -> bool
+    requires within { AreWithin arena.now view.now }
+    requires here { way.old.first < length view.now }
+    requires item { (d : ℕ) → get_or view.now way.old.first d ≡ id.0 }
+    requires whole { length plan.now ≡ length arena.now.tokens + 1 }
+    requires known { AreKnown arena.now known.old }
+    ensures known { AreKnown arena.now known.new }
+    ensures parts { IsTrue result → ArePartsUpTo arena.now view.now way.old.first way.new.first }
+    ensures decided { IsTrue result → AreDecided plan.now (slice_range view.now way.old.first way.new.first) }
+    ensures some { IsTrue result → way.old.first < way.new.first }
+    ensures inside { IsTrue result → way.new.first ≤ length view.now }
+    ensures stays { IsFalse result → way.new.first ≡ way.old.first }
+{
+    let first = way.first;
+    let begun = way.segment;
+    let Some(end) = known_parts_end(arena, view, first, id, known, &mut way.segment) else {
+        return false;
+    };
+    if !is_decided_row(arena, view, first, end, plan, begun) {
+        return false;
+    }
+    way.row = join_rows(arena, known, way.row, id);
+    way.first = end;
+    true
+}
+
+/// Decides the gaps of the next part of a view, where they are open. Where it ends that an earlier run saw is known.
+#[inline(always)]
+fn lay_out_next<'k>(
+    alloc: Global,
+    style: &Style,
+    budget: u64,
+    arena: &TokenArena<'_, '_>,
+    all: &[TokenClass],
+    number: u32,
+    view: &View<'_>,
+    id: TokenId,
+    known: &mut [KnownEnd],
+    spans: &mut KnownSpans<'k>,
+    keep: &'k Bump,
+    plan: &mut Plan<'_>,
+    tally: &mut Tally<'_>,
+    way: &mut Way,
+    room: &Bump,
+) -> Result<(), NoMemory>
+    requires range { IsInRange style.now }
+    requires budget { budget ≤ 16000000 }
+    requires all { all.now ≡ item_classes arena.now }
+    requires within { AreWithin arena.now view.now }
+    requires here { way.old.first < length view.now }
+    requires whole { length plan.old ≡ length arena.now.tokens + 1 }
+    requires room { tally.old.searched + (length view.now - way.old.first) < 2 ^ 60 }
+    requires cheap { tally.old.cost ≤ tally.old.searched * 18446744073709551615 }
+    requires counted { IsCounted arena.now tally.old.lines }
+    requires known { AreKnown arena.now known.old }
+    requires spans { AreSpans arena.now spans.old.spans.items }
+    ensures told { OnOk result (AreItemsTold style.now budget arena.now number plan.old (slice_range view.now way.old.first way.new.first) plan.new tally.old tally.new) }
+    ensures end { OnOk result (way.new.first ≡ way.old.first + part_len arena.now (drop way.old.first view.now)) }
+    ensures some { OnOk result (way.old.first < way.new.first) }
+    ensures inside { OnOk result (way.new.first ≤ length view.now) }
+    ensures len { OnOk result (length plan.new ≡ length plan.old) }
+    ensures room { OnOk result (tally.new.searched ≤ tally.old.searched + (way.new.first - way.old.first)) }
+    ensures cheap { OnOk result (tally.new.cost ≤ tally.new.searched * 18446744073709551615) }
+    ensures counted { OnOk result (IsCounted arena.now tally.new.lines) }
+    ensures known { OnOk result (AreKnown arena.now known.new) }
+    ensures spans { OnOk result (AreSpans arena.now spans.new.spans.items) }
+{
+    let first = way.first;
+    let begun = way.segment;
+    let end = known_part_end(
+        arena,
+        view,
+        all,
+        first,
+        known,
+        spans,
+        keep,
+        &mut way.segment,
+        room,
+    )?;
+    lay_out_part(
+        alloc, style, budget, arena, all, number, view, first, end, plan, tally, begun, room,
+    )?;
+    way.row = join_rows(arena, known, way.row, id);
+    way.first = end;
+    Ok(())
+}
+
 /// Decides the gaps of the items that the run with this number sees, where they are open, part after part. A run of
-/// branches without text sees nothing new, and its parts aren't asked for. Where a part ends that an earlier run saw is
-/// known. What a part takes of memory serves the next one too.
+/// branches without text sees nothing new, and its parts aren't asked for. What a part takes of memory serves the next
+/// one too.
 fn lay_out_seen<'k>(
     alloc: Global,
     style: &Style,
@@ -216,25 +338,16 @@ fn lay_out_seen<'k>(
     let count = view.len();
     prove!(count <= items);
     let mut room = Bump::new(alloc);
-    let mut segment = 0;
-    let mut first = 0;
-    while first < count {
-        let begun = segment;
-        let end = known_part_end(
-            arena,
-            &view,
-            all,
-            first,
-            known,
-            spans,
-            keep,
-            &mut segment,
-            &room,
+    let mut way = Way::start();
+    while way.first < count {
+        let id = view.at_near(way.first, &mut way.segment);
+        if pass_row(arena, &view, id, known, plan, &mut way) {
+            continue;
+        }
+        lay_out_next(
+            alloc, style, budget, arena, all, number, &view, id, known, spans, keep, plan, tally,
+            &mut way, &room,
         )?;
-        lay_out_part(
-            alloc, style, budget, arena, all, number, &view, first, end, plan, tally, begun, &room,
-        )?;
-        first = end;
         if room.reset().is_err() {
             room = Bump::new(alloc);
         }
@@ -244,17 +357,17 @@ fn lay_out_seen<'k>(
 
 /// How many items tell the end of a part at least that is noted for later runs, where it stands in no row: few do not
 /// take longer to be read again once, and behind the last run nothing is read again.
-fn least_noted(number: u32, runs: u32) -> u32
-    ensures last { runs ≤ number + 1 → result ≡ 4294967295 }
-    ensures first { number ≡ 0 → 1 < runs → result ≡ 16 }
-    ensures later { 0 < number → number + 1 < runs → result ≡ 0 }
+fn least_noted(number: u32, runs: u32) -> Option<u32>
+    ensures last { runs ≤ number + 1 → result ≡ None }
+    ensures first { number ≡ 0 → 1 < runs → result ≡ Some 16 }
+    ensures later { 0 < number → number + 1 < runs → result ≡ Some 0 }
 {
     if number >= runs.saturating_sub(1) {
-        u32::MAX
+        None
     } else if number == 0 {
-        16
+        Some(16)
     } else {
-        0
+        Some(0)
     }
 }
 

@@ -2,3 +2,4 @@ pub mod Walked
 pub mod InOrder
 pub mod Rows
 pub mod Spans
+pub mod RowParts

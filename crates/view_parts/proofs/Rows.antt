@@ -2,7 +2,8 @@
 use Rattle.std.proofs.Common.{true, not, ◌&&◌, ◌≡◌, ◌∙◌, ◌⊎◌, inl, inr, ℕ, zero, suc, ◌+◌, ◌-◌, ◌<◌, ◌≤◌, List, [], ◌∷◌, length, take, drop, get_or, refl, sym, ap, subst, arith, get_or-set_same, get_or-set_other}
 use Rattle.std.specs.Prelude.{All, ◌^◌, slice_range, slice_set, replicate, map}
 use Rattle.std.specs.List.{range_with_len}
-use Rattle.std.proofs.lemmas.List.{get_or-drop, length-drop}
+use Rattle.std.proofs.lemmas.List.{get_or-drop, get_or-take, length-drop}
+use Rattle.std.proofs.lemmas.List.FromFn.{get_or-range_with_len}
 use Rattle.token_arena.specs.Gaps.{Contents}
 use Rattle.token_classes.specs.declared.class.TokenClass.{TokenClass}
 use Rattle.token_classes.specs.Classes.{is_bracket, is_comment}
@@ -52,6 +53,13 @@ row_from view first id behind increase below at last =
     let rest = dropped 0 first view increase in
     let e : first + 0 ≡ first = omega arith in
     row rest.0 id behind (drop first view) rest.1 (omega (arith, length-drop first view, below)) (get_or-drop first view 0 0 ∙ (ap (λ n. get_or view n 0) e ∙ at)) (get_or-drop first view behind 0 ∙ last)
+
+pub row_item : (view : List ℕ) (first id behind : ℕ) → Increase view → first + behind < length view → get_or view first 0 ≡ id → get_or view (first + behind) 0 ≡ id + behind → (k : ℕ) → k ≤ behind → get_or view (first + k) 0 ≡ id + k
+row_item view first id behind increase below at last k low =
+    let same = row_from view first id behind increase below at last in
+    sym (get_or-drop first view k 0)
+    ∙ (sym (get_or-take (suc behind) (drop first view) k 0 (omega (arith, low)))
+    ∙ (ap (λ (ids : List ℕ). get_or ids k 0) same ∙ get_or-range_with_len id (suc behind) k 0 (omega (arith, low))))
 
 -- ## What is known of a part
 

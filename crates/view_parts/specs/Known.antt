@@ -1,9 +1,9 @@
 -- Where parts end, as it is noted for items that began one.
-use Rattle.std.specs.Prelude.{⊤, ◌<◌, ◌-◌, ℕ, List, All, get_or, length}
+use Rattle.std.specs.Prelude.{⊤, ◌≡◌, ◌<◌, ◌-◌, ◌==◌, ℕ, if◌then◌else◌, Option, Some, None, List, [], ◌∷◌, All, get_or, length, max, slice_set}
 use Rattle.std.specs.List.{range_with_len}
 use Rattle.token_arena.specs.Gaps.{Contents}
 use Rattle.view_parts.specs.declared.known.KnownEnd.{KnownEnd}
-use Rattle.view_parts.specs.declared.known.KnownEnd.TheVariants.{Unknown, InRow, InSpan}
+use Rattle.view_parts.specs.declared.known.KnownEnd.TheVariants.{Unknown, InRow, InRows, InSpan}
 use Rattle.view_parts.specs.declared.known.KnownRow.{KnownRow}
 use Rattle.view_parts.specs.declared.known.KnownSpan.{KnownSpan}
 use Rattle.view_parts.specs.Parts.{EndsBehind}
@@ -14,10 +14,23 @@ pub record IsKnownRow (arena : Contents) (id : ℕ) (known : KnownRow) : Type 0 
   pub later : known.end < known.seen
   pub ends : EndsBehind arena (range_with_len id (known.seen - id)) (known.end - id)
 
+-- Parts that follow one another in a row, the first of which begins with this item, end so: each behind the item before the next one, and the last before this one. The items of the row up to `seen` tell so, whatever follows them.
+abbrev pub FollowInRow : Contents → ℕ → ℕ → ℕ → List ℕ → Type 0
+FollowInRow arena seen id last [] = id ≡ last
+FollowInRow arena seen id last (end ∷ ends) = (id < end) × EndsBehind arena (range_with_len id (seen - id)) (end - id) × FollowInRow arena seen end last ends
+
+-- parts that begin with this item, one behind another in a row, the last of which ends so
+pub record AreKnownRows (arena : Contents) (id : ℕ) (known : KnownRow) : Type 0 where
+  pub some : id < known.end
+  pub later : known.end < known.seen
+  pub ends : List ℕ
+  pub follow : FollowInRow arena known.seen id known.end ends
+
 -- what is noted for this item is so; what the number of a span stands for is told where the spans are
 abbrev pub IsKnown : Contents → ℕ → KnownEnd → Type 0
 IsKnown arena id Unknown = ⊤
 IsKnown arena id (InRow known) = IsKnownRow arena id known
+IsKnown arena id (InRows known) = AreKnownRows arena id known
 IsKnown arena id (InSpan number) = ⊤
 
 -- what is noted for items, each at its number, is so
@@ -33,3 +46,42 @@ pub record IsSpan (arena : Contents) (span : KnownSpan) : Type 0 where
 -- what is noted of parts that stand in no row is so
 abbrev pub AreSpans : Contents → List KnownSpan → Type 0
 AreSpans arena spans = All (λ span. IsSpan arena span) spans
+
+-- ## Parts that follow one another
+
+-- the row of a part, or of parts that follow one another
+abbrev pub row_of : KnownEnd → Option KnownRow
+row_of Unknown = None
+row_of (InRow known) = Some known
+row_of (InRows known) = Some known
+row_of (InSpan number) = None
+
+abbrev pub joined_rows : KnownRow → ℕ → KnownRow → Option KnownRow
+joined_rows row next behind = if row.end == next then Some (record { end = behind.end; seen = max row.seen behind.seen }) else None
+
+-- the parts of two rows as one row, where the second begins with this item behind the first
+abbrev pub joined : KnownEnd → ℕ → KnownEnd → Option KnownRow
+joined first next later =
+    elim (row_of first) [
+      | None ↦ None
+      | Some row ↦ elim (row_of later) [
+        | None ↦ None
+        | Some behind ↦ joined_rows row next behind
+      ]
+    ]
+
+-- what is noted for items once the parts of the second one follow those of the first in what is noted for that one
+abbrev pub after_joined : List KnownEnd → ℕ → ℕ → List KnownEnd
+after_joined knowns first next =
+    elim (joined (get_or knowns first Unknown) next (get_or knowns next Unknown)) [
+      | None ↦ knowns
+      | Some row ↦ slice_set knowns first (InRows row)
+    ]
+
+-- the item with which the row begins that has the parts of the second one
+abbrev pub item_of_row : List KnownEnd → ℕ → ℕ → ℕ
+item_of_row knowns first next =
+    elim (joined (get_or knowns first Unknown) next (get_or knowns next Unknown)) [
+      | None ↦ next
+      | Some row ↦ first
+    ]

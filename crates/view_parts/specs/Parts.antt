@@ -1,5 +1,5 @@
 -- The parts of a view: docs/PROFILE.md, "Parts".
-use Rattle.std.specs.Prelude.{◌≡◌, ℕ, zero, suc, ◌+◌, nat_lt, Bool, true, false, if◌then◌else◌, Option, Some, None, List, [], ◌∷◌, ◌++◌, length, drop}
+use Rattle.std.specs.Prelude.{◌≡◌, ◌<◌, ℕ, zero, suc, ◌+◌, nat_lt, Bool, true, false, if◌then◌else◌, Option, Some, None, List, [], ◌∷◌, ◌++◌, length, drop}
 use Rattle.token_arena.specs.Gaps.{Contents}
 use Rattle.token_classes.specs.declared.class.TokenClass.{TokenClass}
 use Rattle.token_classes.specs.Viewed.{item_class}
@@ -51,3 +51,13 @@ part_ends arena ids = ends_from (length ids) arena ids 0
 -- These items tell where a part ends that they begin, whatever follows them: behind so many.
 abbrev pub EndsBehind : Contents → List ℕ → ℕ → Type 0
 EndsBehind arena ids count = (rest : List ℕ) → next_end arena start [] (ids ++ rest) ≡ Some count
+
+-- the parts of a view that begin at this place, one behind another, end at these places, the last at this one
+abbrev pub FollowUpTo : Contents → List ℕ → ℕ → ℕ → List ℕ → Type 0
+FollowUpTo arena view first last [] = first ≡ last
+FollowUpTo arena view first last (end ∷ ends) = (first < length view) × (first < end) × (end ≡ first + part_len arena (drop first view)) × FollowUpTo arena view end last ends
+
+-- parts of a view begin at this place, one behind another, the last of which ends at this one
+pub record ArePartsUpTo (arena : Contents) (view : List ℕ) (first last : ℕ) : Type 0 where
+  pub ends : List ℕ
+  pub follow : FollowUpTo arena view first last ends

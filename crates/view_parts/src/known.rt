@@ -12,7 +12,7 @@ use token_arena::TokenArena;
 use token_classes::TokenClass;
 use token_views::View;
 
-/// Where a part ends that goes on in a row up to what tells so.
+/// Where a part ends that goes on in a row up to what tells so, or the last of parts that follow one another in a row.
 #[derive(Clone, Copy)]
 pub struct KnownRow {
     /// The item behind its last one.
@@ -21,13 +21,15 @@ pub struct KnownRow {
     pub seen: u32,
 }
 
-/// What is known of where a part ends that begins with an item.
+/// What is known of where a part ends, or parts that follow one another, that begins with an item.
 #[derive(Clone, Copy)]
 pub enum KnownEnd {
     /// Nothing.
     Unknown,
     /// It goes on in a row.
     InRow(KnownRow),
+    /// It and others that follow one another go on in a row.
+    InRows(KnownRow),
     /// It stands in no row, and is the one with this number of those that are known.
     InSpan(u32),
 }
@@ -48,8 +50,8 @@ pub struct KnownSpans<'k> {
     pub spans: Vec<KnownSpan<'k>, &'k Bump>,
     /// How many segments more are kept at most.
     pub left: usize,
-    /// Where fewer items tell the end of a part, it isn't noted.
-    pub least: u32,
+    /// The fewest items that tell the end of a part that is noted. Where there is none, none is.
+    pub least: Option<u32>,
 }
 
 impl<'k> KnownSpans<'k> {
@@ -60,7 +62,7 @@ impl<'k> KnownSpans<'k> {
         KnownSpans {
             spans: Vec::new(keep),
             left: segments,
-            least: 0,
+            least: None,
         }
     }
 }
@@ -194,7 +196,7 @@ fn recalled(
     ensures inside { IfSome result (λ end. end ≤ length view.now) }
 {
     match known {
-        KnownEnd::Unknown => None,
+        KnownEnd::Unknown | KnownEnd::InRows(_) => None,
         KnownEnd::InRow(row) => recalled_row(arena, view, first, id, row, segment),
         KnownEnd::InSpan(number) => recalled_span(arena, view, first, number, spans, segment),
     }
@@ -259,11 +261,13 @@ fn noted_part<'k>(
     if let Some(row) = noted_row(arena, view, first, id, end, seen, segment) {
         return Ok(KnownEnd::InRow(row));
     }
-    if seen - first < spans.least {
-        return Ok(KnownEnd::Unknown);
+    match spans.least {
+        Some(least) if seen - first >= least => {
+            let segments = segment.saturating_sub(begun);
+            noted_span(arena, view, first, end, seen, segments, spans, keep)
+        }
+        _ => Ok(KnownEnd::Unknown),
     }
-    let segments = segment.saturating_sub(begun);
-    noted_span(arena, view, first, end, seen, segments, spans, keep)
 }
 
 /// Where the part of a view ends that begins at a place, as [`part_end`](crate::part_end) says, and in one step where

@@ -4,17 +4,17 @@ use Rattle.view_parts.specs.Known.{AreKnown, AreSpans}
 use Rattle.format_core.proofs.PartsTold.{GoesOnFrom}
 use Rattle.format_core.proofs.runs.lay_out_seen.Given as goal
 
-abbrev pub invariant-loop-first : goal.invariant-loop-first
-invariant-loop-first l = record {
+abbrev pub invariant-loop-way : goal.invariant-loop-way
+invariant-loop-way l = record {
   len : length l.plan ≡ length l.initial.plan;
-  inside : l.first ≤ length l.view;
-  room : l.tally.searched ≤ l.initial.tally.searched + l.first;
+  inside : l.way.first ≤ length l.view;
+  room : l.tally.searched ≤ l.initial.tally.searched + l.way.first;
   cheap : l.tally.cost ≤ l.tally.searched * 18446744073709551615;
   counted : IsCounted l.arena l.tally.lines;
   known : AreKnown l.arena l.known;
   spans : AreSpans l.arena l.spans.spans.items;
-  on : GoesOnFrom l.style l.budget l.arena l.number l.initial.plan l.view l.initial.tally l.plan l.first l.tally;
+  on : GoesOnFrom l.style l.budget l.arena l.number l.initial.plan l.view l.initial.tally l.plan l.way.first l.tally;
 }
 
-abbrev pub decreases-loop-first : goal.decreases-loop-first
-decreases-loop-first l = l.count - l.first
+abbrev pub decreases-loop-way : goal.decreases-loop-way
+decreases-loop-way l = l.count - l.way.first

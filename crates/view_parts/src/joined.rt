@@ -1,0 +1,104 @@
+//! Parts that follow one another in a row, which are noted as one.
+
+ghost use Rattle.std.specs.Prelude.{◌≡◌, ◌<◌, ◌≤◌, ℕ, length, get_or, IfSome};
+ghost use Rattle.view_parts.specs.declared.known.KnownEnd.TheVariants.{Unknown};
+ghost use Rattle.view_parts.specs.Known.{AreKnown, after_joined, item_of_row, joined, row_of};
+ghost use Rattle.view_parts.specs.Parts.{ArePartsUpTo};
+
+use crate::known::{KnownEnd, KnownRow};
+use line_tokens::TokenId;
+use token_arena::TokenArena;
+use token_views::View;
+
+impl KnownEnd {
+    /// The row of a part, or of parts that follow one another.
+    fn row(self) -> Option<KnownRow>
+        ensures { result ≡ row_of self }
+    {
+        match self {
+            KnownEnd::InRow(row) | KnownEnd::InRows(row) => Some(row),
+            KnownEnd::Unknown | KnownEnd::InSpan(_) => None,
+        }
+    }
+}
+
+/// The parts of two rows as one row, where the second begins with this item behind the first.
+#[inline(always)]
+fn joined(first: KnownEnd, next: TokenId, later: KnownEnd) -> Option<KnownRow>
+    ensures { result ≡ joined first next.0 later }
+{
+    let (Some(row), Some(behind)) = (first.row(), later.row()) else {
+        return None;
+    };
+    if row.end != next.0 {
+        return None;
+    }
+    Some(KnownRow {
+        end: behind.end,
+        seen: row.seen.max(behind.seen),
+    })
+}
+
+/// What is noted for an item, or nothing.
+#[inline(always)]
+fn noted(known: &[KnownEnd], id: TokenId) -> KnownEnd
+    ensures { result ≡ get_or known.now id.0 Unknown }
+{
+    match known.get(id.0 as usize) {
+        Some(end) => *end,
+        None => KnownEnd::Unknown,
+    }
+}
+
+/// Notes the parts of the row that begins with the item `first`, and those of the row behind it that begins with
+/// `next`, as one row, where both are known. The result is the item with which the row begins that has those of `next`.
+#[inline(always)]
+pub fn join_rows(
+    arena: &TokenArena<'_, '_>,
+    known: &mut [KnownEnd],
+    first: TokenId,
+    next: TokenId,
+) -> TokenId
+    requires { AreKnown arena.now known.old }
+    ensures known { AreKnown arena.now known.new }
+    ensures joined { known.new ≡ after_joined known.old first.0 next.0 }
+    ensures item { result.0 ≡ item_of_row known.old first.0 next.0 }
+{
+    match joined(noted(known, first), next, noted(known, next)) {
+        Some(row) => {
+            known[first.0 as usize] = KnownEnd::InRows(row);
+            first
+        }
+        None => next,
+    }
+}
+
+/// Where the parts of a view end that begin at a place with this item and are noted as one row, where the view has that
+/// row.
+#[inline(always)]
+pub fn known_parts_end(
+    arena: &TokenArena<'_, '_>,
+    view: &View<'_>,
+    first: u32,
+    id: TokenId,
+    known: &[KnownEnd],
+    segment: &mut usize,
+) -> Option<u32>
+    requires here { first < length view.now }
+    requires item { (d : ℕ) → get_or view.now first d ≡ id.0 }
+    requires known { AreKnown arena.now known.now }
+    ensures parts { IfSome result (λ end. ArePartsUpTo arena.now view.now first end) }
+    ensures some { IfSome result (λ end. first < end) }
+    ensures inside { IfSome result (λ end. end ≤ length view.now) }
+{
+    let KnownEnd::InRows(row) = noted(known, id) else {
+        return None;
+    };
+    let count = view.len();
+    let last = row.seen - 1;
+    let behind = last - id.0;
+    if behind >= count - first || view.at_near(first + behind, segment).0 != last {
+        return None;
+    }
+    Some(first + (row.end - id.0))
+}
