@@ -1,6 +1,6 @@
 -- The tokens of a view that are no comments, cut behind a first part: what the proofs of its lines hand to one another.
-use Rattle.std.proofs.Common.{◌≡◌, ◌<◌, ◌≤◌, ◌⊎◌, ℕ, zero, suc, ◌+◌, Bool, true, false, not, ◌&&◌, Option, Some, None, List, [], ◌∷◌, ◌++◌, length, map, get_or}
-use Rattle.std.specs.Prelude.{IsTrue, IsFalse, if◌then◌else◌, All}
+use Rattle.std.proofs.Common.{◌≡◌, ◌<◌, ◌≤◌, ◌⊎◌, ℕ, zero, suc, ◌+◌, Bool, true, false, not, ◌&&◌, Some, List, [], ◌∷◌, ◌++◌, length, map}
+use Rattle.std.specs.Prelude.{IsTrue, IsFalse, if◌then◌else◌, All, slice_get}
 use Rattle.token_arena.specs.Gaps.{Contents}
 use Rattle.token_classes.specs.declared.class.TokenClass.{TokenClass}
 use Rattle.token_classes.specs.Classes.{is_word, is_opener, is_open_round, is_open_brace, is_semicolon, is_plain, is_assigning, is_before_list, is_close_round}
@@ -14,7 +14,7 @@ use Rattle.unwrapped_lines.specs.declared.braces.Braces.{Braces}
 use Rattle.unwrapped_lines.specs.declared.open.Open.{Open}
 use Rattle.unwrapped_lines.specs.declared.open.Start.{Start}
 use Rattle.unwrapped_lines.specs.declared.open.Start.TheVariants.{Fresh, Tail, Closing}
-use Rattle.unwrapped_lines.specs.Forms.{class_at, class_before, partner_in}
+use Rattle.unwrapped_lines.specs.Forms.{class_at, class_before, partner_in, partner_of}
 use Rattle.unwrapped_lines.specs.Tree.{lines_from, end_level_from, lines_of, end_level, whole_file}
 use Rattle.unwrapped_lines.specs.Viewed.{code_tokens}
 use Rattle.part_lines.specs.Cut.{IsFirstPart, partner_behind, partners_in}
@@ -28,7 +28,7 @@ abbrev pub code_line_behind : ℕ → Line → Line
 code_line_behind count line = record { first = count + line.first; end = count + line.end; level = line.level; kind = line.kind; list_level = line.list_level }
 
 abbrev pub open_behind : ℕ → Open → Open
-open_behind count open = record { block = open.block; context = open.context; level = open.level; case_level = open.case_level; end = count + open.end; head = open.head; head_level = open.head_level; assigned = open.assigned }
+open_behind count list = record { block = list.block; context = list.context; level = list.level; case_level = list.case_level; end = count + list.end; head = list.head; head_level = list.head_level; assigned = list.assigned }
 
 abbrev pub start_behind : ℕ → Start → Start
 start_behind count Fresh = Fresh
@@ -82,6 +82,10 @@ Passes (suc n) tokens at before assigned =
 abbrev pub ArePassed : List CodeToken → Type 0
 ArePassed tokens = Passes (length tokens) tokens 0 Between false
 
+-- each `(` that has a partner has a `)`, which has it
+abbrev pub ArePaired : List CodeToken → Type 0
+ArePaired tokens = (i p : ℕ) → is_open_round (class_at tokens i) ≡ true → partner_in tokens (length tokens) i ≡ Some p → (is_close_round (class_at tokens p) ≡ true) × (partner_of (slice_get tokens p) ≡ Some i)
+
 -- ## What is to be shown
 
 -- the tokens of items that are no comments
@@ -94,7 +98,7 @@ file_up_to end = record { block = true; context = (whole_file []).context; level
 
 -- each list, and the block that is closed, ends at this place or before it
 abbrev pub EndUpTo : ℕ → List Open → Type 0
-EndUpTo end opens = All (λ open. open.end ≤ end) opens
+EndUpTo end opens = All (λ o. o.end ≤ end) opens
 
 abbrev pub StartsUpTo : ℕ → Start → Type 0
 StartsUpTo end Fresh = Unit {0}
@@ -119,17 +123,18 @@ Windows =
 pub record AreLinesCut (braces : Braces) (earlier later : List CodeToken) : Type 0 where
   pub lines : lines_of braces (earlier ++ later)
       ≡ lines_from (length earlier) braces (earlier ++ later) (file_up_to (length earlier) ∷ []) Fresh 0
-        ++ lines_from (length later) braces (earlier ++ later) (file_up_to (length (earlier ++ later)) ∷ []) Fresh (length earlier)
+      ++ lines_from (length later) braces (earlier ++ later) (file_up_to (length (earlier ++ later)) ∷ []) Fresh (length earlier)
   pub level : end_level braces (earlier ++ later)
       ≡ end_level_from (length later + 1) braces (earlier ++ later) (file_up_to (length (earlier ++ later)) ∷ []) Fresh (length earlier)
 
 -- task S
 abbrev pub CutsLines : Type 0
-CutsLines = (braces : Braces) (earlier later : List CodeToken) → ArePassed earlier → BeginsWord later → AreLinesCut braces earlier later
+CutsLines = (braces : Braces) (earlier later : List CodeToken) → ArePassed earlier → ArePaired earlier → BeginsWord later → AreLinesCut braces earlier later
 
 -- the tokens of both sides of a cut
 pub record IsCodeCut (arena : Contents) (earlier later : List ℕ) : Type 0 where
   pub passed : ArePassed (code_of arena earlier)
+  pub paired : ArePaired (code_of arena earlier)
   pub behind : IsCutBehind (code_of arena earlier)
   pub before : BeginsWord (code_of arena later)
 
