@@ -22,7 +22,8 @@ use Rattle.annotator.specs.Classes.{is_nothing, is_closer, is_header_word, is_cl
 use Rattle.annotator.specs.Left.{passed, counted, splits_behind}
 use Rattle.annotator.specs.RoleTable.{class_behind, opens_list, role_of, is_value_close, is_cast_group}
 use Rattle.annotator.specs.Line.{comment_role, role_of_part, left_next, past_opener, partner_at, mark_at, taken_back}
-use Rattle.part_roles.specs.Cut.{partner_behind, comments_begin}
+use Rattle.part_lines.specs.Cut.{partner_behind}
+use Rattle.part_roles.specs.Cut.{comments_begin}
 
 -- no token stands before in the part, and the one before in the view tells nothing of these items
 pub record IsQuiet (arena : Contents) (shared part : TokenClass) (ids : List ℕ) : Type 0 where

@@ -22,7 +22,7 @@ use Rattle.annotator.specs.Left.{at_start, inside, counted, splits_behind, passe
 use Rattle.annotator.specs.RoleTable.{class_behind, role_of}
 use Rattle.annotator.specs.Line.{Sight, Walk, comment_role, closed_role, code_role, partner_at, mark_at, ends_in_comma, taken_back, seen_here, past_comment, left_next, mark_of, walk_from}
 use Rattle.annotator.specs.View.{Sights, row_of, marks_onto}
-use Rattle.part_roles.specs.Cut.{partner_behind, line_behind}
+use Rattle.part_lines.specs.Cut.{partner_behind, line_behind}
 use Rattle.annotator.proofs.Cuts.{cut_before}
 use Rattle.part_roles.proofs.Places.{partner_there, mark_there, comma_there, around_there, row_there, row_here, range_map}
 use Rattle.part_roles.proofs.Named.{AreNamed}

@@ -5,3 +5,5 @@ pub mod Before
 pub mod Behind
 pub mod Toks
 pub mod TellsParts
+pub mod LastToken
+pub mod RolesStay

@@ -9,7 +9,7 @@ use Rattle.token_classes.specs.declared.class.TokenClass.{TokenClass}
 use Rattle.annotator.specs.declared.mark.Mark.{Mark}
 use Rattle.annotator.specs.Line.{partner_of, partner_at, mark_at, ends_in_comma, taken_back, last_is_comma}
 use Rattle.annotator.specs.Left.{outside}
-use Rattle.part_roles.specs.Cut.{partner_behind}
+use Rattle.part_lines.specs.Cut.{partner_behind}
 
 pub slice_behind : {X : Type 0} (xs ys : List X) (k : ℕ) → slice_get (xs ++ ys) (length xs + k) ≡ slice_get ys k
 slice_behind [] ys k = ap (slice_get ys) (omega arith)

@@ -11,7 +11,8 @@ use Rattle.token_classes.specs.Viewed.{item_class, classes_of}
 use Rattle.annotator.specs.declared.mark.Mark.{Mark}
 use Rattle.annotator.specs.Tokens.{toks_from}
 use Rattle.annotator.specs.View.{Sights, marks_onto}
-use Rattle.part_roles.specs.Cut.{ItemRun, partner_behind, line_behind, IsCut, TellsParts}
+use Rattle.part_lines.specs.Cut.{partner_behind, line_behind}
+use Rattle.part_roles.specs.Cut.{ItemRun, IsCut, TellsParts}
 use Rattle.part_roles.proofs.Named.{are_named}
 use Rattle.part_roles.proofs.Alike.{AreAlike}
 use Rattle.part_roles.proofs.Before.{before_after, marks_before, last_before}

@@ -1,5 +1,5 @@
 -- A view of two parts, and what is asked of the cut between them.
-use Rattle.std.specs.Prelude.{◌≡◌, ℕ, ◌+◌, Bool, true, false, ◌&&◌, ◌||◌, not, if◌then◌else◌, IsTrue, IsFalse, Option, Some, None, List, [], ◌∷◌, ◌++◌, length, map}
+use Rattle.std.specs.Prelude.{◌≡◌, ℕ, Bool, true, false, ◌&&◌, ◌||◌, not, if◌then◌else◌, IsTrue, IsFalse, Option, List, [], ◌∷◌, ◌++◌, length, map}
 use Rattle.line_tokens.specs.declared.LineTok.{LineTok}
 use Rattle.line_tokens.specs.declared.line.ULine.{ULine}
 use Rattle.line_tokens.specs.Lines.{CutPlaces}
@@ -11,6 +11,7 @@ use Rattle.token_classes.specs.Viewed.{AreWithin, item_class, classes_of}
 use Rattle.unwrapped_lines.specs.Viewed.{item_began}
 use Rattle.annotator.specs.Held.{is_inner}
 use Rattle.annotator.specs.Tokens.{stands_apart, roles_of}
+use Rattle.part_lines.specs.Cut.{partner_behind, line_behind}
 
 -- ## Parts
 
@@ -19,14 +20,6 @@ pub record ItemRun : Type 0 where
   pub ids : List ℕ
   pub partners : List (Option ℕ)
   pub lines : List ULine
-
--- a partner, and a line, behind so many places
-abbrev pub partner_behind : ℕ → Option ℕ → Option ℕ
-partner_behind count None = None
-partner_behind count (Some place) = Some (count + place)
-
-abbrev pub line_behind : ℕ → ULine → ULine
-line_behind count line = record { first = count + line.first; last = count + line.last; level = line.level; kind = line.kind }
 
 -- the items of two parts, the second behind the first: no bracket of one has its partner in the other, and no line goes over the cut
 abbrev pub joined : ItemRun → ItemRun → ItemRun

@@ -1,0 +1,346 @@
+-- The line that begins at a place outside brackets is the same in a list of the file that ends behind a declaration and in a longer one.
+use Rattle.std.proofs.Common.{◌≡◌, ◌∙◌, ℕ, ◌+◌, ◌-◌, ◌<◌, ◌≤◌, nat_lt, nat_le, Bool, true, false, ◌&&◌, ◌||◌, Option, Some, None, List, length, refl, arith, sym, ap, subst, inl, inr, ◌⊎◌}
+use Rattle.std.proofs.lemmas.Bool.{and_parts, and_left, or_cases, cases_Bool, cases_lt, cond-true, cond-false}
+use Rattle.token_classes.specs.declared.class.TokenClass.{TokenClass}
+use Rattle.token_classes.specs.declared.class.TokenClass.TheVariants.{Nothing, OpenRound, OpenSquare, OpenBrace, CloseBrace, CapitalWord, PlainWord, Extern, Text, Semicolon as SemicolonClass}
+use Rattle.token_classes.specs.Classes.{is_word, is_plain, is_capital, is_opener, is_struct, is_union, is_enum, is_extern, is_open_round, is_open_brace, is_close_brace, is_semicolon, is_text}
+use Rattle.line_tokens.specs.declared.line.LineKind.TheVariants.{Simple}
+use Rattle.view_parts.specs.declared.walk.Before.{Before}
+use Rattle.view_parts.specs.declared.walk.Before.TheVariants.{Name, Parameters, Semicolon, Body, Other}
+use Rattle.view_parts.specs.Walk.{is_end}
+use Rattle.unwrapped_lines.specs.declared.token.CodeToken.{CodeToken}
+use Rattle.unwrapped_lines.specs.declared.braces.Braces.{Braces}
+use Rattle.unwrapped_lines.specs.declared.open.Head.{Head}
+use Rattle.unwrapped_lines.specs.declared.open.Head.TheVariants.{Tagged, Plain}
+use Rattle.unwrapped_lines.specs.declared.open.Open.{Open}
+use Rattle.unwrapped_lines.specs.declared.open.Start.{Start}
+use Rattle.unwrapped_lines.specs.declared.open.Start.TheVariants.{Fresh, Tail, Closing}
+use Rattle.unwrapped_lines.specs.declared.form.Next.{Next}
+use Rattle.unwrapped_lines.specs.declared.form.Next.TheVariants.{Ends, Goes, Waits, Opens}
+use Rattle.unwrapped_lines.specs.declared.form.Form.{Form}
+use Rattle.unwrapped_lines.specs.declared.form.Stop.{Stop}
+use Rattle.unwrapped_lines.specs.Forms.{class_at, seen, partner_in, behind_partner, partner_or, after_group, block_end, statement_stop, tag_before, began_at, behind_close, kind_or_close, tagged_kind, wraps_tagged, tagged_context, tagged_head, ends_macro, macro_end, other_form}
+use Rattle.part_lines.proofs.CodeCut.{behind_opener, assigned_behind, file_up_to}
+use Rattle.part_lines.proofs.TakesTokens.{either, choose_true, choose_false, lt_from, lt_true}
+use Rattle.part_lines.proofs.WayLemmas.{WayOn, EndsBeforeWord, step_of, at_most, goes_on, is_waiting, unwaited_way, partner_place, partner_longer, opener_code, other_code, semicolon_code}
+use Rattle.part_lines.proofs.StopsAlike.{StopAlike, stop_alike, semicolon_opens}
+
+-- ## Where a line begins
+
+-- behind this block the way goes on
+pub record IsClosing (tokens : List CodeToken) (end : ℕ) (b : Open) (at : ℕ) : Type 0 where
+  pub within_list : at < end
+  pub before : Before
+  pub told : Bool
+  pub way : WayOn tokens end (at + 1) before told
+  pub imply : b.assigned ≡ true → told ≡ true
+  pub heads : ((b.head ≡ Plain) × ((before ≡ Body) ⊎ (before ≡ Other))) ⊎ ((b.head ≡ Tagged) × (before ≡ Other))
+
+abbrev pub Stand : List CodeToken → ℕ → Start → ℕ → Type 0
+Stand tokens end Fresh at = (at ≡ end) ⊎ ((at < end) × ((told : Bool) × WayOn tokens end at Other told))
+Stand tokens end Tail at = ⊥
+Stand tokens end (Closing b) at = IsClosing tokens end b at
+
+-- what a line leaves
+abbrev pub Leaves : List CodeToken → ℕ → Form → Next → Type 0
+Leaves tokens end f Ends = Stand tokens end Fresh f.end
+Leaves tokens end f (Goes s) = ⊥
+Leaves tokens end f (Waits h) = ⊥
+Leaves tokens end f (Opens wrapped b) = IsClosing tokens end b b.end
+
+pub record IsAlike (tokens : List CodeToken) (end : ℕ) (f g : Form) : Type 0 where
+  pub same : f ≡ g
+  pub leaves : Leaves tokens end f f.next
+
+pub both : (Q : Form → Form → Type 0) (x y : Bool) (f g f' g' : Form) → x ≡ y → (x ≡ true → Q f f') → (x ≡ false → Q g g')
+    → Q (elim x as (λ _. Form) [ true ↦ f | false ↦ g ]) (elim y as (λ _. Form) [ true ↦ f' | false ↦ g' ])
+both Q true true f g f' g' e h k = h refl
+both Q false false f g f' g' e h k = k refl
+both Q true false f g f' g' e h k = cc
+both Q false true f g f' g' e h k = cc
+
+pub unlabelled_both : (Q : Form → Form → Type 0) (x y : Option Form) (g g' : Form) → x ≡ None → y ≡ None → Q g g'
+    → Q (elim x as (λ _. Form) [ Some f ↦ f | None ↦ g ]) (elim y as (λ _. Form) [ Some f ↦ f | None ↦ g' ])
+unlabelled_both Q None None g g' e f h = h
+unlabelled_both Q (Some x) y g g' e f h = cc
+unlabelled_both Q None (Some y) g g' e f h = cc
+
+pub fresh_at : (tokens : List CodeToken) (end at : ℕ) (before : Before) (told : Bool) → WayOn tokens end at before told → (is_waiting before ≡ true → is_opener (class_at tokens at) ≡ false) → Stand tokens end Fresh at
+fresh_at tokens end at before told way quiet = elim (at_most tokens end at before told way) [
+  | inl e ↦ inl e
+  | inr lt ↦ inr (lt, (told, unwaited_way tokens end at before told way lt quiet))
+]
+
+-- ## Classes
+
+abbrev pub IsOrdinary : TokenClass → Type 0
+IsOrdinary c = (is_opener c ≡ false) × ((is_semicolon c ≡ false) × (is_plain c ≡ false))
+
+pub extern_ordinary : (c : TokenClass) → is_extern c ≡ true → IsOrdinary c
+extern_ordinary Extern h = (refl, (refl, refl))
+extern_ordinary _ h = cc
+
+pub text_ordinary : (c : TokenClass) → is_text c ≡ true → IsOrdinary c
+text_ordinary Text h = (refl, (refl, refl))
+text_ordinary _ h = cc
+
+pub close_ordinary : (c : TokenClass) → is_close_brace c ≡ true → IsOrdinary c
+close_ordinary CloseBrace h = (refl, (refl, refl))
+close_ordinary _ h = cc
+
+plain_opens : (c : TokenClass) → is_plain c ≡ true → (is_opener c ≡ false) × (is_semicolon c ≡ false)
+plain_opens CapitalWord h = (refl, refl)
+plain_opens PlainWord h = (refl, refl)
+plain_opens _ h = cc
+
+round_opens : (c : TokenClass) → is_open_round c ≡ true → is_opener c ≡ true
+round_opens OpenRound h = refl
+round_opens _ h = cc
+
+word_opens : (c : TokenClass) → is_word c ≡ true → is_opener c ≡ false
+word_opens OpenRound h = cc
+word_opens OpenSquare h = cc
+word_opens OpenBrace h = cc
+word_opens _ h = refl
+
+pub word_text : (c : TokenClass) → is_word c ≡ true → is_text c ≡ false
+word_text Text h = cc
+word_text _ h = refl
+
+pub word_brace : (c : TokenClass) → is_word c ≡ true → is_open_brace c ≡ false
+word_brace OpenBrace h = cc
+word_brace _ h = refl
+
+pub word_semicolon : (c : TokenClass) → is_word c ≡ true → is_semicolon c ≡ false
+word_semicolon SemicolonClass h = cc
+word_semicolon _ h = refl
+
+-- ## What is seen
+
+lt_false : (a b : ℕ) → b ≤ a → nat_lt a b ≡ false
+lt_false a b h = grind arith
+
+seen_here : (tokens : List CodeToken) (end i : ℕ) → i < end → seen tokens end i ≡ class_at tokens i
+seen_here tokens end i h = choose_true (nat_lt i end) (class_at tokens i) Nothing (lt_true i end h)
+
+seen_past : (tokens : List CodeToken) (end i : ℕ) → end ≤ i → seen tokens end i ≡ Nothing
+seen_past tokens end i h = choose_false (nat_lt i end) (class_at tokens i) Nothing (lt_false i end h)
+
+-- what no word is, is seen in both lists or in none
+pub seen_alike : (fits : TokenClass → Bool) (tokens : List CodeToken) (end whole i : ℕ) → fits Nothing ≡ false → fits (class_at tokens end) ≡ false → end ≤ whole → i ≤ end
+    → fits (seen tokens end i) ≡ fits (seen tokens whole i)
+seen_alike fits tokens end whole i none word order le = elim (cases_lt i end) [
+  | inl lt ↦ ap fits (seen_here tokens end i lt ∙ sym (seen_here tokens whole i (omega arith)))
+  | inr ge ↦
+      let e : end ≡ i = omega arith in
+      ap fits (seen_past tokens end i ge) ∙ (none ∙ sym (either (λ (c : TokenClass). fits c ≡ false) (nat_lt i whole) (class_at tokens i) Nothing (λ _. subst (λ (x : ℕ). fits (class_at tokens x) ≡ false) e word) (λ _. none)))
+]
+
+pub seen_class : (fits : TokenClass → Bool) (tokens : List CodeToken) (end i : ℕ) → fits Nothing ≡ false → fits (seen tokens end i) ≡ true → (i < end) × (fits (class_at tokens i) ≡ true)
+seen_class fits tokens end i none =
+    either (λ (c : TokenClass). fits c ≡ true → (i < end) × (fits (class_at tokens i) ≡ true)) (nat_lt i end) (class_at tokens i) Nothing (λ e h. (lt_from i end e, h)) (λ e h. cc)
+
+-- ## Steps
+
+pub ordinary_on : (tokens : List CodeToken) (end at : ℕ) (before : Before) (told : Bool) → WayOn tokens end at before told → at < end → IsOrdinary (class_at tokens at) → (x : Bool) × WayOn tokens end (at + 1) Other x
+ordinary_on tokens end at before told way lt ordinary =
+    let c = class_at tokens at in
+    let s = step_of tokens end at before told way lt in
+    elim s.passed [
+      | inl group ↦ absurd (let e : is_opener c ≡ true = group.0 in let f : is_opener c ≡ false = ordinary.0 in cc)
+      | inr one ↦ (assigned_behind told c, subst (λ (b : Before). WayOn tokens end (at + 1) b (assigned_behind told c)) (other_code told before c ordinary.0 ordinary.1.0 ∙ cond-false (is_plain c) Name Other ordinary.1.1) one.1)
+    ]
+
+pub semicolon_on : (tokens : List CodeToken) (end at : ℕ) (before : Before) (told : Bool) → WayOn tokens end at before told → at < end → is_semicolon (class_at tokens at) ≡ true → (x : Bool) × WayOn tokens end (at + 1) Semicolon x
+semicolon_on tokens end at before told way lt semi =
+    let c = class_at tokens at in
+    let s = step_of tokens end at before told way lt in
+    elim s.passed [
+      | inl group ↦ absurd (let e : is_opener c ≡ true = group.0 in let f : is_opener c ≡ false = semicolon_opens c semi in cc)
+      | inr one ↦ (assigned_behind told c, subst (λ (b : Before). WayOn tokens end (at + 1) b (assigned_behind told c)) (semicolon_code told before c (semicolon_opens c semi) semi) one.1)
+    ]
+
+-- a group behind which nothing waits
+pub record Group (tokens : List CodeToken) (end at : ℕ) (before : Before) : Type 0 where
+  pub partner : ℕ
+  pub found : partner_in tokens end at ≡ Some partner
+  pub told : Bool
+  pub way : WayOn tokens end (partner + 1) before told
+
+pub group_on : (tokens : List CodeToken) (end at : ℕ) (before : Before) (told : Bool) → WayOn tokens end at before told → at < end → is_opener (class_at tokens at) ≡ true → Group tokens end at (behind_opener told before (class_at tokens at))
+group_on tokens end at before told way lt opens =
+    let c = class_at tokens at in
+    let s = step_of tokens end at before told way lt in
+    elim s.passed [
+      | inl group ↦ record { partner = group.1.0; found = group.1.1.0; told = assigned_behind told c; way = subst (λ (b : Before). WayOn tokens end (group.1.0 + 1) b (assigned_behind told c)) (opener_code told before c opens) group.1.1.1 }
+      | inr one ↦ absurd (let e : is_opener c ≡ false = one.0 in cc)
+    ]
+
+block_is : (tokens : List CodeToken) (end i p : ℕ) → partner_in tokens end i ≡ Some p → block_end tokens end i ≡ p
+block_is tokens end i p e = ap (partner_or end) e
+
+pub blocks_alike : (tokens : List CodeToken) (end whole i p : ℕ) → end ≤ whole → partner_in tokens end i ≡ Some p → block_end tokens end i ≡ block_end tokens whole i
+blocks_alike tokens end whole i p order e = block_is tokens end i p e ∙ sym (block_is tokens whole i p (partner_longer tokens end whole i p order e))
+
+-- a block is closed, and the way goes on behind it
+pub closing : (tokens : List CodeToken) (end : ℕ) (b : Open) (i p : ℕ) (before : Before) (told : Bool) → b.end ≡ block_end tokens end i → partner_in tokens end i ≡ Some p → WayOn tokens end (p + 1) before told
+    → (b.assigned ≡ true → told ≡ true) → ((b.head ≡ Plain) × ((before ≡ Body) ⊎ (before ≡ Other))) ⊎ ((b.head ≡ Tagged) × (before ≡ Other))
+    → IsClosing tokens end b b.end
+closing tokens end b i p before told e found way imply heads =
+    let is : b.end ≡ p = e ∙ block_is tokens end i p found in
+    let place = partner_place tokens end i p found in
+    let below : p < end = place.1 in
+    record { within_list = (omega arith); before = before; told = told; way = subst (λ (x : ℕ). WayOn tokens end (x + 1) before told) (sym is) way; imply = imply; heads = heads }
+
+-- ## Statements
+
+abbrev opened_line : Braces → Bool → ℕ → TokenClass → Stop → ℕ → Form
+opened_line braces closes level tag s end = record {
+  kind = kind_or_close closes (tagged_kind tag);
+  level = level;
+  end = s.at;
+  next = Opens (wraps_tagged braces tag) (record { block = true; context = tagged_context tag; level = level + 1; case_level = level + 1; end = end; head = tagged_head tag; head_level = level; assigned = s.assigned });
+}
+
+abbrev stopped : Braces → List CodeToken → ℕ → Bool → ℕ → ℕ → Stop → Form
+stopped braces tokens end closes level from s =
+    elim s.opens [
+      | true ↦ opened_line braces closes level (tag_before (s.at - from) tokens from s.at Nothing) s (block_end tokens end s.at)
+      | false ↦ record { kind = kind_or_close closes Simple; level = level; end = s.at; next = Ends }
+    ]
+
+heads_of : (tag : TokenClass) (before : Before) → before ≡ Other → ((tagged_head tag ≡ Plain) × ((before ≡ Body) ⊎ (before ≡ Other))) ⊎ ((tagged_head tag ≡ Tagged) × (before ≡ Other))
+heads_of tag before e =
+    either (λ (h : Head). ((h ≡ Plain) × ((before ≡ Body) ⊎ (before ≡ Other))) ⊎ ((h ≡ Tagged) × (before ≡ Other))) (is_struct tag || (is_union tag || is_enum tag)) Tagged Plain
+    (λ _. inr (refl, e)) (λ _. inl (refl, inr e))
+
+stopped_alike : (braces : Braces) (tokens : List CodeToken) (end whole : ℕ) (closes : Bool) (level from : ℕ) (s t : Stop) → EndsBeforeWord tokens end whole → StopAlike tokens end from s t
+    → IsAlike tokens end (stopped braces tokens end closes level from s) (stopped braces tokens whole closes level from t)
+stopped_alike braces tokens end whole closes level from s t ends stop =
+    let Q : Form → Form → Type 0 = IsAlike tokens end in
+    let tag = tag_before (s.at - from) tokens from s.at Nothing in
+    subst (λ (x : Stop). IsAlike tokens end (stopped braces tokens end closes level from s) (stopped braces tokens whole closes level from x)) stop.same
+    (both Q s.opens s.opens (opened_line braces closes level tag s (block_end tokens end s.at)) (record { kind = kind_or_close closes Simple; level = level; end = s.at; next = Ends })
+    (opened_line braces closes level tag s (block_end tokens whole s.at)) (record { kind = kind_or_close closes Simple; level = level; end = s.at; next = Ends }) refl
+    (λ e.
+    let o = stop.opens e in
+    record {
+      same = ap (opened_line braces closes level tag s) (blocks_alike tokens end whole s.at o.partner ends.order o.found);
+      leaves = closing tokens end _ s.at o.partner o.before o.told refl o.found o.way o.imply (elim o.behind_it [
+        | inl other ↦ heads_of tag o.before other
+        | inr body ↦ inl (ap tagged_head (body.1 (s.at - from) (omega arith)), inl body.0)
+      ]);
+    })
+    (λ e. record { same = refl; leaves = fresh_at tokens end s.at Semicolon false (stop.ends e) (λ w. cc) }))
+
+pub other_alike : (braces : Braces) (tokens : List CodeToken) (end whole : ℕ) (closes : Bool) (level at : ℕ) (told assigned : Bool) → EndsBeforeWord tokens end whole → WayOn tokens end (behind_close closes at) Other told
+    → (assigned ≡ true → told ≡ true)
+    → IsAlike tokens end (other_form braces tokens (file_up_to end) closes level at assigned) (other_form braces tokens (file_up_to whole) closes level at assigned)
+other_alike braces tokens end whole closes level at told assigned ends way imply =
+    let from = behind_close closes at in
+    stopped_alike braces tokens end whole closes level from (statement_stop (end - from) tokens end from assigned) (statement_stop (whole - from) tokens whole from assigned) ends
+    (stop_alike way.0 tokens end whole from from Other told assigned (end - from) (whole - from) ends way.1 refl imply tt (omega arith) (omega arith) (omega arith))
+
+-- ## Lines of macros
+
+record Macro (tokens : List CodeToken) (end whole at : ℕ) : Type 0 where
+  place : ℕ
+  here : after_group tokens end (at + 1) ≡ place
+  there : after_group tokens whole (at + 1) ≡ place
+  before : Before
+  told : Bool
+  way : WayOn tokens end place before told
+  open_end : is_end before ≡ false
+
+group_is : (tokens : List CodeToken) (end i p : ℕ) → i < end → is_open_round (class_at tokens i) ≡ true → partner_in tokens end i ≡ Some p → after_group tokens end i ≡ p + 1
+group_is tokens end i p lt round e =
+    choose_true (is_open_round (seen tokens end i)) (behind_partner i (partner_in tokens end i)) i (ap is_open_round (seen_here tokens end i lt) ∙ round) ∙ ap (behind_partner i) e
+
+no_group_is : (tokens : List CodeToken) (end i : ℕ) → i < end → is_open_round (class_at tokens i) ≡ false → after_group tokens end i ≡ i
+no_group_is tokens end i lt round =
+    choose_false (is_open_round (seen tokens end i)) (behind_partner i (partner_in tokens end i)) i (ap is_open_round (seen_here tokens end i lt) ∙ round)
+
+macro_of : (tokens : List CodeToken) (end whole at : ℕ) (told : Bool) → EndsBeforeWord tokens end whole → WayOn tokens end at Other told → at < end → is_plain (class_at tokens at) ≡ true → Macro tokens end whole at
+macro_of tokens end whole at told ends way lt plain =
+    let c = class_at tokens at in
+    let d = class_at tokens (at + 1) in
+    let opens = plain_opens c plain in
+    let order : end ≤ whole = ends.order in
+    let s = step_of tokens end at Other told way lt in
+    let named : WayOn tokens end (at + 1) Name (assigned_behind told c) = elim s.passed [
+      | inl group ↦ absurd (let e : is_opener c ≡ true = group.0 in let f : is_opener c ≡ false = opens.0 in cc)
+      | inr one ↦ subst (λ (b : Before). WayOn tokens end (at + 1) b (assigned_behind told c)) (other_code told Other c opens.0 opens.1 ∙ cond-true (is_plain c) Name Other plain) one.1
+    ] in
+    let next : at + 1 < end = goes_on tokens end (at + 1) Name (assigned_behind told c) named refl in
+    elim (cases_Bool (is_open_round d)) [
+      | inl round ↦
+          let g = group_on tokens end (at + 1) Name (assigned_behind told c) named next (round_opens d round) in
+          record {
+            place = g.partner + 1;
+            here = group_is tokens end (at + 1) g.partner next round g.found;
+            there = group_is tokens whole (at + 1) g.partner (omega arith) round (partner_longer tokens end whole (at + 1) g.partner order g.found);
+            before = Parameters;
+            told = g.told;
+            way = subst (λ (b : Before). WayOn tokens end (g.partner + 1) b g.told) (cond-true (is_open_round d) Parameters Other round) g.way;
+            open_end = refl;
+          }
+      | inr round ↦ record {
+        place = at + 1;
+        here = no_group_is tokens end (at + 1) next round;
+        there = no_group_is tokens whole (at + 1) (omega arith) round;
+        before = Name;
+        told = assigned_behind told c;
+        way = named;
+        open_end = refl;
+      }
+    ]
+
+le_from : (a b : ℕ) → nat_le a b ≡ true → a ≤ b
+le_from a b h = grind arith
+
+-- behind a macro's line no group follows
+macro_quiet : (tokens : List CodeToken) (i : ℕ) → i < length tokens → ends_macro tokens i ≡ true → is_opener (class_at tokens i) ≡ false
+macro_quiet tokens i lt e = elim (or_cases (nat_le (length tokens) i) (began_at tokens i && (is_word (class_at tokens i) || is_close_brace (class_at tokens i))) e) [
+  | inl out ↦ absurd (let q : length tokens ≤ i = le_from (length tokens) i out in omega arith)
+  | inr in_list ↦ elim (or_cases (is_word (class_at tokens i)) (is_close_brace (class_at tokens i)) (and_parts (began_at tokens i) (is_word (class_at tokens i) || is_close_brace (class_at tokens i)) in_list).1) [
+    | inl word ↦ word_opens (class_at tokens i) word
+    | inr close ↦ (close_ordinary (class_at tokens i) close).0
+  ]
+]
+
+abbrev macro_at : List CodeToken → ℕ → ℕ → ℕ
+macro_at tokens at g = elim (is_plain (class_at tokens at) && ((nat_lt (at + 1) g || is_capital (class_at tokens at)) && ends_macro tokens g)) [ true ↦ g | false ↦ at ]
+
+macro_none : (tokens : List CodeToken) (end at : ℕ) → is_plain (class_at tokens at) ≡ false → macro_end tokens end at ≡ at
+macro_none tokens end at plain =
+    let g = after_group tokens end (at + 1) in
+    choose_false (is_plain (class_at tokens at) && ((nat_lt (at + 1) g || is_capital (class_at tokens at)) && ends_macro tokens g)) g at (and_left (is_plain (class_at tokens at)) ((nat_lt (at + 1) g || is_capital (class_at tokens at)) && ends_macro tokens g) plain)
+
+macro_leaves : (tokens : List CodeToken) (end whole at : ℕ) → EndsBeforeWord tokens end whole → (m : Macro tokens end whole at) → nat_lt at (macro_at tokens at m.place) ≡ true → Stand tokens end Fresh (macro_at tokens at m.place)
+macro_leaves tokens end whole at ends m =
+    let g = m.place in
+    let P : ℕ → Type 0 = λ x. nat_lt at x ≡ true → Stand tokens end Fresh x in
+    let lt : g < end = goes_on tokens end g m.before m.told m.way m.open_end in
+    let order : end ≤ whole = ends.order in
+    let all : whole ≡ length tokens = ends.all in
+    either P (is_plain (class_at tokens at) && ((nat_lt (at + 1) g || is_capital (class_at tokens at)) && ends_macro tokens g)) g at
+    (λ e _.
+    let k : ends_macro tokens g ≡ true = (and_parts (nat_lt (at + 1) g || is_capital (class_at tokens at)) (ends_macro tokens g) (and_parts (is_plain (class_at tokens at)) ((nat_lt (at + 1) g || is_capital (class_at tokens at)) && ends_macro tokens g) e).1).1 in
+    fresh_at tokens end g m.before m.told m.way (λ _. macro_quiet tokens g (omega arith) k))
+    (λ _ h. absurd (let q : at < at = lt_from at at h in omega arith))
+
+-- the line of a macro is the same, and where there is one, it leaves the way
+pub macro_alike : (tokens : List CodeToken) (end whole at : ℕ) (told : Bool) → EndsBeforeWord tokens end whole → WayOn tokens end at Other told → at < end
+    → (macro_end tokens end at ≡ macro_end tokens whole at) × (nat_lt at (macro_end tokens end at) ≡ true → Stand tokens end Fresh (macro_end tokens end at))
+macro_alike tokens end whole at told ends way lt = elim (cases_Bool (is_plain (class_at tokens at))) [
+  | inr plain ↦ (
+    macro_none tokens end at plain ∙ sym (macro_none tokens whole at plain),
+    λ h. absurd (let q : at < macro_end tokens end at = lt_from at (macro_end tokens end at) h in let none : macro_end tokens end at ≡ at = macro_none tokens end at plain in omega arith),
+  )
+  | inl plain ↦
+      let m = macro_of tokens end whole at told ends way lt plain in
+      let here : macro_end tokens end at ≡ macro_at tokens at m.place = ap (macro_at tokens at) m.here in (
+        here ∙ sym (ap (macro_at tokens at) m.there),
+        subst (λ (x : ℕ). nat_lt at x ≡ true → Stand tokens end Fresh x) (sym here) (macro_leaves tokens end whole at ends m),
+      )
+]

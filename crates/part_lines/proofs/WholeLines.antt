@@ -1,0 +1,199 @@
+-- The lines of a view are those of its first part by itself, and then those of what follows by itself.
+use Rattle.std.proofs.Common.{◌≡◌, ◌∙◌, inl, inr, ℕ, zero, suc, ◌+◌, ◌<◌, ◌≤◌, true, false, Option, Some, None, List, [], ◌∷◌, ◌++◌, length, map, length-append, refl, sym, ap, arith}
+use Rattle.std.proofs.lemmas.List.{append-nil, length-map}
+use Rattle.style_table.specs.declared.style.Style.{Style}
+use Rattle.token_arena.specs.Gaps.{Contents}
+use Rattle.token_classes.specs.Viewed.{item_class, classes_of}
+use Rattle.unwrapped_lines.specs.declared.token.CodeToken.{CodeToken}
+use Rattle.unwrapped_lines.specs.declared.line.Line.{Line}
+use Rattle.unwrapped_lines.specs.declared.braces.Braces.{Braces}
+use Rattle.unwrapped_lines.specs.declared.open.Open.{Open}
+use Rattle.unwrapped_lines.specs.declared.open.Start.TheVariants.{Fresh}
+use Rattle.unwrapped_lines.specs.declared.part.Part.{Part}
+use Rattle.unwrapped_lines.specs.Wrapping.{braces_of}
+use Rattle.unwrapped_lines.specs.Viewed.{code_places_from, parts_of, token_at}
+use Rattle.unwrapped_lines.specs.Tree.{lines_from, end_level_from, lines_of, end_level}
+use Rattle.unwrapped_lines.specs.Comments.{Tree, begins_from, no_marks}
+use Rattle.unwrapped_lines.specs.Lines.{lines_between, tree_of}
+use Rattle.unwrapped_lines.specs.Stack.{IsCut}
+use Rattle.unwrapped_lines.proofs.CutLemmas.{parts_count, cut_view}
+use Rattle.part_lines.specs.Cut.{IsFirstPart, partner_behind, partners_in, PartnersStay, LinesStay}
+use Rattle.part_lines.proofs.CodeCut.{token_behind, code_line_behind, BeginsWord, IsCutBehind, code_of, file_up_to, EndUpTo, Windows, AreLinesCut, CutsLines, IsCodeCut, CutsCode}
+use Rattle.part_lines.proofs.CodeOfBoth.{places_count, code_of_both}
+use Rattle.part_lines.proofs.FirstPartEnds.{EndsWhole, first_part_ends}
+use Rattle.part_lines.proofs.PartsOfBoth.{tokens_in, ends_token, tokens_so, ends_so, parts_of_both}
+use Rattle.part_lines.proofs.BeginsOfBoth.{FirstAt, AreBoth, begins_of_both}
+use Rattle.part_lines.proofs.LinesBetween.{begin_behind, lines_of_both}
+use Rattle.part_lines.proofs.LinesCut.{lines_cut}
+
+-- ## Behind no token
+
+partner_here : (partner : Option ℕ) → partner_behind 0 partner ≡ partner
+partner_here None = refl
+partner_here (Some place) = (let same : 0 + place ≡ place = omega arith in ap (λ (k : ℕ). Some k) same)
+
+tokens_here : (tokens : List CodeToken) → map (token_behind 0) tokens ≡ tokens
+tokens_here [] = refl
+tokens_here (token ∷ tokens) =
+    ap (λ (p : Option ℕ). record { class = token.class; began = token.began; touched = token.touched; partner = p } ∷ map (token_behind 0) tokens) (partner_here token.partner)
+    ∙ ap (λ (ts : List CodeToken). token ∷ ts) (tokens_here tokens)
+
+code_lines_here : (lines : List Line) → map (code_line_behind 0) lines ≡ lines
+code_lines_here [] = refl
+code_lines_here (line ∷ lines) =
+    let first : 0 + line.first ≡ line.first = omega arith in
+    let end : 0 + line.end ≡ line.end = omega arith in
+    ap (λ (a : ℕ). record { first = a; end = 0 + line.end; level = line.level; kind = line.kind; list_level = line.list_level } ∷ map (code_line_behind 0) lines) first
+    ∙ (ap (λ (a : ℕ). record { first = line.first; end = a; level = line.level; kind = line.kind; list_level = line.list_level } ∷ map (code_line_behind 0) lines) end
+    ∙ ap (λ (ls : List Line). line ∷ ls) (code_lines_here lines))
+
+-- ## The tokens of both
+
+begins_there : (count : ℕ) (tokens : List CodeToken) → BeginsWord tokens → BeginsWord (map (token_behind count) tokens)
+begins_there count [] begins = begins
+begins_there count (token ∷ tokens) begins = begins
+
+one_up : (end : ℕ) (list : Open) → list.end ≤ end → EndUpTo end (list ∷ [])
+one_up end list low zero d within = low
+one_up end list low (suc k) d within = absurd (omega (arith, within))
+
+-- nothing stands before them
+none_behind : IsCutBehind []
+none_behind = record { list = refl; closes = refl }
+
+first_lines : Windows → (braces : Braces) (earlier later : List CodeToken) → BeginsWord later → lines_from (length earlier) braces (earlier ++ later) (file_up_to (length earlier) ∷ []) Fresh 0 ≡ lines_of braces earlier
+first_lines windows braces earlier later begins =
+    let n : ℕ = length earlier in
+    let window = windows n braces [] earlier later (file_up_to n ∷ []) Fresh 0 none_behind (inr begins) (one_up n (file_up_to n) (omega arith)) tt in
+    let end : n ≡ 0 + n = omega arith in
+    ap (λ (ts : List CodeToken). lines_from n braces (ts ++ later) (file_up_to n ∷ []) Fresh 0) (sym (tokens_here earlier))
+    ∙ (ap (λ (e : ℕ). lines_from n braces (map (token_behind 0) earlier ++ later) (file_up_to e ∷ []) Fresh 0) end
+    ∙ (window.lines ∙ code_lines_here (lines_of braces earlier)))
+
+second_lines : Windows → (braces : Braces) (earlier later : List CodeToken) → IsCutBehind earlier
+    → lines_from (length (map (token_behind (length earlier)) later)) braces (earlier ++ map (token_behind (length earlier)) later) (file_up_to (length (earlier ++ map (token_behind (length earlier)) later)) ∷ []) Fresh (length earlier)
+    ≡ map (code_line_behind (length earlier)) (lines_of braces later)
+second_lines windows braces earlier later behind =
+    let n : ℕ = length earlier in
+    let there : List CodeToken = map (token_behind (length earlier)) later in
+    let count : length there ≡ length later = length-map later (token_behind (length earlier)) in
+    let end : length (earlier ++ there) ≡ n + length later = omega (arith, length-append earlier there, count) in
+    let at : n ≡ n + 0 = omega arith in
+    let window = windows (length later) braces earlier later [] (file_up_to (length later) ∷ []) Fresh 0 behind (inl refl) (one_up (length later) (file_up_to (length later)) (omega arith)) tt in
+    ap (λ (k : ℕ). lines_from k braces (earlier ++ there) (file_up_to (length (earlier ++ there)) ∷ []) Fresh n) count
+    ∙ (ap (λ (k : ℕ). lines_from (length later) braces (earlier ++ there) (file_up_to k ∷ []) Fresh n) end
+    ∙ (ap (λ (ts : List CodeToken). lines_from (length later) braces (earlier ++ ts) (file_up_to (n + length later) ∷ []) Fresh n) (sym (append-nil there))
+    ∙ (ap (λ (k : ℕ). lines_from (length later) braces (earlier ++ (there ++ [])) (file_up_to (n + length later) ∷ []) Fresh k) at
+    ∙ window.lines)))
+
+second_level : Windows → (braces : Braces) (earlier later : List CodeToken) → IsCutBehind earlier
+    → end_level_from (length (map (token_behind (length earlier)) later) + 1) braces (earlier ++ map (token_behind (length earlier)) later) (file_up_to (length (earlier ++ map (token_behind (length earlier)) later)) ∷ []) Fresh (length earlier)
+    ≡ end_level braces later
+second_level windows braces earlier later behind =
+    let n : ℕ = length earlier in
+    let there : List CodeToken = map (token_behind (length earlier)) later in
+    let count : length there ≡ length later = length-map later (token_behind (length earlier)) in
+    let end : length (earlier ++ there) ≡ n + length later = omega (arith, length-append earlier there, count) in
+    let at : n ≡ n + 0 = omega arith in
+    let window = windows (length later + 1) braces earlier later [] (file_up_to (length later) ∷ []) Fresh 0 behind (inl refl) (one_up (length later) (file_up_to (length later)) (omega arith)) tt in
+    ap (λ (k : ℕ). end_level_from (k + 1) braces (earlier ++ there) (file_up_to (length (earlier ++ there)) ∷ []) Fresh n) count
+    ∙ (ap (λ (k : ℕ). end_level_from (length later + 1) braces (earlier ++ there) (file_up_to k ∷ []) Fresh n) end
+    ∙ (ap (λ (ts : List CodeToken). end_level_from (length later + 1) braces (earlier ++ ts) (file_up_to (n + length later) ∷ []) Fresh n) (sym (append-nil there))
+    ∙ (ap (λ (k : ℕ). end_level_from (length later + 1) braces (earlier ++ (there ++ [])) (file_up_to (n + length later) ∷ []) Fresh k) at
+    ∙ window.level)))
+
+-- ## The trees
+
+starts : (at total : ℕ) (lines : List Line) → IsCut at total lines → FirstAt at lines
+starts at total [] cut = tt
+starts at total (line ∷ lines) cut = cut.0
+
+trees_of_both : Windows → CutsLines → CutsCode → PartnersStay → (style : Style) (arena : Contents) (earlier later : List ℕ) → IsFirstPart arena earlier later
+    → AreBoth (tree_of style arena (earlier ++ later) (partners_in arena (earlier ++ later))) (tree_of style arena earlier (partners_in arena earlier)) (tree_of style arena later (partners_in arena later))
+trees_of_both windows cuts_lines cuts_code partners_stay style arena earlier later first =
+    record {
+      follows = record {
+        lines = ap (lines_of braces) tokens ∙ (cut.lines ∙ (ap (λ (ls : List Line). ls ++ rest) (first_lines windows braces before there begins) ∙ ap (λ (ls : List Line). lines_of braces before ++ ls) (second_lines windows braces before behind code.behind)));
+        total = ap length tokens ∙ omega (arith, length-append before there, length-map behind (token_behind (length before)));
+        level = ap (end_level braces) tokens ∙ (cut.level ∙ second_level windows braces before behind code.behind);
+      };
+      cut = lines_cut braces before;
+      begins = starts 0 (length behind) (lines_of braces behind) (lines_cut braces behind);
+    }
+  where
+    braces : Braces
+    braces = braces_of style
+
+    before : List CodeToken
+    before = code_of arena earlier
+
+    behind : List CodeToken
+    behind = code_of arena later
+
+    there : List CodeToken
+    there = map (token_behind (length (code_of arena earlier))) (code_of arena later)
+
+    code : IsCodeCut arena earlier later
+    code = cuts_code arena earlier later first
+
+    rest : List Line
+    rest = lines_from (length there) braces (before ++ there) (file_up_to (length (before ++ there)) ∷ []) Fresh (length before)
+
+    begins : BeginsWord there
+    begins = begins_there (length before) behind code.before
+
+    tokens : code_of arena (earlier ++ later) ≡ before ++ there
+    tokens = code_of_both arena earlier later (partners_in arena (earlier ++ later)) (partners_stay arena earlier later first)
+
+    cut : AreLinesCut braces before there
+    cut = cuts_lines braces before there code.passed code.paired begins
+
+-- ## The law
+
+some_items : (arena : Contents) (ids : List ℕ) → BeginsWord (code_of arena ids) → 0 < length ids
+some_items arena [] begins = absurd begins
+some_items arena (id ∷ ids) begins = omega arith
+
+pub lines_stay_where : Windows → CutsLines → CutsCode → PartnersStay → LinesStay
+lines_stay_where windows cuts_lines cuts_code partners_stay style arena earlier later first =
+    ap (λ (k : ℕ). lines_between k (begins_from whole (parts_of arena (earlier ++ later) (classes_of arena (earlier ++ later))) 0 no_marks)) (length-append earlier later)
+    ∙ (ap (lines_between (length earlier + length later)) begins
+    ∙ lines_of_both (length earlier) (length later) (begins_from tree parts 0 no_marks) (begins_from rest more 0 no_marks) some (cut_view style arena later (partners_in arena later) (lines_cut (braces_of style) (code_of arena later))))
+  where
+    whole : Tree
+    whole = tree_of style arena (earlier ++ later) (partners_in arena (earlier ++ later))
+
+    tree : Tree
+    tree = tree_of style arena earlier (partners_in arena earlier)
+
+    rest : Tree
+    rest = tree_of style arena later (partners_in arena later)
+
+    parts : List Part
+    parts = parts_of arena earlier (classes_of arena earlier)
+
+    more : List Part
+    more = parts_of arena later (classes_of arena later)
+
+    ends : EndsWhole arena earlier later
+    ends = first_part_ends arena earlier later first
+
+    some : 0 < length later
+    some = some_items arena later (cuts_code arena earlier later first).before
+
+    count : length parts ≡ length earlier
+    count = parts_count arena earlier 0 false (classes_of arena earlier) ∙ length-map earlier (item_class arena)
+
+    tokens : tokens_in parts ≡ tree.total
+    tokens =
+        tokens_so arena earlier 0 false (classes_of arena earlier)
+        ∙ sym (length-map (code_places_from 0 (classes_of arena earlier)) (token_at arena earlier (classes_of arena earlier) (partners_in arena earlier)) ∙ places_count 0 (classes_of arena earlier))
+
+    last : ends_token false parts ≡ true
+    last = ends_so arena earlier earlier 0 false false ∙ ends.ends
+
+    begins : begins_from whole (parts_of arena (earlier ++ later) (classes_of arena (earlier ++ later))) 0 no_marks ≡ begins_from tree parts 0 no_marks ++ map (begin_behind (length earlier)) (begins_from rest more 0 no_marks)
+    begins =
+        ap (λ (ps : List Part). begins_from whole ps 0 no_marks) (parts_of_both arena earlier later ends.ends ends.begin)
+        ∙ (begins_of_both whole tree rest parts more (trees_of_both windows cuts_lines cuts_code partners_stay style arena earlier later first) tokens last
+        ∙ ap (λ (k : ℕ). begins_from tree parts 0 no_marks ++ map (begin_behind k) (begins_from rest more 0 no_marks)) count)
