@@ -1,7 +1,7 @@
 -- The lines of a file, and the level at its end, are cut where its first part ends.
 use Rattle.std.proofs.Common.{◌≡◌, ◌∙◌, ℕ, zero, suc, ◌+◌, ◌<◌, ◌≤◌, true, false, Option, Some, List, [], ◌∷◌, ◌++◌, length, append_assoc, length-append, refl, arith, sym, ap, subst, inl, inr, ◌⊎◌}
 use Rattle.std.specs.Prelude.{slice_get}
-use Rattle.std.proofs.lemmas.Bool.{and_parts}
+use Rattle.std.proofs.lemmas.Bool.{and_parts, lt-ltb}
 use Rattle.token_classes.specs.Classes.{is_word, is_open_round, is_close_round}
 use Rattle.view_parts.specs.declared.walk.Before.TheVariants.{Between}
 use Rattle.unwrapped_lines.specs.declared.token.CodeToken.{CodeToken}
@@ -14,13 +14,13 @@ use Rattle.unwrapped_lines.specs.declared.form.Next.{Next}
 use Rattle.unwrapped_lines.specs.declared.form.Next.TheVariants.{Ends, Goes, Waits, Opens}
 use Rattle.unwrapped_lines.specs.Forms.{class_of, class_at, partner_of, partner_in, within, form_of}
 use Rattle.unwrapped_lines.specs.Tree.{lines_from, end_level_from, line_of, head_lines}
-use Rattle.unwrapped_lines.proofs.StackLemmas.{lt_true, from_end, from_ends, from_opens}
+use Rattle.unwrapped_lines.proofs.StackLemmas.{from_end, from_ends, from_opens}
 use Rattle.part_lines.proofs.CodeCut.{ArePaired, BeginsWord, CutsLines, file_up_to}
-use Rattle.part_lines.proofs.TakesTokens.{Takes, form_takes}
 use Rattle.part_lines.proofs.EnoughTurns.{same_lines, same_level, level_ends, level_past}
 use Rattle.part_lines.proofs.WayLemmas.{EndsBeforeWord, get_earlier, get_first, way_longer, partner_place}
 use Rattle.part_lines.proofs.FormsAlike.{Stand, Leaves, fresh_at}
 use Rattle.part_lines.proofs.StatementsAlike.{form_alike}
+use Rattle.part_lines.proofs.FormsReach.{Reaches, form_reaches}
 
 -- the list of the file with this end, alone
 abbrev up_to : ℕ → List Open
@@ -71,18 +71,18 @@ lines_cut (suc n) (suc m) r braces tokens end whole start at ends stand few many
       let order : end ≤ whole = ends.order in
       let f = form_of braces tokens o start at in
       let alike = form_alike braces tokens end whole start at ends lt stand in
-      let here = lt_true at end lt in
-      let there = lt_true at whole (omega arith) in
+      let here = lt-ltb at end lt in
+      let there = lt-ltb at whole (omega arith) in
       let rest : List Line = lines_from r braces tokens (up_to whole) Fresh end in
-      elim f.next as (λ (x : Next). f.next ≡ x → Takes at o f x → Leaves tokens end f x → lines_from (suc m) braces tokens (up_to whole) start at ≡ lines_from (suc n) braces tokens (up_to end) start at ++ rest) [
-        | Ends ↦ λ q t l.
+      elim f.next as (λ (x : Next). f.next ≡ x → Reaches at o.end f x → Leaves tokens end f x → lines_from (suc m) braces tokens (up_to whole) start at ≡ lines_from (suc n) braces tokens (up_to end) start at ++ rest) [
+        | Ends ↦ λ q t l. let t0 : at < f.end = t.0 in
             from_ends m braces tokens [] p start at f there (sym alike.same) q
             ∙ (ap (λ (ls : List Line). line_of o start at f ∷ ls) (lines_cut n m r braces tokens end whole Fresh f.end ends l (omega arith) (omega arith) some)
             ∙ ap (λ (ls : List Line). ls ++ rest) (sym (from_ends n braces tokens [] o start at f here refl q)))
         | Goes s ↦ λ q t l. absurd l
         | Waits h ↦ λ q t l. absurd l
         | Opens w b ↦ λ q t l.
-            let t0 : at ≤ f.end = t.0 in let t1 : f.end < b.end = t.1.0 in let t2 : b.end ≤ end = t.1.1 in
+            let t0 : at ≤ f.end = t.begins in let t1 : f.end < b.end = t.goes_on in let t2 : b.end ≤ end = t.ends in
             let head : List Line = head_lines o start at f w in
             let inner : List Line = lines_from n braces tokens (b ∷ []) Fresh (f.end + 1) in
             let later : List Line = lines_from n braces tokens (up_to end) (Closing b) b.end in
@@ -91,7 +91,7 @@ lines_cut (suc n) (suc m) r braces tokens end whole start at ends stand few many
             ∙ (ap (λ (ls : List Line). head ++ inner ++ ls) (lines_cut n m r braces tokens end whole (Closing b) b.end ends l (omega arith) (omega arith) some)
             ∙ (sym (append_assoc (head ++ inner) later rest)
             ∙ ap (λ (ls : List Line). ls ++ rest) (sym (from_opens n braces tokens [] o start at f w b here refl q)))))
-      ] refl (form_takes braces tokens o start at lt) alike.leaves
+      ] refl (form_reaches braces tokens o start at lt) alike.leaves
 ]
 
 -- ## The level at the end
@@ -116,19 +116,19 @@ level_cut (suc m) r braces tokens end whole start at ends stand many some = elim
       let order : end ≤ whole = ends.order in
       let f = form_of braces tokens o start at in
       let alike = form_alike braces tokens end whole start at ends lt stand in
-      let there = lt_true at whole (omega arith) in
-      elim f.next as (λ (x : Next). f.next ≡ x → Takes at o f x → Leaves tokens end f x → end_level_from (suc m) braces tokens (up_to whole) start at ≡ end_level_from r braces tokens (up_to whole) Fresh end) [
-        | Ends ↦ λ q t l.
+      let there = lt-ltb at whole (omega arith) in
+      elim f.next as (λ (x : Next). f.next ≡ x → Reaches at o.end f x → Leaves tokens end f x → end_level_from (suc m) braces tokens (up_to whole) start at ≡ end_level_from r braces tokens (up_to whole) Fresh end) [
+        | Ends ↦ λ q t l. let t0 : at < f.end = t.0 in
             level_ends m braces tokens [] p start at f there (sym alike.same) q
             ∙ level_cut m r braces tokens end whole Fresh f.end ends l (omega arith) some
         | Goes s ↦ λ q t l. absurd l
         | Waits h ↦ λ q t l. absurd l
         | Opens w b ↦ λ q t l.
-            let t0 : at ≤ f.end = t.0 in let t1 : f.end < b.end = t.1.0 in
+            let t0 : at ≤ f.end = t.begins in let t1 : f.end < b.end = t.goes_on in
             let inside : b.end < end = l.within_list in
-            level_past m braces tokens [] p start at f w b there (sym alike.same) q (lt_true b.end whole (omega arith))
+            level_past m braces tokens [] p start at f w b there (sym alike.same) q (lt-ltb b.end whole (omega arith))
             ∙ level_cut m r braces tokens end whole (Closing b) b.end ends l (omega arith) some
-      ] refl (form_takes braces tokens o start at lt) alike.leaves
+      ] refl (form_reaches braces tokens o start at lt) alike.leaves
 ]
 
 -- ## A first part

@@ -1,6 +1,6 @@
 -- The line that begins at a place outside brackets is the same in a list of the file that ends behind a declaration and in a longer one.
 use Rattle.std.proofs.Common.{◌≡◌, ◌∙◌, ℕ, ◌+◌, ◌-◌, ◌<◌, ◌≤◌, nat_lt, nat_le, Bool, true, false, ◌&&◌, ◌||◌, Option, Some, None, List, length, refl, arith, sym, ap, subst, inl, inr, ◌⊎◌}
-use Rattle.std.proofs.lemmas.Bool.{and_parts, and_left, or_cases, cases_Bool, cases_lt, cond-true, cond-false}
+use Rattle.std.proofs.lemmas.Bool.{and_parts, and_left, or_cases, cases_Bool, cases_lt, cond-true, cond-false, ltb-true, lt-ltb, le-ltb}
 use Rattle.token_classes.specs.declared.class.TokenClass.{TokenClass}
 use Rattle.token_classes.specs.declared.class.TokenClass.TheVariants.{Nothing, OpenRound, OpenSquare, OpenBrace, CloseBrace, CapitalWord, PlainWord, Extern, Text, Semicolon as SemicolonClass}
 use Rattle.token_classes.specs.Classes.{is_word, is_plain, is_capital, is_opener, is_struct, is_union, is_enum, is_extern, is_open_round, is_open_brace, is_close_brace, is_semicolon, is_text}
@@ -21,9 +21,9 @@ use Rattle.unwrapped_lines.specs.declared.form.Form.{Form}
 use Rattle.unwrapped_lines.specs.declared.form.Stop.{Stop}
 use Rattle.unwrapped_lines.specs.Forms.{class_at, seen, partner_in, behind_partner, partner_or, after_group, block_end, statement_stop, tag_before, began_at, behind_close, kind_or_close, tagged_kind, wraps_tagged, tagged_context, tagged_head, ends_macro, macro_end, other_form}
 use Rattle.part_lines.proofs.CodeCut.{behind_opener, assigned_behind, file_up_to}
-use Rattle.part_lines.proofs.TakesTokens.{either, choose_true, choose_false, lt_from, lt_true}
 use Rattle.part_lines.proofs.WayLemmas.{WayOn, EndsBeforeWord, step_of, at_most, goes_on, is_waiting, unwaited_way, partner_place, partner_longer, opener_code, other_code, semicolon_code}
 use Rattle.part_lines.proofs.StopsAlike.{StopAlike, stop_alike, semicolon_opens}
+use Rattle.part_lines.proofs.Choices.{either, at_true, at_false}
 
 -- ## Where a line begins
 
@@ -117,14 +117,11 @@ word_semicolon _ h = refl
 
 -- ## What is seen
 
-lt_false : (a b : ℕ) → b ≤ a → nat_lt a b ≡ false
-lt_false a b h = grind arith
-
 seen_here : (tokens : List CodeToken) (end i : ℕ) → i < end → seen tokens end i ≡ class_at tokens i
-seen_here tokens end i h = choose_true (nat_lt i end) (class_at tokens i) Nothing (lt_true i end h)
+seen_here tokens end i h = at_true (nat_lt i end) (class_at tokens i) Nothing (lt-ltb i end h)
 
 seen_past : (tokens : List CodeToken) (end i : ℕ) → end ≤ i → seen tokens end i ≡ Nothing
-seen_past tokens end i h = choose_false (nat_lt i end) (class_at tokens i) Nothing (lt_false i end h)
+seen_past tokens end i h = at_false (nat_lt i end) (class_at tokens i) Nothing (le-ltb i end h)
 
 -- what no word is, is seen in both lists or in none
 pub seen_alike : (fits : TokenClass → Bool) (tokens : List CodeToken) (end whole i : ℕ) → fits Nothing ≡ false → fits (class_at tokens end) ≡ false → end ≤ whole → i ≤ end
@@ -135,10 +132,6 @@ seen_alike fits tokens end whole i none word order le = elim (cases_lt i end) [
       let e : end ≡ i = omega arith in
       ap fits (seen_past tokens end i ge) ∙ (none ∙ sym (either (λ (c : TokenClass). fits c ≡ false) (nat_lt i whole) (class_at tokens i) Nothing (λ _. subst (λ (x : ℕ). fits (class_at tokens x) ≡ false) e word) (λ _. none)))
 ]
-
-pub seen_class : (fits : TokenClass → Bool) (tokens : List CodeToken) (end i : ℕ) → fits Nothing ≡ false → fits (seen tokens end i) ≡ true → (i < end) × (fits (class_at tokens i) ≡ true)
-seen_class fits tokens end i none =
-    either (λ (c : TokenClass). fits c ≡ true → (i < end) × (fits (class_at tokens i) ≡ true)) (nat_lt i end) (class_at tokens i) Nothing (λ e h. (lt_from i end e, h)) (λ e h. cc)
 
 -- ## Steps
 
@@ -254,11 +247,11 @@ record Macro (tokens : List CodeToken) (end whole at : ℕ) : Type 0 where
 
 group_is : (tokens : List CodeToken) (end i p : ℕ) → i < end → is_open_round (class_at tokens i) ≡ true → partner_in tokens end i ≡ Some p → after_group tokens end i ≡ p + 1
 group_is tokens end i p lt round e =
-    choose_true (is_open_round (seen tokens end i)) (behind_partner i (partner_in tokens end i)) i (ap is_open_round (seen_here tokens end i lt) ∙ round) ∙ ap (behind_partner i) e
+    at_true (is_open_round (seen tokens end i)) (behind_partner i (partner_in tokens end i)) i (ap is_open_round (seen_here tokens end i lt) ∙ round) ∙ ap (behind_partner i) e
 
 no_group_is : (tokens : List CodeToken) (end i : ℕ) → i < end → is_open_round (class_at tokens i) ≡ false → after_group tokens end i ≡ i
 no_group_is tokens end i lt round =
-    choose_false (is_open_round (seen tokens end i)) (behind_partner i (partner_in tokens end i)) i (ap is_open_round (seen_here tokens end i lt) ∙ round)
+    at_false (is_open_round (seen tokens end i)) (behind_partner i (partner_in tokens end i)) i (ap is_open_round (seen_here tokens end i lt) ∙ round)
 
 macro_of : (tokens : List CodeToken) (end whole at : ℕ) (told : Bool) → EndsBeforeWord tokens end whole → WayOn tokens end at Other told → at < end → is_plain (class_at tokens at) ≡ true → Macro tokens end whole at
 macro_of tokens end whole at told ends way lt plain =
@@ -314,7 +307,7 @@ macro_at tokens at g = elim (is_plain (class_at tokens at) && ((nat_lt (at + 1) 
 macro_none : (tokens : List CodeToken) (end at : ℕ) → is_plain (class_at tokens at) ≡ false → macro_end tokens end at ≡ at
 macro_none tokens end at plain =
     let g = after_group tokens end (at + 1) in
-    choose_false (is_plain (class_at tokens at) && ((nat_lt (at + 1) g || is_capital (class_at tokens at)) && ends_macro tokens g)) g at (and_left (is_plain (class_at tokens at)) ((nat_lt (at + 1) g || is_capital (class_at tokens at)) && ends_macro tokens g) plain)
+    at_false (is_plain (class_at tokens at) && ((nat_lt (at + 1) g || is_capital (class_at tokens at)) && ends_macro tokens g)) g at (and_left (is_plain (class_at tokens at)) ((nat_lt (at + 1) g || is_capital (class_at tokens at)) && ends_macro tokens g) plain)
 
 macro_leaves : (tokens : List CodeToken) (end whole at : ℕ) → EndsBeforeWord tokens end whole → (m : Macro tokens end whole at) → nat_lt at (macro_at tokens at m.place) ≡ true → Stand tokens end Fresh (macro_at tokens at m.place)
 macro_leaves tokens end whole at ends m =
@@ -327,7 +320,7 @@ macro_leaves tokens end whole at ends m =
     (λ e _.
     let k : ends_macro tokens g ≡ true = (and_parts (nat_lt (at + 1) g || is_capital (class_at tokens at)) (ends_macro tokens g) (and_parts (is_plain (class_at tokens at)) ((nat_lt (at + 1) g || is_capital (class_at tokens at)) && ends_macro tokens g) e).1).1 in
     fresh_at tokens end g m.before m.told m.way (λ _. macro_quiet tokens g (omega arith) k))
-    (λ _ h. absurd (let q : at < at = lt_from at at h in omega arith))
+    (λ _ h. absurd (let q : at < at = ltb-true at at h in omega arith))
 
 -- the line of a macro is the same, and where there is one, it leaves the way
 pub macro_alike : (tokens : List CodeToken) (end whole at : ℕ) (told : Bool) → EndsBeforeWord tokens end whole → WayOn tokens end at Other told → at < end
@@ -335,7 +328,7 @@ pub macro_alike : (tokens : List CodeToken) (end whole at : ℕ) (told : Bool) �
 macro_alike tokens end whole at told ends way lt = elim (cases_Bool (is_plain (class_at tokens at))) [
   | inr plain ↦ (
     macro_none tokens end at plain ∙ sym (macro_none tokens whole at plain),
-    λ h. absurd (let q : at < macro_end tokens end at = lt_from at (macro_end tokens end at) h in let none : macro_end tokens end at ≡ at = macro_none tokens end at plain in omega arith),
+    λ h. absurd (let q : at < macro_end tokens end at = ltb-true at (macro_end tokens end at) h in let none : macro_end tokens end at ≡ at = macro_none tokens end at plain in omega arith),
   )
   | inl plain ↦
       let m = macro_of tokens end whole at told ends way lt plain in

@@ -1,10 +1,9 @@
 -- Forms of lines in a list that ends among some tokens: the same wherever these tokens stand.
 use Rattle.std.proofs.Common.{◌≡◌, ◌∙◌, ℕ, ◌+◌, ◌-◌, ◌<◌, ◌≤◌, nat_lt, nat_le, Bool, true, false, not, ◌&&◌, ◌||◌, Option, Some, None, List, length, refl, sym, ap, arith, ◌⊎◌, inl, inr}
-use Rattle.std.specs.Prelude.{slice_get}
-use Rattle.std.proofs.lemmas.Bool.{cases_lt, ltb-true, le-leb, lt-leb}
+use Rattle.std.proofs.lemmas.Bool.{cases_lt, le-leb, lt-leb}
 use Rattle.token_classes.specs.declared.class.TokenClass.{TokenClass}
 use Rattle.token_classes.specs.declared.class.TokenClass.TheVariants.{Nothing}
-use Rattle.token_classes.specs.Classes.{is_word, is_plain, is_open_round, is_open_brace, is_close_brace, is_colon, is_semicolon, is_while, is_do, is_else, is_if, is_switch, is_case, is_default, is_capital}
+use Rattle.token_classes.specs.Classes.{is_word, is_plain, is_open_brace, is_close_brace, is_colon, is_semicolon, is_while, is_do, is_else, is_if, is_switch, is_case, is_default, is_capital}
 use Rattle.line_tokens.specs.declared.line.LineKind.{LineKind}
 use Rattle.line_tokens.specs.declared.line.LineKind.TheVariants.{Simple, CaseLabel, GotoLabel, Control}
 use Rattle.unwrapped_lines.specs.declared.token.CodeToken.{CodeToken}
@@ -18,11 +17,12 @@ use Rattle.unwrapped_lines.specs.declared.form.Next.{Next}
 use Rattle.unwrapped_lines.specs.declared.form.Next.TheVariants.{Ends, Goes, Waits, Opens}
 use Rattle.unwrapped_lines.specs.declared.form.Form.{Form}
 use Rattle.unwrapped_lines.specs.declared.form.Stop.{Stop}
-use Rattle.unwrapped_lines.specs.Forms.{class_at, seen, within, partner_of, partner_in, behind_partner, after_group, block_end, began_at, touched_at, is_code, is_switch_head, case_colon, statement_stop, tag_before, block_at, label_form, goto_level, label, header_end, head_of, label_level, control_block, behind_close, kind_or_close, control_form, tail_end, ends_macro, macro_end, tagged_kind, wraps_tagged, tagged_context, tagged_head, other_form}
+use Rattle.unwrapped_lines.specs.Forms.{class_at, seen, after_group, block_end, began_at, touched_at, is_code, is_switch_head, case_colon, statement_stop, tag_before, block_at, label_form, goto_level, label, header_end, head_of, label_level, control_block, behind_close, kind_or_close, control_form, tail_end, ends_macro, macro_end, tagged_kind, wraps_tagged, tagged_context, tagged_head, other_form}
 use Rattle.part_lines.proofs.CodeCut.{open_behind, start_behind}
 use Rattle.part_lines.proofs.Choices.{choose}
 use Rattle.part_lines.proofs.Window.{IsWindow, lt_there, class_there, began_there, touched_there, seen_there}
-use Rattle.part_lines.proofs.Scans.{group_there, block_there, colon_there, stop_behind, stop_there, stop_within, tag_there}
+use Rattle.part_lines.proofs.Scans.{group_there, block_there, colon_there, stop_behind, stop_there, tag_there}
+use Rattle.part_lines.proofs.FormsReach.{seen_within, stop_reaches, group_reaches}
 
 -- ## What stands behind so many tokens
 
@@ -38,14 +38,6 @@ form_behind n form = record { kind = form.kind; level = form.level; end = n + fo
 abbrev pub maybe_behind : ℕ → Option Form → Option Form
 maybe_behind n None = None
 maybe_behind n (Some form) = Some (form_behind n form)
-
--- what a test finds in a list stands in it
-pub seen_inside : (test : TokenClass → Bool) (tokens : List CodeToken) (end i : ℕ) → test Nothing ≡ false → test (seen tokens end i) ≡ true → i < end
-seen_inside test tokens end i none found = by (nat_lt i end) refl found
-  where
-    by : (b : Bool) → nat_lt i end ≡ b → test (elim b as (λ _. TokenClass) [ true ↦ class_at tokens i | false ↦ Nothing ]) ≡ true → i < end
-    by true less found = ltb-true i end less
-    by false past found = absurd (let q : false ≡ true = sym none ∙ found in cc)
 
 -- ## Blocks
 
@@ -104,7 +96,7 @@ label_there {n} {whole} {tokens} w braces o at most inside =
     choose (maybe_behind n) (is_case (class_at whole (n + at)) && nat_lt (case_colon (n + o.end - (n + at + 1)) whole (n + o.end) (n + at + 1) 0) (n + o.end)) (is_case (class_at tokens at) && nat_lt colon_here o.end) _ _ _ _ cases
     (λ _. ap (λ (f : Form). Some f) (label_form_there w o CaseLabel o.case_level braces.after_case_label colon_here (case_colon (n + o.end - (n + at + 1)) whole (n + o.end) (n + at + 1) 0) most colon))
     (λ _. choose (maybe_behind n) (is_colon (seen whole (n + o.end) (n + at + 1))) (is_colon (seen tokens o.end (at + 1))) _ None _ None (ap is_colon next)
-    (λ met. let more : at + 1 < o.end = seen_inside is_colon tokens o.end (at + 1) refl met in
+    (λ met. let more : at + 1 < o.end = seen_within is_colon tokens o.end (at + 1) refl met in
     choose (maybe_behind n) (is_default (class_at whole (n + at))) (is_default (class_at tokens at)) _ _ _ _ (ap is_default here)
     (λ _. ap (λ (f : Form). Some f) (label_form_there w o CaseLabel o.case_level braces.after_case_label (at + 1) (n + at + 1) most one))
     (λ _. choose (maybe_behind n) (is_plain (class_at whole (n + at)) && (is_code o.context && not (touched_at whole (n + at + 1)))) (is_plain (class_at tokens at) && (is_code o.context && not (touched_at tokens (at + 1)))) _ None _ None
@@ -191,22 +183,6 @@ tail_there {n} {whole} {tokens} w end i most =
 
 -- ## Lines of macros
 
-pub group_within : (tokens : List CodeToken) (end i most : ℕ) → end ≤ most → i ≤ most → after_group tokens end i ≤ most
-group_within tokens end i most one other = keep (is_open_round (seen tokens end i))
-  where
-    partner : (found : Option ℕ) → behind_partner i (within i end found) ≤ most
-    partner None = other
-    partner (Some p) = both (nat_lt i p) (nat_lt p end) refl
-      where
-        both : (a b : Bool) → nat_lt p end ≡ b → behind_partner i (elim (a && b) as (λ _. Option ℕ) [ true ↦ Some p | false ↦ None ]) ≤ most
-        both true true less = let q : p < end = ltb-true p end less in omega arith
-        both true false less = other
-        both false b less = other
-
-    keep : (b : Bool) → (elim b as (λ _. ℕ) [ true ↦ behind_partner i (partner_in tokens end i) | false ↦ i ]) ≤ most
-    keep true = partner (partner_of (slice_get tokens i))
-    keep false = other
-
 ends_there : {n : ℕ} {whole tokens : List CodeToken} → IsWindow n whole tokens → (i : ℕ) → i ≤ length tokens → ends_macro whole (n + i) ≡ ends_macro tokens i
 ends_there {n} {whole} {tokens} w i most = by (cases_lt i (length tokens))
   where
@@ -226,7 +202,7 @@ macro_there {n} {whole} {tokens} w end at most inside =
     let one : n + at + 1 ≡ n + (at + 1) = omega arith in
     let g : ℕ = after_group tokens end (at + 1) in
     let group : after_group whole (n + end) (n + (at + 1)) ≡ n + g = group_there w end (at + 1) most in
-    let low : g ≤ length tokens = group_within tokens end (at + 1) (length tokens) most (omega arith) in
+    let low : g ≤ length tokens = omega (arith, most, (group_reaches tokens end (at + 1) (omega (arith, inside))).1) in
     let made : TokenClass → ℕ → ℕ → ℕ = λ c j k. elim (is_plain c && ((nat_lt j k || is_capital c) && ends_macro whole k)) as (λ _. ℕ) [ true ↦ k | false ↦ n + at ] in
     let c : TokenClass = class_at tokens at in
     ap (λ (c : TokenClass). made c (n + at + 1) (after_group whole (n + end) (n + at + 1))) (class_there w at (omega arith))
@@ -240,12 +216,12 @@ macro_there {n} {whole} {tokens} w end at most inside =
 
 -- ## Other statements
 
-pub other_there : {n : ℕ} {whole tokens : List CodeToken} → IsWindow n whole tokens → (braces : Braces) (o : Open) (closes : Bool) (level at : ℕ) (assigned : Bool) → o.end ≤ length tokens
+pub other_there : {n : ℕ} {whole tokens : List CodeToken} → IsWindow n whole tokens → (braces : Braces) (o : Open) (closes : Bool) (level at : ℕ) (assigned : Bool) → o.end ≤ length tokens → behind_close closes at ≤ o.end
     → other_form braces whole (open_behind n o) closes level (n + at) assigned ≡ form_behind n (other_form braces tokens o closes level at assigned)
-other_there {n} {whole} {tokens} w braces o closes level at assigned most =
+other_there {n} {whole} {tokens} w braces o closes level at assigned most inside =
     let from : ℕ = behind_close closes at in
     let s : Stop = statement_stop (o.end - from) tokens o.end from assigned in
-    let low : s.at ≤ o.end = stop_within (o.end - from) tokens o.end from assigned in
+    let low : s.at ≤ o.end = (stop_reaches (o.end - from) tokens o.end from assigned inside).most in
     let fuel : n + o.end - (n + from) ≡ o.end - from = omega arith in
     let back : n + s.at - (n + from) ≡ s.at - from = omega arith in
     let tag : tag_before (n + s.at - (n + from)) whole (n + from) (n + s.at) Nothing ≡ tag_before (s.at - from) tokens from s.at Nothing =

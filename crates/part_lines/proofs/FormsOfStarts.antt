@@ -18,8 +18,8 @@ use Rattle.part_lines.proofs.CodeCut.{open_behind, start_behind}
 use Rattle.part_lines.proofs.Choices.{choose}
 use Rattle.part_lines.proofs.Window.{IsWindow, lt_there, class_there, missing_there, seen_there}
 use Rattle.part_lines.proofs.Scans.{group_there, enumerator_there}
-use Rattle.part_lines.proofs.BlocksWithin.{form_or}
-use Rattle.part_lines.proofs.FormsOfLines.{form_behind, maybe_behind, seen_inside, block_from_there, label_there, control_there, tail_there, macro_there, other_there}
+use Rattle.part_lines.proofs.FormsOfLines.{form_behind, maybe_behind, block_from_there, label_there, control_there, tail_there, macro_there, other_there}
+use Rattle.part_lines.proofs.FormsReach.{seen_within}
 
 -- a word and a group stand before a block
 abbrev calls_block : List CodeToken → Open → TokenClass → ℕ → ℕ → Bool
@@ -66,7 +66,12 @@ unlabelled_there {n} {whole} {tokens} w braces o at most inside =
     ∙ ap (λ (b : Open). record { kind = ExternHead; level = o.level; end = n + (at + 2); next = Opens braces.after_extern b }) (block_from_there w o.end (at + 2) (n + (at + 2)) File Plain o.level o.level most refl))
     (λ _. choose (form_behind n) (nat_lt (n + at) (macro_end whole (n + o.end) (n + at))) (nat_lt at m) _ _ _ _ (ap (nat_lt (n + at)) macro ∙ lt_there n at m)
     (λ _. ap (λ (j : ℕ). record { kind = MacroLine; level = o.level; end = j; next = Ends }) macro)
-    (λ _. other_there w braces o false o.level at false most))))
+    (λ _. other_there w braces o false o.level at false most (omega (arith, inside))))))
+
+-- what stands for a label, or another form where there is none
+abbrev form_or : Form → Option Form → Form
+form_or otherwise None = otherwise
+form_or otherwise (Some form) = form
 
 form_or_there : (n : ℕ) (otherwise : Form) (found : Option Form) → form_or (form_behind n otherwise) (maybe_behind n found) ≡ form_behind n (form_or otherwise found)
 form_or_there n otherwise None = refl
@@ -103,7 +108,7 @@ close_there {n} {whole} {tokens} w braces o b at most inside =
     let tailed : (is_do_head b.head && nat_lt (n + at + 1) (tail_end whole (n + o.end) (n + at + 1))) ≡ (is_do_head b.head && nat_lt (at + 1) t) =
     ap (λ (j : ℕ). is_do_head b.head && nat_lt (n + at + 1) j) tail ∙ (ap (λ (j : ℕ). is_do_head b.head && nat_lt j (n + t)) one ∙ ap (λ (x : Bool). is_do_head b.head && x) (lt_there n (at + 1) t)) in
     choose (form_behind n) (is_tagged b.head) (is_tagged b.head) _ _ _ _ refl
-    (λ _. other_there w braces o true b.head_level at b.assigned most)
+    (λ _. other_there w braces o true b.head_level at b.assigned most (omega (arith, inside)))
     (λ _. choose (form_behind n) (is_do_head b.head && nat_lt (n + at + 1) (tail_end whole (n + o.end) (n + at + 1))) (is_do_head b.head && nat_lt (at + 1) t) _ _ _ _ tailed
     (λ _. choose (form_behind n) braces.before_while braces.before_while _ _ _ _ refl
     (λ _. ap (λ (j : ℕ). record { kind = Close; level = b.head_level; end = j; next = Goes Tail }) one)
@@ -111,7 +116,7 @@ close_there {n} {whole} {tokens} w braces o b at most inside =
     (λ _. choose (form_behind n) (is_semicolon (seen whole (n + o.end) (n + at + 1))) (is_semicolon (seen tokens o.end (at + 1))) _ _ _ _ (ap is_semicolon next)
     (λ _. ap (λ (j : ℕ). record { kind = Close; level = b.head_level; end = j; next = Ends }) two)
     (λ _. choose (form_behind n) (is_if_head b.head && is_else (seen whole (n + o.end) (n + at + 1))) (is_if_head b.head && is_else (seen tokens o.end (at + 1))) _ _ _ _ (ap (λ (k : TokenClass). is_if_head b.head && is_else k) next)
-    (λ both. let more : at + 1 < o.end = seen_inside is_else tokens o.end (at + 1) refl (and_parts (is_if_head b.head) (is_else (seen tokens o.end (at + 1))) both).1 in
+    (λ both. let more : at + 1 < o.end = seen_within is_else tokens o.end (at + 1) refl (and_parts (is_if_head b.head) (is_else (seen tokens o.end (at + 1))) both).1 in
     choose (form_behind n) braces.before_else braces.before_else _ _ _ _ refl
     (λ _. ap (λ (j : ℕ). record { kind = Close; level = b.head_level; end = j; next = Goes Fresh }) one)
     (λ _. control_there w braces o true b.head_level at most (omega arith)))

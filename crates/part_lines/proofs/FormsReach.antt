@@ -1,7 +1,7 @@
 -- How far the line that a statement begins with goes: it takes a token and stays in its list, and so does a block that it opens.
 use Rattle.std.proofs.Common.{◌≡◌, ◌∙◌, ℕ, zero, suc, ◌+◌, ◌-◌, ◌<◌, ◌≤◌, nat_lt, Bool, true, false, not, ◌&&◌, ◌||◌, Option, Some, None, List, refl, sym, ap, arith}
 use Rattle.std.specs.Prelude.{⊤, slice_get}
-use Rattle.std.proofs.lemmas.Bool.{and_parts}
+use Rattle.std.proofs.lemmas.Bool.{and_parts, ltb-true}
 use Rattle.token_classes.specs.declared.class.TokenClass.{TokenClass}
 use Rattle.token_classes.specs.declared.class.TokenClass.TheVariants.{Nothing}
 use Rattle.token_classes.specs.Classes.{is_plain, is_control, is_capital, is_if, is_else, is_while, is_do, is_case, is_default, is_extern, is_opener, is_open_round, is_open_brace, is_close_brace, is_colon, is_semicolon, is_comma, is_question, is_text}
@@ -18,6 +18,7 @@ use Rattle.unwrapped_lines.specs.declared.form.Next.TheVariants.{Ends, Goes, Wai
 use Rattle.unwrapped_lines.specs.declared.form.Form.{Form}
 use Rattle.unwrapped_lines.specs.declared.form.Stop.{Stop}
 use Rattle.unwrapped_lines.specs.Forms.{class_at, seen, within, partner_of, partner_in, behind_partner, partner_or, after_group, step_over, block_end, has_no_partner, is_code, is_enumerators, is_if_head, is_do_head, is_tagged, case_colon, enumerator_end, opens_block, assigns, statement_stop, label_form, goto_level, label, touched_at, head_of, header_end, control_block, control_form, tail_end, ends_macro, macro_end, other_form, unlabelled, statement, close_form, form_of}
+use Rattle.part_lines.proofs.Choices.{either}
 
 -- a line that begins at a place of a list with this end
 abbrev pub Reaches : ℕ → ℕ → Form → Next → Type 0
@@ -36,25 +37,17 @@ Reaches at end form (Opens wrapped block) =
 abbrev pub FormReaches : ℕ → ℕ → Form → Type 0
 FormReaches at end form = Reaches at end form form.next
 
--- ## Choices
-
-pub either : {X : Type 0} (P : X → Type 0) (b : Bool) (x y : X) → (b ≡ true → P x) → (b ≡ false → P y) → P (elim b as (λ _. X) [ true ↦ x | false ↦ y ])
-either P true x y on off = on refl
-either P false x y on off = off refl
-
-less : (a b : ℕ) → nat_lt a b ≡ true → a < b
-less a b e = grind arith
-
-most : (a b : ℕ) → nat_lt a b ≡ false → b ≤ a
-most a b e = grind arith
+-- ## What is seen
 
 -- a class that is seen stands in the list
-seen_within : (is : TokenClass → Bool) (tokens : List CodeToken) (end i : ℕ) → is Nothing ≡ false → is (seen tokens end i) ≡ true → i < end
-seen_within is tokens end i none found = by (nat_lt i end) refl found
-  where
-    by : (b : Bool) → nat_lt i end ≡ b → is (elim b as (λ _. TokenClass) [ true ↦ class_at tokens i | false ↦ Nothing ]) ≡ true → i < end
-    by true e f = less i end e
-    by false e f = absurd (let q : true ≡ false = sym f ∙ none in cc)
+pub seen_class : (fits : TokenClass → Bool) (tokens : List CodeToken) (end i : ℕ) → fits Nothing ≡ false → fits (seen tokens end i) ≡ true
+    → (i < end) × (fits (class_at tokens i) ≡ true)
+seen_class fits tokens end i none =
+    either (λ (c : TokenClass). fits c ≡ true → (i < end) × (fits (class_at tokens i) ≡ true)) (nat_lt i end) (class_at tokens i) Nothing
+    (λ e h. (ltb-true i end e, h)) (λ e h. cc)
+
+pub seen_within : (fits : TokenClass → Bool) (tokens : List CodeToken) (end i : ℕ) → fits Nothing ≡ false → fits (seen tokens end i) ≡ true → i < end
+seen_within fits tokens end i none found = (seen_class fits tokens end i none found).0
 
 -- ## Partners
 
@@ -63,7 +56,7 @@ behind_within P otherwise i end None none some = none
 behind_within P otherwise i end (Some p) none some = by (nat_lt i p && nat_lt p end) refl
   where
     by : (b : Bool) → (nat_lt i p && nat_lt p end) ≡ b → P (behind_partner otherwise (elim b as (λ _. Option ℕ) [ true ↦ Some p | false ↦ None ]))
-    by true e = (let both = and_parts (nat_lt i p) (nat_lt p end) e in some p (less i p both.0) (less p end both.1))
+    by true e = (let both = and_parts (nat_lt i p) (nat_lt p end) e in some p (ltb-true i p both.0) (ltb-true p end both.1))
     by false e = none
 
 or_within : (P : ℕ → Type 0) (otherwise i end : ℕ) (found : Option ℕ) → P otherwise → ((p : ℕ) → i < p → p < end → P p) → P (partner_or otherwise (within i end found))
@@ -71,7 +64,7 @@ or_within P otherwise i end None none some = none
 or_within P otherwise i end (Some p) none some = by (nat_lt i p && nat_lt p end) refl
   where
     by : (b : Bool) → (nat_lt i p && nat_lt p end) ≡ b → P (partner_or otherwise (elim b as (λ _. Option ℕ) [ true ↦ Some p | false ↦ None ]))
-    by true e = (let both = and_parts (nat_lt i p) (nat_lt p end) e in some p (less i p both.0) (less p end both.1))
+    by true e = (let both = and_parts (nat_lt i p) (nat_lt p end) e in some p (ltb-true i p both.0) (ltb-true p end both.1))
     by false e = none
 
 pub group_reaches : (tokens : List CodeToken) (end i : ℕ) → i ≤ end → (i ≤ after_group tokens end i) × (after_group tokens end i ≤ end)
@@ -96,7 +89,7 @@ colon_reaches : (n : ℕ) (tokens : List CodeToken) (end i asked : ℕ) → i �
 colon_reaches zero tokens end i asked low = low
 colon_reaches (suc n) tokens end i asked low =
     either (λ (c : ℕ). i ≤ c) (nat_lt i end) _ end
-    (λ inside. let here : i < end = less i end inside in
+    (λ inside. let here : i < end = ltb-true i end inside in
     either (λ (c : ℕ). i ≤ c) (is_question (class_at tokens i)) (case_colon n tokens end (i + 1) (asked + 1)) _
     (λ e. omega (arith, colon_reaches n tokens end (i + 1) (asked + 1) (omega (arith, here))))
     (λ e.
@@ -112,7 +105,7 @@ enumerator_within : (n : ℕ) (tokens : List CodeToken) (end i : ℕ) → i ≤ 
 enumerator_within zero tokens end i low = (low, omega arith)
 enumerator_within (suc n) tokens end i low =
     either (λ (c : ℕ). (i ≤ c) × (c ≤ end)) (nat_lt i end) _ end
-    (λ inside. let here : i < end = less i end inside in
+    (λ inside. let here : i < end = ltb-true i end inside in
     either (λ (c : ℕ). (i ≤ c) × (c ≤ end)) (is_comma (class_at tokens i)) (i + 1) (enumerator_end n tokens end (step_over tokens end i))
     (λ e. (omega arith, omega (arith, here)))
     (λ e. let step = step_reaches tokens end i here in
@@ -146,7 +139,7 @@ pub stop_reaches : (n : ℕ) (tokens : List CodeToken) (end i : ℕ) (assigned :
 stop_reaches zero tokens end i assigned low = record { least = low; most = omega arith; opens = λ e. no_brace e; goes_on = λ e up. up }
 stop_reaches (suc n) tokens end i assigned low =
     either (λ (s : Stop). StopsIn tokens end i s) (nat_lt i end) _ (record { at = end; opens = false; assigned = assigned })
-    (λ inside. let here : i < end = less i end inside in
+    (λ inside. let here : i < end = ltb-true i end inside in
     either (λ (s : Stop). StopsIn tokens end i s) (is_semicolon (class_at tokens i)) (record { at = i + 1; opens = false; assigned = assigned }) _
     (λ e. record { least = omega arith; most = omega (arith, here); opens = λ e. no_brace e; goes_on = λ e up. omega arith })
     (λ e.
@@ -207,7 +200,7 @@ labels_reach : (braces : Braces) (tokens : List CodeToken) (o : Open) (at : ℕ)
 labels_reach braces tokens o at low =
     let colon : ℕ = case_colon (o.end - (at + 1)) tokens o.end (at + 1) 0 in
     either (λ (found : Option Form). LabelReaches at o.end found) (is_case (class_at tokens at) && nat_lt colon o.end) _ _
-    (λ e. label_reaches tokens o CaseLabel o.case_level braces.after_case_label at colon (omega (arith, colon_reaches (o.end - (at + 1)) tokens o.end (at + 1) 0 (omega (arith, low)))) (less colon o.end (and_parts (is_case (class_at tokens at)) (nat_lt colon o.end) e).1))
+    (λ e. label_reaches tokens o CaseLabel o.case_level braces.after_case_label at colon (omega (arith, colon_reaches (o.end - (at + 1)) tokens o.end (at + 1) 0 (omega (arith, low)))) (ltb-true colon o.end (and_parts (is_case (class_at tokens at)) (nat_lt colon o.end) e).1))
     (λ e.
     either (λ (found : Option Form). LabelReaches at o.end found) (is_colon (seen tokens o.end (at + 1))) _ None
     (λ colon.
@@ -298,7 +291,7 @@ unlabelled_reaches braces tokens o at low =
     record { begins = omega arith; takes = λ e. omega arith; goes_on = block.0; ends = block.1; is_block = refl })
     (λ e.
     either (λ (form : Form). FormReaches at o.end form) (nat_lt at (macro_end tokens o.end at)) _ _
-    (λ up. (less at (macro_end tokens o.end at) up, macro_reaches tokens o.end at low))
+    (λ up. (ltb-true at (macro_end tokens o.end at) up, macro_reaches tokens o.end at low))
     (λ e. other_reaches braces tokens o o.level at false low first))))
 
 either_label : (at end : ℕ) (found : Option Form) (form : Form) → LabelReaches at end found → FormReaches at end form → FormReaches at end (elim found as (λ _. Form) [ Some f ↦ f | None ↦ form ])
@@ -329,7 +322,7 @@ close_reaches braces tokens o b at low =
     (λ tail.
     either (λ (form : Form). FormReaches at o.end form) braces.before_while _ _
     (λ e. one)
-    (λ e. (omega (arith, less (at + 1) t (and_parts (is_do_head b.head) (nat_lt (at + 1) t) tail).1), tail_reaches tokens o.end (at + 1) one.1)))
+    (λ e. (omega (arith, ltb-true (at + 1) t (and_parts (is_do_head b.head) (nat_lt (at + 1) t) tail).1), tail_reaches tokens o.end (at + 1) one.1)))
     (λ e.
     either (λ (form : Form). FormReaches at o.end form) (is_semicolon (seen tokens o.end (at + 1))) _ _
     (λ e. (omega arith, omega (arith, seen_within is_semicolon tokens o.end (at + 1) refl e)))
@@ -345,6 +338,6 @@ pub form_reaches : (braces : Braces) (tokens : List CodeToken) (o : Open) (start
 form_reaches braces tokens o Fresh at low = statement_reaches braces tokens o at low
 form_reaches braces tokens o Tail at low =
     either (λ (form : Form). FormReaches at o.end form) (nat_lt at (tail_end tokens o.end at)) _ _
-    (λ up. (less at (tail_end tokens o.end at) up, tail_reaches tokens o.end at (omega (arith, low))))
+    (λ up. (ltb-true at (tail_end tokens o.end at) up, tail_reaches tokens o.end at (omega (arith, low))))
     (λ e. statement_reaches braces tokens o at low)
 form_reaches braces tokens o (Closing b) at low = close_reaches braces tokens o b at low

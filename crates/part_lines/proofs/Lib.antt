@@ -2,12 +2,10 @@ pub mod CodeCut
 pub mod Choices
 pub mod Window
 pub mod Scans
-pub mod BlocksWithin
 pub mod FormsOfLines
 pub mod FormsOfStarts
 pub mod LinesOfWindow
 pub mod FormsReach
-pub mod TakesTokens
 pub mod EnoughTurns
 pub mod WayLemmas
 pub mod StopsAlike

@@ -11,8 +11,10 @@ use Rattle.unwrapped_lines.specs.declared.form.Form.{Form}
 use Rattle.unwrapped_lines.specs.Forms.{form_of}
 use Rattle.unwrapped_lines.specs.Tree.{Reading, answers_else, answers_tail, settled, body_of, head_lines, lines_from, lines_of, whole_file}
 use Rattle.unwrapped_lines.specs.Stack.{IsCut}
-use Rattle.unwrapped_lines.proofs.StackLemmas.{cut_more, lt_true, from_end, from_ends, from_goes, from_waits, from_opens}
-use Rattle.part_lines.proofs.FormsReach.{Reaches, either, form_reaches}
+use Rattle.unwrapped_lines.proofs.StackLemmas.{cut_more, from_end, from_ends, from_goes, from_waits, from_opens}
+use Rattle.part_lines.proofs.FormsReach.{Reaches, form_reaches}
+use Rattle.part_lines.proofs.Choices.{either}
+use Rattle.std.proofs.lemmas.Bool.{lt-ltb}
 
 -- these are the headers that wait in a list with this end, above the list itself
 abbrev Listed : ℕ → List Open → Type 0
@@ -52,7 +54,7 @@ cut_step n braces tokens o os start at end cuts listed low enough = by_place (in
 
     by_next : (next : Next) → at < o.end → form.next ≡ next → Reaches at o.end form next → IsCut at end (lines_from (suc n) braces tokens (o ∷ os) start at)
     by_next Ends up is reaches =
-        rw (from_ends n braces tokens os o start at form (lt_true at o.end up) refl is) (
+        rw (from_ends n braces tokens os o start at form (lt-ltb at o.end up) refl is) (
           refl,
           (
             reaches.0,
@@ -61,10 +63,10 @@ cut_step n braces tokens o os start at end cuts listed low enough = by_place (in
           ),
         )
     by_next (Goes later) up is reaches =
-        rw (from_goes n braces tokens os o start at form later (lt_true at o.end up) refl is)
+        rw (from_goes n braces tokens os o start at form later (lt-ltb at o.end up) refl is)
         (refl, (reaches.0, cuts (o ∷ os) later form.end end listed (omega (arith, reaches.1, listed.0)) (omega (arith, reaches.0, enough))))
     by_next (Waits head) up is reaches =
-        rw (from_waits n braces tokens os o start at form head (lt_true at o.end up) refl is)
+        rw (from_waits n braces tokens os o start at form head (lt-ltb at o.end up) refl is)
         (refl, (reaches.0, cuts (body_of o head form.level ∷ o ∷ os) Fresh form.end end (listed.0, λ e. listed) (omega (arith, reaches.1, listed.0)) (omega (arith, reaches.0, enough))))
     by_next (Opens wrapped block) up is reaches =
         let no : block.block ≡ false → ⊥ = λ e. (let q : true ≡ false = sym reaches.is_block ∙ e in cc) in
@@ -73,7 +75,7 @@ cut_step n braces tokens o os start at end cuts listed low enough = by_place (in
         let begins : at ≤ form.end = reaches.begins in
         let inner = cuts (block ∷ []) Fresh (form.end + 1) block.end (refl, λ e. absurd (no e)) (omega (arith, goes_on)) (omega (arith, begins, ends, listed.0, enough)) in
         let outer = cuts (o ∷ os) (Closing block) block.end end listed (omega (arith, ends, listed.0)) (omega (arith, begins, goes_on, enough)) in
-        rw (from_opens n braces tokens os o start at form wrapped block (lt_true at o.end up) refl is)
+        rw (from_opens n braces tokens os o start at form wrapped block (lt-ltb at o.end up) refl is)
         (cut_more at block.end end _ _ (cut_more at (form.end + 1) block.end _ _ (head_cut o start at form wrapped begins reaches.takes) inner) outer)
 
     by_place : (at < o.end) ⊎ (o.end ≤ at) → IsCut at end (lines_from (suc n) braces tokens (o ∷ os) start at)

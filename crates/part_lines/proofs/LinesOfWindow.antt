@@ -18,9 +18,9 @@ use Rattle.unwrapped_lines.specs.Tree.{Reading, answers_else, answers_tail, sett
 use Rattle.part_lines.proofs.CodeCut.{token_behind, open_behind, start_behind, code_line_behind, EndUpTo, Windows}
 use Rattle.part_lines.proofs.Choices.{choose, chosen}
 use Rattle.part_lines.proofs.Window.{IsWindow, is_window, lt_there, seen_there}
-use Rattle.part_lines.proofs.BlocksWithin.{EndsWithin, form_within}
 use Rattle.part_lines.proofs.FormsOfLines.{next_behind, form_behind, tail_there}
 use Rattle.part_lines.proofs.FormsOfStarts.{form_there}
+use Rattle.part_lines.proofs.FormsReach.{Reaches, form_reaches}
 
 -- ## Lists that end up to a place
 
@@ -32,6 +32,11 @@ AllWithin most (o ∷ os) = (o.end ≤ most) × AllWithin most os
 all_within : (most : ℕ) (opens : List Open) → EndUpTo most opens → AllWithin most opens
 all_within most [] all = tt
 all_within most (o ∷ os) all = (all 0 o (omega arith), all_within most os (λ k d inside. all (suc k) d (omega (arith, inside))))
+
+-- a block that is opened does
+abbrev EndsWithin : ℕ → Next → Type 0
+EndsWithin most (Opens wrapped block) = block.end ≤ most
+EndsWithin most next = Unit {0}
 
 -- ## Settling
 
@@ -122,11 +127,11 @@ lines_step n whole tokens w count braces stay o os start at f (Opens wrapped b) 
     ∙ (ap (λ (ls : List Line). (move heads ++ move inner) ++ ls) (stay (o ∷ os) (Closing b) b.end all)
     ∙ sym (map-append (code_line_behind n) (heads ++ inner) rest ∙ ap (λ (ls : List Line). ls ++ move rest) (map-append (code_line_behind n) heads inner))))
 
-ends_low : (most end : ℕ) (next : Next) → end ≤ most → EndsWithin end next → EndsWithin most next
-ends_low most end Ends low within = tt
-ends_low most end (Goes s) low within = tt
-ends_low most end (Waits h) low within = tt
-ends_low most end (Opens wrapped b) low within = let q : b.end ≤ end = within in omega arith
+block_within : (most at end : ℕ) (form : Form) (next : Next) → end ≤ most → Reaches at end form next → EndsWithin most next
+block_within most at end form Ends low reaches = tt
+block_within most at end form (Goes start) low reaches = tt
+block_within most at end form (Waits head) low reaches = tt
+block_within most at end form (Opens wrapped block) low reaches = omega (arith, low, reaches.ends)
 
 lines_there : (n : ℕ) (whole tokens : List CodeToken) → IsWindow n whole tokens → (count : ℕ) (braces : Braces) → AreLinesThere n whole tokens count braces
 lines_there n whole tokens w zero braces opens start at all = refl
@@ -137,7 +142,7 @@ lines_there n whole tokens w (suc count) braces (o ∷ os) start at all =
     (lines_after count braces whole (open_behind n o) (map (open_behind n) os) (start_behind n start) (n + at) (form_of braces whole (open_behind n o) (start_behind n start) (n + at)) (form_of braces whole (open_behind n o) (start_behind n start) (n + at)).next) []
     (lt_there n at o.end)
     (λ less. ap (λ (g : Form). lines_after count braces whole (open_behind n o) (map (open_behind n) os) (start_behind n start) (n + at) g g.next) (form_there w braces o start at all.0 (ltb-true at o.end less))
-    ∙ lines_step n whole tokens w count braces (λ opens start at all. lines_there n whole tokens w count braces opens start at all) o os start at f f.next all (ends_low (length tokens) o.end f.next all.0 (form_within braces tokens o start at)))
+    ∙ lines_step n whole tokens w count braces (λ opens start at all. lines_there n whole tokens w count braces opens start at all) o os start at f f.next all (block_within (length tokens) at o.end f f.next all.0 (form_reaches braces tokens o start at (ltb-true at o.end less))))
     (λ _. refl)
 
 -- ## The level at the end
@@ -185,7 +190,7 @@ end_there n whole tokens w (suc count) braces (o ∷ os) start at all =
     (level_after count braces whole (open_behind n o) (map (open_behind n) os) (form_of braces whole (open_behind n o) (start_behind n start) (n + at)) (form_of braces whole (open_behind n o) (start_behind n start) (n + at)).next) (level_of_list (map (open_behind n) (o ∷ os)))
     (lt_there n at o.end)
     (λ less. ap (λ (g : Form). level_after count braces whole (open_behind n o) (map (open_behind n) os) g g.next) (form_there w braces o start at all.0 (ltb-true at o.end less))
-    ∙ level_step n whole tokens w count braces (λ opens start at all. end_there n whole tokens w count braces opens start at all) o os f f.next all (ends_low (length tokens) o.end f.next all.0 (form_within braces tokens o start at)))
+    ∙ level_step n whole tokens w count braces (λ opens start at all. end_there n whole tokens w count braces opens start at all) o os f f.next all (block_within (length tokens) at o.end f f.next all.0 (form_reaches braces tokens o start at (ltb-true at o.end less))))
     (λ _. level_there n (o ∷ os))
 
 -- ## Both

@@ -108,20 +108,6 @@ stop_there {n} {whole} {tokens} w (suc fuel) end i assigned most =
     ∙ stop_there w fuel end (step_over tokens end i) (assigns tokens assigned i) most))))
     (λ _. refl)
 
--- a scan stops in its list
-pub stop_within : (fuel : ℕ) (tokens : List CodeToken) (end i : ℕ) (assigned : Bool) → (statement_stop fuel tokens end i assigned).at ≤ end
-stop_within zero tokens end i assigned = omega arith
-stop_within (suc fuel) tokens end i assigned =
-    keep (nat_lt i end) _ _
-    (λ less. let inside : i < end = ltb-true i end less in
-    keep (is_semicolon (class_at tokens i)) _ _ (λ _. omega arith)
-    (λ _. keep (opens_block tokens assigned i) _ _ (λ _. omega arith) (λ _. stop_within fuel tokens end (step_over tokens end i) (assigns tokens assigned i))))
-    (λ _. omega arith)
-  where
-    keep : (b : Bool) (x y : Stop) → (b ≡ true → x.at ≤ end) → (b ≡ false → y.at ≤ end) → (elim b as (λ _. Stop) [ true ↦ x | false ↦ y ]).at ≤ end
-    keep true x y one other = one refl
-    keep false x y one other = other refl
-
 -- ## Openers
 
 -- an opener's place, and 0 for none

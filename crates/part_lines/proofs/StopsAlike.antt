@@ -1,7 +1,7 @@
 -- A statement outside brackets stops at the same place in a list that ends behind a declaration and in a longer one.
 use Rattle.std.proofs.Common.{◌≡◌, ◌∙◌, ℕ, zero, suc, ◌+◌, ◌-◌, ◌<◌, ◌≤◌, nat_lt, Bool, true, false, not, ◌&&◌, ◌||◌, Option, Some, List, refl, arith, sym, ap, subst, inl, inr, ◌⊎◌}
 use Rattle.std.specs.Prelude.{slice_get, if◌then◌else◌}
-use Rattle.std.proofs.lemmas.Bool.{and_parts, or_cases, cases_Bool, cond_both, cond-true, cond-false}
+use Rattle.std.proofs.lemmas.Bool.{and_parts, or_cases, cases_Bool, cond_both, cond-true, cond-false, lt-ltb}
 use Rattle.token_classes.specs.declared.class.TokenClass.{TokenClass}
 use Rattle.token_classes.specs.declared.class.TokenClass.TheVariants.{Nothing, OpenBrace, CloseRound, CapitalWord, PlainWord, Semicolon as SemicolonClass}
 use Rattle.token_classes.specs.Classes.{is_word, is_plain, is_opener, is_assigning, is_before_list, is_call_word, is_open_round, is_close_round, is_open_brace, is_semicolon}
@@ -13,8 +13,8 @@ use Rattle.unwrapped_lines.specs.declared.form.Stop.{Stop}
 use Rattle.unwrapped_lines.specs.Forms.{class_at, class_before, partner_of, partner_in, behind, behind_partner, step_over, opens_list, opens_block, assigns, statement_stop, call_opener, tag_before, is_member_word}
 use Rattle.unwrapped_lines.proofs.ScanLemmas.{stop_step, tag_other}
 use Rattle.part_lines.proofs.CodeCut.{behind_code, behind_opener, assigned_behind}
-use Rattle.part_lines.proofs.TakesTokens.{either, choose_true, choose_false, lt_true}
 use Rattle.part_lines.proofs.WayLemmas.{Way, WayOn, EndsBeforeWord, partner_place, partner_longer, opener_code, other_code, semicolon_code}
+use Rattle.part_lines.proofs.Choices.{either, at_true, at_false}
 
 -- ## Classes
 
@@ -60,7 +60,7 @@ no_call tokens first at p mine call =
     let place : p + 1 - 1 ≡ p = omega arith in
     let found : ℕ → ℕ = λ o. elim (nat_lt 0 o && is_call_word (class_at tokens (o - 1))) as (λ _. ℕ) [ true ↦ o | false ↦ 0 ] in
     let here : (o : ℕ) → (o ≡ at) ⊎ (o ≡ 0) → found o ≡ 0 = λ o d. elim d [
-      | inl e ↦ choose_false (nat_lt 0 o && is_call_word (class_at tokens (o - 1))) o 0 (ap (λ x. nat_lt 0 x && is_call_word (class_at tokens (x - 1))) e ∙ and_none (nat_lt 0 at) (is_call_word (class_at tokens (at - 1))) call)
+      | inl e ↦ at_false (nat_lt 0 o && is_call_word (class_at tokens (o - 1))) o 0 (ap (λ x. nat_lt 0 x && is_call_word (class_at tokens (x - 1))) e ∙ and_none (nat_lt 0 at) (is_call_word (class_at tokens (at - 1))) call)
       | inr e ↦ ap found e
     ] in
     let opener : (behind first p (Some at) ≡ at) ⊎ (behind first p (Some at) ≡ 0) =
@@ -75,7 +75,7 @@ no_call tokens first at p mine call =
     and_none false y e = refl
 
 class_before_is : (tokens : List CodeToken) (first at : ℕ) → first < at → class_before tokens at ≡ class_at tokens (at - 1)
-class_before_is tokens first at h = choose_true (nat_lt 0 at) (class_at tokens (at - 1)) Nothing (lt_true 0 at (omega arith))
+class_before_is tokens first at h = at_true (nat_lt 0 at) (class_at tokens (at - 1)) Nothing (lt-ltb 0 at (omega arith))
 
 -- a `{` behind parameters opens a block where no `=` stands before
 body_opens : (tokens : List CodeToken) (first at : ℕ) → Known tokens first at Parameters → is_open_brace (class_at tokens at) ≡ true → opens_block tokens false at ≡ true
@@ -139,19 +139,19 @@ imply_next tokens at told assigned imply semi e =
 semicolon_stop : (k : ℕ) (tokens : List CodeToken) (end at : ℕ) (a : Bool) → at < end → end - at ≤ k → is_semicolon (class_at tokens at) ≡ true
     → statement_stop k tokens end at a ≡ record { at = at + 1; opens = false; assigned = a }
 semicolon_stop zero tokens end at a lt enough semi = absurd (omega arith)
-semicolon_stop (suc k) tokens end at a lt enough semi = rw (lt_true at end lt, semi, statement_stop) refl
+semicolon_stop (suc k) tokens end at a lt enough semi = rw (lt-ltb at end lt, semi, statement_stop) refl
 
 brace_stop : (k : ℕ) (tokens : List CodeToken) (end at : ℕ) (a : Bool) → at < end → end - at ≤ k → is_semicolon (class_at tokens at) ≡ false → opens_block tokens a at ≡ true
     → statement_stop k tokens end at a ≡ record { at = at; opens = true; assigned = a }
 brace_stop zero tokens end at a lt enough semi opens = absurd (omega arith)
-brace_stop (suc k) tokens end at a lt enough semi opens = rw (lt_true at end lt, semi, opens, statement_stop) refl
+brace_stop (suc k) tokens end at a lt enough semi opens = rw (lt-ltb at end lt, semi, opens, statement_stop) refl
 
 over_group : (tokens : List CodeToken) (end at p : ℕ) → is_opener (class_at tokens at) ≡ true → partner_in tokens end at ≡ Some p → p + 1 ≡ step_over tokens end at
 over_group tokens end at p o e =
-    sym (choose_true (is_opener (class_at tokens at)) (behind_partner end (partner_in tokens end at)) (at + 1) o ∙ ap (behind_partner end) e)
+    sym (at_true (is_opener (class_at tokens at)) (behind_partner end (partner_in tokens end at)) (at + 1) o ∙ ap (behind_partner end) e)
 
 over_one : (tokens : List CodeToken) (end at : ℕ) → is_opener (class_at tokens at) ≡ false → at + 1 ≡ step_over tokens end at
-over_one tokens end at o = sym (choose_false (is_opener (class_at tokens at)) (behind_partner end (partner_in tokens end at)) (at + 1) o)
+over_one tokens end at o = sym (at_false (is_opener (class_at tokens at)) (behind_partner end (partner_in tokens end at)) (at + 1) o)
 
 -- the brace of a block at a place outside brackets
 pub record OpensAt (tokens : List CodeToken) (end first at : ℕ) (assigned : Bool) : Type 0 where

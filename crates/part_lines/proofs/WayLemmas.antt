@@ -1,7 +1,7 @@
 -- The way outside brackets, in a list whose end stands at a place of longer ones.
 use Rattle.std.proofs.Common.{◌≡◌, ◌∙◌, ℕ, zero, suc, ◌+◌, ◌<◌, ◌≤◌, nat_lt, Bool, true, false, ◌&&◌, Option, Some, None, List, [], ◌∷◌, ◌++◌, length, refl, arith, sym, ap, subst, inl, inr, ◌⊎◌}
 use Rattle.std.specs.Prelude.{slice_get, if◌then◌else◌, IsTrue, IsFalse}
-use Rattle.std.proofs.lemmas.Bool.{and_parts, and_from, cases_Bool}
+use Rattle.std.proofs.lemmas.Bool.{and_parts, and_from, cases_Bool, ltb-true, lt-ltb}
 use Rattle.token_classes.specs.declared.class.TokenClass.{TokenClass}
 use Rattle.token_classes.specs.Classes.{is_word, is_plain, is_opener, is_open_round, is_close_round, is_semicolon}
 use Rattle.view_parts.specs.declared.walk.Before.{Before}
@@ -10,7 +10,7 @@ use Rattle.view_parts.specs.Walk.{is_end, is_lost}
 use Rattle.unwrapped_lines.specs.declared.token.CodeToken.{CodeToken}
 use Rattle.unwrapped_lines.specs.Forms.{class_of, class_at, partner_of, within, partner_in}
 use Rattle.part_lines.proofs.CodeCut.{Passes, behind_code, behind_opener, assigned_behind}
-use Rattle.part_lines.proofs.TakesTokens.{either, choose_true, lt_from, lt_true}
+use Rattle.part_lines.proofs.Choices.{either, at_true}
 
 -- the way goes on to this place, where the list ends behind a declaration
 abbrev pub Way : ℕ → List CodeToken → ℕ → ℕ → Before → Bool → Type 0
@@ -146,7 +146,7 @@ within_parts : (i end p : ℕ) (o : Option ℕ) → within i end o ≡ Some p �
 within_parts i end p None e = cc
 within_parts i end p (Some q) e =
     either (λ (x : Option ℕ). x ≡ Some p → (Some q ≡ Some p) × ((i < p) × (p < end))) (nat_lt i q && nat_lt q end) (Some q) None
-    (λ b s. let k = and_parts (nat_lt i q) (nat_lt q end) b in let same : q ≡ p = cc in (s, (subst (λ (x : ℕ). i < x) same (lt_from i q k.0), subst (λ (x : ℕ). x < end) same (lt_from q end k.1))))
+    (λ b s. let k = and_parts (nat_lt i q) (nat_lt q end) b in let same : q ≡ p = cc in (s, (subst (λ (x : ℕ). i < x) same (ltb-true i q k.0), subst (λ (x : ℕ). x < end) same (ltb-true q end k.1))))
     (λ b s. cc) e
 
 -- where a partner stands
@@ -154,7 +154,7 @@ pub partner_place : (tokens : List CodeToken) (end i p : ℕ) → partner_in tok
 partner_place tokens end i p e = (within_parts i end p (partner_of (slice_get tokens i)) e).1
 
 within_from : (i end p : ℕ) → i < p → p < end → within i end (Some p) ≡ Some p
-within_from i end p a b = choose_true (nat_lt i p && nat_lt p end) (Some p) None (and_from (nat_lt i p) (nat_lt p end) (lt_true i p a) (lt_true p end b))
+within_from i end p a b = at_true (nat_lt i p && nat_lt p end) (Some p) None (and_from (nat_lt i p) (nat_lt p end) (lt-ltb i p a) (lt-ltb p end b))
 
 -- the partner is the same in the longer list
 pub partner_longer : (tokens : List CodeToken) (end whole i p : ℕ) → end ≤ whole → partner_in tokens end i ≡ Some p → partner_in tokens whole i ≡ Some p
