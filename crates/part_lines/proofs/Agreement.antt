@@ -2,8 +2,8 @@
 use Rattle.std.proofs.Common.{◌≡◌, ◌∙◌, ◌⊎◌, inl, inr, ℕ, Bool, true, false, not, ◌&&◌, ◌||◌, Option, List, [], ◌∷◌, refl, sym, ap, subst}
 use Rattle.std.specs.Prelude.{if◌then◌else◌}
 use Rattle.token_classes.specs.declared.class.TokenClass.{TokenClass}
-use Rattle.token_classes.specs.declared.class.TokenClass.TheVariants.{OpenRound, OpenSquare, OpenBrace, CloseBrace, Semicolon as SemicolonClass, LineComment, BlockComment}
-use Rattle.token_classes.specs.Classes.{is_opener, is_open_brace, is_close_brace, is_semicolon, is_plain, is_assigning, is_comment, is_before_list, is_close_round}
+use Rattle.token_classes.specs.declared.class.TokenClass.TheVariants.{OpenRound, OpenSquare, OpenBrace, LineComment, BlockComment}
+use Rattle.token_classes.specs.Classes.{is_opener, is_open_brace, is_semicolon, is_plain, is_assigning, is_comment}
 use Rattle.brackets.specs.declared.pairing.Opener.{Opener}
 use Rattle.brackets.specs.Partners.{Matching, bracket_step}
 use Rattle.view_parts.specs.declared.walk.Before.{Before}
@@ -72,15 +72,6 @@ comment_agrees walk before LineComment comment = between_or_other before (is_bet
 comment_agrees walk before BlockComment comment = between_or_other before (is_between walk.before)
 comment_agrees walk before _ comment = absurd (never comment)
 
-no_end_between : (between : Bool) → is_end (if between then Between else Other) ≡ true → ⊥
-no_end_between true e = never e
-no_end_between false e = never e
-
-pub comment_ends_nothing : (walk : Walk) (class : TokenClass) → is_comment class ≡ true → is_end (behind walk class) ≡ true → ⊥
-comment_ends_nothing walk LineComment comment e = no_end_between (is_between walk.before) e
-comment_ends_nothing walk BlockComment comment e = no_end_between (is_between walk.before) e
-comment_ends_nothing walk _ comment e = never comment
-
 -- ## What was assigned
 
 pub assigned_agrees : (assigned : Bool) (class : TokenClass) → not (is_semicolon class) && (assigned || is_assigning class) ≡ assigned_behind assigned class
@@ -101,51 +92,6 @@ pub comment_assigns_nothing : (assigned : Bool) (class : TokenClass) → is_comm
 comment_assigns_nothing assigned LineComment comment = or_nothing assigned
 comment_assigns_nothing assigned BlockComment comment = or_nothing assigned
 comment_assigns_nothing assigned _ comment = absurd (never comment)
-
--- ## Where a declaration ends
-
--- a token that ends a declaration
-pub record IsLast (class : TokenClass) : Type 0 where
-  pub code : is_comment class ≡ false
-  pub list : is_before_list class ≡ false
-  pub closes : is_close_round class ≡ false
-
-pub semicolon_is_last : (class : TokenClass) → is_semicolon class ≡ true → IsLast class
-semicolon_is_last SemicolonClass e = record { code = refl; list = refl; closes = refl }
-semicolon_is_last _ e = absurd (never e)
-
-pub brace_is_last : (class : TokenClass) → is_close_brace class ≡ true → IsLast class
-brace_is_last CloseBrace e = record { code = refl; list = refl; closes = refl }
-brace_is_last _ e = absurd (never e)
-
--- outside brackets a `;`
-pub token_ends : (walk : Walk) (class : TokenClass) → is_opener class ≡ false → is_end (behind walk class) ≡ true → is_semicolon class ≡ true
-token_ends walk class opens = by_bits (is_opener class) (is_semicolon class) (is_comment class && is_between walk.before) (is_plain class) opens
-  where
-    by_bits : (opener semicolon between plain : Bool) → opener ≡ false
-        → is_end (if opener then behind_group walk class else (if semicolon then Semicolon else (if between then Between else (if plain then Name else Other)))) ≡ true → semicolon ≡ true
-    by_bits true semicolon between plain opens e = absurd (never (sym opens))
-    by_bits false true between plain opens e = refl
-    by_bits false false true plain opens e = absurd (never e)
-    by_bits false false false true opens e = absurd (never e)
-    by_bits false false false false opens e = absurd (never e)
-
-round_ends_nothing : (place : ℕ) (there : Before) (assigned commented : Bool) (asked : Option ℕ) → is_end (behind_group (walk_at place there assigned commented asked) OpenRound) ≡ true → ⊥
-round_ends_nothing place Name assigned commented asked e = never e
-round_ends_nothing place Parameters assigned commented asked e = never e
-round_ends_nothing place _ assigned commented asked e = never e
-
-square_ends_nothing : (place : ℕ) (there : Before) (assigned commented : Bool) (asked : Option ℕ) → is_end (behind_group (walk_at place there assigned commented asked) OpenSquare) ≡ true → ⊥
-square_ends_nothing place Name assigned commented asked e = never e
-square_ends_nothing place Parameters assigned commented asked e = never e
-square_ends_nothing place _ assigned commented asked e = never e
-
--- and a group in braces
-pub group_ends : (walk : Walk) (class : TokenClass) → is_opener class ≡ true → is_end (behind walk class) ≡ true → is_open_brace class ≡ true
-group_ends walk OpenBrace opens e = refl
-group_ends walk OpenRound opens e = absurd (round_ends_nothing walk.place walk.before walk.assigned walk.commented walk.asked e)
-group_ends walk OpenSquare opens e = absurd (square_ends_nothing walk.place walk.before walk.assigned walk.commented walk.asked e)
-group_ends walk _ opens e = absurd (never opens)
 
 -- ## Which openers wait, where none did before
 
@@ -169,3 +115,8 @@ pub opener_is_no_comment : (class : TokenClass) → is_opener class ≡ true →
 opener_is_no_comment LineComment opens = absurd (never opens)
 opener_is_no_comment BlockComment opens = absurd (never opens)
 opener_is_no_comment _ opens = refl
+
+pub comment_is_no_opener : (class : TokenClass) → is_comment class ≡ true → is_opener class ≡ false
+comment_is_no_opener LineComment comment = refl
+comment_is_no_opener BlockComment comment = refl
+comment_is_no_opener _ comment = absurd (never comment)

@@ -147,15 +147,17 @@ outside_asked _ place asked e = refl
 -- ## What holds on the way
 
 -- no part is asked to end where an opener waits, and the group that ends a declaration is that of a `{`
-record IsSound (walk : Walk) (waiting : List Opener) : Type 0 where
+pub record IsSound (walk : Walk) (waiting : List Opener) : Type 0 where
   pub asked : is_open waiting ≡ true → walk.asked ≡ None
   pub body : is_end walk.before ≡ true → on_brace waiting ≡ true
 
-outside_sound : (walk : Walk) (class : TokenClass) (asked : Option ℕ) → IsSound (outside walk class asked) (waiting_behind class walk.place [])
+pub outside_sound : (walk : Walk) (class : TokenClass) (asked : Option ℕ) → IsSound (outside walk class asked) (waiting_behind class walk.place [])
 outside_sound walk class asked = record { asked = outside_asked class walk.place asked; body = outside_on walk class }
 
-inside_sound : (walk : Walk) (class : TokenClass) (opener : Opener) (below : List Opener) → IsSound walk (opener ∷ below) → IsSound (inside walk class) (waiting_behind class walk.place (opener ∷ below))
-inside_sound walk class opener below sound = record {
+pub inside_sound : (walk : Walk) (class : TokenClass) (waiting : List Opener) → is_open waiting ≡ true → IsSound walk waiting
+    → IsSound (inside walk class) (waiting_behind class walk.place waiting)
+inside_sound walk class [] opened sound = cc
+inside_sound walk class (opener ∷ below) opened sound = record {
   asked = λ e. sound.asked refl;
   body = λ e. (inside_on class walk.place opener below (sound.body e)).0;
 }
@@ -274,7 +276,27 @@ tells_end arena walk [] (id ∷ ids) count sound e =
     told_outside arena walk id count ids (λ next was rest. tells_end arena next (waiting_behind (item_class arena id) walk.place []) ids count was rest) e
 tells_end arena walk (opener ∷ below) (id ∷ ids) count sound e =
     told_inside arena walk opener below id count ids sound
-    (tells_end arena (inside walk (item_class arena id)) (waiting_behind (item_class arena id) walk.place (opener ∷ below)) ids count (inside_sound walk (item_class arena id) opener below sound) e)
+    (tells_end arena (inside walk (item_class arena id)) (waiting_behind (item_class arena id) walk.place (opener ∷ below)) ids count (inside_sound walk (item_class arena id) (opener ∷ below) refl sound) e)
+
+-- the part isn't asked to end behind so many items
+abbrev pub IsUnasked : ℕ → Walk → Type 0
+IsUnasked count walk = walk.asked ≡ Some count → ⊥
+
+-- where the way stands at the end of a part, which it wasn't asked before to end there
+pub record IsEnd (walk : Walk) (waiting : List Opener) : Type 0 where
+  pub closed : waiting ≡ []
+  pub ends : is_end walk.before ≡ true
+
+pub ended : (arena : Contents) (later : List ℕ) (walk : Walk) (waiting : List Opener) (count : ℕ) → walk.place ≡ count → IsUnasked count walk → IsSound walk waiting
+    → next_end arena walk waiting later ≡ Some count → IsEnd walk waiting
+ended arena later walk waiting count here unasked sound e = elim (tells_end arena walk waiting later count sound e) [
+  | inl told ↦ absurd (unasked told.0)
+  | inr among ↦ at_once among.earlier among.counted among.closed_there among.ends
+]
+  where
+    at_once : (earlier : List ℕ) → walk.place + length earlier ≡ count → waiting_from walk.place waiting (classes_of arena earlier) ≡ [] → EndsSo arena walk earlier → IsEnd walk waiting
+    at_once [] counted closed ends = record { closed = closed; ends = ends }
+    at_once (id ∷ earlier) counted closed ends = absurd (omega (arith, here, counted))
 
 -- ## First parts
 

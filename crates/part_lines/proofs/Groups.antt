@@ -5,7 +5,7 @@ use Rattle.std.specs.Prelude.{slice_set}
 use Rattle.token_arena.specs.Gaps.{Contents}
 use Rattle.token_classes.specs.declared.class.TokenClass.{TokenClass}
 use Rattle.token_classes.specs.declared.class.TokenClass.TheVariants.{OpenRound, CloseRound, OpenSquare, CloseSquare, OpenBrace, CloseBrace}
-use Rattle.token_classes.specs.Classes.{is_comment, is_open_brace, is_close_brace}
+use Rattle.token_classes.specs.Classes.{is_comment}
 use Rattle.token_classes.specs.Viewed.{item_class, classes_of}
 use Rattle.brackets.specs.declared.pairing.Opener.{Opener}
 use Rattle.brackets.specs.Partners.{Matching, Nearest, is_brace, is_round, is_square, nearest_brace, topmost, closed, bracket_step, paired, TakesStep, matching_from}
@@ -14,45 +14,29 @@ use Rattle.view_parts.specs.Walk.{inside, reading}
 use Rattle.view_parts.specs.Parts.{waiting_behind, is_open, next_end}
 use Rattle.view_parts.proofs.Walked.{by_reading, waits}
 use Rattle.part_lines.proofs.Agreement.{matching}
-use Rattle.part_lines.proofs.Ending.{IsUnasked, ended}
+use Rattle.part_lines.proofs.FirstPart.{IsUnasked, IsSound, inside_sound, ended}
+use Rattle.part_lines.proofs.Choices.{either}
 
 -- ## One token, where this opener waits below the others
 
 -- what a closer finds among openers that wait above this one
-abbrev Finds : Opener → Bool → Option Nearest → Type 0
-Finds bottom fits found =
+abbrev Finds : Opener → Option Nearest → Type 0
+Finds bottom found =
     (found ≡ None)
     ⊎ (((place : ℕ) × ((left : List Opener) × (found ≡ Some (record { place = place; below = left ++ bottom ∷ [] }))))
-    ⊎ ((fits ≡ true) × (found ≡ Some (record { place = bottom.place; below = [] }))))
+    ⊎ (found ≡ Some (record { place = bottom.place; below = [] })))
 
-finds_brace : (above : List Opener) (bottom : Opener) → Finds bottom (is_brace bottom) (nearest_brace (above ++ bottom ∷ []))
-finds_brace [] bottom = by_brace (is_brace bottom)
-  where
-    by_brace : (brace : Bool) → Finds bottom brace (elim brace as (λ _. Option Nearest) [ true ↦ Some (record { place = bottom.place; below = [] }) | false ↦ None ])
-    by_brace true = inr (inr (refl, refl))
-    by_brace false = inl refl
-finds_brace (opener ∷ above) bottom = by_brace (is_brace opener) (finds_brace above bottom)
-  where
-    by_brace : (brace : Bool) → Finds bottom (is_brace bottom) (nearest_brace (above ++ bottom ∷ []))
-        → Finds bottom (is_brace bottom) (elim brace as (λ _. Option Nearest) [ true ↦ Some (record { place = opener.place; below = above ++ bottom ∷ [] }) | false ↦ nearest_brace (above ++ bottom ∷ []) ])
-    by_brace true on = inr (inl (opener.place, (above, refl)))
-    by_brace false on = on
+finds_brace : (above : List Opener) (bottom : Opener) → Finds bottom (nearest_brace (above ++ bottom ∷ []))
+finds_brace [] bottom = either (Finds bottom) (is_brace bottom) (Some (record { place = bottom.place; below = [] })) None (λ _. inr (inr refl)) (λ _. inl refl)
+finds_brace (opener ∷ above) bottom =
+    either (Finds bottom) (is_brace opener) (Some (record { place = opener.place; below = above ++ bottom ∷ [] })) (nearest_brace (above ++ bottom ∷ []))
+    (λ _. inr (inl (opener.place, (above, refl)))) (λ _. finds_brace above bottom)
 
-finds_topmost : (fits : Opener → Bool) (above : List Opener) (bottom : Opener) → Finds bottom (fits bottom) (topmost fits (above ++ bottom ∷ []))
-finds_topmost fits [] bottom = by_fit (fits bottom)
-  where
-    by_fit : (fit : Bool) → Finds bottom fit (elim fit as (λ _. Option Nearest) [ true ↦ Some (record { place = bottom.place; below = [] }) | false ↦ None ])
-    by_fit true = inr (inr (refl, refl))
-    by_fit false = inl refl
-finds_topmost fits (opener ∷ above) bottom = by_fit (fits opener)
-  where
-    by_fit : (fit : Bool) → Finds bottom (fits bottom) (elim fit as (λ _. Option Nearest) [ true ↦ Some (record { place = opener.place; below = above ++ bottom ∷ [] }) | false ↦ None ])
-    by_fit true = inr (inl (opener.place, (above, refl)))
-    by_fit false = inl refl
-
--- it closes the group of this opener
-abbrev pub Closes : TokenClass → Opener → Type 0
-Closes class bottom = (is_comment class ≡ false) × (is_open_brace bottom.kind ≡ true → is_close_brace class ≡ true)
+finds_topmost : (fits : Opener → Bool) (above : List Opener) (bottom : Opener) → Finds bottom (topmost fits (above ++ bottom ∷ []))
+finds_topmost fits [] bottom = either (Finds bottom) (fits bottom) (Some (record { place = bottom.place; below = [] })) None (λ _. inr (inr refl)) (λ _. inl refl)
+finds_topmost fits (opener ∷ above) bottom =
+    either (Finds bottom) (fits opener) (Some (record { place = opener.place; below = above ++ bottom ∷ [] })) None
+    (λ _. inr (inl (opener.place, (above, refl)))) (λ _. inl refl)
 
 -- behind it the opener waits below others
 abbrev Stays : TokenClass → ℕ → List Opener → Opener → Type 0
@@ -60,38 +44,28 @@ Stays class place above bottom = (left : List Opener) × ((taken : Option ℕ) �
 
 -- it takes the opener off, and none is left
 abbrev Leaves : TokenClass → ℕ → List Opener → Opener → Type 0
-Leaves class place above bottom = TakesStep class place (above ++ bottom ∷ []) (Some bottom.place) [] × Closes class bottom
+Leaves class place above bottom = TakesStep class place (above ++ bottom ∷ []) (Some bottom.place) [] × (is_comment class ≡ false)
 
-closer_steps : (class : TokenClass) (place : ℕ) (above : List Opener) (bottom : Opener) (fits : Bool) (found : Option Nearest)
+closer_steps : (class : TokenClass) (place : ℕ) (above : List Opener) (bottom : Opener) (found : Option Nearest) → is_comment class ≡ false
     → ((partners : List (Option ℕ)) → closed place found (matching (above ++ bottom ∷ []) partners) ≡ bracket_step class place (matching (above ++ bottom ∷ []) partners))
-    → (fits ≡ true → Closes class bottom) → Finds bottom fits found → Stays class place above bottom ⊎ Leaves class place above bottom
-closer_steps class place above bottom fits found is closes (inl none) =
+    → Finds bottom found → Stays class place above bottom ⊎ Leaves class place above bottom
+closer_steps class place above bottom found code is (inl none) =
     inl (above, (None, λ partners. ap (λ (f : Option Nearest). closed place f (matching (above ++ bottom ∷ []) partners)) (sym none) ∙ is partners))
-closer_steps class place above bottom fits found is closes (inr (inl some)) =
+closer_steps class place above bottom found code is (inr (inl some)) =
     inl (some.1.0, (Some some.0, λ partners. ap (λ (f : Option Nearest). closed place f (matching (above ++ bottom ∷ []) partners)) (sym some.1.1) ∙ is partners))
-closer_steps class place above bottom fits found is closes (inr (inr last)) =
-    inr (λ partners. ap (λ (f : Option Nearest). closed place f (matching (above ++ bottom ∷ []) partners)) (sym last.1) ∙ is partners, closes last.0)
-
-round_is_no_brace : (place : ℕ) (kind : TokenClass) → is_round (record { place = place; kind = kind }) ≡ true → is_open_brace kind ≡ true → ⊥
-round_is_no_brace place OpenBrace round brace = cc
-round_is_no_brace place _ round brace = cc
-
-square_is_no_brace : (place : ℕ) (kind : TokenClass) → is_square (record { place = place; kind = kind }) ≡ true → is_open_brace kind ≡ true → ⊥
-square_is_no_brace place OpenBrace square brace = cc
-square_is_no_brace place _ square brace = cc
+closer_steps class place above bottom found code is (inr (inr last)) =
+    inr (λ partners. ap (λ (f : Option Nearest). closed place f (matching (above ++ bottom ∷ []) partners)) (sym last) ∙ is partners, code)
 
 steps : (class : TokenClass) (place : ℕ) (above : List Opener) (bottom : Opener) → Stays class place above bottom ⊎ Leaves class place above bottom
 steps OpenRound place above bottom = inl (record { place = place; kind = OpenRound } ∷ above, (None, λ partners. refl))
 steps OpenSquare place above bottom = inl (record { place = place; kind = OpenSquare } ∷ above, (None, λ partners. refl))
 steps OpenBrace place above bottom = inl (record { place = place; kind = OpenBrace } ∷ above, (None, λ partners. refl))
 steps CloseRound place above bottom =
-    closer_steps CloseRound place above bottom (is_round bottom) (topmost is_round (above ++ bottom ∷ [])) (λ partners. refl)
-    (λ round. (refl, λ brace. absurd (round_is_no_brace bottom.place bottom.kind round brace))) (finds_topmost is_round above bottom)
+    closer_steps CloseRound place above bottom (topmost is_round (above ++ bottom ∷ [])) refl (λ partners. refl) (finds_topmost is_round above bottom)
 steps CloseSquare place above bottom =
-    closer_steps CloseSquare place above bottom (is_square bottom) (topmost is_square (above ++ bottom ∷ [])) (λ partners. refl)
-    (λ square. (refl, λ brace. absurd (square_is_no_brace bottom.place bottom.kind square brace))) (finds_topmost is_square above bottom)
+    closer_steps CloseSquare place above bottom (topmost is_square (above ++ bottom ∷ [])) refl (λ partners. refl) (finds_topmost is_square above bottom)
 steps CloseBrace place above bottom =
-    closer_steps CloseBrace place above bottom (is_brace bottom) (nearest_brace (above ++ bottom ∷ [])) (λ partners. refl) (λ brace. (refl, λ kind. refl)) (finds_brace above bottom)
+    closer_steps CloseBrace place above bottom (nearest_brace (above ++ bottom ∷ [])) refl (λ partners. refl) (finds_brace above bottom)
 steps _ place above bottom = inl (above, (None, λ partners. refl))
 
 -- ## The group
@@ -115,7 +89,7 @@ pub record IsGroup (arena : Contents) (later : List ℕ) (count : ℕ) (walk : W
   pub assigned : next.assigned ≡ walk.assigned
   pub unasked : IsUnasked count next
   pub ends : next_end arena next [] (behind ++ later) ≡ Some count
-  pub closes : Closes (item_class arena closer) bottom
+  pub code : is_comment (item_class arena closer) ≡ false
   pub pairs : (partners : List (Option ℕ)) → PairsThere bottom.place place (classes_of arena behind) partners (matching_from walk.place (matching (above ++ bottom ∷ []) partners) (classes_of arena rest)).partners
 
 some_wait : (above : List Opener) (bottom : Opener) → above ++ bottom ∷ [] ≡ [] → ⊥
@@ -130,13 +104,13 @@ pub paired_length : (partners : List (Option ℕ)) (taken : Option ℕ) (place :
 paired_length partners None place = refl
 paired_length partners (Some opener) place = length-set (slice_set partners opener (Some place)) place (Some opener) ∙ length-set partners opener (Some place)
 
-pub grouped : (arena : Contents) (later : List ℕ) (count : ℕ) (rest : List ℕ) (walk : Walk) (above : List Opener) (bottom : Opener) → walk.place + length rest ≡ count → IsUnasked count walk
+pub grouped : (arena : Contents) (later : List ℕ) (count : ℕ) (rest : List ℕ) (walk : Walk) (above : List Opener) (bottom : Opener) → walk.place + length rest ≡ count → IsUnasked count walk → IsSound walk (above ++ bottom ∷ [])
     → next_end arena walk (above ++ bottom ∷ []) (rest ++ later) ≡ Some count → IsGroup arena later count walk above bottom rest
-grouped arena later count [] walk above bottom all unasked e =
+grouped arena later count [] walk above bottom all unasked sound e =
     let here : walk.place ≡ count = omega (arith, all) in
-    absurd (some_wait above bottom (ended arena later walk (above ++ bottom ∷ []) count here unasked e).closed)
-grouped arena later count (id ∷ rest) walk above bottom all unasked e =
-    by_step (steps (item_class arena id) walk.place above bottom) (λ next left one was end. grouped arena later count rest next left bottom (omega (arith, one, all)) was end)
+    absurd (some_wait above bottom (ended arena later walk (above ++ bottom ∷ []) count here unasked sound e).closed)
+grouped arena later count (id ∷ rest) walk above bottom all unasked sound e =
+    by_step (steps (item_class arena id) walk.place above bottom) (λ next left one was still end. grouped arena later count rest next left bottom (omega (arith, one, all)) was still end)
   where
     class : TokenClass
     class = item_class arena id
@@ -148,12 +122,13 @@ grouped arena later count (id ∷ rest) walk above bottom all unasked e =
     goes = subst (λ (b : Bool). by_reading arena (waiting_behind (item_class arena id) walk.place (above ++ bottom ∷ [])) (rest ++ later) (reading arena walk b id (item_class arena id)) ≡ Some count) (is_open_there above bottom) e
 
     by_step : Stays (item_class arena id) walk.place above bottom ⊎ Leaves (item_class arena id) walk.place above bottom
-        → ((next : Walk) (left : List Opener) → next.place ≡ walk.place + 1 → IsUnasked count next → next_end arena next (left ++ bottom ∷ []) (rest ++ later) ≡ Some count → IsGroup arena later count next left bottom rest)
+        → ((next : Walk) (left : List Opener) → next.place ≡ walk.place + 1 → IsUnasked count next → IsSound next (left ++ bottom ∷ []) → next_end arena next (left ++ bottom ∷ []) (rest ++ later) ≡ Some count → IsGroup arena later count next left bottom rest)
         → IsGroup arena later count walk above bottom (id ∷ rest)
     by_step (inl stays) on =
         let left : List Opener = stays.0 in
         let waiting = waits (item_class arena id) walk.place (above ++ bottom ∷ []) (left ++ bottom ∷ []) stays.1.0 stays.1.1 in
-        let group = on next left refl unasked (subst (λ (w : List Opener). next_end arena next w (rest ++ later) ≡ Some count) (sym waiting) goes) in
+        let still = inside_sound walk (item_class arena id) (above ++ bottom ∷ []) (is_open_there above bottom) sound in
+        let group = on next left refl unasked (subst (IsSound next) (sym waiting) still) (subst (λ (w : List Opener). next_end arena next w (rest ++ later) ≡ Some count) (sym waiting) goes) in
         record {
           inner = id ∷ group.inner;
           closer = group.closer;
@@ -167,7 +142,7 @@ grouped arena later count (id ∷ rest) walk above bottom all unasked e =
           assigned = group.assigned;
           unasked = group.unasked;
           ends = group.ends;
-          closes = group.closes;
+          code = group.code;
           pairs = λ partners.
               let found = group.pairs (paired partners stays.1.0 walk.place) in (
                 found.0,
@@ -192,6 +167,6 @@ grouped arena later count (id ∷ rest) walk above bottom all unasked e =
           assigned = refl;
           unasked = unasked;
           ends = subst (λ (w : List Opener). next_end arena next w (rest ++ later) ≡ Some count) (sym waiting) goes;
-          closes = leaves.1;
+          code = leaves.1;
           pairs = λ partners. (partners, (refl, ap (λ (m : Matching). (matching_from (walk.place + 1) m (classes_of arena rest)).partners) (sym (leaves.0 partners))));
         }

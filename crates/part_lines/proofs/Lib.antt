@@ -15,7 +15,6 @@ pub mod FileCut
 pub mod FirstPart
 pub mod Matchings
 pub mod PartnersStay
-pub mod Ending
 pub mod Groups
 pub mod PartnersKept
 pub mod Counted
@@ -28,9 +27,9 @@ pub mod PlacesOfBoth
 pub mod PartnersBelow
 pub mod CodeOfBoth
 pub mod LinesCut
-pub mod FirstPartEnds
 pub mod PartsOfBoth
 pub mod LinesBetween
 pub mod BeginsOfBoth
 pub mod WholeLines
 pub mod LinesStay
+pub mod WalksOn

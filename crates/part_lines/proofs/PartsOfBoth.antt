@@ -1,20 +1,58 @@
 -- What the items of a first part, and those behind it, are in the view of both: what they are by themselves.
 use Rattle.std.proofs.Common.{◌≡◌, ◌∙◌, ◌⊎◌, inl, inr, ℕ, suc, ◌+◌, ◌≤◌, Bool, true, false, not, ◌||◌, Option, Some, None, List, [], ◌∷◌, ◌++◌, length, get_or, refl, sym, ap, subst, arith}
-use Rattle.std.specs.Prelude.{if◌then◌else◌, slice_get}
+use Rattle.std.specs.Prelude.{if◌then◌else◌, slice_get, ⊤}
 use Rattle.std.proofs.lemmas.Bool.{cases_Bool}
 use Rattle.std.proofs.lemmas.List.{map-append, length-map, get_or-append-add}
 use Rattle.std.proofs.Math.ListN.{get_or-append}
 use Rattle.token_arena.specs.Gaps.{Contents}
 use Rattle.token_arena.specs.Stored.{Stored}
 use Rattle.token_classes.specs.declared.class.TokenClass.{TokenClass}
-use Rattle.token_classes.specs.Classes.{is_comment, is_line_comment}
+use Rattle.token_classes.specs.declared.class.TokenClass.TheVariants.{Nothing, LineComment, BlockComment}
+use Rattle.token_classes.specs.Classes.{is_comment, is_line_comment, is_word}
 use Rattle.token_classes.specs.Viewed.{item_class, classes_of}
 use Rattle.view_parts.specs.Walk as walk
 use Rattle.unwrapped_lines.specs.declared.part.Part.{Part}
 use Rattle.unwrapped_lines.specs.declared.part.Part.TheVariants.{Token, Own, Trailing, Inner}
 use Rattle.unwrapped_lines.specs.Viewed.{began_of_item, item_began, line_ends_behind, part_of, parts_from, parts_of}
-use Rattle.part_lines.proofs.FirstPartEnds.{CommentsBegin, ends_code}
 use Rattle.part_lines.proofs.CodeOfBoth.{code_count}
+use Rattle.part_lines.proofs.FirstPart.{closes_part, last_of, Follows}
+
+-- ## Where a first part ends
+
+-- the comments before the first of these items that is none began their lines
+abbrev pub CommentsBegin : Contents → List ℕ → Type 0
+CommentsBegin arena [] = ⊤
+CommentsBegin arena (id ∷ ids) = is_comment (item_class arena id) ≡ true → (walk.item_began arena id ≡ true) × CommentsBegin arena ids
+
+word_or_comment : (class : TokenClass) → is_word class ≡ true → is_comment class ≡ true → ⊥
+word_or_comment LineComment word comment = cc
+word_or_comment BlockComment word comment = cc
+word_or_comment _ word comment = cc
+
+pub comments_begin : (arena : Contents) (ids : List ℕ) → Follows arena ids → CommentsBegin arena ids
+comments_begin arena [] follows = tt
+comments_begin arena (id ∷ ids) follows = λ comment. (
+  follows.0,
+  elim follows.1 [ inl word ↦ absurd (word_or_comment (item_class arena id) word comment) | inr on ↦ comments_begin arena ids on.1 ],
+)
+
+-- the last of these items is no comment, or it is known where there are none
+abbrev pub ends_code : Contents → Bool → List ℕ → Bool
+ends_code arena last [] = last
+ends_code arena last (id ∷ ids) = ends_code arena (not (is_comment (item_class arena id))) ids
+
+closer_is_code : (class : TokenClass) → closes_part class ≡ true → not (is_comment class) ≡ true
+closer_is_code LineComment closes = cc
+closer_is_code BlockComment closes = cc
+closer_is_code _ closes = refl
+
+ends_behind : (arena : Contents) (ids : List ℕ) (last : TokenClass) → closes_part (last_of last (classes_of arena ids)) ≡ true → ends_code arena (not (is_comment last)) ids ≡ true
+ends_behind arena [] last closes = closer_is_code last closes
+ends_behind arena (id ∷ ids) last closes = ends_behind arena ids (item_class arena id) closes
+
+pub ends_in_code : (arena : Contents) (ids : List ℕ) → closes_part (last_of Nothing (classes_of arena ids)) ≡ true → ends_code arena false ids ≡ true
+ends_in_code arena [] closes = cc
+ends_in_code arena (id ∷ ids) closes = ends_behind arena ids (item_class arena id) closes
 
 -- ## Tokens among parts
 

@@ -18,11 +18,12 @@ use Rattle.unwrapped_lines.specs.declared.token.CodeToken.{CodeToken}
 use Rattle.unwrapped_lines.specs.Forms.{class_at, partner_in}
 use Rattle.part_lines.specs.Cut.{IsFirstPart, partners_in}
 use Rattle.part_lines.proofs.CodeCut.{Passes, behind_code, assigned_behind, code_of}
-use Rattle.part_lines.proofs.Ending.{IsUnasked, BeginsSo, comment_is_no_opener, ended, GoesOutside, goes_outside}
 use Rattle.part_lines.proofs.Groups.{IsGroup, grouped, paired_length}
 use Rattle.part_lines.proofs.PartnersKept.{pair_found, partner_kept}
 use Rattle.part_lines.proofs.Counted.{count_of, counts_on, counts_one, counts_none, counts_all, code_class, code_within, code_partner}
-use Rattle.part_lines.proofs.Agreement.{Agrees, ends_agree, behind_agrees, comment_agrees, assigned_agrees, comment_assigns_nothing, IsLast, semicolon_is_last, brace_is_last, token_ends, group_ends, opener_waits, nothing_waits, opener_is_no_comment, matching}
+use Rattle.part_lines.proofs.Agreement.{Agrees, ends_agree, behind_agrees, comment_agrees, assigned_agrees, comment_assigns_nothing, opener_waits, nothing_waits, opener_is_no_comment, matching, comment_is_no_opener}
+use Rattle.part_lines.proofs.WalksOn.{GoesOutside, goes_outside}
+use Rattle.part_lines.proofs.FirstPart.{IsUnasked, IsSound, outside_sound, ended}
 
 -- ## Tokens that pass
 
@@ -59,10 +60,6 @@ passes_group n tokens at partner before assigned class is within lost opens foun
 
 -- ## The way along the items
 
--- the last of these items ends a declaration
-abbrev pub EndsSo : Contents → List ℕ → Type 0
-EndsSo arena ids = (before : List ℕ) × ((last : ℕ) × ((ids ≡ before ++ last ∷ []) × IsLast (item_class arena last)))
-
 -- the way stands outside brackets, behind some items of the first part and before the others
 record Stands (arena : Contents) (earlier later past rest : List ℕ) (walk : Walk) (before : Before) (assigned : Bool) : Type 0 where
   pub split : earlier ≡ past ++ rest
@@ -71,24 +68,23 @@ record Stands (arena : Contents) (earlier later past rest : List ℕ) (walk : Wa
   pub same_assigned : walk.assigned ≡ assigned
   pub unasked : IsUnasked (length earlier) walk
   pub ends : next_end arena walk [] (rest ++ later) ≡ Some (length earlier)
-  pub last : is_end walk.before ≡ true → EndsSo arena past
   pub partners : List (Option ℕ)
   pub many : length partners ≡ length earlier
   pub found : (matching_from walk.place (matching [] partners) (classes_of arena rest)).partners ≡ partners_in arena earlier
 
 -- what is to be told from there
-abbrev pub Told : Contents → List ℕ → List ℕ → ℕ → ℕ → Before → Bool → Type 0
-Told arena earlier later n at before assigned = Passes n (code_of arena earlier) at before assigned × (EndsSo arena earlier × BeginsSo arena later)
+abbrev Told : Contents → List ℕ → ℕ → ℕ → Before → Bool → Type 0
+Told arena earlier n at before assigned = Passes n (code_of arena earlier) at before assigned
 
-told_end : (n : ℕ) (arena : Contents) (earlier later past : List ℕ) (walk : Walk) (before : Before) (assigned : Bool) → Stands arena earlier later past [] walk before assigned → Told arena earlier later n (count_of arena past) before assigned
+told_end : (n : ℕ) (arena : Contents) (earlier later past : List ℕ) (walk : Walk) (before : Before) (assigned : Bool) → Stands arena earlier later past [] walk before assigned
+    → Told arena earlier n (count_of arena past) before assigned
 told_end n arena earlier later past walk before assigned stands =
     let whole : past ≡ earlier = sym (stands.split ∙ append-nil past) in
     let here : walk.place ≡ length earlier = stands.place ∙ ap length whole in
-    let end = ended arena later walk [] (length earlier) here stands.unasked stands.ends in
-    let all : count_of arena past ≡ length (code_of arena earlier) = ap (count_of arena) whole ∙ sym (counts_all arena earlier) in (
-      passes_end n (code_of arena earlier) (count_of arena past) before assigned all (ends_agree before walk.before stands.agrees end.ends),
-      (subst (EndsSo arena) whole (stands.last end.ends), end.begins),
-    )
+    let sound : IsSound walk [] = record { asked = λ e. cc; body = λ e. refl } in
+    let end = ended arena later walk [] (length earlier) here stands.unasked sound stands.ends in
+    let all : count_of arena past ≡ length (code_of arena earlier) = ap (count_of arena) whole ∙ sym (counts_all arena earlier) in
+    passes_end n (code_of arena earlier) (count_of arena past) before assigned all (ends_agree before walk.before stands.agrees end.ends)
 
 not_yet : (arena : Contents) (earlier later past : List ℕ) (id : ℕ) (rest : List ℕ) (walk : Walk) (before : Before) (assigned : Bool) → Stands arena earlier later past (id ∷ rest) walk before assigned → walk.place + 1 + length rest ≡ length earlier
 not_yet arena earlier later past id rest walk before assigned stands =
@@ -110,7 +106,6 @@ next_stands arena earlier later past id rest walk before next assigned after sta
       same_assigned = same;
       unasked = on.unasked;
       ends = subst (λ (w : List Opener). next_end arena (outside walk (item_class arena id) on.asked) w (rest ++ later) ≡ Some (length earlier)) none on.ends;
-      last = λ end. (past, (id, (refl, semicolon_is_last (item_class arena id) (token_ends walk (item_class arena id) opens end))));
       partners = stands.partners;
       many = stands.many;
       found = ap (λ (m : Matching). (matching_from (walk.place + 1) m (classes_of arena rest)).partners) (sym (nothing_waits (item_class arena id) walk.place stands.partners opens)) ∙ stands.found;
@@ -124,7 +119,7 @@ group_there arena earlier later past id rest walk before assigned stands on open
     let opener : Opener = record { place = walk.place; kind = item_class arena id } in
     let next : Walk = outside walk (item_class arena id) on.asked in
     let waiting : waiting_behind (item_class arena id) walk.place [] ≡ opener ∷ [] = ap (λ (m : Matching). m.open_brackets) (opener_waits (item_class arena id) walk.place [] opens) in
-    grouped arena later (length earlier) rest next [] opener (not_yet arena earlier later past id rest walk before assigned stands) on.unasked
+    grouped arena later (length earlier) rest next [] opener (not_yet arena earlier later past id rest walk before assigned stands) on.unasked (subst (IsSound next) waiting (outside_sound walk (item_class arena id) on.asked))
     (subst (λ (w : List Opener). next_end arena next w (rest ++ later) ≡ Some (length earlier)) waiting on.ends)
 
 -- where the group ends, and what is told of its opener
@@ -169,8 +164,8 @@ group_ends_so arena earlier later past id rest walk before assigned stands on op
       behind = group.behind;
       next = group.next;
       split = group.split;
-      code = group.closes.0;
-      partner = code_partner arena earlier past group.inner id group.closer group.behind group.place cut place code group.closes.0 found;
+      code = group.code;
+      partner = code_partner arena earlier past group.inner id group.closer group.behind group.place cut place code group.code found;
       stands = record {
         split = cut ∙ sym (append_assoc (past ++ id ∷ group.inner) (group.closer ∷ []) group.behind);
         place = omega (arith, group.next_place, place, length-append (past ++ id ∷ group.inner) (group.closer ∷ []));
@@ -179,10 +174,6 @@ group_ends_so arena earlier later past id rest walk before assigned stands on op
         same_assigned = group.assigned ∙ (assigned_agrees walk.assigned (item_class arena id) ∙ ap (λ (b : Bool). assigned_behind b (item_class arena id)) stands.same_assigned);
         unasked = group.unasked;
         ends = group.ends;
-        last = λ end. (
-          past ++ id ∷ group.inner,
-          (group.closer, (refl, brace_is_last (item_class arena group.closer) (group.closes.1 (group_ends walk (item_class arena id) opens (ap (λ (b : Before). is_end b) (sym group.before) ∙ end))))),
-        );
         partners = pair;
         many = paired_length pairs.0 (Some walk.place) group.place ∙ long;
         found = ap (λ k. (matching_from k (matching [] pair) (classes_of arena group.behind)).partners) group.next_place ∙ sym all;
@@ -201,24 +192,24 @@ no_more arena past id comment = omega (arith, counts_on arena past (id ∷ []), 
 abbrev AllTold : ℕ → Contents → List ℕ → List ℕ → Type 0
 AllTold m arena earlier later =
     (n : ℕ) (past rest : List ℕ) (walk : Walk) (before : Before) (assigned : Bool) → length rest ≤ m → length (code_of arena earlier) ≤ n + count_of arena past → Stands arena earlier later past rest walk before assigned
-    → Told arena earlier later n (count_of arena past) before assigned
+    → Told arena earlier n (count_of arena past) before assigned
 
 told_comment : (m : ℕ) (arena : Contents) (earlier later : List ℕ) → AllTold m arena earlier later
     → (n : ℕ) (past : List ℕ) (id : ℕ) (rest : List ℕ) (walk : Walk) (before : Before) (assigned : Bool) → length rest ≤ m → length (code_of arena earlier) ≤ n + count_of arena past
     → Stands arena earlier later past (id ∷ rest) walk before assigned → GoesOutside arena walk id (rest ++ later) (length earlier) → is_comment (item_class arena id) ≡ true
-    → Told arena earlier later n (count_of arena past) before assigned
+    → Told arena earlier n (count_of arena past) before assigned
 told_comment m arena earlier later told n past id rest walk before assigned few enough stands on comment =
     let opens = comment_is_no_opener (item_class arena id) comment in
     let same = no_more arena past id comment in
     let next = next_stands arena earlier later past id rest walk before before assigned assigned stands on opens (comment_agrees walk before (item_class arena id) comment)
     (comment_assigns_nothing walk.assigned (item_class arena id) comment ∙ stands.same_assigned) in
-    subst (λ (at : ℕ). Told arena earlier later n at before assigned) same
+    subst (λ (at : ℕ). Told arena earlier n at before assigned) same
     (told n (past ++ id ∷ []) rest (outside walk (item_class arena id) on.asked) before assigned few (omega (arith, enough, same)) next)
 
 told_token : (m : ℕ) (arena : Contents) (earlier later : List ℕ) → AllTold m arena earlier later
     → (n : ℕ) (past : List ℕ) (id : ℕ) (rest : List ℕ) (walk : Walk) (before : Before) (assigned : Bool) → length rest ≤ m → length (code_of arena earlier) ≤ suc n + count_of arena past
     → Stands arena earlier later past (id ∷ rest) walk before assigned → GoesOutside arena walk id (rest ++ later) (length earlier) → is_comment (item_class arena id) ≡ false → is_opener (item_class arena id) ≡ false
-    → Told arena earlier later (suc n) (count_of arena past) before assigned
+    → Told arena earlier (suc n) (count_of arena past) before assigned
 told_token m arena earlier later told n past id rest walk before assigned few enough stands on code opens =
     let class : TokenClass = item_class arena id in
     let one = one_more arena past id code in
@@ -227,16 +218,14 @@ told_token m arena earlier later told n past id rest walk before assigned few en
     subst (λ (b : Bool). Agrees (behind_code b before class) (behind walk class)) stands.same_assigned (behind_agrees walk before class code stands.agrees) in
     let next = next_stands arena earlier later past id rest walk before (behind_code assigned before class) assigned (assigned_behind assigned class) stands on opens agrees
     (assigned_agrees walk.assigned class ∙ ap (λ (b : Bool). assigned_behind b class) stands.same_assigned) in
-    let later_told = told n (past ++ id ∷ []) rest (outside walk class on.asked) (behind_code assigned before class) (assigned_behind assigned class) few (omega (arith, enough, one)) next in (
-      passes_token n tokens (count_of arena past) before assigned class (code_class arena earlier past id rest stands.split code) (code_within arena earlier past id rest stands.split code) on.lost opens
-          (subst (λ (at : ℕ). Passes n tokens at (behind_code assigned before class) (assigned_behind assigned class)) one later_told.0),
-      later_told.1,
-    )
+    let later_told = told n (past ++ id ∷ []) rest (outside walk class on.asked) (behind_code assigned before class) (assigned_behind assigned class) few (omega (arith, enough, one)) next in
+    passes_token n tokens (count_of arena past) before assigned class (code_class arena earlier past id rest stands.split code) (code_within arena earlier past id rest stands.split code) on.lost opens
+    (subst (λ (at : ℕ). Passes n tokens at (behind_code assigned before class) (assigned_behind assigned class)) one later_told)
 
 told_group : (m : ℕ) (arena : Contents) (earlier later : List ℕ) → AllTold m arena earlier later
     → (n : ℕ) (past : List ℕ) (id : ℕ) (rest : List ℕ) (walk : Walk) (before : Before) (assigned : Bool) → length rest ≤ m → length (code_of arena earlier) ≤ suc n + count_of arena past
     → Stands arena earlier later past (id ∷ rest) walk before assigned → GoesOutside arena walk id (rest ++ later) (length earlier) → is_opener (item_class arena id) ≡ true
-    → Told arena earlier later (suc n) (count_of arena past) before assigned
+    → Told arena earlier (suc n) (count_of arena past) before assigned
 told_group m arena earlier later told n past id rest walk before assigned few enough stands on opens =
     let class : TokenClass = item_class arena id in
     let tokens : List CodeToken = code_of arena earlier in
@@ -247,17 +236,15 @@ told_group m arena earlier later told n past id rest walk before assigned few en
     let fewer : length group.behind ≤ m = omega (arith, few, ap length group.split, length-append group.inner (group.closer ∷ group.behind)) in
     let more = counts_on arena past (id ∷ group.inner) in
     let here = counts_one arena id group.inner code in
-    let later_told = told n ((past ++ id ∷ group.inner) ++ group.closer ∷ []) group.behind group.next (behind_code assigned before class) (assigned_behind assigned class) fewer (omega (arith, enough, one, more, here)) group.stands in (
-      passes_group n tokens (count_of arena past) (count_of arena (past ++ id ∷ group.inner)) before assigned class (code_class arena earlier past id rest stands.split code) (code_within arena earlier past id rest stands.split code)
-          on.lost opens group.partner
-          (subst (λ (at : ℕ). Passes n tokens at (behind_code assigned before class) (assigned_behind assigned class)) one later_told.0),
-      later_told.1,
-    )
+    let later_told = told n ((past ++ id ∷ group.inner) ++ group.closer ∷ []) group.behind group.next (behind_code assigned before class) (assigned_behind assigned class) fewer (omega (arith, enough, one, more, here)) group.stands in
+    passes_group n tokens (count_of arena past) (count_of arena (past ++ id ∷ group.inner)) before assigned class (code_class arena earlier past id rest stands.split code) (code_within arena earlier past id rest stands.split code)
+    on.lost opens group.partner
+    (subst (λ (at : ℕ). Passes n tokens at (behind_code assigned before class) (assigned_behind assigned class)) one later_told)
 
 told_code : (m : ℕ) (arena : Contents) (earlier later : List ℕ) → AllTold m arena earlier later
     → (n : ℕ) (past : List ℕ) (id : ℕ) (rest : List ℕ) (walk : Walk) (before : Before) (assigned : Bool) → length rest ≤ m → length (code_of arena earlier) ≤ n + count_of arena past
     → Stands arena earlier later past (id ∷ rest) walk before assigned → GoesOutside arena walk id (rest ++ later) (length earlier) → is_comment (item_class arena id) ≡ false
-    → Told arena earlier later n (count_of arena past) before assigned
+    → Told arena earlier n (count_of arena past) before assigned
 told_code m arena earlier later told zero past id rest walk before assigned few enough stands on code = absurd (omega (arith, enough, code_within arena earlier past id rest stands.split code))
 told_code m arena earlier later told (suc n) past id rest walk before assigned few enough stands on code = elim (cases_Bool (is_opener (item_class arena id))) [
   | inl opens ↦ told_group m arena earlier later told n past id rest walk before assigned few enough stands on opens
@@ -277,7 +264,7 @@ all_told (suc m) arena earlier later n past (id ∷ rest) walk before assigned f
     ]
 
 -- the whole of a first part
-pub told_all : (arena : Contents) (earlier later : List ℕ) → IsFirstPart arena earlier later → Told arena earlier later (length (code_of arena earlier)) 0 Between false
+pub told_all : (arena : Contents) (earlier later : List ℕ) → IsFirstPart arena earlier later → Told arena earlier (length (code_of arena earlier)) 0 Between false
 told_all arena earlier later cut =
     let partners : List (Option ℕ) = replicate (length (classes_of arena earlier)) None in
     let many : length (replicate (length (classes_of arena earlier)) None) ≡ length earlier = length-replicate (length (classes_of arena earlier)) None ∙ length-map earlier (item_class arena) in
@@ -288,12 +275,8 @@ told_all arena earlier later cut =
       same_assigned = refl;
       unasked = λ e. cc;
       ends = cut.ends;
-      last = λ e. absurd (never e);
       partners = partners;
       many = many;
       found = refl;
     } in
     all_told (length earlier) arena earlier later (length (code_of arena earlier)) [] earlier start Between false (omega arith) (omega arith) stands
-  where
-    never : false ≡ true → ⊥
-    never e = cc

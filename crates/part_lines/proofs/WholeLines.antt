@@ -20,11 +20,11 @@ use Rattle.unwrapped_lines.proofs.CutLemmas.{parts_count, cut_view}
 use Rattle.part_lines.specs.Cut.{IsFirstPart, partner_behind, partners_in, PartnersStay, LinesStay}
 use Rattle.part_lines.proofs.CodeCut.{token_behind, code_line_behind, BeginsWord, IsCutBehind, code_of, file_up_to, EndUpTo, Windows, AreLinesCut, CutsLines, IsCodeCut, CutsCode}
 use Rattle.part_lines.proofs.CodeOfBoth.{places_count, code_of_both}
-use Rattle.part_lines.proofs.FirstPartEnds.{EndsWhole, first_part_ends}
-use Rattle.part_lines.proofs.PartsOfBoth.{tokens_in, ends_token, tokens_so, ends_so, parts_of_both}
+use Rattle.part_lines.proofs.PartsOfBoth.{tokens_in, ends_token, tokens_so, ends_so, parts_of_both, ends_in_code, comments_begin, ends_code}
 use Rattle.part_lines.proofs.BeginsOfBoth.{FirstAt, AreBoth, begins_of_both}
 use Rattle.part_lines.proofs.LinesBetween.{begin_behind, lines_of_both}
 use Rattle.part_lines.proofs.LinesCut.{lines_cut}
+use Rattle.part_lines.proofs.FirstPart.{IsEnded, first_part}
 
 -- ## Behind no token
 
@@ -175,8 +175,11 @@ lines_stay_where windows cuts_lines cuts_code partners_stay style arena earlier 
     more : List Part
     more = parts_of arena later (classes_of arena later)
 
-    ends : EndsWhole arena earlier later
-    ends = first_part_ends arena earlier later first
+    end : IsEnded arena earlier later
+    end = first_part arena earlier later first
+
+    ends : ends_code arena false earlier ≡ true
+    ends = ends_in_code arena earlier end.ends
 
     some : 0 < length later
     some = some_items arena later (cuts_code arena earlier later first).before
@@ -190,10 +193,10 @@ lines_stay_where windows cuts_lines cuts_code partners_stay style arena earlier 
         ∙ sym (length-map (code_places_from 0 (classes_of arena earlier)) (token_at arena earlier (classes_of arena earlier) (partners_in arena earlier)) ∙ places_count 0 (classes_of arena earlier))
 
     last : ends_token false parts ≡ true
-    last = ends_so arena earlier earlier 0 false false ∙ ends.ends
+    last = ends_so arena earlier earlier 0 false false ∙ ends
 
     begins : begins_from whole (parts_of arena (earlier ++ later) (classes_of arena (earlier ++ later))) 0 no_marks ≡ begins_from tree parts 0 no_marks ++ map (begin_behind (length earlier)) (begins_from rest more 0 no_marks)
     begins =
-        ap (λ (ps : List Part). begins_from whole ps 0 no_marks) (parts_of_both arena earlier later ends.ends ends.begin)
+        ap (λ (ps : List Part). begins_from whole ps 0 no_marks) (parts_of_both arena earlier later ends (comments_begin arena later end.follows))
         ∙ (begins_of_both whole tree rest parts more (trees_of_both windows cuts_lines cuts_code partners_stay style arena earlier later first) tokens last
         ∙ ap (λ (k : ℕ). begins_from tree parts 0 no_marks ++ map (begin_behind k) (begins_from rest more 0 no_marks)) count)
