@@ -1,5 +1,5 @@
 -- Where the lines of a view begin that is cut behind a first part: where those of the part begin, and then those of what follows.
-use Rattle.std.proofs.Common.{◌≡◌, ◌∙◌, ◌⊎◌, inl, inr, ℕ, zero, suc, ◌+◌, ◌<◌, ◌≤◌, nat_le, nat_eq, Bool, true, false, ◌&&◌, Option, Some, None, List, [], ◌∷◌, ◌++◌, length, map, append_assoc, length-append, refl, sym, ap, arith}
+use Rattle.std.proofs.Common.{◌≡◌, ◌∙◌, ◌⊎◌, inl, inr, ℕ, ◌+◌, ◌<◌, ◌≤◌, nat_le, nat_eq, Bool, true, false, ◌&&◌, Option, Some, None, List, [], ◌∷◌, ◌++◌, length, map, append_assoc, length-append, refl, sym, ap, arith}
 use Rattle.std.specs.Prelude.{⊤, slice_get}
 use Rattle.std.proofs.lemmas.List.{append-nil}
 use Rattle.unwrapped_lines.specs.declared.line.Line.{Line}
@@ -13,9 +13,11 @@ use Rattle.unwrapped_lines.specs.declared.part.Run.TheVariants.{Apart}
 use Rattle.unwrapped_lines.specs.Comments.{Tree, token_follows, is_apart, between_at, is_between, own_level, begin_of, begins_line, is_own, new_begin, inner_run, next_marks, list_of, begins_from, no_marks, run_of}
 use Rattle.unwrapped_lines.specs.Stack.{IsCut}
 use Rattle.part_lines.proofs.CodeCut.{code_line_behind}
-use Rattle.part_lines.proofs.PlacesOfBoth.{slice_behind, slice_at_seam}
 use Rattle.part_lines.proofs.PartsOfBoth.{is_token, tokens_in, ends_token}
 use Rattle.part_lines.proofs.LinesBetween.{begin_behind}
+use Rattle.part_lines.proofs.Places.{slice_behind, slice_at_seam}
+use Rattle.std.proofs.lemmas.Option.{slice_get-map}
+use Rattle.std.specs.Option.{option_map}
 
 -- ## What begins at an item
 
@@ -249,14 +251,6 @@ begins_before whole tree later (part ∷ parts) more k m done lines at last goes
 
 -- ## What follows
 
-abbrev line_there : ℕ → Option Line → Option Line
-line_there count None = None
-line_there count (Some line) = Some (code_line_behind count line)
-
-abbrev begin_there : ℕ → Option Begin → Option Begin
-begin_there count None = None
-begin_there count (Some begin) = Some (begin_behind count begin)
-
 -- behind so many tokens and lines this tree is that one
 pub record Follows (count : ℕ) (early : List Line) (whole tree : Tree) : Type 0 where
   pub lines : whole.lines ≡ early ++ map (code_line_behind count) tree.lines
@@ -266,14 +260,9 @@ pub record Follows (count : ℕ) (early : List Line) (whole tree : Tree) : Type 
 abbrev marks_there : ℕ → ℕ → Marks → Marks
 marks_there count lines m = record { seen = count + m.seen; begun = lines + m.begun; run = m.run }
 
-lines_there : (count : ℕ) (lines : List Line) (i : ℕ) → slice_get (map (code_line_behind count) lines) i ≡ line_there count (slice_get lines i)
-lines_there count [] i = refl
-lines_there count (line ∷ lines) zero = refl
-lines_there count (line ∷ lines) (suc i) = lines_there count lines i
-
-found_there : (count : ℕ) (early : List Line) (whole tree : Tree) (i : ℕ) → Follows count early whole tree → slice_get whole.lines (length early + i) ≡ line_there count (slice_get tree.lines i)
+found_there : (count : ℕ) (early : List Line) (whole tree : Tree) (i : ℕ) → Follows count early whole tree → slice_get whole.lines (length early + i) ≡ option_map (code_line_behind count) (slice_get tree.lines i)
 found_there count early whole tree i follows =
-    ap (λ (ls : List Line). slice_get ls (length early + i)) follows.lines ∙ (slice_behind early (map (code_line_behind count) tree.lines) i ∙ lines_there count tree.lines i)
+    ap (λ (ls : List Line). slice_get ls (length early + i)) follows.lines ∙ (slice_behind early (map (code_line_behind count) tree.lines) i ∙ slice_get-map (code_line_behind count) tree.lines i)
 
 le_there : (n a b : ℕ) → nat_le (n + a) (n + b) ≡ nat_le a b
 le_there n a b = by (nat_le a b) refl
@@ -292,24 +281,24 @@ eq_there n a b = by (nat_eq a b) refl
     by true e = (let same : a ≡ b = equal a b e in grind arith)
     by false e = other (n + a) (n + b) (elim (unequal a b e) [ inl less ↦ inl (omega (arith, less)) | inr less ↦ inr (omega (arith, less)) ])
 
-between_there : (count total seen : ℕ) (found : Option Line) → between_at (count + total) (count + seen) (line_there count found) ≡ between_at total seen found
+between_there : (count total seen : ℕ) (found : Option Line) → between_at (count + total) (count + seen) (option_map (code_line_behind count) found) ≡ between_at total seen found
 between_there count total seen None = le_there count total seen
 between_there count total seen (Some line) = eq_there count line.first seen
 
 is_between_there : (count : ℕ) (early : List Line) (whole tree : Tree) (m : Marks) → Follows count early whole tree → is_between whole (marks_there count (length early) m) ≡ is_between tree m
 is_between_there count early whole tree m follows =
     ap (between_at whole.total (count + m.seen)) (found_there count early whole tree m.begun follows)
-    ∙ (ap (λ (n : ℕ). between_at n (count + m.seen) (line_there count (slice_get tree.lines m.begun))) follows.total ∙ between_there count tree.total m.seen (slice_get tree.lines m.begun))
+    ∙ (ap (λ (n : ℕ). between_at n (count + m.seen) (option_map (code_line_behind count) (slice_get tree.lines m.begun))) follows.total ∙ between_there count tree.total m.seen (slice_get tree.lines m.begun))
 
-level_there : (count level : ℕ) (found : Option Line) → own_level level (line_there count found) ≡ own_level level found
+level_there : (count level : ℕ) (found : Option Line) → own_level level (option_map (code_line_behind count) found) ≡ own_level level found
 level_there count level None = refl
 level_there count level (Some line) = refl
 
-begin_of_there : (count n k : ℕ) (found : Option Line) → begin_of (n + k) (line_there count found) ≡ begin_there n (begin_of k found)
+begin_of_there : (count n k : ℕ) (found : Option Line) → begin_of (n + k) (option_map (code_line_behind count) found) ≡ option_map (begin_behind n) (begin_of k found)
 begin_of_there count n k None = refl
 begin_of_there count n k (Some line) = refl
 
-made_there : (between own begins : Bool) (count n k level : ℕ) (found : Option Line) → made between own begins (n + k) level (line_there count found) ≡ begin_there n (made between own begins k level found)
+made_there : (between own begins : Bool) (count n k level : ℕ) (found : Option Line) → made between own begins (n + k) level (option_map (code_line_behind count) found) ≡ option_map (begin_behind n) (made between own begins k level found)
 made_there false own begins count n k level found = refl
 made_there true true begins count n k level found = refl
 made_there true false true count n k level found = begin_of_there count n k found
@@ -322,14 +311,14 @@ begins_there Trailing parts count lines m = refl
 begins_there Inner parts count lines m = refl
 
 new_there : (n count : ℕ) (early : List Line) (whole tree : Tree) (k : ℕ) (part : Part) (parts : List Part) (m : Marks) → Follows count early whole tree
-    → new_begin whole (n + k) part parts (marks_there count (length early) m) ≡ begin_there n (new_begin tree k part parts m)
+    → new_begin whole (n + k) part parts (marks_there count (length early) m) ≡ option_map (begin_behind n) (new_begin tree k part parts m)
 new_there n count early whole tree k part parts m follows =
     let there : Marks = marks_there count (length early) m in
     let found : Option Line = slice_get tree.lines m.begun in
     ap (λ (b : Bool). made b (is_own part) (begins_line part parts there) (n + k) (own_level whole.end_level (slice_get whole.lines there.begun)) (slice_get whole.lines there.begun)) (is_between_there count early whole tree m follows)
     ∙ (ap (λ (b : Bool). made (is_between tree m) (is_own part) b (n + k) (own_level whole.end_level (slice_get whole.lines there.begun)) (slice_get whole.lines there.begun)) (begins_there part parts count (length early) m)
     ∙ (ap (λ (f : Option Line). made (is_between tree m) (is_own part) (begins_line part parts m) (n + k) (own_level whole.end_level f) f) (found_there count early whole tree m.begun follows)
-    ∙ (ap (λ (l : ℕ). made (is_between tree m) (is_own part) (begins_line part parts m) (n + k) l (line_there count found)) (level_there count whole.end_level found ∙ ap (λ (l : ℕ). own_level l found) follows.level)
+    ∙ (ap (λ (l : ℕ). made (is_between tree m) (is_own part) (begins_line part parts m) (n + k) l (option_map (code_line_behind count) found)) (level_there count whole.end_level found ∙ ap (λ (l : ℕ). own_level l found) follows.level)
     ∙ made_there (is_between tree m) (is_own part) (begins_line part parts m) count n k (own_level tree.end_level found) found)))
 
 marks_on : (count lines : ℕ) (between : Bool) (m : Marks)
@@ -353,7 +342,7 @@ next_there count early whole tree Trailing parts m follows = refl
 next_there count early whole tree Inner parts m follows =
     ap (λ (b : Bool). record { seen = count + m.seen; begun = length early + m.begun; run = inner_run b parts m.run }) (is_between_there count early whole tree m follows)
 
-list_there : (n : ℕ) (begin : Option Begin) (begins : List Begin) → list_of (begin_there n begin) ++ map (begin_behind n) begins ≡ map (begin_behind n) (list_of begin ++ begins)
+list_there : (n : ℕ) (begin : Option Begin) (begins : List Begin) → list_of (option_map (begin_behind n) begin) ++ map (begin_behind n) begins ≡ map (begin_behind n) (list_of begin ++ begins)
 list_there n None begins = refl
 list_there n (Some begin) begins = refl
 
@@ -365,9 +354,9 @@ begins_behind n count early whole tree (part ∷ parts) k m follows =
     let on : n + k + 1 ≡ n + (k + 1) = omega arith in
     let next : Marks = next_marks tree part parts m in
     ap (λ (b : Option Begin). list_of b ++ begins_from whole parts (n + k + 1) (next_marks whole part parts there)) (new_there n count early whole tree k part parts m follows)
-    ∙ (ap (λ (x : Marks). list_of (begin_there n (new_begin tree k part parts m)) ++ begins_from whole parts (n + k + 1) x) (next_there count early whole tree part parts m follows)
-    ∙ (ap (λ (i : ℕ). list_of (begin_there n (new_begin tree k part parts m)) ++ begins_from whole parts i (marks_there count (length early) next)) on
-    ∙ (ap (λ (bs : List Begin). list_of (begin_there n (new_begin tree k part parts m)) ++ bs) (begins_behind n count early whole tree parts (k + 1) next follows)
+    ∙ (ap (λ (x : Marks). list_of (option_map (begin_behind n) (new_begin tree k part parts m)) ++ begins_from whole parts (n + k + 1) x) (next_there count early whole tree part parts m follows)
+    ∙ (ap (λ (i : ℕ). list_of (option_map (begin_behind n) (new_begin tree k part parts m)) ++ begins_from whole parts i (marks_there count (length early) next)) on
+    ∙ (ap (λ (bs : List Begin). list_of (option_map (begin_behind n) (new_begin tree k part parts m)) ++ bs) (begins_behind n count early whole tree parts (k + 1) next follows)
     ∙ list_there n (new_begin tree k part parts m) (begins_from tree parts (k + 1) next))))
 
 -- ## Both

@@ -17,10 +17,12 @@ use Rattle.unwrapped_lines.specs.Tree.{lines_from, end_level_from, line_of, head
 use Rattle.unwrapped_lines.proofs.StackLemmas.{from_end, from_ends, from_opens}
 use Rattle.part_lines.proofs.CodeCut.{ArePaired, BeginsWord, CutsLines, file_up_to}
 use Rattle.part_lines.proofs.EnoughTurns.{same_lines, same_level, level_ends, level_past}
-use Rattle.part_lines.proofs.WayLemmas.{EndsBeforeWord, get_earlier, get_first, way_longer, partner_place}
+use Rattle.part_lines.proofs.WayLemmas.{EndsBeforeWord, way_longer}
 use Rattle.part_lines.proofs.FormsAlike.{Stand, Leaves, fresh_at}
 use Rattle.part_lines.proofs.StatementsAlike.{form_alike}
 use Rattle.part_lines.proofs.FormsReach.{Reaches, form_reaches}
+use Rattle.part_lines.proofs.Places.{slice_before, slice_at_seam}
+use Rattle.part_lines.proofs.PartnerPlaces.{partner_place}
 
 -- the list of the file with this end, alone
 abbrev up_to : ℕ → List Open
@@ -135,7 +137,7 @@ level_cut (suc m) r braces tokens end whole start at ends stand many some = elim
 
 word_there : (earlier later : List CodeToken) → BeginsWord later → is_word (class_at (earlier ++ later) (length earlier)) ≡ true
 word_there earlier [] begins = absurd begins
-word_there earlier (x ∷ later) begins = ap (λ (t : Option CodeToken). is_word (class_of t)) (get_first earlier x later) ∙ (and_parts (is_word x.class) x.began begins).0
+word_there earlier (x ∷ later) begins = ap (λ (t : Option CodeToken). is_word (class_of t)) (slice_at_seam earlier (x ∷ later)) ∙ (and_parts (is_word x.class) x.began begins).0
 
 ends_before : (earlier later : List CodeToken) → ArePaired earlier → BeginsWord later → EndsBeforeWord (earlier ++ later) (length earlier) (length (earlier ++ later))
 ends_before earlier later paired begins = record {
@@ -152,8 +154,8 @@ ends_before earlier later paired begins = record {
     pair_there i p round found =
         let place = partner_place all (length earlier) i p found in
         let up : i < p = place.0 in
-        let same_i : slice_get all i ≡ slice_get earlier i = get_earlier earlier later i (let low : p < length earlier = place.1 in omega arith) in
-        let same_p : slice_get all p ≡ slice_get earlier p = get_earlier earlier later p place.1 in
+        let same_i : slice_get all i ≡ slice_get earlier i = slice_before earlier later i (let low : p < length earlier = place.1 in omega arith) in
+        let same_p : slice_get all p ≡ slice_get earlier p = slice_before earlier later p place.1 in
         let pair = paired i p (sym (ap (λ (t : Option CodeToken). is_open_round (class_of t)) same_i) ∙ round) (sym (ap (λ (t : Option CodeToken). within i (length earlier) (partner_of t)) same_i) ∙ found) in
         (ap (λ (t : Option CodeToken). is_close_round (class_of t)) same_p ∙ pair.0, ap partner_of same_p ∙ pair.1)
 

@@ -23,7 +23,6 @@ pub mod Passing
 pub mod PairsMatch
 pub mod PairedCode
 pub mod CutsCode
-pub mod PlacesOfBoth
 pub mod PartnersBelow
 pub mod CodeOfBoth
 pub mod LinesCut
@@ -33,3 +32,5 @@ pub mod BeginsOfBoth
 pub mod WholeLines
 pub mod LinesStay
 pub mod WalksOn
+pub mod Places
+pub mod PartnerPlaces

@@ -1,6 +1,6 @@
 -- The partner of a `(` among the tokens that are no comments is a `)`, whose partner it is.
-use Rattle.std.proofs.Common.{◌≡◌, ◌∙◌, ◌⊎◌, inl, inr, ℕ, zero, suc, ◌+◌, ◌<◌, ◌≤◌, Bool, true, false, ◌&&◌, nat_lt, Option, Some, None, List, [], ◌∷◌, ◌++◌, length, get_or, refl, sym, ap, arith}
-use Rattle.std.specs.Prelude.{slice_get, if◌then◌else◌}
+use Rattle.std.proofs.Common.{◌≡◌, ◌∙◌, ◌⊎◌, inl, inr, ℕ, zero, suc, ◌+◌, ◌<◌, ◌≤◌, true, false, Option, Some, None, List, [], ◌∷◌, ◌++◌, length, get_or, refl, sym, ap, arith}
+use Rattle.std.specs.Prelude.{slice_get}
 use Rattle.std.proofs.lemmas.Bool.{cases_lt, cases_Bool}
 use Rattle.std.proofs.lemmas.List.{length-map}
 use Rattle.std.proofs.lemmas.Option.{slice_get_past, slice_get_within}
@@ -11,11 +11,13 @@ use Rattle.token_classes.specs.Classes.{is_comment, is_open_round, is_close_roun
 use Rattle.token_classes.specs.Viewed.{item_class, classes_of}
 use Rattle.unwrapped_lines.specs.declared.token.CodeToken.{CodeToken}
 use Rattle.unwrapped_lines.specs.Forms.{class_of, class_at, partner_of, partner_in, within}
-use Rattle.unwrapped_lines.specs.Viewed.{numbers_from, numbers_of, partner_number}
+use Rattle.unwrapped_lines.specs.Viewed.{numbers_of, partner_number}
 use Rattle.part_lines.specs.Cut.{partners_in}
 use Rattle.part_lines.proofs.CodeCut.{ArePaired, code_of}
 use Rattle.part_lines.proofs.Counted.{count_of, counts_one, counts_none, counts_all, token_there, class_there, code_class, number_there}
 use Rattle.part_lines.proofs.PairsMatch.{ArePairs, partners_match}
+use Rattle.part_lines.proofs.PartnerPlaces.{within_parts}
+use Rattle.unwrapped_lines.proofs.NumberLemmas.{numbers_count}
 
 never : false ≡ true → ⊥
 never e = cc
@@ -71,10 +73,6 @@ item_there (id ∷ ids) (suc place) low =
     let item = item_there ids place (omega (arith, low)) in
     record { before = id ∷ item.before; id = item.id; after = item.after; split = ap (λ (xs : List ℕ). id ∷ xs) item.split; stands = ap suc item.stands }
 
-numbers_count : (n : ℕ) (classes : List TokenClass) → length (numbers_from n classes) ≡ length classes
-numbers_count n [] = refl
-numbers_count n (class ∷ classes) = ap suc (numbers_count (if is_comment class then n else n + 1) classes)
-
 -- ## The partner of a token
 
 -- the partner of the item at a place, and its number
@@ -86,18 +84,10 @@ record IsNumbered (partners : List (Option ℕ)) (numbers : List ℕ) (place num
 numbered : (partners : List (Option ℕ)) (numbers : List ℕ) (place i end number : ℕ) → within i end (partner_number numbers (slice_get partners place)) ≡ Some number → IsNumbered partners numbers place number
 numbered partners numbers place i end number e = by_partner (slice_get partners place) refl e
   where
-    by_test : (x : ℕ) (b : Bool) → (elim b as (λ _. Option ℕ) [ true ↦ Some x | false ↦ None ]) ≡ Some number → Some x ≡ Some number
-    by_test x true e = e
-    by_test x false e = cc
-
-    by_number : (n : Option ℕ) → within i end n ≡ Some number → n ≡ Some number
-    by_number None e = e
-    by_number (Some x) e = by_test x (nat_lt i x && nat_lt x end) e
-
     by_partner : (found : Option (Option ℕ)) → slice_get partners place ≡ found → within i end (partner_number numbers found) ≡ Some number → IsNumbered partners numbers place number
     by_partner None is e = cc
     by_partner (Some None) is e = cc
-    by_partner (Some (Some partner)) is e = record { partner = partner; found = is; numbered = by_number (slice_get numbers partner) e }
+    by_partner (Some (Some partner)) is e = record { partner = partner; found = is; numbered = (within_parts i end number (slice_get numbers partner) e).0 }
 
 close_is_code : (class : TokenClass) → is_close_round class ≡ true → is_comment class ≡ false
 close_is_code CloseRound e = refl

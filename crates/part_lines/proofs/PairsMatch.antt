@@ -8,8 +8,8 @@ use Rattle.token_classes.specs.declared.class.TokenClass.{TokenClass}
 use Rattle.token_classes.specs.declared.class.TokenClass.TheVariants.{OpenRound, CloseRound, OpenSquare, CloseSquare, OpenBrace, CloseBrace, Nothing}
 use Rattle.token_classes.specs.Classes.{is_open_round, is_close_round}
 use Rattle.brackets.specs.declared.pairing.Opener.{Opener}
-use Rattle.part_lines.proofs.PartnersKept.{set_other, set_same}
 use Rattle.brackets.specs.Partners.{Matching, Nearest, is_brace, is_round, is_square, nearest_brace, topmost, closed, bracket_step, matching_from, partners_of}
+use Rattle.part_lines.proofs.Places.{set_other, set_same}
 
 -- the class at a place
 abbrev class_in : List TokenClass → ℕ → TokenClass

@@ -1,10 +1,11 @@
 -- A partner that was found is kept, where no opener up to its place waits any more.
-use Rattle.std.proofs.Common.{◌≡◌, ◌∙◌, ℕ, zero, suc, ◌+◌, ◌<◌, Bool, true, false, Option, Some, None, List, [], ◌∷◌, length, refl, ap, arith}
+use Rattle.std.proofs.Common.{◌≡◌, ◌∙◌, ℕ, ◌+◌, ◌<◌, Bool, true, false, Option, Some, None, List, [], ◌∷◌, length, refl, arith}
 use Rattle.std.specs.Prelude.{⊤, slice_get, slice_set}
 use Rattle.token_classes.specs.declared.class.TokenClass.{TokenClass}
 use Rattle.token_classes.specs.declared.class.TokenClass.TheVariants.{OpenRound, CloseRound, OpenSquare, CloseSquare, OpenBrace, CloseBrace}
 use Rattle.brackets.specs.declared.pairing.Opener.{Opener}
 use Rattle.brackets.specs.Partners.{Nearest, is_brace, is_round, is_square, nearest_brace, topmost, closed, paired, matching_from}
+use Rattle.part_lines.proofs.Places.{set_other, set_same}
 
 -- every opener stands behind this place
 abbrev pub Above : ℕ → List Opener → Type 0
@@ -30,19 +31,6 @@ topmost_above fits k (opener ∷ below) above = by_fit (fits opener)
     by_fit : (fit : Bool) → FoundAbove k (elim fit as (λ _. Option Nearest) [ true ↦ Some (record { place = opener.place; below = below }) | false ↦ None ])
     by_fit true = above
     by_fit false = tt
-
--- what a write to a place leaves, and what stands there
-pub set_other : (partners : List (Option ℕ)) (i k : ℕ) (partner : Option ℕ) → (k ≡ i → ⊥) → slice_get (slice_set partners i partner) k ≡ slice_get partners k
-set_other [] i k partner other = refl
-set_other (first ∷ partners) zero zero partner other = absurd (other refl)
-set_other (first ∷ partners) zero (suc k) partner other = refl
-set_other (first ∷ partners) (suc i) zero partner other = refl
-set_other (first ∷ partners) (suc i) (suc k) partner other = set_other partners i k partner (λ e. other (ap suc e))
-
-pub set_same : (partners : List (Option ℕ)) (k : ℕ) (partner : Option ℕ) → k < length partners → slice_get (slice_set partners k partner) k ≡ Some partner
-set_same [] k partner within = absurd (omega (arith, within))
-set_same (first ∷ partners) zero partner within = refl
-set_same (first ∷ partners) (suc k) partner within = set_same partners k partner (omega (arith, within))
 
 -- an opener and its closer
 pub pair_found : (partners : List (Option ℕ)) (opener place : ℕ) → opener < place → opener < length partners → slice_get (paired partners (Some opener) place) opener ≡ Some (Some place)

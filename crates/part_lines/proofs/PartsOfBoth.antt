@@ -14,8 +14,8 @@ use Rattle.view_parts.specs.Walk as walk
 use Rattle.unwrapped_lines.specs.declared.part.Part.{Part}
 use Rattle.unwrapped_lines.specs.declared.part.Part.TheVariants.{Token, Own, Trailing, Inner}
 use Rattle.unwrapped_lines.specs.Viewed.{began_of_item, item_began, line_ends_behind, part_of, parts_from, parts_of}
-use Rattle.part_lines.proofs.CodeOfBoth.{code_count}
 use Rattle.part_lines.proofs.FirstPart.{closes_part, last_of, Follows}
+use Rattle.part_lines.proofs.Counted.{code_count}
 
 -- ## Where a first part ends
 

@@ -1,7 +1,7 @@
 -- The way outside brackets, in a list whose end stands at a place of longer ones.
-use Rattle.std.proofs.Common.{◌≡◌, ◌∙◌, ℕ, zero, suc, ◌+◌, ◌<◌, ◌≤◌, nat_lt, Bool, true, false, ◌&&◌, Option, Some, None, List, [], ◌∷◌, ◌++◌, length, refl, arith, sym, ap, subst, inl, inr, ◌⊎◌}
+use Rattle.std.proofs.Common.{◌≡◌, ◌∙◌, ℕ, zero, suc, ◌+◌, ◌<◌, ◌≤◌, Bool, true, false, Option, Some, List, ◌++◌, length, refl, arith, sym, ap, subst, inl, inr, ◌⊎◌}
 use Rattle.std.specs.Prelude.{slice_get, if◌then◌else◌, IsTrue, IsFalse}
-use Rattle.std.proofs.lemmas.Bool.{and_parts, and_from, cases_Bool, ltb-true, lt-ltb}
+use Rattle.std.proofs.lemmas.Bool.{cases_Bool}
 use Rattle.token_classes.specs.declared.class.TokenClass.{TokenClass}
 use Rattle.token_classes.specs.Classes.{is_word, is_plain, is_opener, is_open_round, is_close_round, is_semicolon}
 use Rattle.view_parts.specs.declared.walk.Before.{Before}
@@ -10,7 +10,7 @@ use Rattle.view_parts.specs.Walk.{is_end, is_lost}
 use Rattle.unwrapped_lines.specs.declared.token.CodeToken.{CodeToken}
 use Rattle.unwrapped_lines.specs.Forms.{class_of, class_at, partner_of, within, partner_in}
 use Rattle.part_lines.proofs.CodeCut.{Passes, behind_code, behind_opener, assigned_behind}
-use Rattle.part_lines.proofs.Choices.{either, at_true}
+use Rattle.part_lines.proofs.Places.{slice_before}
 
 -- the way goes on to this place, where the list ends behind a declaration
 abbrev pub Way : ℕ → List CodeToken → ℕ → ℕ → Before → Bool → Type 0
@@ -26,22 +26,13 @@ WayOn tokens end at before assigned = (n : ℕ) × Way n tokens end at before as
 
 -- ## Longer lists
 
-pub get_earlier : (earlier later : List CodeToken) (i : ℕ) → i < length earlier → slice_get (earlier ++ later) i ≡ slice_get earlier i
-get_earlier [] later i h = absurd (omega arith)
-get_earlier (x ∷ xs) later zero h = refl
-get_earlier (x ∷ xs) later (suc i) h = get_earlier xs later i (omega arith)
-
-pub get_first : (earlier : List CodeToken) (x : CodeToken) (later : List CodeToken) → slice_get (earlier ++ x ∷ later) (length earlier) ≡ Some x
-get_first [] x later = refl
-get_first (y ∷ earlier) x later = get_first earlier x later
-
 pub way_longer : (n : ℕ) (earlier later : List CodeToken) (at : ℕ) (before : Before) (assigned : Bool) → Passes n earlier at before assigned → Way n (earlier ++ later) (length earlier) at before assigned
 way_longer zero earlier later at before assigned way = way
 way_longer (suc n) earlier later at before assigned (inl end) = inl end
 way_longer (suc n) earlier later at before assigned (inr on) =
     let all = earlier ++ later in
     let end = length earlier in
-    let same : slice_get earlier at ≡ slice_get all at = sym (get_earlier earlier later at on.0) in
+    let same : slice_get earlier at ≡ slice_get all at = sym (slice_before earlier later at on.0) in
     let class : class_at earlier at ≡ class_at all at = ap class_of same in
     let P : TokenClass → Option CodeToken → Type 0 = λ c t. IsFalse (is_lost c)
     × ((IsTrue (is_opener c) × ((partner : ℕ) × ((within at end (partner_of t) ≡ Some partner) × Way n all end (partner + 1) (behind_code assigned before c) (assigned_behind assigned c))))
@@ -141,24 +132,3 @@ pub record EndsBeforeWord (tokens : List CodeToken) (end whole : ℕ) : Type 0 w
   pub all : whole ≡ length tokens
   pub word : is_word (class_at tokens end) ≡ true
   pub paired : (i p : ℕ) → is_open_round (class_at tokens i) ≡ true → partner_in tokens end i ≡ Some p → (is_close_round (class_at tokens p) ≡ true) × (partner_of (slice_get tokens p) ≡ Some i)
-
-within_parts : (i end p : ℕ) (o : Option ℕ) → within i end o ≡ Some p → (o ≡ Some p) × ((i < p) × (p < end))
-within_parts i end p None e = cc
-within_parts i end p (Some q) e =
-    either (λ (x : Option ℕ). x ≡ Some p → (Some q ≡ Some p) × ((i < p) × (p < end))) (nat_lt i q && nat_lt q end) (Some q) None
-    (λ b s. let k = and_parts (nat_lt i q) (nat_lt q end) b in let same : q ≡ p = cc in (s, (subst (λ (x : ℕ). i < x) same (ltb-true i q k.0), subst (λ (x : ℕ). x < end) same (ltb-true q end k.1))))
-    (λ b s. cc) e
-
--- where a partner stands
-pub partner_place : (tokens : List CodeToken) (end i p : ℕ) → partner_in tokens end i ≡ Some p → (i < p) × (p < end)
-partner_place tokens end i p e = (within_parts i end p (partner_of (slice_get tokens i)) e).1
-
-within_from : (i end p : ℕ) → i < p → p < end → within i end (Some p) ≡ Some p
-within_from i end p a b = at_true (nat_lt i p && nat_lt p end) (Some p) None (and_from (nat_lt i p) (nat_lt p end) (lt-ltb i p a) (lt-ltb p end b))
-
--- the partner is the same in the longer list
-pub partner_longer : (tokens : List CodeToken) (end whole i p : ℕ) → end ≤ whole → partner_in tokens end i ≡ Some p → partner_in tokens whole i ≡ Some p
-partner_longer tokens end whole i p h e =
-    let k = within_parts i end p (partner_of (slice_get tokens i)) e in
-    let a : i < p = k.1.0 in let b : p < end = k.1.1 in
-    ap (within i whole) k.0 ∙ within_from i whole p a (omega arith)

@@ -19,12 +19,13 @@ use Rattle.unwrapped_lines.specs.Stack.{IsCut}
 use Rattle.unwrapped_lines.proofs.CutLemmas.{parts_count, cut_view}
 use Rattle.part_lines.specs.Cut.{IsFirstPart, partner_behind, partners_in, PartnersStay, LinesStay}
 use Rattle.part_lines.proofs.CodeCut.{token_behind, code_line_behind, BeginsWord, IsCutBehind, code_of, file_up_to, EndUpTo, Windows, AreLinesCut, CutsLines, IsCodeCut, CutsCode}
-use Rattle.part_lines.proofs.CodeOfBoth.{places_count, code_of_both}
+use Rattle.part_lines.proofs.CodeOfBoth.{code_of_both}
 use Rattle.part_lines.proofs.PartsOfBoth.{tokens_in, ends_token, tokens_so, ends_so, parts_of_both, ends_in_code, comments_begin, ends_code}
 use Rattle.part_lines.proofs.BeginsOfBoth.{FirstAt, AreBoth, begins_of_both}
 use Rattle.part_lines.proofs.LinesBetween.{begin_behind, lines_of_both}
 use Rattle.part_lines.proofs.LinesCut.{lines_cut}
 use Rattle.part_lines.proofs.FirstPart.{IsEnded, first_part}
+use Rattle.part_lines.proofs.Counted.{places_count}
 
 -- ## Behind no token
 

@@ -1,7 +1,7 @@
 -- Tokens among others: what stands at a place is the same wherever these tokens stand.
-use Rattle.std.proofs.Common.{◌≡◌, ◌∙◌, ℕ, zero, suc, ◌+◌, ◌-◌, ◌<◌, ◌≤◌, nat_lt, nat_le, Bool, true, false, ◌&&◌, Option, Some, None, List, [], ◌∷◌, ◌++◌, length, map, refl, sym, ap, arith, ◌⊎◌, inl, inr}
+use Rattle.std.proofs.Common.{◌≡◌, ◌∙◌, ℕ, ◌+◌, ◌-◌, ◌<◌, ◌≤◌, nat_lt, nat_le, Bool, true, false, ◌&&◌, Option, Some, None, List, [], ◌∷◌, ◌++◌, length, map, refl, sym, ap, arith, ◌⊎◌, inl, inr}
 use Rattle.std.specs.Prelude.{slice_get}
-use Rattle.std.proofs.lemmas.Bool.{cases_lt, le-leb, lt-ltb, le-ltb, or_right, or_left, and_parts, and_left, and_right}
+use Rattle.std.proofs.lemmas.Bool.{cases_lt, le-leb, lt-ltb, le-ltb, or_right, or_left, and_parts}
 use Rattle.token_classes.specs.declared.class.TokenClass.{TokenClass}
 use Rattle.token_classes.specs.declared.class.TokenClass.TheVariants.{Nothing}
 use Rattle.token_classes.specs.Classes.{is_word, is_before_list, is_close_round}
@@ -10,14 +10,15 @@ use Rattle.unwrapped_lines.specs.Forms.{class_of, class_at, seen, partner_of, pa
 use Rattle.part_lines.specs.Cut.{partner_behind}
 use Rattle.part_lines.proofs.Choices.{choose, at_false}
 use Rattle.part_lines.proofs.CodeCut.{token_behind, IsCutBehind, IsCutBefore}
-
-abbrev pub found_behind : ℕ → Option CodeToken → Option CodeToken
-found_behind n None = None
-found_behind n (Some token) = Some (token_behind n token)
+use Rattle.part_lines.proofs.Places.{slice_before, slice_behind, slice_at_seam}
+use Rattle.std.proofs.lemmas.Option.{slice_get-map}
+use Rattle.std.proofs.lemmas.List.{length-map, length-append}
+use Rattle.std.specs.Option.{option_map}
+use Rattle.part_lines.proofs.PartnerPlaces.{within_past}
 
 -- These tokens stand in a whole behind so many others, behind which a `{` opens no list of values; a macro's line may end behind them.
 pub record IsWindow (n : ℕ) (whole tokens : List CodeToken) : Type 0 where
-  pub there : (i : ℕ) → i < length tokens → slice_get whole (n + i) ≡ found_behind n (slice_get tokens i)
+  pub there : (i : ℕ) → i < length tokens → slice_get whole (n + i) ≡ option_map (token_behind n) (slice_get tokens i)
   pub list : is_before_list (class_before whole n) ≡ false
   pub closes : is_close_round (class_before whole n) ≡ false
   pub ends : ends_macro whole (n + length tokens) ≡ true
@@ -25,33 +26,19 @@ pub record IsWindow (n : ℕ) (whole tokens : List CodeToken) : Type 0 where
 
 -- ## Such tokens
 
-slice_behind : {X : Type 0} (xs ys : List X) (k : ℕ) → slice_get (xs ++ ys) (length xs + k) ≡ slice_get ys k
-slice_behind [] ys k = ap (slice_get ys) (omega arith)
-slice_behind (x ∷ xs) ys k =
-    let next : length (x ∷ xs) + k ≡ suc (length xs + k) = omega arith in
-    ap (slice_get (x ∷ (xs ++ ys))) next ∙ slice_behind xs ys k
-
-slice_before : {X : Type 0} (xs ys : List X) (k : ℕ) → k < length xs → slice_get (xs ++ ys) k ≡ slice_get xs k
-slice_before [] ys k inside = absurd (omega (arith, inside))
-slice_before (x ∷ xs) ys zero inside = refl
-slice_before (x ∷ xs) ys (suc k) inside = slice_before xs ys k (omega (arith, inside))
-
-moved : (n : ℕ) (tokens later : List CodeToken) (i : ℕ) → i < length tokens → slice_get (map (token_behind n) tokens ++ later) i ≡ found_behind n (slice_get tokens i)
-moved n [] later i inside = absurd (omega (arith, inside))
-moved n (token ∷ tokens) later zero inside = refl
-moved n (token ∷ tokens) later (suc i) inside = moved n tokens later i (omega (arith, inside))
+moved : (n : ℕ) (tokens later : List CodeToken) (i : ℕ) → i < length tokens → slice_get (map (token_behind n) tokens ++ later) i ≡ option_map (token_behind n) (slice_get tokens i)
+moved n tokens later i inside = slice_before (map (token_behind n) tokens) later i (omega (arith, inside, length-map tokens (token_behind n))) ∙ slice_get-map (token_behind n) tokens i
 
 behind_moved : (n : ℕ) (tokens later : List CodeToken) → slice_get (map (token_behind n) tokens ++ later) (length tokens) ≡ slice_get later 0
-behind_moved n [] later = refl
-behind_moved n (token ∷ tokens) later = behind_moved n tokens later
+behind_moved n tokens later =
+    ap (slice_get (map (token_behind n) tokens ++ later)) (sym (length-map tokens (token_behind n))) ∙ slice_at_seam (map (token_behind n) tokens) later
 
-moved_count : (n : ℕ) (tokens later : List CodeToken) → length (map (token_behind n) tokens ++ later) ≡ length tokens + length later
-moved_count n [] later = omega arith
-moved_count n (token ∷ tokens) later = let rest = moved_count n tokens later in omega (arith, rest)
-
-count_of : {X : Type 0} (xs ys : List X) → length (xs ++ ys) ≡ length xs + length ys
-count_of [] ys = omega arith
-count_of (x ∷ xs) ys = let rest = count_of xs ys in omega (arith, rest)
+-- as many as the first and these, and more
+moved_count : (earlier tokens later : List CodeToken) → length (earlier ++ (map (token_behind (length earlier)) tokens ++ later)) ≡ length earlier + (length tokens + length later)
+moved_count earlier tokens later =
+    let n : ℕ = length earlier in
+    let rest : List CodeToken = map (token_behind (length earlier)) tokens ++ later in
+    omega (arith, length-append earlier rest, length-append (map (token_behind n) tokens) later, length-map tokens (token_behind n))
 
 before_cut : (earlier rest : List CodeToken) → class_before (earlier ++ rest) (length earlier) ≡ class_before earlier (length earlier)
 before_cut [] rest = refl
@@ -65,7 +52,7 @@ ends_behind : (earlier tokens later : List CodeToken) → IsCutBefore later
 ends_behind earlier tokens later (inl none) =
     let n : ℕ = length earlier in
     let rest : List CodeToken = map (token_behind n) tokens ++ later in
-    let many : length (earlier ++ rest) ≤ n + length tokens = omega (arith, count_of earlier rest, moved_count n tokens later, ap (λ (xs : List CodeToken). length xs) none) in
+    let many : length (earlier ++ rest) ≤ n + length tokens = omega (arith, moved_count earlier tokens later, ap (λ (xs : List CodeToken). length xs) none) in
     or_left (nat_le (length (earlier ++ rest)) (n + length tokens)) _ (le-leb (length (earlier ++ rest)) (n + length tokens) many)
 ends_behind earlier tokens [] (inr word) = absurd word
 ends_behind earlier tokens (token ∷ later) (inr word) =
@@ -87,7 +74,7 @@ is_window earlier tokens later behind before =
       list = ap is_before_list (before_cut earlier rest) ∙ behind.list;
       closes = ap is_close_round (before_cut earlier rest) ∙ behind.closes;
       ends = ends_behind earlier tokens later before;
-      long = omega (arith, count_of earlier rest, moved_count n tokens later);
+      long = omega (arith, moved_count earlier tokens later);
     }
 
 -- ## What stands at a place
@@ -98,19 +85,19 @@ lt_there n a b = elim (cases_lt a b) [
   | inr most ↦ le-ltb (n + a) (n + b) (omega (arith, most)) ∙ sym (le-ltb a b most)
 ]
 
-class_moved : (n : ℕ) (found : Option CodeToken) → class_of (found_behind n found) ≡ class_of found
+class_moved : (n : ℕ) (found : Option CodeToken) → class_of (option_map (token_behind n) found) ≡ class_of found
 class_moved n None = refl
 class_moved n (Some token) = refl
 
-began_moved : (n : ℕ) (found : Option CodeToken) → began_of (found_behind n found) ≡ began_of found
+began_moved : (n : ℕ) (found : Option CodeToken) → began_of (option_map (token_behind n) found) ≡ began_of found
 began_moved n None = refl
 began_moved n (Some token) = refl
 
-touched_moved : (n : ℕ) (found : Option CodeToken) → touched_of (found_behind n found) ≡ touched_of found
+touched_moved : (n : ℕ) (found : Option CodeToken) → touched_of (option_map (token_behind n) found) ≡ touched_of found
 touched_moved n None = refl
 touched_moved n (Some token) = refl
 
-partner_moved : (n : ℕ) (found : Option CodeToken) → partner_of (found_behind n found) ≡ partner_behind n (partner_of found)
+partner_moved : (n : ℕ) (found : Option CodeToken) → partner_of (option_map (token_behind n) found) ≡ partner_behind n (partner_of found)
 partner_moved n None = refl
 partner_moved n (Some token) = refl
 
@@ -151,14 +138,6 @@ within_there n i end (Some p) =
     (ap (λ (b : Bool). b && nat_lt (n + p) (n + end)) (lt_there n i p) ∙ ap (λ (b : Bool). nat_lt i p && b) (lt_there n p end))
     (λ _. refl)
     (λ _. refl)
-
-within_past : (i end : ℕ) (partner : Option ℕ) → end ≤ i → within i end partner ≡ None
-within_past i end None past = refl
-within_past i end (Some p) past = at_false (nat_lt i p && nat_lt p end) (Some p) None (neither (cases_lt i p))
-  where
-    neither : (i < p) ⊎ (p ≤ i) → (nat_lt i p && nat_lt p end) ≡ false
-    neither (inl less) = and_right (nat_lt i p) (nat_lt p end) (le-ltb p end (omega (arith, less, past)))
-    neither (inr most) = and_left (nat_lt i p) (nat_lt p end) (le-ltb i p most)
 
 pub partner_in_there : {n : ℕ} {whole tokens : List CodeToken} → IsWindow n whole tokens → (end i : ℕ) → end ≤ length tokens → partner_in whole (n + end) (n + i) ≡ partner_behind n (partner_in tokens end i)
 partner_in_there {n} {whole} {tokens} w end i most = by (cases_lt i end)
