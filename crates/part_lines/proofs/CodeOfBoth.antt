@@ -13,11 +13,11 @@ use Rattle.unwrapped_lines.specs.Viewed.{item_began, colon_touches, numbers_from
 use Rattle.unwrapped_lines.proofs.NumberLemmas.{numbers_count}
 use Rattle.part_lines.specs.Cut.{partner_behind, partners_in}
 use Rattle.part_lines.proofs.CodeCut.{token_behind, code_of}
-use Rattle.part_lines.proofs.PartnersBelow.{IsBelow, AreBelow, partners_below, as_many_partners}
 use Rattle.part_lines.proofs.Places.{slice_before, slice_behind}
 use Rattle.std.proofs.lemmas.Option.{slice_get-map}
 use Rattle.std.specs.Option.{option_map}
 use Rattle.part_lines.proofs.Counted.{code_count, numbers_on, places_on, places_count}
+use Rattle.part_lines.proofs.Matchings.{IsBelow, AreBelow, partners_below, partners_count}
 
 -- ## Their numbers
 
@@ -139,7 +139,7 @@ code_of_both arena earlier later partners are =
 
     before : (j : ℕ) → j < length ce → all j ≡ token_at arena earlier ce pe j
     before j within =
-        let found : slice_get (pe ++ map (partner_behind n) pl) j ≡ slice_get pe j = slice_before pe (map (partner_behind n) pl) j (omega (arith, within, as_many_partners ce)) in
+        let found : slice_get (pe ++ map (partner_behind n) pl) j ≡ slice_get pe j = slice_before pe (map (partner_behind n) pl) j (omega (arith, within, partners_count ce)) in
         let below : FoundBelow (length (numbers_of ce)) (slice_get pe j) = below_at (length (numbers_of ce)) pe j (subst (λ (k : ℕ). AreBelow k pe) (sym (numbers_count 0 ce)) (partners_below ce)) in
         told_same arena (get_or (ce ++ cl) j Nothing) (get_or ce j Nothing) (get_or (earlier ++ later) j 0) (get_or earlier j 0) (partner_number (numbers_of (ce ++ cl)) (slice_get (pe ++ map (partner_behind n) pl) j)) (partner_number (numbers_of ce) (slice_get pe j))
         (get_or-append ce cl Nothing j within)
@@ -151,7 +151,7 @@ code_of_both arena earlier later partners are =
     there : (j : ℕ) → all (length ce + j) ≡ token_behind count (token_at arena later cl pl j)
     there j =
         let place : length ce + j ≡ n + j = omega (arith, as_many) in
-        let many : length ce + j ≡ length pe + j = omega (arith, as_many_partners ce) in
+        let many : length ce + j ≡ length pe + j = omega (arith, partners_count ce) in
         let item : get_or (earlier ++ later) (length ce + j) 0 ≡ get_or later j 0 = ap (λ (k : ℕ). get_or (earlier ++ later) k 0) place ∙ get_or-append-add earlier later j 0 in
         let found : slice_get (pe ++ map (partner_behind n) pl) (length ce + j) ≡ option_map (partner_behind n) (slice_get pl j) =
         ap (slice_get (pe ++ map (partner_behind n) pl)) many ∙ (slice_behind pe (map (partner_behind n) pl) j ∙ slice_get-map (partner_behind n) pl j) in

@@ -14,8 +14,8 @@ use Rattle.view_parts.specs.Walk.{began_of}
 use Rattle.unwrapped_lines.specs.declared.token.CodeToken.{CodeToken}
 use Rattle.unwrapped_lines.specs.Forms.{class_at, class_before}
 use Rattle.unwrapped_lines.specs.Viewed.{item_began, began_of_item, token_at, code_places_from}
-use Rattle.part_lines.specs.Cut.{partners_in}
-use Rattle.part_lines.proofs.CodeCut.{BeginsWord, IsCutBehind, CutsCode, code_of}
+use Rattle.part_lines.specs.Cut.{partners_in, IsFirstPart}
+use Rattle.part_lines.proofs.CodeCut.{BeginsWord, IsCutBehind, code_of, ArePassed, ArePaired}
 use Rattle.part_lines.proofs.Counted.{count_of, counts_on, counts_one, counts_all, code_class, class_there}
 use Rattle.part_lines.proofs.Passing.{told_all}
 use Rattle.part_lines.proofs.PairedCode.{code_paired}
@@ -105,7 +105,14 @@ begins_word arena all past (id ∷ rest) split so = by so.1 (λ follows. begins_
 
 -- ## The law
 
-pub cuts_code : CutsCode
+-- the tokens of both sides of a cut
+pub record IsCodeCut (arena : Contents) (earlier later : List ℕ) : Type 0 where
+  pub passed : ArePassed (code_of arena earlier)
+  pub paired : ArePaired (code_of arena earlier)
+  pub behind : IsCutBehind (code_of arena earlier)
+  pub before : BeginsWord (code_of arena later)
+
+pub cuts_code : (arena : Contents) (earlier later : List ℕ) → IsFirstPart arena earlier later → IsCodeCut arena earlier later
 cuts_code arena earlier later cut =
     let end = first_part arena earlier later cut in
     record {

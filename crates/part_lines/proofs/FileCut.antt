@@ -13,9 +13,9 @@ use Rattle.unwrapped_lines.specs.declared.open.Start.TheVariants.{Fresh, Tail, C
 use Rattle.unwrapped_lines.specs.declared.form.Next.{Next}
 use Rattle.unwrapped_lines.specs.declared.form.Next.TheVariants.{Ends, Goes, Waits, Opens}
 use Rattle.unwrapped_lines.specs.Forms.{class_of, class_at, partner_of, partner_in, within, form_of}
-use Rattle.unwrapped_lines.specs.Tree.{lines_from, end_level_from, line_of, head_lines}
+use Rattle.unwrapped_lines.specs.Tree.{lines_from, end_level_from, line_of, head_lines, lines_of, end_level}
 use Rattle.unwrapped_lines.proofs.StackLemmas.{from_end, from_ends, from_opens}
-use Rattle.part_lines.proofs.CodeCut.{ArePaired, BeginsWord, CutsLines, file_up_to}
+use Rattle.part_lines.proofs.CodeCut.{ArePaired, BeginsWord, file_up_to, ArePassed}
 use Rattle.part_lines.proofs.EnoughTurns.{same_lines, same_level, level_ends, level_past}
 use Rattle.part_lines.proofs.WayLemmas.{EndsBeforeWord, way_longer}
 use Rattle.part_lines.proofs.FormsAlike.{Stand, Leaves, fresh_at}
@@ -159,7 +159,15 @@ ends_before earlier later paired begins = record {
         let pair = paired i p (sym (ap (λ (t : Option CodeToken). is_open_round (class_of t)) same_i) ∙ round) (sym (ap (λ (t : Option CodeToken). within i (length earlier) (partner_of t)) same_i) ∙ found) in
         (ap (λ (t : Option CodeToken). is_close_round (class_of t)) same_p ∙ pair.0, ap partner_of same_p ∙ pair.1)
 
-pub cuts_lines : CutsLines
+-- The lines of a file behind a first part begin anew.
+pub record AreLinesCut (braces : Braces) (earlier later : List CodeToken) : Type 0 where
+  pub lines : lines_of braces (earlier ++ later)
+      ≡ lines_from (length earlier) braces (earlier ++ later) (file_up_to (length earlier) ∷ []) Fresh 0
+      ++ lines_from (length later) braces (earlier ++ later) (file_up_to (length (earlier ++ later)) ∷ []) Fresh (length earlier)
+  pub level : end_level braces (earlier ++ later)
+      ≡ end_level_from (length later + 1) braces (earlier ++ later) (file_up_to (length (earlier ++ later)) ∷ []) Fresh (length earlier)
+
+pub cuts_lines : (braces : Braces) (earlier later : List CodeToken) → ArePassed earlier → ArePaired earlier → BeginsWord later → AreLinesCut braces earlier later
 cuts_lines braces earlier later passed paired begins =
     let all = earlier ++ later in
     let ends = ends_before earlier later paired begins in

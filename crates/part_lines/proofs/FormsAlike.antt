@@ -20,8 +20,8 @@ use Rattle.unwrapped_lines.specs.declared.form.Next.TheVariants.{Ends, Goes, Wai
 use Rattle.unwrapped_lines.specs.declared.form.Form.{Form}
 use Rattle.unwrapped_lines.specs.declared.form.Stop.{Stop}
 use Rattle.unwrapped_lines.specs.Forms.{class_at, seen, partner_in, behind_partner, partner_or, after_group, block_end, statement_stop, tag_before, began_at, behind_close, kind_or_close, tagged_kind, wraps_tagged, tagged_context, tagged_head, ends_macro, macro_end, other_form}
-use Rattle.part_lines.proofs.CodeCut.{behind_opener, assigned_behind, file_up_to}
-use Rattle.part_lines.proofs.WayLemmas.{WayOn, EndsBeforeWord, step_of, at_most, goes_on, is_waiting, unwaited_way, opener_code, other_code, semicolon_code}
+use Rattle.part_lines.proofs.CodeCut.{behind_opener, assigned_behind, file_up_to, WayOn}
+use Rattle.part_lines.proofs.WayLemmas.{EndsBeforeWord, step_of, at_most, goes_on, is_waiting, unwaited_way, opener_code, other_code, semicolon_code}
 use Rattle.part_lines.proofs.StopsAlike.{StopAlike, stop_alike, semicolon_opens}
 use Rattle.part_lines.proofs.Choices.{either, at_true, at_false}
 use Rattle.part_lines.proofs.PartnerPlaces.{partner_place, partner_longer}

@@ -23,13 +23,11 @@ pub mod Passing
 pub mod PairsMatch
 pub mod PairedCode
 pub mod CutsCode
-pub mod PartnersBelow
 pub mod CodeOfBoth
 pub mod LinesCut
 pub mod PartsOfBoth
 pub mod LinesBetween
 pub mod BeginsOfBoth
-pub mod WholeLines
 pub mod LinesStay
 pub mod WalksOn
 pub mod Places

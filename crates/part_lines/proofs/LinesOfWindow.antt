@@ -15,7 +15,7 @@ use Rattle.unwrapped_lines.specs.declared.form.Next.TheVariants.{Ends, Goes, Wai
 use Rattle.unwrapped_lines.specs.declared.form.Form.{Form}
 use Rattle.unwrapped_lines.specs.Forms.{seen, is_if_head, is_do_head, tail_end, form_of}
 use Rattle.unwrapped_lines.specs.Tree.{Reading, answers_else, answers_tail, settled, body_of, comment_level, head_lines, line_of, lines_from, level_of_list, end_level_from}
-use Rattle.part_lines.proofs.CodeCut.{token_behind, open_behind, start_behind, code_line_behind, EndUpTo, Windows}
+use Rattle.part_lines.proofs.CodeCut.{token_behind, open_behind, start_behind, code_line_behind, IsCutBehind, IsCutBefore}
 use Rattle.part_lines.proofs.Choices.{choose, chosen}
 use Rattle.part_lines.proofs.Window.{IsWindow, is_window, lt_there, seen_there}
 use Rattle.part_lines.proofs.FormsOfLines.{next_behind, form_behind, tail_there}
@@ -25,13 +25,9 @@ use Rattle.part_lines.proofs.FormsReach.{Reaches, form_reaches}
 -- ## Lists that end up to a place
 
 -- each of these lists does
-abbrev AllWithin : ℕ → List Open → Type 0
+abbrev pub AllWithin : ℕ → List Open → Type 0
 AllWithin most [] = Unit {0}
 AllWithin most (o ∷ os) = (o.end ≤ most) × AllWithin most os
-
-all_within : (most : ℕ) (opens : List Open) → EndUpTo most opens → AllWithin most opens
-all_within most [] all = tt
-all_within most (o ∷ os) all = (all 0 o (omega arith), all_within most os (λ k d inside. all (suc k) d (omega (arith, inside))))
 
 -- a block that is opened does
 abbrev EndsWithin : ℕ → Next → Type 0
@@ -195,11 +191,19 @@ end_there n whole tokens w (suc count) braces (o ∷ os) start at all =
 
 -- ## Both
 
-pub windows : Windows
-windows n braces earlier tokens later opens start at behind before most below =
-    let w = is_window earlier tokens later behind before in
+-- Lines of lists that end among some tokens are the same wherever these tokens stand.
+pub record InWindow (n : ℕ) (braces : Braces) (earlier tokens later : List CodeToken) (opens : List Open) (start : Start) (at : ℕ) : Type 0 where
+  pub lines : lines_from n braces (earlier ++ (map (token_behind (length earlier)) tokens ++ later)) (map (open_behind (length earlier)) opens) (start_behind (length earlier) start) (length earlier + at)
+      ≡ map (code_line_behind (length earlier)) (lines_from n braces tokens opens start at)
+  pub level : end_level_from n braces (earlier ++ (map (token_behind (length earlier)) tokens ++ later)) (map (open_behind (length earlier)) opens) (start_behind (length earlier) start) (length earlier + at)
+      ≡ end_level_from n braces tokens opens start at
+
+pub in_window : (n : ℕ) (braces : Braces) (earlier tokens later : List CodeToken) (opens : List Open) (start : Start) (at : ℕ)
+    → IsCutBehind earlier → IsCutBefore later → AllWithin (length tokens) opens → InWindow n braces earlier tokens later opens start at
+in_window n braces earlier tokens later opens start at behind before within =
+    let window = is_window earlier tokens later behind before in
     let whole : List CodeToken = earlier ++ (map (token_behind (length earlier)) tokens ++ later) in
     record {
-      lines = lines_there (length earlier) whole tokens w n braces opens start at (all_within (length tokens) opens most);
-      level = end_there (length earlier) whole tokens w n braces opens start at (all_within (length tokens) opens most);
+      lines = lines_there (length earlier) whole tokens window n braces opens start at within;
+      level = end_there (length earlier) whole tokens window n braces opens start at within;
     }

@@ -17,7 +17,7 @@ use Rattle.view_parts.specs.Parts.{waiting_behind, next_end}
 use Rattle.unwrapped_lines.specs.declared.token.CodeToken.{CodeToken}
 use Rattle.unwrapped_lines.specs.Forms.{class_at, partner_in}
 use Rattle.part_lines.specs.Cut.{IsFirstPart, partners_in}
-use Rattle.part_lines.proofs.CodeCut.{Passes, behind_code, assigned_behind, code_of}
+use Rattle.part_lines.proofs.CodeCut.{behind_code, assigned_behind, code_of, Way}
 use Rattle.part_lines.proofs.Groups.{IsGroup, grouped, paired_length}
 use Rattle.part_lines.proofs.PartnersKept.{pair_found, partner_kept}
 use Rattle.part_lines.proofs.Counted.{count_of, counts_on, counts_one, counts_none, counts_all, code_class, code_within, code_partner}
@@ -27,33 +27,33 @@ use Rattle.part_lines.proofs.FirstPart.{IsUnasked, IsSound, outside_sound, ended
 
 -- ## Tokens that pass
 
-passes_end : (n : ℕ) (tokens : List CodeToken) (at : ℕ) (before : Before) (assigned : Bool) → at ≡ length tokens → is_end before ≡ true → Passes n tokens at before assigned
+passes_end : (n : ℕ) (tokens : List CodeToken) (at : ℕ) (before : Before) (assigned : Bool) → at ≡ length tokens → is_end before ≡ true → Way n tokens (length tokens) at before assigned
 passes_end zero tokens at before assigned all end = (all, end)
 passes_end (suc n) tokens at before assigned all end = inl (all, end)
 
 passes_token : (n : ℕ) (tokens : List CodeToken) (at : ℕ) (before : Before) (assigned : Bool) (class : TokenClass) → class_at tokens at ≡ class → at < length tokens → is_lost class ≡ false → is_opener class ≡ false
-    → Passes n tokens (at + 1) (behind_code assigned before class) (assigned_behind assigned class) → Passes (suc n) tokens at before assigned
+    → Way n tokens (length tokens) (at + 1) (behind_code assigned before class) (assigned_behind assigned class) → Way (suc n) tokens (length tokens) at before assigned
 passes_token n tokens at before assigned class is within lost opens on = inr (
   within,
   (
     ap (λ (c : TokenClass). is_lost c) is ∙ lost,
     inr (
       ap (λ (c : TokenClass). is_opener c) is ∙ opens,
-      subst (λ (c : TokenClass). Passes n tokens (at + 1) (behind_code assigned before c) (assigned_behind assigned c)) (sym is) on,
+      subst (λ (c : TokenClass). Way n tokens (length tokens) (at + 1) (behind_code assigned before c) (assigned_behind assigned c)) (sym is) on,
     ),
   ),
 )
 
 passes_group : (n : ℕ) (tokens : List CodeToken) (at partner : ℕ) (before : Before) (assigned : Bool) (class : TokenClass) → class_at tokens at ≡ class → at < length tokens → is_lost class ≡ false → is_opener class ≡ true
     → partner_in tokens (length tokens) at ≡ Some partner
-    → Passes n tokens (partner + 1) (behind_code assigned before class) (assigned_behind assigned class) → Passes (suc n) tokens at before assigned
+    → Way n tokens (length tokens) (partner + 1) (behind_code assigned before class) (assigned_behind assigned class) → Way (suc n) tokens (length tokens) at before assigned
 passes_group n tokens at partner before assigned class is within lost opens found on = inr (
   within,
   (
     ap (λ (c : TokenClass). is_lost c) is ∙ lost,
     inl (
       ap (λ (c : TokenClass). is_opener c) is ∙ opens,
-      (partner, (found, subst (λ (c : TokenClass). Passes n tokens (partner + 1) (behind_code assigned before c) (assigned_behind assigned c)) (sym is) on)),
+      (partner, (found, subst (λ (c : TokenClass). Way n tokens (length tokens) (partner + 1) (behind_code assigned before c) (assigned_behind assigned c)) (sym is) on)),
     ),
   ),
 )
@@ -74,7 +74,7 @@ record Stands (arena : Contents) (earlier later past rest : List ℕ) (walk : Wa
 
 -- what is to be told from there
 abbrev Told : Contents → List ℕ → ℕ → ℕ → Before → Bool → Type 0
-Told arena earlier n at before assigned = Passes n (code_of arena earlier) at before assigned
+Told arena earlier n at before assigned = Way n (code_of arena earlier) (length (code_of arena earlier)) at before assigned
 
 told_end : (n : ℕ) (arena : Contents) (earlier later past : List ℕ) (walk : Walk) (before : Before) (assigned : Bool) → Stands arena earlier later past [] walk before assigned
     → Told arena earlier n (count_of arena past) before assigned
@@ -220,7 +220,7 @@ told_token m arena earlier later told n past id rest walk before assigned few en
     (assigned_agrees walk.assigned class ∙ ap (λ (b : Bool). assigned_behind b class) stands.same_assigned) in
     let later_told = told n (past ++ id ∷ []) rest (outside walk class on.asked) (behind_code assigned before class) (assigned_behind assigned class) few (omega (arith, enough, one)) next in
     passes_token n tokens (count_of arena past) before assigned class (code_class arena earlier past id rest stands.split code) (code_within arena earlier past id rest stands.split code) on.lost opens
-    (subst (λ (at : ℕ). Passes n tokens at (behind_code assigned before class) (assigned_behind assigned class)) one later_told)
+    (subst (λ (at : ℕ). Way n tokens (length tokens) at (behind_code assigned before class) (assigned_behind assigned class)) one later_told)
 
 told_group : (m : ℕ) (arena : Contents) (earlier later : List ℕ) → AllTold m arena earlier later
     → (n : ℕ) (past : List ℕ) (id : ℕ) (rest : List ℕ) (walk : Walk) (before : Before) (assigned : Bool) → length rest ≤ m → length (code_of arena earlier) ≤ suc n + count_of arena past
@@ -239,7 +239,7 @@ told_group m arena earlier later told n past id rest walk before assigned few en
     let later_told = told n ((past ++ id ∷ group.inner) ++ group.closer ∷ []) group.behind group.next (behind_code assigned before class) (assigned_behind assigned class) fewer (omega (arith, enough, one, more, here)) group.stands in
     passes_group n tokens (count_of arena past) (count_of arena (past ++ id ∷ group.inner)) before assigned class (code_class arena earlier past id rest stands.split code) (code_within arena earlier past id rest stands.split code)
     on.lost opens group.partner
-    (subst (λ (at : ℕ). Passes n tokens at (behind_code assigned before class) (assigned_behind assigned class)) one later_told)
+    (subst (λ (at : ℕ). Way n tokens (length tokens) at (behind_code assigned before class) (assigned_behind assigned class)) one later_told)
 
 told_code : (m : ℕ) (arena : Contents) (earlier later : List ℕ) → AllTold m arena earlier later
     → (n : ℕ) (past : List ℕ) (id : ℕ) (rest : List ℕ) (walk : Walk) (before : Before) (assigned : Bool) → length rest ≤ m → length (code_of arena earlier) ≤ n + count_of arena past

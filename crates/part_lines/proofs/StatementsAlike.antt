@@ -15,8 +15,8 @@ use Rattle.unwrapped_lines.specs.declared.open.Start.TheVariants.{Fresh, Tail, C
 use Rattle.unwrapped_lines.specs.declared.form.Next.TheVariants.{Ends, Opens}
 use Rattle.unwrapped_lines.specs.declared.form.Form.{Form}
 use Rattle.unwrapped_lines.specs.Forms.{class_at, seen, block_end, case_colon, has_no_partner, label, tail_end, macro_end, other_form, unlabelled, statement, is_tagged, is_do_head, is_if_head, close_form, form_of}
-use Rattle.part_lines.proofs.CodeCut.{file_up_to}
-use Rattle.part_lines.proofs.WayLemmas.{WayOn, EndsBeforeWord, step_of, is_waiting}
+use Rattle.part_lines.proofs.CodeCut.{file_up_to, WayOn}
+use Rattle.part_lines.proofs.WayLemmas.{EndsBeforeWord, step_of, is_waiting}
 use Rattle.part_lines.proofs.StopsAlike.{brace_opens}
 use Rattle.part_lines.proofs.FormsAlike.{Stand, IsClosing, IsAlike, both, unlabelled_both, fresh_at, extern_ordinary, text_ordinary, close_ordinary, word_text, word_brace, word_semicolon, seen_alike, ordinary_on, semicolon_on, group_on, blocks_alike, closing, other_alike, macro_alike}
 use Rattle.part_lines.proofs.Choices.{either}

@@ -9,24 +9,12 @@ use Rattle.view_parts.specs.declared.walk.Before.TheVariants.{Name, Parameters, 
 use Rattle.view_parts.specs.Walk.{is_end, is_lost}
 use Rattle.unwrapped_lines.specs.declared.token.CodeToken.{CodeToken}
 use Rattle.unwrapped_lines.specs.Forms.{class_of, class_at, partner_of, within, partner_in}
-use Rattle.part_lines.proofs.CodeCut.{Passes, behind_code, behind_opener, assigned_behind}
+use Rattle.part_lines.proofs.CodeCut.{behind_code, behind_opener, assigned_behind, Way, WayOn}
 use Rattle.part_lines.proofs.Places.{slice_before}
-
--- the way goes on to this place, where the list ends behind a declaration
-abbrev pub Way : ℕ → List CodeToken → ℕ → ℕ → Before → Bool → Type 0
-Way zero tokens end at before assigned = (at ≡ end) × IsTrue (is_end before)
-Way (suc n) tokens end at before assigned =
-    ((at ≡ end) × IsTrue (is_end before))
-    ⊎ ((at < end) × (IsFalse (is_lost (class_at tokens at))
-    × ((IsTrue (is_opener (class_at tokens at)) × ((partner : ℕ) × ((partner_in tokens end at ≡ Some partner) × Way n tokens end (partner + 1) (behind_code assigned before (class_at tokens at)) (assigned_behind assigned (class_at tokens at)))))
-    ⊎ (IsFalse (is_opener (class_at tokens at)) × Way n tokens end (at + 1) (behind_code assigned before (class_at tokens at)) (assigned_behind assigned (class_at tokens at))))))
-
-abbrev pub WayOn : List CodeToken → ℕ → ℕ → Before → Bool → Type 0
-WayOn tokens end at before assigned = (n : ℕ) × Way n tokens end at before assigned
 
 -- ## Longer lists
 
-pub way_longer : (n : ℕ) (earlier later : List CodeToken) (at : ℕ) (before : Before) (assigned : Bool) → Passes n earlier at before assigned → Way n (earlier ++ later) (length earlier) at before assigned
+pub way_longer : (n : ℕ) (earlier later : List CodeToken) (at : ℕ) (before : Before) (assigned : Bool) → Way n earlier (length earlier) at before assigned → Way n (earlier ++ later) (length earlier) at before assigned
 way_longer zero earlier later at before assigned way = way
 way_longer (suc n) earlier later at before assigned (inl end) = inl end
 way_longer (suc n) earlier later at before assigned (inr on) =
