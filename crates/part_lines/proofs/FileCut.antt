@@ -1,5 +1,5 @@
 -- The lines of a file, and the level at its end, are cut where its first part ends.
-use Rattle.std.proofs.Common.{◌≡◌, ◌∙◌, ℕ, zero, suc, ◌+◌, ◌<◌, ◌≤◌, true, false, Option, Some, List, [], ◌∷◌, ◌++◌, length, append_assoc, length-append, refl, arith, sym, ap, subst, inl, inr, ◌⊎◌}
+use Rattle.std.proofs.Common.{◌≡◌, ◌∙◌, ℕ, zero, suc, ◌+◌, ◌<◌, ◌≤◌, true, false, Option, Some, List, [], ◌∷◌, ◌++◌, length, append_assoc, length-append, refl, arith, sym, ap, subst, inl, inr, ◌⊎◌, nat_lt}
 use Rattle.std.specs.Prelude.{slice_get}
 use Rattle.std.proofs.lemmas.Bool.{and_parts, lt-ltb}
 use Rattle.token_classes.specs.Classes.{is_word, is_open_round, is_close_round}
@@ -14,15 +14,18 @@ use Rattle.unwrapped_lines.specs.declared.form.Next.{Next}
 use Rattle.unwrapped_lines.specs.declared.form.Next.TheVariants.{Ends, Goes, Waits, Opens}
 use Rattle.unwrapped_lines.specs.Forms.{class_of, class_at, partner_of, partner_in, within, form_of}
 use Rattle.unwrapped_lines.specs.Tree.{lines_from, end_level_from, line_of, head_lines, lines_of, end_level}
-use Rattle.unwrapped_lines.proofs.StackLemmas.{from_end, from_ends, from_opens}
+use Rattle.unwrapped_lines.proofs.StackLemmas.{from_end}
 use Rattle.part_lines.proofs.CodeCut.{ArePaired, BeginsWord, file_up_to, ArePassed}
-use Rattle.part_lines.proofs.EnoughTurns.{same_lines, same_level, level_ends, level_past}
+use Rattle.part_lines.proofs.EnoughTurns.{same_lines, same_level}
 use Rattle.part_lines.proofs.WayLemmas.{EndsBeforeWord, way_longer}
 use Rattle.part_lines.proofs.FormsAlike.{Stand, Leaves, fresh_at}
 use Rattle.part_lines.proofs.StatementsAlike.{form_alike}
 use Rattle.part_lines.proofs.FormsReach.{Reaches, form_reaches}
 use Rattle.part_lines.proofs.Places.{slice_before, slice_at_seam}
 use Rattle.part_lines.proofs.PartnerPlaces.{partner_place}
+use Rattle.part_lines.proofs.Turns.{lines_after, lines_turn, level_after, level_turn}
+use Rattle.part_lines.proofs.Choices.{at_true}
+use Rattle.unwrapped_lines.specs.declared.form.Form.{Form}
 
 -- the list of the file with this end, alone
 abbrev up_to : ℕ → List Open
@@ -73,27 +76,26 @@ lines_cut (suc n) (suc m) r braces tokens end whole start at ends stand few many
       let order : end ≤ whole = ends.order in
       let f = form_of braces tokens o start at in
       let alike = form_alike braces tokens end whole start at ends lt stand in
-      let here = lt-ltb at end lt in
-      let there = lt-ltb at whole (omega arith) in
+      let wide : at < whole = omega arith in
       let rest : List Line = lines_from r braces tokens (up_to whole) Fresh end in
-      elim f.next as (λ (x : Next). f.next ≡ x → Reaches at o.end f x → Leaves tokens end f x → lines_from (suc m) braces tokens (up_to whole) start at ≡ lines_from (suc n) braces tokens (up_to end) start at ++ rest) [
-        | Ends ↦ λ q t l. let t0 : at < f.end = t.0 in
-            from_ends m braces tokens [] p start at f there (sym alike.same) q
-            ∙ (ap (λ (ls : List Line). line_of o start at f ∷ ls) (lines_cut n m r braces tokens end whole Fresh f.end ends l (omega arith) (omega arith) some)
-            ∙ ap (λ (ls : List Line). ls ++ rest) (sym (from_ends n braces tokens [] o start at f here refl q)))
-        | Goes s ↦ λ q t l. absurd l
-        | Waits h ↦ λ q t l. absurd l
-        | Opens w b ↦ λ q t l.
-            let t0 : at ≤ f.end = t.begins in let t1 : f.end < b.end = t.goes_on in let t2 : b.end ≤ end = t.ends in
-            let head : List Line = head_lines o start at f w in
-            let inner : List Line = lines_from n braces tokens (b ∷ []) Fresh (f.end + 1) in
-            let later : List Line = lines_from n braces tokens (up_to end) (Closing b) b.end in
-            from_opens m braces tokens [] p start at f w b there (sym alike.same) q
-            ∙ (ap (λ (ls : List Line). head ++ ls ++ lines_from m braces tokens (up_to whole) (Closing b) b.end) (same_lines m n braces tokens (b ∷ []) Fresh (f.end + 1) b.end (refl, tt) (omega arith) (omega arith))
-            ∙ (ap (λ (ls : List Line). head ++ inner ++ ls) (lines_cut n m r braces tokens end whole (Closing b) b.end ends l (omega arith) (omega arith) some)
-            ∙ (sym (append_assoc (head ++ inner) later rest)
-            ∙ ap (λ (ls : List Line). ls ++ rest) (sym (from_opens n braces tokens [] o start at f w b here refl q)))))
-      ] refl (form_reaches braces tokens o start at lt) alike.leaves
+      lines_turn m braces tokens p [] start at wide
+      ∙ (ap (λ (g : Form). lines_after m braces tokens p [] start at g g.next) (sym alike.same)
+      ∙ (elim f.next as (λ (x : Next). Reaches at o.end f x → Leaves tokens end f x → lines_after m braces tokens p [] start at f x ≡ lines_after n braces tokens o [] start at f x ++ rest) [
+        | Ends ↦ λ reaches leaves.
+            let up : at < f.end = reaches.0 in
+            ap (λ (ls : List Line). line_of o start at f ∷ ls) (lines_cut n m r braces tokens end whole Fresh f.end ends leaves (omega arith) (omega arith) some)
+        | Goes later ↦ λ reaches leaves. absurd leaves
+        | Waits head ↦ λ reaches leaves. absurd leaves
+        | Opens wrapped block ↦ λ reaches leaves.
+            let begins : at ≤ f.end = reaches.begins in let goes_on : f.end < block.end = reaches.goes_on in let low : block.end ≤ end = reaches.ends in
+            let head : List Line = head_lines o start at f wrapped in
+            let inner : List Line = lines_from n braces tokens (block ∷ []) Fresh (f.end + 1) in
+            ap (λ (ls : List Line). head ++ ls ++ lines_from m braces tokens (up_to whole) (Closing block) block.end)
+            (same_lines m n braces tokens (block ∷ []) Fresh (f.end + 1) block.end (refl, tt) (omega arith) (omega arith))
+            ∙ (ap (λ (ls : List Line). head ++ inner ++ ls) (lines_cut n m r braces tokens end whole (Closing block) block.end ends leaves (omega arith) (omega arith) some)
+            ∙ sym (append_assoc (head ++ inner) (lines_from n braces tokens (up_to end) (Closing block) block.end) rest))
+      ] (form_reaches braces tokens o start at lt) alike.leaves
+      ∙ ap (λ (ls : List Line). ls ++ rest) (sym (lines_turn n braces tokens o [] start at lt))))
 ]
 
 -- ## The level at the end
@@ -118,19 +120,20 @@ level_cut (suc m) r braces tokens end whole start at ends stand many some = elim
       let order : end ≤ whole = ends.order in
       let f = form_of braces tokens o start at in
       let alike = form_alike braces tokens end whole start at ends lt stand in
-      let there = lt-ltb at whole (omega arith) in
-      elim f.next as (λ (x : Next). f.next ≡ x → Reaches at o.end f x → Leaves tokens end f x → end_level_from (suc m) braces tokens (up_to whole) start at ≡ end_level_from r braces tokens (up_to whole) Fresh end) [
-        | Ends ↦ λ q t l. let t0 : at < f.end = t.0 in
-            level_ends m braces tokens [] p start at f there (sym alike.same) q
-            ∙ level_cut m r braces tokens end whole Fresh f.end ends l (omega arith) some
-        | Goes s ↦ λ q t l. absurd l
-        | Waits h ↦ λ q t l. absurd l
-        | Opens w b ↦ λ q t l.
-            let t0 : at ≤ f.end = t.begins in let t1 : f.end < b.end = t.goes_on in
-            let inside : b.end < end = l.within_list in
-            level_past m braces tokens [] p start at f w b there (sym alike.same) q (lt-ltb b.end whole (omega arith))
-            ∙ level_cut m r braces tokens end whole (Closing b) b.end ends l (omega arith) some
-      ] refl (form_reaches braces tokens o start at lt) alike.leaves
+      let wide : at < whole = omega arith in
+      level_turn m braces tokens p [] start at wide
+      ∙ (ap (λ (g : Form). level_after m braces tokens p [] g g.next) (sym alike.same)
+      ∙ elim f.next as (λ (x : Next). Reaches at o.end f x → Leaves tokens end f x → level_after m braces tokens p [] f x ≡ end_level_from r braces tokens (up_to whole) Fresh end) [
+        | Ends ↦ λ reaches leaves.
+            let up : at < f.end = reaches.0 in
+            level_cut m r braces tokens end whole Fresh f.end ends leaves (omega arith) some
+        | Goes later ↦ λ reaches leaves. absurd leaves
+        | Waits head ↦ λ reaches leaves. absurd leaves
+        | Opens wrapped block ↦ λ reaches leaves.
+            let begins : at ≤ f.end = reaches.begins in let goes_on : f.end < block.end = reaches.goes_on in
+            let inside : block.end < end = leaves.within_list in
+            at_true (nat_lt block.end whole) _ _ (lt-ltb block.end whole (omega arith)) ∙ level_cut m r braces tokens end whole (Closing block) block.end ends leaves (omega arith) some
+      ] (form_reaches braces tokens o start at lt) alike.leaves)
 ]
 
 -- ## A first part

@@ -32,3 +32,4 @@ pub mod LinesStay
 pub mod WalksOn
 pub mod Places
 pub mod PartnerPlaces
+pub mod Turns

@@ -21,6 +21,7 @@ use Rattle.part_lines.proofs.Window.{IsWindow, is_window, lt_there, seen_there}
 use Rattle.part_lines.proofs.FormsOfLines.{next_behind, form_behind, tail_there}
 use Rattle.part_lines.proofs.FormsOfStarts.{form_there}
 use Rattle.part_lines.proofs.FormsReach.{Reaches, form_reaches}
+use Rattle.part_lines.proofs.Turns.{lines_after, level_after}
 
 -- ## Lists that end up to a place
 
@@ -82,13 +83,6 @@ head_there n o start at f false =
 
 -- ## Lines
 
--- the lines from a line's form on
-abbrev lines_after : ℕ → Braces → List CodeToken → Open → List Open → Start → ℕ → Form → Next → List Line
-lines_after n braces tokens o os start at f Ends = line_of o start at f ∷ lines_from n braces tokens (settled tokens f.end (o ∷ os)).opens (settled tokens f.end (o ∷ os)).start f.end
-lines_after n braces tokens o os start at f (Goes s) = line_of o start at f ∷ lines_from n braces tokens (o ∷ os) s f.end
-lines_after n braces tokens o os start at f (Waits h) = line_of o start at f ∷ lines_from n braces tokens (body_of o h f.level ∷ o ∷ os) Fresh f.end
-lines_after n braces tokens o os start at f (Opens wrapped b) = head_lines o start at f wrapped ++ lines_from n braces tokens (b ∷ []) Fresh (f.end + 1) ++ lines_from n braces tokens (o ∷ os) (Closing b) b.end
-
 -- so many lines are the same, behind so many tokens
 abbrev AreLinesThere : ℕ → List CodeToken → List CodeToken → ℕ → Braces → Type 0
 AreLinesThere n whole tokens count braces = (opens : List Open) (start : Start) (at : ℕ) → AllWithin (length tokens) opens
@@ -146,17 +140,6 @@ lines_there n whole tokens w (suc count) braces (o ∷ os) start at all =
 level_there : (n : ℕ) (opens : List Open) → level_of_list (map (open_behind n) opens) ≡ level_of_list opens
 level_there n [] = refl
 level_there n (o ∷ os) = ap (λ (x : ℕ). elim o.block as (λ _. ℕ) [ true ↦ o.level | false ↦ x ]) (level_there n os)
-
--- the level from a line's form on
-abbrev level_after : ℕ → Braces → List CodeToken → Open → List Open → Form → Next → ℕ
-level_after n braces tokens o os f Ends = end_level_from n braces tokens (settled tokens f.end (o ∷ os)).opens (settled tokens f.end (o ∷ os)).start f.end
-level_after n braces tokens o os f (Goes s) = end_level_from n braces tokens (o ∷ os) s f.end
-level_after n braces tokens o os f (Waits h) = end_level_from n braces tokens (body_of o h f.level ∷ o ∷ os) Fresh f.end
-level_after n braces tokens o os f (Opens wrapped b) =
-    elim (nat_lt b.end o.end) as (λ _. ℕ) [
-      | true ↦ end_level_from n braces tokens (o ∷ os) (Closing b) b.end
-      | false ↦ end_level_from n braces tokens (b ∷ []) Fresh (f.end + 1)
-    ]
 
 abbrev IsLevelThere : ℕ → List CodeToken → List CodeToken → ℕ → Braces → Type 0
 IsLevelThere n whole tokens count braces = (opens : List Open) (start : Start) (at : ℕ) → AllWithin (length tokens) opens

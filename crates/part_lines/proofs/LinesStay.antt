@@ -15,7 +15,7 @@ use Rattle.unwrapped_lines.specs.Tree.{lines_from, end_level_from, lines_of, end
 use Rattle.unwrapped_lines.specs.Comments.{Tree, begins_from, no_marks}
 use Rattle.unwrapped_lines.specs.Lines.{lines_between, tree_of}
 use Rattle.unwrapped_lines.specs.Stack.{IsCut}
-use Rattle.unwrapped_lines.proofs.CutLemmas.{parts_count, cut_view}
+use Rattle.unwrapped_lines.proofs.CutLemmas.{parts_count}
 use Rattle.part_lines.specs.Cut.{IsFirstPart, partner_behind, partners_in, LinesStay}
 use Rattle.part_lines.proofs.CodeCut.{token_behind, code_line_behind, BeginsWord, IsCutBehind, code_of, file_up_to}
 use Rattle.part_lines.proofs.CodeOfBoth.{code_of_both}
@@ -29,6 +29,7 @@ use Rattle.part_lines.proofs.LinesOfWindow.{InWindow, in_window}
 use Rattle.part_lines.proofs.FileCut.{AreLinesCut, cuts_lines}
 use Rattle.part_lines.proofs.CutsCode.{IsCodeCut, cuts_code}
 use Rattle.part_lines.proofs.PartnersStay.{partners_stay}
+use Rattle.unwrapped_lines.proofs.Started.{lines_cut_views}
 
 -- ## Behind no token
 
@@ -160,7 +161,7 @@ pub lines_stay : LinesStay
 lines_stay style arena earlier later first =
     ap (λ (k : ℕ). lines_between k (begins_from whole (parts_of arena (earlier ++ later) (classes_of arena (earlier ++ later))) 0 no_marks)) (length-append earlier later)
     ∙ (ap (lines_between (length earlier + length later)) begins
-    ∙ lines_of_both (length earlier) (length later) (begins_from tree parts 0 no_marks) (begins_from rest more 0 no_marks) some (cut_view style arena later (partners_in arena later) (lines_cut (braces_of style) (code_of arena later))))
+    ∙ lines_of_both (length earlier) (length later) (begins_from tree parts 0 no_marks) (begins_from rest more 0 no_marks) some (lines_cut_views style arena later (partners_in arena later)))
   where
     whole : Tree
     whole = tree_of style arena (earlier ++ later) (partners_in arena (earlier ++ later))
