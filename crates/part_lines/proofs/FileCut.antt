@@ -16,14 +16,12 @@ use Rattle.unwrapped_lines.specs.Forms.{class_of, class_at, partner_of, partner_
 use Rattle.unwrapped_lines.specs.Tree.{lines_from, end_level_from, line_of, head_lines, lines_of, end_level}
 use Rattle.unwrapped_lines.proofs.StackLemmas.{from_end}
 use Rattle.part_lines.proofs.CodeCut.{ArePaired, BeginsWord, file_up_to, ArePassed}
-use Rattle.part_lines.proofs.EnoughTurns.{same_lines, same_level}
 use Rattle.part_lines.proofs.WayLemmas.{EndsBeforeWord, way_longer}
-use Rattle.part_lines.proofs.FormsAlike.{Stand, Leaves, fresh_at}
-use Rattle.part_lines.proofs.StatementsAlike.{form_alike}
+use Rattle.part_lines.proofs.FormsAlike.{Stand, Leaves, fresh_at, form_alike}
 use Rattle.part_lines.proofs.FormsReach.{Reaches, form_reaches}
 use Rattle.part_lines.proofs.Places.{slice_before, slice_at_seam}
 use Rattle.part_lines.proofs.PartnerPlaces.{partner_place}
-use Rattle.part_lines.proofs.Turns.{lines_after, lines_turn, level_after, level_turn}
+use Rattle.part_lines.proofs.Turns.{lines_after, lines_turn, level_after, level_turn, same_lines, same_level}
 use Rattle.part_lines.proofs.Choices.{at_true}
 use Rattle.unwrapped_lines.specs.declared.form.Form.{Form}
 

@@ -20,9 +20,7 @@ use Rattle.part_lines.specs.Cut.{IsFirstPart, partner_behind, partners_in, Lines
 use Rattle.part_lines.proofs.CodeCut.{token_behind, code_line_behind, BeginsWord, IsCutBehind, code_of, file_up_to}
 use Rattle.part_lines.proofs.CodeOfBoth.{code_of_both}
 use Rattle.part_lines.proofs.PartsOfBoth.{tokens_in, ends_token, tokens_so, ends_so, parts_of_both, ends_in_code, comments_begin, ends_code}
-use Rattle.part_lines.proofs.BeginsOfBoth.{FirstAt, AreBoth, begins_of_both}
-use Rattle.part_lines.proofs.LinesBetween.{begin_behind, lines_of_both}
-use Rattle.part_lines.proofs.LinesCut.{lines_cut}
+use Rattle.part_lines.proofs.BeginsOfBoth.{FirstAt, AreBoth, begins_of_both, begin_behind, lines_of_both}
 use Rattle.part_lines.proofs.FirstPart.{IsEnded, first_part}
 use Rattle.part_lines.proofs.Counted.{places_count}
 use Rattle.part_lines.proofs.LinesOfWindow.{InWindow, in_window}
@@ -30,6 +28,7 @@ use Rattle.part_lines.proofs.FileCut.{AreLinesCut, cuts_lines}
 use Rattle.part_lines.proofs.CutsCode.{IsCodeCut, cuts_code}
 use Rattle.part_lines.proofs.PartnersStay.{partners_stay}
 use Rattle.unwrapped_lines.proofs.Started.{lines_cut_views}
+use Rattle.part_lines.proofs.Turns.{lines_cut}
 
 -- ## Behind no token
 
