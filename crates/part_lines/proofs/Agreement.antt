@@ -29,11 +29,13 @@ ends_agree before there (inr (inr between)) end = absurd (never (ap (λ (b : Bef
 abbrev walk_at : ℕ → Before → Bool → Bool → Option ℕ → Walk
 walk_at place there assigned commented asked = record { place = place; before = there; assigned = assigned; commented = commented; asked = asked }
 
-group_agrees : (place : ℕ) (there : Before) (assigned commented : Bool) (asked : Option ℕ) (opener : TokenClass) → Agrees (behind_opener assigned there opener) (behind_group (walk_at place there assigned commented asked) opener)
+group_agrees : (place : ℕ) (there : Before) (assigned commented : Bool) (asked : Option ℕ) (opener : TokenClass)
+    → Agrees (behind_opener assigned there opener) (behind_group (walk_at place there assigned commented asked) opener)
 group_agrees place Name assigned commented asked opener = inl refl
 group_agrees place Parameters assigned commented asked opener = by_body (is_open_brace opener) assigned commented
   where
-    by_body : (brace assigned commented : Bool) → Agrees (if brace && not assigned then Body else Other) (if brace && not (assigned || commented) then Body else Other)
+    by_body : (brace assigned commented : Bool)
+        → Agrees (if brace && not assigned then Body else Other) (if brace && not (assigned || commented) then Body else Other)
     by_body true true commented = inl refl
     by_body true false true = inr (inl refl)
     by_body true false false = inl refl
@@ -43,17 +45,22 @@ group_agrees place _ assigned commented asked opener = inl refl
 groups_agree : (place : ℕ) (before there : Before) (assigned commented : Bool) (asked : Option ℕ) (opener : TokenClass) → Agrees before there
     → Agrees (behind_opener assigned before opener) (behind_group (walk_at place there assigned commented asked) opener)
 groups_agree place before there assigned commented asked opener (inl same) =
-    subst (λ (b : Before). Agrees (behind_opener assigned b opener) (behind_group (walk_at place there assigned commented asked) opener)) same (group_agrees place there assigned commented asked opener)
+    subst (λ (b : Before). Agrees (behind_opener assigned b opener) (behind_group (walk_at place there assigned commented asked) opener)) same
+    (group_agrees place there assigned commented asked opener)
 groups_agree place before there assigned commented asked opener (inr (inl other)) =
-    subst (λ (b : Before). Agrees (behind_opener assigned before opener) (behind_group (walk_at place b assigned commented asked) opener)) (sym other) (inr (inl refl))
+    subst (λ (b : Before). Agrees (behind_opener assigned before opener) (behind_group (walk_at place b assigned commented asked) opener)) (sym other)
+    (inr (inl refl))
 groups_agree place before there assigned commented asked opener (inr (inr between)) =
-    subst (λ (b : Before). Agrees (behind_opener assigned before opener) (behind_group (walk_at place b assigned commented asked) opener)) (sym between) (inr (inl refl))
+    subst (λ (b : Before). Agrees (behind_opener assigned before opener) (behind_group (walk_at place b assigned commented asked) opener)) (sym between)
+    (inr (inl refl))
 
 -- ## Behind a token
 
-pub behind_agrees : (walk : Walk) (before : Before) (class : TokenClass) → is_comment class ≡ false → Agrees before walk.before → Agrees (behind_code walk.assigned before class) (behind walk class)
+pub behind_agrees : (walk : Walk) (before : Before) (class : TokenClass) → is_comment class ≡ false → Agrees before walk.before
+    → Agrees (behind_code walk.assigned before class) (behind walk class)
 behind_agrees walk before class code agrees =
-    by_bits (is_opener class) (is_semicolon class) (is_comment class) (is_plain class) code (groups_agree walk.place before walk.before walk.assigned walk.commented walk.asked class agrees)
+    by_bits (is_opener class) (is_semicolon class) (is_comment class) (is_plain class) code
+    (groups_agree walk.place before walk.before walk.assigned walk.commented walk.asked class agrees)
   where
     by_bits : (opener semicolon comment plain : Bool) → comment ≡ false → Agrees (behind_opener walk.assigned before class) (behind_group walk class)
         → Agrees (if opener then behind_opener walk.assigned before class else (if semicolon then Semicolon else (if plain then Name else Other)))
@@ -77,7 +84,8 @@ comment_agrees walk before _ comment = absurd (never comment)
 pub assigned_agrees : (assigned : Bool) (class : TokenClass) → not (is_semicolon class) && (assigned || is_assigning class) ≡ assigned_behind assigned class
 assigned_agrees assigned class = by_bits (is_semicolon class) assigned (is_assigning class)
   where
-    by_bits : (semicolon assigned assigning : Bool) → not semicolon && (assigned || assigning) ≡ (if semicolon then false else (if assigning then true else assigned))
+    by_bits : (semicolon assigned assigning : Bool)
+        → not semicolon && (assigned || assigning) ≡ (if semicolon then false else (if assigning then true else assigned))
     by_bits true assigned assigning = refl
     by_bits false true true = refl
     by_bits false true false = refl
@@ -88,7 +96,8 @@ or_nothing : (b : Bool) → b || false ≡ b
 or_nothing true = refl
 or_nothing false = refl
 
-pub comment_assigns_nothing : (assigned : Bool) (class : TokenClass) → is_comment class ≡ true → not (is_semicolon class) && (assigned || is_assigning class) ≡ assigned
+pub comment_assigns_nothing : (assigned : Bool) (class : TokenClass) → is_comment class ≡ true
+    → not (is_semicolon class) && (assigned || is_assigning class) ≡ assigned
 comment_assigns_nothing assigned LineComment comment = or_nothing assigned
 comment_assigns_nothing assigned BlockComment comment = or_nothing assigned
 comment_assigns_nothing assigned _ comment = absurd (never comment)
@@ -99,13 +108,15 @@ comment_assigns_nothing assigned _ comment = absurd (never comment)
 abbrev pub matching : List Opener → List (Option ℕ) → Matching
 matching waiting partners = record { open_brackets = waiting; partners = partners }
 
-pub opener_waits : (class : TokenClass) (place : ℕ) (partners : List (Option ℕ)) → is_opener class ≡ true → bracket_step class place (matching [] partners) ≡ matching (record { place = place; kind = class } ∷ []) partners
+pub opener_waits : (class : TokenClass) (place : ℕ) (partners : List (Option ℕ)) → is_opener class ≡ true
+    → bracket_step class place (matching [] partners) ≡ matching (record { place = place; kind = class } ∷ []) partners
 opener_waits OpenRound place partners opens = refl
 opener_waits OpenSquare place partners opens = refl
 opener_waits OpenBrace place partners opens = refl
 opener_waits _ place partners opens = absurd (never opens)
 
-pub nothing_waits : (class : TokenClass) (place : ℕ) (partners : List (Option ℕ)) → is_opener class ≡ false → bracket_step class place (matching [] partners) ≡ matching [] partners
+pub nothing_waits : (class : TokenClass) (place : ℕ) (partners : List (Option ℕ)) → is_opener class ≡ false
+    → bracket_step class place (matching [] partners) ≡ matching [] partners
 nothing_waits OpenRound place partners opens = absurd (never (sym opens))
 nothing_waits OpenSquare place partners opens = absurd (never (sym opens))
 nothing_waits OpenBrace place partners opens = absurd (never (sym opens))

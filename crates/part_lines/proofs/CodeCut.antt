@@ -27,7 +27,8 @@ abbrev pub code_line_behind : ℕ → Line → Line
 code_line_behind count line = record { first = count + line.first; end = count + line.end; level = line.level; kind = line.kind; list_level = line.list_level }
 
 abbrev pub open_behind : ℕ → Open → Open
-open_behind count list = record { block = list.block; context = list.context; level = list.level; case_level = list.case_level; end = count + list.end; head = list.head; head_level = list.head_level; assigned = list.assigned }
+open_behind count list =
+    record { block = list.block; context = list.context; level = list.level; case_level = list.case_level; end = count + list.end; head = list.head; head_level = list.head_level; assigned = list.assigned }
 
 abbrev pub start_behind : ℕ → Start → Start
 start_behind count Fresh = Fresh
@@ -75,8 +76,12 @@ Way zero tokens end at before assigned = (at ≡ end) × IsTrue (is_end before)
 Way (suc n) tokens end at before assigned =
     ((at ≡ end) × IsTrue (is_end before))
     ⊎ ((at < end) × (IsFalse (is_lost (class_at tokens at))
-    × ((IsTrue (is_opener (class_at tokens at)) × ((partner : ℕ) × ((partner_in tokens end at ≡ Some partner) × Way n tokens end (partner + 1) (behind_code assigned before (class_at tokens at)) (assigned_behind assigned (class_at tokens at)))))
-    ⊎ (IsFalse (is_opener (class_at tokens at)) × Way n tokens end (at + 1) (behind_code assigned before (class_at tokens at)) (assigned_behind assigned (class_at tokens at))))))
+    × ((IsTrue (is_opener (class_at tokens at))
+    × ((partner : ℕ)
+    × ((partner_in tokens end at ≡ Some partner) × Way n tokens end (partner + 1) (behind_code assigned before (class_at tokens at))
+    (assigned_behind assigned (class_at tokens at)))))
+    ⊎ (IsFalse (is_opener (class_at tokens at)) × Way n tokens end (at + 1) (behind_code assigned before (class_at tokens at))
+    (assigned_behind assigned (class_at tokens at))))))
 
 abbrev pub WayOn : List CodeToken → ℕ → ℕ → Before → Bool → Type 0
 WayOn tokens end at before assigned = (n : ℕ) × Way n tokens end at before assigned
@@ -87,7 +92,8 @@ ArePassed tokens = Way (length tokens) tokens (length tokens) 0 Between false
 
 -- each `(` that has a partner has a `)`, which has it
 abbrev pub ArePaired : List CodeToken → Type 0
-ArePaired tokens = (i p : ℕ) → is_open_round (class_at tokens i) ≡ true → partner_in tokens (length tokens) i ≡ Some p → (is_close_round (class_at tokens p) ≡ true) × (partner_of (slice_get tokens p) ≡ Some i)
+ArePaired tokens = (i p : ℕ) → is_open_round (class_at tokens i) ≡ true → partner_in tokens (length tokens) i ≡ Some p
+    → (is_close_round (class_at tokens p) ≡ true) × (partner_of (slice_get tokens p) ≡ Some i)
 
 -- ## Tokens and lists
 
@@ -97,4 +103,5 @@ code_of arena ids = code_tokens arena ids (classes_of arena ids) (partners_in ar
 
 -- the list of a file whose tokens end at a place
 abbrev pub file_up_to : ℕ → Open
-file_up_to end = record { block = true; context = (whole_file []).context; level = 0; case_level = 0; end = end; head = (whole_file []).head; head_level = 0; assigned = false }
+file_up_to end =
+    record { block = true; context = (whole_file []).context; level = 0; case_level = 0; end = end; head = (whole_file []).head; head_level = 0; assigned = false }

@@ -29,7 +29,8 @@ codes_on [] after = omega arith
 codes_on (class ∷ before) after = by_comment (is_comment class) (codes_on before after)
   where
     by_comment : (comment : Bool) → code_count (before ++ after) ≡ code_count before + code_count after
-        → (if comment then code_count (before ++ after) else suc (code_count (before ++ after))) ≡ (if comment then code_count before else suc (code_count before)) + code_count after
+        → (if comment then code_count (before ++ after) else suc (code_count (before ++ after)))
+        ≡ (if comment then code_count before else suc (code_count before)) + code_count after
     by_comment true on = on
     by_comment false on = omega (arith, on)
 
@@ -71,7 +72,8 @@ pub places_count : (k : ℕ) (classes : List TokenClass) → length (code_places
 places_count k [] = refl
 places_count k (class ∷ classes) =
     let rest = places_count (k + 1) classes in
-    elim (is_comment class) as (λ b. length (if b then code_places_from (k + 1) classes else k ∷ code_places_from (k + 1) classes) ≡ (if b then code_count classes else suc (code_count classes))) [
+    elim (is_comment class) as (λ b. length
+    (if b then code_places_from (k + 1) classes else k ∷ code_places_from (k + 1) classes) ≡ (if b then code_count classes else suc (code_count classes))) [
       | true ↦ rest
       | false ↦ ap suc rest
     ]
@@ -110,9 +112,11 @@ counts_none arena id ids comment = codes_none (item_class arena id) (classes_of 
 
 pub counts_all : (arena : Contents) (ids : List ℕ) → length (code_of arena ids) ≡ count_of arena ids
 counts_all arena ids =
-    length-map (code_places_from 0 (classes_of arena ids)) (token_at arena ids (classes_of arena ids) (partners_in arena ids)) ∙ places_count 0 (classes_of arena ids)
+    length-map (code_places_from 0 (classes_of arena ids)) (token_at arena ids (classes_of arena ids) (partners_in arena ids))
+    ∙ places_count 0 (classes_of arena ids)
 
-cut_classes : (arena : Contents) (ids before : List ℕ) (id : ℕ) (after : List ℕ) → ids ≡ before ++ id ∷ after → classes_of arena ids ≡ classes_of arena before ++ item_class arena id ∷ classes_of arena after
+cut_classes : (arena : Contents) (ids before : List ℕ) (id : ℕ) (after : List ℕ) → ids ≡ before ++ id ∷ after
+    → classes_of arena ids ≡ classes_of arena before ++ item_class arena id ∷ classes_of arena after
 cut_classes arena ids before id after split = ap (classes_of arena) split ∙ map-append (item_class arena) before (id ∷ after)
 
 -- the token of an item that is no comment
@@ -126,25 +130,29 @@ token_there arena ids before id after split code =
     ∙ (ap (option_map token) (places_there 0 (classes_of arena before) (item_class arena id) (classes_of arena after) code)
     ∙ ap (λ n. Some (token n)) e))
 
-pub class_there : (arena : Contents) (ids before : List ℕ) (id : ℕ) (after : List ℕ) → ids ≡ before ++ id ∷ after → get_or (classes_of arena ids) (length before) Nothing ≡ item_class arena id
+pub class_there : (arena : Contents) (ids before : List ℕ) (id : ℕ) (after : List ℕ) → ids ≡ before ++ id ∷ after
+    → get_or (classes_of arena ids) (length before) Nothing ≡ item_class arena id
 class_there arena ids before id after split =
     ap (λ (classes : List TokenClass). get_or classes (length before) Nothing) (cut_classes arena ids before id after split)
     ∙ (ap (λ n. get_or (classes_of arena before ++ item_class arena id ∷ classes_of arena after) n Nothing) (sym (length-map before (item_class arena)))
     ∙ get_or-append_seam (classes_of arena before) (item_class arena id) (classes_of arena after) Nothing)
 
 -- its class
-pub code_class : (arena : Contents) (ids before : List ℕ) (id : ℕ) (after : List ℕ) → ids ≡ before ++ id ∷ after → is_comment (item_class arena id) ≡ false → class_at (code_of arena ids) (count_of arena before) ≡ item_class arena id
+pub code_class : (arena : Contents) (ids before : List ℕ) (id : ℕ) (after : List ℕ) → ids ≡ before ++ id ∷ after → is_comment (item_class arena id) ≡ false
+    → class_at (code_of arena ids) (count_of arena before) ≡ item_class arena id
 code_class arena ids before id after split code = ap class_of (token_there arena ids before id after split code) ∙ class_there arena ids before id after split
 
 -- it is one of them
-pub code_within : (arena : Contents) (ids before : List ℕ) (id : ℕ) (after : List ℕ) → ids ≡ before ++ id ∷ after → is_comment (item_class arena id) ≡ false → count_of arena before < length (code_of arena ids)
+pub code_within : (arena : Contents) (ids before : List ℕ) (id : ℕ) (after : List ℕ) → ids ≡ before ++ id ∷ after → is_comment (item_class arena id) ≡ false
+    → count_of arena before < length (code_of arena ids)
 code_within arena ids before id after split code =
     let all : length (code_of arena ids) ≡ count_of arena (before ++ id ∷ after) = counts_all arena ids ∙ ap (count_of arena) split in
     let parts = counts_on arena before (id ∷ after) in
     let one = counts_one arena id after code in
     omega (arith, all, parts, one)
 
-pub number_there : (arena : Contents) (ids before : List ℕ) (id : ℕ) (after : List ℕ) → ids ≡ before ++ id ∷ after → slice_get (numbers_of (classes_of arena ids)) (length before) ≡ Some (count_of arena before)
+pub number_there : (arena : Contents) (ids before : List ℕ) (id : ℕ) (after : List ℕ) → ids ≡ before ++ id ∷ after
+    → slice_get (numbers_of (classes_of arena ids)) (length before) ≡ Some (count_of arena before)
 number_there arena ids before id after split =
     let e : 0 + count_of arena before ≡ count_of arena before = omega arith in
     ap (λ (classes : List TokenClass). slice_get (numbers_of classes) (length before)) (cut_classes arena ids before id after split)
@@ -152,8 +160,10 @@ number_there arena ids before id after split =
     ∙ (numbers_there 0 (classes_of arena before) (item_class arena id) (classes_of arena after) ∙ ap (λ n. Some n) e))
 
 -- its partner, where that is the item that stands behind these
-pub code_partner : (arena : Contents) (ids before inner : List ℕ) (id partner : ℕ) (after : List ℕ) (place : ℕ) → ids ≡ (before ++ id ∷ inner) ++ partner ∷ after → place ≡ length (before ++ id ∷ inner)
-    → is_comment (item_class arena id) ≡ false → is_comment (item_class arena partner) ≡ false → slice_get (partners_in arena ids) (length before) ≡ Some (Some place)
+pub code_partner : (arena : Contents) (ids before inner : List ℕ) (id partner : ℕ) (after : List ℕ) (place : ℕ)
+    → ids ≡ (before ++ id ∷ inner) ++ partner ∷ after → place ≡ length (before ++ id ∷ inner)
+    → is_comment (item_class arena id) ≡ false → is_comment (item_class arena partner) ≡ false
+    → slice_get (partners_in arena ids) (length before) ≡ Some (Some place)
     → partner_in (code_of arena ids) (length (code_of arena ids)) (count_of arena before) ≡ Some (count_of arena (before ++ id ∷ inner))
 code_partner arena ids before inner id partner after place split stands code closes found =
     let first : ids ≡ before ++ id ∷ (inner ++ partner ∷ after) = split ∙ append_assoc before (id ∷ inner) (partner ∷ after) in

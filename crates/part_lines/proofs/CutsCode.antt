@@ -23,7 +23,8 @@ use Rattle.part_lines.proofs.FirstPart.{closes_part, last_of, Follows, first_par
 
 -- ## Behind the first part
 
-last_class : (arena : Contents) (ids before : List ℕ) (last : ℕ) → ids ≡ before ++ last ∷ [] → is_comment (item_class arena last) ≡ false → class_before (code_of arena ids) (length (code_of arena ids)) ≡ item_class arena last
+last_class : (arena : Contents) (ids before : List ℕ) (last : ℕ) → ids ≡ before ++ last ∷ [] → is_comment (item_class arena last) ≡ false
+    → class_before (code_of arena ids) (length (code_of arena ids)) ≡ item_class arena last
 last_class arena ids before last split code =
     let count : ℕ = count_of arena before in
     let end : ℕ = length (code_of arena ids) in
@@ -84,24 +85,31 @@ word_is_no_comment _ e = refl
 begins_word : (arena : Contents) (all past rest : List ℕ) → all ≡ past ++ rest → Follows arena rest
     → BeginsWord (map (token_at arena all (classes_of arena all) (partners_in arena all)) (code_places_from (length past) (classes_of arena rest)))
 begins_word arena all past [] split so = absurd so
-begins_word arena all past (id ∷ rest) split so = by so.1 (λ follows. begins_word arena all (past ++ id ∷ []) rest (split ∙ sym (append_assoc past (id ∷ []) rest)) follows)
+begins_word arena all past (id ∷ rest) split so =
+    by so.1 (λ follows. begins_word arena all (past ++ id ∷ []) rest (split ∙ sym (append_assoc past (id ∷ []) rest)) follows)
   where
     token : ℕ → CodeToken
     token = token_at arena all (classes_of arena all) (partners_in arena all)
 
     at_comment : Bool → Type 0
-    at_comment b = BeginsWord (map token (if b then code_places_from (length past + 1) (classes_of arena rest) else length past ∷ code_places_from (length past + 1) (classes_of arena rest)))
+    at_comment b = BeginsWord
+        (map token
+        (if b then code_places_from (length past + 1) (classes_of arena rest) else length past ∷ code_places_from (length past + 1) (classes_of arena rest)))
 
     by : (is_word (item_class arena id) ≡ true) ⊎ ((is_comment (item_class arena id) ≡ true) × Follows arena rest)
-        → (Follows arena rest → BeginsWord (map token (code_places_from (length (past ++ id ∷ [])) (classes_of arena rest)))) → at_comment (is_comment (item_class arena id))
+        → (Follows arena rest → BeginsWord (map token (code_places_from (length (past ++ id ∷ [])) (classes_of arena rest))))
+        → at_comment (is_comment (item_class arena id))
     by (inr comment) on =
         let one : length (past ++ id ∷ []) ≡ length past + 1 = omega (arith, length-append past (id ∷ [])) in
         subst at_comment (sym comment.0) (subst (λ (k : ℕ). BeginsWord (map token (code_places_from k (classes_of arena rest)))) one (on comment.1))
     by (inl word) on =
         let item : get_or all (length past) 0 ≡ id = ap (λ (ids : List ℕ). get_or ids (length past) 0) split ∙ get_or-append_seam past id rest 0 in
-        let is : is_word (get_or (classes_of arena all) (length past) Nothing) ≡ true = ap (λ (c : TokenClass). is_word c) (class_there arena all past id rest split) ∙ word in
-        let began : item_began arena (get_or all (length past) 0) ≡ true = ap (λ k. item_began arena k) item ∙ (same_began (slice_get arena.tokens id) ∙ so.0) in
-        subst at_comment (sym (word_is_no_comment (item_class arena id) word)) (both (is_word (get_or (classes_of arena all) (length past) Nothing)) (item_began arena (get_or all (length past) 0)) is began)
+        let is : is_word (get_or (classes_of arena all) (length past) Nothing) ≡ true =
+        ap (λ (c : TokenClass). is_word c) (class_there arena all past id rest split) ∙ word in
+        let began : item_began arena (get_or all (length past) 0) ≡ true = ap (λ k. item_began arena k) item
+        ∙ (same_began (slice_get arena.tokens id) ∙ so.0) in
+        subst at_comment (sym (word_is_no_comment (item_class arena id) word))
+        (both (is_word (get_or (classes_of arena all) (length past) Nothing)) (item_began arena (get_or all (length past) 0)) is began)
 
 -- ## The law
 

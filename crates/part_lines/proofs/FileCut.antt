@@ -45,17 +45,21 @@ anew : (n m r : ℕ) (braces : Braces) (tokens : List CodeToken) (end whole at :
 anew n m r braces tokens end whole at e order many some =
     ap (lines_from m braces tokens (up_to whole) Fresh) e
     ∙ (same_lines m r braces tokens (up_to whole) Fresh end whole (refl, tt) many some
-    ∙ ap (λ (ls : List Line). ls ++ lines_from r braces tokens (up_to whole) Fresh end) (sym (from_end n braces tokens [] (file_up_to end) Fresh at (omega arith))))
+    ∙ ap (λ (ls : List Line). ls ++ lines_from r braces tokens (up_to whole) Fresh end)
+    (sym (from_end n braces tokens [] (file_up_to end) Fresh at (omega arith))))
 
-fresh_cut : (n m r : ℕ) (braces : Braces) (tokens : List CodeToken) (end whole : ℕ) (start : Start) (at : ℕ) → EndsBeforeWord tokens end whole → (start ≡ Fresh) × (at ≡ end) → whole ≤ at + m → whole ≤ end + r
+fresh_cut : (n m r : ℕ) (braces : Braces) (tokens : List CodeToken) (end whole : ℕ) (start : Start) (at : ℕ) → EndsBeforeWord tokens end whole
+    → (start ≡ Fresh) × (at ≡ end) → whole ≤ at + m → whole ≤ end + r
     → lines_from m braces tokens (up_to whole) start at ≡ lines_from n braces tokens (up_to end) start at ++ lines_from r braces tokens (up_to whole) Fresh end
 fresh_cut n m r braces tokens end whole start at ends past many some =
     let order : end ≤ whole = ends.order in
     let e : at ≡ end = past.1 in
-    subst (λ (s : Start). lines_from m braces tokens (up_to whole) s at ≡ lines_from n braces tokens (up_to end) s at ++ lines_from r braces tokens (up_to whole) Fresh end) (sym past.0)
+    subst (λ (s : Start). lines_from m braces tokens (up_to whole) s at ≡ lines_from n braces tokens (up_to end) s at ++ lines_from r braces tokens
+    (up_to whole) Fresh end) (sym past.0)
     (anew n m r braces tokens end whole at e order (omega arith) some)
 
-pub lines_cut : (n m r : ℕ) (braces : Braces) (tokens : List CodeToken) (end whole : ℕ) (start : Start) (at : ℕ) → EndsBeforeWord tokens end whole → Stand tokens end start at
+pub lines_cut : (n m r : ℕ) (braces : Braces) (tokens : List CodeToken) (end whole : ℕ) (start : Start) (at : ℕ) → EndsBeforeWord tokens end whole
+    → Stand tokens end start at
     → end ≤ at + n → whole ≤ at + m → whole ≤ end + r
     → lines_from m braces tokens (up_to whole) start at ≡ lines_from n braces tokens (up_to end) start at ++ lines_from r braces tokens (up_to whole) Fresh end
 lines_cut zero m r braces tokens end whole start at ends stand few many some = elim (stands_where tokens end start at stand) [
@@ -78,10 +82,12 @@ lines_cut (suc n) (suc m) r braces tokens end whole start at ends stand few many
       let rest : List Line = lines_from r braces tokens (up_to whole) Fresh end in
       lines_turn m braces tokens p [] start at wide
       ∙ (ap (λ (g : Form). lines_after m braces tokens p [] start at g g.next) (sym alike.same)
-      ∙ (elim f.next as (λ (x : Next). Reaches at o.end f x → Leaves tokens end f x → lines_after m braces tokens p [] start at f x ≡ lines_after n braces tokens o [] start at f x ++ rest) [
+      ∙ (elim f.next as (λ (x : Next). Reaches at o.end f x → Leaves tokens end f x
+      → lines_after m braces tokens p [] start at f x ≡ lines_after n braces tokens o [] start at f x ++ rest) [
         | Ends ↦ λ reaches leaves.
             let up : at < f.end = reaches.0 in
-            ap (λ (ls : List Line). line_of o start at f ∷ ls) (lines_cut n m r braces tokens end whole Fresh f.end ends leaves (omega arith) (omega arith) some)
+            ap (λ (ls : List Line). line_of o start at f ∷ ls)
+            (lines_cut n m r braces tokens end whole Fresh f.end ends leaves (omega arith) (omega arith) some)
         | Goes later ↦ λ reaches leaves. absurd leaves
         | Waits head ↦ λ reaches leaves. absurd leaves
         | Opens wrapped block ↦ λ reaches leaves.
@@ -90,7 +96,8 @@ lines_cut (suc n) (suc m) r braces tokens end whole start at ends stand few many
             let inner : List Line = lines_from n braces tokens (block ∷ []) Fresh (f.end + 1) in
             ap (λ (ls : List Line). head ++ ls ++ lines_from m braces tokens (up_to whole) (Closing block) block.end)
             (same_lines m n braces tokens (block ∷ []) Fresh (f.end + 1) block.end (refl, tt) (omega arith) (omega arith))
-            ∙ (ap (λ (ls : List Line). head ++ inner ++ ls) (lines_cut n m r braces tokens end whole (Closing block) block.end ends leaves (omega arith) (omega arith) some)
+            ∙ (ap (λ (ls : List Line). head ++ inner ++ ls)
+            (lines_cut n m r braces tokens end whole (Closing block) block.end ends leaves (omega arith) (omega arith) some)
             ∙ sym (append_assoc (head ++ inner) (lines_from n braces tokens (up_to end) (Closing block) block.end) rest))
       ] (form_reaches braces tokens o start at lt) alike.leaves
       ∙ ap (λ (ls : List Line). ls ++ rest) (sym (lines_turn n braces tokens o [] start at lt))))
@@ -98,7 +105,8 @@ lines_cut (suc n) (suc m) r braces tokens end whole start at ends stand few many
 
 -- ## The level at the end
 
-pub level_cut : (m r : ℕ) (braces : Braces) (tokens : List CodeToken) (end whole : ℕ) (start : Start) (at : ℕ) → EndsBeforeWord tokens end whole → Stand tokens end start at
+pub level_cut : (m r : ℕ) (braces : Braces) (tokens : List CodeToken) (end whole : ℕ) (start : Start) (at : ℕ) → EndsBeforeWord tokens end whole
+    → Stand tokens end start at
     → whole < at + m → whole < end + r
     → end_level_from m braces tokens (up_to whole) start at ≡ end_level_from r braces tokens (up_to whole) Fresh end
 level_cut zero r braces tokens end whole start at ends stand many some = elim (stands_where tokens end start at stand) [
@@ -121,7 +129,8 @@ level_cut (suc m) r braces tokens end whole start at ends stand many some = elim
       let wide : at < whole = omega arith in
       level_turn m braces tokens p [] start at wide
       ∙ (ap (λ (g : Form). level_after m braces tokens p [] g g.next) (sym alike.same)
-      ∙ elim f.next as (λ (x : Next). Reaches at o.end f x → Leaves tokens end f x → level_after m braces tokens p [] f x ≡ end_level_from r braces tokens (up_to whole) Fresh end) [
+      ∙ elim f.next as (λ (x : Next). Reaches at o.end f x → Leaves tokens end f x
+      → level_after m braces tokens p [] f x ≡ end_level_from r braces tokens (up_to whole) Fresh end) [
         | Ends ↦ λ reaches leaves.
             let up : at < f.end = reaches.0 in
             level_cut m r braces tokens end whole Fresh f.end ends leaves (omega arith) some
@@ -130,7 +139,8 @@ level_cut (suc m) r braces tokens end whole start at ends stand many some = elim
         | Opens wrapped block ↦ λ reaches leaves.
             let begins : at ≤ f.end = reaches.begins in let goes_on : f.end < block.end = reaches.goes_on in
             let inside : block.end < end = leaves.within_list in
-            at_true (nat_lt block.end whole) _ _ (lt-ltb block.end whole (omega arith)) ∙ level_cut m r braces tokens end whole (Closing block) block.end ends leaves (omega arith) some
+            at_true (nat_lt block.end whole) _ _ (lt-ltb block.end whole (omega arith))
+            ∙ level_cut m r braces tokens end whole (Closing block) block.end ends leaves (omega arith) some
       ] (form_reaches braces tokens o start at lt) alike.leaves)
 ]
 
@@ -138,9 +148,11 @@ level_cut (suc m) r braces tokens end whole start at ends stand many some = elim
 
 word_there : (earlier later : List CodeToken) → BeginsWord later → is_word (class_at (earlier ++ later) (length earlier)) ≡ true
 word_there earlier [] begins = absurd begins
-word_there earlier (x ∷ later) begins = ap (λ (t : Option CodeToken). is_word (class_of t)) (slice_at_seam earlier (x ∷ later)) ∙ (and_parts (is_word x.class) x.began begins).0
+word_there earlier (x ∷ later) begins = ap (λ (t : Option CodeToken). is_word (class_of t)) (slice_at_seam earlier (x ∷ later))
+    ∙ (and_parts (is_word x.class) x.began begins).0
 
-ends_before : (earlier later : List CodeToken) → ArePaired earlier → BeginsWord later → EndsBeforeWord (earlier ++ later) (length earlier) (length (earlier ++ later))
+ends_before : (earlier later : List CodeToken) → ArePaired earlier → BeginsWord later
+    → EndsBeforeWord (earlier ++ later) (length earlier) (length (earlier ++ later))
 ends_before earlier later paired begins = record {
   order = (omega (arith, length-append earlier later));
   all = refl;
@@ -151,13 +163,15 @@ ends_before earlier later paired begins = record {
     all : List CodeToken
     all = earlier ++ later
 
-    pair_there : (i p : ℕ) → is_open_round (class_at all i) ≡ true → partner_in all (length earlier) i ≡ Some p → (is_close_round (class_at all p) ≡ true) × (partner_of (slice_get all p) ≡ Some i)
+    pair_there : (i p : ℕ) → is_open_round (class_at all i) ≡ true → partner_in all (length earlier) i ≡ Some p
+        → (is_close_round (class_at all p) ≡ true) × (partner_of (slice_get all p) ≡ Some i)
     pair_there i p round found =
         let place = partner_place all (length earlier) i p found in
         let up : i < p = place.0 in
         let same_i : slice_get all i ≡ slice_get earlier i = slice_before earlier later i (let low : p < length earlier = place.1 in omega arith) in
         let same_p : slice_get all p ≡ slice_get earlier p = slice_before earlier later p place.1 in
-        let pair = paired i p (sym (ap (λ (t : Option CodeToken). is_open_round (class_of t)) same_i) ∙ round) (sym (ap (λ (t : Option CodeToken). within i (length earlier) (partner_of t)) same_i) ∙ found) in
+        let pair = paired i p (sym (ap (λ (t : Option CodeToken). is_open_round (class_of t)) same_i) ∙ round)
+        (sym (ap (λ (t : Option CodeToken). within i (length earlier) (partner_of t)) same_i) ∙ found) in
         (ap (λ (t : Option CodeToken). is_close_round (class_of t)) same_p ∙ pair.0, ap partner_of same_p ∙ pair.1)
 
 -- The lines of a file behind a first part begin anew.
@@ -168,13 +182,16 @@ pub record AreLinesCut (braces : Braces) (earlier later : List CodeToken) : Type
   pub level : end_level braces (earlier ++ later)
       ≡ end_level_from (length later + 1) braces (earlier ++ later) (file_up_to (length (earlier ++ later)) ∷ []) Fresh (length earlier)
 
-pub cuts_lines : (braces : Braces) (earlier later : List CodeToken) → ArePassed earlier → ArePaired earlier → BeginsWord later → AreLinesCut braces earlier later
+pub cuts_lines : (braces : Braces) (earlier later : List CodeToken) → ArePassed earlier → ArePaired earlier → BeginsWord later
+    → AreLinesCut braces earlier later
 cuts_lines braces earlier later passed paired begins =
     let all = earlier ++ later in
     let ends = ends_before earlier later paired begins in
-    let stand : Stand all (length earlier) Fresh 0 = fresh_at all (length earlier) 0 Between false (length earlier, way_longer (length earlier) earlier later 0 Between false passed) (λ w. cc) in
+    let stand : Stand all (length earlier) Fresh 0 =
+    fresh_at all (length earlier) 0 Between false (length earlier, way_longer (length earlier) earlier later 0 Between false passed) (λ w. cc) in
     let count = length-append earlier later in
     record {
-      lines = lines_cut (length earlier) (length all) (length later) braces all (length earlier) (length all) Fresh 0 ends stand (omega arith) (omega arith) (omega (arith, count));
+      lines = lines_cut (length earlier) (length all) (length later) braces all (length earlier) (length all) Fresh 0 ends stand (omega arith) (omega arith)
+          (omega (arith, count));
       level = level_cut (length all + 1) (length later + 1) braces all (length earlier) (length all) Fresh 0 ends stand (omega arith) (omega (arith, count));
     }

@@ -51,7 +51,8 @@ seen_within fits tokens end i none found = (seen_class fits tokens end i none fo
 
 -- ## Partners
 
-behind_within : (P : ℕ → Type 0) (otherwise i end : ℕ) (found : Option ℕ) → P otherwise → ((p : ℕ) → i < p → p < end → P (p + 1)) → P (behind_partner otherwise (within i end found))
+behind_within : (P : ℕ → Type 0) (otherwise i end : ℕ) (found : Option ℕ) → P otherwise → ((p : ℕ) → i < p → p < end → P (p + 1))
+    → P (behind_partner otherwise (within i end found))
 behind_within P otherwise i end None none some = none
 behind_within P otherwise i end (Some p) none some = by (nat_lt i p && nat_lt p end) refl
   where
@@ -59,7 +60,8 @@ behind_within P otherwise i end (Some p) none some = by (nat_lt i p && nat_lt p 
     by true e = (let both = and_parts (nat_lt i p) (nat_lt p end) e in some p (ltb-true i p both.0) (ltb-true p end both.1))
     by false e = none
 
-or_within : (P : ℕ → Type 0) (otherwise i end : ℕ) (found : Option ℕ) → P otherwise → ((p : ℕ) → i < p → p < end → P p) → P (partner_or otherwise (within i end found))
+or_within : (P : ℕ → Type 0) (otherwise i end : ℕ) (found : Option ℕ) → P otherwise → ((p : ℕ) → i < p → p < end → P p)
+    → P (partner_or otherwise (within i end found))
 or_within P otherwise i end None none some = none
 or_within P otherwise i end (Some p) none some = by (nat_lt i p && nat_lt p end) refl
   where
@@ -70,13 +72,15 @@ or_within P otherwise i end (Some p) none some = by (nat_lt i p && nat_lt p end)
 pub group_reaches : (tokens : List CodeToken) (end i : ℕ) → i ≤ end → (i ≤ after_group tokens end i) × (after_group tokens end i ≤ end)
 group_reaches tokens end i low =
     either (λ (g : ℕ). (i ≤ g) × (g ≤ end)) (is_open_round (seen tokens end i)) (behind_partner i (partner_in tokens end i)) i
-    (λ e. behind_within (λ (g : ℕ). (i ≤ g) × (g ≤ end)) i i end (partner_of (slice_get tokens i)) (omega arith, low) (λ p up down. (omega (arith, up), omega (arith, down))))
+    (λ e. behind_within (λ (g : ℕ). (i ≤ g) × (g ≤ end)) i i end (partner_of (slice_get tokens i)) (omega arith, low)
+    (λ p up down. (omega (arith, up), omega (arith, down))))
     (λ e. (omega arith, low))
 
 pub step_reaches : (tokens : List CodeToken) (end i : ℕ) → i < end → (i < step_over tokens end i) × (step_over tokens end i ≤ end)
 step_reaches tokens end i low =
     either (λ (g : ℕ). (i < g) × (g ≤ end)) (is_opener (class_at tokens i)) (behind_partner end (partner_in tokens end i)) (i + 1)
-    (λ e. behind_within (λ (g : ℕ). (i < g) × (g ≤ end)) end i end (partner_of (slice_get tokens i)) (low, omega arith) (λ p up down. (omega (arith, up), omega (arith, down))))
+    (λ e. behind_within (λ (g : ℕ). (i < g) × (g ≤ end)) end i end (partner_of (slice_get tokens i)) (low, omega arith)
+    (λ p up down. (omega (arith, up), omega (arith, down))))
     (λ e. (omega arith, omega (arith, low)))
 
 pub block_reaches : (tokens : List CodeToken) (end i : ℕ) → i < end → (i < block_end tokens end i) × (block_end tokens end i ≤ end)
@@ -143,8 +147,18 @@ stop_reaches (suc n) tokens end i assigned low =
     either (λ (s : Stop). StopsIn tokens end i s) (is_semicolon (class_at tokens i)) (record { at = i + 1; opens = false; assigned = assigned }) _
     (λ e. record { least = omega arith; most = omega (arith, here); opens = λ e. no_brace e; goes_on = λ e up. omega arith })
     (λ e.
-    either (λ (s : Stop). StopsIn tokens end i s) (opens_block tokens assigned i) (record { at = i; opens = true; assigned = assigned }) (statement_stop n tokens end (step_over tokens end i) (assigns tokens assigned i))
-    (λ brace. record { least = omega arith; most = low; opens = λ e. (here, (and_parts (is_open_brace (class_at tokens i)) _ brace).0); goes_on = λ e up. no_brace (sym e) })
+    either (λ (s : Stop). StopsIn tokens end i s) (opens_block tokens assigned i) (record { at = i; opens = true; assigned = assigned })
+    (statement_stop n tokens end (step_over tokens end i) (assigns tokens assigned i))
+    (λ brace. record {
+      least = omega arith;
+      most = low;
+      opens = λ e. (
+        here,
+        (and_parts
+            (is_open_brace (class_at tokens i)) _ brace).0,
+      );
+      goes_on = λ e up. no_brace (sym e);
+    })
     (λ e. let step = step_reaches tokens end i here in
     let rest = stop_reaches n tokens end (step_over tokens end i) (assigns tokens assigned i) step.1 in
     record { least = omega (arith, step.0, rest.least); most = rest.most; opens = rest.opens; goes_on = λ e up. omega (arith, step.0, rest.least) })))
@@ -169,7 +183,8 @@ macro_reaches tokens end at low =
 
 header_reaches : (tokens : List CodeToken) (end at : ℕ) → at < end → (at < header_end tokens end at) × (header_end tokens end at ≤ end)
 header_reaches tokens end at low =
-    let behind : (i : ℕ) → at < i → i ≤ end → (at < after_group tokens end i) × (after_group tokens end i ≤ end) = λ i up most. (let group = group_reaches tokens end i most in (omega (arith, up, group.0), group.1)) in
+    let behind : (i : ℕ) → at < i → i ≤ end → (at < after_group tokens end i) × (after_group tokens end i ≤ end) =
+    λ i up most. (let group = group_reaches tokens end i most in (omega (arith, up, group.0), group.1)) in
     either (λ (h : ℕ). (at < h) × (h ≤ end)) (is_do (class_at tokens at)) (at + 1) _
     (λ e. (omega arith, omega (arith, low)))
     (λ e.
@@ -183,7 +198,8 @@ header_reaches tokens end at low =
 -- ## Forms
 
 -- a label's line, through its `:`
-label_reaches : (tokens : List CodeToken) (o : Open) (kind : LineKind) (level : ℕ) (wrapped : Bool) (at colon : ℕ) → at < colon → colon < o.end → FormReaches at o.end (label_form tokens o kind level wrapped colon)
+label_reaches : (tokens : List CodeToken) (o : Open) (kind : LineKind) (level : ℕ) (wrapped : Bool) (at colon : ℕ) → at < colon → colon < o.end
+    → FormReaches at o.end (label_form tokens o kind level wrapped colon)
 label_reaches tokens o kind level wrapped at colon up low =
     either (λ (next : Next). Reaches at o.end (label_form tokens o kind level wrapped colon) next) (is_open_brace (seen tokens o.end (colon + 1))) _ Ends
     (λ e.
@@ -200,7 +216,9 @@ labels_reach : (braces : Braces) (tokens : List CodeToken) (o : Open) (at : ℕ)
 labels_reach braces tokens o at low =
     let colon : ℕ = case_colon (o.end - (at + 1)) tokens o.end (at + 1) 0 in
     either (λ (found : Option Form). LabelReaches at o.end found) (is_case (class_at tokens at) && nat_lt colon o.end) _ _
-    (λ e. label_reaches tokens o CaseLabel o.case_level braces.after_case_label at colon (omega (arith, colon_reaches (o.end - (at + 1)) tokens o.end (at + 1) 0 (omega (arith, low)))) (ltb-true colon o.end (and_parts (is_case (class_at tokens at)) (nat_lt colon o.end) e).1))
+    (λ e. label_reaches tokens o CaseLabel o.case_level braces.after_case_label at colon
+    (omega (arith, colon_reaches (o.end - (at + 1)) tokens o.end (at + 1) 0 (omega (arith, low))))
+    (ltb-true colon o.end (and_parts (is_case (class_at tokens at)) (nat_lt colon o.end) e).1))
     (λ e.
     either (λ (found : Option Form). LabelReaches at o.end found) (is_colon (seen tokens o.end (at + 1))) _ None
     (λ colon.
@@ -215,7 +233,8 @@ labels_reach braces tokens o at low =
     (λ e. tt))
 
 control_block_ends : (braces : Braces) (tokens : List CodeToken) (end i : ℕ) (head : Head) (level : ℕ) → i < end
-    → (i < (control_block braces tokens end i head level).end) × (((control_block braces tokens end i head level).end ≤ end) × ((control_block braces tokens end i head level).block ≡ true))
+    → (i < (control_block braces tokens end i head level).end)
+    × (((control_block braces tokens end i head level).end ≤ end) × ((control_block braces tokens end i head level).block ≡ true))
 control_block_ends braces tokens end i head level low =
     let block = block_reaches tokens end i low in
     either (λ (b : Open). (i < b.end) × ((b.end ≤ end) × (b.block ≡ true))) _ _ _ (λ e. (block.0, (block.1, refl))) (λ e. (block.0, (block.1, refl)))
@@ -236,13 +255,17 @@ control_reaches_from braces tokens o kind level at from head order low next is =
     record { begins = omega (arith, order, header.0); takes = λ e. omega (arith, order, header.0); goes_on = block.0; ends = block.1.0; is_block = block.1.1 })
     (λ e. (omega (arith, order, header.0), header.1)))
 
-control_reaches : (braces : Braces) (tokens : List CodeToken) (o : Open) (level at : ℕ) → at < o.end → FormReaches at o.end (control_form braces tokens o false level at)
+control_reaches : (braces : Braces) (tokens : List CodeToken) (o : Open) (level at : ℕ) → at < o.end
+    → FormReaches at o.end (control_form braces tokens o false level at)
 control_reaches braces tokens o level at low = control_reaches_from braces tokens o Control level at at (head_of tokens o.end at) (omega arith) low _ refl
 
-close_control_reaches : (braces : Braces) (tokens : List CodeToken) (o : Open) (level at : ℕ) → at + 1 < o.end → FormReaches at o.end (control_form braces tokens o true level at)
-close_control_reaches braces tokens o level at low = control_reaches_from braces tokens o Close level at (at + 1) (head_of tokens o.end (at + 1)) (omega arith) low _ refl
+close_control_reaches : (braces : Braces) (tokens : List CodeToken) (o : Open) (level at : ℕ) → at + 1 < o.end
+    → FormReaches at o.end (control_form braces tokens o true level at)
+close_control_reaches braces tokens o level at low =
+    control_reaches_from braces tokens o Close level at (at + 1) (head_of tokens o.end (at + 1)) (omega arith) low _ refl
 
-other_reaches : (braces : Braces) (tokens : List CodeToken) (o : Open) (level at : ℕ) (assigned : Bool) → at < o.end → is_open_brace (class_at tokens at) ≡ false
+other_reaches : (braces : Braces) (tokens : List CodeToken) (o : Open) (level at : ℕ) (assigned : Bool) → at < o.end
+    → is_open_brace (class_at tokens at) ≡ false
     → FormReaches at o.end (other_form braces tokens o false level at assigned)
 other_reaches braces tokens o level at assigned low first =
     let stop : Stop = statement_stop (o.end - at) tokens o.end at assigned in
@@ -256,7 +279,8 @@ other_reaches braces tokens o level at assigned low first =
     record { begins = stops.least; takes = λ e. up; goes_on = block.0; ends = block.1; is_block = refl })
     (λ closed. (stops.goes_on closed low, stops.most))
 
-close_other_reaches : (braces : Braces) (tokens : List CodeToken) (o : Open) (level at : ℕ) (assigned : Bool) → at < o.end → FormReaches at o.end (other_form braces tokens o true level at assigned)
+close_other_reaches : (braces : Braces) (tokens : List CodeToken) (o : Open) (level at : ℕ) (assigned : Bool) → at < o.end
+    → FormReaches at o.end (other_form braces tokens o true level at assigned)
 close_other_reaches braces tokens o level at assigned low =
     let stop : Stop = statement_stop (o.end - (at + 1)) tokens o.end (at + 1) assigned in
     let stops = stop_reaches (o.end - (at + 1)) tokens o.end (at + 1) assigned (omega (arith, low)) in
@@ -270,7 +294,8 @@ unlabelled_reaches : (braces : Braces) (tokens : List CodeToken) (o : Open) (at 
 unlabelled_reaches braces tokens o at low =
     let g : ℕ = after_group tokens o.end (at + 1) in
     let group = group_reaches tokens o.end (at + 1) (omega (arith, low)) in
-    either (λ (form : Form). FormReaches at o.end form) (is_code o.context && (is_plain (class_at tokens at) && (nat_lt (at + 1) g && is_open_brace (seen tokens o.end g)))) _ _
+    either (λ (form : Form). FormReaches at o.end form)
+    (is_code o.context && (is_plain (class_at tokens at) && (nat_lt (at + 1) g && is_open_brace (seen tokens o.end g)))) _ _
     (λ e.
     let one = and_parts (is_code o.context) (is_plain (class_at tokens at) && (nat_lt (at + 1) g && is_open_brace (seen tokens o.end g))) e in
     let two = and_parts (is_plain (class_at tokens at)) (nat_lt (at + 1) g && is_open_brace (seen tokens o.end g)) one.1 in
@@ -283,7 +308,8 @@ unlabelled_reaches braces tokens o at low =
     let block = block_reaches tokens o.end at low in
     record { begins = omega arith; takes = λ e. no_brace e; goes_on = block.0; ends = block.1; is_block = refl })
     (λ first.
-    either (λ (form : Form). FormReaches at o.end form) (is_extern (class_at tokens at) && (is_text (seen tokens o.end (at + 1)) && is_open_brace (seen tokens o.end (at + 2)))) _ _
+    either (λ (form : Form). FormReaches at o.end form)
+    (is_extern (class_at tokens at) && (is_text (seen tokens o.end (at + 1)) && is_open_brace (seen tokens o.end (at + 2)))) _ _
     (λ e.
     let one = and_parts (is_extern (class_at tokens at)) (is_text (seen tokens o.end (at + 1)) && is_open_brace (seen tokens o.end (at + 2))) e in
     let two = and_parts (is_text (seen tokens o.end (at + 1))) (is_open_brace (seen tokens o.end (at + 2))) one.1 in
@@ -294,7 +320,8 @@ unlabelled_reaches braces tokens o at low =
     (λ up. (ltb-true at (macro_end tokens o.end at) up, macro_reaches tokens o.end at low))
     (λ e. other_reaches braces tokens o o.level at false low first))))
 
-either_label : (at end : ℕ) (found : Option Form) (form : Form) → LabelReaches at end found → FormReaches at end form → FormReaches at end (elim found as (λ _. Form) [ Some f ↦ f | None ↦ form ])
+either_label : (at end : ℕ) (found : Option Form) (form : Form) → LabelReaches at end found → FormReaches at end form
+    → FormReaches at end (elim found as (λ _. Form) [ Some f ↦ f | None ↦ form ])
 either_label at end None form label otherwise = otherwise
 either_label at end (Some f) form label otherwise = label
 
@@ -331,10 +358,12 @@ close_reaches braces tokens o b at low =
     (λ answers.
     either (λ (form : Form). FormReaches at o.end form) braces.before_else _ _
     (λ e. one)
-    (λ e. close_control_reaches braces tokens o b.head_level at (seen_within is_else tokens o.end (at + 1) refl (and_parts (is_if_head b.head) (is_else (seen tokens o.end (at + 1))) answers).1)))
+    (λ e. close_control_reaches braces tokens o b.head_level at
+    (seen_within is_else tokens o.end (at + 1) refl (and_parts (is_if_head b.head) (is_else (seen tokens o.end (at + 1))) answers).1)))
     (λ e. one))))
 
-pub form_reaches : (braces : Braces) (tokens : List CodeToken) (o : Open) (start : Start) (at : ℕ) → at < o.end → FormReaches at o.end (form_of braces tokens o start at)
+pub form_reaches : (braces : Braces) (tokens : List CodeToken) (o : Open) (start : Start) (at : ℕ) → at < o.end
+    → FormReaches at o.end (form_of braces tokens o start at)
 form_reaches braces tokens o Fresh at low = statement_reaches braces tokens o at low
 form_reaches braces tokens o Tail at low =
     either (λ (form : Form). FormReaches at o.end form) (nat_lt at (tail_end tokens o.end at)) _ _

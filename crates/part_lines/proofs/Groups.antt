@@ -34,7 +34,8 @@ finds_brace (opener ∷ above) bottom =
     (λ _. inr (inl (opener.place, (above, refl)))) (λ _. finds_brace above bottom)
 
 finds_topmost : (fits : Opener → Bool) (above : List Opener) (bottom : Opener) → Finds bottom (topmost fits (above ++ bottom ∷ []))
-finds_topmost fits [] bottom = either (Finds bottom) (fits bottom) (Some (record { place = bottom.place; below = [] })) None (λ _. inr (inr refl)) (λ _. inl refl)
+finds_topmost fits [] bottom = either (Finds bottom) (fits bottom) (Some (record { place = bottom.place; below = [] })) None (λ _. inr (inr refl))
+    (λ _. inl refl)
 finds_topmost fits (opener ∷ above) bottom =
     either (Finds bottom) (fits opener) (Some (record { place = opener.place; below = above ++ bottom ∷ [] })) None
     (λ _. inr (inl (opener.place, (above, refl)))) (λ _. inl refl)
@@ -48,12 +49,20 @@ abbrev Leaves : TokenClass → ℕ → List Opener → Opener → Type 0
 Leaves class place above bottom = TakesStep class place (above ++ bottom ∷ []) (Some bottom.place) [] × (is_comment class ≡ false)
 
 closer_steps : (class : TokenClass) (place : ℕ) (above : List Opener) (bottom : Opener) (found : Option Nearest) → is_comment class ≡ false
-    → ((partners : List (Option ℕ)) → closed place found (matching (above ++ bottom ∷ []) partners) ≡ bracket_step class place (matching (above ++ bottom ∷ []) partners))
+    → ((partners : List (Option ℕ)) → closed place found (matching (above ++ bottom ∷ []) partners) ≡ bracket_step class place
+    (matching (above ++ bottom ∷ []) partners))
     → Finds bottom found → Stays class place above bottom ⊎ Leaves class place above bottom
 closer_steps class place above bottom found code is (inl none) =
     inl (above, (None, λ partners. ap (λ (f : Option Nearest). closed place f (matching (above ++ bottom ∷ []) partners)) (sym none) ∙ is partners))
 closer_steps class place above bottom found code is (inr (inl some)) =
-    inl (some.1.0, (Some some.0, λ partners. ap (λ (f : Option Nearest). closed place f (matching (above ++ bottom ∷ []) partners)) (sym some.1.1) ∙ is partners))
+    inl (
+      some.1.0,
+      (
+        Some some.0,
+        λ partners. ap (λ (f : Option Nearest). closed place f (matching (above ++ bottom ∷ []) partners)) (sym some.1.1)
+            ∙ is partners,
+      ),
+    )
 closer_steps class place above bottom found code is (inr (inr last)) =
     inr (λ partners. ap (λ (f : Option Nearest). closed place f (matching (above ++ bottom ∷ []) partners)) (sym last) ∙ is partners, code)
 
@@ -74,7 +83,8 @@ steps _ place above bottom = inl (above, (None, λ partners. refl))
 -- the partners are found so where the opener's partner stands at this place and these tokens follow
 abbrev PairsThere : ℕ → ℕ → List TokenClass → List (Option ℕ) → List (Option ℕ) → Type 0
 PairsThere opener place after partners all =
-    (before : List (Option ℕ)) × ((length before ≡ length partners) × (all ≡ (matching_from (place + 1) (matching [] (paired before (Some opener) place)) after).partners))
+    (before : List (Option ℕ))
+    × ((length before ≡ length partners) × (all ≡ (matching_from (place + 1) (matching [] (paired before (Some opener) place)) after).partners))
 
 -- these items begin with the rest of the group of the opener that waits below the others
 pub record IsGroup (arena : Contents) (later : List ℕ) (count : ℕ) (walk : Walk) (above : List Opener) (bottom : Opener) (rest : List ℕ) : Type 0 where
@@ -91,7 +101,9 @@ pub record IsGroup (arena : Contents) (later : List ℕ) (count : ℕ) (walk : W
   pub unasked : IsUnasked count next
   pub ends : next_end arena next [] (behind ++ later) ≡ Some count
   pub code : is_comment (item_class arena closer) ≡ false
-  pub pairs : (partners : List (Option ℕ)) → PairsThere bottom.place place (classes_of arena behind) partners (matching_from walk.place (matching (above ++ bottom ∷ []) partners) (classes_of arena rest)).partners
+  pub pairs : (partners : List (Option ℕ))
+      → PairsThere bottom.place place (classes_of arena behind) partners
+      (matching_from walk.place (matching (above ++ bottom ∷ []) partners) (classes_of arena rest)).partners
 
 some_wait : (above : List Opener) (bottom : Opener) → above ++ bottom ∷ [] ≡ [] → ⊥
 some_wait [] bottom e = cc
@@ -105,13 +117,15 @@ pub paired_length : (partners : List (Option ℕ)) (taken : Option ℕ) (place :
 paired_length partners None place = refl
 paired_length partners (Some opener) place = length-set (slice_set partners opener (Some place)) place (Some opener) ∙ length-set partners opener (Some place)
 
-pub grouped : (arena : Contents) (later : List ℕ) (count : ℕ) (rest : List ℕ) (walk : Walk) (above : List Opener) (bottom : Opener) → walk.place + length rest ≡ count → IsUnasked count walk → IsSound walk (above ++ bottom ∷ [])
+pub grouped : (arena : Contents) (later : List ℕ) (count : ℕ) (rest : List ℕ) (walk : Walk) (above : List Opener) (bottom : Opener)
+    → walk.place + length rest ≡ count → IsUnasked count walk → IsSound walk (above ++ bottom ∷ [])
     → next_end arena walk (above ++ bottom ∷ []) (rest ++ later) ≡ Some count → IsGroup arena later count walk above bottom rest
 grouped arena later count [] walk above bottom all unasked sound e =
     let here : walk.place ≡ count = omega (arith, all) in
     absurd (some_wait above bottom (ended arena later walk (above ++ bottom ∷ []) count here unasked sound e).closed)
 grouped arena later count (id ∷ rest) walk above bottom all unasked sound e =
-    by_step (steps (item_class arena id) walk.place above bottom) (λ next left one was still end. grouped arena later count rest next left bottom (omega (arith, one, all)) was still end)
+    by_step (steps (item_class arena id) walk.place above bottom)
+    (λ next left one was still end. grouped arena later count rest next left bottom (omega (arith, one, all)) was still end)
   where
     class : TokenClass
     class = item_class arena id
@@ -120,16 +134,20 @@ grouped arena later count (id ∷ rest) walk above bottom all unasked sound e =
     next = inside walk (item_class arena id)
 
     goes : next_end arena next (waiting_behind (item_class arena id) walk.place (above ++ bottom ∷ [])) (rest ++ later) ≡ Some count
-    goes = subst (λ (b : Bool). by_reading arena (waiting_behind (item_class arena id) walk.place (above ++ bottom ∷ [])) (rest ++ later) (reading arena walk b id (item_class arena id)) ≡ Some count) (is_open_there above bottom) e
+    goes = subst
+        (λ (b : Bool). by_reading arena (waiting_behind (item_class arena id) walk.place (above ++ bottom ∷ [])) (rest ++ later)
+        (reading arena walk b id (item_class arena id)) ≡ Some count) (is_open_there above bottom) e
 
     by_step : Stays (item_class arena id) walk.place above bottom ⊎ Leaves (item_class arena id) walk.place above bottom
-        → ((next : Walk) (left : List Opener) → next.place ≡ walk.place + 1 → IsUnasked count next → IsSound next (left ++ bottom ∷ []) → next_end arena next (left ++ bottom ∷ []) (rest ++ later) ≡ Some count → IsGroup arena later count next left bottom rest)
+        → ((next : Walk) (left : List Opener) → next.place ≡ walk.place + 1 → IsUnasked count next → IsSound next (left ++ bottom ∷ [])
+        → next_end arena next (left ++ bottom ∷ []) (rest ++ later) ≡ Some count → IsGroup arena later count next left bottom rest)
         → IsGroup arena later count walk above bottom (id ∷ rest)
     by_step (inl stays) on =
         let left : List Opener = stays.0 in
         let waiting = waits (item_class arena id) walk.place (above ++ bottom ∷ []) (left ++ bottom ∷ []) stays.1.0 stays.1.1 in
         let still = inside_sound walk (item_class arena id) (above ++ bottom ∷ []) (is_open_there above bottom) sound in
-        let group = on next left refl unasked (subst (IsSound next) (sym waiting) still) (subst (λ (w : List Opener). next_end arena next w (rest ++ later) ≡ Some count) (sym waiting) goes) in
+        let group = on next left refl unasked (subst (IsSound next) (sym waiting) still)
+        (subst (λ (w : List Opener). next_end arena next w (rest ++ later) ≡ Some count) (sym waiting) goes) in
         record {
           inner = id ∷ group.inner;
           closer = group.closer;
@@ -169,7 +187,8 @@ grouped arena later count (id ∷ rest) walk above bottom all unasked sound e =
           unasked = unasked;
           ends = subst (λ (w : List Opener). next_end arena next w (rest ++ later) ≡ Some count) (sym waiting) goes;
           code = leaves.1;
-          pairs = λ partners. (partners, (refl, ap (λ (m : Matching). (matching_from (walk.place + 1) m (classes_of arena rest)).partners) (sym (leaves.0 partners))));
+          pairs =
+              λ partners. (partners, (refl, ap (λ (m : Matching). (matching_from (walk.place + 1) m (classes_of arena rest)).partners) (sym (leaves.0 partners))));
         }
 
 -- ## Its partner is kept
@@ -187,7 +206,8 @@ nearest_above : (k : ℕ) (waiting : List Opener) → Above k waiting → FoundA
 nearest_above k [] above = tt
 nearest_above k (opener ∷ below) above = by_brace (is_brace opener) (nearest_above k below above.1)
   where
-    by_brace : (brace : Bool) → FoundAbove k (nearest_brace below) → FoundAbove k (elim brace as (λ _. Option Nearest) [ true ↦ Some (record { place = opener.place; below = below }) | false ↦ nearest_brace below ])
+    by_brace : (brace : Bool) → FoundAbove k (nearest_brace below)
+        → FoundAbove k (elim brace as (λ _. Option Nearest) [ true ↦ Some (record { place = opener.place; below = below }) | false ↦ nearest_brace below ])
     by_brace true on = above
     by_brace false on = on
 
@@ -200,25 +220,32 @@ topmost_above fits k (opener ∷ below) above = by_fit (fits opener)
     by_fit false = tt
 
 -- an opener and its closer
-pub pair_found : (partners : List (Option ℕ)) (opener place : ℕ) → opener < place → opener < length partners → slice_get (paired partners (Some opener) place) opener ≡ Some (Some place)
-pair_found partners opener place behind within = set_other (slice_set partners opener (Some place)) place opener (Some opener) (λ e. omega (arith, e, behind)) ∙ set_same partners opener (Some place) within
+pub pair_found : (partners : List (Option ℕ)) (opener place : ℕ) → opener < place → opener < length partners
+    → slice_get (paired partners (Some opener) place) opener ≡ Some (Some place)
+pair_found partners opener place behind within = set_other (slice_set partners opener (Some place)) place opener (Some opener) (λ e. omega (arith, e, behind))
+    ∙ set_same partners opener (Some place) within
 
-kept_closed : (k i : ℕ) (waiting : List Opener) (partners : List (Option ℕ)) (classes : List TokenClass) (found : Option Nearest) → k < i → Above k waiting → FoundAbove k found
-    → ((waiting : List Opener) (partners : List (Option ℕ)) → Above k waiting → slice_get (matching_from (i + 1) (record { open_brackets = waiting; partners = partners }) classes).partners k ≡ slice_get partners k)
+kept_closed : (k i : ℕ) (waiting : List Opener) (partners : List (Option ℕ)) (classes : List TokenClass) (found : Option Nearest) → k < i → Above k waiting
+    → FoundAbove k found
+    → ((waiting : List Opener) (partners : List (Option ℕ)) → Above k waiting
+    → slice_get (matching_from (i + 1) (record { open_brackets = waiting; partners = partners }) classes).partners k ≡ slice_get partners k)
     → slice_get (matching_from (i + 1) (closed i found (record { open_brackets = waiting; partners = partners })) classes).partners k ≡ slice_get partners k
 kept_closed k i waiting partners classes None low above there on = on waiting partners above
 kept_closed k i waiting partners classes (Some found) low above there on =
     on found.below (slice_set (slice_set partners found.place (Some i)) i (Some found.place)) there.1
-    ∙ (set_other (slice_set partners found.place (Some i)) i k (Some found.place) (λ e. omega (arith, e, low)) ∙ set_other partners found.place k (Some i) (λ e. omega (arith, e, there.0)))
+    ∙ (set_other (slice_set partners found.place (Some i)) i k (Some found.place) (λ e. omega (arith, e, low))
+    ∙ set_other partners found.place k (Some i) (λ e. omega (arith, e, there.0)))
 
 -- tokens behind a place, where only openers behind it wait, leave its partner
 pub partner_kept : (k i : ℕ) (waiting : List Opener) (partners : List (Option ℕ)) (classes : List TokenClass) → k < i → Above k waiting
     → slice_get (matching_from i (record { open_brackets = waiting; partners = partners }) classes).partners k ≡ slice_get partners k
 partner_kept k i waiting partners [] low above = refl
-partner_kept k i waiting partners (class ∷ classes) low above = by_class class (λ waiting partners more. partner_kept k (i + 1) waiting partners classes (omega (arith, low)) more)
+partner_kept k i waiting partners (class ∷ classes) low above =
+    by_class class (λ waiting partners more. partner_kept k (i + 1) waiting partners classes (omega (arith, low)) more)
   where
     by_class : (class : TokenClass)
-        → ((waiting : List Opener) (partners : List (Option ℕ)) → Above k waiting → slice_get (matching_from (i + 1) (record { open_brackets = waiting; partners = partners }) classes).partners k ≡ slice_get partners k)
+        → ((waiting : List Opener) (partners : List (Option ℕ)) → Above k waiting
+        → slice_get (matching_from (i + 1) (record { open_brackets = waiting; partners = partners }) classes).partners k ≡ slice_get partners k)
         → slice_get (matching_from i (record { open_brackets = waiting; partners = partners }) (class ∷ classes)).partners k ≡ slice_get partners k
     by_class OpenRound on = on (record { place = i; kind = OpenRound } ∷ waiting) partners (low, above)
     by_class OpenSquare on = on (record { place = i; kind = OpenSquare } ∷ waiting) partners (low, above)

@@ -46,7 +46,8 @@ settled_there {n} {whole} {tokens} w at (o ∷ os) all =
     let next : seen whole (n + o.end) (n + at) ≡ seen tokens o.end at = seen_there w o.end at all.0 in
     let tail : tail_end whole (n + o.end) (n + at) ≡ n + tail_end tokens o.end at = tail_there w o.end at all.0 in
     choose (reading_behind n) o.block o.block _ _ _ _ refl (λ _. refl)
-    (λ _. choose (reading_behind n) (answers_else whole (open_behind n o) (n + at)) (answers_else tokens o at) _ _ _ _ (ap (λ (c : TokenClass). is_if_head o.head && is_else c) next) (λ _. refl)
+    (λ _. choose (reading_behind n) (answers_else whole (open_behind n o) (n + at)) (answers_else tokens o at) _ _ _ _
+    (ap (λ (c : TokenClass). is_if_head o.head && is_else c) next) (λ _. refl)
     (λ _. choose (reading_behind n) (answers_tail whole (open_behind n o) (n + at)) (answers_tail tokens o at) _ _ _ _
     (ap (λ (j : ℕ). is_do_head o.head && nat_lt (n + at) j) tail ∙ ap (λ (b : Bool). is_do_head o.head && b) (lt_there n at (tail_end tokens o.end at)))
     (λ _. refl)
@@ -57,19 +58,23 @@ settled_within tokens at most [] all = tt
 settled_within tokens at most (o ∷ os) all =
     keep o.block _ _ all (keep (answers_else tokens o at) _ _ all.1 (keep (answers_tail tokens o at) _ _ all.1 (settled_within tokens at most os all.1)))
   where
-    keep : (b : Bool) (x y : Reading) → AllWithin most x.opens → AllWithin most y.opens → AllWithin most (elim b as (λ _. Reading) [ true ↦ x | false ↦ y ]).opens
+    keep : (b : Bool) (x y : Reading) → AllWithin most x.opens → AllWithin most y.opens
+        → AllWithin most (elim b as (λ _. Reading) [ true ↦ x | false ↦ y ]).opens
     keep true x y one other = one
     keep false x y one other = other
 
 -- ## One line
 
-comment_there : (n : ℕ) (o : Open) (start : Start) (f : Form) → comment_level (open_behind n o) (start_behind n start) (form_behind n f) ≡ comment_level o start f
+comment_there : (n : ℕ) (o : Open) (start : Start) (f : Form)
+    → comment_level (open_behind n o) (start_behind n start) (form_behind n f) ≡ comment_level o start f
 comment_there n o Fresh f = refl
 comment_there n o Tail f = refl
 comment_there n o (Closing b) f = refl
 
-line_there : (n : ℕ) (o : Open) (start : Start) (at : ℕ) (f : Form) → line_of (open_behind n o) (start_behind n start) (n + at) (form_behind n f) ≡ code_line_behind n (line_of o start at f)
-line_there n o start at f = ap (λ (level : ℕ). record { first = n + at; end = n + f.end; level = f.level; kind = f.kind; list_level = level }) (comment_there n o start f)
+line_there : (n : ℕ) (o : Open) (start : Start) (at : ℕ) (f : Form)
+    → line_of (open_behind n o) (start_behind n start) (n + at) (form_behind n f) ≡ code_line_behind n (line_of o start at f)
+line_there n o start at f = ap (λ (level : ℕ). record { first = n + at; end = n + f.end; level = f.level; kind = f.kind; list_level = level })
+    (comment_there n o start f)
 
 head_there : (n : ℕ) (o : Open) (start : Start) (at : ℕ) (f : Form) (wrapped : Bool)
     → head_lines (open_behind n o) (start_behind n start) (n + at) (form_behind n f) wrapped ≡ map (code_line_behind n) (head_lines o start at f wrapped)
@@ -85,7 +90,8 @@ head_there n o start at f false =
 -- so many lines are the same, behind so many tokens
 abbrev AreLinesThere : ℕ → List CodeToken → List CodeToken → ℕ → Braces → Type 0
 AreLinesThere n whole tokens count braces = (opens : List Open) (start : Start) (at : ℕ) → AllWithin (length tokens) opens
-    → lines_from count braces whole (map (open_behind n) opens) (start_behind n start) (n + at) ≡ map (code_line_behind n) (lines_from count braces tokens opens start at)
+    → lines_from count braces whole (map (open_behind n) opens) (start_behind n start) (n + at) ≡ map (code_line_behind n)
+    (lines_from count braces tokens opens start at)
 
 lines_step : (n : ℕ) (whole tokens : List CodeToken) → IsWindow n whole tokens → (count : ℕ) (braces : Braces) → AreLinesThere n whole tokens count braces
     → (o : Open) (os : List Open) (start : Start) (at : ℕ) (f : Form) (next : Next) → AllWithin (length tokens) (o ∷ os) → EndsWithin (length tokens) next
@@ -94,7 +100,8 @@ lines_step : (n : ℕ) (whole tokens : List CodeToken) → IsWindow n whole toke
 lines_step n whole tokens w count braces stay o os start at f Ends all within =
     let line : Line = code_line_behind n (line_of o start at f) in
     let r : Reading = settled tokens f.end (o ∷ os) in
-    ap (λ (l : Line). l ∷ lines_from count braces whole (settled whole (n + f.end) (map (open_behind n) (o ∷ os))).opens (settled whole (n + f.end) (map (open_behind n) (o ∷ os))).start (n + f.end)) (line_there n o start at f)
+    ap (λ (l : Line). l ∷ lines_from count braces whole (settled whole (n + f.end) (map (open_behind n) (o ∷ os))).opens
+    (settled whole (n + f.end) (map (open_behind n) (o ∷ os))).start (n + f.end)) (line_there n o start at f)
     ∙ (ap (λ (r : Reading). line ∷ lines_from count braces whole r.opens r.start (n + f.end)) (settled_there w f.end (o ∷ os) all)
     ∙ ap (λ (ls : List Line). line ∷ ls) (stay r.opens r.start f.end (settled_within tokens f.end (length tokens) (o ∷ os) all)))
 lines_step n whole tokens w count braces stay o os start at f (Goes s) all within =
@@ -112,7 +119,8 @@ lines_step n whole tokens w count braces stay o os start at f (Opens wrapped b) 
     let inner_there : List Line = lines_from count braces whole (open_behind n b ∷ []) Fresh (n + f.end + 1) in
     let rest_there : List Line = lines_from count braces whole (map (open_behind n) (o ∷ os)) (Closing (open_behind n b)) (n + b.end) in
     ap (λ (ls : List Line). (ls ++ inner_there) ++ rest_there) (head_there n o start at f wrapped)
-    ∙ (ap (λ (ls : List Line). (move heads ++ ls) ++ rest_there) (ap (λ (k : ℕ). lines_from count braces whole (open_behind n b ∷ []) Fresh k) one ∙ stay (b ∷ []) Fresh (f.end + 1) (within, tt))
+    ∙ (ap (λ (ls : List Line). (move heads ++ ls) ++ rest_there)
+    (ap (λ (k : ℕ). lines_from count braces whole (open_behind n b ∷ []) Fresh k) one ∙ stay (b ∷ []) Fresh (f.end + 1) (within, tt))
     ∙ (ap (λ (ls : List Line). (move heads ++ move inner) ++ ls) (stay (o ∷ os) (Closing b) b.end all)
     ∙ sym (map-append (code_line_behind n) (heads ++ inner) rest ∙ ap (λ (ls : List Line). ls ++ move rest) (map-append (code_line_behind n) heads inner))))
 
@@ -128,10 +136,13 @@ lines_there n whole tokens w (suc count) braces [] start at all = refl
 lines_there n whole tokens w (suc count) braces (o ∷ os) start at all =
     let f : Form = form_of braces tokens o start at in
     choose (map (code_line_behind n)) (nat_lt (n + at) (n + o.end)) (nat_lt at o.end) (lines_after count braces tokens o os start at f f.next) []
-    (lines_after count braces whole (open_behind n o) (map (open_behind n) os) (start_behind n start) (n + at) (form_of braces whole (open_behind n o) (start_behind n start) (n + at)) (form_of braces whole (open_behind n o) (start_behind n start) (n + at)).next) []
+    (lines_after count braces whole (open_behind n o) (map (open_behind n) os) (start_behind n start) (n + at)
+    (form_of braces whole (open_behind n o) (start_behind n start) (n + at)) (form_of braces whole (open_behind n o) (start_behind n start) (n + at)).next) []
     (lt_there n at o.end)
-    (λ less. ap (λ (g : Form). lines_after count braces whole (open_behind n o) (map (open_behind n) os) (start_behind n start) (n + at) g g.next) (form_there w braces o start at all.0 (ltb-true at o.end less))
-    ∙ lines_step n whole tokens w count braces (λ opens start at all. lines_there n whole tokens w count braces opens start at all) o os start at f f.next all (block_within (length tokens) at o.end f f.next all.0 (form_reaches braces tokens o start at (ltb-true at o.end less))))
+    (λ less. ap (λ (g : Form). lines_after count braces whole (open_behind n o) (map (open_behind n) os) (start_behind n start) (n + at) g g.next)
+    (form_there w braces o start at all.0 (ltb-true at o.end less))
+    ∙ lines_step n whole tokens w count braces (λ opens start at all. lines_there n whole tokens w count braces opens start at all) o os start at f f.next all
+    (block_within (length tokens) at o.end f f.next all.0 (form_reaches braces tokens o start at (ltb-true at o.end less))))
     (λ _. refl)
 
 -- ## The level at the end
@@ -146,7 +157,8 @@ IsLevelThere n whole tokens count braces = (opens : List Open) (start : Start) (
 
 level_step : (n : ℕ) (whole tokens : List CodeToken) → IsWindow n whole tokens → (count : ℕ) (braces : Braces) → IsLevelThere n whole tokens count braces
     → (o : Open) (os : List Open) (f : Form) (next : Next) → AllWithin (length tokens) (o ∷ os) → EndsWithin (length tokens) next
-    → level_after count braces whole (open_behind n o) (map (open_behind n) os) (form_behind n f) (next_behind n next) ≡ level_after count braces tokens o os f next
+    → level_after count braces whole (open_behind n o) (map (open_behind n) os) (form_behind n f) (next_behind n next)
+    ≡ level_after count braces tokens o os f next
 level_step n whole tokens w count braces stay o os f Ends all within =
     let r : Reading = settled tokens f.end (o ∷ os) in
     ap (λ (r : Reading). end_level_from count braces whole r.opens r.start (n + f.end)) (settled_there w f.end (o ∷ os) all)
@@ -165,19 +177,24 @@ end_there n whole tokens w (suc count) braces [] start at all = refl
 end_there n whole tokens w (suc count) braces (o ∷ os) start at all =
     let f : Form = form_of braces tokens o start at in
     chosen (nat_lt (n + at) (n + o.end)) (nat_lt at o.end) (level_after count braces tokens o os f f.next) (level_of_list (o ∷ os))
-    (level_after count braces whole (open_behind n o) (map (open_behind n) os) (form_of braces whole (open_behind n o) (start_behind n start) (n + at)) (form_of braces whole (open_behind n o) (start_behind n start) (n + at)).next) (level_of_list (map (open_behind n) (o ∷ os)))
+    (level_after count braces whole (open_behind n o) (map (open_behind n) os) (form_of braces whole (open_behind n o) (start_behind n start) (n + at))
+    (form_of braces whole (open_behind n o) (start_behind n start) (n + at)).next) (level_of_list (map (open_behind n) (o ∷ os)))
     (lt_there n at o.end)
-    (λ less. ap (λ (g : Form). level_after count braces whole (open_behind n o) (map (open_behind n) os) g g.next) (form_there w braces o start at all.0 (ltb-true at o.end less))
-    ∙ level_step n whole tokens w count braces (λ opens start at all. end_there n whole tokens w count braces opens start at all) o os f f.next all (block_within (length tokens) at o.end f f.next all.0 (form_reaches braces tokens o start at (ltb-true at o.end less))))
+    (λ less. ap (λ (g : Form). level_after count braces whole (open_behind n o) (map (open_behind n) os) g g.next)
+    (form_there w braces o start at all.0 (ltb-true at o.end less))
+    ∙ level_step n whole tokens w count braces (λ opens start at all. end_there n whole tokens w count braces opens start at all) o os f f.next all
+    (block_within (length tokens) at o.end f f.next all.0 (form_reaches braces tokens o start at (ltb-true at o.end less))))
     (λ _. level_there n (o ∷ os))
 
 -- ## Both
 
 -- Lines of lists that end among some tokens are the same wherever these tokens stand.
 pub record InWindow (n : ℕ) (braces : Braces) (earlier tokens later : List CodeToken) (opens : List Open) (start : Start) (at : ℕ) : Type 0 where
-  pub lines : lines_from n braces (earlier ++ (map (token_behind (length earlier)) tokens ++ later)) (map (open_behind (length earlier)) opens) (start_behind (length earlier) start) (length earlier + at)
+  pub lines : lines_from n braces (earlier ++ (map (token_behind (length earlier)) tokens ++ later)) (map (open_behind (length earlier)) opens)
+      (start_behind (length earlier) start) (length earlier + at)
       ≡ map (code_line_behind (length earlier)) (lines_from n braces tokens opens start at)
-  pub level : end_level_from n braces (earlier ++ (map (token_behind (length earlier)) tokens ++ later)) (map (open_behind (length earlier)) opens) (start_behind (length earlier) start) (length earlier + at)
+  pub level : end_level_from n braces (earlier ++ (map (token_behind (length earlier)) tokens ++ later)) (map (open_behind (length earlier)) opens)
+      (start_behind (length earlier) start) (length earlier + at)
       ≡ end_level_from n braces tokens opens start at
 
 pub in_window : (n : ℕ) (braces : Braces) (earlier tokens later : List CodeToken) (opens : List Open) (start : Start) (at : ℕ)

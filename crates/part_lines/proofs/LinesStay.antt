@@ -39,7 +39,8 @@ partner_here (Some place) = (let same : 0 + place ≡ place = omega arith in ap 
 tokens_here : (tokens : List CodeToken) → map (token_behind 0) tokens ≡ tokens
 tokens_here [] = refl
 tokens_here (token ∷ tokens) =
-    ap (λ (p : Option ℕ). record { class = token.class; began = token.began; touched = token.touched; partner = p } ∷ map (token_behind 0) tokens) (partner_here token.partner)
+    ap (λ (p : Option ℕ). record { class = token.class; began = token.began; touched = token.touched; partner = p } ∷ map (token_behind 0) tokens)
+    (partner_here token.partner)
     ∙ ap (λ (ts : List CodeToken). token ∷ ts) (tokens_here tokens)
 
 code_lines_here : (lines : List Line) → map (code_line_behind 0) lines ≡ lines
@@ -47,8 +48,10 @@ code_lines_here [] = refl
 code_lines_here (line ∷ lines) =
     let first : 0 + line.first ≡ line.first = omega arith in
     let end : 0 + line.end ≡ line.end = omega arith in
-    ap (λ (a : ℕ). record { first = a; end = 0 + line.end; level = line.level; kind = line.kind; list_level = line.list_level } ∷ map (code_line_behind 0) lines) first
-    ∙ (ap (λ (a : ℕ). record { first = line.first; end = a; level = line.level; kind = line.kind; list_level = line.list_level } ∷ map (code_line_behind 0) lines) end
+    ap (λ (a : ℕ). record { first = a; end = 0 + line.end; level = line.level; kind = line.kind; list_level = line.list_level } ∷ map
+    (code_line_behind 0) lines) first
+    ∙ (ap (λ (a : ℕ). record { first = line.first; end = a; level = line.level; kind = line.kind; list_level = line.list_level } ∷ map
+    (code_line_behind 0) lines) end
     ∙ ap (λ (ls : List Line). line ∷ ls) (code_lines_here lines))
 
 -- ## The tokens of both
@@ -74,7 +77,8 @@ first_lines braces earlier later begins =
 -- what is told of the later tokens behind the earlier ones, in the words of a window
 second_told : {X : Type 0} (f : ℕ → List CodeToken → ℕ → ℕ → X) (earlier later : List CodeToken)
     → let there : List CodeToken = map (token_behind (length earlier)) later in
-    f (length there) (earlier ++ there) (length (earlier ++ there)) (length earlier) ≡ f (length later) (earlier ++ (there ++ [])) (length earlier + length later) (length earlier + 0)
+    f (length there) (earlier ++ there) (length (earlier ++ there)) (length earlier) ≡ f (length later) (earlier ++ (there ++ []))
+    (length earlier + length later) (length earlier + 0)
 second_told f earlier later =
     let n : ℕ = length earlier in
     let there : List CodeToken = map (token_behind (length earlier)) later in
@@ -86,8 +90,10 @@ second_told f earlier later =
     ∙ (ap (λ (ts : List CodeToken). f (length later) (earlier ++ ts) (n + length later) n) (sym (append-nil there))
     ∙ ap (λ (k : ℕ). f (length later) (earlier ++ (there ++ [])) (n + length later) k) at))
 
-second_window : (count : ℕ) (braces : Braces) (earlier later : List CodeToken) → IsCutBehind earlier → InWindow count braces earlier later [] (file_up_to (length later) ∷ []) Fresh 0
-second_window count braces earlier later behind = in_window count braces earlier later [] (file_up_to (length later) ∷ []) Fresh 0 behind (inl refl) (omega arith, tt)
+second_window : (count : ℕ) (braces : Braces) (earlier later : List CodeToken) → IsCutBehind earlier
+    → InWindow count braces earlier later [] (file_up_to (length later) ∷ []) Fresh 0
+second_window count braces earlier later behind =
+    in_window count braces earlier later [] (file_up_to (length later) ∷ []) Fresh 0 behind (inl refl) (omega arith, tt)
 
 second_lines : (braces : Braces) (earlier later : List CodeToken) → IsCutBehind earlier
     → let there : List CodeToken = map (token_behind (length earlier)) later in
@@ -111,11 +117,15 @@ starts at total [] cut = tt
 starts at total (line ∷ lines) cut = cut.0
 
 trees_of_both : (style : Style) (arena : Contents) (earlier later : List ℕ) → IsFirstPart arena earlier later
-    → AreBoth (tree_of style arena (earlier ++ later) (partners_in arena (earlier ++ later))) (tree_of style arena earlier (partners_in arena earlier)) (tree_of style arena later (partners_in arena later))
+    → AreBoth (tree_of style arena (earlier ++ later) (partners_in arena (earlier ++ later))) (tree_of style arena earlier (partners_in arena earlier))
+    (tree_of style arena later (partners_in arena later))
 trees_of_both style arena earlier later first =
     record {
       follows = record {
-        lines = ap (lines_of braces) tokens ∙ (cut.lines ∙ (ap (λ (ls : List Line). ls ++ rest) (first_lines braces before there begins) ∙ ap (λ (ls : List Line). lines_of braces before ++ ls) (second_lines braces before behind code.behind)));
+        lines = ap (lines_of braces) tokens
+            ∙ (cut.lines
+            ∙ (ap (λ (ls : List Line). ls ++ rest) (first_lines braces before there begins)
+            ∙ ap (λ (ls : List Line). lines_of braces before ++ ls) (second_lines braces before behind code.behind)));
         total = ap length tokens ∙ omega (arith, length-append before there, length-map behind (token_behind (length before)));
         level = ap (end_level braces) tokens ∙ (cut.level ∙ second_level braces before behind code.behind);
       };
@@ -158,9 +168,11 @@ some_items arena (id ∷ ids) begins = omega arith
 
 pub lines_stay : LinesStay
 lines_stay style arena earlier later first =
-    ap (λ (k : ℕ). lines_between k (begins_from whole (parts_of arena (earlier ++ later) (classes_of arena (earlier ++ later))) 0 no_marks)) (length-append earlier later)
+    ap (λ (k : ℕ). lines_between k (begins_from whole (parts_of arena (earlier ++ later) (classes_of arena (earlier ++ later))) 0 no_marks))
+    (length-append earlier later)
     ∙ (ap (lines_between (length earlier + length later)) begins
-    ∙ lines_of_both (length earlier) (length later) (begins_from tree parts 0 no_marks) (begins_from rest more 0 no_marks) some (lines_cut_views style arena later (partners_in arena later)))
+    ∙ lines_of_both (length earlier) (length later) (begins_from tree parts 0 no_marks) (begins_from rest more 0 no_marks) some
+    (lines_cut_views style arena later (partners_in arena later)))
   where
     whole : Tree
     whole = tree_of style arena (earlier ++ later) (partners_in arena (earlier ++ later))
@@ -192,12 +204,14 @@ lines_stay style arena earlier later first =
     tokens : tokens_in parts ≡ tree.total
     tokens =
         tokens_so arena earlier 0 false (classes_of arena earlier)
-        ∙ sym (length-map (code_places_from 0 (classes_of arena earlier)) (token_at arena earlier (classes_of arena earlier) (partners_in arena earlier)) ∙ places_count 0 (classes_of arena earlier))
+        ∙ sym (length-map (code_places_from 0 (classes_of arena earlier)) (token_at arena earlier (classes_of arena earlier) (partners_in arena earlier))
+        ∙ places_count 0 (classes_of arena earlier))
 
     last : ends_token false parts ≡ true
     last = ends_so arena earlier earlier 0 false false ∙ ends
 
-    begins : begins_from whole (parts_of arena (earlier ++ later) (classes_of arena (earlier ++ later))) 0 no_marks ≡ begins_from tree parts 0 no_marks ++ map (begin_behind (length earlier)) (begins_from rest more 0 no_marks)
+    begins : begins_from whole (parts_of arena (earlier ++ later) (classes_of arena (earlier ++ later))) 0 no_marks
+        ≡ begins_from tree parts 0 no_marks ++ map (begin_behind (length earlier)) (begins_from rest more 0 no_marks)
     begins =
         ap (λ (ps : List Part). begins_from whole ps 0 no_marks) (parts_of_both arena earlier later ends (comments_begin arena later end.follows))
         ∙ (begins_of_both whole tree rest parts more (trees_of_both style arena earlier later first) tokens last

@@ -53,7 +53,8 @@ record Matches (classes : List TokenClass) (place : ℕ) (waiting : List Opener)
   pub returns : (k q : ℕ) → Has partners k q → Has partners q k
   pub rounds : (k q : ℕ) → Has partners k q → is_open_round (class_in classes k) ≡ true → is_close_round (class_in classes q) ≡ true
 
-wait_longer : (classes : List TokenClass) (partners : List (Option ℕ)) (end more : ℕ) (waiting : List Opener) → end ≤ more → AreWaiting classes partners end waiting → AreWaiting classes partners more waiting
+wait_longer : (classes : List TokenClass) (partners : List (Option ℕ)) (end more : ℕ) (waiting : List Opener) → end ≤ more
+    → AreWaiting classes partners end waiting → AreWaiting classes partners more waiting
 wait_longer classes partners end more [] less waits = tt
 wait_longer classes partners end more (opener ∷ below) less waits = (omega (arith, less, waits.0), waits.1)
 
@@ -63,30 +64,37 @@ FoundSo classes partners end Fits None = ⊤
 FoundSo classes partners end Fits (Some found) =
     (found.place < end) × (Fits (class_in classes found.place) × (HasNone partners found.place × AreWaiting classes partners found.place found.below))
 
-found_longer : (classes : List TokenClass) (partners : List (Option ℕ)) (end more : ℕ) (Fits : TokenClass → Type 0) (found : Option Nearest) → end ≤ more → FoundSo classes partners end Fits found → FoundSo classes partners more Fits found
+found_longer : (classes : List TokenClass) (partners : List (Option ℕ)) (end more : ℕ) (Fits : TokenClass → Type 0) (found : Option Nearest) → end ≤ more
+    → FoundSo classes partners end Fits found → FoundSo classes partners more Fits found
 found_longer classes partners end more Fits None less so = tt
 found_longer classes partners end more Fits (Some found) less so = (omega (arith, less, so.0), so.1)
 
-nearest_so : (classes : List TokenClass) (partners : List (Option ℕ)) (end : ℕ) (waiting : List Opener) → AreWaiting classes partners end waiting → FoundSo classes partners end (λ c. is_open_round c ≡ false) (nearest_brace waiting)
+nearest_so : (classes : List TokenClass) (partners : List (Option ℕ)) (end : ℕ) (waiting : List Opener) → AreWaiting classes partners end waiting
+    → FoundSo classes partners end (λ c. is_open_round c ≡ false) (nearest_brace waiting)
 nearest_so classes partners end [] waits = tt
 nearest_so classes partners end (opener ∷ below) waits =
-    by_brace (is_brace opener) refl (found_longer classes partners opener.place end (λ c. is_open_round c ≡ false) (nearest_brace below) (omega (arith, waits.0)) (nearest_so classes partners opener.place below waits.1.1.1))
+    by_brace (is_brace opener) refl
+    (found_longer classes partners opener.place end (λ c. is_open_round c ≡ false) (nearest_brace below) (omega (arith, waits.0))
+    (nearest_so classes partners opener.place below waits.1.1.1))
   where
     brace_kind : (place : ℕ) (kind : TokenClass) → is_brace (record { place = place; kind = kind }) ≡ true → is_open_round kind ≡ false
     brace_kind place OpenRound e = cc
     brace_kind place _ e = refl
 
     by_brace : (brace : Bool) → is_brace opener ≡ brace → FoundSo classes partners end (λ c. is_open_round c ≡ false) (nearest_brace below)
-        → FoundSo classes partners end (λ c. is_open_round c ≡ false) (elim brace as (λ _. Option Nearest) [ true ↦ Some (record { place = opener.place; below = below }) | false ↦ nearest_brace below ])
+        → FoundSo classes partners end (λ c. is_open_round c ≡ false)
+        (elim brace as (λ _. Option Nearest) [ true ↦ Some (record { place = opener.place; below = below }) | false ↦ nearest_brace below ])
     by_brace true is on = (waits.0, (ap (λ (c : TokenClass). is_open_round c) waits.1.0 ∙ brace_kind opener.place opener.kind is, waits.1.1))
     by_brace false is on = on
 
-topmost_so : (fits : Opener → Bool) (Fits : TokenClass → Type 0) (classes : List TokenClass) (partners : List (Option ℕ)) (end : ℕ) (waiting : List Opener) → ((place : ℕ) (kind : TokenClass) → fits (record { place = place; kind = kind }) ≡ true → Fits kind)
+topmost_so : (fits : Opener → Bool) (Fits : TokenClass → Type 0) (classes : List TokenClass) (partners : List (Option ℕ)) (end : ℕ) (waiting : List Opener)
+    → ((place : ℕ) (kind : TokenClass) → fits (record { place = place; kind = kind }) ≡ true → Fits kind)
     → AreWaiting classes partners end waiting → FoundSo classes partners end Fits (topmost fits waiting)
 topmost_so fits Fits classes partners end [] kinds waits = tt
 topmost_so fits Fits classes partners end (opener ∷ below) kinds waits = by_fit (fits opener) refl
   where
-    by_fit : (fit : Bool) → fits opener ≡ fit → FoundSo classes partners end Fits (elim fit as (λ _. Option Nearest) [ true ↦ Some (record { place = opener.place; below = below }) | false ↦ None ])
+    by_fit : (fit : Bool) → fits opener ≡ fit
+        → FoundSo classes partners end Fits (elim fit as (λ _. Option Nearest) [ true ↦ Some (record { place = opener.place; below = below }) | false ↦ None ])
     by_fit true is = (waits.0, (subst Fits (sym waits.1.0) (kinds opener.place opener.kind is), waits.1.1))
     by_fit false is = tt
 
@@ -99,13 +107,17 @@ some_same p q e = cc
 abbrev paired_at : List (Option ℕ) → ℕ → ℕ → List (Option ℕ)
 paired_at partners opener place = slice_set (slice_set partners opener (Some place)) place (Some opener)
 
-paired_other : (partners : List (Option ℕ)) (opener place k : ℕ) → (k ≡ opener → ⊥) → (k ≡ place → ⊥) → slice_get (paired_at partners opener place) k ≡ slice_get partners k
-paired_other partners opener place k first second = set_other (slice_set partners opener (Some place)) place k (Some opener) second ∙ set_other partners opener k (Some place) first
+paired_other : (partners : List (Option ℕ)) (opener place k : ℕ) → (k ≡ opener → ⊥) → (k ≡ place → ⊥)
+    → slice_get (paired_at partners opener place) k ≡ slice_get partners k
+paired_other partners opener place k first second = set_other (slice_set partners opener (Some place)) place k (Some opener) second
+    ∙ set_other partners opener k (Some place) first
 
-still_none : (partners : List (Option ℕ)) (opener place k : ℕ) → (k ≡ opener → ⊥) → (k ≡ place → ⊥) → HasNone partners k → HasNone (paired_at partners opener place) k
+still_none : (partners : List (Option ℕ)) (opener place k : ℕ) → (k ≡ opener → ⊥) → (k ≡ place → ⊥) → HasNone partners k
+    → HasNone (paired_at partners opener place) k
 still_none partners opener place k first second none q has = none q (sym (paired_other partners opener place k first second) ∙ has)
 
-still_wait : (classes : List TokenClass) (partners : List (Option ℕ)) (opener place end : ℕ) (waiting : List Opener) → end ≤ opener → opener < place → AreWaiting classes partners end waiting → AreWaiting classes (paired_at partners opener place) end waiting
+still_wait : (classes : List TokenClass) (partners : List (Option ℕ)) (opener place end : ℕ) (waiting : List Opener) → end ≤ opener → opener < place
+    → AreWaiting classes partners end waiting → AreWaiting classes (paired_at partners opener place) end waiting
 still_wait classes partners opener place end [] low less waits = tt
 still_wait classes partners opener place end (first ∷ below) low less waits = (
   waits.0,
@@ -119,26 +131,30 @@ still_wait classes partners opener place end (first ∷ below) low less waits = 
 )
 
 -- a closer and its opener
-pair_matches : (classes : List TokenClass) (place opener : ℕ) (waiting below : List Opener) (partners : List (Option ℕ)) → place < length classes → Matches classes place waiting partners
+pair_matches : (classes : List TokenClass) (place opener : ℕ) (waiting below : List Opener) (partners : List (Option ℕ)) → place < length classes
+    → Matches classes place waiting partners
     → opener < place → HasNone partners opener → AreWaiting classes partners opener below
     → (is_open_round (class_in classes opener) ≡ true → is_close_round (class_in classes place) ≡ true) → is_open_round (class_in classes place) ≡ false
     → Matches classes (place + 1) below (paired_at partners opener place)
 pair_matches classes place opener waiting below partners within so less none waits closes closer = record {
   many = length-set (slice_set partners opener (Some place)) place (Some opener) ∙ (length-set partners opener (Some place) ∙ so.many);
-  waits = wait_longer classes (paired_at partners opener place) opener (place + 1) below (omega (arith, less)) (still_wait classes partners opener place opener below (omega arith) less waits);
+  waits = wait_longer classes (paired_at partners opener place) opener (place + 1) below (omega (arith, less))
+      (still_wait classes partners opener place opener below (omega arith) less waits);
   later = λ k past. still_none partners opener place k (λ e. omega (arith, e, less, past)) (λ e. omega (arith, e, past)) (so.later k (omega (arith, past)));
   returns = returns;
   rounds = rounds;
 }
   where
     there : slice_get (paired_at partners opener place) opener ≡ Some (Some place)
-    there = set_other (slice_set partners opener (Some place)) place opener (Some opener) (λ e. omega (arith, e, less)) ∙ set_same partners opener (Some place) (omega (arith, less, within, so.many))
+    there = set_other (slice_set partners opener (Some place)) place opener (Some opener) (λ e. omega (arith, e, less))
+        ∙ set_same partners opener (Some place) (omega (arith, less, within, so.many))
 
     here : slice_get (paired_at partners opener place) place ≡ Some (Some opener)
     here = set_same (slice_set partners opener (Some place)) place (Some opener) (omega (arith, within, so.many, length-set partners opener (Some place)))
 
     -- which places have a partner
-    cases : (k q : ℕ) → Has (paired_at partners opener place) k q → ((k ≡ opener) × (q ≡ place)) ⊎ (((k ≡ place) × (q ≡ opener)) ⊎ (Has partners k q × ((k ≡ opener → ⊥) × (k ≡ place → ⊥))))
+    cases : (k q : ℕ) → Has (paired_at partners opener place) k q
+        → ((k ≡ opener) × (q ≡ place)) ⊎ (((k ≡ place) × (q ≡ opener)) ⊎ (Has partners k q × ((k ≡ opener → ⊥) × (k ≡ place → ⊥))))
     cases k q has = elim (cases_eq k opener) [
       | inl first ↦ inl (first, some_same q place (sym has ∙ (ap (slice_get (paired_at partners opener place)) first ∙ there)))
       | inr first ↦ elim (cases_eq k place) [
@@ -147,7 +163,8 @@ pair_matches classes place opener waiting below partners within so less none wai
       ]
     ]
 
-    returns_by : (k q : ℕ) → ((k ≡ opener) × (q ≡ place)) ⊎ (((k ≡ place) × (q ≡ opener)) ⊎ (Has partners k q × ((k ≡ opener → ⊥) × (k ≡ place → ⊥)))) → Has (paired_at partners opener place) q k
+    returns_by : (k q : ℕ) → ((k ≡ opener) × (q ≡ place)) ⊎ (((k ≡ place) × (q ≡ opener)) ⊎ (Has partners k q × ((k ≡ opener → ⊥) × (k ≡ place → ⊥))))
+        → Has (paired_at partners opener place) q k
     returns_by k q (inl ends) = ap (slice_get (paired_at partners opener place)) ends.1 ∙ (here ∙ ap (λ n. Some (Some n)) (sym ends.0))
     returns_by k q (inr (inl ends)) = ap (slice_get (paired_at partners opener place)) ends.1 ∙ (there ∙ ap (λ n. Some (Some n)) (sym ends.0))
     returns_by k q (inr (inr old)) =
@@ -159,7 +176,8 @@ pair_matches classes place opener waiting below partners within so less none wai
     returns : (k q : ℕ) → Has (paired_at partners opener place) k q → Has (paired_at partners opener place) q k
     returns k q has = returns_by k q (cases k q has)
 
-    rounds_by : (k q : ℕ) → ((k ≡ opener) × (q ≡ place)) ⊎ (((k ≡ place) × (q ≡ opener)) ⊎ (Has partners k q × ((k ≡ opener → ⊥) × (k ≡ place → ⊥)))) → is_open_round (class_in classes k) ≡ true → is_close_round (class_in classes q) ≡ true
+    rounds_by : (k q : ℕ) → ((k ≡ opener) × (q ≡ place)) ⊎ (((k ≡ place) × (q ≡ opener)) ⊎ (Has partners k q × ((k ≡ opener → ⊥) × (k ≡ place → ⊥))))
+        → is_open_round (class_in classes k) ≡ true → is_close_round (class_in classes q) ≡ true
     rounds_by k q (inl ends) round =
         ap (λ n. is_close_round (class_in classes n)) ends.1 ∙ closes (ap (λ n. is_open_round (class_in classes n)) (sym ends.0) ∙ round)
     rounds_by k q (inr (inl ends)) round = absurd (never (sym closer ∙ (ap (λ n. is_open_round (class_in classes n)) (sym ends.0) ∙ round)))
@@ -169,34 +187,44 @@ pair_matches classes place opener waiting below partners within so less none wai
     rounds k q has round = rounds_by k q (cases k q has) round
 
 -- the partners are kept, and these openers wait
-same_partners : (classes : List TokenClass) (place : ℕ) (waiting new : List Opener) (partners : List (Option ℕ)) → Matches classes place waiting partners → AreWaiting classes partners (place + 1) new → Matches classes (place + 1) new partners
-same_partners classes place waiting new partners so waits = record { many = so.many; waits = waits; later = λ k past. so.later k (omega (arith, past)); returns = so.returns; rounds = so.rounds }
+same_partners : (classes : List TokenClass) (place : ℕ) (waiting new : List Opener) (partners : List (Option ℕ)) → Matches classes place waiting partners
+    → AreWaiting classes partners (place + 1) new → Matches classes (place + 1) new partners
+same_partners classes place waiting new partners so waits =
+    record { many = so.many; waits = waits; later = λ k past. so.later k (omega (arith, past)); returns = so.returns; rounds = so.rounds }
 
 abbrev MatchesSo : List TokenClass → ℕ → Matching → Type 0
 MatchesSo classes place m = Matches classes place m.open_brackets m.partners
 
-opened_matches : (classes : List TokenClass) (place : ℕ) (kind : TokenClass) (waiting : List Opener) (partners : List (Option ℕ)) → class_in classes place ≡ kind → Matches classes place waiting partners
+opened_matches : (classes : List TokenClass) (place : ℕ) (kind : TokenClass) (waiting : List Opener) (partners : List (Option ℕ))
+    → class_in classes place ≡ kind → Matches classes place waiting partners
     → Matches classes (place + 1) (record { place = place; kind = kind } ∷ waiting) partners
 opened_matches classes place kind waiting partners is so =
-    same_partners classes place waiting (record { place = place; kind = kind } ∷ waiting) partners so (omega arith, (is, (so.later place (omega arith), so.waits)))
+    same_partners classes place waiting (record { place = place; kind = kind } ∷ waiting) partners so
+    (omega arith, (is, (so.later place (omega arith), so.waits)))
 
-closed_matches : (classes : List TokenClass) (place : ℕ) (Fits : TokenClass → Type 0) (waiting : List Opener) (partners : List (Option ℕ)) (found : Option Nearest) → place < length classes → Matches classes place waiting partners
-    → FoundSo classes partners place Fits found → ((c : TokenClass) → Fits c → is_open_round c ≡ true → is_close_round (class_in classes place) ≡ true) → is_open_round (class_in classes place) ≡ false
+closed_matches : (classes : List TokenClass) (place : ℕ) (Fits : TokenClass → Type 0) (waiting : List Opener) (partners : List (Option ℕ))
+    (found : Option Nearest) → place < length classes → Matches classes place waiting partners
+    → FoundSo classes partners place Fits found → ((c : TokenClass) → Fits c → is_open_round c ≡ true → is_close_round (class_in classes place) ≡ true)
+    → is_open_round (class_in classes place) ≡ false
     → MatchesSo classes (place + 1) (closed place found (record { open_brackets = waiting; partners = partners }))
-closed_matches classes place Fits waiting partners None within so found closes closer = same_partners classes place waiting waiting partners so (wait_longer classes partners place (place + 1) waiting (omega arith) so.waits)
+closed_matches classes place Fits waiting partners None within so found closes closer =
+    same_partners classes place waiting waiting partners so (wait_longer classes partners place (place + 1) waiting (omega arith) so.waits)
 closed_matches classes place Fits waiting partners (Some found) within so there closes closer =
-    pair_matches classes place found.place waiting found.below partners within so there.0 there.1.1.0 there.1.1.1 (closes (class_in classes found.place) there.1.0) closer
+    pair_matches classes place found.place waiting found.below partners within so there.0 there.1.1.0 there.1.1.1
+    (closes (class_in classes found.place) there.1.0) closer
 
 round_or : (class : TokenClass) → class ≡ CloseRound → is_close_round class ≡ true
 round_or class is = ap (λ (c : TokenClass). is_close_round c) is
 
-step_matches : (classes : List TokenClass) (place : ℕ) (class : TokenClass) (waiting : List Opener) (partners : List (Option ℕ)) → place < length classes → class_in classes place ≡ class → Matches classes place waiting partners
+step_matches : (classes : List TokenClass) (place : ℕ) (class : TokenClass) (waiting : List Opener) (partners : List (Option ℕ)) → place < length classes
+    → class_in classes place ≡ class → Matches classes place waiting partners
     → MatchesSo classes (place + 1) (bracket_step class place (record { open_brackets = waiting; partners = partners }))
 step_matches classes place OpenRound waiting partners within is so = opened_matches classes place OpenRound waiting partners is so
 step_matches classes place OpenSquare waiting partners within is so = opened_matches classes place OpenSquare waiting partners is so
 step_matches classes place OpenBrace waiting partners within is so = opened_matches classes place OpenBrace waiting partners is so
 step_matches classes place CloseRound waiting partners within is so =
-    closed_matches classes place (λ c. ⊤) waiting partners (topmost is_round waiting) within so (topmost_so is_round (λ c. ⊤) classes partners place waiting (λ at kind fits. tt) so.waits)
+    closed_matches classes place (λ c. ⊤) waiting partners (topmost is_round waiting) within so
+    (topmost_so is_round (λ c. ⊤) classes partners place waiting (λ at kind fits. tt) so.waits)
     (λ c fits round. round_or (class_in classes place) is) (ap (λ (c : TokenClass). is_open_round c) is)
 step_matches classes place CloseSquare waiting partners within is so =
     closed_matches classes place (λ c. is_open_round c ≡ false) waiting partners (topmost is_square waiting) within so
@@ -207,20 +235,25 @@ step_matches classes place CloseSquare waiting partners within is so =
     square_kind at OpenRound e = cc
     square_kind at _ e = refl
 step_matches classes place CloseBrace waiting partners within is so =
-    closed_matches classes place (λ c. is_open_round c ≡ false) waiting partners (nearest_brace waiting) within so (nearest_so classes partners place waiting so.waits)
+    closed_matches classes place (λ c. is_open_round c ≡ false) waiting partners (nearest_brace waiting) within so
+    (nearest_so classes partners place waiting so.waits)
     (λ c fits round. absurd (never (sym fits ∙ round))) (ap (λ (c : TokenClass). is_open_round c) is)
-step_matches classes place _ waiting partners within is so = same_partners classes place waiting waiting partners so (wait_longer classes partners place (place + 1) waiting (omega arith) so.waits)
+step_matches classes place _ waiting partners within is so =
+    same_partners classes place waiting waiting partners so (wait_longer classes partners place (place + 1) waiting (omega arith) so.waits)
 
 -- ## All tokens
 
 pub record ArePairs (classes : List TokenClass) (partners : List (Option ℕ)) : Type 0 where
   pub returns : (k q : ℕ) → slice_get partners k ≡ Some (Some q) → slice_get partners q ≡ Some (Some k)
-  pub rounds : (k q : ℕ) → slice_get partners k ≡ Some (Some q) → is_open_round (get_or classes k Nothing) ≡ true → is_close_round (get_or classes q Nothing) ≡ true
+  pub rounds : (k q : ℕ) → slice_get partners k ≡ Some (Some q) → is_open_round (get_or classes k Nothing) ≡ true
+      → is_close_round (get_or classes q Nothing) ≡ true
 
-all_match : (classes past rest : List TokenClass) (place : ℕ) (m : Matching) → classes ≡ past ++ rest → place ≡ length past → MatchesSo classes place m → ArePairs classes (matching_from place m rest).partners
+all_match : (classes past rest : List TokenClass) (place : ℕ) (m : Matching) → classes ≡ past ++ rest → place ≡ length past → MatchesSo classes place m
+    → ArePairs classes (matching_from place m rest).partners
 all_match classes past [] place m split at so = record { returns = so.returns; rounds = so.rounds }
 all_match classes past (class ∷ rest) place m split at so =
-    let is : class_in classes place ≡ class = ap (class_in classes) at ∙ (ap (λ (cs : List TokenClass). class_in cs (length past)) split ∙ get_or-append_seam past class rest Nothing) in
+    let is : class_in classes place ≡ class = ap (class_in classes) at
+    ∙ (ap (λ (cs : List TokenClass). class_in cs (length past)) split ∙ get_or-append_seam past class rest Nothing) in
     let within : place < length classes = omega (arith, at, ap length split, length-append past (class ∷ rest)) in
     let next : place + 1 ≡ length (past ++ class ∷ []) = omega (arith, at, length-append past (class ∷ [])) in
     all_match classes (past ++ class ∷ []) rest (place + 1) (bracket_step class place m) (split ∙ sym (append_assoc past (class ∷ []) rest)) next
@@ -273,11 +306,14 @@ code_item arena (id ∷ ids) i low = by_comment (cases_Bool (is_comment (item_cl
         counted (inl comment) = omega (arith, counts_none arena id item.before comment, counts_none arena id [] comment, item.counted, e)
         counted (inr code) = omega (arith, counts_one arena id item.before code, counts_one arena id [] code, item.counted, e)
 
-    by_number : is_comment (item_class arena id) ≡ false → (i : ℕ) → i < count_of arena (id ∷ ids) → ((j : ℕ) → j < count_of arena ids → IsCodeItem arena ids j) → ((j : ℕ) → IsCodeItem arena ids j → count_of arena (id ∷ []) + j ≡ i → IsCodeItem arena (id ∷ ids) i) → IsCodeItem arena (id ∷ ids) i
+    by_number : is_comment (item_class arena id) ≡ false → (i : ℕ) → i < count_of arena (id ∷ ids)
+        → ((j : ℕ) → j < count_of arena ids → IsCodeItem arena ids j)
+        → ((j : ℕ) → IsCodeItem arena ids j → count_of arena (id ∷ []) + j ≡ i → IsCodeItem arena (id ∷ ids) i) → IsCodeItem arena (id ∷ ids) i
     by_number code zero low on behind = record { before = []; id = id; after = ids; split = refl; code = code; counted = refl }
     by_number code (suc j) low on behind = behind j (on j (omega (arith, low, counts_one arena id ids code))) (omega (arith, counts_one arena id [] code))
 
-    by_comment : (is_comment (item_class arena id) ≡ true) ⊎ (is_comment (item_class arena id) ≡ false) → ((j : ℕ) → j < count_of arena ids → IsCodeItem arena ids j) → IsCodeItem arena (id ∷ ids) i
+    by_comment : (is_comment (item_class arena id) ≡ true) ⊎ (is_comment (item_class arena id) ≡ false)
+        → ((j : ℕ) → j < count_of arena ids → IsCodeItem arena ids j) → IsCodeItem arena (id ∷ ids) i
     by_comment (inl comment) on = behind i (on i (omega (arith, low, counts_none arena id ids comment))) (omega (arith, counts_none arena id [] comment))
     by_comment (inr code) on = by_number code i low on behind
 
@@ -303,10 +339,12 @@ record IsNumbered (partners : List (Option ℕ)) (numbers : List ℕ) (place num
   pub found : slice_get partners place ≡ Some (Some partner)
   pub numbered : slice_get numbers partner ≡ Some number
 
-numbered : (partners : List (Option ℕ)) (numbers : List ℕ) (place i end number : ℕ) → within i end (partner_number numbers (slice_get partners place)) ≡ Some number → IsNumbered partners numbers place number
+numbered : (partners : List (Option ℕ)) (numbers : List ℕ) (place i end number : ℕ)
+    → within i end (partner_number numbers (slice_get partners place)) ≡ Some number → IsNumbered partners numbers place number
 numbered partners numbers place i end number e = by_partner (slice_get partners place) refl e
   where
-    by_partner : (found : Option (Option ℕ)) → slice_get partners place ≡ found → within i end (partner_number numbers found) ≡ Some number → IsNumbered partners numbers place number
+    by_partner : (found : Option (Option ℕ)) → slice_get partners place ≡ found → within i end (partner_number numbers found) ≡ Some number
+        → IsNumbered partners numbers place number
     by_partner None is e = cc
     by_partner (Some None) is e = cc
     by_partner (Some (Some partner)) is e = record { partner = partner; found = is; numbered = (within_parts i end number (slice_get numbers partner) e).0 }
@@ -316,7 +354,8 @@ close_is_code CloseRound e = refl
 close_is_code _ e = absurd (never e)
 
 -- of a `(`
-round_partner : (arena : Contents) (ids before : List ℕ) (id : ℕ) (after : List ℕ) (p : ℕ) → ids ≡ before ++ id ∷ after → is_comment (item_class arena id) ≡ false → is_open_round (item_class arena id) ≡ true
+round_partner : (arena : Contents) (ids before : List ℕ) (id : ℕ) (after : List ℕ) (p : ℕ) → ids ≡ before ++ id ∷ after
+    → is_comment (item_class arena id) ≡ false → is_open_round (item_class arena id) ≡ true
     → partner_in (code_of arena ids) (length (code_of arena ids)) (count_of arena before) ≡ Some p
     → (is_close_round (class_at (code_of arena ids) p) ≡ true) × (partner_of (slice_get (code_of arena ids) p) ≡ Some (count_of arena before))
 round_partner arena ids before id after p split code round found =
@@ -327,19 +366,29 @@ round_partner arena ids before id after p split code round found =
     let count : ℕ = count_of arena before in
     let pairs : ArePairs (classes_of arena ids) (partners_in arena ids) = partners_match (classes_of arena ids) in
     let told = numbered (partners_in arena ids) (numbers_of (classes_of arena ids)) (length before) (count_of arena before) (length (code_of arena ids)) p
-    (sym (ap (λ (t : Option CodeToken). within (count_of arena before) (length (code_of arena ids)) (partner_of t)) (token_there arena ids before id after split code)) ∙ found) in
-    let low : told.partner < length ids = omega (arith, slice_get_within (numbers_of (classes_of arena ids)) told.partner p told.numbered, numbers_count 0 (classes_of arena ids), length-map ids (item_class arena)) in
+    (sym (ap (λ (t : Option CodeToken). within (count_of arena before) (length (code_of arena ids)) (partner_of t))
+    (token_there arena ids before id after split code)) ∙ found) in
+    let low : told.partner < length ids =
+    omega (
+      arith,
+      slice_get_within (numbers_of (classes_of arena ids)) told.partner p told.numbered,
+      numbers_count 0 (classes_of arena ids),
+      length-map ids
+          (item_class arena),
+    ) in
     let item = item_there ids told.partner low in
     let number : Some p ≡ Some (count_of arena item.before) =
     sym told.numbered ∙ (ap (slice_get (numbers_of (classes_of arena ids))) item.stands ∙ number_there arena ids item.before item.id item.after item.split) in
     let at : p ≡ count_of arena item.before = cc in
     let closes : is_close_round (item_class arena item.id) ≡ true =
-    ap (λ (c : TokenClass). is_close_round c) (sym (ap (λ k. get_or (classes_of arena ids) k Nothing) item.stands ∙ class_there arena ids item.before item.id item.after item.split))
+    ap (λ (c : TokenClass). is_close_round c)
+    (sym (ap (λ k. get_or (classes_of arena ids) k Nothing) item.stands ∙ class_there arena ids item.before item.id item.after item.split))
     ∙ pairs.rounds (length before) told.partner told.found (ap (λ (c : TokenClass). is_open_round c) (class_there arena ids before id after split) ∙ round) in
     let closer_code = close_is_code (item_class arena item.id) closes in
     let back : slice_get (partners_in arena ids) (length item.before) ≡ Some (Some (length before)) =
     ap (slice_get (partners_in arena ids)) (sym item.stands) ∙ pairs.returns (length before) told.partner told.found in (
-      ap (λ k. is_close_round (class_at (code_of arena ids) k)) at ∙ (ap (λ (c : TokenClass). is_close_round c) (code_class arena ids item.before item.id item.after item.split closer_code) ∙ closes),
+      ap (λ k. is_close_round (class_at (code_of arena ids) k)) at
+          ∙ (ap (λ (c : TokenClass). is_close_round c) (code_class arena ids item.before item.id item.after item.split closer_code) ∙ closes),
       ap (λ k. partner_of (slice_get (code_of arena ids) k)) at
           ∙ (ap partner_of (token_there arena ids item.before item.id item.after item.split closer_code)
           ∙ (ap (partner_number (numbers_of (classes_of arena ids))) back ∙ number_there arena ids before id after split)),
@@ -350,11 +399,13 @@ code_paired arena ids i p round found = by_place (cases_lt i (length (code_of ar
   where
     by_item : IsCodeItem arena ids i → (is_close_round (class_at (code_of arena ids) p) ≡ true) × (partner_of (slice_get (code_of arena ids) p) ≡ Some i)
     by_item item =
-        let class : class_at (code_of arena ids) i ≡ item_class arena item.id = ap (class_at (code_of arena ids)) (sym item.counted) ∙ code_class arena ids item.before item.id item.after item.split item.code in
+        let class : class_at (code_of arena ids) i ≡ item_class arena item.id = ap (class_at (code_of arena ids)) (sym item.counted)
+        ∙ code_class arena ids item.before item.id item.after item.split item.code in
         let told = round_partner arena ids item.before item.id item.after p item.split item.code (ap (λ (c : TokenClass). is_open_round c) (sym class) ∙ round)
         (ap (partner_in (code_of arena ids) (length (code_of arena ids))) item.counted ∙ found) in
         (told.0, told.1 ∙ ap (λ k. Some k) item.counted)
 
-    by_place : (i < length (code_of arena ids)) ⊎ (length (code_of arena ids) ≤ i) → (is_close_round (class_at (code_of arena ids) p) ≡ true) × (partner_of (slice_get (code_of arena ids) p) ≡ Some i)
+    by_place : (i < length (code_of arena ids)) ⊎ (length (code_of arena ids) ≤ i)
+        → (is_close_round (class_at (code_of arena ids) p) ≡ true) × (partner_of (slice_get (code_of arena ids) p) ≡ Some i)
     by_place (inl low) = by_item (code_item arena ids i (omega (arith, low, counts_all arena ids)))
     by_place (inr past) = absurd (never (sym (ap (λ (t : Option CodeToken). is_open_round (class_of t)) (slice_get_past (code_of arena ids) i past)) ∙ round))

@@ -11,7 +11,8 @@ pub within_parts : (i end p : ℕ) (o : Option ℕ) → within i end o ≡ Some 
 within_parts i end p None e = cc
 within_parts i end p (Some q) e =
     either (λ (x : Option ℕ). x ≡ Some p → (Some q ≡ Some p) × ((i < p) × (p < end))) (nat_lt i q && nat_lt q end) (Some q) None
-    (λ b s. let k = and_parts (nat_lt i q) (nat_lt q end) b in let same : q ≡ p = cc in (s, (subst (λ (x : ℕ). i < x) same (ltb-true i q k.0), subst (λ (x : ℕ). x < end) same (ltb-true q end k.1))))
+    (λ b s. let k = and_parts (nat_lt i q) (nat_lt q end) b in let same : q ≡ p = cc in
+    (s, (subst (λ (x : ℕ). i < x) same (ltb-true i q k.0), subst (λ (x : ℕ). x < end) same (ltb-true q end k.1))))
     (λ b s. cc) e
 
 pub within_from : (i end p : ℕ) → i < p → p < end → within i end (Some p) ≡ Some p

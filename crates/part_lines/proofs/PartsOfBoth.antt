@@ -46,7 +46,8 @@ closer_is_code LineComment closes = cc
 closer_is_code BlockComment closes = cc
 closer_is_code _ closes = refl
 
-ends_behind : (arena : Contents) (ids : List ℕ) (last : TokenClass) → closes_part (last_of last (classes_of arena ids)) ≡ true → ends_code arena (not (is_comment last)) ids ≡ true
+ends_behind : (arena : Contents) (ids : List ℕ) (last : TokenClass) → closes_part (last_of last (classes_of arena ids)) ≡ true
+    → ends_code arena (not (is_comment last)) ids ≡ true
 ends_behind arena [] last closes = closer_is_code last closes
 ends_behind arena (id ∷ ids) last closes = ends_behind arena ids (item_class arena id) closes
 
@@ -81,18 +82,21 @@ token_is arena id started class = by (cases_Bool (is_comment class))
     by (inl comment) = rw comment (comment_apart (not started || item_began arena id) (is_line_comment class || line_ends_behind arena id) true)
     by (inr code) = rw code refl
 
-pub ends_so : (arena : Contents) (ids rest : List ℕ) (k : ℕ) (last started : Bool) → ends_token last (parts_from arena ids k started (classes_of arena rest)) ≡ ends_code arena last rest
+pub ends_so : (arena : Contents) (ids rest : List ℕ) (k : ℕ) (last started : Bool)
+    → ends_token last (parts_from arena ids k started (classes_of arena rest)) ≡ ends_code arena last rest
 ends_so arena ids [] k last started = refl
 ends_so arena ids (id ∷ rest) k last started =
     let class : TokenClass = item_class arena id in
-    ap (λ (b : Bool). ends_token b (parts_from arena ids (k + 1) (started || not (is_comment class)) (classes_of arena rest))) (token_is arena (get_or ids k 0) started class)
+    ap (λ (b : Bool). ends_token b (parts_from arena ids (k + 1) (started || not (is_comment class)) (classes_of arena rest)))
+    (token_is arena (get_or ids k 0) started class)
     ∙ ends_so arena ids rest (k + 1) (not (is_comment class)) (started || not (is_comment class))
 
 count_one : (comment : Bool) (n m : ℕ) → n ≡ m → (if not comment then suc n else n) ≡ (if comment then m else suc m)
 count_one true n m e = e
 count_one false n m e = ap suc e
 
-pub tokens_so : (arena : Contents) (ids : List ℕ) (k : ℕ) (started : Bool) (classes : List TokenClass) → tokens_in (parts_from arena ids k started classes) ≡ code_count classes
+pub tokens_so : (arena : Contents) (ids : List ℕ) (k : ℕ) (started : Bool) (classes : List TokenClass)
+    → tokens_in (parts_from arena ids k started classes) ≡ code_count classes
 tokens_so arena ids k started [] = refl
 tokens_so arena ids k started (class ∷ classes) =
     let rest : List Part = parts_from arena ids (k + 1) (started || not (is_comment class)) classes in
@@ -117,33 +121,38 @@ parts_on arena ids k started (x ∷ xs) ys =
     ap (λ (ps : List Part). part_of arena (get_or ids k 0) started x ∷ ps)
     (parts_on arena ids (k + 1) next xs ys ∙ ap (λ (j : ℕ). parts_from arena ids (k + 1) next xs ++ parts_from arena ids j (started_behind next xs) ys) same)
 
-parts_before : (arena : Contents) (ids later : List ℕ) (k : ℕ) (started : Bool) (classes : List TokenClass) → k + length classes ≤ length ids → parts_from arena (ids ++ later) k started classes ≡ parts_from arena ids k started classes
+parts_before : (arena : Contents) (ids later : List ℕ) (k : ℕ) (started : Bool) (classes : List TokenClass) → k + length classes ≤ length ids
+    → parts_from arena (ids ++ later) k started classes ≡ parts_from arena ids k started classes
 parts_before arena ids later k started [] within = refl
 parts_before arena ids later k started (class ∷ classes) within =
     let next : Bool = started || not (is_comment class) in
     ap (λ (id : ℕ). part_of arena id started class ∷ parts_from arena (ids ++ later) (k + 1) next classes) (get_or-append ids later 0 k (omega (arith, within)))
     ∙ ap (λ (ps : List Part). part_of arena (get_or ids k 0) started class ∷ ps) (parts_before arena ids later (k + 1) next classes (omega (arith, within)))
 
-parts_behind : (arena : Contents) (early ids : List ℕ) (k : ℕ) (started : Bool) (classes : List TokenClass) → parts_from arena (early ++ ids) (length early + k) started classes ≡ parts_from arena ids k started classes
+parts_behind : (arena : Contents) (early ids : List ℕ) (k : ℕ) (started : Bool) (classes : List TokenClass)
+    → parts_from arena (early ++ ids) (length early + k) started classes ≡ parts_from arena ids k started classes
 parts_behind arena early ids k started [] = refl
 parts_behind arena early ids k started (class ∷ classes) =
     let next : Bool = started || not (is_comment class) in
     let on : length early + k + 1 ≡ length early + (k + 1) = omega arith in
     ap (λ (id : ℕ). part_of arena id started class ∷ parts_from arena (early ++ ids) (length early + k + 1) next classes) (get_or-append-add early ids k 0)
-    ∙ ap (λ (ps : List Part). part_of arena (get_or ids k 0) started class ∷ ps) (ap (λ (j : ℕ). parts_from arena (early ++ ids) j next classes) on ∙ parts_behind arena early ids (k + 1) next classes)
+    ∙ ap (λ (ps : List Part). part_of arena (get_or ids k 0) started class ∷ ps)
+    (ap (λ (j : ℕ). parts_from arena (early ++ ids) j next classes) on ∙ parts_behind arena early ids (k + 1) next classes)
 
 -- comments that began their lines are on lines of their own, whatever stands before them
 same_began : (found : Option Stored) → walk.began_of found ≡ began_of_item found
 same_began None = refl
 same_began (Some token) = refl
 
-own_either : (arena : Contents) (id : ℕ) (class : TokenClass) → is_comment class ≡ true → walk.item_began arena id ≡ true → part_of arena id true class ≡ part_of arena id false class
+own_either : (arena : Contents) (id : ℕ) (class : TokenClass) → is_comment class ≡ true → walk.item_began arena id ≡ true
+    → part_of arena id true class ≡ part_of arena id false class
 own_either arena id class comment began =
     let item : item_began arena id ≡ true = sym (same_began (slice_get arena.tokens id)) ∙ began in
     rw (comment, item) refl
 
 started_step : (arena : Contents) (ids rest : List ℕ) (k id : ℕ) → ((j : ℕ) → get_or ids (k + j) 0 ≡ get_or (id ∷ rest) j 0) → CommentsBegin arena (id ∷ rest)
-    → (((j : ℕ) → get_or ids (k + 1 + j) 0 ≡ get_or rest j 0) → CommentsBegin arena rest → parts_from arena ids (k + 1) true (classes_of arena rest) ≡ parts_from arena ids (k + 1) false (classes_of arena rest))
+    → (((j : ℕ) → get_or ids (k + 1 + j) 0 ≡ get_or rest j 0) → CommentsBegin arena rest
+    → parts_from arena ids (k + 1) true (classes_of arena rest) ≡ parts_from arena ids (k + 1) false (classes_of arena rest))
     → parts_from arena ids k true (classes_of arena (id ∷ rest)) ≡ parts_from arena ids k false (classes_of arena (id ∷ rest))
 started_step arena ids rest k id same begin on = by (cases_Bool (is_comment class))
   where
@@ -159,7 +168,8 @@ started_step arena ids rest k id same begin on = by (cases_Bool (is_comment clas
     later : (j : ℕ) → get_or ids (k + 1 + j) 0 ≡ get_or rest j 0
     later j = (let one : k + suc j ≡ k + 1 + j = omega arith in subst (λ (i : ℕ). get_or ids i 0 ≡ get_or rest j 0) one (same (suc j)))
 
-    by : (is_comment class ≡ true) ⊎ (is_comment class ≡ false) → parts_from arena ids k true (class ∷ classes_of arena rest) ≡ parts_from arena ids k false (class ∷ classes_of arena rest)
+    by : (is_comment class ≡ true) ⊎ (is_comment class ≡ false)
+        → parts_from arena ids k true (class ∷ classes_of arena rest) ≡ parts_from arena ids k false (class ∷ classes_of arena rest)
     by (inl comment) =
         let began = begin comment in
         let item : walk.item_began arena (get_or ids k 0) ≡ true = ap (λ (i : ℕ). walk.item_began arena i) here ∙ began.0 in
@@ -177,18 +187,21 @@ or_later : (a b : Bool) → b ≡ true → (a || b) ≡ true
 or_later true b e = refl
 or_later false b e = e
 
-starts : (arena : Contents) (ids : List ℕ) (last started : Bool) → (last ≡ true → started ≡ true) → ends_code arena last ids ≡ true → started_behind started (classes_of arena ids) ≡ true
+starts : (arena : Contents) (ids : List ℕ) (last started : Bool) → (last ≡ true → started ≡ true) → ends_code arena last ids ≡ true
+    → started_behind started (classes_of arena ids) ≡ true
 starts arena [] last started so e = so e
 starts arena (id ∷ ids) last started so e =
     let code : Bool = not (is_comment (item_class arena id)) in
     starts arena ids code (started || code) (λ f. or_later started code f) e
 
 pub parts_of_both : (arena : Contents) (earlier later : List ℕ) → ends_code arena false earlier ≡ true → CommentsBegin arena later
-    → parts_of arena (earlier ++ later) (classes_of arena (earlier ++ later)) ≡ parts_of arena earlier (classes_of arena earlier) ++ parts_of arena later (classes_of arena later)
+    → parts_of arena (earlier ++ later) (classes_of arena (earlier ++ later))
+    ≡ parts_of arena earlier (classes_of arena earlier) ++ parts_of arena later (classes_of arena later)
 parts_of_both arena earlier later ends begin =
     ap (parts_of arena (earlier ++ later)) (map-append (item_class arena) earlier later)
     ∙ (parts_on arena (earlier ++ later) 0 false ce cl
-    ∙ (ap (λ (ps : List Part). ps ++ parts_from arena (earlier ++ later) (0 + length ce) (started_behind false ce) cl) (parts_before arena earlier later 0 false ce (omega (arith, many)))
+    ∙ (ap (λ (ps : List Part). ps ++ parts_from arena (earlier ++ later) (0 + length ce) (started_behind false ce) cl)
+    (parts_before arena earlier later 0 false ce (omega (arith, many)))
     ∙ ap (λ (ps : List Part). parts_of arena earlier ce ++ ps) second))
   where
     ce : List TokenClass

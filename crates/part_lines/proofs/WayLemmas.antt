@@ -14,7 +14,8 @@ use Rattle.part_lines.proofs.Places.{slice_before}
 
 -- ## Longer lists
 
-pub way_longer : (n : ℕ) (earlier later : List CodeToken) (at : ℕ) (before : Before) (assigned : Bool) → Way n earlier (length earlier) at before assigned → Way n (earlier ++ later) (length earlier) at before assigned
+pub way_longer : (n : ℕ) (earlier later : List CodeToken) (at : ℕ) (before : Before) (assigned : Bool) → Way n earlier (length earlier) at before assigned
+    → Way n (earlier ++ later) (length earlier) at before assigned
 way_longer zero earlier later at before assigned way = way
 way_longer (suc n) earlier later at before assigned (inl end) = inl end
 way_longer (suc n) earlier later at before assigned (inr on) =
@@ -23,7 +24,9 @@ way_longer (suc n) earlier later at before assigned (inr on) =
     let same : slice_get earlier at ≡ slice_get all at = sym (slice_before earlier later at on.0) in
     let class : class_at earlier at ≡ class_at all at = ap class_of same in
     let P : TokenClass → Option CodeToken → Type 0 = λ c t. IsFalse (is_lost c)
-    × ((IsTrue (is_opener c) × ((partner : ℕ) × ((within at end (partner_of t) ≡ Some partner) × Way n all end (partner + 1) (behind_code assigned before c) (assigned_behind assigned c))))
+    × ((IsTrue (is_opener c)
+    × ((partner : ℕ)
+    × ((within at end (partner_of t) ≡ Some partner) × Way n all end (partner + 1) (behind_code assigned before c) (assigned_behind assigned c))))
     ⊎ (IsFalse (is_opener c) × Way n all end (at + 1) (behind_code assigned before c) (assigned_behind assigned c))) in
     let step : P (class_of (slice_get earlier at)) (slice_get earlier at) = (
       on.1.0,
@@ -40,10 +43,15 @@ way_longer (suc n) earlier later at before assigned (inr on) =
 pub record Step (tokens : List CodeToken) (end at : ℕ) (before : Before) (assigned : Bool) : Type 0 where
   pub within_list : at < end
   pub kept : is_lost (class_at tokens at) ≡ false
-  pub passed : ((is_opener (class_at tokens at) ≡ true) × ((partner : ℕ) × ((partner_in tokens end at ≡ Some partner) × WayOn tokens end (partner + 1) (behind_code assigned before (class_at tokens at)) (assigned_behind assigned (class_at tokens at)))))
-      ⊎ ((is_opener (class_at tokens at) ≡ false) × WayOn tokens end (at + 1) (behind_code assigned before (class_at tokens at)) (assigned_behind assigned (class_at tokens at)))
+  pub passed : ((is_opener (class_at tokens at) ≡ true)
+      × ((partner : ℕ)
+      × ((partner_in tokens end at ≡ Some partner) × WayOn tokens end (partner + 1) (behind_code assigned before (class_at tokens at))
+      (assigned_behind assigned (class_at tokens at)))))
+      ⊎ ((is_opener (class_at tokens at) ≡ false) × WayOn tokens end (at + 1) (behind_code assigned before (class_at tokens at))
+      (assigned_behind assigned (class_at tokens at)))
 
-pub step_of : (tokens : List CodeToken) (end at : ℕ) (before : Before) (assigned : Bool) → WayOn tokens end at before assigned → at < end → Step tokens end at before assigned
+pub step_of : (tokens : List CodeToken) (end at : ℕ) (before : Before) (assigned : Bool) → WayOn tokens end at before assigned → at < end
+    → Step tokens end at before assigned
 step_of tokens end at before assigned (zero, way) lt = absurd (let e : at ≡ end = way.0 in omega arith)
 step_of tokens end at before assigned (suc n, inl out) lt = absurd (let e : at ≡ end = out.0 in omega arith)
 step_of tokens end at before assigned (suc n, inr on) lt =
@@ -62,7 +70,8 @@ at_most tokens end at before assigned (suc n, inl out) = inl out.0
 at_most tokens end at before assigned (suc n, inr on) = inr on.0
 
 -- the list doesn't end within a declaration
-pub goes_on : (tokens : List CodeToken) (end at : ℕ) (before : Before) (assigned : Bool) → WayOn tokens end at before assigned → is_end before ≡ false → at < end
+pub goes_on : (tokens : List CodeToken) (end at : ℕ) (before : Before) (assigned : Bool) → WayOn tokens end at before assigned → is_end before ≡ false
+    → at < end
 goes_on tokens end at before assigned (zero, way) h = absurd (let e : is_end before ≡ true = way.1 in cc)
 goes_on tokens end at before assigned (suc n, inl out) h = absurd (let e : is_end before ≡ true = out.1 in cc)
 goes_on tokens end at before assigned (suc n, inr on) h = on.0
@@ -78,18 +87,22 @@ is_waiting _ = false
 pub opener_code : (assigned : Bool) (before : Before) (c : TokenClass) → is_opener c ≡ true → behind_code assigned before c ≡ behind_opener assigned before c
 opener_code assigned before c e = rw e refl
 
-pub other_code : (assigned : Bool) (before : Before) (c : TokenClass) → is_opener c ≡ false → is_semicolon c ≡ false → behind_code assigned before c ≡ (if is_plain c then Name else Other)
+pub other_code : (assigned : Bool) (before : Before) (c : TokenClass) → is_opener c ≡ false → is_semicolon c ≡ false
+    → behind_code assigned before c ≡ (if is_plain c then Name else Other)
 other_code assigned before c e s = rw (e, s) refl
 
-pub semicolon_code : (assigned : Bool) (before : Before) (c : TokenClass) → is_opener c ≡ false → is_semicolon c ≡ true → behind_code assigned before c ≡ Semicolon
+pub semicolon_code : (assigned : Bool) (before : Before) (c : TokenClass) → is_opener c ≡ false → is_semicolon c ≡ true
+    → behind_code assigned before c ≡ Semicolon
 semicolon_code assigned before c e s = rw (e, s) refl
 
-quiet_opener : (assigned : Bool) (before : Before) (c : TokenClass) → is_waiting before ≡ false → behind_opener assigned before c ≡ behind_opener assigned Other c
+quiet_opener : (assigned : Bool) (before : Before) (c : TokenClass) → is_waiting before ≡ false
+    → behind_opener assigned before c ≡ behind_opener assigned Other c
 quiet_opener assigned Name c h = cc
 quiet_opener assigned Parameters c h = cc
 quiet_opener assigned _ c h = refl
 
-unwaited : (assigned : Bool) (before : Before) (c : TokenClass) → (is_waiting before ≡ true → is_opener c ≡ false) → behind_code assigned before c ≡ behind_code assigned Other c
+unwaited : (assigned : Bool) (before : Before) (c : TokenClass) → (is_waiting before ≡ true → is_opener c ≡ false)
+    → behind_code assigned before c ≡ behind_code assigned Other c
 unwaited assigned before c h = elim (cases_Bool (is_opener c)) [
   | inr e ↦ rw e refl
   | inl e ↦
@@ -98,7 +111,8 @@ unwaited assigned before c h = elim (cases_Bool (is_opener c)) [
 ]
 
 -- where no group follows that belongs to what stands before, that doesn't matter
-pub unwaited_way : (tokens : List CodeToken) (end at : ℕ) (before : Before) (assigned : Bool) → WayOn tokens end at before assigned → at < end → (is_waiting before ≡ true → is_opener (class_at tokens at) ≡ false)
+pub unwaited_way : (tokens : List CodeToken) (end at : ℕ) (before : Before) (assigned : Bool) → WayOn tokens end at before assigned → at < end
+    → (is_waiting before ≡ true → is_opener (class_at tokens at) ≡ false)
     → WayOn tokens end at Other assigned
 unwaited_way tokens end at before assigned way lt h =
     let s = step_of tokens end at before assigned way lt in
@@ -119,4 +133,5 @@ pub record EndsBeforeWord (tokens : List CodeToken) (end whole : ℕ) : Type 0 w
   pub order : end ≤ whole
   pub all : whole ≡ length tokens
   pub word : is_word (class_at tokens end) ≡ true
-  pub paired : (i p : ℕ) → is_open_round (class_at tokens i) ≡ true → partner_in tokens end i ≡ Some p → (is_close_round (class_at tokens p) ≡ true) × (partner_of (slice_get tokens p) ≡ Some i)
+  pub paired : (i p : ℕ) → is_open_round (class_at tokens i) ≡ true → partner_in tokens end i ≡ Some p
+      → (is_close_round (class_at tokens p) ≡ true) × (partner_of (slice_get tokens p) ≡ Some i)

@@ -27,15 +27,18 @@ pub record IsWindow (n : ℕ) (whole tokens : List CodeToken) : Type 0 where
 
 -- ## Such tokens
 
-moved : (n : ℕ) (tokens later : List CodeToken) (i : ℕ) → i < length tokens → slice_get (map (token_behind n) tokens ++ later) i ≡ option_map (token_behind n) (slice_get tokens i)
-moved n tokens later i inside = slice_before (map (token_behind n) tokens) later i (omega (arith, inside, length-map tokens (token_behind n))) ∙ slice_get-map (token_behind n) tokens i
+moved : (n : ℕ) (tokens later : List CodeToken) (i : ℕ) → i < length tokens
+    → slice_get (map (token_behind n) tokens ++ later) i ≡ option_map (token_behind n) (slice_get tokens i)
+moved n tokens later i inside = slice_before (map (token_behind n) tokens) later i (omega (arith, inside, length-map tokens (token_behind n)))
+    ∙ slice_get-map (token_behind n) tokens i
 
 behind_moved : (n : ℕ) (tokens later : List CodeToken) → slice_get (map (token_behind n) tokens ++ later) (length tokens) ≡ slice_get later 0
 behind_moved n tokens later =
     ap (slice_get (map (token_behind n) tokens ++ later)) (sym (length-map tokens (token_behind n))) ∙ slice_at_seam (map (token_behind n) tokens) later
 
 -- as many as the first and these, and more
-moved_count : (earlier tokens later : List CodeToken) → length (earlier ++ (map (token_behind (length earlier)) tokens ++ later)) ≡ length earlier + (length tokens + length later)
+moved_count : (earlier tokens later : List CodeToken)
+    → length (earlier ++ (map (token_behind (length earlier)) tokens ++ later)) ≡ length earlier + (length tokens + length later)
 moved_count earlier tokens later =
     let n : ℕ = length earlier in
     let rest : List CodeToken = map (token_behind (length earlier)) tokens ++ later in
@@ -59,7 +62,8 @@ ends_behind earlier tokens [] (inr word) = absurd word
 ends_behind earlier tokens (token ∷ later) (inr word) =
     let n : ℕ = length earlier in
     let rest : List CodeToken = map (token_behind n) tokens ++ (token ∷ later) in
-    let found : slice_get (earlier ++ rest) (n + length tokens) ≡ Some token = slice_behind earlier rest (length tokens) ∙ behind_moved n tokens (token ∷ later) in
+    let found : slice_get (earlier ++ rest) (n + length tokens) ≡ Some token = slice_behind earlier rest (length tokens)
+    ∙ behind_moved n tokens (token ∷ later) in
     let parts = and_parts (is_word token.class) token.began word in
     let began : began_at (earlier ++ rest) (n + length tokens) ≡ true = ap began_of found ∙ parts.1 in
     let is : is_word (class_at (earlier ++ rest) (n + length tokens)) ≡ true = ap (λ (o : Option CodeToken). is_word (class_of o)) found ∙ parts.0 in
@@ -112,25 +116,30 @@ class_there {n} {tokens = tokens} w i inside = ap class_of (w.there i inside) �
 pub began_there : {n : ℕ} {whole tokens : List CodeToken} → IsWindow n whole tokens → (i : ℕ) → i < length tokens → began_at whole (n + i) ≡ began_at tokens i
 began_there {n} {tokens = tokens} w i inside = ap began_of (w.there i inside) ∙ began_moved n (slice_get tokens i)
 
-pub touched_there : {n : ℕ} {whole tokens : List CodeToken} → IsWindow n whole tokens → (i : ℕ) → i < length tokens → touched_at whole (n + i) ≡ touched_at tokens i
+pub touched_there : {n : ℕ} {whole tokens : List CodeToken} → IsWindow n whole tokens → (i : ℕ) → i < length tokens
+    → touched_at whole (n + i) ≡ touched_at tokens i
 touched_there {n} {tokens = tokens} w i inside = ap touched_of (w.there i inside) ∙ touched_moved n (slice_get tokens i)
 
 pub partner_there : {n : ℕ} {whole tokens : List CodeToken} → IsWindow n whole tokens → (i : ℕ) → i < length tokens
     → partner_of (slice_get whole (n + i)) ≡ partner_behind n (partner_of (slice_get tokens i))
 partner_there {n} {tokens = tokens} w i inside = ap partner_of (w.there i inside) ∙ partner_moved n (slice_get tokens i)
 
-pub missing_there : {n : ℕ} {whole tokens : List CodeToken} → IsWindow n whole tokens → (i : ℕ) → i < length tokens → has_no_partner whole (n + i) ≡ has_no_partner tokens i
+pub missing_there : {n : ℕ} {whole tokens : List CodeToken} → IsWindow n whole tokens → (i : ℕ) → i < length tokens
+    → has_no_partner whole (n + i) ≡ has_no_partner tokens i
 missing_there {n} {tokens = tokens} w i inside = ap is_missing (partner_there w i inside) ∙ missing_moved n (partner_of (slice_get tokens i))
 
 -- of a list that ends among them
-pub seen_there : {n : ℕ} {whole tokens : List CodeToken} → IsWindow n whole tokens → (end i : ℕ) → end ≤ length tokens → seen whole (n + end) (n + i) ≡ seen tokens end i
+pub seen_there : {n : ℕ} {whole tokens : List CodeToken} → IsWindow n whole tokens → (end i : ℕ) → end ≤ length tokens
+    → seen whole (n + end) (n + i) ≡ seen tokens end i
 seen_there {n} {whole} {tokens} w end i most =
     ap (λ (b : Bool). elim b as (λ _. TokenClass) [ true ↦ class_at whole (n + i) | false ↦ Nothing ]) (lt_there n i end)
     ∙ by (cases_lt i end)
   where
     by : (i < end) ⊎ (end ≤ i) → (elim (nat_lt i end) as (λ _. TokenClass) [ true ↦ class_at whole (n + i) | false ↦ Nothing ]) ≡ seen tokens end i
-    by (inl less) = ap (λ (c : TokenClass). elim (nat_lt i end) as (λ _. TokenClass) [ true ↦ c | false ↦ Nothing ]) (class_there w i (omega (arith, less, most)))
-    by (inr past) = at_false (nat_lt i end) (class_at whole (n + i)) Nothing (le-ltb i end past) ∙ sym (at_false (nat_lt i end) (class_at tokens i) Nothing (le-ltb i end past))
+    by (inl less) = ap (λ (c : TokenClass). elim (nat_lt i end) as (λ _. TokenClass) [ true ↦ c | false ↦ Nothing ])
+        (class_there w i (omega (arith, less, most)))
+    by (inr past) = at_false (nat_lt i end) (class_at whole (n + i)) Nothing (le-ltb i end past)
+        ∙ sym (at_false (nat_lt i end) (class_at tokens i) Nothing (le-ltb i end past))
 
 within_there : (n i end : ℕ) (partner : Option ℕ) → within (n + i) (n + end) (partner_behind n partner) ≡ partner_behind n (within i end partner)
 within_there n i end None = refl
@@ -140,7 +149,8 @@ within_there n i end (Some p) =
     (λ _. refl)
     (λ _. refl)
 
-pub partner_in_there : {n : ℕ} {whole tokens : List CodeToken} → IsWindow n whole tokens → (end i : ℕ) → end ≤ length tokens → partner_in whole (n + end) (n + i) ≡ partner_behind n (partner_in tokens end i)
+pub partner_in_there : {n : ℕ} {whole tokens : List CodeToken} → IsWindow n whole tokens → (end i : ℕ) → end ≤ length tokens
+    → partner_in whole (n + end) (n + i) ≡ partner_behind n (partner_in tokens end i)
 partner_in_there {n} {whole} {tokens} w end i most = by (cases_lt i end)
   where
     by : (i < end) ⊎ (end ≤ i) → partner_in whole (n + end) (n + i) ≡ partner_behind n (partner_in tokens end i)
@@ -159,19 +169,24 @@ partner_or_there : (n otherwise : ℕ) (partner : Option ℕ) → partner_or (n 
 partner_or_there n otherwise None = refl
 partner_or_there n otherwise (Some p) = refl
 
-pub group_there : {n : ℕ} {whole tokens : List CodeToken} → IsWindow n whole tokens → (end i : ℕ) → end ≤ length tokens → after_group whole (n + end) (n + i) ≡ n + after_group tokens end i
+pub group_there : {n : ℕ} {whole tokens : List CodeToken} → IsWindow n whole tokens → (end i : ℕ) → end ≤ length tokens
+    → after_group whole (n + end) (n + i) ≡ n + after_group tokens end i
 group_there {n} {whole} {tokens} w end i most =
-    choose (λ (x : ℕ). n + x) (is_open_round (seen whole (n + end) (n + i))) (is_open_round (seen tokens end i)) (behind_partner i (partner_in tokens end i)) i (behind_partner (n + i) (partner_in whole (n + end) (n + i))) (n + i)
+    choose (λ (x : ℕ). n + x) (is_open_round (seen whole (n + end) (n + i))) (is_open_round (seen tokens end i)) (behind_partner i (partner_in tokens end i)) i
+    (behind_partner (n + i) (partner_in whole (n + end) (n + i))) (n + i)
     (ap is_open_round (seen_there w end i most))
     (λ _. ap (behind_partner (n + i)) (partner_in_there w end i most) ∙ behind_partner_there n i (partner_in tokens end i))
     (λ _. refl)
 
-pub block_there : {n : ℕ} {whole tokens : List CodeToken} → IsWindow n whole tokens → (end i : ℕ) → end ≤ length tokens → block_end whole (n + end) (n + i) ≡ n + block_end tokens end i
+pub block_there : {n : ℕ} {whole tokens : List CodeToken} → IsWindow n whole tokens → (end i : ℕ) → end ≤ length tokens
+    → block_end whole (n + end) (n + i) ≡ n + block_end tokens end i
 block_there {n} {whole} {tokens} w end i most = ap (partner_or (n + end)) (partner_in_there w end i most) ∙ partner_or_there n end (partner_in tokens end i)
 
-step_there : {n : ℕ} {whole tokens : List CodeToken} → IsWindow n whole tokens → (end i : ℕ) → end ≤ length tokens → i < end → step_over whole (n + end) (n + i) ≡ n + step_over tokens end i
+step_there : {n : ℕ} {whole tokens : List CodeToken} → IsWindow n whole tokens → (end i : ℕ) → end ≤ length tokens → i < end
+    → step_over whole (n + end) (n + i) ≡ n + step_over tokens end i
 step_there {n} {whole} {tokens} w end i most inside =
-    choose (λ (x : ℕ). n + x) (is_opener (class_at whole (n + i))) (is_opener (class_at tokens i)) (behind_partner end (partner_in tokens end i)) (i + 1) (behind_partner (n + end) (partner_in whole (n + end) (n + i))) (n + i + 1)
+    choose (λ (x : ℕ). n + x) (is_opener (class_at whole (n + i))) (is_opener (class_at tokens i)) (behind_partner end (partner_in tokens end i)) (i + 1)
+    (behind_partner (n + end) (partner_in whole (n + end) (n + i))) (n + i + 1)
     (ap is_opener (class_there w i (omega arith)))
     (λ _. ap (behind_partner (n + end)) (partner_in_there w end i most) ∙ behind_partner_there n end (partner_in tokens end i))
     (λ _. omega arith)
@@ -191,7 +206,8 @@ colon_there {n} {whole} {tokens} w (suc fuel) end i asked most =
     (λ _. next (asked + 1))
     (λ _. choose (λ (x : ℕ). n + x) (is_colon (class_at whole (n + i))) (is_colon (class_at tokens i)) _ _ _ _ (ap is_colon (class_there w i (omega arith)))
     (λ _. choose (λ (x : ℕ). n + x) (nat_lt 0 asked) (nat_lt 0 asked) _ i _ (n + i) refl (λ _. next (asked - 1)) (λ _. refl))
-    (λ _. ap (λ (j : ℕ). case_colon fuel whole (n + end) j asked) (step_there w end i most inside) ∙ colon_there w fuel end (step_over tokens end i) asked most)))
+    (λ _. ap (λ (j : ℕ). case_colon fuel whole (n + end) j asked) (step_there w end i most inside)
+    ∙ colon_there w fuel end (step_over tokens end i) asked most)))
     (λ _. refl)
 
 pub enumerator_there : {n : ℕ} {whole tokens : List CodeToken} → IsWindow n whole tokens → (fuel end i : ℕ) → end ≤ length tokens
@@ -200,7 +216,8 @@ enumerator_there w zero end i most = refl
 enumerator_there {n} {whole} {tokens} w (suc fuel) end i most =
     choose (λ (x : ℕ). n + x) (nat_lt (n + i) (n + end)) (nat_lt i end) _ end _ (n + end) (lt_there n i end)
     (λ less. let inside : i < end = ltb-true i end less in
-    choose (λ (x : ℕ). n + x) (is_comma (class_at whole (n + i))) (is_comma (class_at tokens i)) (i + 1) _ (n + i + 1) _ (ap is_comma (class_there w i (omega arith)))
+    choose (λ (x : ℕ). n + x) (is_comma (class_at whole (n + i))) (is_comma (class_at tokens i)) (i + 1) _ (n + i + 1) _
+    (ap is_comma (class_there w i (omega arith)))
     (λ _. omega arith)
     (λ _. ap (enumerator_end fuel whole (n + end)) (step_there w end i most inside) ∙ enumerator_there w fuel end (step_over tokens end i) most))
     (λ _. refl)
@@ -208,7 +225,8 @@ enumerator_there {n} {whole} {tokens} w (suc fuel) end i most =
 -- ## Statements
 
 -- the first of the tokens has one before it, which opens no list either
-pub list_there : {n : ℕ} {whole tokens : List CodeToken} → IsWindow n whole tokens → (assigned : Bool) (i : ℕ) → i < length tokens → opens_list whole assigned (n + i) ≡ opens_list tokens assigned i
+pub list_there : {n : ℕ} {whole tokens : List CodeToken} → IsWindow n whole tokens → (assigned : Bool) (i : ℕ) → i < length tokens
+    → opens_list whole assigned (n + i) ≡ opens_list tokens assigned i
 list_there {n} {whole} w assigned zero inside =
     let none : n + zero ≡ n = omega arith in
     ap (opens_list whole assigned) none ∙ rw (w.list, w.closes) refl
@@ -217,13 +235,16 @@ list_there {n} {whole} {tokens} w assigned (suc i) inside =
     let one : suc i - 1 ≡ i = omega arith in
     let before : class_before whole (n + suc i) ≡ class_before tokens (suc i) =
     at_true (nat_lt 0 (n + suc i)) (class_at whole (n + suc i - 1)) Nothing (lt-ltb 0 (n + suc i) (omega arith))
-    ∙ (ap (class_at whole) less ∙ (class_there w i (omega arith) ∙ (sym (ap (class_at tokens) one) ∙ sym (at_true (nat_lt 0 (suc i)) (class_at tokens (suc i - 1)) Nothing (lt-ltb 0 (suc i) (omega arith)))))) in
+    ∙ (ap (class_at whole) less
+    ∙ (class_there w i (omega arith)
+    ∙ (sym (ap (class_at tokens) one) ∙ sym (at_true (nat_lt 0 (suc i)) (class_at tokens (suc i - 1)) Nothing (lt-ltb 0 (suc i) (omega arith)))))) in
     ap (λ (c : TokenClass). is_before_list c || (is_close_round c && assigned)) before
 
 abbrev pub stop_behind : ℕ → Stop → Stop
 stop_behind n stop = record { at = n + stop.at; opens = stop.opens; assigned = stop.assigned }
 
-opens_there : {n : ℕ} {whole tokens : List CodeToken} → IsWindow n whole tokens → (assigned : Bool) (i : ℕ) → i < length tokens → opens_block whole assigned (n + i) ≡ opens_block tokens assigned i
+opens_there : {n : ℕ} {whole tokens : List CodeToken} → IsWindow n whole tokens → (assigned : Bool) (i : ℕ) → i < length tokens
+    → opens_block whole assigned (n + i) ≡ opens_block tokens assigned i
 opens_there {n} {whole} {tokens} w assigned i inside =
     ap (λ (c : TokenClass). is_open_brace c && not (opens_list whole assigned (n + i))) (class_there w i inside)
     ∙ ap (λ (b : Bool). is_open_brace (class_at tokens i) && not b) (list_there w assigned i inside)
@@ -284,15 +305,18 @@ behind_low first i (Some p) = keep (nat_lt first p) (nat_lt p i) refl
 called : List CodeToken → ℕ → ℕ
 called tokens o = elim (nat_lt 0 o && is_call_word (class_at tokens (o - 1))) as (λ _. ℕ) [ true ↦ o | false ↦ 0 ]
 
-called_there : {n : ℕ} {whole tokens : List CodeToken} → IsWindow n whole tokens → (o : ℕ) → o ≤ length tokens → called whole (opener_behind n o) ≡ opener_behind n (called tokens o)
+called_there : {n : ℕ} {whole tokens : List CodeToken} → IsWindow n whole tokens → (o : ℕ) → o ≤ length tokens
+    → called whole (opener_behind n o) ≡ opener_behind n (called tokens o)
 unfolding called opener_behind
 called_there w zero most = refl
 called_there {n} {whole} {tokens} w (suc k) most =
     let back : n + suc k - 1 ≡ n + k = omega arith in
     let one : suc k - 1 ≡ k = omega arith in
-    let same : class_at whole (n + suc k - 1) ≡ class_at tokens (suc k - 1) = ap (class_at whole) back ∙ (class_there w k (omega arith) ∙ sym (ap (class_at tokens) one)) in
+    let same : class_at whole (n + suc k - 1) ≡ class_at tokens (suc k - 1) = ap (class_at whole) back
+    ∙ (class_there w k (omega arith) ∙ sym (ap (class_at tokens) one)) in
     ap (called whole) (opener_some n (suc k) (omega arith))
-    ∙ choose (opener_behind n) (nat_lt 0 (n + suc k) && is_call_word (class_at whole (n + suc k - 1))) (nat_lt 0 (suc k) && is_call_word (class_at tokens (suc k - 1))) (suc k) 0 (n + suc k) 0
+    ∙ choose (opener_behind n) (nat_lt 0 (n + suc k) && is_call_word (class_at whole (n + suc k - 1)))
+    (nat_lt 0 (suc k) && is_call_word (class_at tokens (suc k - 1))) (suc k) 0 (n + suc k) 0
     (rw (lt-ltb 0 (n + suc k) (omega arith), lt-ltb 0 (suc k) (omega arith)) (ap is_call_word same))
     (λ _. sym (opener_some n (suc k) (omega arith)))
     (λ _. refl)
@@ -305,17 +329,20 @@ called_low tokens o most low = keep (nat_lt 0 o && is_call_word (class_at tokens
     keep true = low
     keep false = omega arith
 
-call_there : {n : ℕ} {whole tokens : List CodeToken} → IsWindow n whole tokens → (first i : ℕ) → 0 < i → i ≤ length tokens → call_opener whole (n + first) (n + i) ≡ opener_behind n (call_opener tokens first i)
+call_there : {n : ℕ} {whole tokens : List CodeToken} → IsWindow n whole tokens → (first i : ℕ) → 0 < i → i ≤ length tokens
+    → call_opener whole (n + first) (n + i) ≡ opener_behind n (call_opener tokens first i)
 unfolding called opener_behind
 call_there {n} {whole} {tokens} w first i some most =
     let back : n + i - 1 ≡ n + (i - 1) = omega arith in
     let partner : partner_of (slice_get whole (n + i - 1)) ≡ partner_behind n (partner_of (slice_get tokens (i - 1))) =
     ap (λ (k : ℕ). partner_of (slice_get whole k)) back ∙ partner_there w (i - 1) (omega arith) in
-    let opener : behind (n + first) (n + i - 1) (partner_of (slice_get whole (n + i - 1))) ≡ opener_behind n (behind first (i - 1) (partner_of (slice_get tokens (i - 1)))) =
+    let opener : behind (n + first) (n + i - 1) (partner_of (slice_get whole (n + i - 1))) ≡ opener_behind n
+    (behind first (i - 1) (partner_of (slice_get tokens (i - 1)))) =
     ap (λ (k : ℕ). behind (n + first) k (partner_of (slice_get whole (n + i - 1)))) back
     ∙ (ap (behind (n + first) (n + (i - 1))) partner ∙ behind_there n first (i - 1) (partner_of (slice_get tokens (i - 1)))) in
     let low = behind_low first (i - 1) (partner_of (slice_get tokens (i - 1))) in
-    choose (opener_behind n) (is_close_round (class_at whole (n + i - 1))) (is_close_round (class_at tokens (i - 1))) (called tokens (behind first (i - 1) (partner_of (slice_get tokens (i - 1))))) 0
+    choose (opener_behind n) (is_close_round (class_at whole (n + i - 1))) (is_close_round (class_at tokens (i - 1)))
+    (called tokens (behind first (i - 1) (partner_of (slice_get tokens (i - 1))))) 0
     (called whole (behind (n + first) (n + i - 1) (partner_of (slice_get whole (n + i - 1))))) 0
     (ap (λ (k : ℕ). is_close_round (class_at whole k)) back ∙ ap is_close_round (class_there w (i - 1) (omega arith)))
     (λ _. ap (called whole) opener ∙ called_there w (behind first (i - 1) (partner_of (slice_get tokens (i - 1)))) (omega (arith, low)))
@@ -347,7 +374,8 @@ tag_there {n} {whole} {tokens} w (suc fuel) first i found most =
     (λ _. ap (λ (k : ℕ). tag_before fuel whole (n + first) k (enum_or (class_at whole (n + i - 1)) found)) back
     ∙ (ap (λ (c : TokenClass). tag_before fuel whole (n + first) (n + (i - 1)) (enum_or c found)) same
     ∙ tag_there w fuel first (i - 1) (enum_or (class_at tokens (i - 1)) found) (omega arith)))
-    (λ _. chosen (nat_lt 0 (call_opener whole (n + first) (n + i))) (nat_lt 0 (call_opener tokens first i)) _ _ _ _ (ap (nat_lt 0) opener ∙ is_some_there n (call_opener tokens first i))
+    (λ _. chosen (nat_lt 0 (call_opener whole (n + first) (n + i))) (nat_lt 0 (call_opener tokens first i)) _ _ _ _
+    (ap (nat_lt 0) opener ∙ is_some_there n (call_opener tokens first i))
     (λ some. let is : 0 < call_opener tokens first i = ltb-true 0 (call_opener tokens first i) some in
     ap (λ (k : ℕ). tag_before fuel whole (n + first) k found) (opener ∙ opener_some n (call_opener tokens first i) is)
     ∙ tag_there w fuel first (call_opener tokens first i) found (omega (arith, low)))
