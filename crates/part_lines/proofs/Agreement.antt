@@ -64,7 +64,8 @@ behind_agrees walk before class code agrees =
   where
     by_bits : (opener semicolon comment plain : Bool) → comment ≡ false → Agrees (behind_opener walk.assigned before class) (behind_group walk class)
         → Agrees (if opener then behind_opener walk.assigned before class else (if semicolon then Semicolon else (if plain then Name else Other)))
-        (if opener then behind_group walk class else (if semicolon then Semicolon else (if comment && is_between walk.before then Between else (if plain then Name else Other))))
+        (if opener then behind_group walk class
+        else (if semicolon then Semicolon else (if comment && is_between walk.before then Between else (if plain then Name else Other))))
     by_bits true semicolon comment plain code group = group
     by_bits false true comment plain code group = inl refl
     by_bits false false true plain code group = absurd (never (sym code))

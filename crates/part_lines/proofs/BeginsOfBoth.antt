@@ -199,15 +199,20 @@ new_same whole tree k part parts later m same ends =
     (begins_line part parts m) k whole.end_level tree.end_level (slice_get whole.lines m.begun) (slice_get tree.lines m.begun)
     same.between (begins_on part parts later m ends) same.here
 
+-- the marks behind a token
+abbrev past_marks : ℕ → ℕ → Bool → Marks
+past_marks seen begun between = record { seen = seen + 1; begun = elim between as (λ _. ℕ) [ true ↦ begun + 1 | false ↦ begun ]; run = Apart }
+
 next_same : (whole tree : Tree) (part : Part) (parts later : List Part) (m : Marks) → is_between whole m ≡ is_between tree m
     → ends_token (is_token part) parts ≡ true → next_marks whole part (parts ++ later) m ≡ next_marks tree part parts m
 next_same whole tree Token parts later m between ends =
-    ap (λ (b : Bool). record { seen = m.seen + 1; begun = elim b as (λ _. ℕ) [ true ↦ m.begun + 1 | false ↦ m.begun ]; run = Apart }) between
+    ap (past_marks m.seen m.begun) between
 next_same whole tree Own parts later m between ends = refl
 next_same whole tree Trailing parts later m between ends = refl
 next_same whole tree Inner parts later m between ends =
     ap (λ (b : Bool). record { seen = m.seen; begun = m.begun; run = inner_run b (parts ++ later) m.run }) between
-    ∙ ap (λ (f : Bool). record { seen = m.seen; begun = m.begun; run = elim (is_between tree m && is_apart m.run) as (λ _. Run) [ true ↦ run_of f | false ↦ m.run ] }) (token_follows_on parts later ends)
+    ∙ ap (λ (f : Bool). record m { run = elim (is_between tree m && is_apart m.run) as (λ _. Run) [ true ↦ run_of f | false ↦ m.run ] })
+    (token_follows_on parts later ends)
 
 -- what is left behind an item
 record LeftOn (tree : Tree) (m : Marks) : Type 0 where
@@ -218,7 +223,7 @@ record LeftOn (tree : Tree) (m : Marks) : Type 0 where
 
 past_token : (tree : Tree) (m : Marks) (done lines : List Line) (at : ℕ) (between : Bool) → Left tree m done lines at → m.seen < tree.total
     → is_between tree m ≡ between
-    → LeftOn tree (record { seen = m.seen + 1; begun = elim between as (λ _. ℕ) [ true ↦ m.begun + 1 | false ↦ m.begun ]; run = Apart })
+    → LeftOn tree (past_marks m.seen m.begun between)
 past_token tree m done [] at true left more is =
     never (is_between tree m) (ap (between_at tree.total m.seen) (found_left tree m done [] at left) ∙ le_false m.seen tree.total more) is
 past_token tree m done (l ∷ lines) at true left more is =
@@ -393,9 +398,7 @@ new_there n count early whole tree k part parts m follows =
     (level_there count whole.end_level found ∙ ap (λ (l : ℕ). own_level l found) follows.level)
     ∙ made_there (is_between tree m) (is_own part) (begins_line part parts m) count n k (own_level tree.end_level found) found)))
 
-marks_on : (count lines : ℕ) (between : Bool) (m : Marks)
-    → record { seen = count + m.seen + 1; begun = elim between as (λ _. ℕ) [ true ↦ lines + m.begun + 1 | false ↦ lines + m.begun ]; run = Apart }
-    ≡ marks_there count lines (record { seen = m.seen + 1; begun = elim between as (λ _. ℕ) [ true ↦ m.begun + 1 | false ↦ m.begun ]; run = Apart })
+marks_on : (count lines : ℕ) (between : Bool) (m : Marks) → past_marks (count + m.seen) (lines + m.begun) between ≡ marks_there count lines (past_marks m.seen m.begun between)
 marks_on count lines true m =
     let seen : count + m.seen + 1 ≡ count + (m.seen + 1) = omega arith in
     let begun : lines + m.begun + 1 ≡ lines + (m.begun + 1) = omega arith in
@@ -408,7 +411,7 @@ marks_on count lines false m =
 next_there : (count : ℕ) (early : List Line) (whole tree : Tree) (part : Part) (parts : List Part) (m : Marks) → Follows count early whole tree
     → next_marks whole part parts (marks_there count (length early) m) ≡ marks_there count (length early) (next_marks tree part parts m)
 next_there count early whole tree Token parts m follows =
-    ap (λ (b : Bool). record { seen = count + m.seen + 1; begun = elim b as (λ _. ℕ) [ true ↦ length early + m.begun + 1 | false ↦ length early + m.begun ]; run = Apart }) (is_between_there count early whole tree m follows)
+    ap (past_marks (count + m.seen) (length early + m.begun)) (is_between_there count early whole tree m follows)
     ∙ marks_on count (length early) (is_between tree m) m
 next_there count early whole tree Own parts m follows = refl
 next_there count early whole tree Trailing parts m follows = refl

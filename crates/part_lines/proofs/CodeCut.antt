@@ -21,14 +21,13 @@ use Rattle.part_lines.specs.Cut.{partner_behind, partners_in}
 -- ## Behind so many tokens
 
 abbrev pub token_behind : ℕ → CodeToken → CodeToken
-token_behind count token = record { class = token.class; began = token.began; touched = token.touched; partner = partner_behind count token.partner }
+token_behind count token = record token { partner = partner_behind count token.partner }
 
 abbrev pub code_line_behind : ℕ → Line → Line
-code_line_behind count line = record { first = count + line.first; end = count + line.end; level = line.level; kind = line.kind; list_level = line.list_level }
+code_line_behind count line = record line { first = count + line.first; end = count + line.end }
 
 abbrev pub open_behind : ℕ → Open → Open
-open_behind count list =
-    record { block = list.block; context = list.context; level = list.level; case_level = list.case_level; end = count + list.end; head = list.head; head_level = list.head_level; assigned = list.assigned }
+open_behind count list = record list { end = count + list.end }
 
 abbrev pub start_behind : ℕ → Start → Start
 start_behind count Fresh = Fresh
@@ -103,5 +102,4 @@ code_of arena ids = code_tokens arena ids (classes_of arena ids) (partners_in ar
 
 -- the list of a file whose tokens end at a place
 abbrev pub file_up_to : ℕ → Open
-file_up_to end =
-    record { block = true; context = (whole_file []).context; level = 0; case_level = 0; end = end; head = (whole_file []).head; head_level = 0; assigned = false }
+file_up_to end = record (whole_file []) { end = end }

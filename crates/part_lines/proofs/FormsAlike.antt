@@ -4,7 +4,7 @@ use Rattle.std.proofs.lemmas.Bool.{and_parts, and_left, or_cases, cases_Bool, ca
 use Rattle.token_classes.specs.declared.class.TokenClass.{TokenClass}
 use Rattle.token_classes.specs.declared.class.TokenClass.TheVariants.{Nothing, OpenRound, OpenSquare, OpenBrace, CloseBrace, CapitalWord, PlainWord, Extern, Text, Semicolon as SemicolonClass}
 use Rattle.token_classes.specs.Classes.{is_word, is_plain, is_capital, is_opener, is_struct, is_union, is_enum, is_extern, is_open_round, is_open_brace, is_close_brace, is_semicolon, is_text, is_control, is_case, is_default, is_else, is_colon}
-use Rattle.line_tokens.specs.declared.line.LineKind.TheVariants.{Simple, ExternHead, Brace, Close, MacroLine}
+use Rattle.line_tokens.specs.declared.line.LineKind.TheVariants.{ExternHead, Brace, Close, MacroLine}
 use Rattle.view_parts.specs.declared.walk.Before.{Before}
 use Rattle.view_parts.specs.declared.walk.Before.TheVariants.{Name, Parameters, Semicolon, Body, Other}
 use Rattle.view_parts.specs.Walk.{is_end}
@@ -19,7 +19,7 @@ use Rattle.unwrapped_lines.specs.declared.form.Next.{Next}
 use Rattle.unwrapped_lines.specs.declared.form.Next.TheVariants.{Ends, Goes, Waits, Opens}
 use Rattle.unwrapped_lines.specs.declared.form.Form.{Form}
 use Rattle.unwrapped_lines.specs.declared.form.Stop.{Stop}
-use Rattle.unwrapped_lines.specs.Forms.{class_at, seen, partner_in, behind_partner, partner_or, after_group, block_end, statement_stop, tag_before, began_at, behind_close, kind_or_close, tagged_kind, wraps_tagged, tagged_context, tagged_head, ends_macro, macro_end, other_form, case_colon, has_no_partner, label, tail_end, unlabelled, statement, is_tagged, is_do_head, is_if_head, close_form, form_of}
+use Rattle.unwrapped_lines.specs.Forms.{class_at, seen, partner_in, behind_partner, partner_or, after_group, block_end, statement_stop, tag_before, began_at, behind_close, tagged_head, ends_macro, macro_end, other_form, case_colon, has_no_partner, label, tail_end, unlabelled, statement, is_tagged, is_do_head, is_if_head, close_form, form_of}
 use Rattle.part_lines.proofs.CodeCut.{behind_opener, assigned_behind, file_up_to, WayOn}
 use Rattle.part_lines.proofs.WayLemmas.{EndsBeforeWord, step_of, at_most, goes_on, is_waiting, unwaited_way, opener_code, other_code, semicolon_code}
 use Rattle.part_lines.proofs.StopsAlike.{StopAlike, stop_alike, semicolon_opens, brace_opens}
@@ -27,6 +27,7 @@ use Rattle.part_lines.proofs.Choices.{either, at_true, at_false}
 use Rattle.part_lines.proofs.PartnerPlaces.{partner_place, partner_longer}
 use Rattle.unwrapped_lines.specs.declared.open.Context.TheVariants.{File, Code}
 use Rattle.part_lines.proofs.FormsReach.{seen_class}
+use Rattle.part_lines.proofs.FormsOfLines.{opened_line, closed_line, stopped}
 
 -- ## Where a line begins
 
@@ -223,22 +224,6 @@ closing tokens end b i p before told e found way imply heads =
 
 -- ## Statements
 
-abbrev opened_line : Braces → Bool → ℕ → TokenClass → Stop → ℕ → Form
-opened_line braces closes level tag s end = record {
-  kind = kind_or_close closes (tagged_kind tag);
-  level = level;
-  end = s.at;
-  next = Opens (wraps_tagged braces tag)
-      (record { block = true; context = tagged_context tag; level = level + 1; case_level = level + 1; end = end; head = tagged_head tag; head_level = level; assigned = s.assigned });
-}
-
-abbrev stopped : Braces → List CodeToken → ℕ → Bool → ℕ → ℕ → Stop → Form
-stopped braces tokens end closes level from s =
-    elim s.opens [
-      | true ↦ opened_line braces closes level (tag_before (s.at - from) tokens from s.at Nothing) s (block_end tokens end s.at)
-      | false ↦ record { kind = kind_or_close closes Simple; level = level; end = s.at; next = Ends }
-    ]
-
 heads_of : (tag : TokenClass) (before : Before) → before ≡ Other
     → ((tagged_head tag ≡ Plain) × ((before ≡ Body) ⊎ (before ≡ Other))) ⊎ ((tagged_head tag ≡ Tagged) × (before ≡ Other))
 heads_of tag before e =
@@ -248,19 +233,20 @@ heads_of tag before e =
 
 stopped_alike : (braces : Braces) (tokens : List CodeToken) (end whole : ℕ) (closes : Bool) (level from : ℕ) (s t : Stop) → EndsBeforeWord tokens end whole
     → StopAlike tokens end from s t
-    → IsAlike tokens end (stopped braces tokens end closes level from s) (stopped braces tokens whole closes level from t)
+    → IsAlike tokens end (stopped braces closes level (tag_before (s.at - from) tokens from s.at Nothing) s (block_end tokens end s.at))
+    (stopped braces closes level (tag_before (t.at - from) tokens from t.at Nothing) t (block_end tokens whole t.at))
 stopped_alike braces tokens end whole closes level from s t ends stop =
     let Q : Form → Form → Type 0 = IsAlike tokens end in
     let tag = tag_before (s.at - from) tokens from s.at Nothing in
-    subst (λ (x : Stop). IsAlike tokens end (stopped braces tokens end closes level from s) (stopped braces tokens whole closes level from x)) stop.same
-    (both Q s.opens s.opens (opened_line braces closes level tag s (block_end tokens end s.at))
-    (record { kind = kind_or_close closes Simple; level = level; end = s.at; next = Ends })
-    (opened_line braces closes level tag s (block_end tokens whole s.at))
-    (record { kind = kind_or_close closes Simple; level = level; end = s.at; next = Ends }) refl
+    let line : ℕ → Form = opened_line braces closes level tag s in
+    let closed : Form = closed_line closes level s in
+    subst (λ (x : Stop). IsAlike tokens end (stopped braces closes level tag s (block_end tokens end s.at))
+    (stopped braces closes level (tag_before (x.at - from) tokens from x.at Nothing) x (block_end tokens whole x.at))) stop.same
+    (both Q s.opens s.opens (line (block_end tokens end s.at)) closed (line (block_end tokens whole s.at)) closed refl
     (λ e.
     let o = stop.opens e in
     record {
-      same = ap (opened_line braces closes level tag s) (blocks_alike tokens end whole s.at o.partner ends.order o.found);
+      same = ap line (blocks_alike tokens end whole s.at o.partner ends.order o.found);
       leaves = closing tokens end _ s.at o.partner o.before o.told refl o.found o.way o.imply (elim o.behind_it [
         | inl other ↦ heads_of tag o.before other
         | inr body ↦ inl (ap tagged_head (body.1 (s.at - from) (omega arith)), inl body.0)

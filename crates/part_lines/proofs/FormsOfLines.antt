@@ -18,7 +18,7 @@ use Rattle.unwrapped_lines.specs.declared.form.Next.TheVariants.{Ends, Goes, Wai
 use Rattle.unwrapped_lines.specs.declared.form.Form.{Form}
 use Rattle.unwrapped_lines.specs.declared.form.Stop.{Stop}
 use Rattle.unwrapped_lines.specs.Forms.{class_at, seen, after_group, block_end, began_at, touched_at, is_code, is_switch_head, case_colon, statement_stop, tag_before, block_at, label_form, goto_level, label, header_end, head_of, label_level, control_block, behind_close, kind_or_close, control_form, tail_end, ends_macro, macro_end, tagged_kind, wraps_tagged, tagged_context, tagged_head, other_form, has_no_partner, enumerator_end, is_enumerators, is_do_head, is_if_head, is_tagged, unlabelled, statement, close_form, form_of}
-use Rattle.part_lines.proofs.CodeCut.{open_behind, start_behind}
+use Rattle.part_lines.proofs.CodeCut.{open_behind, start_behind, file_up_to}
 use Rattle.part_lines.proofs.Choices.{choose}
 use Rattle.part_lines.proofs.Window.{group_there, block_there, colon_there, stop_behind, stop_there, tag_there, enumerator_there, IsWindow, lt_there, class_there, began_there, touched_there, seen_there, missing_there}
 use Rattle.part_lines.proofs.FormsReach.{seen_within, stop_reaches, group_reaches}
@@ -45,8 +45,8 @@ maybe_behind n (Some form) = Some (form_behind n form)
 block_at_there : {n : ℕ} {whole tokens : List CodeToken} → IsWindow n whole tokens → (end i : ℕ) (context : Context) (head : Head) (head_level level : ℕ)
     → end ≤ length tokens
     → block_at whole (n + end) (n + i) context head head_level level ≡ open_behind n (block_at tokens end i context head head_level level)
-block_at_there w end i context head head_level level most =
-    ap (λ (x : ℕ). record { block = true; context = context; level = level; case_level = level; end = x; head = head; head_level = head_level; assigned = false }) (block_there w end i most)
+block_at_there {tokens = tokens} w end i context head head_level level most =
+    ap (λ (x : ℕ). record (block_at tokens end i context head head_level level) { end = x }) (block_there w end i most)
 
 -- the block of a brace at a place `k`, which is this many behind
 pub block_from_there : {n : ℕ} {whole tokens : List CodeToken} → IsWindow n whole tokens
@@ -60,8 +60,8 @@ control_block_there : {n : ℕ} {whole tokens : List CodeToken} → IsWindow n w
     → control_block braces whole (n + end) (n + i) head level ≡ open_behind n (control_block braces tokens end i head level)
 control_block_there {n} {whole} {tokens} w braces end i head level most =
     choose (open_behind n) (is_switch_head head) (is_switch_head head) _ _ _ _ refl
-    (λ _. ap
-    (λ (x : ℕ). record { block = true; context = Code; level = label_level braces level + 1; case_level = label_level braces level; end = x; head = head; head_level = level; assigned = false }) (block_there w end i most))
+    (λ _. ap (λ (x : ℕ). record (block_at tokens end i Code head level (label_level braces level + 1)) { case_level = label_level braces level; end = x })
+    (block_there w end i most))
     (λ _. block_at_there w end i Code head level (level + 1) most)
 
 -- ## Labels
@@ -253,6 +253,28 @@ macro_there {n} {whole} {tokens} w end at most inside =
 
 -- ## Other statements
 
+-- the line of a statement that stops so, behind this tag, and the block that it opens up to this end
+abbrev pub opened_line : Braces → Bool → ℕ → TokenClass → Stop → ℕ → Form
+opened_line braces closes level tag s end = record {
+  kind = kind_or_close closes (tagged_kind tag);
+  level = level;
+  end = s.at;
+  next = Opens (wraps_tagged braces tag) (record (file_up_to end) {
+    context = tagged_context tag;
+    level = level + 1;
+    case_level = level + 1;
+    head = tagged_head tag;
+    head_level = level;
+    assigned = s.assigned;
+  });
+}
+
+abbrev pub closed_line : Bool → ℕ → Stop → Form
+closed_line closes level s = record { kind = kind_or_close closes Simple; level = level; end = s.at; next = Ends }
+
+abbrev pub stopped : Braces → Bool → ℕ → TokenClass → Stop → ℕ → Form
+stopped braces closes level tag s end = elim s.opens [ true ↦ opened_line braces closes level tag s end | false ↦ closed_line closes level s ]
+
 pub other_there : {n : ℕ} {whole tokens : List CodeToken} → IsWindow n whole tokens
     → (braces : Braces) (o : Open) (closes : Bool) (level at : ℕ) (assigned : Bool) → o.end ≤ length tokens → behind_close closes at ≤ o.end
     → other_form braces whole (open_behind n o) closes level (n + at) assigned ≡ form_behind n (other_form braces tokens o closes level at assigned)
@@ -264,26 +286,7 @@ other_there {n} {whole} {tokens} w braces o closes level at assigned most inside
     let back : n + s.at - (n + from) ≡ s.at - from = omega arith in
     let tag : tag_before (n + s.at - (n + from)) whole (n + from) (n + s.at) Nothing ≡ tag_before (s.at - from) tokens from s.at Nothing =
     ap (λ (k : ℕ). tag_before k whole (n + from) (n + s.at) Nothing) back ∙ tag_there w (s.at - from) from s.at Nothing (omega (arith, low, most)) in
-    let made : Stop → TokenClass → Form = λ stop tag. elim stop.opens as (λ _. Form) [
-      | true ↦ record {
-        kind = kind_or_close closes (tagged_kind tag);
-        level = level;
-        end = stop.at;
-        next = Opens (wraps_tagged braces tag)
-            (record {
-              block = true;
-              context = tagged_context tag;
-              level = level + 1;
-              case_level = level + 1;
-              end = block_end whole
-                  (n + o.end) stop.at;
-              head = tagged_head tag;
-              head_level = level;
-              assigned = stop.assigned;
-            });
-      }
-      | false ↦ record { kind = kind_or_close closes Simple; level = level; end = stop.at; next = Ends }
-    ] in
+    let made : Stop → TokenClass → Form = λ stop tag. stopped braces closes level tag stop (block_end whole (n + o.end) stop.at) in
     let tag_here : TokenClass = tag_before (s.at - from) tokens from s.at Nothing in
     ap (λ (k : ℕ). made (statement_stop (n + o.end - k) whole (n + o.end) k assigned)
     (tag_before ((statement_stop (n + o.end - k) whole (n + o.end) k assigned).at - k) whole k
@@ -292,13 +295,7 @@ other_there {n} {whole} {tokens} w braces o closes level at assigned most inside
     (ap (λ (k : ℕ). statement_stop k whole (n + o.end) (n + from) assigned) fuel ∙ stop_there w (o.end - from) o.end from assigned most)
     ∙ (ap (made (stop_behind n s)) tag
     ∙ choose (form_behind n) s.opens s.opens _ _ _ _ refl
-    (λ _. ap (λ (x : ℕ). record {
-      kind = kind_or_close closes (tagged_kind tag_here);
-      level = level;
-      end = n + s.at;
-      next = Opens (wraps_tagged braces tag_here)
-          (record { block = true; context = tagged_context tag_here; level = level + 1; case_level = level + 1; end = x; head = tagged_head tag_here; head_level = level; assigned = s.assigned });
-    }) (block_there w o.end s.at most))
+    (λ _. ap (λ (x : ℕ). opened_line braces closes level tag_here (stop_behind n s) x) (block_there w o.end s.at most))
     (λ _. refl)))
 
 -- ## What line begins at a place
