@@ -218,90 +218,75 @@ AllTold m arena earlier later =
     → Stands arena earlier later past rest walk before assigned
     → Told arena earlier n (count_of arena past) before assigned
 
-told_comment : (m : ℕ) (arena : Contents) (earlier later : List ℕ) → AllTold m arena earlier later
+told_step : (m : ℕ) (arena : Contents) (earlier later : List ℕ) → AllTold m arena earlier later
     → (n : ℕ) (past : List ℕ) (id : ℕ) (rest : List ℕ) (walk : Walk) (before : Before) (assigned : Bool) → length rest ≤ m
-    → length (code_of arena earlier) ≤ n + count_of arena past
-    → Stands arena earlier later past (id ∷ rest) walk before assigned → GoesOutside arena walk id (rest ++ later) (length earlier)
-    → is_comment (item_class arena id) ≡ true
+    → length (code_of arena earlier) ≤ n + count_of arena past → Stands arena earlier later past (id ∷ rest) walk before assigned
     → Told arena earlier n (count_of arena past) before assigned
-told_comment m arena earlier later told n past id rest walk before assigned few enough stands on comment =
-    let opens = comment_is_no_opener (item_class arena id) comment in
-    let same = no_more arena past id comment in
-    let next = next_stands arena earlier later past id rest walk before before assigned assigned stands on opens
-    (comment_agrees walk before (item_class arena id) comment)
-    (comment_assigns_nothing walk.assigned (item_class arena id) comment ∙ stands.same_assigned) in
-    subst (λ (at : ℕ). Told arena earlier n at before assigned) same
-    (told n (past ++ id ∷ []) rest (outside walk (item_class arena id) on.asked) before assigned few (omega (arith, enough, same)) next)
-
-told_token : (m : ℕ) (arena : Contents) (earlier later : List ℕ) → AllTold m arena earlier later
-    → (n : ℕ) (past : List ℕ) (id : ℕ) (rest : List ℕ) (walk : Walk) (before : Before) (assigned : Bool) → length rest ≤ m
-    → length (code_of arena earlier) ≤ suc n + count_of arena past
-    → Stands arena earlier later past (id ∷ rest) walk before assigned → GoesOutside arena walk id (rest ++ later) (length earlier)
-    → is_comment (item_class arena id) ≡ false → is_opener (item_class arena id) ≡ false
-    → Told arena earlier (suc n) (count_of arena past) before assigned
-told_token m arena earlier later told n past id rest walk before assigned few enough stands on code opens =
-    let class : TokenClass = item_class arena id in
-    let one = one_more arena past id code in
-    let tokens : List CodeToken = code_of arena earlier in
-    let agrees : Agrees (behind_code assigned before class) (behind walk class) =
-    subst (λ (b : Bool). Agrees (behind_code b before class) (behind walk class)) stands.same_assigned (behind_agrees walk before class code stands.agrees) in
-    let next = next_stands arena earlier later past id rest walk before (behind_code assigned before class) assigned
-    (assigned_behind assigned class) stands on opens agrees
-    (assigned_agrees walk.assigned class ∙ ap (λ (b : Bool). assigned_behind b class) stands.same_assigned) in
-    let later_told = told n (past ++ id ∷ []) rest (outside walk class on.asked) (behind_code assigned before class) (assigned_behind assigned class) few
-    (omega (arith, enough, one)) next in
-    passes_token n tokens (count_of arena past) before assigned class (code_class arena earlier past id rest stands.split code)
-    (code_within arena earlier past id rest stands.split code) on.lost opens
-    (subst (λ (at : ℕ). Way n tokens (length tokens) at (behind_code assigned before class) (assigned_behind assigned class)) one later_told)
-
-told_group : (m : ℕ) (arena : Contents) (earlier later : List ℕ) → AllTold m arena earlier later
-    → (n : ℕ) (past : List ℕ) (id : ℕ) (rest : List ℕ) (walk : Walk) (before : Before) (assigned : Bool) → length rest ≤ m
-    → length (code_of arena earlier) ≤ suc n + count_of arena past
-    → Stands arena earlier later past (id ∷ rest) walk before assigned → GoesOutside arena walk id (rest ++ later) (length earlier)
-    → is_opener (item_class arena id) ≡ true
-    → Told arena earlier (suc n) (count_of arena past) before assigned
-told_group m arena earlier later told n past id rest walk before assigned few enough stands on opens =
-    let class : TokenClass = item_class arena id in
-    let tokens : List CodeToken = code_of arena earlier in
-    let code = opener_is_no_comment (item_class arena id) opens in
-    let group = group_ends_so arena earlier later past id rest walk before assigned stands on opens
-    (group_there arena earlier later past id rest walk before assigned stands on opens) in
-    let front : List ℕ = past ++ id ∷ group.inner in
-    let one = one_more arena (past ++ id ∷ group.inner) group.closer group.code in
-    let fewer : length group.behind ≤ m = omega (arith, few, ap length group.split, length-append group.inner (group.closer ∷ group.behind)) in
-    let more = counts_on arena past (id ∷ group.inner) in
-    let here = counts_one arena id group.inner code in
-    let later_told = told n ((past ++ id ∷ group.inner) ++ group.closer ∷ []) group.behind group.next (behind_code assigned before class)
-    (assigned_behind assigned class) fewer (omega (arith, enough, one, more, here)) group.stands in
-    passes_group n tokens (count_of arena past) (count_of arena (past ++ id ∷ group.inner)) before assigned class
-    (code_class arena earlier past id rest stands.split code) (code_within arena earlier past id rest stands.split code)
-    on.lost opens group.partner
-    (subst (λ (at : ℕ). Way n tokens (length tokens) at (behind_code assigned before class) (assigned_behind assigned class)) one later_told)
-
-told_code : (m : ℕ) (arena : Contents) (earlier later : List ℕ) → AllTold m arena earlier later
-    → (n : ℕ) (past : List ℕ) (id : ℕ) (rest : List ℕ) (walk : Walk) (before : Before) (assigned : Bool) → length rest ≤ m
-    → length (code_of arena earlier) ≤ n + count_of arena past
-    → Stands arena earlier later past (id ∷ rest) walk before assigned → GoesOutside arena walk id (rest ++ later) (length earlier)
-    → is_comment (item_class arena id) ≡ false
-    → Told arena earlier n (count_of arena past) before assigned
-told_code m arena earlier later told zero past id rest walk before assigned few enough stands on code =
-    absurd (omega (arith, enough, code_within arena earlier past id rest stands.split code))
-told_code m arena earlier later told (suc n) past id rest walk before assigned few enough stands on code = elim (cases_Bool (is_opener (item_class arena id))) [
-  | inl opens ↦ told_group m arena earlier later told n past id rest walk before assigned few enough stands on opens
-  | inr closed ↦ told_token m arena earlier later told n past id rest walk before assigned few enough stands on code closed
+told_step m arena earlier later told n past id rest walk before assigned few enough stands = elim (cases_Bool (is_comment (item_class arena id))) [
+  | inl comment ↦ by_comment comment
+  | inr code ↦ by_code code n enough
 ]
+  where
+    class : TokenClass
+    class = item_class arena id
+
+    tokens : List CodeToken
+    tokens = code_of arena earlier
+
+    Behind : ℕ → ℕ → Type 0
+    Behind n at = Told arena earlier n at (behind_code assigned before class) (assigned_behind assigned class)
+
+    on : GoesOutside arena walk id (rest ++ later) (length earlier)
+    on = goes_outside arena walk id (rest ++ later) (length earlier) (λ e. omega (arith, e, not_yet arena earlier later past id rest walk before assigned stands)) stands.unasked stands.ends
+
+    by_comment : is_comment class ≡ true → Told arena earlier n (count_of arena past) before assigned
+    by_comment comment =
+        let same = no_more arena past id comment in
+        let next = next_stands arena earlier later past id rest walk before before assigned assigned stands on (comment_is_no_opener class comment)
+        (comment_agrees walk before class comment) (comment_assigns_nothing walk.assigned class comment ∙ stands.same_assigned) in
+        subst (λ (at : ℕ). Told arena earlier n at before assigned) same
+        (told n (past ++ id ∷ []) rest (outside walk class on.asked) before assigned few (omega (arith, enough, same)) next)
+
+    by_token : (n : ℕ) → length tokens ≤ suc n + count_of arena past → is_comment class ≡ false → is_opener class ≡ false
+        → Told arena earlier (suc n) (count_of arena past) before assigned
+    by_token n enough code opens =
+        let one = one_more arena past id code in
+        let agrees : Agrees (behind_code assigned before class) (behind walk class) =
+        subst (λ (b : Bool). Agrees (behind_code b before class) (behind walk class)) stands.same_assigned (behind_agrees walk before class code stands.agrees) in
+        let next = next_stands arena earlier later past id rest walk before (behind_code assigned before class) assigned (assigned_behind assigned class) stands on opens
+        agrees (assigned_agrees walk.assigned class ∙ ap (λ (b : Bool). assigned_behind b class) stands.same_assigned) in
+        let rest_told = told n (past ++ id ∷ []) rest (outside walk class on.asked) (behind_code assigned before class) (assigned_behind assigned class)
+        few (omega (arith, enough, one)) next in
+        passes_token n tokens (count_of arena past) before assigned class (code_class arena earlier past id rest stands.split code)
+        (code_within arena earlier past id rest stands.split code) on.lost opens (subst (Behind n) one rest_told)
+
+    by_group : (n : ℕ) → length tokens ≤ suc n + count_of arena past → is_opener class ≡ true → Told arena earlier (suc n) (count_of arena past) before assigned
+    by_group n enough opens =
+        let code = opener_is_no_comment class opens in
+        let there = group_there arena earlier later past id rest walk before assigned stands on opens in
+        let group = group_ends_so arena earlier later past id rest walk before assigned stands on opens there in
+        let one = one_more arena (past ++ id ∷ group.inner) group.closer group.code in
+        let fewer : length group.behind ≤ m = omega (arith, few, ap length group.split, length-append group.inner (group.closer ∷ group.behind)) in
+        let more = counts_on arena past (id ∷ group.inner) in
+        let here = counts_one arena id group.inner code in
+        let rest_told = told n ((past ++ id ∷ group.inner) ++ group.closer ∷ []) group.behind group.next (behind_code assigned before class)
+        (assigned_behind assigned class) fewer (omega (arith, enough, one, more, here)) group.stands in
+        passes_group n tokens (count_of arena past) (count_of arena (past ++ id ∷ group.inner)) before assigned class
+        (code_class arena earlier past id rest stands.split code) (code_within arena earlier past id rest stands.split code)
+        on.lost opens group.partner (subst (Behind n) one rest_told)
+
+    by_code : is_comment class ≡ false → (n : ℕ) → length tokens ≤ n + count_of arena past → Told arena earlier n (count_of arena past) before assigned
+    by_code code zero enough = absurd (omega (arith, enough, code_within arena earlier past id rest stands.split code))
+    by_code code (suc n) enough = elim (cases_Bool (is_opener class)) [
+      | inl opens ↦ by_group n enough opens
+      | inr closed ↦ by_token n enough code closed
+    ]
 
 all_told : (m : ℕ) (arena : Contents) (earlier later : List ℕ) → AllTold m arena earlier later
 all_told m arena earlier later n past [] walk before assigned few enough stands = told_end n arena earlier later past walk before assigned stands
 all_told zero arena earlier later n past (id ∷ rest) walk before assigned few enough stands = absurd (omega (arith, few))
 all_told (suc m) arena earlier later n past (id ∷ rest) walk before assigned few enough stands =
-    let fewer : length rest ≤ m = omega (arith, few) in
-    let early : walk.place ≡ length earlier → ⊥ = λ e. omega (arith, e, not_yet arena earlier later past id rest walk before assigned stands) in
-    let on = goes_outside arena walk id (rest ++ later) (length earlier) early stands.unasked stands.ends in
-    elim (cases_Bool (is_comment (item_class arena id))) [
-      | inl comment ↦ told_comment m arena earlier later (all_told m arena earlier later) n past id rest walk before assigned fewer enough stands on comment
-      | inr code ↦ told_code m arena earlier later (all_told m arena earlier later) n past id rest walk before assigned fewer enough stands on code
-    ]
+    told_step m arena earlier later (all_told m arena earlier later) n past id rest walk before assigned (omega (arith, few)) enough stands
 
 -- the whole of a first part
 pub told_all : (arena : Contents) (earlier later : List ℕ) → IsFirstPart arena earlier later
