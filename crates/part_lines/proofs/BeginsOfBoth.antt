@@ -21,6 +21,7 @@ use Rattle.line_tokens.specs.declared.line.ULine.{ULine}
 use Rattle.line_tokens.specs.Lines.{CutPlaces}
 use Rattle.unwrapped_lines.specs.Lines.{line_up_to, lines_between}
 use Rattle.part_lines.specs.Cut.{line_behind}
+use Rattle.std.proofs.lemmas.Bool.{eqb-true, lt-leb}
 
 abbrev pub begin_behind : ℕ → Begin → Begin
 begin_behind count begin = record { first = count + begin.first; level = begin.level; kind = begin.kind }
@@ -127,14 +128,8 @@ pub record GoesOn (whole tree : Tree) (later : List Line) : Type 0 where
   pub total : tree.total ≤ whole.total
   pub first : FirstAt tree.total later
 
-le_false : (a b : ℕ) → a < b → nat_le b a ≡ false
-le_false a b h = grind arith
-
 eq_false : (a b : ℕ) → a < b → nat_eq b a ≡ false
 eq_false a b h = grind arith
-
-equal : (a b : ℕ) → nat_eq a b ≡ true → a ≡ b
-equal a b h = grind arith
 
 unequal : (a b : ℕ) → nat_eq a b ≡ false → (a < b) ⊎ (b < a)
 unequal a b h = grind arith
@@ -178,15 +173,15 @@ same_here whole tree later m done (l ∷ lines) at goes left more =
 same_here whole tree [] m done [] at goes left more =
     let one = found_left tree m done [] at left in
     let both = found_whole whole tree [] m done [] at goes left in
-    let inside : is_between tree m ≡ false = ap (between_at tree.total m.seen) one ∙ le_false m.seen tree.total more in
+    let inside : is_between tree m ≡ false = ap (between_at tree.total m.seen) one ∙ lt-leb tree.total m.seen more in
     record {
-      between = ap (between_at whole.total m.seen) both ∙ (le_false m.seen whole.total (omega (arith, more, goes.total)) ∙ sym inside);
+      between = ap (between_at whole.total m.seen) both ∙ (lt-leb whole.total m.seen (omega (arith, more, goes.total)) ∙ sym inside);
       here = λ holds. never (is_between tree m) inside holds;
     }
 same_here whole tree (l ∷ later) m done [] at goes left more =
     let one = found_left tree m done [] at left in
     let both = found_whole whole tree (l ∷ later) m done [] at goes left in
-    let inside : is_between tree m ≡ false = ap (between_at tree.total m.seen) one ∙ le_false m.seen tree.total more in
+    let inside : is_between tree m ≡ false = ap (between_at tree.total m.seen) one ∙ lt-leb tree.total m.seen more in
     record {
       between = ap (between_at whole.total m.seen) both ∙ (eq_false m.seen l.first (omega (arith, more, goes.first)) ∙ sym inside);
       here = λ holds. never (is_between tree m) inside holds;
@@ -225,9 +220,9 @@ past_token : (tree : Tree) (m : Marks) (done lines : List Line) (at : ℕ) (betw
     → is_between tree m ≡ between
     → LeftOn tree (past_marks m.seen m.begun between)
 past_token tree m done [] at true left more is =
-    never (is_between tree m) (ap (between_at tree.total m.seen) (found_left tree m done [] at left) ∙ le_false m.seen tree.total more) is
+    never (is_between tree m) (ap (between_at tree.total m.seen) (found_left tree m done [] at left) ∙ lt-leb tree.total m.seen more) is
 past_token tree m done (l ∷ lines) at true left more is =
-    let first : l.first ≡ m.seen = equal l.first m.seen (sym (ap (between_at tree.total m.seen) (found_left tree m done (l ∷ lines) at left)) ∙ is) in
+    let first : l.first ≡ m.seen = eqb-true l.first m.seen (sym (ap (between_at tree.total m.seen) (found_left tree m done (l ∷ lines) at left)) ∙ is) in
     let place : l.first ≡ at = left.cut.0 in
     let up : at < l.end = left.cut.1.0 in
     record {
@@ -337,7 +332,7 @@ le_there n a b = by (nat_le a b) refl
   where
     by : (x : Bool) → nat_le a b ≡ x → nat_le (n + a) (n + b) ≡ x
     by true e = (let low : a ≤ b = grind arith in grind arith)
-    by false e = (let up : b < a = grind arith in le_false (n + b) (n + a) (omega (arith, up)))
+    by false e = (let up : b < a = grind arith in lt-leb (n + a) (n + b) (omega (arith, up)))
 
 eq_there : (n a b : ℕ) → nat_eq (n + a) (n + b) ≡ nat_eq a b
 eq_there n a b = by (nat_eq a b) refl
@@ -346,7 +341,7 @@ eq_there n a b = by (nat_eq a b) refl
     other x y apart = grind arith
 
     by : (x : Bool) → nat_eq a b ≡ x → nat_eq (n + a) (n + b) ≡ x
-    by true e = (let same : a ≡ b = equal a b e in grind arith)
+    by true e = (let same : a ≡ b = eqb-true a b e in grind arith)
     by false e = other (n + a) (n + b) (elim (unequal a b e) [ inl less ↦ inl (omega (arith, less)) | inr less ↦ inr (omega (arith, less)) ])
 
 between_there : (count total seen : ℕ) (found : Option Line)

@@ -16,7 +16,7 @@ use Rattle.unwrapped_lines.specs.Forms.{class_of, class_at, partner_of, partner_
 use Rattle.unwrapped_lines.specs.Tree.{lines_from, end_level_from, line_of, head_lines, lines_of, end_level}
 use Rattle.unwrapped_lines.proofs.StackLemmas.{from_end}
 use Rattle.part_lines.proofs.CodeCut.{ArePaired, BeginsWord, file_up_to, ArePassed}
-use Rattle.part_lines.proofs.WayLemmas.{EndsBeforeWord, way_longer}
+use Rattle.part_lines.proofs.WaySteps.{EndsBeforeWord, way_longer}
 use Rattle.part_lines.proofs.FormsAlike.{Stand, Leaves, fresh_at, form_alike}
 use Rattle.part_lines.proofs.FormsReach.{Reaches, form_reaches}
 use Rattle.part_lines.proofs.Places.{slice_before, slice_at_seam}

@@ -1,5 +1,4 @@
--- What a first part is: its brackets are closed, its last token is a `;` or a `}`, and behind it come comments that began their lines, and then a word that
--- did.
+-- What a first part is: its brackets are closed, its last token is a `;` or a `}`, and comments and a word that began their lines follow it.
 use Rattle.std.proofs.Common.{◌≡◌, ◌∙◌, ◌⊎◌, inl, inr, ℕ, ◌+◌, Bool, true, false, not, ◌&&◌, ◌||◌, Option, Some, None, List, [], ◌∷◌, ◌++◌, length, take, drop, refl, sym, ap, subst, arith}
 use Rattle.std.specs.Prelude.{if◌then◌else◌}
 use Rattle.std.proofs.Math.Seq.{take-append_seam, drop-append_seam}

@@ -21,13 +21,13 @@ use Rattle.unwrapped_lines.specs.declared.form.Form.{Form}
 use Rattle.unwrapped_lines.specs.declared.form.Stop.{Stop}
 use Rattle.unwrapped_lines.specs.Forms.{class_at, seen, partner_in, behind_partner, partner_or, after_group, block_end, statement_stop, tag_before, began_at, behind_close, tagged_head, ends_macro, macro_end, other_form, case_colon, has_no_partner, label, tail_end, unlabelled, statement, is_tagged, is_do_head, is_if_head, close_form, form_of}
 use Rattle.part_lines.proofs.CodeCut.{behind_opener, assigned_behind, file_up_to, WayOn}
-use Rattle.part_lines.proofs.WayLemmas.{EndsBeforeWord, step_of, at_most, goes_on, is_waiting, unwaited_way, opener_code, other_code, semicolon_code}
+use Rattle.part_lines.proofs.WaySteps.{EndsBeforeWord, step_of, at_most, goes_on, is_waiting, unwaited_way, opener_code, other_code, semicolon_code}
 use Rattle.part_lines.proofs.StopsAlike.{StopAlike, stop_alike, semicolon_opens, brace_opens}
 use Rattle.part_lines.proofs.Choices.{either, at_true, at_false}
 use Rattle.part_lines.proofs.PartnerPlaces.{partner_place, partner_longer}
 use Rattle.unwrapped_lines.specs.declared.open.Context.TheVariants.{File, Code}
 use Rattle.part_lines.proofs.FormsReach.{seen_class}
-use Rattle.part_lines.proofs.FormsOfLines.{opened_line, closed_line, stopped}
+use Rattle.part_lines.proofs.FormsOfWindow.{opened_line, closed_line, stopped}
 
 -- ## Where a line begins
 

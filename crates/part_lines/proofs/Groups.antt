@@ -13,7 +13,7 @@ use Rattle.view_parts.specs.declared.walk.Walk.{Walk}
 use Rattle.view_parts.specs.Walk.{inside, reading}
 use Rattle.view_parts.specs.Parts.{waiting_behind, is_open, next_end}
 use Rattle.view_parts.proofs.Walked.{by_reading, waits}
-use Rattle.part_lines.proofs.Agreement.{matching}
+use Rattle.part_lines.proofs.WalkAgrees.{matching}
 use Rattle.part_lines.proofs.FirstPart.{IsUnasked, IsSound, inside_sound, ended}
 use Rattle.part_lines.proofs.Choices.{either}
 use Rattle.part_lines.proofs.Places.{set_other, set_same}

@@ -1,10 +1,10 @@
 pub mod CodeCut
 pub mod Choices
 pub mod Window
-pub mod FormsOfLines
+pub mod FormsOfWindow
 pub mod LinesOfWindow
 pub mod FormsReach
-pub mod WayLemmas
+pub mod WaySteps
 pub mod StopsAlike
 pub mod FormsAlike
 pub mod FileCut
@@ -13,10 +13,10 @@ pub mod Matchings
 pub mod PartnersStay
 pub mod Groups
 pub mod Counted
-pub mod Agreement
+pub mod WalkAgrees
 pub mod Passing
-pub mod PairedCode
-pub mod CutsCode
+pub mod PairedPartners
+pub mod CodeOfFirstPart
 pub mod CodeOfBoth
 pub mod PartsOfBoth
 pub mod BeginsOfBoth

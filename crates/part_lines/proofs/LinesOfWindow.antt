@@ -17,7 +17,7 @@ use Rattle.unwrapped_lines.specs.Forms.{seen, is_if_head, is_do_head, tail_end, 
 use Rattle.unwrapped_lines.specs.Tree.{Reading, answers_else, answers_tail, settled, body_of, comment_level, head_lines, line_of, lines_from, level_of_list, end_level_from}
 use Rattle.part_lines.proofs.CodeCut.{token_behind, open_behind, start_behind, code_line_behind, IsCutBehind, IsCutBefore}
 use Rattle.part_lines.proofs.Choices.{choose, chosen}
-use Rattle.part_lines.proofs.FormsOfLines.{next_behind, form_behind, tail_there, form_there}
+use Rattle.part_lines.proofs.FormsOfWindow.{next_behind, form_behind, tail_there, form_there}
 use Rattle.part_lines.proofs.FormsReach.{Reaches, form_reaches}
 use Rattle.part_lines.proofs.Turns.{lines_after, level_after}
 use Rattle.part_lines.proofs.Window.{IsWindow, is_window, lt_there, seen_there}

@@ -25,7 +25,7 @@ use Rattle.part_lines.proofs.FirstPart.{IsEnded, first_part}
 use Rattle.part_lines.proofs.Counted.{places_count}
 use Rattle.part_lines.proofs.LinesOfWindow.{InWindow, in_window}
 use Rattle.part_lines.proofs.FileCut.{AreLinesCut, cuts_lines}
-use Rattle.part_lines.proofs.CutsCode.{IsCodeCut, cuts_code}
+use Rattle.part_lines.proofs.CodeOfFirstPart.{IsCodeCut, cuts_code}
 use Rattle.part_lines.proofs.PartnersStay.{partners_stay}
 use Rattle.unwrapped_lines.proofs.Started.{lines_cut_views}
 use Rattle.part_lines.proofs.Turns.{lines_cut}

@@ -20,7 +20,7 @@ use Rattle.part_lines.specs.Cut.{IsFirstPart, partners_in}
 use Rattle.part_lines.proofs.CodeCut.{behind_code, assigned_behind, code_of, Way}
 use Rattle.part_lines.proofs.Groups.{IsGroup, grouped, paired_length, pair_found, partner_kept}
 use Rattle.part_lines.proofs.Counted.{count_of, counts_on, counts_one, counts_none, counts_all, code_class, code_within, code_partner}
-use Rattle.part_lines.proofs.Agreement.{Agrees, ends_agree, behind_agrees, comment_agrees, assigned_agrees, comment_assigns_nothing, opener_waits, nothing_waits, opener_is_no_comment, matching, comment_is_no_opener}
+use Rattle.part_lines.proofs.WalkAgrees.{Agrees, ends_agree, behind_agrees, comment_agrees, assigned_agrees, comment_assigns_nothing, opener_waits, nothing_waits, opener_is_no_comment, matching, comment_is_no_opener}
 use Rattle.part_lines.proofs.FirstPart.{IsUnasked, IsSound, outside_sound, ended, GoesOutside, goes_outside}
 
 -- ## Tokens that pass

@@ -13,7 +13,7 @@ use Rattle.unwrapped_lines.specs.declared.form.Stop.{Stop}
 use Rattle.unwrapped_lines.specs.Forms.{class_at, class_before, partner_of, partner_in, behind, behind_partner, step_over, opens_list, opens_block, assigns, statement_stop, call_opener, tag_before, is_member_word}
 use Rattle.unwrapped_lines.proofs.ScanLemmas.{stop_step, tag_other}
 use Rattle.part_lines.proofs.CodeCut.{behind_code, behind_opener, assigned_behind, Way, WayOn}
-use Rattle.part_lines.proofs.WayLemmas.{EndsBeforeWord, opener_code, other_code, semicolon_code}
+use Rattle.part_lines.proofs.WaySteps.{EndsBeforeWord, opener_code, other_code, semicolon_code}
 use Rattle.part_lines.proofs.Choices.{either, at_true, at_false}
 use Rattle.part_lines.proofs.PartnerPlaces.{partner_place, partner_longer}
 

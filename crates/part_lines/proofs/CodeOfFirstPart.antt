@@ -18,7 +18,7 @@ use Rattle.part_lines.specs.Cut.{partners_in, IsFirstPart}
 use Rattle.part_lines.proofs.CodeCut.{BeginsWord, IsCutBehind, code_of, ArePassed, ArePaired}
 use Rattle.part_lines.proofs.Counted.{count_of, counts_on, counts_one, counts_all, code_class, class_there}
 use Rattle.part_lines.proofs.Passing.{told_all}
-use Rattle.part_lines.proofs.PairedCode.{code_paired}
+use Rattle.part_lines.proofs.PairedPartners.{code_paired}
 use Rattle.part_lines.proofs.FirstPart.{closes_part, last_of, Follows, first_part}
 
 -- ## Behind the first part

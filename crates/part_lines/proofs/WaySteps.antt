@@ -1,4 +1,4 @@
--- The way outside brackets, in a list whose end stands at a place of longer ones.
+-- The way outside brackets: what one step of it passes, and that it is the same in longer lists.
 use Rattle.std.proofs.Common.{◌≡◌, ◌∙◌, ℕ, zero, suc, ◌+◌, ◌<◌, ◌≤◌, Bool, true, false, Option, Some, List, ◌++◌, length, refl, arith, sym, ap, subst, inl, inr, ◌⊎◌}
 use Rattle.std.specs.Prelude.{slice_get, if◌then◌else◌, IsTrue, IsFalse}
 use Rattle.std.proofs.lemmas.Bool.{cases_Bool}
