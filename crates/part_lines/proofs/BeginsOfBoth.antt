@@ -217,8 +217,7 @@ record LeftOn (tree : Tree) (m : Marks) : Type 0 where
   pub left : Left tree m done lines at
 
 past_token : (tree : Tree) (m : Marks) (done lines : List Line) (at : ℕ) (between : Bool) → Left tree m done lines at → m.seen < tree.total
-    → is_between tree m ≡ between
-    → LeftOn tree (past_marks m.seen m.begun between)
+    → is_between tree m ≡ between → LeftOn tree (past_marks m.seen m.begun between)
 past_token tree m done [] at true left more is =
     never (is_between tree m) (ap (between_at tree.total m.seen) (found_left tree m done [] at left) ∙ lt-leb tree.total m.seen more) is
 past_token tree m done (l ∷ lines) at true left more is =
@@ -287,8 +286,7 @@ at_end tree m done [] at left seen run =
     ∙ ap (λ (r : Run). record { seen = tree.total; begun = length tree.lines; run = r }) run)
 
 begins_before : (whole tree : Tree) (later : List Line) (parts more : List Part) (k : ℕ) (m : Marks) (done lines : List Line) (at : ℕ) (last : Bool)
-    → GoesOn whole tree later → Left tree m done lines at
-    → m.seen + tokens_in parts ≡ tree.total → ends_token last parts ≡ true → (last ≡ true → m.run ≡ Apart)
+    → GoesOn whole tree later → Left tree m done lines at → m.seen + tokens_in parts ≡ tree.total → ends_token last parts ≡ true → (last ≡ true → m.run ≡ Apart)
     → begins_from whole (parts ++ more) k m ≡ begins_from tree parts k m ++ begins_from whole more (k + length parts) (behind_all tree)
 begins_before whole tree later [] more k m done lines at last goes left seen ends apart =
     let place : k ≡ k + 0 = omega arith in
@@ -456,8 +454,7 @@ goes_on whole first second both = record {
     at (line ∷ lines) starts = (let none : line.first ≡ 0 = starts in omega (arith, none))
 
 pub begins_of_both : (whole first second : Tree) (parts more : List Part) → AreBoth whole first second → tokens_in parts ≡ first.total
-    → ends_token false parts ≡ true
-    → begins_from whole (parts ++ more) 0 no_marks ≡ begins_from first parts 0 no_marks ++ map (begin_behind (length parts))
+    → ends_token false parts ≡ true → begins_from whole (parts ++ more) 0 no_marks ≡ begins_from first parts 0 no_marks ++ map (begin_behind (length parts))
     (begins_from second more 0 no_marks)
 begins_of_both whole first second parts more both many ends =
     let start : Left first no_marks [] first.lines 0 = record { split = refl; begun = refl; cut = both.cut; low = omega arith } in

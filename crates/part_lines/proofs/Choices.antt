@@ -23,3 +23,6 @@ pub either : {A : Type 0} (P : A → Type 0) (test : Bool) (x y : A) → (test �
     → P (elim test as (λ _. A) [ true ↦ x | false ↦ y ])
 either P true x y one other = one refl
 either P false x y one other = other refl
+
+pub never : {X : Type 0} → false ≡ true → X
+never e = cc

@@ -63,8 +63,8 @@ cut_behind arena (id ∷ ids) closes =
     let is = closer_is_last (item_class arena end.1.0) (ap closes_part end.1.1.1 ∙ closes) in
     let class = last_class arena (id ∷ ids) end.0 end.1.0 end.1.1.0 is.code in
     record {
-      list = ap (λ (c : TokenClass). is_before_list c) class ∙ is.list;
-      closes = ap (λ (c : TokenClass). is_close_round c) class ∙ is.closes;
+      list = ap is_before_list class ∙ is.list;
+      closes = ap is_close_round class ∙ is.closes;
     }
 
 -- ## Before what follows
@@ -105,7 +105,7 @@ begins_word arena all past (id ∷ rest) split so =
     by (inl word) on =
         let item : get_or all (length past) 0 ≡ id = ap (λ (ids : List ℕ). get_or ids (length past) 0) split ∙ get_or-append_seam past id rest 0 in
         let is : is_word (get_or (classes_of arena all) (length past) Nothing) ≡ true =
-        ap (λ (c : TokenClass). is_word c) (class_there arena all past id rest split) ∙ word in
+        ap is_word (class_there arena all past id rest split) ∙ word in
         let began : item_began arena (get_or all (length past) 0) ≡ true = ap (λ k. item_began arena k) item
         ∙ (same_began (slice_get arena.tokens id) ∙ so.0) in
         subst at_comment (sym (word_is_no_comment (item_class arena id) word))

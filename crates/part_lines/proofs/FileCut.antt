@@ -59,8 +59,7 @@ fresh_cut n m r braces tokens end whole start at ends past many some =
     (anew n m r braces tokens end whole at e order (omega arith) some)
 
 pub lines_cut : (n m r : ℕ) (braces : Braces) (tokens : List CodeToken) (end whole : ℕ) (start : Start) (at : ℕ) → EndsBeforeWord tokens end whole
-    → Stand tokens end start at
-    → end ≤ at + n → whole ≤ at + m → whole ≤ end + r
+    → Stand tokens end start at → end ≤ at + n → whole ≤ at + m → whole ≤ end + r
     → lines_from m braces tokens (up_to whole) start at ≡ lines_from n braces tokens (up_to end) start at ++ lines_from r braces tokens (up_to whole) Fresh end
 lines_cut zero m r braces tokens end whole start at ends stand few many some = elim (stands_where tokens end start at stand) [
   | inl past ↦ fresh_cut zero m r braces tokens end whole start at ends past many some
@@ -106,8 +105,7 @@ lines_cut (suc n) (suc m) r braces tokens end whole start at ends stand few many
 -- ## The level at the end
 
 pub level_cut : (m r : ℕ) (braces : Braces) (tokens : List CodeToken) (end whole : ℕ) (start : Start) (at : ℕ) → EndsBeforeWord tokens end whole
-    → Stand tokens end start at
-    → whole < at + m → whole < end + r
+    → Stand tokens end start at → whole < at + m → whole < end + r
     → end_level_from m braces tokens (up_to whole) start at ≡ end_level_from r braces tokens (up_to whole) Fresh end
 level_cut zero r braces tokens end whole start at ends stand many some = elim (stands_where tokens end start at stand) [
   | inl past ↦ absurd (let order : end ≤ whole = ends.order in let e : at ≡ end = past.1 in omega arith)

@@ -57,13 +57,11 @@ waits_so waiting = record { open_brackets = waiting; partners = [] }
 
 -- another closer takes off no brace
 topmost_on : (fits : Opener → Bool) (place : ℕ) (opener : Opener) (below : List Opener) → (fits opener ≡ true → is_brace opener ≡ true → ⊥)
-    → on_brace (opener ∷ below) ≡ true
-    → (on_brace (closed place (topmost fits (opener ∷ below)) (waits_so (opener ∷ below))).open_brackets ≡ true)
+    → on_brace (opener ∷ below) ≡ true → (on_brace (closed place (topmost fits (opener ∷ below)) (waits_so (opener ∷ below))).open_brackets ≡ true)
     × ((closed place (topmost fits (opener ∷ below)) (waits_so (opener ∷ below))).open_brackets ≡ [] → ⊥)
 topmost_on fits place opener below other on = by_fit (fits opener) refl below on
   where
-    by_fit : (fit : Bool) → fits opener ≡ fit → (below : List Opener) → on_brace (opener ∷ below) ≡ true
-        → (on_brace
+    by_fit : (fit : Bool) → fits opener ≡ fit → (below : List Opener) → on_brace (opener ∷ below) ≡ true → (on_brace
         (closed place (elim fit as (λ _. Option Nearest) [ true ↦ Some (record { place = opener.place; below = below }) | false ↦ None ])
         (waits_so (opener ∷ below))).open_brackets ≡ true)
         × ((closed place (elim fit as (λ _. Option Nearest) [ true ↦ Some (record { place = opener.place; below = below }) | false ↦ None ])
@@ -312,8 +310,7 @@ pub record IsEnd (walk : Walk) (waiting : List Opener) : Type 0 where
   pub ends : is_end walk.before ≡ true
 
 pub ended : (arena : Contents) (later : List ℕ) (walk : Walk) (waiting : List Opener) (count : ℕ) → walk.place ≡ count → IsUnasked count walk
-    → IsSound walk waiting
-    → next_end arena walk waiting later ≡ Some count → IsEnd walk waiting
+    → IsSound walk waiting → next_end arena walk waiting later ≡ Some count → IsEnd walk waiting
 ended arena later walk waiting count here unasked sound e = elim (tells_end arena walk waiting later count sound e) [
   | inl told ↦ absurd (unasked told.0)
   | inr among ↦ at_once among.earlier among.counted among.closed_there among.ends
@@ -414,15 +411,13 @@ goes_outside arena walk id ids count other unasked e =
     by_lost asked true l was e = absurd (none_some count e)
     by_lost asked false l was e = record { asked = asked; lost = l; unasked = left_unasked asked (is_comment (item_class arena id)) count was; ends = e }
 
-    by_word : (end : ℕ) (word : Bool) → (Some end ≡ Some count → ⊥)
-        → by_reading arena (waiting_behind (item_class arena id) walk.place []) ids
+    by_word : (end : ℕ) (word : Bool) → (Some end ≡ Some count → ⊥) → by_reading arena (waiting_behind (item_class arena id) walk.place []) ids
         (if word then Ends end else (if is_lost (item_class arena id) then Never else GoesOn (outside walk (item_class arena id) (Some end)))) ≡ Some count
         → GoesOutside arena walk id ids count
     by_word end true was e = absurd (was e)
     by_word end false was e = by_lost (Some end) (is_lost (item_class arena id)) refl was e
 
-    by_asked : (asked : Option ℕ) → (asked ≡ Some count → ⊥)
-        → by_reading arena (waiting_behind (item_class arena id) walk.place []) ids
+    by_asked : (asked : Option ℕ) → (asked ≡ Some count → ⊥) → by_reading arena (waiting_behind (item_class arena id) walk.place []) ids
         (ends_or asked (item_class arena id) (if is_lost (item_class arena id) then Never else GoesOn (outside walk (item_class arena id) asked))) ≡ Some count
         → GoesOutside arena walk id ids count
     by_asked None was e = by_lost None (is_lost (item_class arena id)) refl was e

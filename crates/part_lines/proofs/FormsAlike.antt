@@ -130,8 +130,7 @@ seen_past tokens end i h = at_false (nat_lt i end) (class_at tokens i) Nothing (
 
 -- what no word is, is seen in both lists or in none
 pub seen_alike : (fits : TokenClass → Bool) (tokens : List CodeToken) (end whole i : ℕ) → fits Nothing ≡ false → fits (class_at tokens end) ≡ false
-    → end ≤ whole → i ≤ end
-    → fits (seen tokens end i) ≡ fits (seen tokens whole i)
+    → end ≤ whole → i ≤ end → fits (seen tokens end i) ≡ fits (seen tokens whole i)
 seen_alike fits tokens end whole i none word order le = elim (cases_lt i end) [
   | inl lt ↦ ap fits (seen_here tokens end i lt ∙ sym (seen_here tokens whole i (omega arith)))
   | inr ge ↦
@@ -255,8 +254,7 @@ stopped_alike braces tokens end whole closes level from s t ends stop =
     (λ e. record { same = refl; leaves = fresh_at tokens end s.at Semicolon false (stop.ends e) (λ w. cc) }))
 
 pub other_alike : (braces : Braces) (tokens : List CodeToken) (end whole : ℕ) (closes : Bool) (level at : ℕ) (told assigned : Bool)
-    → EndsBeforeWord tokens end whole → WayOn tokens end (behind_close closes at) Other told
-    → (assigned ≡ true → told ≡ true)
+    → EndsBeforeWord tokens end whole → WayOn tokens end (behind_close closes at) Other told → (assigned ≡ true → told ≡ true)
     → IsAlike tokens end (other_form braces tokens (file_up_to end) closes level at assigned)
     (other_form braces tokens (file_up_to whole) closes level at assigned)
 other_alike braces tokens end whole closes level at told assigned ends way imply =
@@ -425,8 +423,7 @@ extern_line braces at end =
     }
 
 brace_alike : (tokens : List CodeToken) (end whole at : ℕ) (told : Bool) → EndsBeforeWord tokens end whole → WayOn tokens end at Other told → at < end
-    → is_open_brace (class_at tokens at) ≡ true
-    → IsAlike tokens end (brace_line at (block_end tokens end at)) (brace_line at (block_end tokens whole at))
+    → is_open_brace (class_at tokens at) ≡ true → IsAlike tokens end (brace_line at (block_end tokens end at)) (brace_line at (block_end tokens whole at))
 brace_alike tokens end whole at told ends way lt brace =
     let g = group_on tokens end at Other told way lt (brace_opens (class_at tokens at) brace) in
     record {
@@ -435,8 +432,7 @@ brace_alike tokens end whole at told ends way lt brace =
     }
 
 extern_alike : (braces : Braces) (tokens : List CodeToken) (end whole at : ℕ) (told : Bool) → EndsBeforeWord tokens end whole → WayOn tokens end at Other told
-    → at < end
-    → is_extern (class_at tokens at) ≡ true → is_text (seen tokens end (at + 1)) ≡ true → is_open_brace (seen tokens end (at + 2)) ≡ true
+    → at < end → is_extern (class_at tokens at) ≡ true → is_text (seen tokens end (at + 1)) ≡ true → is_open_brace (seen tokens end (at + 2)) ≡ true
     → IsAlike tokens end (extern_line braces at (block_end tokens end (at + 2))) (extern_line braces at (block_end tokens whole (at + 2)))
 extern_alike braces tokens end whole at told ends way lt extern text brace =
     let first = ordinary_on tokens end at Other told way lt (extern_ordinary (class_at tokens at) extern) in
@@ -567,8 +563,7 @@ close_alike braces tokens end whole b at ends closed = elim closed.heads [
 -- ## Any line
 
 pub form_alike : (braces : Braces) (tokens : List CodeToken) (end whole : ℕ) (start : Start) (at : ℕ) → EndsBeforeWord tokens end whole → at < end
-    → Stand tokens end start at
-    → IsAlike tokens end (form_of braces tokens (file_up_to end) start at) (form_of braces tokens (file_up_to whole) start at)
+    → Stand tokens end start at → IsAlike tokens end (form_of braces tokens (file_up_to end) start at) (form_of braces tokens (file_up_to whole) start at)
 form_alike braces tokens end whole Fresh at ends lt (inl e) = absurd (omega arith)
 form_alike braces tokens end whole Fresh at ends lt (inr stand) = statement_alike braces tokens end whole at stand.1.0 ends stand.1.1 lt
 form_alike braces tokens end whole Tail at ends lt stand = absurd stand

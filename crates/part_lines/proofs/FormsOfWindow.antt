@@ -43,8 +43,7 @@ maybe_behind n (Some form) = Some (form_behind n form)
 -- ## Blocks
 
 block_at_there : {n : ℕ} {whole tokens : List CodeToken} → IsWindow n whole tokens → (end i : ℕ) (context : Context) (head : Head) (head_level level : ℕ)
-    → end ≤ length tokens
-    → block_at whole (n + end) (n + i) context head head_level level ≡ open_behind n (block_at tokens end i context head head_level level)
+    → end ≤ length tokens → block_at whole (n + end) (n + i) context head head_level level ≡ open_behind n (block_at tokens end i context head head_level level)
 block_at_there {tokens = tokens} w end i context head head_level level most =
     ap (λ (x : ℕ). record (block_at tokens end i context head head_level level) { end = x }) (block_there w end i most)
 
@@ -56,8 +55,7 @@ block_from_there {n} {whole} w end i k context head head_level level most same =
     ap (λ (x : ℕ). block_at whole (n + end) x context head head_level level) same ∙ block_at_there w end i context head head_level level most
 
 control_block_there : {n : ℕ} {whole tokens : List CodeToken} → IsWindow n whole tokens → (braces : Braces) (end i : ℕ) (head : Head) (level : ℕ)
-    → end ≤ length tokens
-    → control_block braces whole (n + end) (n + i) head level ≡ open_behind n (control_block braces tokens end i head level)
+    → end ≤ length tokens → control_block braces whole (n + end) (n + i) head level ≡ open_behind n (control_block braces tokens end i head level)
 control_block_there {n} {whole} {tokens} w braces end i head level most =
     choose (open_behind n) (is_switch_head head) (is_switch_head head) _ _ _ _ refl
     (λ _. ap (λ (x : ℕ). record (block_at tokens end i Code head level (label_level braces level + 1)) { case_level = label_level braces level; end = x })
@@ -305,8 +303,7 @@ abbrev calls_block : List CodeToken → Open → TokenClass → ℕ → ℕ → 
 calls_block tokens o c next g = is_code o.context && (is_plain c && (nat_lt next g && is_open_brace (seen tokens o.end g)))
 
 calls_there : {n : ℕ} {whole tokens : List CodeToken} → IsWindow n whole tokens → (o : Open) (c : TokenClass) (next g : ℕ) (c' : TokenClass) (next' g' : ℕ)
-    → o.end ≤ length tokens
-    → c' ≡ c → next' ≡ n + next → g' ≡ n + g → calls_block whole (open_behind n o) c' next' g' ≡ calls_block tokens o c next g
+    → o.end ≤ length tokens → c' ≡ c → next' ≡ n + next → g' ≡ n + g → calls_block whole (open_behind n o) c' next' g' ≡ calls_block tokens o c next g
 calls_there {n} {whole} {tokens} w o c next g c' next' g' most class place group =
     ap (λ (k : TokenClass). calls_block whole (open_behind n o) k next' g') class
     ∙ (ap (λ (j : ℕ). calls_block whole (open_behind n o) c j g') place
@@ -323,8 +320,7 @@ extern_same {c} {c'} {next} {next'} {third} {third'} one two three =
     ap (λ (k : TokenClass). opens_extern k next' third') one ∙ (ap (λ (k : TokenClass). opens_extern c k third') two ∙ ap (opens_extern c next) three)
 
 unlabelled_there : {n : ℕ} {whole tokens : List CodeToken} → IsWindow n whole tokens → (braces : Braces) (o : Open) (at : ℕ) → o.end ≤ length tokens
-    → at < o.end
-    → unlabelled braces whole (open_behind n o) (n + at) ≡ form_behind n (unlabelled braces tokens o at)
+    → at < o.end → unlabelled braces whole (open_behind n o) (n + at) ≡ form_behind n (unlabelled braces tokens o at)
 unlabelled_there {n} {whole} {tokens} w braces o at most inside =
     let one : n + at + 1 ≡ n + (at + 1) = omega arith in
     let two : n + at + 2 ≡ n + (at + 2) = omega arith in
@@ -379,8 +375,7 @@ form_or_there n otherwise None = refl
 form_or_there n otherwise (Some form) = refl
 
 pub statement_there : {n : ℕ} {whole tokens : List CodeToken} → IsWindow n whole tokens → (braces : Braces) (o : Open) (at : ℕ) → o.end ≤ length tokens
-    → at < o.end
-    → statement braces whole (open_behind n o) (n + at) ≡ form_behind n (statement braces tokens o at)
+    → at < o.end → statement braces whole (open_behind n o) (n + at) ≡ form_behind n (statement braces tokens o at)
 statement_there {n} {whole} {tokens} w braces o at most inside =
     let c : TokenClass = class_at tokens at in
     let here : class_at whole (n + at) ≡ c = class_there w at (omega arith) in
@@ -411,8 +406,7 @@ statement_there {n} {whole} {tokens} w braces o at most inside =
     ∙ form_or_there n behind_label (label braces tokens o at))))
 
 pub close_there : {n : ℕ} {whole tokens : List CodeToken} → IsWindow n whole tokens → (braces : Braces) (o b : Open) (at : ℕ) → o.end ≤ length tokens
-    → at < o.end
-    → close_form braces whole (open_behind n o) (open_behind n b) (n + at) ≡ form_behind n (close_form braces tokens o b at)
+    → at < o.end → close_form braces whole (open_behind n o) (open_behind n b) (n + at) ≡ form_behind n (close_form braces tokens o b at)
 close_there {n} {whole} {tokens} w braces o b at most inside =
     let one : n + at + 1 ≡ n + (at + 1) = omega arith in
     let two : n + at + 2 ≡ n + (at + 2) = omega arith in

@@ -18,7 +18,7 @@ use Rattle.unwrapped_lines.specs.declared.form.Next.TheVariants.{Ends, Goes, Wai
 use Rattle.unwrapped_lines.specs.declared.form.Form.{Form}
 use Rattle.unwrapped_lines.specs.declared.form.Stop.{Stop}
 use Rattle.unwrapped_lines.specs.Forms.{class_at, seen, within, partner_of, partner_in, behind_partner, partner_or, after_group, step_over, block_end, has_no_partner, is_code, is_enumerators, is_if_head, is_do_head, is_tagged, case_colon, enumerator_end, opens_block, assigns, statement_stop, label_form, goto_level, label, touched_at, head_of, header_end, control_block, control_form, tail_end, ends_macro, macro_end, other_form, unlabelled, statement, close_form, form_of, behind_close}
-use Rattle.part_lines.proofs.Choices.{either}
+use Rattle.part_lines.proofs.Choices.{either, never}
 
 -- a line that begins at a place of a list with this end
 abbrev pub Reaches : ℕ → ℕ → Form → Next → Type 0
@@ -128,16 +128,13 @@ pub record StopsIn (tokens : List CodeToken) (end i : ℕ) (stop : Stop) : Type 
   pub opens : stop.opens ≡ true → (stop.at < end) × (is_open_brace (class_at tokens stop.at) ≡ true)
   pub goes_on : stop.opens ≡ false → i < end → i < stop.at
 
-no_brace : {X : Type 0} → false ≡ true → X
-no_brace e = absurd (cc)
-
 pub stop_reaches : (n : ℕ) (tokens : List CodeToken) (end i : ℕ) (assigned : Bool) → i ≤ end → StopsIn tokens end i (statement_stop n tokens end i assigned)
-stop_reaches zero tokens end i assigned low = record { least = low; most = omega arith; opens = λ e. no_brace e; goes_on = λ e up. up }
+stop_reaches zero tokens end i assigned low = record { least = low; most = omega arith; opens = λ e. never e; goes_on = λ e up. up }
 stop_reaches (suc n) tokens end i assigned low =
     either (StopsIn tokens end i) (nat_lt i end) _ (record { at = end; opens = false; assigned = assigned })
     (λ inside. let here : i < end = ltb-true i end inside in
     either (StopsIn tokens end i) (is_semicolon (class_at tokens i)) (record { at = i + 1; opens = false; assigned = assigned }) _
-    (λ e. record { least = omega arith; most = omega (arith, here); opens = λ e. no_brace e; goes_on = λ e up. omega arith })
+    (λ e. record { least = omega arith; most = omega (arith, here); opens = λ e. never e; goes_on = λ e up. omega arith })
     (λ e.
     either (StopsIn tokens end i) (opens_block tokens assigned i) (record { at = i; opens = true; assigned = assigned })
     (statement_stop n tokens end (step_over tokens end i) (assigns tokens assigned i))
@@ -149,12 +146,12 @@ stop_reaches (suc n) tokens end i assigned low =
         (and_parts
             (is_open_brace (class_at tokens i)) _ brace).0,
       );
-      goes_on = λ e up. no_brace (sym e);
+      goes_on = λ e up. never (sym e);
     })
     (λ e. let step = step_reaches tokens end i here in
     let rest = stop_reaches n tokens end (step_over tokens end i) (assigns tokens assigned i) step.1 in
     record { least = omega (arith, step.0, rest.least); most = rest.most; opens = rest.opens; goes_on = λ e up. omega (arith, step.0, rest.least) })))
-    (λ e. record { least = low; most = omega arith; opens = λ e. no_brace e; goes_on = λ e up. up })
+    (λ e. record { least = low; most = omega arith; opens = λ e. never e; goes_on = λ e up. up })
 
 tail_reaches : (tokens : List CodeToken) (end i : ℕ) → i ≤ end → tail_end tokens end i ≤ end
 tail_reaches tokens end i low =
@@ -260,8 +257,7 @@ from_passed true at place least other = omega (arith, least)
 from_passed false at place least other = omega (arith, least, other refl)
 
 other_reaches : (braces : Braces) (tokens : List CodeToken) (o : Open) (closes : Bool) (level at : ℕ) (assigned : Bool) → at < o.end
-    → (behind_close closes at ≡ at → is_open_brace (class_at tokens at) ≡ false)
-    → FormReaches at o.end (other_form braces tokens o closes level at assigned)
+    → (behind_close closes at ≡ at → is_open_brace (class_at tokens at) ≡ false) → FormReaches at o.end (other_form braces tokens o closes level at assigned)
 other_reaches braces tokens o closes level at assigned low first =
     let from : ℕ = behind_close closes at in
     let order = from_up closes at in
@@ -295,7 +291,7 @@ unlabelled_reaches braces tokens o at low =
     either (FormReaches at o.end) (is_open_brace (class_at tokens at)) _ _
     (λ e.
     let block = block_reaches tokens o.end at low in
-    record { begins = omega arith; takes = λ e. no_brace e; goes_on = block.0; ends = block.1; is_block = refl })
+    record { begins = omega arith; takes = λ e. never e; goes_on = block.0; ends = block.1; is_block = refl })
     (λ first.
     either (FormReaches at o.end)
     (is_extern (class_at tokens at) && (is_text (seen tokens o.end (at + 1)) && is_open_brace (seen tokens o.end (at + 2)))) _ _

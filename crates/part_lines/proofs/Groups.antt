@@ -101,8 +101,7 @@ pub record IsGroup (arena : Contents) (later : List ℕ) (count : ℕ) (walk : W
   pub unasked : IsUnasked count next
   pub ends : next_end arena next [] (behind ++ later) ≡ Some count
   pub code : is_comment (item_class arena closer) ≡ false
-  pub pairs : (partners : List (Option ℕ))
-      → PairsThere bottom.place place (classes_of arena behind) partners
+  pub pairs : (partners : List (Option ℕ)) → PairsThere bottom.place place (classes_of arena behind) partners
       (matching_from walk.place (matching (above ++ bottom ∷ []) partners) (classes_of arena rest)).partners
 
 some_wait : (above : List Opener) (bottom : Opener) → above ++ bottom ∷ [] ≡ [] → ⊥
@@ -226,8 +225,7 @@ pair_found partners opener place behind within = set_other (slice_set partners o
     ∙ set_same partners opener (Some place) within
 
 kept_closed : (k i : ℕ) (waiting : List Opener) (partners : List (Option ℕ)) (classes : List TokenClass) (found : Option Nearest) → k < i → Above k waiting
-    → FoundAbove k found
-    → ((waiting : List Opener) (partners : List (Option ℕ)) → Above k waiting
+    → FoundAbove k found → ((waiting : List Opener) (partners : List (Option ℕ)) → Above k waiting
     → slice_get (matching_from (i + 1) (record { open_brackets = waiting; partners = partners }) classes).partners k ≡ slice_get partners k)
     → slice_get (matching_from (i + 1) (closed i found (record { open_brackets = waiting; partners = partners })) classes).partners k ≡ slice_get partners k
 kept_closed k i waiting partners classes None low above there on = on waiting partners above
@@ -243,8 +241,7 @@ partner_kept k i waiting partners [] low above = refl
 partner_kept k i waiting partners (class ∷ classes) low above =
     by_class class (λ waiting partners more. partner_kept k (i + 1) waiting partners classes (omega (arith, low)) more)
   where
-    by_class : (class : TokenClass)
-        → ((waiting : List Opener) (partners : List (Option ℕ)) → Above k waiting
+    by_class : (class : TokenClass) → ((waiting : List Opener) (partners : List (Option ℕ)) → Above k waiting
         → slice_get (matching_from (i + 1) (record { open_brackets = waiting; partners = partners }) classes).partners k ≡ slice_get partners k)
         → slice_get (matching_from i (record { open_brackets = waiting; partners = partners }) (class ∷ classes)).partners k ≡ slice_get partners k
     by_class OpenRound on = on (record { place = i; kind = OpenRound } ∷ waiting) partners (low, above)

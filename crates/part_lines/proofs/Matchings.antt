@@ -85,8 +85,7 @@ opened_holds count place class matching holds = record {
 }
 
 closed_holds : (count place : ℕ) (found : Option Nearest) (matching : Matching) → place < count → ((opener : Nearest) → found ≡ Some opener → Low place opener)
-    → Holds count place matching
-    → Holds count (place + 1) (closed place found matching)
+    → Holds count place matching → Holds count (place + 1) (closed place found matching)
 closed_holds count place None matching within low holds =
     record { openers = more place matching.open_brackets holds.openers; below = holds.below; many = holds.many }
 closed_holds count place (Some opener) matching within low holds =
@@ -151,8 +150,7 @@ abbrev wider : Matching → List (Option ℕ) → Matching
 wider matching others = record { open_brackets = matching.open_brackets; partners = matching.partners ++ others }
 
 closed_wider : (place : ℕ) (found : Option Nearest) (matching : Matching) (others : List (Option ℕ)) → place < length matching.partners
-    → ((opener : Nearest) → found ≡ Some opener → Low place opener)
-    → closed place found (wider matching others) ≡ wider (closed place found matching) others
+    → ((opener : Nearest) → found ≡ Some opener → Low place opener) → closed place found (wider matching others) ≡ wider (closed place found matching) others
 closed_wider place None matching others within low = refl
 closed_wider place (Some opener) matching others within low =
     let before : opener.place < place = (low opener refl).place in
@@ -163,8 +161,7 @@ closed_wider place (Some opener) matching others within low =
     ∙ ap (λ (partners : List (Option ℕ)). record { open_brackets = opener.below; partners = partners }) second
 
 step_wider : (place : ℕ) (class : TokenClass) (matching : Matching) (others : List (Option ℕ)) → place < length matching.partners
-    → StandBefore place matching.open_brackets
-    → bracket_step class place (wider matching others) ≡ wider (bracket_step class place matching) others
+    → StandBefore place matching.open_brackets → bracket_step class place (wider matching others) ≡ wider (bracket_step class place matching) others
 step_wider place OpenRound matching others within stand = refl
 step_wider place OpenSquare matching others within stand = refl
 step_wider place OpenBrace matching others within stand = refl
@@ -179,8 +176,7 @@ step_wider place CloseBrace matching others within stand =
 step_wider place _ matching others within stand = refl
 
 all_wider : (count place : ℕ) (classes : List TokenClass) (matching : Matching) (others : List (Option ℕ)) → place + length classes ≤ count
-    → Holds count place matching
-    → matching_from place (wider matching others) classes ≡ wider (matching_from place matching classes) others
+    → Holds count place matching → matching_from place (wider matching others) classes ≡ wider (matching_from place matching classes) others
 all_wider count place [] matching others within holds = refl
 all_wider count place (class ∷ classes) matching others within holds =
     ap (λ (m : Matching). matching_from (place + 1) m classes) (step_wider place class matching others (omega (arith, within, holds.many)) holds.openers)

@@ -21,9 +21,7 @@ use Rattle.std.proofs.Math.Seq.{get_or-append_seam}
 use Rattle.brackets.specs.declared.pairing.Opener.{Opener}
 use Rattle.brackets.specs.Partners.{Matching, Nearest, is_brace, is_round, is_square, nearest_brace, topmost, closed, bracket_step, matching_from, partners_of}
 use Rattle.part_lines.proofs.Places.{set_other, set_same}
-
-never : false ≡ true → ⊥
-never e = cc
+use Rattle.part_lines.proofs.Choices.{never}
 
 -- the class at a place
 abbrev class_in : List TokenClass → ℕ → TokenClass
@@ -84,7 +82,7 @@ nearest_so classes partners end (opener ∷ below) waits =
     by_brace : (brace : Bool) → is_brace opener ≡ brace → FoundSo classes partners end (λ c. is_open_round c ≡ false) (nearest_brace below)
         → FoundSo classes partners end (λ c. is_open_round c ≡ false)
         (elim brace as (λ _. Option Nearest) [ true ↦ Some (record { place = opener.place; below = below }) | false ↦ nearest_brace below ])
-    by_brace true is on = (waits.0, (ap (λ (c : TokenClass). is_open_round c) waits.1.0 ∙ brace_kind opener.place opener.kind is, waits.1.1))
+    by_brace true is on = (waits.0, (ap is_open_round waits.1.0 ∙ brace_kind opener.place opener.kind is, waits.1.1))
     by_brace false is on = on
 
 topmost_so : (fits : Opener → Bool) (Fits : TokenClass → Type 0) (classes : List TokenClass) (partners : List (Option ℕ)) (end : ℕ) (waiting : List Opener)
@@ -132,8 +130,7 @@ still_wait classes partners opener place end (first ∷ below) low less waits = 
 
 -- a closer and its opener
 pair_matches : (classes : List TokenClass) (place opener : ℕ) (waiting below : List Opener) (partners : List (Option ℕ)) → place < length classes
-    → Matches classes place waiting partners
-    → opener < place → HasNone partners opener → AreWaiting classes partners opener below
+    → Matches classes place waiting partners → opener < place → HasNone partners opener → AreWaiting classes partners opener below
     → (is_open_round (class_in classes opener) ≡ true → is_close_round (class_in classes place) ≡ true) → is_open_round (class_in classes place) ≡ false
     → Matches classes (place + 1) below (paired_at partners opener place)
 pair_matches classes place opener waiting below partners within so less none waits closes closer = record {
@@ -214,7 +211,7 @@ closed_matches classes place Fits waiting partners (Some found) within so there 
     (closes (class_in classes found.place) there.1.0) closer
 
 round_or : (class : TokenClass) → class ≡ CloseRound → is_close_round class ≡ true
-round_or class is = ap (λ (c : TokenClass). is_close_round c) is
+round_or class is = ap is_close_round is
 
 step_matches : (classes : List TokenClass) (place : ℕ) (class : TokenClass) (waiting : List Opener) (partners : List (Option ℕ)) → place < length classes
     → class_in classes place ≡ class → Matches classes place waiting partners
@@ -225,11 +222,11 @@ step_matches classes place OpenBrace waiting partners within is so = opened_matc
 step_matches classes place CloseRound waiting partners within is so =
     closed_matches classes place (λ c. ⊤) waiting partners (topmost is_round waiting) within so
     (topmost_so is_round (λ c. ⊤) classes partners place waiting (λ at kind fits. tt) so.waits)
-    (λ c fits round. round_or (class_in classes place) is) (ap (λ (c : TokenClass). is_open_round c) is)
+    (λ c fits round. round_or (class_in classes place) is) (ap is_open_round is)
 step_matches classes place CloseSquare waiting partners within is so =
     closed_matches classes place (λ c. is_open_round c ≡ false) waiting partners (topmost is_square waiting) within so
     (topmost_so is_square (λ c. is_open_round c ≡ false) classes partners place waiting square_kind so.waits)
-    (λ c fits round. absurd (never (sym fits ∙ round))) (ap (λ (c : TokenClass). is_open_round c) is)
+    (λ c fits round. absurd (never (sym fits ∙ round))) (ap is_open_round is)
   where
     square_kind : (at : ℕ) (kind : TokenClass) → is_square (record { place = at; kind = kind }) ≡ true → is_open_round kind ≡ false
     square_kind at OpenRound e = cc
@@ -237,7 +234,7 @@ step_matches classes place CloseSquare waiting partners within is so =
 step_matches classes place CloseBrace waiting partners within is so =
     closed_matches classes place (λ c. is_open_round c ≡ false) waiting partners (nearest_brace waiting) within so
     (nearest_so classes partners place waiting so.waits)
-    (λ c fits round. absurd (never (sym fits ∙ round))) (ap (λ (c : TokenClass). is_open_round c) is)
+    (λ c fits round. absurd (never (sym fits ∙ round))) (ap is_open_round is)
 step_matches classes place _ waiting partners within is so =
     same_partners classes place waiting waiting partners so (wait_longer classes partners place (place + 1) waiting (omega arith) so.waits)
 
@@ -306,8 +303,7 @@ code_item arena (id ∷ ids) i low = by_comment (cases_Bool (is_comment (item_cl
         counted (inl comment) = omega (arith, counts_none arena id item.before comment, counts_none arena id [] comment, item.counted, e)
         counted (inr code) = omega (arith, counts_one arena id item.before code, counts_one arena id [] code, item.counted, e)
 
-    by_number : is_comment (item_class arena id) ≡ false → (i : ℕ) → i < count_of arena (id ∷ ids)
-        → ((j : ℕ) → j < count_of arena ids → IsCodeItem arena ids j)
+    by_number : is_comment (item_class arena id) ≡ false → (i : ℕ) → i < count_of arena (id ∷ ids) → ((j : ℕ) → j < count_of arena ids → IsCodeItem arena ids j)
         → ((j : ℕ) → IsCodeItem arena ids j → count_of arena (id ∷ []) + j ≡ i → IsCodeItem arena (id ∷ ids) i) → IsCodeItem arena (id ∷ ids) i
     by_number code zero low on behind = record { before = []; id = id; after = ids; split = refl; code = code; counted = refl }
     by_number code (suc j) low on behind = behind j (on j (omega (arith, low, counts_one arena id ids code))) (omega (arith, counts_one arena id [] code))
@@ -381,14 +377,14 @@ round_partner arena ids before id after p split code round found =
     sym told.numbered ∙ (ap (slice_get (numbers_of (classes_of arena ids))) item.stands ∙ number_there arena ids item.before item.id item.after item.split) in
     let at : p ≡ count_of arena item.before = cc in
     let closes : is_close_round (item_class arena item.id) ≡ true =
-    ap (λ (c : TokenClass). is_close_round c)
+    ap is_close_round
     (sym (ap (λ k. get_or (classes_of arena ids) k Nothing) item.stands ∙ class_there arena ids item.before item.id item.after item.split))
-    ∙ pairs.rounds (length before) told.partner told.found (ap (λ (c : TokenClass). is_open_round c) (class_there arena ids before id after split) ∙ round) in
+    ∙ pairs.rounds (length before) told.partner told.found (ap is_open_round (class_there arena ids before id after split) ∙ round) in
     let closer_code = close_is_code (item_class arena item.id) closes in
     let back : slice_get (partners_in arena ids) (length item.before) ≡ Some (Some (length before)) =
     ap (slice_get (partners_in arena ids)) (sym item.stands) ∙ pairs.returns (length before) told.partner told.found in (
       ap (λ k. is_close_round (class_at (code_of arena ids) k)) at
-          ∙ (ap (λ (c : TokenClass). is_close_round c) (code_class arena ids item.before item.id item.after item.split closer_code) ∙ closes),
+          ∙ (ap is_close_round (code_class arena ids item.before item.id item.after item.split closer_code) ∙ closes),
       ap (λ k. partner_of (slice_get (code_of arena ids) k)) at
           ∙ (ap partner_of (token_there arena ids item.before item.id item.after item.split closer_code)
           ∙ (ap (partner_number (numbers_of (classes_of arena ids))) back ∙ number_there arena ids before id after split)),
@@ -401,7 +397,7 @@ code_paired arena ids i p round found = by_place (cases_lt i (length (code_of ar
     by_item item =
         let class : class_at (code_of arena ids) i ≡ item_class arena item.id = ap (class_at (code_of arena ids)) (sym item.counted)
         ∙ code_class arena ids item.before item.id item.after item.split item.code in
-        let told = round_partner arena ids item.before item.id item.after p item.split item.code (ap (λ (c : TokenClass). is_open_round c) (sym class) ∙ round)
+        let told = round_partner arena ids item.before item.id item.after p item.split item.code (ap is_open_round (sym class) ∙ round)
         (ap (partner_in (code_of arena ids) (length (code_of arena ids))) item.counted ∙ found) in
         (told.0, told.1 ∙ ap (λ k. Some k) item.counted)
 

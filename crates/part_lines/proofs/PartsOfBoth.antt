@@ -172,7 +172,7 @@ started_step arena ids rest k id same begin on = by (cases_Bool (is_comment clas
         → parts_from arena ids k true (class ∷ classes_of arena rest) ≡ parts_from arena ids k false (class ∷ classes_of arena rest)
     by (inl comment) =
         let began = begin comment in
-        let item : walk.item_began arena (get_or ids k 0) ≡ true = ap (λ (i : ℕ). walk.item_began arena i) here ∙ began.0 in
+        let item : walk.item_began arena (get_or ids k 0) ≡ true = ap (walk.item_began arena) here ∙ began.0 in
         ap (λ (p : Part). p ∷ parts_from arena ids (k + 1) true (classes_of arena rest)) (own_either arena (get_or ids k 0) class comment item)
         ∙ (ap (λ (ps : List Part). part_of arena (get_or ids k 0) false class ∷ ps) (on later began.1)
         ∙ ap (λ (b : Bool). part_of arena (get_or ids k 0) false class ∷ parts_from arena ids (k + 1) (not b) (classes_of arena rest)) (sym comment))

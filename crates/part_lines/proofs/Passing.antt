@@ -37,25 +37,24 @@ passes_token : (n : ℕ) (tokens : List CodeToken) (at : ℕ) (before : Before) 
 passes_token n tokens at before assigned class is within lost opens on = inr (
   within,
   (
-    ap (λ (c : TokenClass). is_lost c) is ∙ lost,
+    ap is_lost is ∙ lost,
     inr (
-      ap (λ (c : TokenClass). is_opener c) is ∙ opens,
+      ap is_opener is ∙ opens,
       subst (λ (c : TokenClass). Way n tokens (length tokens) (at + 1) (behind_code assigned before c) (assigned_behind assigned c)) (sym is) on,
     ),
   ),
 )
 
 passes_group : (n : ℕ) (tokens : List CodeToken) (at partner : ℕ) (before : Before) (assigned : Bool) (class : TokenClass) → class_at tokens at ≡ class
-    → at < length tokens → is_lost class ≡ false → is_opener class ≡ true
-    → partner_in tokens (length tokens) at ≡ Some partner
+    → at < length tokens → is_lost class ≡ false → is_opener class ≡ true → partner_in tokens (length tokens) at ≡ Some partner
     → Way n tokens (length tokens) (partner + 1) (behind_code assigned before class) (assigned_behind assigned class)
     → Way (suc n) tokens (length tokens) at before assigned
 passes_group n tokens at partner before assigned class is within lost opens found on = inr (
   within,
   (
-    ap (λ (c : TokenClass). is_lost c) is ∙ lost,
+    ap is_lost is ∙ lost,
     inl (
-      ap (λ (c : TokenClass). is_opener c) is ∙ opens,
+      ap is_opener is ∙ opens,
       (
         partner,
         (
@@ -87,8 +86,7 @@ abbrev Told : Contents → List ℕ → ℕ → ℕ → Before → Bool → Type
 Told arena earlier n at before assigned = Way n (code_of arena earlier) (length (code_of arena earlier)) at before assigned
 
 told_end : (n : ℕ) (arena : Contents) (earlier later past : List ℕ) (walk : Walk) (before : Before) (assigned : Bool)
-    → Stands arena earlier later past [] walk before assigned
-    → Told arena earlier n (count_of arena past) before assigned
+    → Stands arena earlier later past [] walk before assigned → Told arena earlier n (count_of arena past) before assigned
 told_end n arena earlier later past walk before assigned stands =
     let whole : past ≡ earlier = sym (stands.split ∙ append-nil past) in
     let here : walk.place ≡ length earlier = stands.place ∙ ap length whole in

@@ -165,8 +165,7 @@ semicolon_stop zero tokens end at a lt enough semi = absurd (omega arith)
 semicolon_stop (suc k) tokens end at a lt enough semi = rw (lt-ltb at end lt, semi, statement_stop) refl
 
 brace_stop : (k : ℕ) (tokens : List CodeToken) (end at : ℕ) (a : Bool) → at < end → end - at ≤ k → is_semicolon (class_at tokens at) ≡ false
-    → opens_block tokens a at ≡ true
-    → statement_stop k tokens end at a ≡ record { at = at; opens = true; assigned = a }
+    → opens_block tokens a at ≡ true → statement_stop k tokens end at a ≡ record { at = at; opens = true; assigned = a }
 brace_stop zero tokens end at a lt enough semi opens = absurd (omega arith)
 brace_stop (suc k) tokens end at a lt enough semi opens = rw (lt-ltb at end lt, semi, opens, statement_stop) refl
 
@@ -274,8 +273,7 @@ stop_alike (suc n) tokens end whole first at before told assigned k m ends (inr 
       ]
     ]
   where
-    behind_one : (tokens : List CodeToken) (first at : ℕ) → first ≤ at
-        → (is_end (if is_plain (class_at tokens at) then Name else Other) ≡ false)
+    behind_one : (tokens : List CodeToken) (first at : ℕ) → first ≤ at → (is_end (if is_plain (class_at tokens at) then Name else Other) ≡ false)
         × Known tokens first (at + 1) (if is_plain (class_at tokens at) then Name else Other)
     behind_one tokens first at low =
         let one : at ≡ at + 1 - 1 = omega arith in

@@ -192,8 +192,7 @@ CutWith n braces tokens = (os : List Open) (start : Start) (at end : ℕ) → Li
     → IsCut at end (lines_from n braces tokens os start at)
 
 cut_step : (n : ℕ) (braces : Braces) (tokens : List CodeToken) (o : Open) (os : List Open) (start : Start) (at end : ℕ) → CutWith n braces tokens
-    → Listed end (o ∷ os) → at ≤ end → end ≤ at + suc n
-    → IsCut at end (lines_from (suc n) braces tokens (o ∷ os) start at)
+    → Listed end (o ∷ os) → at ≤ end → end ≤ at + suc n → IsCut at end (lines_from (suc n) braces tokens (o ∷ os) start at)
 cut_step n braces tokens o os start at end cuts listed low enough = by_place (cases_lt at o.end)
   where
     form : Form

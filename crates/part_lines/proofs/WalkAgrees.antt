@@ -11,18 +11,16 @@ use Rattle.view_parts.specs.declared.walk.Before.TheVariants.{Name, Parameters, 
 use Rattle.view_parts.specs.declared.walk.Walk.{Walk}
 use Rattle.view_parts.specs.Walk.{behind_group, behind, is_end, is_between}
 use Rattle.part_lines.proofs.CodeCut.{behind_opener, behind_code, assigned_behind}
+use Rattle.part_lines.proofs.Choices.{never}
 
 -- the way tells the same, or that nothing ends there
 abbrev pub Agrees : Before → Before → Type 0
 Agrees before there = (there ≡ before) ⊎ ((there ≡ Other) ⊎ (there ≡ Between))
 
-never : false ≡ true → ⊥
-never e = cc
-
 pub ends_agree : (before there : Before) → Agrees before there → is_end there ≡ true → is_end before ≡ true
-ends_agree before there (inl same) end = ap (λ (b : Before). is_end b) (sym same) ∙ end
-ends_agree before there (inr (inl other)) end = absurd (never (ap (λ (b : Before). is_end b) (sym other) ∙ end))
-ends_agree before there (inr (inr between)) end = absurd (never (ap (λ (b : Before). is_end b) (sym between) ∙ end))
+ends_agree before there (inl same) end = ap is_end (sym same) ∙ end
+ends_agree before there (inr (inl other)) end = absurd (never (ap is_end (sym other) ∙ end))
+ends_agree before there (inr (inr between)) end = absurd (never (ap is_end (sym between) ∙ end))
 
 -- ## Behind a group
 

@@ -112,8 +112,7 @@ unwaited assigned before c h = elim (cases_Bool (is_opener c)) [
 
 -- where no group follows that belongs to what stands before, that doesn't matter
 pub unwaited_way : (tokens : List CodeToken) (end at : ℕ) (before : Before) (assigned : Bool) → WayOn tokens end at before assigned → at < end
-    → (is_waiting before ≡ true → is_opener (class_at tokens at) ≡ false)
-    → WayOn tokens end at Other assigned
+    → (is_waiting before ≡ true → is_opener (class_at tokens at) ≡ false) → WayOn tokens end at Other assigned
 unwaited_way tokens end at before assigned way lt h =
     let s = step_of tokens end at before assigned way lt in
     let e = unwaited assigned before (class_at tokens at) h in

@@ -56,7 +56,7 @@ ends_behind : (earlier tokens later : List CodeToken) → IsCutBefore later
 ends_behind earlier tokens later (inl none) =
     let n : ℕ = length earlier in
     let rest : List CodeToken = map (token_behind n) tokens ++ later in
-    let many : length (earlier ++ rest) ≤ n + length tokens = omega (arith, moved_count earlier tokens later, ap (λ (xs : List CodeToken). length xs) none) in
+    let many : length (earlier ++ rest) ≤ n + length tokens = omega (arith, moved_count earlier tokens later, ap length none) in
     or_left (nat_le (length (earlier ++ rest)) (n + length tokens)) _ (le-leb (length (earlier ++ rest)) (n + length tokens) many)
 ends_behind earlier tokens [] (inr word) = absurd word
 ends_behind earlier tokens (token ∷ later) (inr word) =
