@@ -391,7 +391,8 @@ new_there n count early whole tree k part parts m follows =
     (level_there count whole.end_level found ∙ ap (λ (l : ℕ). own_level l found) follows.level)
     ∙ made_there (is_between tree m) (is_own part) (begins_line part parts m) count n k (own_level tree.end_level found) found)))
 
-marks_on : (count lines : ℕ) (between : Bool) (m : Marks) → past_marks (count + m.seen) (lines + m.begun) between ≡ marks_there count lines (past_marks m.seen m.begun between)
+marks_on : (count lines : ℕ) (between : Bool) (m : Marks)
+    → past_marks (count + m.seen) (lines + m.begun) between ≡ marks_there count lines (past_marks m.seen m.begun between)
 marks_on count lines true m =
     let seen : count + m.seen + 1 ≡ count + (m.seen + 1) = omega arith in
     let begun : lines + m.begun + 1 ≡ lines + (m.begun + 1) = omega arith in

@@ -150,11 +150,9 @@ ordinary_on tokens end at before told way lt ordinary =
     let s = step_of tokens end at before told way lt in
     elim s.passed [
       | inl group ↦ absurd (let e : is_opener c ≡ true = group.0 in let f : is_opener c ≡ false = ordinary.0 in cc)
-      | inr one ↦ (
-        assigned_behind told c,
-        subst (λ (b : Before). WayOn tokens end (at + 1) b (assigned_behind told c))
-            (other_code told before c ordinary.0 ordinary.1.0 ∙ cond-false (is_plain c) Name Other ordinary.1.1) one.1,
-      )
+      | inr one ↦
+          let same = other_code told before c ordinary.0 ordinary.1.0 ∙ cond-false (is_plain c) Name Other ordinary.1.1 in
+          (assigned_behind told c, subst (λ (b : Before). WayOn tokens end (at + 1) b (assigned_behind told c)) same one.1)
     ]
 
 pub semicolon_on : (tokens : List CodeToken) (end at : ℕ) (before : Before) (told : Bool) → WayOn tokens end at before told → at < end
@@ -164,11 +162,9 @@ semicolon_on tokens end at before told way lt semi =
     let s = step_of tokens end at before told way lt in
     elim s.passed [
       | inl group ↦ absurd (let e : is_opener c ≡ true = group.0 in let f : is_opener c ≡ false = semicolon_opens c semi in cc)
-      | inr one ↦ (
-        assigned_behind told c,
-        subst (λ (b : Before). WayOn tokens end (at + 1) b (assigned_behind told c))
-            (semicolon_code told before c (semicolon_opens c semi) semi) one.1,
-      )
+      | inr one ↦
+          let same = semicolon_code told before c (semicolon_opens c semi) semi in
+          (assigned_behind told c, subst (λ (b : Before). WayOn tokens end (at + 1) b (assigned_behind told c)) same one.1)
     ]
 
 -- a group behind which nothing waits
@@ -185,13 +181,8 @@ group_on tokens end at before told way lt opens =
     let s = step_of tokens end at before told way lt in
     elim s.passed [
       | inl group ↦
-          record {
-            partner = group.1.0;
-            found = group.1.1.0;
-            told = assigned_behind told c;
-            way = subst
-                (λ (b : Before). WayOn tokens end (group.1.0 + 1) b (assigned_behind told c)) (opener_code told before c opens) group.1.1.1;
-          }
+          let on = subst (λ (b : Before). WayOn tokens end (group.1.0 + 1) b (assigned_behind told c)) (opener_code told before c opens) group.1.1.1 in
+          record { partner = group.1.0; found = group.1.1.0; told = assigned_behind told c; way = on }
       | inr one ↦ absurd (let e : is_opener c ≡ false = one.0 in cc)
     ]
 

@@ -298,6 +298,10 @@ other_there {n} {whole} {tokens} w braces o closes level at assigned most inside
 
 -- ## What line begins at a place
 
+-- a line of this kind and level, which ends at a place, and what follows it
+abbrev line_to : LineKind → ℕ → Next → ℕ → Form
+line_to kind level next end = record { kind = kind; level = level; end = end; next = next }
+
 -- a word and a group stand before a block
 abbrev calls_block : List CodeToken → Open → TokenClass → ℕ → ℕ → Bool
 calls_block tokens o c next g = is_code o.context && (is_plain c && (nat_lt next g && is_open_brace (seen tokens o.end g)))
@@ -335,33 +339,19 @@ unlabelled_there {n} {whole} {tokens} w braces o at most inside =
     choose (form_behind n) (calls_block whole (open_behind n o) (class_at whole (n + at)) (n + at + 1) (after_group whole (n + o.end) (n + at + 1)))
     (calls_block tokens o c (at + 1) g) _ _ _ _
     (calls_there w o c (at + 1) g (class_at whole (n + at)) (n + at + 1) (after_group whole (n + o.end) (n + at + 1)) most here one group)
-    (λ _. ap
-    (λ (j : ℕ). record {
-      kind = Control;
-      level = o.level;
-      end = j;
-      next = Opens braces.after_control
-          (block_at whole (n + o.end) j Code Plain o.level (o.level + 1));
-    }) group
-    ∙ ap (λ (b : Open). record { kind = Control; level = o.level; end = n + g; next = Opens braces.after_control b })
+    (λ _. ap (λ (j : ℕ). line_to Control o.level (Opens braces.after_control (block_at whole (n + o.end) j Code Plain o.level (o.level + 1))) j) group
+    ∙ ap (λ (b : Open). line_to Control o.level (Opens braces.after_control b) (n + g))
     (block_from_there w o.end g (n + g) Code Plain o.level (o.level + 1) most refl))
     (λ _. choose (form_behind n) (is_open_brace (class_at whole (n + at))) (is_open_brace c) _ _ _ _ (ap is_open_brace here)
-    (λ _. ap (λ (b : Open). record { kind = Brace; level = o.level; end = n + at; next = Opens false b })
+    (λ _. ap (λ (b : Open). line_to Brace o.level (Opens false b) (n + at))
     (block_from_there w o.end at (n + at) Code Plain o.level (o.level + 1) most refl))
     (λ _. choose (form_behind n) (opens_extern (class_at whole (n + at)) (seen whole (n + o.end) (n + at + 1)) (seen whole (n + o.end) (n + at + 2)))
     (opens_extern c (seen tokens o.end (at + 1)) (seen tokens o.end (at + 2))) _ _ _ _ (extern_same here second third)
-    (λ _. ap
-    (λ (j : ℕ). record {
-      kind = ExternHead;
-      level = o.level;
-      end = j;
-      next = Opens braces.after_extern
-          (block_at whole (n + o.end) j File Plain o.level o.level);
-    }) two
-    ∙ ap (λ (b : Open). record { kind = ExternHead; level = o.level; end = n + (at + 2); next = Opens braces.after_extern b })
+    (λ _. ap (λ (j : ℕ). line_to ExternHead o.level (Opens braces.after_extern (block_at whole (n + o.end) j File Plain o.level o.level)) j) two
+    ∙ ap (λ (b : Open). line_to ExternHead o.level (Opens braces.after_extern b) (n + (at + 2)))
     (block_from_there w o.end (at + 2) (n + (at + 2)) File Plain o.level o.level most refl))
     (λ _. choose (form_behind n) (nat_lt (n + at) (macro_end whole (n + o.end) (n + at))) (nat_lt at m) _ _ _ _ (ap (nat_lt (n + at)) macro ∙ lt_there n at m)
-    (λ _. ap (λ (j : ℕ). record { kind = MacroLine; level = o.level; end = j; next = Ends }) macro)
+    (λ _. ap (line_to MacroLine o.level Ends) macro)
     (λ _. other_there w braces o false o.level at false most (omega (arith, inside))))))
 
 -- what stands for a label, or another form where there is none
@@ -381,23 +371,21 @@ statement_there {n} {whole} {tokens} w braces o at most inside =
     let here : class_at whole (n + at) ≡ c = class_there w at (omega arith) in
     let one : n + at + 1 ≡ n + (at + 1) = omega arith in
     let fuel : n + o.end - (n + at) ≡ o.end - at = omega arith in
+    let unlabelled_whole : Form = elim (is_control (class_at whole (n + at))) as (λ _. Form) [
+      | true ↦ control_form braces whole (open_behind n o) false o.level (n + at)
+      | false ↦ unlabelled braces whole (open_behind n o) (n + at)
+    ] in
     let behind_label : Form =
     elim (is_control c) as (λ _. Form) [ true ↦ control_form braces tokens o false o.level at | false ↦ unlabelled braces tokens o at ] in
     choose (form_behind n) (is_enumerators o.context) (is_enumerators o.context) _ _ _ _ refl
-    (λ _. ap (λ (j : ℕ). record { kind = Enumerator; level = o.level; end = j; next = Ends })
+    (λ _. ap (line_to Enumerator o.level Ends)
     (ap (λ (k : ℕ). enumerator_end k whole (n + o.end) (n + at)) fuel ∙ enumerator_there w (o.end - at) o.end at most))
     (λ _. choose (form_behind n) (is_close_brace (class_at whole (n + at)) && has_no_partner whole (n + at))
     (is_close_brace c && has_no_partner tokens at) _ _ _ _
     (ap (λ (k : TokenClass). is_close_brace k && has_no_partner whole (n + at)) here
     ∙ ap (λ (b : Bool). is_close_brace c && b) (missing_there w at (omega arith)))
-    (λ _. ap (λ (j : ℕ). record { kind = Close; level = o.level; end = j; next = Ends }) one)
-    (λ _. ap
-    (form_or
-    (elim (is_control (class_at whole (n + at))) as (λ _. Form) [
-      | true ↦ control_form braces whole (open_behind n o) false o.level
-          (n + at)
-      | false ↦ unlabelled braces whole (open_behind n o) (n + at)
-    ])) (label_there w braces o at most inside)
+    (λ _. ap (line_to Close o.level Ends) one)
+    (λ _. ap (form_or unlabelled_whole) (label_there w braces o at most inside)
     ∙ (ap (λ (f : Form). form_or f (maybe_behind n (label braces tokens o at)))
     (choose (form_behind n) (is_control (class_at whole (n + at))) (is_control c) (control_form braces tokens o false o.level at)
     (unlabelled braces tokens o at) _ _ (ap is_control here)
@@ -421,18 +409,18 @@ close_there {n} {whole} {tokens} w braces o b at most inside =
     (λ _. choose (form_behind n) (is_do_head b.head && nat_lt (n + at + 1) (tail_end whole (n + o.end) (n + at + 1)))
     (is_do_head b.head && nat_lt (at + 1) t) _ _ _ _ tailed
     (λ _. choose (form_behind n) braces.before_while braces.before_while _ _ _ _ refl
-    (λ _. ap (λ (j : ℕ). record { kind = Close; level = b.head_level; end = j; next = Goes Tail }) one)
-    (λ _. ap (λ (j : ℕ). record { kind = Close; level = b.head_level; end = j; next = Ends }) tail))
+    (λ _. ap (line_to Close b.head_level (Goes Tail)) one)
+    (λ _. ap (line_to Close b.head_level Ends) tail))
     (λ _. choose (form_behind n) (is_semicolon (seen whole (n + o.end) (n + at + 1))) (is_semicolon (seen tokens o.end (at + 1))) _ _ _ _ (ap is_semicolon next)
-    (λ _. ap (λ (j : ℕ). record { kind = Close; level = b.head_level; end = j; next = Ends }) two)
+    (λ _. ap (line_to Close b.head_level Ends) two)
     (λ _. choose (form_behind n) (is_if_head b.head && is_else (seen whole (n + o.end) (n + at + 1)))
     (is_if_head b.head && is_else (seen tokens o.end (at + 1))) _ _ _ _ (ap (λ (k : TokenClass). is_if_head b.head && is_else k) next)
     (λ both. let more : at + 1 < o.end = seen_within is_else tokens o.end (at + 1) refl
     (and_parts (is_if_head b.head) (is_else (seen tokens o.end (at + 1))) both).1 in
     choose (form_behind n) braces.before_else braces.before_else _ _ _ _ refl
-    (λ _. ap (λ (j : ℕ). record { kind = Close; level = b.head_level; end = j; next = Goes Fresh }) one)
+    (λ _. ap (line_to Close b.head_level (Goes Fresh)) one)
     (λ _. control_there w braces o true b.head_level at most (omega arith)))
-    (λ _. ap (λ (j : ℕ). record { kind = Close; level = b.head_level; end = j; next = Ends }) one))))
+    (λ _. ap (line_to Close b.head_level Ends) one))))
 
 pub form_there : {n : ℕ} {whole tokens : List CodeToken} → IsWindow n whole tokens → (braces : Braces) (o : Open) (start : Start) (at : ℕ)
     → o.end ≤ length tokens → at < o.end
@@ -442,6 +430,6 @@ form_there {n} {whole} {tokens} w braces o Tail at most inside =
     let t : ℕ = tail_end tokens o.end at in
     let tail : tail_end whole (n + o.end) (n + at) ≡ n + t = tail_there w o.end at most in
     choose (form_behind n) (nat_lt (n + at) (tail_end whole (n + o.end) (n + at))) (nat_lt at t) _ _ _ _ (ap (nat_lt (n + at)) tail ∙ lt_there n at t)
-    (λ _. ap (λ (j : ℕ). record { kind = Control; level = o.level; end = j; next = Ends }) tail)
+    (λ _. ap (line_to Control o.level Ends) tail)
     (λ _. statement_there w braces o at most inside)
 form_there w braces o (Closing b) at most inside = close_there w braces o b at most inside

@@ -138,16 +138,8 @@ stop_reaches (suc n) tokens end i assigned low =
     (λ e.
     either (StopsIn tokens end i) (opens_block tokens assigned i) (record { at = i; opens = true; assigned = assigned })
     (statement_stop n tokens end (step_over tokens end i) (assigns tokens assigned i))
-    (λ brace. record {
-      least = omega arith;
-      most = low;
-      opens = λ e. (
-        here,
-        (and_parts
-            (is_open_brace (class_at tokens i)) _ brace).0,
-      );
-      goes_on = λ e up. never (sym e);
-    })
+    (λ brace. let is : is_open_brace (class_at tokens i) ≡ true = (and_parts (is_open_brace (class_at tokens i)) _ brace).0 in
+    record { least = omega arith; most = low; opens = λ e. (here, is); goes_on = λ e up. never (sym e) })
     (λ e. let step = step_reaches tokens end i here in
     let rest = stop_reaches n tokens end (step_over tokens end i) (assigns tokens assigned i) step.1 in
     record { least = omega (arith, step.0, rest.least); most = rest.most; opens = rest.opens; goes_on = λ e up. omega (arith, step.0, rest.least) })))

@@ -55,14 +55,8 @@ closer_steps : (class : TokenClass) (place : ℕ) (above : List Opener) (bottom 
 closer_steps class place above bottom found code is (inl none) =
     inl (above, (None, λ partners. ap (λ (f : Option Nearest). closed place f (matching (above ++ bottom ∷ []) partners)) (sym none) ∙ is partners))
 closer_steps class place above bottom found code is (inr (inl some)) =
-    inl (
-      some.1.0,
-      (
-        Some some.0,
-        λ partners. ap (λ (f : Option Nearest). closed place f (matching (above ++ bottom ∷ []) partners)) (sym some.1.1)
-            ∙ is partners,
-      ),
-    )
+    let close : List (Option ℕ) → Option Nearest → Matching = λ partners f. closed place f (matching (above ++ bottom ∷ []) partners) in
+    inl (some.1.0, (Some some.0, λ partners. ap (close partners) (sym some.1.1) ∙ is partners))
 closer_steps class place above bottom found code is (inr (inr last)) =
     inr (λ partners. ap (λ (f : Option Nearest). closed place f (matching (above ++ bottom ∷ []) partners)) (sym last) ∙ is partners, code)
 
@@ -133,9 +127,13 @@ grouped arena later count (id ∷ rest) walk above bottom all unasked sound e =
     next = inside walk (item_class arena id)
 
     goes : next_end arena next (waiting_behind (item_class arena id) walk.place (above ++ bottom ∷ [])) (rest ++ later) ≡ Some count
-    goes = subst
-        (λ (b : Bool). by_reading arena (waiting_behind (item_class arena id) walk.place (above ++ bottom ∷ [])) (rest ++ later)
-        (reading arena walk b id (item_class arena id)) ≡ Some count) (is_open_there above bottom) e
+    goes =
+        let waiting = waiting_behind (item_class arena id) walk.place (above ++ bottom ∷ []) in
+        subst (λ (b : Bool). by_reading arena waiting (rest ++ later) (reading arena walk b id (item_class arena id)) ≡ Some count)
+        (is_open_there above bottom) e
+
+    on_from : Matching → List (Option ℕ)
+    on_from m = (matching_from (walk.place + 1) m (classes_of arena rest)).partners
 
     by_step : Stays (item_class arena id) walk.place above bottom ⊎ Leaves (item_class arena id) walk.place above bottom
         → ((next : Walk) (left : List Opener) → next.place ≡ walk.place + 1 → IsUnasked count next → IsSound next (left ++ bottom ∷ [])
@@ -162,13 +160,8 @@ grouped arena later count (id ∷ rest) walk above bottom all unasked sound e =
           ends = group.ends;
           code = group.code;
           pairs = λ partners.
-              let found = group.pairs (paired partners stays.1.0 walk.place) in (
-                found.0,
-                (
-                  found.1.0 ∙ paired_length partners stays.1.0 walk.place,
-                  ap (λ (m : Matching). (matching_from (walk.place + 1) m (classes_of arena rest)).partners) (sym (stays.1.1 partners)) ∙ found.1.1,
-                ),
-              );
+              let found = group.pairs (paired partners stays.1.0 walk.place) in
+              (found.0, (found.1.0 ∙ paired_length partners stays.1.0 walk.place, ap on_from (sym (stays.1.1 partners)) ∙ found.1.1));
         }
     by_step (inr leaves) on =
         let waiting = waits (item_class arena id) walk.place (above ++ bottom ∷ []) [] (Some bottom.place) leaves.0 in
@@ -186,8 +179,7 @@ grouped arena later count (id ∷ rest) walk above bottom all unasked sound e =
           unasked = unasked;
           ends = subst (λ (w : List Opener). next_end arena next w (rest ++ later) ≡ Some count) (sym waiting) goes;
           code = leaves.1;
-          pairs =
-              λ partners. (partners, (refl, ap (λ (m : Matching). (matching_from (walk.place + 1) m (classes_of arena rest)).partners) (sym (leaves.0 partners))));
+          pairs = λ partners. (partners, (refl, ap on_from (sym (leaves.0 partners))));
         }
 
 -- ## Its partner is kept

@@ -365,13 +365,8 @@ round_partner arena ids before id after p split code round found =
     (sym (ap (λ (t : Option CodeToken). within (count_of arena before) (length (code_of arena ids)) (partner_of t))
     (token_there arena ids before id after split code)) ∙ found) in
     let low : told.partner < length ids =
-    omega (
-      arith,
-      slice_get_within (numbers_of (classes_of arena ids)) told.partner p told.numbered,
-      numbers_count 0 (classes_of arena ids),
-      length-map ids
-          (item_class arena),
-    ) in
+    let numbered_there = slice_get_within (numbers_of (classes_of arena ids)) told.partner p told.numbered in
+    omega (arith, numbered_there, numbers_count 0 (classes_of arena ids), length-map ids (item_class arena)) in
     let item = item_there ids told.partner low in
     let number : Some p ≡ Some (count_of arena item.before) =
     sym told.numbered ∙ (ap (slice_get (numbers_of (classes_of arena ids))) item.stands ∙ number_there arena ids item.before item.id item.after item.split) in

@@ -235,7 +235,9 @@ told_step m arena earlier later told n past id rest walk before assigned few eno
     Behind n at = Told arena earlier n at (behind_code assigned before class) (assigned_behind assigned class)
 
     on : GoesOutside arena walk id (rest ++ later) (length earlier)
-    on = goes_outside arena walk id (rest ++ later) (length earlier) (λ e. omega (arith, e, not_yet arena earlier later past id rest walk before assigned stands)) stands.unasked stands.ends
+    on =
+        let more = not_yet arena earlier later past id rest walk before assigned stands in
+        goes_outside arena walk id (rest ++ later) (length earlier) (λ e. omega (arith, e, more)) stands.unasked stands.ends
 
     by_comment : is_comment class ≡ true → Told arena earlier n (count_of arena past) before assigned
     by_comment comment =
@@ -250,9 +252,10 @@ told_step m arena earlier later told n past id rest walk before assigned few eno
     by_token n enough code opens =
         let one = one_more arena past id code in
         let agrees : Agrees (behind_code assigned before class) (behind walk class) =
-        subst (λ (b : Bool). Agrees (behind_code b before class) (behind walk class)) stands.same_assigned (behind_agrees walk before class code stands.agrees) in
-        let next = next_stands arena earlier later past id rest walk before (behind_code assigned before class) assigned (assigned_behind assigned class) stands on opens
-        agrees (assigned_agrees walk.assigned class ∙ ap (λ (b : Bool). assigned_behind b class) stands.same_assigned) in
+        subst (λ (b : Bool). Agrees (behind_code b before class) (behind walk class)) stands.same_assigned
+        (behind_agrees walk before class code stands.agrees) in
+        let next = next_stands arena earlier later past id rest walk before (behind_code assigned before class) assigned (assigned_behind assigned class)
+        stands on opens agrees (assigned_agrees walk.assigned class ∙ ap (λ (b : Bool). assigned_behind b class) stands.same_assigned) in
         let rest_told = told n (past ++ id ∷ []) rest (outside walk class on.asked) (behind_code assigned before class) (assigned_behind assigned class)
         few (omega (arith, enough, one)) next in
         passes_token n tokens (count_of arena past) before assigned class (code_class arena earlier past id rest stands.split code)

@@ -121,17 +121,10 @@ behind_group : (tokens : List CodeToken) (first at p : ℕ) (told assigned : Boo
 behind_group tokens first at p told assigned Name low up pair imply block known =
     let one : p ≡ p + 1 - 1 = omega arith in
     cond_both (is_open_round (class_at tokens at)) Parameters Other (λ (b : Before). (is_end b ≡ false) × Known tokens first (p + 1) b)
-    (λ e. (
-      refl,
-      (
-        omega arith,
-        (
-          subst (λ (x : ℕ). is_close_round (class_at tokens x) ≡ true) one (pair e).0,
-          no_call tokens first at p (pair e).1
-              (plain_call (class_at tokens (at - 1)) known.1),
-        ),
-      ),
-    ))
+    (λ e.
+    let closes = subst (λ (x : ℕ). is_close_round (class_at tokens x) ≡ true) one (pair e).0 in
+    let call = no_call tokens first at p (pair e).1 (plain_call (class_at tokens (at - 1)) known.1) in
+    (refl, (omega arith, (closes, call))))
     (λ e. (refl, tt))
 behind_group tokens first at p told assigned Parameters low up pair imply block known =
     cond_both (is_open_brace (class_at tokens at) && not told) Body Other (λ (b : Before). (is_end b ≡ false) × Known tokens first (p + 1) b)
@@ -215,12 +208,10 @@ stop_alike (suc n) tokens end whole first at before told assigned k m ends (inr 
           let alone : is_opener c ≡ false = semicolon_opens c semi in
           let way : WayOn tokens end (at + 1) Semicolon false = elim on.1.1 [
             | inl group ↦ absurd (let e : is_opener c ≡ true = group.0 in cc)
-            | inr one ↦ (
-              n,
-              subst (λ (b : Before). Way n tokens end (at + 1) b false) (semicolon_code told before c alone semi)
-                  (subst (λ (a : Bool). Way n tokens end (at + 1) (behind_code told before c) a)
-                  (cond-true (is_semicolon c) false (if is_assigning c then true else told) semi) one.1),
-            )
+            | inr one ↦
+                let none = cond-true (is_semicolon c) false (if is_assigning c then true else told) semi in
+                let unassigned = subst (λ (a : Bool). Way n tokens end (at + 1) (behind_code told before c) a) none one.1 in
+                (n, subst (λ (b : Before). Way n tokens end (at + 1) b false) (semicolon_code told before c alone semi) unassigned)
           ] in
           moved tokens end first _ stop _ stop (sym (semicolon_stop k tokens end at assigned lt few semi))
           (sym (semicolon_stop m tokens whole at assigned wide many semi))
