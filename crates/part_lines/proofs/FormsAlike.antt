@@ -31,6 +31,10 @@ use Rattle.part_lines.proofs.FormsOfWindow.{opened_line, closed_line, stopped}
 
 -- ## Where a line begins
 
+-- what stands before the brace of a block with this head
+abbrev HeadBefore : Head → Before → Type 0
+HeadBefore head before = ((head ≡ Plain) × ((before ≡ Body) ⊎ (before ≡ Other))) ⊎ ((head ≡ Tagged) × (before ≡ Other))
+
 -- behind this block the way goes on
 pub record IsClosing (tokens : List CodeToken) (end : ℕ) (b : Open) (at : ℕ) : Type 0 where
   pub within_list : at < end
@@ -38,7 +42,7 @@ pub record IsClosing (tokens : List CodeToken) (end : ℕ) (b : Open) (at : ℕ)
   pub told : Bool
   pub way : WayOn tokens end (at + 1) before told
   pub imply : b.assigned ≡ true → told ≡ true
-  pub heads : ((b.head ≡ Plain) × ((before ≡ Body) ⊎ (before ≡ Other))) ⊎ ((b.head ≡ Tagged) × (before ≡ Other))
+  pub heads : HeadBefore b.head before
 
 abbrev pub Stand : List CodeToken → ℕ → Start → ℕ → Type 0
 Stand tokens end Fresh at = (at ≡ end) ⊎ ((at < end) × ((told : Bool) × WayOn tokens end at Other told))
@@ -196,28 +200,20 @@ blocks_alike tokens end whole i p order e = block_is tokens end i p e ∙ sym (b
 -- a block is closed, and the way goes on behind it
 pub closing : (tokens : List CodeToken) (end : ℕ) (b : Open) (i p : ℕ) (before : Before) (told : Bool) → b.end ≡ block_end tokens end i
     → partner_in tokens end i ≡ Some p → WayOn tokens end (p + 1) before told
-    → (b.assigned ≡ true → told ≡ true) → ((b.head ≡ Plain) × ((before ≡ Body) ⊎ (before ≡ Other))) ⊎ ((b.head ≡ Tagged) × (before ≡ Other))
+    → (b.assigned ≡ true → told ≡ true) → HeadBefore b.head before
     → IsClosing tokens end b b.end
 closing tokens end b i p before told e found way imply heads =
     let is : b.end ≡ p = e ∙ block_is tokens end i p found in
     let place = partner_place tokens end i p found in
     let below : p < end = place.1 in
-    record {
-      within_list = (omega arith);
-      before = before;
-      told = told;
-      way = subst (λ (x : ℕ). WayOn tokens end (x + 1) before told)
-          (sym is) way;
-      imply = imply;
-      heads = heads;
-    }
+    let on = subst (λ (x : ℕ). WayOn tokens end (x + 1) before told) (sym is) way in
+    record { within_list = omega arith; before = before; told = told; way = on; imply = imply; heads = heads }
 
 -- ## Statements
 
-heads_of : (tag : TokenClass) (before : Before) → before ≡ Other
-    → ((tagged_head tag ≡ Plain) × ((before ≡ Body) ⊎ (before ≡ Other))) ⊎ ((tagged_head tag ≡ Tagged) × (before ≡ Other))
+heads_of : (tag : TokenClass) (before : Before) → before ≡ Other → HeadBefore (tagged_head tag) before
 heads_of tag before e =
-    either (λ (h : Head). ((h ≡ Plain) × ((before ≡ Body) ⊎ (before ≡ Other))) ⊎ ((h ≡ Tagged) × (before ≡ Other)))
+    either (λ (h : Head). HeadBefore h before)
     (is_struct tag || (is_union tag || is_enum tag)) Tagged Plain
     (λ _. inr (refl, e)) (λ _. inl (refl, inr e))
 

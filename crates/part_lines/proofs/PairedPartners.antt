@@ -117,16 +117,15 @@ still_none partners opener place k first second none q has = none q (sym (paired
 still_wait : (classes : List TokenClass) (partners : List (Option ℕ)) (opener place end : ℕ) (waiting : List Opener) → end ≤ opener → opener < place
     → AreWaiting classes partners end waiting → AreWaiting classes (paired_at partners opener place) end waiting
 still_wait classes partners opener place end [] low less waits = tt
-still_wait classes partners opener place end (first ∷ below) low less waits = (
-  waits.0,
-  (
-    waits.1.0,
-    (
-      still_none partners opener place first.place (λ e. omega (arith, e, low, waits.0)) (λ e. omega (arith, e, low, less, waits.0)) waits.1.1.0,
-      still_wait classes partners opener place first.place below (omega (arith, low, waits.0)) less waits.1.1.1,
-    ),
-  ),
-)
+still_wait classes partners opener place end (first ∷ below) low less waits =
+    let none = still_none partners opener place first.place (λ e. omega (arith, e, low, waits.0)) (λ e. omega (arith, e, low, less, waits.0)) waits.1.1.0 in
+    let rest = still_wait classes partners opener place first.place below (omega (arith, low, waits.0)) less waits.1.1.1 in
+    (waits.0, (waits.1.0, (none, rest)))
+
+-- a place and its partner: those of this pair, or others
+abbrev IsOneOf : List (Option ℕ) → ℕ → ℕ → ℕ → ℕ → Type 0
+IsOneOf partners opener place k q =
+    ((k ≡ opener) × (q ≡ place)) ⊎ (((k ≡ place) × (q ≡ opener)) ⊎ (Has partners k q × ((k ≡ opener → ⊥) × (k ≡ place → ⊥))))
 
 -- a closer and its opener
 pair_matches : (classes : List TokenClass) (place opener : ℕ) (waiting below : List Opener) (partners : List (Option ℕ)) → place < length classes
@@ -150,8 +149,7 @@ pair_matches classes place opener waiting below partners within so less none wai
     here = set_same (slice_set partners opener (Some place)) place (Some opener) (omega (arith, within, so.many, length-set partners opener (Some place)))
 
     -- which places have a partner
-    cases : (k q : ℕ) → Has (paired_at partners opener place) k q
-        → ((k ≡ opener) × (q ≡ place)) ⊎ (((k ≡ place) × (q ≡ opener)) ⊎ (Has partners k q × ((k ≡ opener → ⊥) × (k ≡ place → ⊥))))
+    cases : (k q : ℕ) → Has (paired_at partners opener place) k q → IsOneOf partners opener place k q
     cases k q has = elim (cases_eq k opener) [
       | inl first ↦ inl (first, some_same q place (sym has ∙ (ap (slice_get (paired_at partners opener place)) first ∙ there)))
       | inr first ↦ elim (cases_eq k place) [
@@ -160,8 +158,7 @@ pair_matches classes place opener waiting below partners within so less none wai
       ]
     ]
 
-    returns_by : (k q : ℕ) → ((k ≡ opener) × (q ≡ place)) ⊎ (((k ≡ place) × (q ≡ opener)) ⊎ (Has partners k q × ((k ≡ opener → ⊥) × (k ≡ place → ⊥))))
-        → Has (paired_at partners opener place) q k
+    returns_by : (k q : ℕ) → IsOneOf partners opener place k q → Has (paired_at partners opener place) q k
     returns_by k q (inl ends) = ap (slice_get (paired_at partners opener place)) ends.1 ∙ (here ∙ ap (λ n. Some (Some n)) (sym ends.0))
     returns_by k q (inr (inl ends)) = ap (slice_get (paired_at partners opener place)) ends.1 ∙ (there ∙ ap (λ n. Some (Some n)) (sym ends.0))
     returns_by k q (inr (inr old)) =
@@ -173,8 +170,7 @@ pair_matches classes place opener waiting below partners within so less none wai
     returns : (k q : ℕ) → Has (paired_at partners opener place) k q → Has (paired_at partners opener place) q k
     returns k q has = returns_by k q (cases k q has)
 
-    rounds_by : (k q : ℕ) → ((k ≡ opener) × (q ≡ place)) ⊎ (((k ≡ place) × (q ≡ opener)) ⊎ (Has partners k q × ((k ≡ opener → ⊥) × (k ≡ place → ⊥))))
-        → is_open_round (class_in classes k) ≡ true → is_close_round (class_in classes q) ≡ true
+    rounds_by : (k q : ℕ) → IsOneOf partners opener place k q → is_open_round (class_in classes k) ≡ true → is_close_round (class_in classes q) ≡ true
     rounds_by k q (inl ends) round =
         ap (λ n. is_close_round (class_in classes n)) ends.1 ∙ closes (ap (λ n. is_open_round (class_in classes n)) (sym ends.0) ∙ round)
     rounds_by k q (inr (inl ends)) round = absurd (never (sym closer ∙ (ap (λ n. is_open_round (class_in classes n)) (sym ends.0) ∙ round)))

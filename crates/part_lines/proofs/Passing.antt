@@ -34,38 +34,17 @@ passes_token : (n : ℕ) (tokens : List CodeToken) (at : ℕ) (before : Before) 
     → at < length tokens → is_lost class ≡ false → is_opener class ≡ false
     → Way n tokens (length tokens) (at + 1) (behind_code assigned before class) (assigned_behind assigned class)
     → Way (suc n) tokens (length tokens) at before assigned
-passes_token n tokens at before assigned class is within lost opens on = inr (
-  within,
-  (
-    ap is_lost is ∙ lost,
-    inr (
-      ap is_opener is ∙ opens,
-      subst (λ (c : TokenClass). Way n tokens (length tokens) (at + 1) (behind_code assigned before c) (assigned_behind assigned c)) (sym is) on,
-    ),
-  ),
-)
+passes_token n tokens at before assigned class is within lost opens on =
+    let next : TokenClass → Type 0 = λ c. Way n tokens (length tokens) (at + 1) (behind_code assigned before c) (assigned_behind assigned c) in
+    inr (within, (ap is_lost is ∙ lost, inr (ap is_opener is ∙ opens, subst next (sym is) on)))
 
 passes_group : (n : ℕ) (tokens : List CodeToken) (at partner : ℕ) (before : Before) (assigned : Bool) (class : TokenClass) → class_at tokens at ≡ class
     → at < length tokens → is_lost class ≡ false → is_opener class ≡ true → partner_in tokens (length tokens) at ≡ Some partner
     → Way n tokens (length tokens) (partner + 1) (behind_code assigned before class) (assigned_behind assigned class)
     → Way (suc n) tokens (length tokens) at before assigned
-passes_group n tokens at partner before assigned class is within lost opens found on = inr (
-  within,
-  (
-    ap is_lost is ∙ lost,
-    inl (
-      ap is_opener is ∙ opens,
-      (
-        partner,
-        (
-          found,
-          subst (λ (c : TokenClass). Way n tokens (length tokens) (partner + 1) (behind_code assigned before c) (assigned_behind assigned c))
-              (sym is) on,
-        ),
-      ),
-    ),
-  ),
-)
+passes_group n tokens at partner before assigned class is within lost opens found on =
+    let next : TokenClass → Type 0 = λ c. Way n tokens (length tokens) (partner + 1) (behind_code assigned before c) (assigned_behind assigned c) in
+    inr (within, (ap is_lost is ∙ lost, inl (ap is_opener is ∙ opens, (partner, (found, subst next (sym is) on)))))
 
 -- ## The way along the items
 
