@@ -62,10 +62,7 @@ cut_behind arena (id ∷ ids) closes =
     let end = has_last arena id ids in
     let is = closer_is_last (item_class arena end.1.0) (ap closes_part end.1.1.1 ∙ closes) in
     let class = last_class arena (id ∷ ids) end.0 end.1.0 end.1.1.0 is.code in
-    record {
-      list = ap is_before_list class ∙ is.list;
-      closes = ap is_close_round class ∙ is.closes;
-    }
+    record { list = ap is_before_list class ∙ is.list; closes = ap is_close_round class ∙ is.closes }
 
 -- ## Before what follows
 

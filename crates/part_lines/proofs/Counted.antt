@@ -24,7 +24,7 @@ abbrev pub code_count : List TokenClass → ℕ
 code_count [] = 0
 code_count (class ∷ classes) = if is_comment class then code_count classes else suc (code_count classes)
 
-pub codes_on : (before after : List TokenClass) → code_count (before ++ after) ≡ code_count before + code_count after
+codes_on : (before after : List TokenClass) → code_count (before ++ after) ≡ code_count before + code_count after
 codes_on [] after = omega arith
 codes_on (class ∷ before) after = by_comment (is_comment class) (codes_on before after)
   where
@@ -33,12 +33,6 @@ codes_on (class ∷ before) after = by_comment (is_comment class) (codes_on befo
         ≡ (if comment then code_count before else suc (code_count before)) + code_count after
     by_comment true on = on
     by_comment false on = omega (arith, on)
-
-codes_one : (class : TokenClass) (classes : List TokenClass) → is_comment class ≡ false → code_count (class ∷ classes) ≡ suc (code_count classes)
-codes_one class classes code = ap (λ (b : Bool). if b then code_count classes else suc (code_count classes)) code
-
-codes_none : (class : TokenClass) (classes : List TokenClass) → is_comment class ≡ true → code_count (class ∷ classes) ≡ code_count classes
-codes_none class classes comment = ap (λ (b : Bool). if b then code_count classes else suc (code_count classes)) comment
 
 -- ## Their numbers and places
 
@@ -105,10 +99,10 @@ pub counts_on : (arena : Contents) (before after : List ℕ) → count_of arena 
 counts_on arena before after = ap code_count (map-append (item_class arena) before after) ∙ codes_on (classes_of arena before) (classes_of arena after)
 
 pub counts_one : (arena : Contents) (id : ℕ) (ids : List ℕ) → is_comment (item_class arena id) ≡ false → count_of arena (id ∷ ids) ≡ suc (count_of arena ids)
-counts_one arena id ids code = codes_one (item_class arena id) (classes_of arena ids) code
+counts_one arena id ids code = ap (λ (b : Bool). if b then count_of arena ids else suc (count_of arena ids)) code
 
 pub counts_none : (arena : Contents) (id : ℕ) (ids : List ℕ) → is_comment (item_class arena id) ≡ true → count_of arena (id ∷ ids) ≡ count_of arena ids
-counts_none arena id ids comment = codes_none (item_class arena id) (classes_of arena ids) comment
+counts_none arena id ids comment = ap (λ (b : Bool). if b then count_of arena ids else suc (count_of arena ids)) comment
 
 pub counts_all : (arena : Contents) (ids : List ℕ) → length (code_of arena ids) ≡ count_of arena ids
 counts_all arena ids =
