@@ -1,5 +1,5 @@
 -- What is told of tokens that are no comments: behind so many others, around a cut, and on the way outside brackets.
-use Rattle.std.proofs.Common.{◌≡◌, ◌<◌, ◌⊎◌, ℕ, zero, suc, ◌+◌, Bool, true, false, not, ◌&&◌, Some, List, [], ◌∷◌, length}
+use Rattle.std.proofs.Common.{◌≡◌, ◌<◌, ◌⊎◌, ℕ, zero, suc, ◌+◌, Bool, true, false, not, ◌&&◌, Some, List, [], ◌∷◌, length, Option}
 use Rattle.std.specs.Prelude.{IsTrue, IsFalse, if◌then◌else◌, slice_get}
 use Rattle.token_arena.specs.Gaps.{Contents}
 use Rattle.token_classes.specs.declared.class.TokenClass.{TokenClass}
@@ -68,19 +68,19 @@ behind_code assigned before class =
 abbrev pub assigned_behind : Bool → TokenClass → Bool
 assigned_behind assigned class = if is_semicolon class then false else (if is_assigning class then true else assigned)
 
+-- this holds behind a token, or behind the group that it opens and its partner closes
+abbrev pub GoesBy : TokenClass → Option ℕ → ℕ → Before → Bool → (ℕ → Before → Bool → Type 0) → Type 0
+GoesBy class partner at before assigned Next =
+    (IsTrue (is_opener class) × ((closer : ℕ) × ((partner ≡ Some closer) × Next (closer + 1) (behind_code assigned before class) (assigned_behind assigned class))))
+    ⊎ (IsFalse (is_opener class) × Next (at + 1) (behind_code assigned before class) (assigned_behind assigned class))
+
 -- From a place outside brackets the way goes on, group by group, to the end of the list, behind a declaration: no control statement and no label
 -- is met, and each group is closed.
 abbrev pub Way : ℕ → List CodeToken → ℕ → ℕ → Before → Bool → Type 0
 Way zero tokens end at before assigned = (at ≡ end) × IsTrue (is_end before)
 Way (suc n) tokens end at before assigned =
     ((at ≡ end) × IsTrue (is_end before))
-    ⊎ ((at < end) × (IsFalse (is_lost (class_at tokens at))
-    × ((IsTrue (is_opener (class_at tokens at))
-    × ((partner : ℕ)
-    × ((partner_in tokens end at ≡ Some partner) × Way n tokens end (partner + 1) (behind_code assigned before (class_at tokens at))
-    (assigned_behind assigned (class_at tokens at)))))
-    ⊎ (IsFalse (is_opener (class_at tokens at)) × Way n tokens end (at + 1) (behind_code assigned before (class_at tokens at))
-    (assigned_behind assigned (class_at tokens at))))))
+    ⊎ ((at < end) × (IsFalse (is_lost (class_at tokens at)) × GoesBy (class_at tokens at) (partner_in tokens end at) at before assigned (Way n tokens end)))
 
 abbrev pub WayOn : List CodeToken → ℕ → ℕ → Before → Bool → Type 0
 WayOn tokens end at before assigned = (n : ℕ) × Way n tokens end at before assigned

@@ -1,6 +1,6 @@
 -- The way outside brackets: what one step of it passes, and that it is the same in longer lists.
 use Rattle.std.proofs.Common.{◌≡◌, ◌∙◌, ℕ, zero, suc, ◌+◌, ◌<◌, ◌≤◌, Bool, true, false, Option, Some, List, ◌++◌, length, refl, arith, sym, ap, subst, inl, inr, ◌⊎◌}
-use Rattle.std.specs.Prelude.{slice_get, if◌then◌else◌, IsTrue, IsFalse}
+use Rattle.std.specs.Prelude.{slice_get, if◌then◌else◌, IsFalse}
 use Rattle.std.proofs.lemmas.Bool.{cases_Bool}
 use Rattle.token_classes.specs.declared.class.TokenClass.{TokenClass}
 use Rattle.token_classes.specs.Classes.{is_word, is_plain, is_opener, is_open_round, is_close_round, is_semicolon}
@@ -9,7 +9,7 @@ use Rattle.view_parts.specs.declared.walk.Before.TheVariants.{Name, Parameters, 
 use Rattle.view_parts.specs.Walk.{is_end, is_lost}
 use Rattle.unwrapped_lines.specs.declared.token.CodeToken.{CodeToken}
 use Rattle.unwrapped_lines.specs.Forms.{class_of, class_at, partner_of, within, partner_in}
-use Rattle.part_lines.proofs.CodeCut.{behind_code, behind_opener, assigned_behind, Way, WayOn}
+use Rattle.part_lines.proofs.CodeCut.{behind_code, behind_opener, assigned_behind, Way, WayOn, GoesBy}
 use Rattle.part_lines.proofs.Places.{slice_before}
 
 -- ## Longer lists
@@ -23,11 +23,8 @@ way_longer (suc n) earlier later at before assigned (inr on) =
     let end = length earlier in
     let same : slice_get earlier at ≡ slice_get all at = sym (slice_before earlier later at on.0) in
     let class : class_at earlier at ≡ class_at all at = ap class_of same in
-    let P : TokenClass → Option CodeToken → Type 0 = λ c t. IsFalse (is_lost c)
-    × ((IsTrue (is_opener c)
-    × ((partner : ℕ)
-    × ((within at end (partner_of t) ≡ Some partner) × Way n all end (partner + 1) (behind_code assigned before c) (assigned_behind assigned c))))
-    ⊎ (IsFalse (is_opener c) × Way n all end (at + 1) (behind_code assigned before c) (assigned_behind assigned c))) in
+    let P : TokenClass → Option CodeToken → Type 0 = λ c t.
+    IsFalse (is_lost c) × GoesBy c (within at end (partner_of t)) at before assigned (Way n all end) in
     let step : P (class_of (slice_get earlier at)) (slice_get earlier at) = (
       on.1.0,
       elim on.1.1 [
@@ -43,12 +40,7 @@ way_longer (suc n) earlier later at before assigned (inr on) =
 pub record Step (tokens : List CodeToken) (end at : ℕ) (before : Before) (assigned : Bool) : Type 0 where
   pub within_list : at < end
   pub kept : is_lost (class_at tokens at) ≡ false
-  pub passed : ((is_opener (class_at tokens at) ≡ true)
-      × ((partner : ℕ)
-      × ((partner_in tokens end at ≡ Some partner) × WayOn tokens end (partner + 1) (behind_code assigned before (class_at tokens at))
-      (assigned_behind assigned (class_at tokens at)))))
-      ⊎ ((is_opener (class_at tokens at) ≡ false) × WayOn tokens end (at + 1) (behind_code assigned before (class_at tokens at))
-      (assigned_behind assigned (class_at tokens at)))
+  pub passed : GoesBy (class_at tokens at) (partner_in tokens end at) at before assigned (WayOn tokens end)
 
 pub step_of : (tokens : List CodeToken) (end at : ℕ) (before : Before) (assigned : Bool) → WayOn tokens end at before assigned → at < end
     → Step tokens end at before assigned
