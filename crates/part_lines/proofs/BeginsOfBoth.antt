@@ -468,7 +468,6 @@ begins_of_both whole first second parts more both many ends =
     ∙ ap (λ (b : ℕ). record { seen = first.total + 0; begun = b; run = Apart }) begun in
     begins_before whole first (map (code_line_behind first.total) second.lines) parts more 0 no_marks [] first.lines 0 false
     (goes_on whole first second both) start (omega (arith, many)) ends (λ e. absurd (let q : false ≡ true = e in cc))
-    ∙ ap (λ (bs : List Begin). begins_from first parts 0 no_marks ++ bs)
-    (ap (λ (i : ℕ). begins_from whole more i (behind_all first)) place
+    ∙ ap (λ (bs : List Begin). begins_from first parts 0 no_marks ++ bs) (ap (λ (i : ℕ). begins_from whole more i (behind_all first)) place
     ∙ (ap (begins_from whole more (length parts + 0)) marks
     ∙ begins_behind (length parts) first.total first.lines whole second more 0 no_marks both.follows))

@@ -71,7 +71,8 @@ assigned_behind assigned class = if is_semicolon class then false else (if is_as
 -- this holds behind a token, or behind the group that it opens and its partner closes
 abbrev pub GoesBy : TokenClass → Option ℕ → ℕ → Before → Bool → (ℕ → Before → Bool → Type 0) → Type 0
 GoesBy class partner at before assigned Next =
-    (IsTrue (is_opener class) × ((closer : ℕ) × ((partner ≡ Some closer) × Next (closer + 1) (behind_code assigned before class) (assigned_behind assigned class))))
+    (IsTrue (is_opener class)
+    × ((closer : ℕ) × ((partner ≡ Some closer) × Next (closer + 1) (behind_code assigned before class) (assigned_behind assigned class))))
     ⊎ (IsFalse (is_opener class) × Next (at + 1) (behind_code assigned before class) (assigned_behind assigned class))
 
 -- From a place outside brackets the way goes on, group by group, to the end of the list, behind a declaration: no control statement and no label

@@ -156,8 +156,7 @@ code_of_both arena earlier later partners are =
         below_at (length (numbers_of ce)) pe j (subst (λ (k : ℕ). AreBelow k pe) (sym (numbers_count 0 ce)) (partners_below ce)) in
         told_same arena (get_or (ce ++ cl) j Nothing) (get_or ce j Nothing) (get_or (earlier ++ later) j 0) (get_or earlier j 0)
         (partner_number (numbers_of (ce ++ cl)) (slice_get (pe ++ map (partner_behind n) pl) j)) (partner_number (numbers_of ce) (slice_get pe j))
-        (get_or-append ce cl Nothing j within)
-        (get_or-append earlier later 0 j (omega (arith, within, as_many)))
+        (get_or-append ce cl Nothing j within) (get_or-append earlier later 0 j (omega (arith, within, as_many)))
         (ap (λ (ks : List ℕ). partner_number ks (slice_get (pe ++ map (partner_behind n) pl) j)) numbered
         ∙ (ap (partner_number (numbers_of ce ++ map (λ (k : ℕ). count + k) (numbers_of cl))) found
         ∙ number_before (numbers_of ce) (map (λ (k : ℕ). count + k) (numbers_of cl)) (slice_get pe j) below))
@@ -173,8 +172,7 @@ code_of_both arena earlier later partners are =
         let length_is : n ≡ length (numbers_of ce) = omega (arith, as_many, numbers_count 0 ce) in
         told_same arena (get_or (ce ++ cl) (length ce + j) Nothing) (get_or cl j Nothing) (get_or (earlier ++ later) (length ce + j) 0) (get_or later j 0)
         (partner_number (numbers_of (ce ++ cl)) (slice_get (pe ++ map (partner_behind n) pl) (length ce + j)))
-        (partner_behind count (partner_number (numbers_of cl) (slice_get pl j)))
-        (get_or-append-add ce cl j Nothing) item
+        (partner_behind count (partner_number (numbers_of cl) (slice_get pl j))) (get_or-append-add ce cl j Nothing) item
         (ap (λ (ks : List ℕ). partner_number ks (slice_get (pe ++ map (partner_behind n) pl) (length ce + j))) numbered
         ∙ (ap (partner_number (numbers_of ce ++ map (λ (k : ℕ). count + k) (numbers_of cl)))
         (found ∙ ap (λ (k : ℕ). option_map (partner_behind k) (slice_get pl j)) length_is)

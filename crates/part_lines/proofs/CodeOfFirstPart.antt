@@ -89,8 +89,7 @@ begins_word arena all past (id ∷ rest) split so =
     token = token_at arena all (classes_of arena all) (partners_in arena all)
 
     at_comment : Bool → Type 0
-    at_comment b = BeginsWord
-        (map token
+    at_comment b = BeginsWord (map token
         (if b then code_places_from (length past + 1) (classes_of arena rest) else length past ∷ code_places_from (length past + 1) (classes_of arena rest)))
 
     by : (is_word (item_class arena id) ≡ true) ⊎ ((is_comment (item_class arena id) ≡ true) × Follows arena rest)

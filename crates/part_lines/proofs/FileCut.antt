@@ -55,8 +55,7 @@ fresh_cut n m r braces tokens end whole start at ends past many some =
     let order : end ≤ whole = ends.order in
     let e : at ≡ end = past.1 in
     subst (λ (s : Start). lines_from m braces tokens (up_to whole) s at ≡ lines_from n braces tokens (up_to end) s at ++ lines_from r braces tokens
-    (up_to whole) Fresh end) (sym past.0)
-    (anew n m r braces tokens end whole at e order (omega arith) some)
+    (up_to whole) Fresh end) (sym past.0) (anew n m r braces tokens end whole at e order (omega arith) some)
 
 pub lines_cut : (n m r : ℕ) (braces : Braces) (tokens : List CodeToken) (end whole : ℕ) (start : Start) (at : ℕ) → EndsBeforeWord tokens end whole
     → Stand tokens end start at → end ≤ at + n → whole ≤ at + m → whole ≤ end + r

@@ -213,8 +213,7 @@ closing tokens end b i p before told e found way imply heads =
 
 heads_of : (tag : TokenClass) (before : Before) → before ≡ Other → HeadBefore (tagged_head tag) before
 heads_of tag before e =
-    either (λ (h : Head). HeadBefore h before)
-    (is_struct tag || (is_union tag || is_enum tag)) Tagged Plain
+    either (λ (h : Head). HeadBefore h before) (is_struct tag || (is_union tag || is_enum tag)) Tagged Plain
     (λ _. inr (refl, e)) (λ _. inl (refl, inr e))
 
 stopped_alike : (braces : Braces) (tokens : List CodeToken) (end whole : ℕ) (closes : Bool) (level from : ℕ) (s t : Stop) → EndsBeforeWord tokens end whole

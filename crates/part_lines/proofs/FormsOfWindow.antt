@@ -84,8 +84,7 @@ label_form_there {n} {whole} {tokens} w o kind level wrapped colon at most same 
     ∙ ap next
     (choose (next_behind n) (is_open_brace (seen whole (n + o.end) (n + (colon + 1)))) (is_open_brace (seen tokens o.end (colon + 1)))
     (Opens wrapped (block_at tokens o.end (colon + 1) Code Plain level (level + 1))) Ends
-    (Opens wrapped (block_at whole (n + o.end) (n + (colon + 1)) Code Plain level (level + 1))) Ends
-    (ap is_open_brace (seen_there w o.end (colon + 1) most))
+    (Opens wrapped (block_at whole (n + o.end) (n + (colon + 1)) Code Plain level (level + 1))) Ends (ap is_open_brace (seen_there w o.end (colon + 1) most))
     (λ _. ap (λ (b : Open). Opens wrapped b) (block_at_there w o.end (colon + 1) Code Plain level (level + 1) most))
     (λ _. refl))
 
@@ -185,8 +184,7 @@ control_there {n} {whole} {tokens} w braces o closes level at most inside =
     ∙ ap (λ (x : Next). record { kind = kind_or_close closes Control; level = level; end = n + h; next = x })
     (choose (next_behind n) (is_open_brace (seen whole (n + o.end) (n + h))) (is_open_brace (seen tokens o.end h))
     (Opens braces.after_control (control_block braces tokens o.end h head level)) (Waits head)
-    (Opens braces.after_control (control_block braces whole (n + o.end) (n + h) head level)) (Waits head)
-    (ap is_open_brace (seen_there w o.end h most))
+    (Opens braces.after_control (control_block braces whole (n + o.end) (n + h) head level)) (Waits head) (ap is_open_brace (seen_there w o.end h most))
     (λ _. ap (λ (b : Open). Opens braces.after_control b) (control_block_there w braces o.end h head level most))
     (λ _. refl))))
 

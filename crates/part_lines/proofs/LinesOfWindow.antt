@@ -178,8 +178,7 @@ end_there n whole tokens w (suc count) braces (o ∷ os) start at all =
     let f : Form = form_of braces tokens o start at in
     chosen (nat_lt (n + at) (n + o.end)) (nat_lt at o.end) (level_after count braces tokens o os f f.next) (level_of_list (o ∷ os))
     (level_after count braces whole (open_behind n o) (map (open_behind n) os) (form_of braces whole (open_behind n o) (start_behind n start) (n + at))
-    (form_of braces whole (open_behind n o) (start_behind n start) (n + at)).next) (level_of_list (map (open_behind n) (o ∷ os)))
-    (lt_there n at o.end)
+    (form_of braces whole (open_behind n o) (start_behind n start) (n + at)).next) (level_of_list (map (open_behind n) (o ∷ os))) (lt_there n at o.end)
     (λ less. ap (λ (g : Form). level_after count braces whole (open_behind n o) (map (open_behind n) os) g g.next)
     (form_there w braces o start at all.0 (ltb-true at o.end less))
     ∙ level_step n whole tokens w count braces (λ opens start at all. end_there n whole tokens w count braces opens start at all) o os f f.next all

@@ -214,8 +214,7 @@ stop_alike (suc n) tokens end whole first at before told assigned k m ends (inr 
                 (n, subst (λ (b : Before). Way n tokens end (at + 1) b false) (semicolon_code told before c alone semi) unassigned)
           ] in
           moved tokens end first _ stop _ stop (sym (semicolon_stop k tokens end at assigned lt few semi))
-          (sym (semicolon_stop m tokens whole at assigned wide many semi))
-          (record { same = refl; ends = λ _. way; opens = λ e. cc })
+          (sym (semicolon_stop m tokens whole at assigned wide many semi)) (record { same = refl; ends = λ _. way; opens = λ e. cc })
       | inr semi ↦ elim (cases_Bool (opens_block tokens assigned at)) [
         | inl block ↦
             let stop : Stop = record { at = at; opens = true; assigned = assigned } in
@@ -233,8 +232,7 @@ stop_alike (suc n) tokens end whole first at before told assigned k m ends (inr 
               | inr one ↦ absurd (let e : is_opener c ≡ false = one.0 in let f : is_opener c ≡ true = brace_opens c brace in cc)
             ] in
             moved tokens end first _ stop _ stop (sym (brace_stop k tokens end at assigned lt few semi block))
-            (sym (brace_stop m tokens whole at assigned wide many semi block))
-            (record { same = refl; ends = λ e. cc; opens = λ _. opens })
+            (sym (brace_stop m tokens whole at assigned wide many semi block)) (record { same = refl; ends = λ e. cc; opens = λ _. opens })
         | inr block ↦ elim on.1.1 [
           | inl group ↦
               let p = group.1.0 in

@@ -173,8 +173,7 @@ pub group_there : {n : ℕ} {whole tokens : List CodeToken} → IsWindow n whole
     → after_group whole (n + end) (n + i) ≡ n + after_group tokens end i
 group_there {n} {whole} {tokens} w end i most =
     choose (λ (x : ℕ). n + x) (is_open_round (seen whole (n + end) (n + i))) (is_open_round (seen tokens end i)) (behind_partner i (partner_in tokens end i)) i
-    (behind_partner (n + i) (partner_in whole (n + end) (n + i))) (n + i)
-    (ap is_open_round (seen_there w end i most))
+    (behind_partner (n + i) (partner_in whole (n + end) (n + i))) (n + i) (ap is_open_round (seen_there w end i most))
     (λ _. ap (behind_partner (n + i)) (partner_in_there w end i most) ∙ behind_partner_there n i (partner_in tokens end i))
     (λ _. refl)
 
@@ -186,8 +185,7 @@ step_there : {n : ℕ} {whole tokens : List CodeToken} → IsWindow n whole toke
     → step_over whole (n + end) (n + i) ≡ n + step_over tokens end i
 step_there {n} {whole} {tokens} w end i most inside =
     choose (λ (x : ℕ). n + x) (is_opener (class_at whole (n + i))) (is_opener (class_at tokens i)) (behind_partner end (partner_in tokens end i)) (i + 1)
-    (behind_partner (n + end) (partner_in whole (n + end) (n + i))) (n + i + 1)
-    (ap is_opener (class_there w i (omega arith)))
+    (behind_partner (n + end) (partner_in whole (n + end) (n + i))) (n + i + 1) (ap is_opener (class_there w i (omega arith)))
     (λ _. ap (behind_partner (n + end)) (partner_in_there w end i most) ∙ behind_partner_there n end (partner_in tokens end i))
     (λ _. omega arith)
 
