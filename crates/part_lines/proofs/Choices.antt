@@ -1,4 +1,4 @@
--- A choice by the same test, of what one function makes of both.
+-- Choices by a test: what holds of both, what a known test chooses, and what is chosen by the same test.
 use Rattle.std.proofs.Common.{◌≡◌, Bool, true, false, refl, ap}
 
 pub choose : {A B : Type 0} (f : A → B) (tested test : Bool) (x y : A) (x' y' : B) → tested ≡ test → (test ≡ true → x' ≡ f x) → (test ≡ false → y' ≡ f y)
@@ -17,3 +17,12 @@ at_true {A} test x y is = ap (λ (b : Bool). elim b as (λ _. A) [ true ↦ x | 
 
 pub at_false : {A : Type 0} (test : Bool) (x y : A) → test ≡ false → (elim test as (λ _. A) [ true ↦ x | false ↦ y ]) ≡ y
 at_false {A} test x y is = ap (λ (b : Bool). elim b as (λ _. A) [ true ↦ x | false ↦ y ]) is
+
+-- what holds of both holds of the choice
+pub either : {A : Type 0} (P : A → Type 0) (test : Bool) (x y : A) → (test ≡ true → P x) → (test ≡ false → P y)
+    → P (elim test as (λ _. A) [ true ↦ x | false ↦ y ])
+either P true x y one other = one refl
+either P false x y one other = other refl
+
+pub never : {X : Type 0} → false ≡ true → X
+never e = cc

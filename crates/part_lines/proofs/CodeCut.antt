@@ -1,6 +1,6 @@
--- The tokens of a view that are no comments, cut behind a first part: what the proofs of its lines hand to one another.
-use Rattle.std.proofs.Common.{◌≡◌, ◌<◌, ◌≤◌, ◌⊎◌, ℕ, zero, suc, ◌+◌, Bool, true, false, not, ◌&&◌, Some, List, [], ◌∷◌, ◌++◌, length, map}
-use Rattle.std.specs.Prelude.{IsTrue, IsFalse, if◌then◌else◌, All, slice_get}
+-- What is told of tokens that are no comments: behind so many others, around a cut, and on the way outside brackets.
+use Rattle.std.proofs.Common.{◌≡◌, ◌<◌, ◌⊎◌, ℕ, zero, suc, ◌+◌, Bool, true, false, not, ◌&&◌, Some, List, [], ◌∷◌, length, Option}
+use Rattle.std.specs.Prelude.{IsTrue, IsFalse, if◌then◌else◌, slice_get}
 use Rattle.token_arena.specs.Gaps.{Contents}
 use Rattle.token_classes.specs.declared.class.TokenClass.{TokenClass}
 use Rattle.token_classes.specs.Classes.{is_word, is_opener, is_open_round, is_open_brace, is_semicolon, is_plain, is_assigning, is_before_list, is_close_round}
@@ -10,32 +10,31 @@ use Rattle.view_parts.specs.declared.walk.Before.TheVariants.{Name, Parameters, 
 use Rattle.view_parts.specs.Walk.{is_end, is_lost}
 use Rattle.unwrapped_lines.specs.declared.token.CodeToken.{CodeToken}
 use Rattle.unwrapped_lines.specs.declared.line.Line.{Line}
-use Rattle.unwrapped_lines.specs.declared.braces.Braces.{Braces}
 use Rattle.unwrapped_lines.specs.declared.open.Open.{Open}
 use Rattle.unwrapped_lines.specs.declared.open.Start.{Start}
 use Rattle.unwrapped_lines.specs.declared.open.Start.TheVariants.{Fresh, Tail, Closing}
 use Rattle.unwrapped_lines.specs.Forms.{class_at, class_before, partner_in, partner_of}
-use Rattle.unwrapped_lines.specs.Tree.{lines_from, end_level_from, lines_of, end_level, whole_file}
+use Rattle.unwrapped_lines.specs.Tree.{whole_file}
 use Rattle.unwrapped_lines.specs.Viewed.{code_tokens}
-use Rattle.part_lines.specs.Cut.{IsFirstPart, partner_behind, partners_in}
+use Rattle.part_lines.specs.Cut.{partner_behind, partners_in}
 
 -- ## Behind so many tokens
 
 abbrev pub token_behind : ℕ → CodeToken → CodeToken
-token_behind count token = record { class = token.class; began = token.began; touched = token.touched; partner = partner_behind count token.partner }
+token_behind count token = record token { partner = partner_behind count token.partner }
 
 abbrev pub code_line_behind : ℕ → Line → Line
-code_line_behind count line = record { first = count + line.first; end = count + line.end; level = line.level; kind = line.kind; list_level = line.list_level }
+code_line_behind count line = record line { first = count + line.first; end = count + line.end }
 
 abbrev pub open_behind : ℕ → Open → Open
-open_behind count list = record { block = list.block; context = list.context; level = list.level; case_level = list.case_level; end = count + list.end; head = list.head; head_level = list.head_level; assigned = list.assigned }
+open_behind count list = record list { end = count + list.end }
 
 abbrev pub start_behind : ℕ → Start → Start
 start_behind count Fresh = Fresh
 start_behind count Tail = Tail
 start_behind count (Closing block) = Closing (open_behind count block)
 
--- ## What stands around them
+-- ## Around a cut
 
 -- the first of these tokens is a word that began its line
 abbrev pub BeginsWord : List CodeToken → Type 0
@@ -69,24 +68,34 @@ behind_code assigned before class =
 abbrev pub assigned_behind : Bool → TokenClass → Bool
 assigned_behind assigned class = if is_semicolon class then false else (if is_assigning class then true else assigned)
 
--- From a place outside brackets the tokens go on, group by group, to their end, behind a declaration: no control statement and no label is met, and each group is closed.
-abbrev pub Passes : ℕ → List CodeToken → ℕ → Before → Bool → Type 0
-Passes zero tokens at before assigned = (at ≡ length tokens) × IsTrue (is_end before)
-Passes (suc n) tokens at before assigned =
-    ((at ≡ length tokens) × IsTrue (is_end before))
-    ⊎ ((at < length tokens) × (IsFalse (is_lost (class_at tokens at))
-    × ((IsTrue (is_opener (class_at tokens at)) × ((partner : ℕ) × ((partner_in tokens (length tokens) at ≡ Some partner) × Passes n tokens (partner + 1) (behind_code assigned before (class_at tokens at)) (assigned_behind assigned (class_at tokens at)))))
-    ⊎ (IsFalse (is_opener (class_at tokens at)) × Passes n tokens (at + 1) (behind_code assigned before (class_at tokens at)) (assigned_behind assigned (class_at tokens at))))))
+-- this holds behind a token, or behind the group that it opens and its partner closes
+abbrev pub GoesBy : TokenClass → Option ℕ → ℕ → Before → Bool → (ℕ → Before → Bool → Type 0) → Type 0
+GoesBy class partner at before assigned Next =
+    (IsTrue (is_opener class)
+    × ((closer : ℕ) × ((partner ≡ Some closer) × Next (closer + 1) (behind_code assigned before class) (assigned_behind assigned class))))
+    ⊎ (IsFalse (is_opener class) × Next (at + 1) (behind_code assigned before class) (assigned_behind assigned class))
+
+-- From a place outside brackets the way goes on, group by group, to the end of the list, behind a declaration: no control statement and no label
+-- is met, and each group is closed.
+abbrev pub Way : ℕ → List CodeToken → ℕ → ℕ → Before → Bool → Type 0
+Way zero tokens end at before assigned = (at ≡ end) × IsTrue (is_end before)
+Way (suc n) tokens end at before assigned =
+    ((at ≡ end) × IsTrue (is_end before))
+    ⊎ ((at < end) × (IsFalse (is_lost (class_at tokens at)) × GoesBy (class_at tokens at) (partner_in tokens end at) at before assigned (Way n tokens end)))
+
+abbrev pub WayOn : List CodeToken → ℕ → ℕ → Before → Bool → Type 0
+WayOn tokens end at before assigned = (n : ℕ) × Way n tokens end at before assigned
 
 -- these tokens by themselves are a first part
 abbrev pub ArePassed : List CodeToken → Type 0
-ArePassed tokens = Passes (length tokens) tokens 0 Between false
+ArePassed tokens = Way (length tokens) tokens (length tokens) 0 Between false
 
 -- each `(` that has a partner has a `)`, which has it
 abbrev pub ArePaired : List CodeToken → Type 0
-ArePaired tokens = (i p : ℕ) → is_open_round (class_at tokens i) ≡ true → partner_in tokens (length tokens) i ≡ Some p → (is_close_round (class_at tokens p) ≡ true) × (partner_of (slice_get tokens p) ≡ Some i)
+ArePaired tokens = (i p : ℕ) → is_open_round (class_at tokens i) ≡ true → partner_in tokens (length tokens) i ≡ Some p
+    → (is_close_round (class_at tokens p) ≡ true) × (partner_of (slice_get tokens p) ≡ Some i)
 
--- ## What is to be shown
+-- ## Tokens and lists
 
 -- the tokens of items that are no comments
 abbrev pub code_of : Contents → List ℕ → List CodeToken
@@ -94,50 +103,4 @@ code_of arena ids = code_tokens arena ids (classes_of arena ids) (partners_in ar
 
 -- the list of a file whose tokens end at a place
 abbrev pub file_up_to : ℕ → Open
-file_up_to end = record { block = true; context = (whole_file []).context; level = 0; case_level = 0; end = end; head = (whole_file []).head; head_level = 0; assigned = false }
-
--- each list, and the block that is closed, ends at this place or before it
-abbrev pub EndUpTo : ℕ → List Open → Type 0
-EndUpTo end opens = All (λ o. o.end ≤ end) opens
-
-abbrev pub StartsUpTo : ℕ → Start → Type 0
-StartsUpTo end Fresh = Unit {0}
-StartsUpTo end Tail = Unit {0}
-StartsUpTo end (Closing block) = block.end ≤ end
-
--- Lines of lists that end among some tokens are the same wherever these tokens stand.
-pub record InWindow (n : ℕ) (braces : Braces) (earlier tokens later : List CodeToken) (opens : List Open) (start : Start) (at : ℕ) : Type 0 where
-  pub lines : lines_from n braces (earlier ++ (map (token_behind (length earlier)) tokens ++ later)) (map (open_behind (length earlier)) opens) (start_behind (length earlier) start) (length earlier + at)
-      ≡ map (code_line_behind (length earlier)) (lines_from n braces tokens opens start at)
-  pub level : end_level_from n braces (earlier ++ (map (token_behind (length earlier)) tokens ++ later)) (map (open_behind (length earlier)) opens) (start_behind (length earlier) start) (length earlier + at)
-      ≡ end_level_from n braces tokens opens start at
-
--- task W
-abbrev pub Windows : Type 0
-Windows =
-    (n : ℕ) (braces : Braces) (earlier tokens later : List CodeToken) (opens : List Open) (start : Start) (at : ℕ)
-    → IsCutBehind earlier → IsCutBefore later → EndUpTo (length tokens) opens → StartsUpTo (length tokens) start
-    → InWindow n braces earlier tokens later opens start at
-
--- The lines of a file behind a first part begin anew.
-pub record AreLinesCut (braces : Braces) (earlier later : List CodeToken) : Type 0 where
-  pub lines : lines_of braces (earlier ++ later)
-      ≡ lines_from (length earlier) braces (earlier ++ later) (file_up_to (length earlier) ∷ []) Fresh 0
-      ++ lines_from (length later) braces (earlier ++ later) (file_up_to (length (earlier ++ later)) ∷ []) Fresh (length earlier)
-  pub level : end_level braces (earlier ++ later)
-      ≡ end_level_from (length later + 1) braces (earlier ++ later) (file_up_to (length (earlier ++ later)) ∷ []) Fresh (length earlier)
-
--- task S
-abbrev pub CutsLines : Type 0
-CutsLines = (braces : Braces) (earlier later : List CodeToken) → ArePassed earlier → ArePaired earlier → BeginsWord later → AreLinesCut braces earlier later
-
--- the tokens of both sides of a cut
-pub record IsCodeCut (arena : Contents) (earlier later : List ℕ) : Type 0 where
-  pub passed : ArePassed (code_of arena earlier)
-  pub paired : ArePaired (code_of arena earlier)
-  pub behind : IsCutBehind (code_of arena earlier)
-  pub before : BeginsWord (code_of arena later)
-
--- task P
-abbrev pub CutsCode : Type 0
-CutsCode = (arena : Contents) (earlier later : List ℕ) → IsFirstPart arena earlier later → IsCodeCut arena earlier later
+file_up_to end = record (whole_file []) { end = end }

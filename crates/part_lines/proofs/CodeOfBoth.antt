@@ -13,69 +13,35 @@ use Rattle.unwrapped_lines.specs.Viewed.{item_began, colon_touches, numbers_from
 use Rattle.unwrapped_lines.proofs.NumberLemmas.{numbers_count}
 use Rattle.part_lines.specs.Cut.{partner_behind, partners_in}
 use Rattle.part_lines.proofs.CodeCut.{token_behind, code_of}
-use Rattle.part_lines.proofs.PlacesOfBoth.{slice_before, slice_behind}
-use Rattle.part_lines.proofs.PartnersBelow.{IsBelow, AreBelow, partners_below, as_many_partners}
+use Rattle.part_lines.proofs.Places.{slice_before, slice_behind}
+use Rattle.std.proofs.lemmas.Option.{slice_get-map}
+use Rattle.std.specs.Option.{option_map}
+use Rattle.part_lines.proofs.Counted.{code_count, numbers_on, places_on, places_count}
+use Rattle.part_lines.proofs.Matchings.{IsBelow, AreBelow, partners_below, partners_count}
 
--- ## How many
-
--- how many of these classes are no comments
-abbrev pub code_count : List TokenClass → ℕ
-code_count [] = 0
-code_count (class ∷ classes) = if is_comment class then code_count classes else suc (code_count classes)
-
-numbers_on : (n : ℕ) (xs ys : List TokenClass) → numbers_from n (xs ++ ys) ≡ numbers_from n xs ++ numbers_from (n + code_count xs) ys
-numbers_on n [] ys =
-    let same : n ≡ n + 0 = omega arith in
-    ap (λ (k : ℕ). numbers_from k ys) same
-numbers_on n (x ∷ xs) ys =
-    elim (is_comment x) as (λ b. n ∷ numbers_from (if b then n else n + 1) (xs ++ ys)
-    ≡ n ∷ (numbers_from (if b then n else n + 1) xs ++ numbers_from (n + (if b then code_count xs else suc (code_count xs))) ys)) [
-      | true ↦ ap (λ (ks : List ℕ). n ∷ ks) (numbers_on n xs ys)
-      | false ↦
-          let same : n + 1 + code_count xs ≡ n + suc (code_count xs) = omega arith in
-          ap (λ (ks : List ℕ). n ∷ ks) (numbers_on (n + 1) xs ys ∙ ap (λ (k : ℕ). numbers_from (n + 1) xs ++ numbers_from k ys) same)
-    ]
+-- ## Their numbers
 
 numbers_behind : (n k : ℕ) (classes : List TokenClass) → numbers_from (n + k) classes ≡ map (λ (j : ℕ). n + j) (numbers_from k classes)
 numbers_behind n k [] = refl
 numbers_behind n k (class ∷ classes) =
-    elim (is_comment class) as (λ b. (n + k) ∷ numbers_from (if b then n + k else n + k + 1) classes ≡ (n + k) ∷ map (λ (j : ℕ). n + j) (numbers_from (if b then k else k + 1) classes)) [
+    elim (is_comment class) as (λ b. (n + k) ∷ numbers_from (if b then n + k else n + k + 1) classes ≡ (n + k) ∷ map (λ (j : ℕ). n + j)
+    (numbers_from (if b then k else k + 1) classes)) [
       | true ↦ ap (λ (ks : List ℕ). (n + k) ∷ ks) (numbers_behind n k classes)
       | false ↦
           let same : n + k + 1 ≡ n + (k + 1) = omega arith in
           ap (λ (ks : List ℕ). (n + k) ∷ ks) (ap (λ (j : ℕ). numbers_from j classes) same ∙ numbers_behind n (k + 1) classes)
     ]
 
-places_on : (k : ℕ) (xs ys : List TokenClass) → code_places_from k (xs ++ ys) ≡ code_places_from k xs ++ code_places_from (k + length xs) ys
-places_on k [] ys =
-    let same : k ≡ k + 0 = omega arith in
-    ap (λ (j : ℕ). code_places_from j ys) same
-places_on k (x ∷ xs) ys =
-    let same : k + 1 + length xs ≡ k + length (x ∷ xs) = omega arith in
-    let rest = places_on (k + 1) xs ys ∙ ap (λ (j : ℕ). code_places_from (k + 1) xs ++ code_places_from j ys) same in
-    elim (is_comment x) as (λ b. (if b then code_places_from (k + 1) (xs ++ ys) else k ∷ code_places_from (k + 1) (xs ++ ys))
-    ≡ (if b then code_places_from (k + 1) xs else k ∷ code_places_from (k + 1) xs) ++ code_places_from (k + length (x ∷ xs)) ys) [
-      | true ↦ rest
-      | false ↦ ap (λ (ks : List ℕ). k ∷ ks) rest
-    ]
-
-pub places_count : (k : ℕ) (classes : List TokenClass) → length (code_places_from k classes) ≡ code_count classes
-places_count k [] = refl
-places_count k (class ∷ classes) =
-    let rest = places_count (k + 1) classes in
-    elim (is_comment class) as (λ b. length (if b then code_places_from (k + 1) classes else k ∷ code_places_from (k + 1) classes) ≡ (if b then code_count classes else suc (code_count classes))) [
-      | true ↦ rest
-      | false ↦ ap suc rest
-    ]
-
 -- ## What stands at the places
 
-told_alike : (f g : ℕ → CodeToken) (k : ℕ) (classes : List TokenClass) → ((j : ℕ) → k + j < k + length classes → f (k + j) ≡ g (k + j)) → map f (code_places_from k classes) ≡ map g (code_places_from k classes)
+told_alike : (f g : ℕ → CodeToken) (k : ℕ) (classes : List TokenClass) → ((j : ℕ) → k + j < k + length classes → f (k + j) ≡ g (k + j))
+    → map f (code_places_from k classes) ≡ map g (code_places_from k classes)
 told_alike f g k [] same = refl
 told_alike f g k (class ∷ classes) same =
     let here : f k ≡ g k = subst (λ (i : ℕ). f i ≡ g i) (omega arith) (same 0 (omega arith)) in
     let rest = told_alike f g (k + 1) classes (λ j h. subst (λ (i : ℕ). f i ≡ g i) (omega arith) (same (suc j) (omega (arith, h)))) in
-    elim (is_comment class) as (λ b. map f (if b then code_places_from (k + 1) classes else k ∷ code_places_from (k + 1) classes) ≡ map g (if b then code_places_from (k + 1) classes else k ∷ code_places_from (k + 1) classes)) [
+    elim (is_comment class) as (λ b. map f (if b then code_places_from (k + 1) classes else k ∷ code_places_from (k + 1) classes) ≡ map g
+    (if b then code_places_from (k + 1) classes else k ∷ code_places_from (k + 1) classes)) [
       | true ↦ rest
       | false ↦ ap (λ (t : CodeToken). t ∷ map f (code_places_from (k + 1) classes)) here ∙ ap (λ (ts : List CodeToken). g k ∷ ts) rest
     ]
@@ -87,9 +53,11 @@ told_behind f g h n k (class ∷ classes) same =
     let none : k + 0 ≡ k = omega arith in
     let here : f (n + k) ≡ h (g k) = subst (λ (i : ℕ). f (n + i) ≡ h (g i)) none (same 0) in
     let on : n + k + 1 ≡ n + (k + 1) = omega arith in
-    let later : (j : ℕ) → f (n + (k + 1 + j)) ≡ h (g (k + 1 + j)) = λ j. (let one : k + suc j ≡ k + 1 + j = omega arith in subst (λ (i : ℕ). f (n + i) ≡ h (g i)) one (same (suc j))) in
+    let later : (j : ℕ) → f (n + (k + 1 + j)) ≡ h (g (k + 1 + j)) =
+    λ j. (let one : k + suc j ≡ k + 1 + j = omega arith in subst (λ (i : ℕ). f (n + i) ≡ h (g i)) one (same (suc j))) in
     let rest = ap (λ (i : ℕ). map f (code_places_from i classes)) on ∙ told_behind f g h n (k + 1) classes later in
-    elim (is_comment class) as (λ b. map f (if b then code_places_from (n + k + 1) classes else (n + k) ∷ code_places_from (n + k + 1) classes) ≡ map h (map g (if b then code_places_from (k + 1) classes else k ∷ code_places_from (k + 1) classes))) [
+    elim (is_comment class) as (λ b. map f (if b then code_places_from (n + k + 1) classes else (n + k) ∷ code_places_from (n + k + 1) classes) ≡ map h
+    (map g (if b then code_places_from (k + 1) classes else k ∷ code_places_from (k + 1) classes))) [
       | true ↦ rest
       | false ↦ ap (λ (t : CodeToken). t ∷ map f (code_places_from (n + k + 1) classes)) here ∙ ap (λ (ts : List CodeToken). h (g k) ∷ ts) rest
     ]
@@ -113,42 +81,39 @@ below_at count [] k all = tt
 below_at count (partner ∷ partners) zero all = all.0
 below_at count (partner ∷ partners) (suc k) all = below_at count partners k all.1
 
-number_before : (numbers later : List ℕ) (found : Option (Option ℕ)) → FoundBelow (length numbers) found → partner_number (numbers ++ later) found ≡ partner_number numbers found
+number_before : (numbers later : List ℕ) (found : Option (Option ℕ)) → FoundBelow (length numbers) found
+    → partner_number (numbers ++ later) found ≡ partner_number numbers found
 number_before numbers later None below = refl
 number_before numbers later (Some None) below = refl
 number_before numbers later (Some (Some place)) below = slice_before numbers later place below
 
 -- ## The items behind them
 
-abbrev found_behind : ℕ → Option (Option ℕ) → Option (Option ℕ)
-found_behind count None = None
-found_behind count (Some partner) = Some (partner_behind count partner)
-
-found_there : (count : ℕ) (partners : List (Option ℕ)) (k : ℕ) → slice_get (map (partner_behind count) partners) k ≡ found_behind count (slice_get partners k)
-found_there count [] k = refl
-found_there count (partner ∷ partners) zero = refl
-found_there count (partner ∷ partners) (suc k) = found_there count partners k
-
 number_there : (count : ℕ) (numbers : List ℕ) (k : ℕ) → slice_get (map (λ (j : ℕ). count + j) numbers) k ≡ partner_behind count (slice_get numbers k)
 number_there count [] k = refl
 number_there count (number ∷ numbers) zero = refl
 number_there count (number ∷ numbers) (suc k) = number_there count numbers k
 
-number_behind : (count : ℕ) (early numbers : List ℕ) (found : Option (Option ℕ)) → partner_number (early ++ map (λ (j : ℕ). count + j) numbers) (found_behind (length early) found) ≡ partner_behind count (partner_number numbers found)
+number_behind : (count : ℕ) (early numbers : List ℕ) (found : Option (Option ℕ))
+    → partner_number (early ++ map (λ (j : ℕ). count + j) numbers) (option_map (partner_behind (length early)) found)
+    ≡ partner_behind count (partner_number numbers found)
 number_behind count early numbers None = refl
 number_behind count early numbers (Some None) = refl
 number_behind count early numbers (Some (Some place)) = slice_behind early (map (λ (j : ℕ). count + j) numbers) place ∙ number_there count numbers place
 
 -- ## Both
 
-pub code_of_both : (arena : Contents) (earlier later : List ℕ) (partners : List (Option ℕ)) → partners ≡ partners_in arena earlier ++ map (partner_behind (length earlier)) (partners_in arena later)
-    → code_tokens arena (earlier ++ later) (classes_of arena (earlier ++ later)) partners ≡ code_of arena earlier ++ map (token_behind (length (code_of arena earlier))) (code_of arena later)
+pub code_of_both : (arena : Contents) (earlier later : List ℕ) (partners : List (Option ℕ))
+    → partners ≡ partners_in arena earlier ++ map (partner_behind (length earlier)) (partners_in arena later)
+    → code_tokens arena (earlier ++ later) (classes_of arena (earlier ++ later)) partners
+    ≡ code_of arena earlier ++ map (token_behind (length (code_of arena earlier))) (code_of arena later)
 code_of_both arena earlier later partners are =
     ap (λ (cs : List TokenClass). code_tokens arena (earlier ++ later) cs partners) (map-append (item_class arena) earlier later)
     ∙ (ap (λ (ps : List (Option ℕ)). code_tokens arena (earlier ++ later) (ce ++ cl) ps) are
     ∙ (ap (map all) (places_on 0 ce cl)
     ∙ (map-append all (code_places_from 0 ce) (code_places_from (0 + length ce) cl)
-    ∙ (ap (λ (ts : List CodeToken). ts ++ map all (code_places_from (0 + length ce) cl)) (told_alike all (token_at arena earlier ce pe) 0 ce (λ j h. before (0 + j) (omega (arith, h))))
+    ∙ (ap (λ (ts : List CodeToken). ts ++ map all (code_places_from (0 + length ce) cl))
+    (told_alike all (token_at arena earlier ce pe) 0 ce (λ j h. before (0 + j) (omega (arith, h))))
     ∙ ap (λ (ts : List CodeToken). code_of arena earlier ++ ts) second))))
   where
     ce : List TokenClass
@@ -185,11 +150,13 @@ code_of_both arena earlier later partners are =
 
     before : (j : ℕ) → j < length ce → all j ≡ token_at arena earlier ce pe j
     before j within =
-        let found : slice_get (pe ++ map (partner_behind n) pl) j ≡ slice_get pe j = slice_before pe (map (partner_behind n) pl) j (omega (arith, within, as_many_partners ce)) in
-        let below : FoundBelow (length (numbers_of ce)) (slice_get pe j) = below_at (length (numbers_of ce)) pe j (subst (λ (k : ℕ). AreBelow k pe) (sym (numbers_count 0 ce)) (partners_below ce)) in
-        told_same arena (get_or (ce ++ cl) j Nothing) (get_or ce j Nothing) (get_or (earlier ++ later) j 0) (get_or earlier j 0) (partner_number (numbers_of (ce ++ cl)) (slice_get (pe ++ map (partner_behind n) pl) j)) (partner_number (numbers_of ce) (slice_get pe j))
-        (get_or-append ce cl Nothing j within)
-        (get_or-append earlier later 0 j (omega (arith, within, as_many)))
+        let found : slice_get (pe ++ map (partner_behind n) pl) j ≡ slice_get pe j =
+        slice_before pe (map (partner_behind n) pl) j (omega (arith, within, partners_count ce)) in
+        let below : FoundBelow (length (numbers_of ce)) (slice_get pe j) =
+        below_at (length (numbers_of ce)) pe j (subst (λ (k : ℕ). AreBelow k pe) (sym (numbers_count 0 ce)) (partners_below ce)) in
+        told_same arena (get_or (ce ++ cl) j Nothing) (get_or ce j Nothing) (get_or (earlier ++ later) j 0) (get_or earlier j 0)
+        (partner_number (numbers_of (ce ++ cl)) (slice_get (pe ++ map (partner_behind n) pl) j)) (partner_number (numbers_of ce) (slice_get pe j))
+        (get_or-append ce cl Nothing j within) (get_or-append earlier later 0 j (omega (arith, within, as_many)))
         (ap (λ (ks : List ℕ). partner_number ks (slice_get (pe ++ map (partner_behind n) pl) j)) numbered
         ∙ (ap (partner_number (numbers_of ce ++ map (λ (k : ℕ). count + k) (numbers_of cl))) found
         ∙ number_before (numbers_of ce) (map (λ (k : ℕ). count + k) (numbers_of cl)) (slice_get pe j) below))
@@ -197,16 +164,18 @@ code_of_both arena earlier later partners are =
     there : (j : ℕ) → all (length ce + j) ≡ token_behind count (token_at arena later cl pl j)
     there j =
         let place : length ce + j ≡ n + j = omega (arith, as_many) in
-        let many : length ce + j ≡ length pe + j = omega (arith, as_many_partners ce) in
-        let item : get_or (earlier ++ later) (length ce + j) 0 ≡ get_or later j 0 = ap (λ (k : ℕ). get_or (earlier ++ later) k 0) place ∙ get_or-append-add earlier later j 0 in
-        let found : slice_get (pe ++ map (partner_behind n) pl) (length ce + j) ≡ found_behind n (slice_get pl j) =
-        ap (slice_get (pe ++ map (partner_behind n) pl)) many ∙ (slice_behind pe (map (partner_behind n) pl) j ∙ found_there n pl j) in
+        let many : length ce + j ≡ length pe + j = omega (arith, partners_count ce) in
+        let item : get_or (earlier ++ later) (length ce + j) 0 ≡ get_or later j 0 = ap (λ (k : ℕ). get_or (earlier ++ later) k 0) place
+        ∙ get_or-append-add earlier later j 0 in
+        let found : slice_get (pe ++ map (partner_behind n) pl) (length ce + j) ≡ option_map (partner_behind n) (slice_get pl j) =
+        ap (slice_get (pe ++ map (partner_behind n) pl)) many ∙ (slice_behind pe (map (partner_behind n) pl) j ∙ slice_get-map (partner_behind n) pl j) in
         let length_is : n ≡ length (numbers_of ce) = omega (arith, as_many, numbers_count 0 ce) in
         told_same arena (get_or (ce ++ cl) (length ce + j) Nothing) (get_or cl j Nothing) (get_or (earlier ++ later) (length ce + j) 0) (get_or later j 0)
-        (partner_number (numbers_of (ce ++ cl)) (slice_get (pe ++ map (partner_behind n) pl) (length ce + j))) (partner_behind count (partner_number (numbers_of cl) (slice_get pl j)))
-        (get_or-append-add ce cl j Nothing) item
+        (partner_number (numbers_of (ce ++ cl)) (slice_get (pe ++ map (partner_behind n) pl) (length ce + j)))
+        (partner_behind count (partner_number (numbers_of cl) (slice_get pl j))) (get_or-append-add ce cl j Nothing) item
         (ap (λ (ks : List ℕ). partner_number ks (slice_get (pe ++ map (partner_behind n) pl) (length ce + j))) numbered
-        ∙ (ap (partner_number (numbers_of ce ++ map (λ (k : ℕ). count + k) (numbers_of cl))) (found ∙ ap (λ (k : ℕ). found_behind k (slice_get pl j)) length_is)
+        ∙ (ap (partner_number (numbers_of ce ++ map (λ (k : ℕ). count + k) (numbers_of cl)))
+        (found ∙ ap (λ (k : ℕ). option_map (partner_behind k) (slice_get pl j)) length_is)
         ∙ number_behind count (numbers_of ce) (numbers_of cl) (slice_get pl j)))
 
     second : map all (code_places_from (0 + length ce) cl) ≡ map (token_behind count) (code_of arena later)

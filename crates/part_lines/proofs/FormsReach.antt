@@ -1,12 +1,12 @@
 -- How far the line that a statement begins with goes: it takes a token and stays in its list, and so does a block that it opens.
 use Rattle.std.proofs.Common.{◌≡◌, ◌∙◌, ℕ, zero, suc, ◌+◌, ◌-◌, ◌<◌, ◌≤◌, nat_lt, Bool, true, false, not, ◌&&◌, ◌||◌, Option, Some, None, List, refl, sym, ap, arith}
 use Rattle.std.specs.Prelude.{⊤, slice_get}
-use Rattle.std.proofs.lemmas.Bool.{and_parts}
+use Rattle.std.proofs.lemmas.Bool.{and_parts, ltb-true}
 use Rattle.token_classes.specs.declared.class.TokenClass.{TokenClass}
 use Rattle.token_classes.specs.declared.class.TokenClass.TheVariants.{Nothing}
 use Rattle.token_classes.specs.Classes.{is_plain, is_control, is_capital, is_if, is_else, is_while, is_do, is_case, is_default, is_extern, is_opener, is_open_round, is_open_brace, is_close_brace, is_colon, is_semicolon, is_comma, is_question, is_text}
 use Rattle.line_tokens.specs.declared.line.LineKind.{LineKind}
-use Rattle.line_tokens.specs.declared.line.LineKind.TheVariants.{CaseLabel, GotoLabel, Control, Close}
+use Rattle.line_tokens.specs.declared.line.LineKind.TheVariants.{CaseLabel, GotoLabel}
 use Rattle.unwrapped_lines.specs.declared.token.CodeToken.{CodeToken}
 use Rattle.unwrapped_lines.specs.declared.braces.Braces.{Braces}
 use Rattle.unwrapped_lines.specs.declared.open.Head.{Head}
@@ -17,7 +17,8 @@ use Rattle.unwrapped_lines.specs.declared.form.Next.{Next}
 use Rattle.unwrapped_lines.specs.declared.form.Next.TheVariants.{Ends, Goes, Waits, Opens}
 use Rattle.unwrapped_lines.specs.declared.form.Form.{Form}
 use Rattle.unwrapped_lines.specs.declared.form.Stop.{Stop}
-use Rattle.unwrapped_lines.specs.Forms.{class_at, seen, within, partner_of, partner_in, behind_partner, partner_or, after_group, step_over, block_end, has_no_partner, is_code, is_enumerators, is_if_head, is_do_head, is_tagged, case_colon, enumerator_end, opens_block, assigns, statement_stop, label_form, goto_level, label, touched_at, head_of, header_end, control_block, control_form, tail_end, ends_macro, macro_end, other_form, unlabelled, statement, close_form, form_of}
+use Rattle.unwrapped_lines.specs.Forms.{class_at, seen, within, partner_of, partner_in, behind_partner, partner_or, after_group, step_over, block_end, has_no_partner, is_code, is_enumerators, is_if_head, is_do_head, is_tagged, case_colon, enumerator_end, opens_block, assigns, statement_stop, label_form, goto_level, label, touched_at, head_of, header_end, control_block, control_form, tail_end, ends_macro, macro_end, other_form, unlabelled, statement, close_form, form_of, behind_close}
+use Rattle.part_lines.proofs.Choices.{either, never}
 
 -- a line that begins at a place of a list with this end
 abbrev pub Reaches : ℕ → ℕ → Form → Next → Type 0
@@ -36,54 +37,50 @@ Reaches at end form (Opens wrapped block) =
 abbrev pub FormReaches : ℕ → ℕ → Form → Type 0
 FormReaches at end form = Reaches at end form form.next
 
--- ## Choices
-
-pub either : {X : Type 0} (P : X → Type 0) (b : Bool) (x y : X) → (b ≡ true → P x) → (b ≡ false → P y) → P (elim b as (λ _. X) [ true ↦ x | false ↦ y ])
-either P true x y on off = on refl
-either P false x y on off = off refl
-
-less : (a b : ℕ) → nat_lt a b ≡ true → a < b
-less a b e = grind arith
-
-most : (a b : ℕ) → nat_lt a b ≡ false → b ≤ a
-most a b e = grind arith
+-- ## What is seen
 
 -- a class that is seen stands in the list
-seen_within : (is : TokenClass → Bool) (tokens : List CodeToken) (end i : ℕ) → is Nothing ≡ false → is (seen tokens end i) ≡ true → i < end
-seen_within is tokens end i none found = by (nat_lt i end) refl found
-  where
-    by : (b : Bool) → nat_lt i end ≡ b → is (elim b as (λ _. TokenClass) [ true ↦ class_at tokens i | false ↦ Nothing ]) ≡ true → i < end
-    by true e f = less i end e
-    by false e f = absurd (let q : true ≡ false = sym f ∙ none in cc)
+pub seen_class : (fits : TokenClass → Bool) (tokens : List CodeToken) (end i : ℕ) → fits Nothing ≡ false → fits (seen tokens end i) ≡ true
+    → (i < end) × (fits (class_at tokens i) ≡ true)
+seen_class fits tokens end i none =
+    either (λ (c : TokenClass). fits c ≡ true → (i < end) × (fits (class_at tokens i) ≡ true)) (nat_lt i end) (class_at tokens i) Nothing
+    (λ e h. (ltb-true i end e, h)) (λ e h. cc)
+
+pub seen_within : (fits : TokenClass → Bool) (tokens : List CodeToken) (end i : ℕ) → fits Nothing ≡ false → fits (seen tokens end i) ≡ true → i < end
+seen_within fits tokens end i none found = (seen_class fits tokens end i none found).0
 
 -- ## Partners
 
-behind_within : (P : ℕ → Type 0) (otherwise i end : ℕ) (found : Option ℕ) → P otherwise → ((p : ℕ) → i < p → p < end → P (p + 1)) → P (behind_partner otherwise (within i end found))
+behind_within : (P : ℕ → Type 0) (otherwise i end : ℕ) (found : Option ℕ) → P otherwise → ((p : ℕ) → i < p → p < end → P (p + 1))
+    → P (behind_partner otherwise (within i end found))
 behind_within P otherwise i end None none some = none
 behind_within P otherwise i end (Some p) none some = by (nat_lt i p && nat_lt p end) refl
   where
     by : (b : Bool) → (nat_lt i p && nat_lt p end) ≡ b → P (behind_partner otherwise (elim b as (λ _. Option ℕ) [ true ↦ Some p | false ↦ None ]))
-    by true e = (let both = and_parts (nat_lt i p) (nat_lt p end) e in some p (less i p both.0) (less p end both.1))
+    by true e = (let both = and_parts (nat_lt i p) (nat_lt p end) e in some p (ltb-true i p both.0) (ltb-true p end both.1))
     by false e = none
 
-or_within : (P : ℕ → Type 0) (otherwise i end : ℕ) (found : Option ℕ) → P otherwise → ((p : ℕ) → i < p → p < end → P p) → P (partner_or otherwise (within i end found))
+or_within : (P : ℕ → Type 0) (otherwise i end : ℕ) (found : Option ℕ) → P otherwise → ((p : ℕ) → i < p → p < end → P p)
+    → P (partner_or otherwise (within i end found))
 or_within P otherwise i end None none some = none
 or_within P otherwise i end (Some p) none some = by (nat_lt i p && nat_lt p end) refl
   where
     by : (b : Bool) → (nat_lt i p && nat_lt p end) ≡ b → P (partner_or otherwise (elim b as (λ _. Option ℕ) [ true ↦ Some p | false ↦ None ]))
-    by true e = (let both = and_parts (nat_lt i p) (nat_lt p end) e in some p (less i p both.0) (less p end both.1))
+    by true e = (let both = and_parts (nat_lt i p) (nat_lt p end) e in some p (ltb-true i p both.0) (ltb-true p end both.1))
     by false e = none
 
 pub group_reaches : (tokens : List CodeToken) (end i : ℕ) → i ≤ end → (i ≤ after_group tokens end i) × (after_group tokens end i ≤ end)
 group_reaches tokens end i low =
     either (λ (g : ℕ). (i ≤ g) × (g ≤ end)) (is_open_round (seen tokens end i)) (behind_partner i (partner_in tokens end i)) i
-    (λ e. behind_within (λ (g : ℕ). (i ≤ g) × (g ≤ end)) i i end (partner_of (slice_get tokens i)) (omega arith, low) (λ p up down. (omega (arith, up), omega (arith, down))))
+    (λ e. behind_within (λ (g : ℕ). (i ≤ g) × (g ≤ end)) i i end (partner_of (slice_get tokens i)) (omega arith, low)
+    (λ p up down. (omega (arith, up), omega (arith, down))))
     (λ e. (omega arith, low))
 
 pub step_reaches : (tokens : List CodeToken) (end i : ℕ) → i < end → (i < step_over tokens end i) × (step_over tokens end i ≤ end)
 step_reaches tokens end i low =
     either (λ (g : ℕ). (i < g) × (g ≤ end)) (is_opener (class_at tokens i)) (behind_partner end (partner_in tokens end i)) (i + 1)
-    (λ e. behind_within (λ (g : ℕ). (i < g) × (g ≤ end)) end i end (partner_of (slice_get tokens i)) (low, omega arith) (λ p up down. (omega (arith, up), omega (arith, down))))
+    (λ e. behind_within (λ (g : ℕ). (i < g) × (g ≤ end)) end i end (partner_of (slice_get tokens i)) (low, omega arith)
+    (λ p up down. (omega (arith, up), omega (arith, down))))
     (λ e. (omega arith, omega (arith, low)))
 
 pub block_reaches : (tokens : List CodeToken) (end i : ℕ) → i < end → (i < block_end tokens end i) × (block_end tokens end i ≤ end)
@@ -96,7 +93,7 @@ colon_reaches : (n : ℕ) (tokens : List CodeToken) (end i asked : ℕ) → i �
 colon_reaches zero tokens end i asked low = low
 colon_reaches (suc n) tokens end i asked low =
     either (λ (c : ℕ). i ≤ c) (nat_lt i end) _ end
-    (λ inside. let here : i < end = less i end inside in
+    (λ inside. let here : i < end = ltb-true i end inside in
     either (λ (c : ℕ). i ≤ c) (is_question (class_at tokens i)) (case_colon n tokens end (i + 1) (asked + 1)) _
     (λ e. omega (arith, colon_reaches n tokens end (i + 1) (asked + 1) (omega (arith, here))))
     (λ e.
@@ -108,29 +105,21 @@ colon_reaches (suc n) tokens end i asked low =
     (λ e. let step = step_reaches tokens end i here in omega (arith, step.0, colon_reaches n tokens end (step_over tokens end i) asked step.1))))
     (λ e. low)
 
-enumerator_within : (n : ℕ) (tokens : List CodeToken) (end i : ℕ) → i ≤ end → (i ≤ enumerator_end n tokens end i) × (enumerator_end n tokens end i ≤ end)
-enumerator_within zero tokens end i low = (low, omega arith)
-enumerator_within (suc n) tokens end i low =
-    either (λ (c : ℕ). (i ≤ c) × (c ≤ end)) (nat_lt i end) _ end
-    (λ inside. let here : i < end = less i end inside in
-    either (λ (c : ℕ). (i ≤ c) × (c ≤ end)) (is_comma (class_at tokens i)) (i + 1) (enumerator_end n tokens end (step_over tokens end i))
-    (λ e. (omega arith, omega (arith, here)))
-    (λ e. let step = step_reaches tokens end i here in
-    let rest = enumerator_within n tokens end (step_over tokens end i) step.1 in
-    (omega (arith, step.0, rest.0), rest.1)))
-    (λ e. (low, omega arith))
+-- a scan from this place ends there or behind, and behind it where it begins in the list
+abbrev EndsFrom : ℕ → ℕ → ℕ → Type 0
+EndsFrom i end place = (i ≤ place) × ((place ≤ end) × (i < end → i < place))
 
-pub enumerator_reaches : (n : ℕ) (tokens : List CodeToken) (end i : ℕ) → i < end → (i < enumerator_end n tokens end i) × (enumerator_end n tokens end i ≤ end)
-enumerator_reaches zero tokens end i low = (low, omega arith)
+pub enumerator_reaches : (n : ℕ) (tokens : List CodeToken) (end i : ℕ) → i ≤ end → EndsFrom i end (enumerator_end n tokens end i)
+enumerator_reaches zero tokens end i low = (low, (omega arith, λ up. up))
 enumerator_reaches (suc n) tokens end i low =
-    either (λ (c : ℕ). (i < c) × (c ≤ end)) (nat_lt i end) _ end
-    (λ inside.
-    either (λ (c : ℕ). (i < c) × (c ≤ end)) (is_comma (class_at tokens i)) (i + 1) (enumerator_end n tokens end (step_over tokens end i))
-    (λ e. (omega arith, omega (arith, low)))
-    (λ e. let step = step_reaches tokens end i low in
-    let rest = enumerator_within n tokens end (step_over tokens end i) step.1 in
-    (omega (arith, step.0, rest.0), rest.1)))
-    (λ e. (low, omega arith))
+    either (EndsFrom i end) (nat_lt i end) _ end
+    (λ inside. let here : i < end = ltb-true i end inside in
+    either (EndsFrom i end) (is_comma (class_at tokens i)) (i + 1) (enumerator_end n tokens end (step_over tokens end i))
+    (λ e. (omega arith, (omega (arith, here), λ up. omega arith)))
+    (λ e. let step = step_reaches tokens end i here in
+    let rest = enumerator_reaches n tokens end (step_over tokens end i) step.1 in
+    (omega (arith, step.0, rest.0), (rest.1.0, λ up. omega (arith, step.0, rest.0)))))
+    (λ e. (low, (omega arith, λ up. up)))
 
 -- where a statement stops that is no other case
 pub record StopsIn (tokens : List CodeToken) (end i : ℕ) (stop : Stop) : Type 0 where
@@ -139,23 +128,22 @@ pub record StopsIn (tokens : List CodeToken) (end i : ℕ) (stop : Stop) : Type 
   pub opens : stop.opens ≡ true → (stop.at < end) × (is_open_brace (class_at tokens stop.at) ≡ true)
   pub goes_on : stop.opens ≡ false → i < end → i < stop.at
 
-no_brace : {X : Type 0} → false ≡ true → X
-no_brace e = absurd (cc)
-
 pub stop_reaches : (n : ℕ) (tokens : List CodeToken) (end i : ℕ) (assigned : Bool) → i ≤ end → StopsIn tokens end i (statement_stop n tokens end i assigned)
-stop_reaches zero tokens end i assigned low = record { least = low; most = omega arith; opens = λ e. no_brace e; goes_on = λ e up. up }
+stop_reaches zero tokens end i assigned low = record { least = low; most = omega arith; opens = λ e. never e; goes_on = λ e up. up }
 stop_reaches (suc n) tokens end i assigned low =
-    either (λ (s : Stop). StopsIn tokens end i s) (nat_lt i end) _ (record { at = end; opens = false; assigned = assigned })
-    (λ inside. let here : i < end = less i end inside in
-    either (λ (s : Stop). StopsIn tokens end i s) (is_semicolon (class_at tokens i)) (record { at = i + 1; opens = false; assigned = assigned }) _
-    (λ e. record { least = omega arith; most = omega (arith, here); opens = λ e. no_brace e; goes_on = λ e up. omega arith })
+    either (StopsIn tokens end i) (nat_lt i end) _ (record { at = end; opens = false; assigned = assigned })
+    (λ inside. let here : i < end = ltb-true i end inside in
+    either (StopsIn tokens end i) (is_semicolon (class_at tokens i)) (record { at = i + 1; opens = false; assigned = assigned }) _
+    (λ e. record { least = omega arith; most = omega (arith, here); opens = λ e. never e; goes_on = λ e up. omega arith })
     (λ e.
-    either (λ (s : Stop). StopsIn tokens end i s) (opens_block tokens assigned i) (record { at = i; opens = true; assigned = assigned }) (statement_stop n tokens end (step_over tokens end i) (assigns tokens assigned i))
-    (λ brace. record { least = omega arith; most = low; opens = λ e. (here, (and_parts (is_open_brace (class_at tokens i)) _ brace).0); goes_on = λ e up. no_brace (sym e) })
+    either (StopsIn tokens end i) (opens_block tokens assigned i) (record { at = i; opens = true; assigned = assigned })
+    (statement_stop n tokens end (step_over tokens end i) (assigns tokens assigned i))
+    (λ brace. let is : is_open_brace (class_at tokens i) ≡ true = (and_parts (is_open_brace (class_at tokens i)) _ brace).0 in
+    record { least = omega arith; most = low; opens = λ e. (here, is); goes_on = λ e up. never (sym e) })
     (λ e. let step = step_reaches tokens end i here in
     let rest = stop_reaches n tokens end (step_over tokens end i) (assigns tokens assigned i) step.1 in
     record { least = omega (arith, step.0, rest.least); most = rest.most; opens = rest.opens; goes_on = λ e up. omega (arith, step.0, rest.least) })))
-    (λ e. record { least = low; most = omega arith; opens = λ e. no_brace e; goes_on = λ e up. up })
+    (λ e. record { least = low; most = omega arith; opens = λ e. never e; goes_on = λ e up. up })
 
 tail_reaches : (tokens : List CodeToken) (end i : ℕ) → i ≤ end → tail_end tokens end i ≤ end
 tail_reaches tokens end i low =
@@ -176,7 +164,8 @@ macro_reaches tokens end at low =
 
 header_reaches : (tokens : List CodeToken) (end at : ℕ) → at < end → (at < header_end tokens end at) × (header_end tokens end at ≤ end)
 header_reaches tokens end at low =
-    let behind : (i : ℕ) → at < i → i ≤ end → (at < after_group tokens end i) × (after_group tokens end i ≤ end) = λ i up most. (let group = group_reaches tokens end i most in (omega (arith, up, group.0), group.1)) in
+    let behind : (i : ℕ) → at < i → i ≤ end → (at < after_group tokens end i) × (after_group tokens end i ≤ end) =
+    λ i up most. (let group = group_reaches tokens end i most in (omega (arith, up, group.0), group.1)) in
     either (λ (h : ℕ). (at < h) × (h ≤ end)) (is_do (class_at tokens at)) (at + 1) _
     (λ e. (omega arith, omega (arith, low)))
     (λ e.
@@ -190,7 +179,8 @@ header_reaches tokens end at low =
 -- ## Forms
 
 -- a label's line, through its `:`
-label_reaches : (tokens : List CodeToken) (o : Open) (kind : LineKind) (level : ℕ) (wrapped : Bool) (at colon : ℕ) → at < colon → colon < o.end → FormReaches at o.end (label_form tokens o kind level wrapped colon)
+label_reaches : (tokens : List CodeToken) (o : Open) (kind : LineKind) (level : ℕ) (wrapped : Bool) (at colon : ℕ) → at < colon → colon < o.end
+    → FormReaches at o.end (label_form tokens o kind level wrapped colon)
 label_reaches tokens o kind level wrapped at colon up low =
     either (λ (next : Next). Reaches at o.end (label_form tokens o kind level wrapped colon) next) (is_open_brace (seen tokens o.end (colon + 1))) _ Ends
     (λ e.
@@ -206,78 +196,83 @@ LabelReaches at end (Some form) = FormReaches at end form
 labels_reach : (braces : Braces) (tokens : List CodeToken) (o : Open) (at : ℕ) → at < o.end → LabelReaches at o.end (label braces tokens o at)
 labels_reach braces tokens o at low =
     let colon : ℕ = case_colon (o.end - (at + 1)) tokens o.end (at + 1) 0 in
-    either (λ (found : Option Form). LabelReaches at o.end found) (is_case (class_at tokens at) && nat_lt colon o.end) _ _
-    (λ e. label_reaches tokens o CaseLabel o.case_level braces.after_case_label at colon (omega (arith, colon_reaches (o.end - (at + 1)) tokens o.end (at + 1) 0 (omega (arith, low)))) (less colon o.end (and_parts (is_case (class_at tokens at)) (nat_lt colon o.end) e).1))
+    either (LabelReaches at o.end) (is_case (class_at tokens at) && nat_lt colon o.end) _ _
+    (λ e. label_reaches tokens o CaseLabel o.case_level braces.after_case_label at colon
+    (omega (arith, colon_reaches (o.end - (at + 1)) tokens o.end (at + 1) 0 (omega (arith, low))))
+    (ltb-true colon o.end (and_parts (is_case (class_at tokens at)) (nat_lt colon o.end) e).1))
     (λ e.
-    either (λ (found : Option Form). LabelReaches at o.end found) (is_colon (seen tokens o.end (at + 1))) _ None
+    either (LabelReaches at o.end) (is_colon (seen tokens o.end (at + 1))) _ None
     (λ colon.
     let there : at + 1 < o.end = seen_within is_colon tokens o.end (at + 1) refl colon in
-    either (λ (found : Option Form). LabelReaches at o.end found) (is_default (class_at tokens at)) _ _
+    either (LabelReaches at o.end) (is_default (class_at tokens at)) _ _
     (λ e. label_reaches tokens o CaseLabel o.case_level braces.after_case_label at (at + 1) (omega arith) there)
     (λ e.
-    either (λ (found : Option Form). LabelReaches at o.end found) (is_plain (class_at tokens at) && (is_code o.context && not (touched_at tokens (at + 1))))
+    either (LabelReaches at o.end) (is_plain (class_at tokens at) && (is_code o.context && not (touched_at tokens (at + 1))))
     (Some (label_form tokens o GotoLabel (goto_level braces o) false (at + 1))) None
     (λ e. label_reaches tokens o GotoLabel (goto_level braces o) false at (at + 1) (omega arith) there)
     (λ e. tt)))
     (λ e. tt))
 
 control_block_ends : (braces : Braces) (tokens : List CodeToken) (end i : ℕ) (head : Head) (level : ℕ) → i < end
-    → (i < (control_block braces tokens end i head level).end) × (((control_block braces tokens end i head level).end ≤ end) × ((control_block braces tokens end i head level).block ≡ true))
+    → (i < (control_block braces tokens end i head level).end)
+    × (((control_block braces tokens end i head level).end ≤ end) × ((control_block braces tokens end i head level).block ≡ true))
 control_block_ends braces tokens end i head level low =
     let block = block_reaches tokens end i low in
     either (λ (b : Open). (i < b.end) × ((b.end ≤ end) × (b.block ≡ true))) _ _ _ (λ e. (block.0, (block.1, refl))) (λ e. (block.0, (block.1, refl)))
 
--- a header that begins at a place from which on its tokens stand
-control_reaches_from : (braces : Braces) (tokens : List CodeToken) (o : Open) (kind : LineKind) (level at from : ℕ) (head : Head) → at ≤ from → from < o.end
-    → (next : Next) → next ≡ (elim (is_open_brace (seen tokens o.end (header_end tokens o.end from))) as (λ _. Next) [
-      | true ↦ Opens braces.after_control (control_block braces tokens o.end (header_end tokens o.end from) head level)
-      | false ↦ Waits head
-    ]) → FormReaches at o.end (record { kind = kind; level = level; end = header_end tokens o.end from; next = next })
-control_reaches_from braces tokens o kind level at from head order low next is =
+from_up : (closes : Bool) (at : ℕ) → at ≤ behind_close closes at
+from_up true at = omega arith
+from_up false at = omega arith
+
+from_within : (closes : Bool) (at end : ℕ) → at < end → behind_close closes at ≤ end
+from_within true at end low = omega (arith, low)
+from_within false at end low = omega (arith, low)
+
+control_reaches : (braces : Braces) (tokens : List CodeToken) (o : Open) (closes : Bool) (level at : ℕ) → behind_close closes at < o.end
+    → FormReaches at o.end (control_form braces tokens o closes level at)
+control_reaches braces tokens o closes level at low =
+    let from : ℕ = behind_close closes at in
+    let order = from_up closes at in
     let h : ℕ = header_end tokens o.end from in
+    let head : Head = head_of tokens o.end from in
     let header = header_reaches tokens o.end from low in
-    rw is (
-    either (λ (n : Next). Reaches at o.end (record { kind = kind; level = level; end = h; next = n }) n) (is_open_brace (seen tokens o.end h)) _ (Waits head)
+    either (Reaches at o.end (control_form braces tokens o closes level at)) (is_open_brace (seen tokens o.end h))
+    (Opens braces.after_control (control_block braces tokens o.end h head level)) (Waits head)
     (λ e.
     let block = control_block_ends braces tokens o.end h head level (seen_within is_open_brace tokens o.end h refl e) in
     record { begins = omega (arith, order, header.0); takes = λ e. omega (arith, order, header.0); goes_on = block.0; ends = block.1.0; is_block = block.1.1 })
-    (λ e. (omega (arith, order, header.0), header.1)))
+    (λ e. (omega (arith, order, header.0), header.1))
 
-control_reaches : (braces : Braces) (tokens : List CodeToken) (o : Open) (level at : ℕ) → at < o.end → FormReaches at o.end (control_form braces tokens o false level at)
-control_reaches braces tokens o level at low = control_reaches_from braces tokens o Control level at at (head_of tokens o.end at) (omega arith) low _ refl
+-- a place from the statement on is behind its line's beginning, where it is behind the `}` or another one
+from_passed : (closes : Bool) (at place : ℕ) → behind_close closes at ≤ place → (behind_close closes at ≡ at → at ≡ place → ⊥) → at < place
+from_passed true at place least other = omega (arith, least)
+from_passed false at place least other = omega (arith, least, other refl)
 
-close_control_reaches : (braces : Braces) (tokens : List CodeToken) (o : Open) (level at : ℕ) → at + 1 < o.end → FormReaches at o.end (control_form braces tokens o true level at)
-close_control_reaches braces tokens o level at low = control_reaches_from braces tokens o Close level at (at + 1) (head_of tokens o.end (at + 1)) (omega arith) low _ refl
-
-other_reaches : (braces : Braces) (tokens : List CodeToken) (o : Open) (level at : ℕ) (assigned : Bool) → at < o.end → is_open_brace (class_at tokens at) ≡ false
-    → FormReaches at o.end (other_form braces tokens o false level at assigned)
-other_reaches braces tokens o level at assigned low first =
-    let stop : Stop = statement_stop (o.end - at) tokens o.end at assigned in
-    let stops = stop_reaches (o.end - at) tokens o.end at assigned (omega (arith, low)) in
-    either (λ (form : Form). FormReaches at o.end form) stop.opens _ _
+other_reaches : (braces : Braces) (tokens : List CodeToken) (o : Open) (closes : Bool) (level at : ℕ) (assigned : Bool) → at < o.end
+    → (behind_close closes at ≡ at → is_open_brace (class_at tokens at) ≡ false) → FormReaches at o.end (other_form braces tokens o closes level at assigned)
+other_reaches braces tokens o closes level at assigned low first =
+    let from : ℕ = behind_close closes at in
+    let order = from_up closes at in
+    let stop : Stop = statement_stop (o.end - from) tokens o.end from assigned in
+    let stops = stop_reaches (o.end - from) tokens o.end from assigned (from_within closes at o.end low) in
+    either (FormReaches at o.end) stop.opens _ _
     (λ opened.
     let brace = stops.opens opened in
     let block = block_reaches tokens o.end stop.at brace.0 in
-    let other : at ≡ stop.at → ⊥ = λ e. (let q : true ≡ false = sym brace.1 ∙ (ap (λ (i : ℕ). is_open_brace (class_at tokens i)) (sym e) ∙ first) in cc) in
-    let up : at < stop.at = omega (arith, stops.least, other) in
-    record { begins = stops.least; takes = λ e. up; goes_on = block.0; ends = block.1; is_block = refl })
-    (λ closed. (stops.goes_on closed low, stops.most))
-
-close_other_reaches : (braces : Braces) (tokens : List CodeToken) (o : Open) (level at : ℕ) (assigned : Bool) → at < o.end → FormReaches at o.end (other_form braces tokens o true level at assigned)
-close_other_reaches braces tokens o level at assigned low =
-    let stop : Stop = statement_stop (o.end - (at + 1)) tokens o.end (at + 1) assigned in
-    let stops = stop_reaches (o.end - (at + 1)) tokens o.end (at + 1) assigned (omega (arith, low)) in
-    either (λ (form : Form). FormReaches at o.end form) stop.opens _ _
-    (λ opened.
-    let block = block_reaches tokens o.end stop.at (stops.opens opened).0 in
-    record { begins = omega (arith, stops.least); takes = λ e. omega (arith, stops.least); goes_on = block.0; ends = block.1; is_block = refl })
-    (λ closed. (omega (arith, stops.least), stops.most))
+    let up : at < stop.at = from_passed closes at stop.at stops.least (λ here e.
+    let q : true ≡ false = sym brace.1 ∙ (ap (λ (i : ℕ). is_open_brace (class_at tokens i)) (sym e) ∙ first here) in cc) in
+    record { begins = omega (arith, up); takes = λ e. up; goes_on = block.0; ends = block.1; is_block = refl })
+    (λ closed. (
+      from_passed closes at stop.at stops.least (λ here e. let up = stops.goes_on closed (omega (arith, here, low)) in omega (arith, here, up, e)),
+      stops.most,
+    ))
 
 unlabelled_reaches : (braces : Braces) (tokens : List CodeToken) (o : Open) (at : ℕ) → at < o.end → FormReaches at o.end (unlabelled braces tokens o at)
 unlabelled_reaches braces tokens o at low =
     let g : ℕ = after_group tokens o.end (at + 1) in
     let group = group_reaches tokens o.end (at + 1) (omega (arith, low)) in
-    either (λ (form : Form). FormReaches at o.end form) (is_code o.context && (is_plain (class_at tokens at) && (nat_lt (at + 1) g && is_open_brace (seen tokens o.end g)))) _ _
+    either (FormReaches at o.end)
+    (is_code o.context && (is_plain (class_at tokens at) && (nat_lt (at + 1) g && is_open_brace (seen tokens o.end g)))) _ _
     (λ e.
     let one = and_parts (is_code o.context) (is_plain (class_at tokens at) && (nat_lt (at + 1) g && is_open_brace (seen tokens o.end g))) e in
     let two = and_parts (is_plain (class_at tokens at)) (nat_lt (at + 1) g && is_open_brace (seen tokens o.end g)) one.1 in
@@ -285,66 +280,70 @@ unlabelled_reaches braces tokens o at low =
     let block = block_reaches tokens o.end g (seen_within is_open_brace tokens o.end g refl three.1) in
     record { begins = omega (arith, group.0); takes = λ e. omega (arith, group.0); goes_on = block.0; ends = block.1; is_block = refl })
     (λ e.
-    either (λ (form : Form). FormReaches at o.end form) (is_open_brace (class_at tokens at)) _ _
+    either (FormReaches at o.end) (is_open_brace (class_at tokens at)) _ _
     (λ e.
     let block = block_reaches tokens o.end at low in
-    record { begins = omega arith; takes = λ e. no_brace e; goes_on = block.0; ends = block.1; is_block = refl })
+    record { begins = omega arith; takes = λ e. never e; goes_on = block.0; ends = block.1; is_block = refl })
     (λ first.
-    either (λ (form : Form). FormReaches at o.end form) (is_extern (class_at tokens at) && (is_text (seen tokens o.end (at + 1)) && is_open_brace (seen tokens o.end (at + 2)))) _ _
+    either (FormReaches at o.end)
+    (is_extern (class_at tokens at) && (is_text (seen tokens o.end (at + 1)) && is_open_brace (seen tokens o.end (at + 2)))) _ _
     (λ e.
     let one = and_parts (is_extern (class_at tokens at)) (is_text (seen tokens o.end (at + 1)) && is_open_brace (seen tokens o.end (at + 2))) e in
     let two = and_parts (is_text (seen tokens o.end (at + 1))) (is_open_brace (seen tokens o.end (at + 2))) one.1 in
     let block = block_reaches tokens o.end (at + 2) (seen_within is_open_brace tokens o.end (at + 2) refl two.1) in
     record { begins = omega arith; takes = λ e. omega arith; goes_on = block.0; ends = block.1; is_block = refl })
     (λ e.
-    either (λ (form : Form). FormReaches at o.end form) (nat_lt at (macro_end tokens o.end at)) _ _
-    (λ up. (less at (macro_end tokens o.end at) up, macro_reaches tokens o.end at low))
-    (λ e. other_reaches braces tokens o o.level at false low first))))
+    either (FormReaches at o.end) (nat_lt at (macro_end tokens o.end at)) _ _
+    (λ up. (ltb-true at (macro_end tokens o.end at) up, macro_reaches tokens o.end at low))
+    (λ e. other_reaches braces tokens o false o.level at false low (λ here. first)))))
 
-either_label : (at end : ℕ) (found : Option Form) (form : Form) → LabelReaches at end found → FormReaches at end form → FormReaches at end (elim found as (λ _. Form) [ Some f ↦ f | None ↦ form ])
+either_label : (at end : ℕ) (found : Option Form) (form : Form) → LabelReaches at end found → FormReaches at end form
+    → FormReaches at end (elim found as (λ _. Form) [ Some f ↦ f | None ↦ form ])
 either_label at end None form label otherwise = otherwise
 either_label at end (Some f) form label otherwise = label
 
 statement_reaches : (braces : Braces) (tokens : List CodeToken) (o : Open) (at : ℕ) → at < o.end → FormReaches at o.end (statement braces tokens o at)
 statement_reaches braces tokens o at low =
-    either (λ (form : Form). FormReaches at o.end form) (is_enumerators o.context) _ _
-    (λ e. enumerator_reaches (o.end - at) tokens o.end at low)
+    either (FormReaches at o.end) (is_enumerators o.context) _ _
+    (λ e. let rest = enumerator_reaches (o.end - at) tokens o.end at (omega (arith, low)) in (rest.1.1 low, rest.1.0))
     (λ e.
-    either (λ (form : Form). FormReaches at o.end form) (is_close_brace (class_at tokens at) && has_no_partner tokens at) _ _
+    either (FormReaches at o.end) (is_close_brace (class_at tokens at) && has_no_partner tokens at) _ _
     (λ e. (omega arith, omega (arith, low)))
     (λ e.
     either_label at o.end (label braces tokens o at) _ (labels_reach braces tokens o at low)
-    (either (λ (form : Form). FormReaches at o.end form) (is_control (class_at tokens at)) _ _
-    (λ e. control_reaches braces tokens o o.level at low)
+    (either (FormReaches at o.end) (is_control (class_at tokens at)) _ _
+    (λ e. control_reaches braces tokens o false o.level at low)
     (λ e. unlabelled_reaches braces tokens o at low))))
 
 close_reaches : (braces : Braces) (tokens : List CodeToken) (o b : Open) (at : ℕ) → at < o.end → FormReaches at o.end (close_form braces tokens o b at)
 close_reaches braces tokens o b at low =
     let t : ℕ = tail_end tokens o.end (at + 1) in
     let one : (at < at + 1) × (at + 1 ≤ o.end) = (omega arith, omega (arith, low)) in
-    either (λ (form : Form). FormReaches at o.end form) (is_tagged b.head) _ _
-    (λ e. close_other_reaches braces tokens o b.head_level at b.assigned low)
+    either (FormReaches at o.end) (is_tagged b.head) _ _
+    (λ e. other_reaches braces tokens o true b.head_level at b.assigned low (λ here. absurd (omega (arith, here))))
     (λ e.
-    either (λ (form : Form). FormReaches at o.end form) (is_do_head b.head && nat_lt (at + 1) t) _ _
+    either (FormReaches at o.end) (is_do_head b.head && nat_lt (at + 1) t) _ _
     (λ tail.
-    either (λ (form : Form). FormReaches at o.end form) braces.before_while _ _
+    either (FormReaches at o.end) braces.before_while _ _
     (λ e. one)
-    (λ e. (omega (arith, less (at + 1) t (and_parts (is_do_head b.head) (nat_lt (at + 1) t) tail).1), tail_reaches tokens o.end (at + 1) one.1)))
+    (λ e. (omega (arith, ltb-true (at + 1) t (and_parts (is_do_head b.head) (nat_lt (at + 1) t) tail).1), tail_reaches tokens o.end (at + 1) one.1)))
     (λ e.
-    either (λ (form : Form). FormReaches at o.end form) (is_semicolon (seen tokens o.end (at + 1))) _ _
+    either (FormReaches at o.end) (is_semicolon (seen tokens o.end (at + 1))) _ _
     (λ e. (omega arith, omega (arith, seen_within is_semicolon tokens o.end (at + 1) refl e)))
     (λ e.
-    either (λ (form : Form). FormReaches at o.end form) (is_if_head b.head && is_else (seen tokens o.end (at + 1))) _ _
+    either (FormReaches at o.end) (is_if_head b.head && is_else (seen tokens o.end (at + 1))) _ _
     (λ answers.
-    either (λ (form : Form). FormReaches at o.end form) braces.before_else _ _
+    either (FormReaches at o.end) braces.before_else _ _
     (λ e. one)
-    (λ e. close_control_reaches braces tokens o b.head_level at (seen_within is_else tokens o.end (at + 1) refl (and_parts (is_if_head b.head) (is_else (seen tokens o.end (at + 1))) answers).1)))
+    (λ e. control_reaches braces tokens o true b.head_level at
+    (seen_within is_else tokens o.end (at + 1) refl (and_parts (is_if_head b.head) (is_else (seen tokens o.end (at + 1))) answers).1)))
     (λ e. one))))
 
-pub form_reaches : (braces : Braces) (tokens : List CodeToken) (o : Open) (start : Start) (at : ℕ) → at < o.end → FormReaches at o.end (form_of braces tokens o start at)
+pub form_reaches : (braces : Braces) (tokens : List CodeToken) (o : Open) (start : Start) (at : ℕ) → at < o.end
+    → FormReaches at o.end (form_of braces tokens o start at)
 form_reaches braces tokens o Fresh at low = statement_reaches braces tokens o at low
 form_reaches braces tokens o Tail at low =
-    either (λ (form : Form). FormReaches at o.end form) (nat_lt at (tail_end tokens o.end at)) _ _
-    (λ up. (less at (tail_end tokens o.end at) up, tail_reaches tokens o.end at (omega (arith, low))))
+    either (FormReaches at o.end) (nat_lt at (tail_end tokens o.end at)) _ _
+    (λ up. (ltb-true at (tail_end tokens o.end at) up, tail_reaches tokens o.end at (omega (arith, low))))
     (λ e. statement_reaches braces tokens o at low)
 form_reaches braces tokens o (Closing b) at low = close_reaches braces tokens o b at low

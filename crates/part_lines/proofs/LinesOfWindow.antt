@@ -15,23 +15,24 @@ use Rattle.unwrapped_lines.specs.declared.form.Next.TheVariants.{Ends, Goes, Wai
 use Rattle.unwrapped_lines.specs.declared.form.Form.{Form}
 use Rattle.unwrapped_lines.specs.Forms.{seen, is_if_head, is_do_head, tail_end, form_of}
 use Rattle.unwrapped_lines.specs.Tree.{Reading, answers_else, answers_tail, settled, body_of, comment_level, head_lines, line_of, lines_from, level_of_list, end_level_from}
-use Rattle.part_lines.proofs.CodeCut.{token_behind, open_behind, start_behind, code_line_behind, EndUpTo, Windows}
+use Rattle.part_lines.proofs.CodeCut.{token_behind, open_behind, start_behind, code_line_behind, IsCutBehind, IsCutBefore}
 use Rattle.part_lines.proofs.Choices.{choose, chosen}
+use Rattle.part_lines.proofs.FormsOfWindow.{next_behind, form_behind, tail_there, form_there}
+use Rattle.part_lines.proofs.FormsReach.{Reaches, form_reaches}
+use Rattle.part_lines.proofs.Turns.{lines_after, level_after}
 use Rattle.part_lines.proofs.Window.{IsWindow, is_window, lt_there, seen_there}
-use Rattle.part_lines.proofs.BlocksWithin.{EndsWithin, form_within}
-use Rattle.part_lines.proofs.FormsOfLines.{next_behind, form_behind, tail_there}
-use Rattle.part_lines.proofs.FormsOfStarts.{form_there}
 
 -- ## Lists that end up to a place
 
 -- each of these lists does
-abbrev AllWithin : ℕ → List Open → Type 0
+abbrev pub AllWithin : ℕ → List Open → Type 0
 AllWithin most [] = Unit {0}
 AllWithin most (o ∷ os) = (o.end ≤ most) × AllWithin most os
 
-all_within : (most : ℕ) (opens : List Open) → EndUpTo most opens → AllWithin most opens
-all_within most [] all = tt
-all_within most (o ∷ os) all = (all 0 o (omega arith), all_within most os (λ k d inside. all (suc k) d (omega (arith, inside))))
+-- a block that is opened does
+abbrev EndsWithin : ℕ → Next → Type 0
+EndsWithin most (Opens wrapped block) = block.end ≤ most
+EndsWithin most next = Unit {0}
 
 -- ## Settling
 
@@ -45,7 +46,8 @@ settled_there {n} {whole} {tokens} w at (o ∷ os) all =
     let next : seen whole (n + o.end) (n + at) ≡ seen tokens o.end at = seen_there w o.end at all.0 in
     let tail : tail_end whole (n + o.end) (n + at) ≡ n + tail_end tokens o.end at = tail_there w o.end at all.0 in
     choose (reading_behind n) o.block o.block _ _ _ _ refl (λ _. refl)
-    (λ _. choose (reading_behind n) (answers_else whole (open_behind n o) (n + at)) (answers_else tokens o at) _ _ _ _ (ap (λ (c : TokenClass). is_if_head o.head && is_else c) next) (λ _. refl)
+    (λ _. choose (reading_behind n) (answers_else whole (open_behind n o) (n + at)) (answers_else tokens o at) _ _ _ _
+    (ap (λ (c : TokenClass). is_if_head o.head && is_else c) next) (λ _. refl)
     (λ _. choose (reading_behind n) (answers_tail whole (open_behind n o) (n + at)) (answers_tail tokens o at) _ _ _ _
     (ap (λ (j : ℕ). is_do_head o.head && nat_lt (n + at) j) tail ∙ ap (λ (b : Bool). is_do_head o.head && b) (lt_there n at (tail_end tokens o.end at)))
     (λ _. refl)
@@ -56,19 +58,23 @@ settled_within tokens at most [] all = tt
 settled_within tokens at most (o ∷ os) all =
     keep o.block _ _ all (keep (answers_else tokens o at) _ _ all.1 (keep (answers_tail tokens o at) _ _ all.1 (settled_within tokens at most os all.1)))
   where
-    keep : (b : Bool) (x y : Reading) → AllWithin most x.opens → AllWithin most y.opens → AllWithin most (elim b as (λ _. Reading) [ true ↦ x | false ↦ y ]).opens
+    keep : (b : Bool) (x y : Reading) → AllWithin most x.opens → AllWithin most y.opens
+        → AllWithin most (elim b as (λ _. Reading) [ true ↦ x | false ↦ y ]).opens
     keep true x y one other = one
     keep false x y one other = other
 
 -- ## One line
 
-comment_there : (n : ℕ) (o : Open) (start : Start) (f : Form) → comment_level (open_behind n o) (start_behind n start) (form_behind n f) ≡ comment_level o start f
+comment_there : (n : ℕ) (o : Open) (start : Start) (f : Form)
+    → comment_level (open_behind n o) (start_behind n start) (form_behind n f) ≡ comment_level o start f
 comment_there n o Fresh f = refl
 comment_there n o Tail f = refl
 comment_there n o (Closing b) f = refl
 
-line_there : (n : ℕ) (o : Open) (start : Start) (at : ℕ) (f : Form) → line_of (open_behind n o) (start_behind n start) (n + at) (form_behind n f) ≡ code_line_behind n (line_of o start at f)
-line_there n o start at f = ap (λ (level : ℕ). record { first = n + at; end = n + f.end; level = f.level; kind = f.kind; list_level = level }) (comment_there n o start f)
+line_there : (n : ℕ) (o : Open) (start : Start) (at : ℕ) (f : Form)
+    → line_of (open_behind n o) (start_behind n start) (n + at) (form_behind n f) ≡ code_line_behind n (line_of o start at f)
+line_there n o start at f = ap (λ (level : ℕ). record { first = n + at; end = n + f.end; level = f.level; kind = f.kind; list_level = level })
+    (comment_there n o start f)
 
 head_there : (n : ℕ) (o : Open) (start : Start) (at : ℕ) (f : Form) (wrapped : Bool)
     → head_lines (open_behind n o) (start_behind n start) (n + at) (form_behind n f) wrapped ≡ map (code_line_behind n) (head_lines o start at f wrapped)
@@ -81,17 +87,11 @@ head_there n o start at f false =
 
 -- ## Lines
 
--- the lines from a line's form on
-abbrev lines_after : ℕ → Braces → List CodeToken → Open → List Open → Start → ℕ → Form → Next → List Line
-lines_after n braces tokens o os start at f Ends = line_of o start at f ∷ lines_from n braces tokens (settled tokens f.end (o ∷ os)).opens (settled tokens f.end (o ∷ os)).start f.end
-lines_after n braces tokens o os start at f (Goes s) = line_of o start at f ∷ lines_from n braces tokens (o ∷ os) s f.end
-lines_after n braces tokens o os start at f (Waits h) = line_of o start at f ∷ lines_from n braces tokens (body_of o h f.level ∷ o ∷ os) Fresh f.end
-lines_after n braces tokens o os start at f (Opens wrapped b) = head_lines o start at f wrapped ++ lines_from n braces tokens (b ∷ []) Fresh (f.end + 1) ++ lines_from n braces tokens (o ∷ os) (Closing b) b.end
-
 -- so many lines are the same, behind so many tokens
 abbrev AreLinesThere : ℕ → List CodeToken → List CodeToken → ℕ → Braces → Type 0
 AreLinesThere n whole tokens count braces = (opens : List Open) (start : Start) (at : ℕ) → AllWithin (length tokens) opens
-    → lines_from count braces whole (map (open_behind n) opens) (start_behind n start) (n + at) ≡ map (code_line_behind n) (lines_from count braces tokens opens start at)
+    → lines_from count braces whole (map (open_behind n) opens) (start_behind n start) (n + at) ≡ map (code_line_behind n)
+    (lines_from count braces tokens opens start at)
 
 lines_step : (n : ℕ) (whole tokens : List CodeToken) → IsWindow n whole tokens → (count : ℕ) (braces : Braces) → AreLinesThere n whole tokens count braces
     → (o : Open) (os : List Open) (start : Start) (at : ℕ) (f : Form) (next : Next) → AllWithin (length tokens) (o ∷ os) → EndsWithin (length tokens) next
@@ -100,7 +100,8 @@ lines_step : (n : ℕ) (whole tokens : List CodeToken) → IsWindow n whole toke
 lines_step n whole tokens w count braces stay o os start at f Ends all within =
     let line : Line = code_line_behind n (line_of o start at f) in
     let r : Reading = settled tokens f.end (o ∷ os) in
-    ap (λ (l : Line). l ∷ lines_from count braces whole (settled whole (n + f.end) (map (open_behind n) (o ∷ os))).opens (settled whole (n + f.end) (map (open_behind n) (o ∷ os))).start (n + f.end)) (line_there n o start at f)
+    ap (λ (l : Line). l ∷ lines_from count braces whole (settled whole (n + f.end) (map (open_behind n) (o ∷ os))).opens
+    (settled whole (n + f.end) (map (open_behind n) (o ∷ os))).start (n + f.end)) (line_there n o start at f)
     ∙ (ap (λ (r : Reading). line ∷ lines_from count braces whole r.opens r.start (n + f.end)) (settled_there w f.end (o ∷ os) all)
     ∙ ap (λ (ls : List Line). line ∷ ls) (stay r.opens r.start f.end (settled_within tokens f.end (length tokens) (o ∷ os) all)))
 lines_step n whole tokens w count braces stay o os start at f (Goes s) all within =
@@ -118,15 +119,16 @@ lines_step n whole tokens w count braces stay o os start at f (Opens wrapped b) 
     let inner_there : List Line = lines_from count braces whole (open_behind n b ∷ []) Fresh (n + f.end + 1) in
     let rest_there : List Line = lines_from count braces whole (map (open_behind n) (o ∷ os)) (Closing (open_behind n b)) (n + b.end) in
     ap (λ (ls : List Line). (ls ++ inner_there) ++ rest_there) (head_there n o start at f wrapped)
-    ∙ (ap (λ (ls : List Line). (move heads ++ ls) ++ rest_there) (ap (λ (k : ℕ). lines_from count braces whole (open_behind n b ∷ []) Fresh k) one ∙ stay (b ∷ []) Fresh (f.end + 1) (within, tt))
+    ∙ (ap (λ (ls : List Line). (move heads ++ ls) ++ rest_there)
+    (ap (λ (k : ℕ). lines_from count braces whole (open_behind n b ∷ []) Fresh k) one ∙ stay (b ∷ []) Fresh (f.end + 1) (within, tt))
     ∙ (ap (λ (ls : List Line). (move heads ++ move inner) ++ ls) (stay (o ∷ os) (Closing b) b.end all)
     ∙ sym (map-append (code_line_behind n) (heads ++ inner) rest ∙ ap (λ (ls : List Line). ls ++ move rest) (map-append (code_line_behind n) heads inner))))
 
-ends_low : (most end : ℕ) (next : Next) → end ≤ most → EndsWithin end next → EndsWithin most next
-ends_low most end Ends low within = tt
-ends_low most end (Goes s) low within = tt
-ends_low most end (Waits h) low within = tt
-ends_low most end (Opens wrapped b) low within = let q : b.end ≤ end = within in omega arith
+block_within : (most at end : ℕ) (form : Form) (next : Next) → end ≤ most → Reaches at end form next → EndsWithin most next
+block_within most at end form Ends low reaches = tt
+block_within most at end form (Goes start) low reaches = tt
+block_within most at end form (Waits head) low reaches = tt
+block_within most at end form (Opens wrapped block) low reaches = omega (arith, low, reaches.ends)
 
 lines_there : (n : ℕ) (whole tokens : List CodeToken) → IsWindow n whole tokens → (count : ℕ) (braces : Braces) → AreLinesThere n whole tokens count braces
 lines_there n whole tokens w zero braces opens start at all = refl
@@ -134,10 +136,13 @@ lines_there n whole tokens w (suc count) braces [] start at all = refl
 lines_there n whole tokens w (suc count) braces (o ∷ os) start at all =
     let f : Form = form_of braces tokens o start at in
     choose (map (code_line_behind n)) (nat_lt (n + at) (n + o.end)) (nat_lt at o.end) (lines_after count braces tokens o os start at f f.next) []
-    (lines_after count braces whole (open_behind n o) (map (open_behind n) os) (start_behind n start) (n + at) (form_of braces whole (open_behind n o) (start_behind n start) (n + at)) (form_of braces whole (open_behind n o) (start_behind n start) (n + at)).next) []
+    (lines_after count braces whole (open_behind n o) (map (open_behind n) os) (start_behind n start) (n + at)
+    (form_of braces whole (open_behind n o) (start_behind n start) (n + at)) (form_of braces whole (open_behind n o) (start_behind n start) (n + at)).next) []
     (lt_there n at o.end)
-    (λ less. ap (λ (g : Form). lines_after count braces whole (open_behind n o) (map (open_behind n) os) (start_behind n start) (n + at) g g.next) (form_there w braces o start at all.0 (ltb-true at o.end less))
-    ∙ lines_step n whole tokens w count braces (λ opens start at all. lines_there n whole tokens w count braces opens start at all) o os start at f f.next all (ends_low (length tokens) o.end f.next all.0 (form_within braces tokens o start at)))
+    (λ less. ap (λ (g : Form). lines_after count braces whole (open_behind n o) (map (open_behind n) os) (start_behind n start) (n + at) g g.next)
+    (form_there w braces o start at all.0 (ltb-true at o.end less))
+    ∙ lines_step n whole tokens w count braces (λ opens start at all. lines_there n whole tokens w count braces opens start at all) o os start at f f.next all
+    (block_within (length tokens) at o.end f f.next all.0 (form_reaches braces tokens o start at (ltb-true at o.end less))))
     (λ _. refl)
 
 -- ## The level at the end
@@ -146,24 +151,14 @@ level_there : (n : ℕ) (opens : List Open) → level_of_list (map (open_behind 
 level_there n [] = refl
 level_there n (o ∷ os) = ap (λ (x : ℕ). elim o.block as (λ _. ℕ) [ true ↦ o.level | false ↦ x ]) (level_there n os)
 
--- the level from a line's form on
-abbrev level_after : ℕ → Braces → List CodeToken → Open → List Open → Form → Next → ℕ
-level_after n braces tokens o os f Ends = end_level_from n braces tokens (settled tokens f.end (o ∷ os)).opens (settled tokens f.end (o ∷ os)).start f.end
-level_after n braces tokens o os f (Goes s) = end_level_from n braces tokens (o ∷ os) s f.end
-level_after n braces tokens o os f (Waits h) = end_level_from n braces tokens (body_of o h f.level ∷ o ∷ os) Fresh f.end
-level_after n braces tokens o os f (Opens wrapped b) =
-    elim (nat_lt b.end o.end) as (λ _. ℕ) [
-      | true ↦ end_level_from n braces tokens (o ∷ os) (Closing b) b.end
-      | false ↦ end_level_from n braces tokens (b ∷ []) Fresh (f.end + 1)
-    ]
-
 abbrev IsLevelThere : ℕ → List CodeToken → List CodeToken → ℕ → Braces → Type 0
 IsLevelThere n whole tokens count braces = (opens : List Open) (start : Start) (at : ℕ) → AllWithin (length tokens) opens
     → end_level_from count braces whole (map (open_behind n) opens) (start_behind n start) (n + at) ≡ end_level_from count braces tokens opens start at
 
 level_step : (n : ℕ) (whole tokens : List CodeToken) → IsWindow n whole tokens → (count : ℕ) (braces : Braces) → IsLevelThere n whole tokens count braces
     → (o : Open) (os : List Open) (f : Form) (next : Next) → AllWithin (length tokens) (o ∷ os) → EndsWithin (length tokens) next
-    → level_after count braces whole (open_behind n o) (map (open_behind n) os) (form_behind n f) (next_behind n next) ≡ level_after count braces tokens o os f next
+    → level_after count braces whole (open_behind n o) (map (open_behind n) os) (form_behind n f) (next_behind n next)
+    ≡ level_after count braces tokens o os f next
 level_step n whole tokens w count braces stay o os f Ends all within =
     let r : Reading = settled tokens f.end (o ∷ os) in
     ap (λ (r : Reading). end_level_from count braces whole r.opens r.start (n + f.end)) (settled_there w f.end (o ∷ os) all)
@@ -182,19 +177,31 @@ end_there n whole tokens w (suc count) braces [] start at all = refl
 end_there n whole tokens w (suc count) braces (o ∷ os) start at all =
     let f : Form = form_of braces tokens o start at in
     chosen (nat_lt (n + at) (n + o.end)) (nat_lt at o.end) (level_after count braces tokens o os f f.next) (level_of_list (o ∷ os))
-    (level_after count braces whole (open_behind n o) (map (open_behind n) os) (form_of braces whole (open_behind n o) (start_behind n start) (n + at)) (form_of braces whole (open_behind n o) (start_behind n start) (n + at)).next) (level_of_list (map (open_behind n) (o ∷ os)))
-    (lt_there n at o.end)
-    (λ less. ap (λ (g : Form). level_after count braces whole (open_behind n o) (map (open_behind n) os) g g.next) (form_there w braces o start at all.0 (ltb-true at o.end less))
-    ∙ level_step n whole tokens w count braces (λ opens start at all. end_there n whole tokens w count braces opens start at all) o os f f.next all (ends_low (length tokens) o.end f.next all.0 (form_within braces tokens o start at)))
+    (level_after count braces whole (open_behind n o) (map (open_behind n) os) (form_of braces whole (open_behind n o) (start_behind n start) (n + at))
+    (form_of braces whole (open_behind n o) (start_behind n start) (n + at)).next) (level_of_list (map (open_behind n) (o ∷ os))) (lt_there n at o.end)
+    (λ less. ap (λ (g : Form). level_after count braces whole (open_behind n o) (map (open_behind n) os) g g.next)
+    (form_there w braces o start at all.0 (ltb-true at o.end less))
+    ∙ level_step n whole tokens w count braces (λ opens start at all. end_there n whole tokens w count braces opens start at all) o os f f.next all
+    (block_within (length tokens) at o.end f f.next all.0 (form_reaches braces tokens o start at (ltb-true at o.end less))))
     (λ _. level_there n (o ∷ os))
 
 -- ## Both
 
-pub windows : Windows
-windows n braces earlier tokens later opens start at behind before most below =
-    let w = is_window earlier tokens later behind before in
+-- Lines of lists that end among some tokens are the same wherever these tokens stand.
+pub record InWindow (n : ℕ) (braces : Braces) (earlier tokens later : List CodeToken) (opens : List Open) (start : Start) (at : ℕ) : Type 0 where
+  pub lines : lines_from n braces (earlier ++ (map (token_behind (length earlier)) tokens ++ later)) (map (open_behind (length earlier)) opens)
+      (start_behind (length earlier) start) (length earlier + at)
+      ≡ map (code_line_behind (length earlier)) (lines_from n braces tokens opens start at)
+  pub level : end_level_from n braces (earlier ++ (map (token_behind (length earlier)) tokens ++ later)) (map (open_behind (length earlier)) opens)
+      (start_behind (length earlier) start) (length earlier + at)
+      ≡ end_level_from n braces tokens opens start at
+
+pub in_window : (n : ℕ) (braces : Braces) (earlier tokens later : List CodeToken) (opens : List Open) (start : Start) (at : ℕ)
+    → IsCutBehind earlier → IsCutBefore later → AllWithin (length tokens) opens → InWindow n braces earlier tokens later opens start at
+in_window n braces earlier tokens later opens start at behind before within =
+    let window = is_window earlier tokens later behind before in
     let whole : List CodeToken = earlier ++ (map (token_behind (length earlier)) tokens ++ later) in
     record {
-      lines = lines_there (length earlier) whole tokens w n braces opens start at (all_within (length tokens) opens most);
-      level = end_there (length earlier) whole tokens w n braces opens start at (all_within (length tokens) opens most);
+      lines = lines_there (length earlier) whole tokens window n braces opens start at within;
+      level = end_there (length earlier) whole tokens window n braces opens start at within;
     }

@@ -1,7 +1,6 @@
 -- No bracket of a part has its partner in another part.
-use Rattle.std.proofs.Common.{◌∙◌, ℕ, List, ◌++◌, map, ap}
+use Rattle.std.proofs.Common.{◌∙◌, ℕ, ◌++◌, map, ap}
 use Rattle.std.proofs.lemmas.List.{map-append, length-map}
-use Rattle.token_classes.specs.declared.class.TokenClass.{TokenClass}
 use Rattle.token_classes.specs.Viewed.{item_class, classes_of}
 use Rattle.brackets.specs.Partners.{partners_of}
 use Rattle.part_lines.specs.Cut.{partner_behind, partners_in, PartnersStay}
@@ -11,6 +10,6 @@ use Rattle.part_lines.proofs.Matchings.{partners_of_both}
 pub partners_stay : PartnersStay
 partners_stay arena earlier later is =
     let ended = first_part arena earlier later is in
-    ap (λ (classes : List TokenClass). partners_of classes) (map-append (item_class arena) earlier later)
+    ap partners_of (map-append (item_class arena) earlier later)
     ∙ (partners_of_both (classes_of arena earlier) (classes_of arena later) ended.closed_there
     ∙ ap (λ (count : ℕ). partners_in arena earlier ++ map (partner_behind count) (partners_in arena later)) (length-map earlier (item_class arena)))

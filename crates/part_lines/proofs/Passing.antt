@@ -17,51 +17,36 @@ use Rattle.view_parts.specs.Parts.{waiting_behind, next_end}
 use Rattle.unwrapped_lines.specs.declared.token.CodeToken.{CodeToken}
 use Rattle.unwrapped_lines.specs.Forms.{class_at, partner_in}
 use Rattle.part_lines.specs.Cut.{IsFirstPart, partners_in}
-use Rattle.part_lines.proofs.CodeCut.{Passes, behind_code, assigned_behind, code_of}
-use Rattle.part_lines.proofs.Ending.{IsUnasked, BeginsSo, comment_is_no_opener, ended, GoesOutside, goes_outside}
-use Rattle.part_lines.proofs.Groups.{IsGroup, grouped, paired_length}
-use Rattle.part_lines.proofs.PartnersKept.{pair_found, partner_kept}
+use Rattle.part_lines.proofs.CodeCut.{behind_code, assigned_behind, code_of, Way}
+use Rattle.part_lines.proofs.Groups.{IsGroup, grouped, paired_length, pair_found, partner_kept}
 use Rattle.part_lines.proofs.Counted.{count_of, counts_on, counts_one, counts_none, counts_all, code_class, code_within, code_partner}
-use Rattle.part_lines.proofs.Agreement.{Agrees, ends_agree, behind_agrees, comment_agrees, assigned_agrees, comment_assigns_nothing, IsLast, semicolon_is_last, brace_is_last, token_ends, group_ends, opener_waits, nothing_waits, opener_is_no_comment, matching}
+use Rattle.part_lines.proofs.WalkAgrees.{Agrees, ends_agree, behind_agrees, comment_agrees, assigned_agrees, comment_assigns_nothing, opener_waits, nothing_waits, opener_is_no_comment, matching, comment_is_no_opener}
+use Rattle.part_lines.proofs.FirstPart.{IsUnasked, IsSound, outside_sound, ended, GoesOutside, goes_outside}
 
 -- ## Tokens that pass
 
-passes_end : (n : ℕ) (tokens : List CodeToken) (at : ℕ) (before : Before) (assigned : Bool) → at ≡ length tokens → is_end before ≡ true → Passes n tokens at before assigned
+passes_end : (n : ℕ) (tokens : List CodeToken) (at : ℕ) (before : Before) (assigned : Bool) → at ≡ length tokens → is_end before ≡ true
+    → Way n tokens (length tokens) at before assigned
 passes_end zero tokens at before assigned all end = (all, end)
 passes_end (suc n) tokens at before assigned all end = inl (all, end)
 
-passes_token : (n : ℕ) (tokens : List CodeToken) (at : ℕ) (before : Before) (assigned : Bool) (class : TokenClass) → class_at tokens at ≡ class → at < length tokens → is_lost class ≡ false → is_opener class ≡ false
-    → Passes n tokens (at + 1) (behind_code assigned before class) (assigned_behind assigned class) → Passes (suc n) tokens at before assigned
-passes_token n tokens at before assigned class is within lost opens on = inr (
-  within,
-  (
-    ap (λ (c : TokenClass). is_lost c) is ∙ lost,
-    inr (
-      ap (λ (c : TokenClass). is_opener c) is ∙ opens,
-      subst (λ (c : TokenClass). Passes n tokens (at + 1) (behind_code assigned before c) (assigned_behind assigned c)) (sym is) on,
-    ),
-  ),
-)
+passes_token : (n : ℕ) (tokens : List CodeToken) (at : ℕ) (before : Before) (assigned : Bool) (class : TokenClass) → class_at tokens at ≡ class
+    → at < length tokens → is_lost class ≡ false → is_opener class ≡ false
+    → Way n tokens (length tokens) (at + 1) (behind_code assigned before class) (assigned_behind assigned class)
+    → Way (suc n) tokens (length tokens) at before assigned
+passes_token n tokens at before assigned class is within lost opens on =
+    let next : TokenClass → Type 0 = λ c. Way n tokens (length tokens) (at + 1) (behind_code assigned before c) (assigned_behind assigned c) in
+    inr (within, (ap is_lost is ∙ lost, inr (ap is_opener is ∙ opens, subst next (sym is) on)))
 
-passes_group : (n : ℕ) (tokens : List CodeToken) (at partner : ℕ) (before : Before) (assigned : Bool) (class : TokenClass) → class_at tokens at ≡ class → at < length tokens → is_lost class ≡ false → is_opener class ≡ true
-    → partner_in tokens (length tokens) at ≡ Some partner
-    → Passes n tokens (partner + 1) (behind_code assigned before class) (assigned_behind assigned class) → Passes (suc n) tokens at before assigned
-passes_group n tokens at partner before assigned class is within lost opens found on = inr (
-  within,
-  (
-    ap (λ (c : TokenClass). is_lost c) is ∙ lost,
-    inl (
-      ap (λ (c : TokenClass). is_opener c) is ∙ opens,
-      (partner, (found, subst (λ (c : TokenClass). Passes n tokens (partner + 1) (behind_code assigned before c) (assigned_behind assigned c)) (sym is) on)),
-    ),
-  ),
-)
+passes_group : (n : ℕ) (tokens : List CodeToken) (at partner : ℕ) (before : Before) (assigned : Bool) (class : TokenClass) → class_at tokens at ≡ class
+    → at < length tokens → is_lost class ≡ false → is_opener class ≡ true → partner_in tokens (length tokens) at ≡ Some partner
+    → Way n tokens (length tokens) (partner + 1) (behind_code assigned before class) (assigned_behind assigned class)
+    → Way (suc n) tokens (length tokens) at before assigned
+passes_group n tokens at partner before assigned class is within lost opens found on =
+    let next : TokenClass → Type 0 = λ c. Way n tokens (length tokens) (partner + 1) (behind_code assigned before c) (assigned_behind assigned c) in
+    inr (within, (ap is_lost is ∙ lost, inl (ap is_opener is ∙ opens, (partner, (found, subst next (sym is) on)))))
 
 -- ## The way along the items
-
--- the last of these items ends a declaration
-abbrev pub EndsSo : Contents → List ℕ → Type 0
-EndsSo arena ids = (before : List ℕ) × ((last : ℕ) × ((ids ≡ before ++ last ∷ []) × IsLast (item_class arena last)))
 
 -- the way stands outside brackets, behind some items of the first part and before the others
 record Stands (arena : Contents) (earlier later past rest : List ℕ) (walk : Walk) (before : Before) (assigned : Bool) : Type 0 where
@@ -71,38 +56,40 @@ record Stands (arena : Contents) (earlier later past rest : List ℕ) (walk : Wa
   pub same_assigned : walk.assigned ≡ assigned
   pub unasked : IsUnasked (length earlier) walk
   pub ends : next_end arena walk [] (rest ++ later) ≡ Some (length earlier)
-  pub last : is_end walk.before ≡ true → EndsSo arena past
   pub partners : List (Option ℕ)
   pub many : length partners ≡ length earlier
   pub found : (matching_from walk.place (matching [] partners) (classes_of arena rest)).partners ≡ partners_in arena earlier
 
 -- what is to be told from there
-abbrev pub Told : Contents → List ℕ → List ℕ → ℕ → ℕ → Before → Bool → Type 0
-Told arena earlier later n at before assigned = Passes n (code_of arena earlier) at before assigned × (EndsSo arena earlier × BeginsSo arena later)
+abbrev Told : Contents → List ℕ → ℕ → ℕ → Before → Bool → Type 0
+Told arena earlier n at before assigned = Way n (code_of arena earlier) (length (code_of arena earlier)) at before assigned
 
-told_end : (n : ℕ) (arena : Contents) (earlier later past : List ℕ) (walk : Walk) (before : Before) (assigned : Bool) → Stands arena earlier later past [] walk before assigned → Told arena earlier later n (count_of arena past) before assigned
+told_end : (n : ℕ) (arena : Contents) (earlier later past : List ℕ) (walk : Walk) (before : Before) (assigned : Bool)
+    → Stands arena earlier later past [] walk before assigned → Told arena earlier n (count_of arena past) before assigned
 told_end n arena earlier later past walk before assigned stands =
     let whole : past ≡ earlier = sym (stands.split ∙ append-nil past) in
     let here : walk.place ≡ length earlier = stands.place ∙ ap length whole in
-    let end = ended arena later walk [] (length earlier) here stands.unasked stands.ends in
-    let all : count_of arena past ≡ length (code_of arena earlier) = ap (count_of arena) whole ∙ sym (counts_all arena earlier) in (
-      passes_end n (code_of arena earlier) (count_of arena past) before assigned all (ends_agree before walk.before stands.agrees end.ends),
-      (subst (EndsSo arena) whole (stands.last end.ends), end.begins),
-    )
+    let sound : IsSound walk [] = record { asked = λ e. cc; body = λ e. refl } in
+    let end = ended arena later walk [] (length earlier) here stands.unasked sound stands.ends in
+    let all : count_of arena past ≡ length (code_of arena earlier) = ap (count_of arena) whole ∙ sym (counts_all arena earlier) in
+    passes_end n (code_of arena earlier) (count_of arena past) before assigned all (ends_agree before walk.before stands.agrees end.ends)
 
-not_yet : (arena : Contents) (earlier later past : List ℕ) (id : ℕ) (rest : List ℕ) (walk : Walk) (before : Before) (assigned : Bool) → Stands arena earlier later past (id ∷ rest) walk before assigned → walk.place + 1 + length rest ≡ length earlier
+not_yet : (arena : Contents) (earlier later past : List ℕ) (id : ℕ) (rest : List ℕ) (walk : Walk) (before : Before) (assigned : Bool)
+    → Stands arena earlier later past (id ∷ rest) walk before assigned → walk.place + 1 + length rest ≡ length earlier
 not_yet arena earlier later past id rest walk before assigned stands =
     let all : length earlier ≡ length (past ++ id ∷ rest) = ap length stands.split in
     omega (arith, all, length-append past (id ∷ rest), stands.place)
 
 -- behind a token that opens no group
-next_stands : (arena : Contents) (earlier later past : List ℕ) (id : ℕ) (rest : List ℕ) (walk : Walk) (before next : Before) (assigned after : Bool) (stands : Stands arena earlier later past (id ∷ rest) walk before assigned)
+next_stands : (arena : Contents) (earlier later past : List ℕ) (id : ℕ) (rest : List ℕ) (walk : Walk) (before next : Before) (assigned after : Bool)
+    (stands : Stands arena earlier later past (id ∷ rest) walk before assigned)
     (on : GoesOutside arena walk id (rest ++ later) (length earlier)) → is_opener (item_class arena id) ≡ false
     → Agrees next (behind walk (item_class arena id)) → (outside walk (item_class arena id) on.asked).assigned ≡ after
     → Stands arena earlier later (past ++ id ∷ []) rest (outside walk (item_class arena id) on.asked) next after
 next_stands arena earlier later past id rest walk before next assigned after stands on opens agrees same =
     let class : TokenClass = item_class arena id in
-    let none : waiting_behind (item_class arena id) walk.place [] ≡ [] = ap (λ (m : Matching). m.open_brackets) (nothing_waits (item_class arena id) walk.place [] opens) in
+    let none : waiting_behind (item_class arena id) walk.place [] ≡ [] =
+    ap (λ (m : Matching). m.open_brackets) (nothing_waits (item_class arena id) walk.place [] opens) in
     record {
       split = stands.split ∙ sym (append_assoc past (id ∷ []) rest);
       place = omega (arith, stands.place, length-append past (id ∷ []));
@@ -110,21 +97,24 @@ next_stands arena earlier later past id rest walk before next assigned after sta
       same_assigned = same;
       unasked = on.unasked;
       ends = subst (λ (w : List Opener). next_end arena (outside walk (item_class arena id) on.asked) w (rest ++ later) ≡ Some (length earlier)) none on.ends;
-      last = λ end. (past, (id, (refl, semicolon_is_last (item_class arena id) (token_ends walk (item_class arena id) opens end))));
       partners = stands.partners;
       many = stands.many;
-      found = ap (λ (m : Matching). (matching_from (walk.place + 1) m (classes_of arena rest)).partners) (sym (nothing_waits (item_class arena id) walk.place stands.partners opens)) ∙ stands.found;
+      found = ap (λ (m : Matching). (matching_from (walk.place + 1) m (classes_of arena rest)).partners)
+          (sym (nothing_waits (item_class arena id) walk.place stands.partners opens)) ∙ stands.found;
     }
 
 -- a group that is opened there
-group_there : (arena : Contents) (earlier later past : List ℕ) (id : ℕ) (rest : List ℕ) (walk : Walk) (before : Before) (assigned : Bool) (stands : Stands arena earlier later past (id ∷ rest) walk before assigned)
+group_there : (arena : Contents) (earlier later past : List ℕ) (id : ℕ) (rest : List ℕ) (walk : Walk) (before : Before) (assigned : Bool)
+    (stands : Stands arena earlier later past (id ∷ rest) walk before assigned)
     (on : GoesOutside arena walk id (rest ++ later) (length earlier)) → is_opener (item_class arena id) ≡ true
     → IsGroup arena later (length earlier) (outside walk (item_class arena id) on.asked) [] (record { place = walk.place; kind = item_class arena id }) rest
 group_there arena earlier later past id rest walk before assigned stands on opens =
     let opener : Opener = record { place = walk.place; kind = item_class arena id } in
     let next : Walk = outside walk (item_class arena id) on.asked in
-    let waiting : waiting_behind (item_class arena id) walk.place [] ≡ opener ∷ [] = ap (λ (m : Matching). m.open_brackets) (opener_waits (item_class arena id) walk.place [] opens) in
+    let waiting : waiting_behind (item_class arena id) walk.place [] ≡ opener ∷ [] =
+    ap (λ (m : Matching). m.open_brackets) (opener_waits (item_class arena id) walk.place [] opens) in
     grouped arena later (length earlier) rest next [] opener (not_yet arena earlier later past id rest walk before assigned stands) on.unasked
+    (subst (IsSound next) waiting (outside_sound walk (item_class arena id) on.asked))
     (subst (λ (w : List Opener). next_end arena next w (rest ++ later) ≡ Some (length earlier)) waiting on.ends)
 
 -- where the group ends, and what is told of its opener
@@ -136,9 +126,11 @@ record GroupEnds (arena : Contents) (earlier later past : List ℕ) (id : ℕ) (
   pub split : rest ≡ inner ++ closer ∷ behind
   pub code : is_comment (item_class arena closer) ≡ false
   pub partner : partner_in (code_of arena earlier) (length (code_of arena earlier)) (count_of arena past) ≡ Some (count_of arena (past ++ id ∷ inner))
-  pub stands : Stands arena earlier later ((past ++ id ∷ inner) ++ closer ∷ []) behind next (behind_code assigned before (item_class arena id)) (assigned_behind assigned (item_class arena id))
+  pub stands : Stands arena earlier later ((past ++ id ∷ inner) ++ closer ∷ []) behind next (behind_code assigned before (item_class arena id))
+      (assigned_behind assigned (item_class arena id))
 
-group_ends_so : (arena : Contents) (earlier later past : List ℕ) (id : ℕ) (rest : List ℕ) (walk : Walk) (before : Before) (assigned : Bool) (stands : Stands arena earlier later past (id ∷ rest) walk before assigned)
+group_ends_so : (arena : Contents) (earlier later past : List ℕ) (id : ℕ) (rest : List ℕ) (walk : Walk) (before : Before) (assigned : Bool)
+    (stands : Stands arena earlier later past (id ∷ rest) walk before assigned)
     (on : GoesOutside arena walk id (rest ++ later) (length earlier)) → is_opener (item_class arena id) ≡ true
     → IsGroup arena later (length earlier) (outside walk (item_class arena id) on.asked) [] (record { place = walk.place; kind = item_class arena id }) rest
     → GroupEnds arena earlier later past id rest before assigned
@@ -154,7 +146,8 @@ group_ends_so arena earlier later past id rest walk before assigned stands on op
     let pair : List (Option ℕ) = paired pairs.0 (Some walk.place) group.place in
     let all : partners_in arena earlier ≡ (matching_from (group.place + 1) (matching [] pair) (classes_of arena group.behind)).partners =
     sym stands.found
-    ∙ (ap (λ (m : Matching). (matching_from (walk.place + 1) m (classes_of arena rest)).partners) (opener_waits (item_class arena id) walk.place stands.partners opens) ∙ pairs.1.1) in
+    ∙ (ap (λ (m : Matching). (matching_from (walk.place + 1) m (classes_of arena rest)).partners)
+    (opener_waits (item_class arena id) walk.place stands.partners opens) ∙ pairs.1.1) in
     let long : length pairs.0 ≡ length earlier = pairs.1.0 ∙ stands.many in
     let whole : length earlier ≡ length past + length (id ∷ rest) = ap length stands.split ∙ length-append past (id ∷ rest) in
     let low : length past < group.place = omega (arith, place, front_long) in
@@ -169,20 +162,18 @@ group_ends_so arena earlier later past id rest walk before assigned stands on op
       behind = group.behind;
       next = group.next;
       split = group.split;
-      code = group.closes.0;
-      partner = code_partner arena earlier past group.inner id group.closer group.behind group.place cut place code group.closes.0 found;
+      code = group.code;
+      partner = code_partner arena earlier past group.inner id group.closer group.behind group.place cut place code group.code found;
       stands = record {
         split = cut ∙ sym (append_assoc (past ++ id ∷ group.inner) (group.closer ∷ []) group.behind);
         place = omega (arith, group.next_place, place, length-append (past ++ id ∷ group.inner) (group.closer ∷ []));
         agrees = subst (λ (b : Before). Agrees (behind_code assigned before (item_class arena id)) b) (sym group.before)
-            (subst (λ (b : Bool). Agrees (behind_code b before (item_class arena id)) (behind walk (item_class arena id))) stands.same_assigned (behind_agrees walk before (item_class arena id) code stands.agrees));
-        same_assigned = group.assigned ∙ (assigned_agrees walk.assigned (item_class arena id) ∙ ap (λ (b : Bool). assigned_behind b (item_class arena id)) stands.same_assigned);
+            (subst (λ (b : Bool). Agrees (behind_code b before (item_class arena id)) (behind walk (item_class arena id))) stands.same_assigned
+            (behind_agrees walk before (item_class arena id) code stands.agrees));
+        same_assigned = group.assigned
+            ∙ (assigned_agrees walk.assigned (item_class arena id) ∙ ap (λ (b : Bool). assigned_behind b (item_class arena id)) stands.same_assigned);
         unasked = group.unasked;
         ends = group.ends;
-        last = λ end. (
-          past ++ id ∷ group.inner,
-          (group.closer, (refl, brace_is_last (item_class arena group.closer) (group.closes.1 (group_ends walk (item_class arena id) opens (ap (λ (b : Before). is_end b) (sym group.before) ∙ end))))),
-        );
         partners = pair;
         many = paired_length pairs.0 (Some walk.place) group.place ∙ long;
         found = ap (λ k. (matching_from k (matching [] pair) (classes_of arena group.behind)).partners) group.next_place ∙ sym all;
@@ -200,87 +191,90 @@ no_more arena past id comment = omega (arith, counts_on arena past (id ∷ []), 
 -- from each place on, where so many items follow
 abbrev AllTold : ℕ → Contents → List ℕ → List ℕ → Type 0
 AllTold m arena earlier later =
-    (n : ℕ) (past rest : List ℕ) (walk : Walk) (before : Before) (assigned : Bool) → length rest ≤ m → length (code_of arena earlier) ≤ n + count_of arena past → Stands arena earlier later past rest walk before assigned
-    → Told arena earlier later n (count_of arena past) before assigned
+    (n : ℕ) (past rest : List ℕ) (walk : Walk) (before : Before) (assigned : Bool) → length rest ≤ m → length (code_of arena earlier) ≤ n + count_of arena past
+    → Stands arena earlier later past rest walk before assigned
+    → Told arena earlier n (count_of arena past) before assigned
 
-told_comment : (m : ℕ) (arena : Contents) (earlier later : List ℕ) → AllTold m arena earlier later
-    → (n : ℕ) (past : List ℕ) (id : ℕ) (rest : List ℕ) (walk : Walk) (before : Before) (assigned : Bool) → length rest ≤ m → length (code_of arena earlier) ≤ n + count_of arena past
-    → Stands arena earlier later past (id ∷ rest) walk before assigned → GoesOutside arena walk id (rest ++ later) (length earlier) → is_comment (item_class arena id) ≡ true
-    → Told arena earlier later n (count_of arena past) before assigned
-told_comment m arena earlier later told n past id rest walk before assigned few enough stands on comment =
-    let opens = comment_is_no_opener (item_class arena id) comment in
-    let same = no_more arena past id comment in
-    let next = next_stands arena earlier later past id rest walk before before assigned assigned stands on opens (comment_agrees walk before (item_class arena id) comment)
-    (comment_assigns_nothing walk.assigned (item_class arena id) comment ∙ stands.same_assigned) in
-    subst (λ (at : ℕ). Told arena earlier later n at before assigned) same
-    (told n (past ++ id ∷ []) rest (outside walk (item_class arena id) on.asked) before assigned few (omega (arith, enough, same)) next)
-
-told_token : (m : ℕ) (arena : Contents) (earlier later : List ℕ) → AllTold m arena earlier later
-    → (n : ℕ) (past : List ℕ) (id : ℕ) (rest : List ℕ) (walk : Walk) (before : Before) (assigned : Bool) → length rest ≤ m → length (code_of arena earlier) ≤ suc n + count_of arena past
-    → Stands arena earlier later past (id ∷ rest) walk before assigned → GoesOutside arena walk id (rest ++ later) (length earlier) → is_comment (item_class arena id) ≡ false → is_opener (item_class arena id) ≡ false
-    → Told arena earlier later (suc n) (count_of arena past) before assigned
-told_token m arena earlier later told n past id rest walk before assigned few enough stands on code opens =
-    let class : TokenClass = item_class arena id in
-    let one = one_more arena past id code in
-    let tokens : List CodeToken = code_of arena earlier in
-    let agrees : Agrees (behind_code assigned before class) (behind walk class) =
-    subst (λ (b : Bool). Agrees (behind_code b before class) (behind walk class)) stands.same_assigned (behind_agrees walk before class code stands.agrees) in
-    let next = next_stands arena earlier later past id rest walk before (behind_code assigned before class) assigned (assigned_behind assigned class) stands on opens agrees
-    (assigned_agrees walk.assigned class ∙ ap (λ (b : Bool). assigned_behind b class) stands.same_assigned) in
-    let later_told = told n (past ++ id ∷ []) rest (outside walk class on.asked) (behind_code assigned before class) (assigned_behind assigned class) few (omega (arith, enough, one)) next in (
-      passes_token n tokens (count_of arena past) before assigned class (code_class arena earlier past id rest stands.split code) (code_within arena earlier past id rest stands.split code) on.lost opens
-          (subst (λ (at : ℕ). Passes n tokens at (behind_code assigned before class) (assigned_behind assigned class)) one later_told.0),
-      later_told.1,
-    )
-
-told_group : (m : ℕ) (arena : Contents) (earlier later : List ℕ) → AllTold m arena earlier later
-    → (n : ℕ) (past : List ℕ) (id : ℕ) (rest : List ℕ) (walk : Walk) (before : Before) (assigned : Bool) → length rest ≤ m → length (code_of arena earlier) ≤ suc n + count_of arena past
-    → Stands arena earlier later past (id ∷ rest) walk before assigned → GoesOutside arena walk id (rest ++ later) (length earlier) → is_opener (item_class arena id) ≡ true
-    → Told arena earlier later (suc n) (count_of arena past) before assigned
-told_group m arena earlier later told n past id rest walk before assigned few enough stands on opens =
-    let class : TokenClass = item_class arena id in
-    let tokens : List CodeToken = code_of arena earlier in
-    let code = opener_is_no_comment (item_class arena id) opens in
-    let group = group_ends_so arena earlier later past id rest walk before assigned stands on opens (group_there arena earlier later past id rest walk before assigned stands on opens) in
-    let front : List ℕ = past ++ id ∷ group.inner in
-    let one = one_more arena (past ++ id ∷ group.inner) group.closer group.code in
-    let fewer : length group.behind ≤ m = omega (arith, few, ap length group.split, length-append group.inner (group.closer ∷ group.behind)) in
-    let more = counts_on arena past (id ∷ group.inner) in
-    let here = counts_one arena id group.inner code in
-    let later_told = told n ((past ++ id ∷ group.inner) ++ group.closer ∷ []) group.behind group.next (behind_code assigned before class) (assigned_behind assigned class) fewer (omega (arith, enough, one, more, here)) group.stands in (
-      passes_group n tokens (count_of arena past) (count_of arena (past ++ id ∷ group.inner)) before assigned class (code_class arena earlier past id rest stands.split code) (code_within arena earlier past id rest stands.split code)
-          on.lost opens group.partner
-          (subst (λ (at : ℕ). Passes n tokens at (behind_code assigned before class) (assigned_behind assigned class)) one later_told.0),
-      later_told.1,
-    )
-
-told_code : (m : ℕ) (arena : Contents) (earlier later : List ℕ) → AllTold m arena earlier later
-    → (n : ℕ) (past : List ℕ) (id : ℕ) (rest : List ℕ) (walk : Walk) (before : Before) (assigned : Bool) → length rest ≤ m → length (code_of arena earlier) ≤ n + count_of arena past
-    → Stands arena earlier later past (id ∷ rest) walk before assigned → GoesOutside arena walk id (rest ++ later) (length earlier) → is_comment (item_class arena id) ≡ false
-    → Told arena earlier later n (count_of arena past) before assigned
-told_code m arena earlier later told zero past id rest walk before assigned few enough stands on code = absurd (omega (arith, enough, code_within arena earlier past id rest stands.split code))
-told_code m arena earlier later told (suc n) past id rest walk before assigned few enough stands on code = elim (cases_Bool (is_opener (item_class arena id))) [
-  | inl opens ↦ told_group m arena earlier later told n past id rest walk before assigned few enough stands on opens
-  | inr closed ↦ told_token m arena earlier later told n past id rest walk before assigned few enough stands on code closed
+told_step : (m : ℕ) (arena : Contents) (earlier later : List ℕ) → AllTold m arena earlier later
+    → (n : ℕ) (past : List ℕ) (id : ℕ) (rest : List ℕ) (walk : Walk) (before : Before) (assigned : Bool) → length rest ≤ m
+    → length (code_of arena earlier) ≤ n + count_of arena past → Stands arena earlier later past (id ∷ rest) walk before assigned
+    → Told arena earlier n (count_of arena past) before assigned
+told_step m arena earlier later told n past id rest walk before assigned few enough stands = elim (cases_Bool (is_comment (item_class arena id))) [
+  | inl comment ↦ by_comment comment
+  | inr code ↦ by_code code n enough
 ]
+  where
+    class : TokenClass
+    class = item_class arena id
+
+    tokens : List CodeToken
+    tokens = code_of arena earlier
+
+    Behind : ℕ → ℕ → Type 0
+    Behind n at = Told arena earlier n at (behind_code assigned before class) (assigned_behind assigned class)
+
+    on : GoesOutside arena walk id (rest ++ later) (length earlier)
+    on =
+        let more = not_yet arena earlier later past id rest walk before assigned stands in
+        goes_outside arena walk id (rest ++ later) (length earlier) (λ e. omega (arith, e, more)) stands.unasked stands.ends
+
+    by_comment : is_comment class ≡ true → Told arena earlier n (count_of arena past) before assigned
+    by_comment comment =
+        let same = no_more arena past id comment in
+        let next = next_stands arena earlier later past id rest walk before before assigned assigned stands on (comment_is_no_opener class comment)
+        (comment_agrees walk before class comment) (comment_assigns_nothing walk.assigned class comment ∙ stands.same_assigned) in
+        subst (λ (at : ℕ). Told arena earlier n at before assigned) same
+        (told n (past ++ id ∷ []) rest (outside walk class on.asked) before assigned few (omega (arith, enough, same)) next)
+
+    by_token : (n : ℕ) → length tokens ≤ suc n + count_of arena past → is_comment class ≡ false → is_opener class ≡ false
+        → Told arena earlier (suc n) (count_of arena past) before assigned
+    by_token n enough code opens =
+        let one = one_more arena past id code in
+        let agrees : Agrees (behind_code assigned before class) (behind walk class) =
+        subst (λ (b : Bool). Agrees (behind_code b before class) (behind walk class)) stands.same_assigned
+        (behind_agrees walk before class code stands.agrees) in
+        let next = next_stands arena earlier later past id rest walk before (behind_code assigned before class) assigned (assigned_behind assigned class)
+        stands on opens agrees (assigned_agrees walk.assigned class ∙ ap (λ (b : Bool). assigned_behind b class) stands.same_assigned) in
+        let rest_told = told n (past ++ id ∷ []) rest (outside walk class on.asked) (behind_code assigned before class) (assigned_behind assigned class)
+        few (omega (arith, enough, one)) next in
+        passes_token n tokens (count_of arena past) before assigned class (code_class arena earlier past id rest stands.split code)
+        (code_within arena earlier past id rest stands.split code) on.lost opens (subst (Behind n) one rest_told)
+
+    by_group : (n : ℕ) → length tokens ≤ suc n + count_of arena past → is_opener class ≡ true → Told arena earlier (suc n) (count_of arena past) before assigned
+    by_group n enough opens =
+        let code = opener_is_no_comment class opens in
+        let there = group_there arena earlier later past id rest walk before assigned stands on opens in
+        let group = group_ends_so arena earlier later past id rest walk before assigned stands on opens there in
+        let one = one_more arena (past ++ id ∷ group.inner) group.closer group.code in
+        let fewer : length group.behind ≤ m = omega (arith, few, ap length group.split, length-append group.inner (group.closer ∷ group.behind)) in
+        let more = counts_on arena past (id ∷ group.inner) in
+        let here = counts_one arena id group.inner code in
+        let rest_told = told n ((past ++ id ∷ group.inner) ++ group.closer ∷ []) group.behind group.next (behind_code assigned before class)
+        (assigned_behind assigned class) fewer (omega (arith, enough, one, more, here)) group.stands in
+        passes_group n tokens (count_of arena past) (count_of arena (past ++ id ∷ group.inner)) before assigned class
+        (code_class arena earlier past id rest stands.split code) (code_within arena earlier past id rest stands.split code)
+        on.lost opens group.partner (subst (Behind n) one rest_told)
+
+    by_code : is_comment class ≡ false → (n : ℕ) → length tokens ≤ n + count_of arena past → Told arena earlier n (count_of arena past) before assigned
+    by_code code zero enough = absurd (omega (arith, enough, code_within arena earlier past id rest stands.split code))
+    by_code code (suc n) enough = elim (cases_Bool (is_opener class)) [
+      | inl opens ↦ by_group n enough opens
+      | inr closed ↦ by_token n enough code closed
+    ]
 
 all_told : (m : ℕ) (arena : Contents) (earlier later : List ℕ) → AllTold m arena earlier later
 all_told m arena earlier later n past [] walk before assigned few enough stands = told_end n arena earlier later past walk before assigned stands
 all_told zero arena earlier later n past (id ∷ rest) walk before assigned few enough stands = absurd (omega (arith, few))
 all_told (suc m) arena earlier later n past (id ∷ rest) walk before assigned few enough stands =
-    let fewer : length rest ≤ m = omega (arith, few) in
-    let early : walk.place ≡ length earlier → ⊥ = λ e. omega (arith, e, not_yet arena earlier later past id rest walk before assigned stands) in
-    let on = goes_outside arena walk id (rest ++ later) (length earlier) early stands.unasked stands.ends in
-    elim (cases_Bool (is_comment (item_class arena id))) [
-      | inl comment ↦ told_comment m arena earlier later (all_told m arena earlier later) n past id rest walk before assigned fewer enough stands on comment
-      | inr code ↦ told_code m arena earlier later (all_told m arena earlier later) n past id rest walk before assigned fewer enough stands on code
-    ]
+    told_step m arena earlier later (all_told m arena earlier later) n past id rest walk before assigned (omega (arith, few)) enough stands
 
 -- the whole of a first part
-pub told_all : (arena : Contents) (earlier later : List ℕ) → IsFirstPart arena earlier later → Told arena earlier later (length (code_of arena earlier)) 0 Between false
+pub told_all : (arena : Contents) (earlier later : List ℕ) → IsFirstPart arena earlier later
+    → Told arena earlier (length (code_of arena earlier)) 0 Between false
 told_all arena earlier later cut =
     let partners : List (Option ℕ) = replicate (length (classes_of arena earlier)) None in
-    let many : length (replicate (length (classes_of arena earlier)) None) ≡ length earlier = length-replicate (length (classes_of arena earlier)) None ∙ length-map earlier (item_class arena) in
+    let many : length (replicate (length (classes_of arena earlier)) None) ≡ length earlier = length-replicate (length (classes_of arena earlier)) None
+    ∙ length-map earlier (item_class arena) in
     let stands : Stands arena earlier later [] earlier start Between false = record {
       split = refl;
       place = refl;
@@ -288,12 +282,8 @@ told_all arena earlier later cut =
       same_assigned = refl;
       unasked = λ e. cc;
       ends = cut.ends;
-      last = λ e. absurd (never e);
       partners = partners;
       many = many;
       found = refl;
     } in
     all_told (length earlier) arena earlier later (length (code_of arena earlier)) [] earlier start Between false (omega arith) (omega arith) stands
-  where
-    never : false ≡ true → ⊥
-    never e = cc
