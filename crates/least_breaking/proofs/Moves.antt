@@ -50,7 +50,7 @@ abbrev pub vertex_of : {S : Type 0} → ℕ → Vertex S → Bool → S → ℕ 
 vertex_of v vertex b t k = record { state = t; cost = vertex.cost + k; depth = suc vertex.depth; parent = v; brk = b; settled = false }
 
 module _ {S : Type 0} (step : S → Bool → S → ℕ → Type 0) (low : S → ℕ) (root : S) (n : ℕ) where
-  pub settle : IsFunctional step → IsBound step low root n → IsLayered step low root n → (vertices new_vertices : List (Vertex S)) (v : ℕ) (vertex : Vertex S) → IsTable step low root n vertices Nothing → slice_get vertices v ≡ Some vertex → vertex.settled ≡ false →
+  pub settle : IsFunctional step → IsBound step low root n → IsLayered step root n → (vertices new_vertices : List (Vertex S)) (v : ℕ) (vertex : Vertex S) → IsTable step low root n vertices Nothing → slice_get vertices v ≡ Some vertex → vertex.settled ≡ false →
       IsNext step low root n vertices vertex → Puts vertices new_vertices v (settled_vertex vertex) → IsTable step low root n new_vertices (AllOf v)
   settle functional bound layered vertices new_vertices v vertex t at free first p =
       put_in step low root n vertices new_vertices v (settled_vertex vertex) Nothing t fits (AllOf v) (λ u b ne out x here flag deep. inl (λ z. z)) (λ flag deep b out s k go. absurd (out refl))

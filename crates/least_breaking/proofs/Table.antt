@@ -70,6 +70,11 @@ path-put {S} vertices new_vertices w new p o up v vertex at settled parent deep 
 abbrev pub Nothing : ℕ → Bool → Type 0
 Nothing v b = ⊥
 
+module _ {S : Type 0} (step : S → Bool → S → ℕ → Type 0) (root : S) (n : ℕ) where
+  -- as many choices lead to a layout, whichever they are
+  abbrev pub IsLayered : Type 0
+  IsLayered = (r q : List Bool) (s : S) (c d : ℕ) → Reached step root r s c → Reached step root q s d → length r ≡ length q
+
 module _ {S : Type 0} (step : S → Bool → S → ℕ → Type 0) (low : S → ℕ) (root : S) (n : ℕ) where
   -- some vertex has this layout, this cost and this path
   pub record Known (vertices : List (Vertex S)) (settled : Bool) (s : S) (c : ℕ) (r : List Bool) : Type 0 where
@@ -115,11 +120,8 @@ module _ {S : Type 0} (step : S → Bool → S → ℕ → Type 0) (low : S → 
     pub cost : (u : ℕ) (other : Vertex S) → slice_get vertices u ≡ Some other → other.settled ≡ false → vertex.cost + low vertex.state ≤ other.cost + low other.state
     pub depth : (u : ℕ) (other : Vertex S) → slice_get vertices u ≡ Some other → other.settled ≡ false → other.cost + low other.state ≡ vertex.cost + low vertex.state → vertex.depth ≤ other.depth
 
-  abbrev pub IsLayered : Type 0
-  IsLayered = (r q : List Bool) (s : S) (c d : ℕ) → Reached step root r s c → Reached step root q s d → length r ≡ length q
-
   -- no choices to the layout of the open vertex that comes first are better than what is known
-  pub best_of_next : IsFunctional step → IsBound step low root n → IsLayered → (vertices : List (Vertex S)) → IsTable vertices Nothing → (v : ℕ) (vertex : Vertex S) → slice_get vertices v ≡ Some vertex → vertex.settled ≡ false → IsNext vertices vertex →
+  pub best_of_next : IsFunctional step → IsBound step low root n → IsLayered step root n → (vertices : List (Vertex S)) → IsTable vertices Nothing → (v : ℕ) (vertex : Vertex S) → slice_get vertices v ≡ Some vertex → vertex.settled ≡ false → IsNext vertices vertex →
       (r : List Bool) (c : ℕ) → length r ≤ n → Reached step root r vertex.state c → Has vertices vertex.state c r
   best_of_next functional bound layered vertices t v vertex at free first r c short h =
       elim (covered step low root n (Known vertices) functional bound (expanded vertices t) vertex.state c r short h) [
