@@ -8,6 +8,7 @@ mod Striding
 mod Grouping
 mod WayBack
 mod Relaxing
+mod AheadBound
 mod LineFacts
 mod AfterRelaxing
 mod Following
