@@ -1,4 +1,5 @@
 pub mod Outcome
+pub mod Ahead
 pub mod Starts
 pub mod Frontier
 pub mod Groups
