@@ -273,7 +273,7 @@ module _ (line : Line) (narrow : IsNarrow line) where
       omega (arith, f, room)
 
   goes_as_well : (bs : List Bool) (m : ℕ) (t s : Layout) → IsUpTo m t s → m + left s * narrow.width ≤ 4294967295 → GoesAsWell (Step line) (least_ahead line) bs t s
-  goes_as_well [] m t s h room = lower line t s h.index h.column
+  goes_as_well [] m t s h room = lower line narrow t s h.index h.column (omega (arith, h.within, room))
   goes_as_well (b ∷ bs) m t s h room = λ next k go.
       let p : IsPlacing line s b next k = placing line s b next k go in
       let g : IsGap line s.index p.gap = is_gap line s.index p.gap p.at in
