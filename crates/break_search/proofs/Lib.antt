@@ -22,6 +22,9 @@ mod Beginning
 mod Answering
 mod Thrifty
 mod Narrow
+mod AheadSums
+mod AheadSteps
+mod AheadBound
 mod Passing
 pub mod Walking
 pub mod LeastBreaks
