@@ -8,7 +8,6 @@ mod Striding
 mod Grouping
 mod WayBack
 mod Relaxing
-mod AheadBound
 mod LineFacts
 mod AfterRelaxing
 mod Following

@@ -12,7 +12,7 @@ use Rattle.break_search.specs.Frontier.{Entry}
 use Rattle.break_search.specs.Passing.{StandsAhead, IsAhead, IsBetter, Passes}
 use Rattle.break_search.specs.Progress.{KeepsSettled, IsRunning, IsSettled}
 use Rattle.break_search.specs.Saturation.{IsNarrow}
-use Rattle.break_search.specs.Vertices.{HaveLevels, AreLevel, rank_at}
+use Rattle.break_search.specs.Vertices.{HaveLevels, AreLevel, IsCostOf, rank_at}
 use Rattle.break_search.proofs.Endings.{inner_runs}
 use Rattle.break_search.proofs.Forks.{rank_at_is}
 use Rattle.break_search.proofs.LineFacts.{have_levels}
@@ -32,6 +32,12 @@ vertex_at vertices u less = by_option (slice_get vertices u) refl
     by_option : (o : Option (Vertex Layout)) → slice_get vertices u ≡ o → (x : Vertex Layout) × (slice_get vertices u ≡ Some x)
     by_option None e = absurd (none_less vertices u less e)
     by_option (Some x) e = (x, e)
+
+-- the cost of a vertex, where all are small
+pub small_at : (table : List (Vertex Layout)) (v cost most : ℕ) → v < length table → ((x : Vertex Layout) → slice_get table v ≡ Some x → x.cost ≤ most) → IsCostOf table v cost → cost ≤ most
+small_at table v cost most within all is =
+    let x = vertex_at table v within in
+    omega (arith, all x.0 x.1, is x.0 x.1)
 
 -- two vertices, the first ahead of the other, stand behind as many choices
 pub ahead_level : (table : List (Vertex Layout)) (v w : ℕ) → HaveLevels table → v < length table → w < length table → v ≢ w → IsAhead table v w → AreLevel table v w
