@@ -21,6 +21,9 @@ mod Beginning
 mod Answering
 mod Thrifty
 mod Narrow
+mod AheadSums
+mod AheadSteps
+mod AheadBound
 mod Passing
 pub mod Walking
 pub mod LeastBreaks
