@@ -3,8 +3,10 @@ use Rattle.std.proofs.Common.{◌≡◌, ℕ, ◌+◌, ◌-◌, ◌*◌, ◌<◌
 use Rattle.std.proofs.lemmas.Nat.{mul-le}
 use Rattle.least_breaking.proofs.Ways.{Reached}
 use Rattle.line_tokens.specs.Columns.{columns}
-use Rattle.penalties.specs.Breaks.{gap_rule}
+use Rattle.line_tokens.specs.declared.LineTok.{LineTok}
+use Rattle.line_tokens.specs.declared.Fixed.{Fixed}
 use Rattle.line_state.specs.declared.gap.Gap.{Gap}
+use Rattle.line_state.specs.declared.gap.GapRules.{GapRules}
 use Rattle.line_state.specs.Layout.{Layout}
 use Rattle.line_state.specs.Line.{Line, gaps, gap_at, first_layout, Step}
 use Rattle.line_state.proofs.Steps.{placing, index_of, first_index}
@@ -27,22 +29,32 @@ ends_at line s e =
 pub whole_ends : (line : Line) → 0 < length line.tokens → (r : List Bool) (s : Layout) (c : ℕ) → length r ≡ gaps line → Reached (Step line) (first_layout line) r s c → least_ahead line s ≡ 0
 whole_ends line some r s c count h = ends_at line s (omega (arith, index_of line (first_layout line) r s c h, first_index line some, count, some))
 
+with_small : (rules : GapRules) (token : LineTok) (decision : Option Fixed) (next : Stretch) → next.least ≤ 18446744073709551615 → (stretch_with rules token decision next).least ≤ 18446744073709551615
+with_small rules token decision next h = by_flags (can_stay rules.rule token decision) rules.rule.can
+  where
+    by_flags : (stays can : Bool) → (if stays then (record { width = columns (columns rules.spaces token.first_width) next.width; least = if can then min rules.rule.cost next.least else next.least }) else no_stretch).least ≤ 18446744073709551615
+    by_flags false can = omega arith
+    by_flags true true = omega (arith, h)
+    by_flags true false = omega (arith, h)
+
+over_small : (line : Line) (o : Option Gap) (next : Stretch) → next.least ≤ 18446744073709551615 → (stretch_over line.style o next).least ≤ 18446744073709551615
+over_small line None next h = omega arith
+over_small line (Some gap) next h = with_small (rules_of line.style gap) gap.right gap.fixed next h
+
 stretch_small : (line : Line) (n : ℕ) → (stretch_of line n).least ≤ 18446744073709551615
 stretch_small line zero = omega arith
-stretch_small line (suc n) = by_gap (gap_at line (length line.tokens - suc n))
-  where
-    by_gap : (o : Option Gap) → (stretch_over line.style o (stretch_of line n)).least ≤ 18446744073709551615
-    by_gap None = omega arith
-    by_gap (Some gap) = by_flags (can_stay (gap_rule line.style gap.left gap.right) gap.right gap.fixed) (gap_rule line.style gap.left gap.right).can
-      where
-        by_flags : (stays can : Bool) → (if stays then (record { width = columns (columns (rules_of line.style gap).spaces gap.right.first_width) (stretch_of line n).width; least = if can then min (gap_rule line.style gap.left gap.right).cost (stretch_of line n).least else (stretch_of line n).least }) else no_stretch).least ≤ 18446744073709551615
-        by_flags false can = omega arith
-        by_flags true true = omega (arith, stretch_small line n)
-        by_flags true false = omega (arith, stretch_small line n)
+stretch_small line (suc n) = over_small line (gap_at line (length line.tokens - suc n)) (stretch_of line n) (stretch_small line n)
 
 -- it is a number that can be told
 pub small : (line : Line) (s : Layout) → least_ahead line s ≤ 18446744073709551615
 small line s = omega (arith, stretch_small line (length line.tokens - s.index))
+
+with_width : (rules : GapRules) (token : LineTok) (decision : Option Fixed) (next : Stretch) → (stretch_with rules token decision next).width ≤ rules.spaces + token.first_width + next.width
+with_width rules token decision next = by_flag (can_stay rules.rule token decision)
+  where
+    by_flag : (stays : Bool) → (if stays then (record { width = columns (columns rules.spaces token.first_width) next.width; least = if rules.rule.can then min rules.rule.cost next.least else next.least }) else no_stretch).width ≤ rules.spaces + token.first_width + next.width
+    by_flag false = omega arith
+    by_flag true = omega arith
 
 module _ (line : Line) (narrow : IsNarrow line) where
   gap_within : (i : ℕ) (gap : Gap) → gap_at line i ≡ Some gap → reach line.style gap ≤ narrow.width
@@ -52,20 +64,13 @@ module _ (line : Line) (narrow : IsNarrow line) where
       none_some x e = cc
   gap_within (suc i) gap e = narrow.each (suc i) gap e
 
+  over_within : (i n : ℕ) (o : Option Gap) (next : Stretch) → gap_at line i ≡ o → next.width ≤ n * narrow.width → (stretch_over line.style o next).width ≤ suc n * narrow.width
+  over_within i n None next e h = omega arith
+  over_within i n (Some gap) next e h = omega (arith, with_width (rules_of line.style gap) gap.right gap.fixed next, h, gap_within i gap e)
+
   stretch_within : (n : ℕ) → (stretch_of line n).width ≤ n * narrow.width
   stretch_within zero = omega arith
-  stretch_within (suc n) = by_gap (gap_at line (length line.tokens - suc n)) refl
-    where
-      by_gap : (o : Option Gap) → gap_at line (length line.tokens - suc n) ≡ o → (stretch_over line.style o (stretch_of line n)).width ≤ suc n * narrow.width
-      by_gap None e = omega arith
-      by_gap (Some gap) e = by_flag (can_stay (gap_rule line.style gap.left gap.right) gap.right gap.fixed)
-        where
-          moves : reach line.style gap ≤ narrow.width
-          moves = gap_within (length line.tokens - suc n) gap e
-
-          by_flag : (stays : Bool) → (if stays then (record { width = columns (columns (rules_of line.style gap).spaces gap.right.first_width) (stretch_of line n).width; least = if (gap_rule line.style gap.left gap.right).can then min (gap_rule line.style gap.left gap.right).cost (stretch_of line n).least else (stretch_of line n).least }) else no_stretch).width ≤ suc n * narrow.width
-          by_flag false = omega arith
-          by_flag true = omega (arith, stretch_within n, moves)
+  stretch_within (suc n) = over_within (length line.tokens - suc n) n (gap_at line (length line.tokens - suc n)) (stretch_of line n) refl (stretch_within n)
 
   -- from a column that isn't larger no more is known to come
   pub lower : (t s : Layout) → t.index ≡ s.index → t.column ≤ s.column → s.column + (length line.tokens - s.index) * narrow.width ≤ 4294967295 → least_ahead line t ≤ least_ahead line s

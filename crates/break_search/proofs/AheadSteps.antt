@@ -25,7 +25,7 @@ none_ahead line s e =
     let product : line.style.penalty_excess_character * excess_ahead line s ≡ line.style.penalty_excess_character * 0 = ap (λ (x : ℕ). line.style.penalty_excess_character * x) none in
     omega (arith, product)
 
-abbrev rules_of : Style → Gap → GapRules
+abbrev pub rules_of : Style → Gap → GapRules
 rules_of style gap = record { rule = gap_rule style gap.left gap.right; spaces = spaces_before style gap.left gap.right }
 
 -- the stretch ahead begins with the next token
