@@ -24,6 +24,7 @@ mod Narrow
 mod AheadSums
 mod AheadSteps
 mod AheadBound
+mod AheadTable
 mod Passing
 pub mod Walking
 pub mod LeastBreaks

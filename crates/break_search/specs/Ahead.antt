@@ -1,5 +1,5 @@
 -- What each whole breaking costs at least beyond a layout: it breaks in the stretch of tokens ahead, or leaves that on one row.
-use Rattle.std.specs.Prelude.{ℕ, ◌-◌, ◌*◌, min, max, Bool, true, false, ◌&&◌, not, ◌==◌, nat_lt, if◌then◌else◌, Option, Some, None, length, zero, suc}
+use Rattle.std.specs.Prelude.{◌≡◌, ℕ, ◌+◌, ◌-◌, ◌*◌, min, max, Bool, true, false, ◌&&◌, not, ◌==◌, nat_lt, if◌then◌else◌, Option, Some, None, List, length, slice_get, zero, suc}
 use Rattle.line_tokens.specs.Columns.{columns}
 use Rattle.line_tokens.specs.Roles.{is_trailing}
 use Rattle.line_tokens.specs.declared.LineTok.{LineTok}
@@ -48,3 +48,8 @@ excess_ahead line s = columns s.column (stretch_ahead line s).width - max s.colu
 
 abbrev pub least_ahead : Line → Layout → ℕ
 least_ahead line s = min (stretch_ahead line s).least (line.style.penalty_excess_character * excess_ahead line s)
+
+-- what is known of each number of tokens that can be left
+pub record HaveStretches (line : Line) (stretches : List Stretch) : Type 0 where
+  pub count : length stretches ≡ length line.tokens + 1
+  pub told : (n : ℕ) (stretch : Stretch) → slice_get stretches n ≡ Some stretch → stretch ≡ stretch_of line n

@@ -1,9 +1,16 @@
 //! What the breakings of a line cost at least beyond a layout.
 
-ghost use Rattle.std.specs.Prelude.{◌≡◌};
-ghost use Rattle.break_search.specs.Ahead.{can_stay, stretch_with};
+ghost use Rattle.std.specs.Prelude.{◌≡◌, ℕ, ◌+◌, ◌<◌, Some, length, slice_get, IfOk};
+ghost use Rattle.line_state.specs.Line.{joined};
+ghost use Rattle.style_table.specs.declared.style.Style.{Style};
+ghost use Rattle.break_search.specs.Ahead.{can_stay, stretch_with, no_stretch, HaveStretches};
+ghost use Rattle.break_search.specs.Outcome.{line_of};
+ghost use Rattle.break_search.specs.Rules.{HaveRules};
 
-use line_state::GapRules;
+use crate::line::{rules_at, token_at};
+use bumpalo::Bump;
+use bumpalo::collections::into_bump_slice;
+use line_state::{GapRules, NoMemory};
 use line_tokens::{Fixed, LineTok};
 
 /// The tokens ahead that may stand on one row, each behind a gap that may stay.
@@ -13,6 +20,16 @@ pub(crate) struct Stretch {
     pub width: u32,
     /// What a break among them costs at least: the largest number where none may break.
     pub least: u64,
+}
+
+/// What is known where nothing is.
+fn no_stretch() -> Stretch
+    ensures { result ≡ no_stretch }
+{
+    Stretch {
+        width: 0,
+        least: u64::MAX,
+    }
 }
 
 /// Whether a gap may stay, where its token is one row whose columns past the limit cost.
@@ -27,7 +44,7 @@ fn stays(rules: &GapRules, token: &LineTok, decision: Option<Fixed>) -> bool
 }
 
 /// The stretch of a gap's token and the tokens behind it.
-pub(crate) fn stretch_with(
+fn stretch_with(
     rules: &GapRules,
     token: &LineTok,
     decision: Option<Fixed>,
@@ -36,10 +53,7 @@ pub(crate) fn stretch_with(
     ensures { result ≡ stretch_with rules.now token.now decision next }
 {
     if !stays(rules, token, decision) {
-        return Stretch {
-            width: 0,
-            least: u64::MAX,
-        };
+        return no_stretch();
     }
     let width = u32::from(rules.spaces).saturating_add(token.first_width);
     let least = if rules.rule.can {
@@ -51,4 +65,49 @@ pub(crate) fn stretch_with(
         width: width.saturating_add(next.width),
         least,
     }
+}
+
+/// The decision at a place, if there is one.
+fn decision_of(fixed: &[Option<Fixed>], at: usize) -> Option<Fixed>
+    ensures { result ≡ joined (slice_get fixed.now at) }
+{
+    match fixed.get(at) {
+        Some(decision) => *decision,
+        None => None,
+    }
+}
+
+/// The stretch ahead where so many tokens are left.
+#[inline(always)]
+pub(crate) fn stretch_at(stretches: &[Stretch], left: usize) -> Stretch
+    requires { left < length stretches.now }
+    ensures { slice_get stretches.now left ≡ Some result }
+{
+    stretches[left]
+}
+
+/// The stretch ahead for each number of tokens that can be left.
+pub(crate) fn stretches_of<'r>(
+    tokens: &[LineTok],
+    fixed: &[Option<Fixed>],
+    rules: &[GapRules],
+    run: &'r Bump,
+) -> Result<&'r [Stretch], NoMemory>
+    requires some { 0 < length tokens.now }
+    requires count { length rules.now + 1 ≡ length tokens.now }
+    ensures { IfOk result (λ stretches. (style : Style) (column : ℕ) → HaveRules style tokens.now rules.now → HaveStretches (line_of style column tokens.now fixed.now) stretches.now) }
+{
+    let count = tokens.len();
+    let mut stretches = Vec::with_capacity(run, count + 1)?;
+    let mut next = no_stretch();
+    stretches.push(next)?;
+    for left in 0..count - 1 {
+        let at = count - 1 - left;
+        let token = token_at(tokens, at);
+        let before = rules_at(rules, at - 1);
+        next = stretch_with(before, token, decision_of(fixed, at), next);
+        stretches.push(next)?;
+    }
+    stretches.push(no_stretch())?;
+    Ok(into_bump_slice(stretches))
 }

@@ -5,16 +5,17 @@ ghost use Rattle.std.specs.Bool.{OnTrue, OnFalse};
 ghost use Rattle.style_table.specs.Range.{IsInRange};
 ghost use Rattle.line_tokens.specs.declared.LineTok.{LineTok};
 ghost use Rattle.line_tokens.specs.Columns.{stored_or};
-ghost use Rattle.line_state.specs.Layout.{AreRules, Layout, layout_of};
-ghost use Rattle.break_search.specs.Ahead.{least_ahead};
+ghost use Rattle.line_state.specs.Layout.{Layout, AreRules, layout_of};
 ghost use Rattle.line_state.specs.Store.{layout_in, state_in, IsIn, IsGrown};
 ghost use Rattle.line_state.specs.Line.{gaps, first_layout, first_cost, decision_at, joined};
+ghost use Rattle.break_search.specs.Ahead.{least_ahead};
 ghost use Rattle.break_search.specs.Outcome.{IsSearchable, line_of};
 ghost use Rattle.break_search.specs.Rules.{HaveRules};
 ghost use Rattle.line_state.specs.declared.gap.Gap.{Gap};
 ghost use Rattle.break_search.specs.Saturation.{IsSaturation, gap_into, reach};
 ghost use Rattle.break_search.specs.Vertices.{IsNextState, IsSuccessor, LeadsOn, LeadsNowhere, states_in};
 
+use crate::ahead::{Stretch, stretch_at, stretches_of};
 use crate::outcome::Saturation;
 use bumpalo::Bump;
 use bumpalo::collections::into_bump_slice;
@@ -47,7 +48,7 @@ pub(crate) fn decision_in(fixed: &[Option<Fixed>], at: usize) -> Option<Fixed>
 
 /// What the tables say of a gap.
 #[inline(always)]
-fn rules_at(rules: &[GapRules], at: usize) -> &GapRules
+pub(crate) fn rules_at(rules: &[GapRules], at: usize) -> &GapRules
     requires { at < length rules.now }
     ensures { slice_get rules.now at ≡ Some result.now }
 {
@@ -109,6 +110,8 @@ pub(crate) struct SearchedLine<'a> {
     pub fixed: &'a [Option<Fixed>],
     /// What the tables say of each gap inside it.
     rules: &'a [GapRules],
+    /// The stretch ahead for each number of tokens that can be left.
+    stretches: &'a [Stretch],
 }
 
 impl<'a> Model for SearchedLine<'a> {
@@ -116,11 +119,13 @@ impl<'a> Model for SearchedLine<'a> {
 
     ghost Value = { Line };
 
+    ghost use Rattle.break_search.specs.Ahead.{HaveStretches};
+    ghost use Rattle.break_search.specs.Outcome.{line_of};
     ghost use Rattle.break_search.specs.Rules.{HaveRules};
 
     ghost view = { λ l. record { style = l.style.now; column = l.column; tokens = l.tokens.now; fixed = l.fixed.now } };
 
-    ghost invariant = { λ l. HaveRules l.style.now l.tokens.now l.rules.now };
+    ghost invariant = { λ l. HaveRules l.style.now l.tokens.now l.rules.now × HaveStretches (line_of l.style.now l.column l.tokens.now l.fixed.now) l.stretches.now };
 }
 
 impl<'a> SearchedLine<'a> {
@@ -137,12 +142,14 @@ impl<'a> SearchedLine<'a> {
         ensures { IfOk result (λ line. line ≡ line_of style.now column tokens.now fixed.now) }
     {
         let rules = rules_of(style, tokens, run)?;
+        let stretches = stretches_of(tokens, fixed, rules, run)?;
         Ok(SearchedLine {
             style,
             column,
             tokens,
             fixed,
             rules,
+            stretches,
         })
     }
 
@@ -152,6 +159,19 @@ impl<'a> SearchedLine<'a> {
         ensures { result ≡ gaps self.now }
     {
         (self.tokens.len() - 1) as u32
+    }
+
+    /// What every whole breaking costs at least beyond a layout of so many tokens, at the column.
+    #[inline(always)]
+    pub fn least_ahead(&self, index: u32, column: u32) -> u64
+        ensures { (s : Layout) → s.index ≡ index → s.column ≡ column → result ≡ least_ahead self.now s }
+    {
+        let left = self.tokens.len().saturating_sub(index as usize);
+        let ahead = stretch_at(self.stretches, left);
+        let end = column.saturating_add(ahead.width);
+        let past = end.saturating_sub(column.max(self.style.column_limit));
+        let cost = u64::from(self.style.penalty_excess_character) * u64::from(past);
+        ahead.least.min(cost)
     }
 
     /// The token at a place.

@@ -5,8 +5,8 @@ use Rattle.break_search.proofs.line.SearchedLine.rules_before.Goals as goal
 
 pub rules_at-requires : goal.rules_at-requires
 rules_at-requires c =
-    gap_within _ _ _ c.args.self.now _ (ap (λ (l : Line). l.style) c.self.view_is) (ap (λ (l : Line). l.tokens) c.self.view_is) c.self.invariant c.requires.some c.requires.at
+    gap_within _ _ _ c.args.self.now _ (ap (λ (l : Line). l.style) c.self.view_is) (ap (λ (l : Line). l.tokens) c.self.view_is) c.self.invariant.0 c.requires.some c.requires.at
 
 pub returns : goal.returns
 returns c =
-    ruled_before _ _ _ c.args.self.now _ (ap (λ (l : Line). l.style) c.self.view_is) (ap (λ (l : Line). l.tokens) c.self.view_is) c.self.invariant c.requires.some _ c.rules_at.ensures
+    ruled_before _ _ _ c.args.self.now _ (ap (λ (l : Line). l.style) c.self.view_is) (ap (λ (l : Line). l.tokens) c.self.view_is) c.self.invariant.0 c.requires.some _ c.rules_at.ensures
