@@ -1,5 +1,5 @@
 -- What is known to come is a lower bound, and isn't larger from a smaller column.
-use Rattle.std.proofs.Common.{◌≡◌, ℕ, ◌+◌, ◌-◌, ◌*◌, ◌<◌, ◌≤◌, min, max, Bool, true, false, if◌then◌else◌, Option, Some, None, List, length, refl, arith, ap, sym, ◌∙◌, subst, suc, zero}
+use Rattle.std.proofs.Common.{◌≡◌, ℕ, ◌+◌, ◌-◌, ◌*◌, ◌<◌, ◌≤◌, min, Bool, true, false, if◌then◌else◌, Option, Some, None, List, length, refl, arith, ap, suc, zero}
 use Rattle.std.proofs.lemmas.Nat.{mul-le}
 use Rattle.least_breaking.proofs.Bounds.{IsBound}
 use Rattle.least_breaking.proofs.Ways.{Reached}

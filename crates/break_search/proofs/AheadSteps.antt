@@ -1,7 +1,7 @@
 -- A step takes no more off what is known to come than it costs.
-use Rattle.std.proofs.Common.{◌≡◌, ℕ, ◌+◌, ◌-◌, ◌*◌, ◌<◌, ◌≤◌, ◌==◌, min, max, Bool, true, false, ◌&&◌, not, nat_lt, cond, if◌then◌else◌, Option, Some, None, length, refl, arith, ap, sym, ◌∙◌, subst, suc, zero}
+use Rattle.std.proofs.Common.{◌≡◌, ℕ, ◌+◌, ◌-◌, ◌*◌, ◌<◌, ◌≤◌, ◌==◌, min, max, Bool, true, false, ◌&&◌, not, nat_lt, if◌then◌else◌, Option, Some, None, length, refl, arith, ap, sym, ◌∙◌, suc}
 use Rattle.std.proofs.lemmas.Bool.Decides.{nat_tests}
-use Rattle.line_tokens.specs.Columns.{columns, stored_or, end_of}
+use Rattle.line_tokens.specs.Columns.{columns, stored_or}
 use Rattle.line_tokens.specs.Roles.{is_trailing}
 use Rattle.line_tokens.specs.declared.Fixed.{Fixed}
 use Rattle.style_table.specs.declared.style.Style.{Style}
@@ -10,10 +10,9 @@ use Rattle.penalties.specs.Breaks.{gap_rule}
 use Rattle.spacing.specs.Spaces.{spaces_before}
 use Rattle.line_state.specs.declared.gap.Gap.{Gap}
 use Rattle.line_state.specs.declared.gap.GapRules.{GapRules}
-use Rattle.line_state.specs.Layout.{Layout, is_allowed, as_decided, keeps_rules_at, layout_after, cost_of, gap_cost, excess_at, excess, is_decided, is_free, is_some_decision, spot_of, start_of, broken_start}
-use Rattle.line_state.specs.Line.{Line, gap_at, Step}
-use Rattle.line_state.proofs.Steps.{IsPlacing, placing, IsGap, is_gap}
-use Rattle.break_search.specs.Outcome.{most_told}
+use Rattle.line_state.specs.Layout.{Layout, as_decided, keeps_rules_at, cost_of, gap_cost, excess_at, excess, is_some_decision, spot_of, start_of, broken_start}
+use Rattle.line_state.specs.Line.{Line, gap_at}
+use Rattle.line_state.proofs.Steps.{IsPlacing, IsGap, is_gap}
 use Rattle.break_search.specs.Ahead.{no_stretch, can_stay, stretch_with, stretch_over, stretch_of, stretch_ahead, excess_ahead, least_ahead}
 use Rattle.break_search.specs.declared.ahead.Stretch.{Stretch}
 use Rattle.break_search.proofs.AheadSums.{excess_adds, stay_costs, IsStaying, staying}

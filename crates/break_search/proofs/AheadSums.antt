@@ -1,5 +1,5 @@
 -- The columns past the limit on one row, token by token.
-use Rattle.std.proofs.Common.{◌≡◌, ℕ, ◌+◌, ◌-◌, ◌*◌, ◌≤◌, min, max, Bool, true, false, ◌&&◌, not, cond, if◌then◌else◌, Option, Some, None, refl, arith}
+use Rattle.std.proofs.Common.{◌≡◌, ℕ, ◌+◌, ◌-◌, ◌*◌, ◌≤◌, min, max, Bool, true, false, ◌&&◌, not, Option, Some, None, refl, arith}
 use Rattle.std.proofs.lemmas.Nat.{mul-le}
 use Rattle.line_tokens.specs.Columns.{columns}
 use Rattle.line_tokens.specs.declared.Fixed.{Fixed}

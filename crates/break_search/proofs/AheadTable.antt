@@ -1,10 +1,9 @@
 -- What is known of a line's stretches, from the last token to the first.
-use Rattle.std.proofs.Common.{◌≡◌, ℕ, ◌+◌, ◌-◌, ◌<◌, inl, inr, Option, Some, None, List, [], ◌∷◌, ◌++◌, length, length-append, slice_get, refl, arith, ap, sym, ◌∙◌, subst, suc, zero}
+use Rattle.std.proofs.Common.{◌≡◌, ℕ, ◌+◌, ◌-◌, ◌<◌, inl, inr, Option, Some, List, [], ◌∷◌, ◌++◌, length, length-append, slice_get, refl, arith, ap, sym, ◌∙◌, subst, suc}
 use Rattle.std.proofs.lemmas.Bool.{cases_eq}
 use Rattle.digest_chains.proofs.Edits.{at_push}
 use Rattle.line_tokens.specs.declared.LineTok.{LineTok}
 use Rattle.line_tokens.specs.declared.Fixed.{Fixed}
-use Rattle.style_table.specs.declared.style.Style.{Style}
 use Rattle.penalties.specs.declared.GapRule.{GapRule}
 use Rattle.line_state.specs.declared.gap.Gap.{Gap}
 use Rattle.line_state.specs.declared.gap.GapRules.{GapRules}
@@ -12,7 +11,6 @@ use Rattle.line_state.specs.Layout.{AreRules}
 use Rattle.line_state.specs.Line.{Line, gap_at, joined}
 use Rattle.line_state.proofs.Steps.{IsGap, is_gap, gap_there}
 use Rattle.break_search.specs.Ahead.{no_stretch, stretch_with, stretch_over, stretch_of, HaveStretches}
-use Rattle.break_search.specs.Outcome.{line_of}
 use Rattle.break_search.specs.Rules.{HaveRules}
 use Rattle.break_search.specs.declared.ahead.Stretch.{Stretch}
 use Rattle.break_search.proofs.AheadSteps.{rules_of}

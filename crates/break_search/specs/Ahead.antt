@@ -1,5 +1,5 @@
 -- What each whole breaking costs at least beyond a layout: it breaks in the stretch of tokens ahead, or leaves that on one row.
-use Rattle.std.specs.Prelude.{◌≡◌, ℕ, ◌+◌, ◌-◌, ◌*◌, min, max, Bool, true, false, ◌&&◌, not, ◌==◌, nat_lt, if◌then◌else◌, Option, Some, None, List, length, slice_get, zero, suc}
+use Rattle.std.specs.Prelude.{◌≡◌, ℕ, ◌+◌, ◌-◌, ◌*◌, min, max, Bool, ◌&&◌, not, ◌==◌, nat_lt, if◌then◌else◌, Option, Some, None, List, length, slice_get, zero, suc}
 use Rattle.line_tokens.specs.Columns.{columns}
 use Rattle.line_tokens.specs.Roles.{is_trailing}
 use Rattle.line_tokens.specs.declared.LineTok.{LineTok}

@@ -1,5 +1,4 @@
-use Rattle.std.proofs.Common.{◌≡◌, ℕ, ◌+◌, ◌-◌, List, length, arith, sym, subst}
-use Rattle.style_table.specs.declared.style.Style.{Style}
+use Rattle.std.proofs.Common.{◌-◌, List, length, arith, sym, subst}
 use Rattle.break_search.specs.Ahead.{HaveStretches}
 use Rattle.break_search.specs.Outcome.{line_of}
 use Rattle.break_search.specs.declared.ahead.Stretch.{Stretch}
