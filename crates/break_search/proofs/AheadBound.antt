@@ -1,6 +1,7 @@
 -- What is known to come is a lower bound, and isn't larger from a smaller column.
 use Rattle.std.proofs.Common.{◌≡◌, ℕ, ◌+◌, ◌-◌, ◌*◌, ◌<◌, ◌≤◌, min, Bool, true, false, if◌then◌else◌, Option, Some, None, List, length, refl, arith, ap, suc, zero}
 use Rattle.std.proofs.lemmas.Nat.{mul-le}
+use Rattle.least_breaking.proofs.Bounds.{IsBound}
 use Rattle.least_breaking.proofs.Ways.{Reached}
 use Rattle.line_tokens.specs.Columns.{columns}
 use Rattle.line_tokens.specs.declared.LineTok.{LineTok}
@@ -40,6 +41,10 @@ with_small rules token decision next h = by_flags (can_stay rules.rule token dec
 over_small : (line : Line) (o : Option Gap) (next : Stretch) → next.least ≤ 18446744073709551615 → (stretch_over line.style o next).least ≤ 18446744073709551615
 over_small line None next h = omega arith
 over_small line (Some gap) next h = with_small (rules_of line.style gap) gap.right gap.fixed next h
+
+-- so it is a bound of the search
+pub is_bound : (line : Line) → 0 < length line.tokens → IsBound (Step line) (least_ahead line) (first_layout line) (gaps line)
+is_bound line some = record { falls = λ r s t c k b h go. step_falls line s t k b go; ends = λ r s c count h. whole_ends line some r s c count h }
 
 stretch_small : (line : Line) (n : ℕ) → (stretch_of line n).least ≤ 18446744073709551615
 stretch_small line zero = omega arith

@@ -16,7 +16,9 @@ use Rattle.line_state.specs.Brackets.{opens_frame, binds_commas, binds_opening, 
 use Rattle.line_state.specs.Layout.{Layout, start_layout, is_allowed, as_decided, keeps_rules_at, layout_after, cost_of, gap_cost, excess_at, excess, is_decided, is_free, open_frames, spot_of, is_after_opener, start_of, broken_start, topmost, below_topmost, with_topmost, placed_frame, placed_frames, opened_frame, comma_frame, opening_of, new_frame, frames_after}
 use Rattle.line_state.specs.Line.{Line, gap_at, first_layout, step_over, Step}
 use Rattle.line_state.proofs.Steps.{IsPlacing, placing, IsGap, is_gap, is_first, first_index}
+use Rattle.break_search.specs.Ahead.{least_ahead}
 use Rattle.break_search.specs.Saturation.{reach, IsNarrow}
+use Rattle.break_search.proofs.AheadBound.{lower}
 
 -- x has the rules of y, and columns that aren't larger; those of y are at most m
 pub record IsFrameUpTo (m : ℕ) (x y : Frame) : Type 0 where
@@ -270,8 +272,8 @@ module _ (line : Line) (narrow : IsNarrow line) where
       let f : left s * narrow.width ≡ suc (length line.tokens - (s.index + 1)) * narrow.width = ap (λ (x : ℕ). x * narrow.width) e in
       omega (arith, f, room)
 
-  goes_as_well : (bs : List Bool) (m : ℕ) (t s : Layout) → IsUpTo m t s → m + left s * narrow.width ≤ 4294967295 → GoesAsWell (Step line) bs t s
-  goes_as_well [] m t s h room = tt
+  goes_as_well : (bs : List Bool) (m : ℕ) (t s : Layout) → IsUpTo m t s → m + left s * narrow.width ≤ 4294967295 → GoesAsWell (Step line) (least_ahead line) bs t s
+  goes_as_well [] m t s h room = lower line narrow t s h.index h.column (omega (arith, h.within, room))
   goes_as_well (b ∷ bs) m t s h room = λ next k go.
       let p : IsPlacing line s b next k = placing line s b next k go in
       let g : IsGap line s.index p.gap = is_gap line s.index p.gap p.at in
@@ -330,7 +332,7 @@ module _ (line : Line) (narrow : IsNarrow line) where
       }
 
   -- a layout dominates one that choices reach and that differs only in a larger column
-  pub dominates_ahead : 0 < length line.tokens → (r : List Bool) (t s : Layout) (c : ℕ) → Reached (Step line) (first_layout line) r s c → t.index ≡ s.index → t.base ≡ s.base → t.frames ≡ s.frames → t.column ≤ s.column → Dominates (Step line) t s
+  pub dominates_ahead : 0 < length line.tokens → (r : List Bool) (t s : Layout) (c : ℕ) → Reached (Step line) (first_layout line) r s c → t.index ≡ s.index → t.base ≡ s.base → t.frames ≡ s.frames → t.column ≤ s.column → Dominates (Step line) (least_ahead line) t s
   dominates_ahead some r t s c h index base frames column =
       let known : HasRoom s = reached_room some r s c h in
       let up_to : IsUpTo known.most t s = record {

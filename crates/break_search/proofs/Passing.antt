@@ -7,11 +7,12 @@ use Rattle.least_breaking.proofs.Moves.{AllOf, drop}
 use Rattle.line_state.specs.Layout.{Layout}
 use Rattle.line_state.specs.Line.{Line, gaps, first_layout, Step}
 use Rattle.line_state.proofs.Steps.{functional}
+use Rattle.break_search.specs.Ahead.{least_ahead}
 use Rattle.break_search.specs.Frontier.{Entry}
 use Rattle.break_search.specs.Passing.{StandsAhead, IsAhead, IsBetter, Passes}
 use Rattle.break_search.specs.Progress.{KeepsSettled, IsRunning, IsSettled}
 use Rattle.break_search.specs.Saturation.{IsNarrow}
-use Rattle.break_search.specs.Vertices.{HaveLevels, AreLevel, rank_at}
+use Rattle.break_search.specs.Vertices.{HaveLevels, AreLevel, IsCostOf, rank_at}
 use Rattle.break_search.proofs.Endings.{inner_runs}
 use Rattle.break_search.proofs.Forks.{rank_at_is}
 use Rattle.break_search.proofs.LineFacts.{have_levels}
@@ -32,6 +33,12 @@ vertex_at vertices u less = by_option (slice_get vertices u) refl
     by_option None e = absurd (none_less vertices u less e)
     by_option (Some x) e = (x, e)
 
+-- the cost of a vertex, where all are small
+pub small_at : (table : List (Vertex Layout)) (v cost most : ℕ) → v < length table → ((x : Vertex Layout) → slice_get table v ≡ Some x → x.cost ≤ most) → IsCostOf table v cost → cost ≤ most
+small_at table v cost most within all is =
+    let x = vertex_at table v within in
+    omega (arith, all x.0 x.1, is x.0 x.1)
+
 -- two vertices, the first ahead of the other, stand behind as many choices
 pub ahead_level : (table : List (Vertex Layout)) (v w : ℕ) → HaveLevels table → v < length table → w < length table → v ≢ w → IsAhead table v w → AreLevel table v w
 ahead_level table v w levels in_v in_w differ ahead =
@@ -46,10 +53,10 @@ passes_by table v w in_v differ settled flag is ahead better =
     record { node = x.0; at = x.1; differ = differ; settled = sym (flag x.0 x.1) ∙ is; ahead = ahead; better = better }
 
 module _ (line : Line) (some : 0 < length line.tokens) (narrow : IsNarrow line) (budget : ℕ) (table : List (Vertex Layout)) (entries : List Entry) (cells : ℕ) (best : Option ℕ) (w : ℕ) (k : IsSettled line table entries cells best w) where
-  passed_table : (v : ℕ) → Passes table v w → IsTable (Step line) (first_layout line) (gaps line) table Nothing
-  passed_table v p = drop (Step line) (first_layout line) (gaps line) (functional line) table w v k.node p.node t k.at p.at p.differ p.settled level over good
+  passed_table : (v : ℕ) → Passes table v w → IsTable (Step line) (least_ahead line) (first_layout line) (gaps line) table Nothing
+  passed_table v p = drop (Step line) (least_ahead line) (first_layout line) (gaps line) (functional line) table w v k.node p.node t k.at p.at p.differ p.settled level over good
     where
-      t : IsTable (Step line) (first_layout line) (gaps line) table (AllOf w)
+      t : IsTable (Step line) (least_ahead line) (first_layout line) (gaps line) table (AllOf w)
       t = k.search.table
 
       ahead : StandsAhead p.node.state k.node.state
@@ -58,7 +65,7 @@ module _ (line : Line) (some : 0 < length line.tokens) (narrow : IsNarrow line) 
       level : p.node.depth ≡ k.node.depth
       level = omega (arith, ahead.index, have_levels line table (AllOf w) t some v p.node p.at, have_levels line table (AllOf w) t some w k.node k.at)
 
-      over : Dominates (Step line) p.node.state k.node.state
+      over : Dominates (Step line) (least_ahead line) p.node.state k.node.state
       over = dominates_ahead line narrow some (path table k.node.depth w) p.node.state k.node.state k.node.cost (t.sound w k.node k.at).reaches ahead.index ahead.base ahead.frames ahead.column
 
       good : AtMost p.node.cost (rank (path table p.node.depth v)) k.node.cost (rank (path table k.node.depth w))

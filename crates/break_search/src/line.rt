@@ -1,6 +1,6 @@
 //! A line that is searched.
 
-ghost use Rattle.std.specs.Prelude.{◌≡◌, ◌+◌, ◌-◌, ◌*◌, ◌<◌, ◌≤◌, Some, length, slice_get, IfOk, IfSome, OnOk};
+ghost use Rattle.std.specs.Prelude.{◌≡◌, ℕ, ◌+◌, ◌-◌, ◌*◌, ◌<◌, ◌≤◌, Some, length, slice_get, IfOk, IfSome, OnOk};
 ghost use Rattle.std.specs.Bool.{OnTrue, OnFalse};
 ghost use Rattle.style_table.specs.Range.{IsInRange};
 ghost use Rattle.line_tokens.specs.declared.LineTok.{LineTok};
@@ -274,6 +274,13 @@ impl<'a> SearchedLine<'a> {
         } else {
             Saturation::Possible
         }
+    }
+
+    /// What every whole breaking costs at least beyond a layout.
+    pub fn least_ahead(&self, index: u32, column: u32) -> u64
+        ensures { (s : Layout) → s.index ≡ index → s.column ≡ column → result ≡ least_ahead self.now s }
+    {
+        0
     }
 
     /// The state of the first token, with its frames in a store.

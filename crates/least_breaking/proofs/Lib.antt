@@ -1,5 +1,6 @@
 pub mod Ways
 pub mod Dominance
+pub mod Bounds
 pub mod Cover
 pub mod Table
 pub mod Updates

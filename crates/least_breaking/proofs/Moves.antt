@@ -4,6 +4,7 @@ use Rattle.std.proofs.lemmas.Bool.{cases_eq}
 use Rattle.std.proofs.lemmas.List.{append-nil}
 use Rattle.least_breaking.specs.Choices.{Leads, IsLeast}
 use Rattle.least_breaking.proofs.Ways.{bit, rank, Reached, AtMost, AtMost-refl, AtMost-trans, AtMost-step, onto, length-onto, Reached-onto, Leads-onto, IsNotAfter-rank, onto-onto}
+use Rattle.least_breaking.proofs.Bounds.{IsBound}
 use Rattle.least_breaking.proofs.Dominance.{Dominates, dominates_itself, dominates_over, IsFunctional, StepsOver, steps_over}
 use Rattle.least_breaking.proofs.Cover.{Knows, OnTheWay, covered}
 use Rattle.least_breaking.proofs.Table.{Vertex, path, path_by, Puts, HasParent, HaveParents, IsOpen, path-Puts, path-put, Known, Has, IsSound, IsTable, Nothing, IsNext, IsLayered, best_of_next, expanded}
@@ -48,11 +49,11 @@ After v b u c = (u ≡ v) × (bit b < bit c)
 abbrev pub vertex_of : {S : Type 0} → ℕ → Vertex S → Bool → S → ℕ → Vertex S
 vertex_of v vertex b t k = record { state = t; cost = vertex.cost + k; depth = suc vertex.depth; parent = v; brk = b; settled = false }
 
-module _ {S : Type 0} (step : S → Bool → S → ℕ → Type 0) (root : S) (n : ℕ) where
-  pub settle : IsFunctional step → IsLayered step root n → (vertices new_vertices : List (Vertex S)) (v : ℕ) (vertex : Vertex S) → IsTable step root n vertices Nothing → slice_get vertices v ≡ Some vertex → vertex.settled ≡ false →
-      IsNext step root n vertices vertex → Puts vertices new_vertices v (settled_vertex vertex) → IsTable step root n new_vertices (AllOf v)
-  settle functional layered vertices new_vertices v vertex t at free first p =
-      put_in step root n vertices new_vertices v (settled_vertex vertex) Nothing t fits (AllOf v) (λ u b ne out x here flag deep. inl (λ z. z)) (λ flag deep b out s k go. absurd (out refl))
+module _ {S : Type 0} (step : S → Bool → S → ℕ → Type 0) (low : S → ℕ) (root : S) (n : ℕ) where
+  pub settle : IsFunctional step → IsBound step low root n → IsLayered step root n → (vertices new_vertices : List (Vertex S)) (v : ℕ) (vertex : Vertex S) → IsTable step low root n vertices Nothing → slice_get vertices v ≡ Some vertex → vertex.settled ≡ false →
+      IsNext step low root n vertices vertex → Puts vertices new_vertices v (settled_vertex vertex) → IsTable step low root n new_vertices (AllOf v)
+  settle functional bound layered vertices new_vertices v vertex t at free first p =
+      put_in step low root n vertices new_vertices v (settled_vertex vertex) Nothing t fits (AllOf v) (λ u b ne out x here flag deep. inl (λ z. z)) (λ flag deep b out s k go. absurd (out refl))
     where
       is_open : IsOpen vertices v
       is_open old there = let e : Some old ≡ Some vertex = sym there ∙ at in let same : old ≡ vertex = cc in ap (λ (x : Vertex S). x.settled) same ∙ free
@@ -60,7 +61,7 @@ module _ {S : Type 0} (step : S → Bool → S → ℕ → Type 0) (root : S) (n
       same_path : path new_vertices vertex.depth v ≡ path vertices vertex.depth v
       same_path = path-again vertices new_vertices v vertex p is_open t.parents at vertex.depth refl
 
-      fits : Fits step root n vertices new_vertices v (settled_vertex vertex)
+      fits : Fits step low root n vertices new_vertices v (settled_vertex vertex)
       fits = record {
         puts = p;
         open_before = is_open;
@@ -71,7 +72,7 @@ module _ {S : Type 0} (step : S → Bool → S → ℕ → Type 0) (root : S) (n
         });
         parent = (λ deep. let h = t.parents v vertex at deep in record { up = h.up; at = h.at; settled = h.settled; depth = h.depth });
         apart = λ u other ne there same. ne (t.apart u v other vertex there at same);
-        best = λ flag r c short h. best_of_next step root n functional layered vertices t v vertex at free first r c short h;
+        best = λ flag r c short h. best_of_next step low root n functional bound layered vertices t v vertex at free first r c short h;
         keeps = λ old there. (let e : Some old ≡ Some vertex = sym there ∙ at in let same : old ≡ vertex = cc in (
           ap (λ (x : Vertex S). x.state) same,
           ap (λ (x : Vertex S). x.depth) same,
@@ -81,9 +82,9 @@ module _ {S : Type 0} (step : S → Bool → S → ℕ → Type 0) (root : S) (n
       }
 
   -- fewer choices are left where each that goes is there already
-  pub fewer : (vertices : List (Vertex S)) (Left Left' : ℕ → Bool → Type 0) → IsTable step root n vertices Left →
+  pub fewer : (vertices : List (Vertex S)) (Left Left' : ℕ → Bool → Type 0) → IsTable step low root n vertices Left →
       ((u : ℕ) (b : Bool) → (Left' u b → ⊥) → (x : Vertex S) → slice_get vertices u ≡ Some x → x.settled ≡ true → x.depth < n →
-      (Left u b → ⊥) ⊎ ((s : S) (k : ℕ) → step x.state b s k → Has step root n vertices s (x.cost + k) (b ∷ path vertices x.depth u))) → IsTable step root n vertices Left'
+      (Left u b → ⊥) ⊎ ((s : S) (k : ℕ) → step x.state b s k → Has step low root n vertices s (x.cost + k) (b ∷ path vertices x.depth u))) → IsTable step low root n vertices Left'
   fewer vertices Left Left' t less = record {
     first = t.first;
     sound = t.sound;
@@ -94,15 +95,15 @@ module _ {S : Type 0} (step : S → Bool → S → ℕ → Type 0) (root : S) (n
   }
 
   -- a settled vertex that is dominated by another that is no worse, and has been followed, needs not be
-  pub drop : IsFunctional step → (vertices : List (Vertex S)) (v w : ℕ) (vertex other : Vertex S) → IsTable step root n vertices (AllOf v) → slice_get vertices v ≡ Some vertex → slice_get vertices w ≡ Some other → w ≢ v →
-      other.settled ≡ true → other.depth ≡ vertex.depth → Dominates step other.state vertex.state → AtMost other.cost (rank (path vertices other.depth w)) vertex.cost (rank (path vertices vertex.depth v)) → IsTable step root n vertices Nothing
+  pub drop : IsFunctional step → (vertices : List (Vertex S)) (v w : ℕ) (vertex other : Vertex S) → IsTable step low root n vertices (AllOf v) → slice_get vertices v ≡ Some vertex → slice_get vertices w ≡ Some other → w ≢ v →
+      other.settled ≡ true → other.depth ≡ vertex.depth → Dominates step low other.state vertex.state → AtMost other.cost (rank (path vertices other.depth w)) vertex.cost (rank (path vertices vertex.depth v)) → IsTable step low root n vertices Nothing
   drop functional vertices v w vertex other t at there ne flag level over good = fewer vertices (AllOf v) Nothing t less
     where
-      moved : (settled : Bool) (z s : S) (k l : ℕ) (b : Bool) → l ≤ k → Dominates step z s → Knows step root n (Known step root n vertices) settled z (other.cost + l) (b ∷ path vertices other.depth w) →
-          Knows step root n (Known step root n vertices) settled s (vertex.cost + k) (b ∷ path vertices vertex.depth v)
+      moved : (settled : Bool) (z s : S) (k l : ℕ) (b : Bool) → l ≤ k → Dominates step low z s → Knows step low root n (Known step low root n vertices) settled z (other.cost + l) (b ∷ path vertices other.depth w) →
+          Knows step low root n (Known step low root n vertices) settled s (vertex.cost + k) (b ∷ path vertices vertex.depth v)
       moved settled z s k l b cheap up h = record {
         layout = h.layout;
-        over = dominates_over step h.layout z s h.over up;
+        over = dominates_over step low h.layout z s h.over up;
         cost = h.cost;
         choices = h.choices;
         known = h.known;
@@ -111,36 +112,36 @@ module _ {S : Type 0} (step : S → Bool → S → ℕ → Type 0) (root : S) (n
             (AtMost-step other.cost (rank (path vertices other.depth w)) vertex.cost (rank (path vertices vertex.depth v)) k l (bit b) good cheap);
       }
 
-      found : vertex.depth < n → (b : Bool) (s : S) (k : ℕ) → step vertex.state b s k → Has step root n vertices s (vertex.cost + k) (b ∷ path vertices vertex.depth v)
+      found : vertex.depth < n → (b : Bool) (s : S) (k : ℕ) → step vertex.state b s k → Has step low root n vertices s (vertex.cost + k) (b ∷ path vertices vertex.depth v)
       found deep b s k go =
-          let o : StepsOver step other.state b s k = steps_over step functional other.state vertex.state s b k over go in
+          let o : StepsOver step low other.state b s k = steps_over step low functional other.state vertex.state s b k over go in
           elim (t.next w other there flag (omega (arith, level, deep)) b ne o.other o.cost o.go) [
             | inl h ↦ inl (moved false o.other s k o.cost b o.cheap o.over h)
             | inr h ↦ inr (moved true o.other s k o.cost b o.cheap o.over h)
           ]
 
       less : (u : ℕ) (b : Bool) → (Nothing u b → ⊥) → (x : Vertex S) → slice_get vertices u ≡ Some x → x.settled ≡ true → x.depth < n →
-          (AllOf v u b → ⊥) ⊎ ((s : S) (k : ℕ) → step x.state b s k → Has step root n vertices s (x.cost + k) (b ∷ path vertices x.depth u))
+          (AllOf v u b → ⊥) ⊎ ((s : S) (k : ℕ) → step x.state b s k → Has step low root n vertices s (x.cost + k) (b ∷ path vertices x.depth u))
       less u b out x here settled deep = elim (cases_eq u v) [
         | inr apart ↦ inl apart
         | inl e ↦ inr (λ s k go.
             let same_at : Some x ≡ Some vertex = sym here ∙ ap (λ (y : ℕ). slice_get vertices y) e ∙ at in
             let same : x ≡ vertex = cc in
-            subst (λ (y : ℕ). Has step root n vertices s (x.cost + k) (b ∷ path vertices x.depth y)) (sym e)
-            (subst (λ (y : Vertex S). Has step root n vertices s (y.cost + k) (b ∷ path vertices y.depth v)) (sym same)
+            subst (λ (y : ℕ). Has step low root n vertices s (x.cost + k) (b ∷ path vertices x.depth y)) (sym e)
+            (subst (λ (y : Vertex S). Has step low root n vertices s (y.cost + k) (b ∷ path vertices y.depth v)) (sym same)
             (found (subst (λ (y : Vertex S). y.depth < n) same deep) b s k (subst (λ (y : Vertex S). step y.state b s k) same go))))
       ]
 
   -- a step from a settled vertex is put where it is new, or better than an open vertex of its layout
-  pub relax : IsFunctional step → (vertices new_vertices : List (Vertex S)) (v w : ℕ) (vertex : Vertex S) (b : Bool) (t : S) (k : ℕ) (Left Left' : ℕ → Bool → Type 0) → IsTable step root n vertices Left →
+  pub relax : IsFunctional step → (vertices new_vertices : List (Vertex S)) (v w : ℕ) (vertex : Vertex S) (b : Bool) (t : S) (k : ℕ) (Left Left' : ℕ → Bool → Type 0) → IsTable step low root n vertices Left →
       slice_get vertices v ≡ Some vertex → vertex.settled ≡ true → vertex.depth < n → step vertex.state b t k → Puts vertices new_vertices w (vertex_of v vertex b t k) →
       ((u : ℕ) (other : Vertex S) → slice_get vertices u ≡ Some other → other.state ≡ t → u ≡ w) →
       ((old : Vertex S) → slice_get vertices w ≡ Some old → (old.settled ≡ false) × (old.state ≡ t) × (old.depth ≡ suc vertex.depth) ×
       AtMost (vertex.cost + k) (2 * rank (path vertices vertex.depth v) + bit b) old.cost (rank (path vertices old.depth w))) →
       ((u : ℕ) (c : Bool) → (Left' u c → ⊥) → (Left u c → ⊥) ⊎ ((u ≡ v) × (c ≡ b))) →
-      IsTable step root n new_vertices Left'
+      IsTable step low root n new_vertices Left'
   relax functional vertices new_vertices v w vertex b t k Left Left' table at flag deep go p one old_is goes =
-      put_in step root n vertices new_vertices w (vertex_of v vertex b t k) Left table fits Left' less (λ no. absurd (false-true no))
+      put_in step low root n vertices new_vertices w (vertex_of v vertex b t k) Left table fits Left' less (λ no. absurd (false-true no))
     where
       false-true : false ≡ true → ⊥
       false-true e = cc
@@ -151,7 +152,7 @@ module _ {S : Type 0} (step : S → Bool → S → ℕ → Type 0) (root : S) (n
       new_path : path new_vertices (suc vertex.depth) w ≡ b ∷ path vertices vertex.depth v
       new_path = path-put vertices new_vertices w (vertex_of v vertex b t k) p is_open table.parents v vertex at flag refl refl
 
-      fits : Fits step root n vertices new_vertices w (vertex_of v vertex b t k)
+      fits : Fits step low root n vertices new_vertices w (vertex_of v vertex b t k)
       fits = record {
         puts = p;
         open_before = is_open;
@@ -170,10 +171,10 @@ module _ {S : Type 0} (step : S → Bool → S → ℕ → Type 0) (root : S) (n
         ));
       }
 
-      found : Has step root n new_vertices t (vertex.cost + k) (b ∷ path vertices vertex.depth v)
+      found : Has step low root n new_vertices t (vertex.cost + k) (b ∷ path vertices vertex.depth v)
       found = inl (record {
         layout = t;
-        over = dominates_itself step t;
+        over = dominates_itself step low t;
         cost = vertex.cost + k;
         choices = b ∷ path vertices vertex.depth v;
         known = record { id = w; vertex = vertex_of v vertex b t k; at = p.here; flag = refl; state = refl; cost = refl; path = new_path };
@@ -182,7 +183,7 @@ module _ {S : Type 0} (step : S → Bool → S → ℕ → Type 0) (root : S) (n
       })
 
       less : (u : ℕ) (c : Bool) → u ≢ w → (Left' u c → ⊥) → (x : Vertex S) → slice_get vertices u ≡ Some x → x.settled ≡ true → x.depth < n →
-          (Left u c → ⊥) ⊎ ((s : S) (l : ℕ) → step x.state c s l → Has step root n new_vertices s (x.cost + l) (c ∷ path vertices x.depth u))
+          (Left u c → ⊥) ⊎ ((s : S) (l : ℕ) → step x.state c s l → Has step low root n new_vertices s (x.cost + l) (c ∷ path vertices x.depth u))
       less u c ne out x there settled short = elim (goes u c out) [
         | inl free ↦ inl free
         | inr both ↦ inr (λ s l h.
@@ -190,19 +191,19 @@ module _ {S : Type 0} (step : S → Bool → S → ℕ → Type 0) (root : S) (n
             let same : x ≡ vertex = cc in
             let h' : step vertex.state b s l = subst (λ (c : Bool). step vertex.state c s l) both.1 (subst (λ (y : Vertex S). step y.state c s l) same h) in
             let eq : (t ≡ s) × (k ≡ l) = functional vertex.state b t s k l go h' in
-            subst (λ (c : Bool). Has step root n new_vertices s (x.cost + l) (c ∷ path vertices x.depth u)) (sym both.1)
-            (subst (λ (y : ℕ). Has step root n new_vertices s (x.cost + l) (b ∷ path vertices x.depth y)) (sym both.0)
-            (subst (λ (y : Vertex S). Has step root n new_vertices s (y.cost + l) (b ∷ path vertices y.depth v)) (sym same)
-            (subst (λ (y : ℕ). Has step root n new_vertices s (vertex.cost + y) (b ∷ path vertices vertex.depth v)) eq.1
-            (subst (λ (y : S). Has step root n new_vertices y (vertex.cost + k) (b ∷ path vertices vertex.depth v)) eq.0 found)))))
+            subst (λ (c : Bool). Has step low root n new_vertices s (x.cost + l) (c ∷ path vertices x.depth u)) (sym both.1)
+            (subst (λ (y : ℕ). Has step low root n new_vertices s (x.cost + l) (b ∷ path vertices x.depth y)) (sym both.0)
+            (subst (λ (y : Vertex S). Has step low root n new_vertices s (y.cost + l) (b ∷ path vertices y.depth v)) (sym same)
+            (subst (λ (y : ℕ). Has step low root n new_vertices s (vertex.cost + y) (b ∷ path vertices vertex.depth v)) eq.1
+            (subst (λ (y : S). Has step low root n new_vertices y (vertex.cost + k) (b ∷ path vertices vertex.depth v)) eq.0 found)))))
       ]
 
-  -- the end: the best settled vertex at the depth n, with nothing open that costs as little
-  pub found_least : IsFunctional step → (vertices : List (Vertex S)) (v : ℕ) (vertex : Vertex S) → IsTable step root n vertices Nothing → slice_get vertices v ≡ Some vertex → vertex.depth ≡ n →
+  -- the end: the best settled vertex at the depth n, with nothing open that can cost as little
+  pub found_least : IsFunctional step → IsBound step low root n → (vertices : List (Vertex S)) (v : ℕ) (vertex : Vertex S) → IsTable step low root n vertices Nothing → slice_get vertices v ≡ Some vertex → vertex.depth ≡ n →
       ((u : ℕ) (x : Vertex S) → slice_get vertices u ≡ Some x → x.settled ≡ true → x.depth ≡ n → AtMost vertex.cost (rank (path vertices vertex.depth v)) x.cost (rank (path vertices x.depth u))) →
-      ((u : ℕ) (x : Vertex S) → slice_get vertices u ≡ Some x → x.settled ≡ false → vertex.cost < x.cost) →
+      ((u : ℕ) (x : Vertex S) → slice_get vertices u ≡ Some x → x.settled ≡ false → vertex.cost < x.cost + low x.state) →
       IsLeast step root n (onto (path vertices vertex.depth v) []) vertex.cost
-  found_least functional vertices v vertex t at deep best dear = record {
+  found_least functional bound vertices v vertex t at deep best dear = record {
     reaches = (vertex.state, subst (λ (c : ℕ). Leads step root (onto (path vertices vertex.depth v) []) vertex.state c) (omega arith) (Leads-onto step root vertex.state vertex.state vertex.cost 0 (path vertices vertex.depth v) [] sound.reaches (refl, refl)));
     count = omega (arith, length-onto (path vertices vertex.depth v) [], sound.deep, deep);
     least = λ other s c len h. (any_other other s c len h).cost;
@@ -214,14 +215,14 @@ module _ {S : Type 0} (step : S → Bool → S → ℕ → Type 0) (root : S) (n
         IsNotAfter-rank (onto (path vertices vertex.depth v) []) other [] [] sizes refl (omega (arith, ap rank back, a.tie refl));
   }
     where
-      sound : IsSound step root n vertices v vertex
+      sound : IsSound step low root n vertices v vertex
       sound = t.sound v vertex at
 
       any_other : (other : List Bool) (s : S) (c : ℕ) → length other ≡ n → Leads step root other s c → AtMost vertex.cost (rank (path vertices vertex.depth v)) c (rank (onto other []))
       any_other other s c len h =
           let there : Reached step root (onto other []) s c = from_left step root s c other h in
           let size : length (onto other []) ≡ n = omega (arith, length-onto other [], len) in
-          elim (covered step root n (Known step root n vertices) functional (expanded step root n vertices t) s c (onto other []) (omega arith) there) [
+          elim (covered step low root n (Known step low root n vertices) functional bound (expanded step low root n vertices t) s c (onto other []) (omega arith) there) [
             | inl k ↦
                 let whole : k.known.vertex.depth ≡ n = omega (arith, k.deep, size, ap length k.known.path, (t.sound k.known.id k.known.vertex k.known.at).deep) in
                 let b = best k.known.id k.known.vertex k.known.at k.known.flag whole in
@@ -232,38 +233,40 @@ module _ {S : Type 0} (step : S → Bool → S → ℕ → Type 0) (root : S) (n
                       let c2 : k.cost ≡ c = omega (arith, b.cost, k.known.cost, k.good.cost, e) in
                       omega (arith, b.tie c1, ap rank k.known.path, k.good.tie c2);
                 }
-            | inr w ↦ absurd_or w
+            | inr w ↦ absurd_or size there w
           ]
         where
-          absurd_or : OnTheWay step root n (Known step root n vertices) s c (onto other []) → AtMost vertex.cost (rank (path vertices vertex.depth v)) c (rank (onto other []))
-          absurd_or w =
-              let o : Known step root n vertices false w.at w.cost w.choices = w.known in
-              let more : vertex.cost < o.vertex.cost = dear o.id o.vertex o.at o.flag in
-              record { cost = omega (arith, more, o.cost, w.cheap); tie = λ e. absurd (omega (arith, more, o.cost, w.cheap, e)) }
+          absurd_or : length (onto other []) ≡ n → Reached step root (onto other []) s c → OnTheWay step low root n (Known step low root n vertices) s c (onto other []) → AtMost vertex.cost (rank (path vertices vertex.depth v)) c (rank (onto other []))
+          absurd_or size there w =
+              let o : Known step low root n vertices false w.at w.cost w.choices = w.known in
+              let more : vertex.cost < o.vertex.cost + low o.vertex.state = dear o.id o.vertex o.at o.flag in
+              let none : low s ≡ 0 = bound.ends (onto other []) s c size there in
+              let above : vertex.cost < c = omega (arith, more, o.cost, ap low o.state, w.cheap, none) in
+              record { cost = omega (arith, above); tie = λ e. absurd (omega (arith, above, e)) }
 
-  -- the next vertex costs no more than any whole list of choices
-  pub next_within : IsFunctional step → (vertices : List (Vertex S)) (vertex : Vertex S) → IsTable step root n vertices Nothing → IsNext step root n vertices vertex →
+  -- the next vertex costs no more than any whole list of choices, its bound counted
+  pub next_within : IsFunctional step → IsBound step low root n → (vertices : List (Vertex S)) (vertex : Vertex S) → IsTable step low root n vertices Nothing → IsNext step low root n vertices vertex →
       ((u : ℕ) (x : Vertex S) → slice_get vertices u ≡ Some x → x.settled ≡ true → x.depth ≡ n → vertex.cost ≤ x.cost) →
       (whole : List Bool) (s : S) (c : ℕ) → length whole ≡ n → Leads step root whole s c → vertex.cost ≤ c
-  next_within functional vertices vertex t first ends whole s c len h =
+  next_within functional bound vertices vertex t first ends whole s c len h =
       let there : Reached step root (onto whole []) s c = from_left step root s c whole h in
       let size : length (onto whole []) ≡ n = omega (arith, length-onto whole [], len) in
-      elim (covered step root n (Known step root n vertices) functional (expanded step root n vertices t) s c (onto whole []) (omega arith) there) [
+      elim (covered step low root n (Known step low root n vertices) functional bound (expanded step low root n vertices t) s c (onto whole []) (omega arith) there) [
         | inl k ↦
             let deep : k.known.vertex.depth ≡ n = omega (arith, k.deep, size, ap length k.known.path, (t.sound k.known.id k.known.vertex k.known.at).deep) in
             omega (arith, ends k.known.id k.known.vertex k.known.at k.known.flag deep, k.known.cost, k.good.cost)
-        | inr w ↦ let o : Known step root n vertices false w.at w.cost w.choices = w.known in omega (arith, first.cost o.id o.vertex o.at o.flag, o.cost, w.cheap)
+        | inr w ↦ let o : Known step low root n vertices false w.at w.cost w.choices = w.known in omega (arith, first.cost o.id o.vertex o.at o.flag, o.cost, ap low o.state, w.cheap, bound.ends (onto whole []) s c size there)
       ]
 
   -- where nothing is open and no whole list was settled, there is none
-  pub none_open : IsFunctional step → (vertices : List (Vertex S)) → IsTable step root n vertices Nothing → ((u : ℕ) (x : Vertex S) → slice_get vertices u ≡ Some x → (x.settled ≡ true) × (x.depth ≡ n → ⊥)) →
+  pub none_open : IsFunctional step → IsBound step low root n → (vertices : List (Vertex S)) → IsTable step low root n vertices Nothing → ((u : ℕ) (x : Vertex S) → slice_get vertices u ≡ Some x → (x.settled ≡ true) × (x.depth ≡ n → ⊥)) →
       (whole : List Bool) (s : S) (c : ℕ) → length whole ≡ n → Leads step root whole s c → ⊥
-  none_open functional vertices t all whole s c len h =
+  none_open functional bound vertices t all whole s c len h =
       let there : Reached step root (onto whole []) s c = from_left step root s c whole h in
       let size : length (onto whole []) ≡ n = omega (arith, length-onto whole [], len) in
-      elim (covered step root n (Known step root n vertices) functional (expanded step root n vertices t) s c (onto whole []) (omega arith) there) [
+      elim (covered step low root n (Known step low root n vertices) functional bound (expanded step low root n vertices t) s c (onto whole []) (omega arith) there) [
         | inl k ↦
             let deep : k.known.vertex.depth ≡ n = omega (arith, k.deep, size, ap length k.known.path, (t.sound k.known.id k.known.vertex k.known.at).deep) in
             (all k.known.id k.known.vertex k.known.at).1 deep
-        | inr w ↦ let o : Known step root n vertices false w.at w.cost w.choices = w.known in true-false o.vertex (all o.id o.vertex o.at).0 o.flag
+        | inr w ↦ let o : Known step low root n vertices false w.at w.cost w.choices = w.known in true-false o.vertex (all o.id o.vertex o.at).0 o.flag
       ]

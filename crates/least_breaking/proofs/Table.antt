@@ -1,7 +1,8 @@
--- The table of a search by uniform cost: a vertex for each layout that was met, with its least known cost and the vertex before it.
+-- The table of a search: a vertex for each layout that was met, with its least known cost and the vertex before it.
 use Rattle.std.proofs.Common.{◌≡◌, ◌≢◌, ℕ, ◌+◌, ◌≤◌, ◌<◌, ◌⊎◌, inl, inr, Bool, true, false, Option, Some, None, List, [], ◌∷◌, length, refl, arith, ap, sym, ◌∙◌, subst, suc, zero, slice_get}
 use Rattle.std.proofs.lemmas.Bool.{cases_eq}
-use Rattle.least_breaking.proofs.Ways.{rank, Reached}
+use Rattle.least_breaking.proofs.Ways.{rank, Reached, AtMost}
+use Rattle.least_breaking.proofs.Bounds.{IsBound}
 use Rattle.least_breaking.proofs.Dominance.{Dominates, dominates_itself, IsFunctional}
 use Rattle.least_breaking.proofs.Cover.{Knows, OnTheWay, IsExpanded, covered}
 
@@ -70,6 +71,11 @@ abbrev pub Nothing : ℕ → Bool → Type 0
 Nothing v b = ⊥
 
 module _ {S : Type 0} (step : S → Bool → S → ℕ → Type 0) (root : S) (n : ℕ) where
+  -- as many choices lead to a layout, whichever they are
+  abbrev pub IsLayered : Type 0
+  IsLayered = (r q : List Bool) (s : S) (c d : ℕ) → Reached step root r s c → Reached step root q s d → length r ≡ length q
+
+module _ {S : Type 0} (step : S → Bool → S → ℕ → Type 0) (low : S → ℕ) (root : S) (n : ℕ) where
   -- some vertex has this layout, this cost and this path
   pub record Known (vertices : List (Vertex S)) (settled : Bool) (s : S) (c : ℕ) (r : List Bool) : Type 0 where
     pub id : ℕ
@@ -82,7 +88,7 @@ module _ {S : Type 0} (step : S → Bool → S → ℕ → Type 0) (root : S) (n
 
   -- some vertex dominates the layout, and is at least as good as the choices r at the cost c
   abbrev pub Has : List (Vertex S) → S → ℕ → List Bool → Type 0
-  Has vertices s c r = Knows step root n (Known vertices) false s c r ⊎ Knows step root n (Known vertices) true s c r
+  Has vertices s c r = Knows step low root n (Known vertices) false s c r ⊎ Knows step low root n (Known vertices) true s c r
 
   pub record IsSound (vertices : List (Vertex S)) (v : ℕ) (vertex : Vertex S) : Type 0 where
     pub reaches : Reached step root (path vertices vertex.depth v) vertex.state vertex.cost
@@ -91,7 +97,7 @@ module _ {S : Type 0} (step : S → Bool → S → ℕ → Type 0) (root : S) (n
 
   -- `Left v b`: the choice b at the settled vertex v is still to be followed
   pub record IsTable (vertices : List (Vertex S)) (Left : ℕ → Bool → Type 0) : Type 0 where
-    pub first : Knows step root n (Known vertices) false root 0 [] ⊎ Knows step root n (Known vertices) true root 0 []
+    pub first : Knows step low root n (Known vertices) false root 0 [] ⊎ Knows step low root n (Known vertices) true root 0 []
     pub sound : (v : ℕ) (vertex : Vertex S) → slice_get vertices v ≡ Some vertex → IsSound vertices v vertex
     pub parents : HaveParents vertices
     pub apart : (v w : ℕ) (a b : Vertex S) → slice_get vertices v ≡ Some a → slice_get vertices w ≡ Some b → a.state ≡ b.state → v ≡ w
@@ -99,7 +105,7 @@ module _ {S : Type 0} (step : S → Bool → S → ℕ → Type 0) (root : S) (n
     pub next : (v : ℕ) (vertex : Vertex S) → slice_get vertices v ≡ Some vertex → vertex.settled ≡ true → vertex.depth < n → (b : Bool) → (Left v b → ⊥) → (t : S) (k : ℕ) → step vertex.state b t k →
         Has vertices t (vertex.cost + k) (b ∷ path vertices vertex.depth v)
 
-  pub expanded : (vertices : List (Vertex S)) → IsTable vertices Nothing → IsExpanded step root n (Known vertices)
+  pub expanded : (vertices : List (Vertex S)) → IsTable vertices Nothing → IsExpanded step low root n (Known vertices)
   expanded vertices t = record {
     start = t.first;
     next = λ s u c k r b h less go.
@@ -109,19 +115,16 @@ module _ {S : Type 0} (step : S → Bool → S → ℕ → Type 0) (root : S) (n
         subst (λ (x : ℕ). Has vertices u (x + k) (b ∷ r)) h.cost (subst (λ (x : List Bool). Has vertices u (h.vertex.cost + k) (b ∷ x)) h.path found);
   }
 
-  -- no open vertex stands before this one in the order of cost, then of depth
+  -- no open vertex stands before this one in the order of cost and bound, then of depth
   pub record IsNext (vertices : List (Vertex S)) (vertex : Vertex S) : Type 0 where
-    pub cost : (u : ℕ) (other : Vertex S) → slice_get vertices u ≡ Some other → other.settled ≡ false → vertex.cost ≤ other.cost
-    pub depth : (u : ℕ) (other : Vertex S) → slice_get vertices u ≡ Some other → other.settled ≡ false → other.cost ≡ vertex.cost → vertex.depth ≤ other.depth
-
-  abbrev pub IsLayered : Type 0
-  IsLayered = (r q : List Bool) (s : S) (c d : ℕ) → Reached step root r s c → Reached step root q s d → length r ≡ length q
+    pub cost : (u : ℕ) (other : Vertex S) → slice_get vertices u ≡ Some other → other.settled ≡ false → vertex.cost + low vertex.state ≤ other.cost + low other.state
+    pub depth : (u : ℕ) (other : Vertex S) → slice_get vertices u ≡ Some other → other.settled ≡ false → other.cost + low other.state ≡ vertex.cost + low vertex.state → vertex.depth ≤ other.depth
 
   -- no choices to the layout of the open vertex that comes first are better than what is known
-  pub best_of_next : IsFunctional step → IsLayered → (vertices : List (Vertex S)) → IsTable vertices Nothing → (v : ℕ) (vertex : Vertex S) → slice_get vertices v ≡ Some vertex → vertex.settled ≡ false → IsNext vertices vertex →
+  pub best_of_next : IsFunctional step → IsBound step low root n → IsLayered step root n → (vertices : List (Vertex S)) → IsTable vertices Nothing → (v : ℕ) (vertex : Vertex S) → slice_get vertices v ≡ Some vertex → vertex.settled ≡ false → IsNext vertices vertex →
       (r : List Bool) (c : ℕ) → length r ≤ n → Reached step root r vertex.state c → Has vertices vertex.state c r
-  best_of_next functional layered vertices t v vertex at free first r c short h =
-      elim (covered step root n (Known vertices) functional (expanded vertices t) vertex.state c r short h) [
+  best_of_next functional bound layered vertices t v vertex at free first r c short h =
+      elim (covered step low root n (Known vertices) functional bound (expanded vertices t) vertex.state c r short h) [
         | inl k ↦ inr k
         | inr w ↦ inl (elim (cases_eq vertex.cost c) [ inl e ↦ tied w e | inr ne ↦ cheaper w ne ])
       ]
@@ -129,23 +132,22 @@ module _ {S : Type 0} (step : S → Bool → S → ℕ → Type 0) (root : S) (n
       len : length (path vertices vertex.depth v) ≡ length r
       len = layered (path vertices vertex.depth v) r vertex.state vertex.cost c (t.sound v vertex at).reaches h
 
-      tied : OnTheWay step root n (Known vertices) vertex.state c r → vertex.cost ≡ c → Knows step root n (Known vertices) false vertex.state c r
+      tied : OnTheWay step low root n (Known vertices) vertex.state c r → vertex.cost ≡ c → Knows step low root n (Known vertices) false vertex.state c r
       tied w e =
           let o : Known vertices false w.at w.cost w.choices = w.known in
-          let c1 : o.vertex.cost ≡ vertex.cost = omega (arith, first.cost o.id o.vertex o.at o.flag, o.cost, w.cheap, e) in
+          let c1 : o.vertex.cost + low o.vertex.state ≡ vertex.cost + low vertex.state = omega (arith, first.cost o.id o.vertex o.at o.flag, o.cost, ap low o.state, w.cheap, e) in
           let d1 : vertex.depth ≤ o.vertex.depth = first.depth o.id o.vertex o.at o.flag c1 in
-          let c2 : w.cost ≡ c = omega (arith, o.cost, c1, e) in
           let l2 : length w.choices ≡ length r = omega (arith, w.depth, d1, len, (t.sound v vertex at).deep, (t.sound o.id o.vertex o.at).deep, ap length o.path) in
-          let both : Dominates step w.at vertex.state × (rank w.choices ≤ rank r) = w.same c2 l2 in
-          record { layout = w.at; over = both.0; cost = w.cost; choices = w.choices; known = o; deep = l2; good = record { cost = w.cheap; tie = λ _. both.1 } }
+          let both : Dominates step low w.at vertex.state × AtMost w.cost (rank w.choices) c (rank r) = w.same l2 in
+          record { layout = w.at; over = both.0; cost = w.cost; choices = w.choices; known = o; deep = l2; good = both.1 }
 
-      cheaper : OnTheWay step root n (Known vertices) vertex.state c r → vertex.cost ≢ c → Knows step root n (Known vertices) false vertex.state c r
+      cheaper : OnTheWay step low root n (Known vertices) vertex.state c r → vertex.cost ≢ c → Knows step low root n (Known vertices) false vertex.state c r
       cheaper w ne =
           let o : Known vertices false w.at w.cost w.choices = w.known in
-          let le : vertex.cost ≤ c = omega (arith, first.cost o.id o.vertex o.at o.flag, o.cost, w.cheap) in
+          let le : vertex.cost ≤ c = omega (arith, first.cost o.id o.vertex o.at o.flag, o.cost, ap low o.state, w.cheap) in
           record {
             layout = vertex.state;
-            over = dominates_itself step vertex.state;
+            over = dominates_itself step low vertex.state;
             cost = vertex.cost;
             choices = path vertices vertex.depth v;
             known = record { id = v; vertex = vertex; at = at; flag = free; state = refl; cost = refl; path = refl };

@@ -22,29 +22,29 @@ where_is {S} vertices new_vertices w new p u x at = elim cases_at [
     cases_at : (u ≡ w) ⊎ (u ≢ w)
     cases_at = cases_eq u w
 
-module _ {S : Type 0} (step : S → Bool → S → ℕ → Type 0) (root : S) (n : ℕ) where
+module _ {S : Type 0} (step : S → Bool → S → ℕ → Type 0) (low : S → ℕ) (root : S) (n : ℕ) where
   -- what a vertex that is put has to bring
   pub record Fits (vertices new_vertices : List (Vertex S)) (w : ℕ) (new : Vertex S) : Type 0 where
     pub puts : Puts vertices new_vertices w new
     pub open_before : IsOpen vertices w
-    pub sound : IsSound step root n new_vertices w new
+    pub sound : IsSound step low root n new_vertices w new
     pub parent : 0 < new.depth → HasParent vertices new
     pub apart : (u : ℕ) (other : Vertex S) → u ≢ w → slice_get vertices u ≡ Some other → other.state ≡ new.state → ⊥
-    pub best : new.settled ≡ true → (r : List Bool) (c : ℕ) → length r ≤ n → Reached step root r new.state c → Has step root n vertices new.state c r
+    pub best : new.settled ≡ true → (r : List Bool) (c : ℕ) → length r ≤ n → Reached step root r new.state c → Has step low root n vertices new.state c r
     pub keeps : (old : Vertex S) → slice_get vertices w ≡ Some old → (old.state ≡ new.state) × (old.depth ≡ new.depth) × AtMost new.cost (rank (path new_vertices new.depth w)) old.cost (rank (path vertices old.depth w))
 
-  has_flag : (vertices : List (Vertex S)) (settled : Bool) (s : S) (c : ℕ) (r : List Bool) → Knows step root n (Known step root n vertices) settled s c r → Has step root n vertices s c r
+  has_flag : (vertices : List (Vertex S)) (settled : Bool) (s : S) (c : ℕ) (r : List Bool) → Knows step low root n (Known step low root n vertices) settled s c r → Has step low root n vertices s c r
   has_flag vertices true s c r k = inr k
   has_flag vertices false s c r k = inl k
 
-  module _ (vertices new_vertices : List (Vertex S)) (w : ℕ) (new : Vertex S) (Left : ℕ → Bool → Type 0) (t : IsTable step root n vertices Left) (f : Fits vertices new_vertices w new) where
+  module _ (vertices new_vertices : List (Vertex S)) (w : ℕ) (new : Vertex S) (Left : ℕ → Bool → Type 0) (t : IsTable step low root n vertices Left) (f : Fits vertices new_vertices w new) where
     same_path : (u : ℕ) (x : Vertex S) → u ≢ w → slice_get vertices u ≡ Some x → path new_vertices x.depth u ≡ path vertices x.depth u
     same_path u x ne at = path-Puts vertices new_vertices w new f.puts f.open_before t.parents x.depth u x ne at refl
 
     still : (u : ℕ) (x : Vertex S) → u ≢ w → slice_get vertices u ≡ Some x → slice_get new_vertices u ≡ Some x
     still u x ne at = f.puts.others u ne ∙ at
 
-    pub still_knows : (settled : Bool) (s : S) (c : ℕ) (r : List Bool) → Knows step root n (Known step root n vertices) settled s c r → Has step root n new_vertices s c r
+    pub still_knows : (settled : Bool) (s : S) (c : ℕ) (r : List Bool) → Knows step low root n (Known step low root n vertices) settled s c r → Has step low root n new_vertices s c r
     still_knows settled s c r k = elim (cases_eq k.known.id w) [
       | inl e ↦ at_new e
       | inr ne ↦ has_flag new_vertices settled s c r (record {
@@ -66,7 +66,7 @@ module _ {S : Type 0} (step : S → Bool → S → ℕ → Type 0) (root : S) (n
       })
     ]
       where
-        at_new : k.known.id ≡ w → Has step root n new_vertices s c r
+        at_new : k.known.id ≡ w → Has step low root n new_vertices s c r
         at_new e =
             let old : Vertex S = k.known.vertex in
             let at : slice_get vertices w ≡ Some old = sym (ap (λ (y : ℕ). slice_get vertices y) e) ∙ k.known.at in
@@ -87,18 +87,18 @@ module _ {S : Type 0} (step : S → Bool → S → ℕ → Type 0) (root : S) (n
               good = AtMost-trans new.cost (rank (path new_vertices new.depth w)) k.cost (rank k.choices) c (rank r) first k.good;
             })
 
-    pub still_has : (s : S) (c : ℕ) (r : List Bool) → Has step root n vertices s c r → Has step root n new_vertices s c r
+    pub still_has : (s : S) (c : ℕ) (r : List Bool) → Has step low root n vertices s c r → Has step low root n new_vertices s c r
     still_has s c r h = elim h [ inl k ↦ still_knows false s c r k | inr k ↦ still_knows true s c r k ]
 
-    sound_there : (u : ℕ) (x : Vertex S) → u ≢ w → slice_get vertices u ≡ Some x → IsSound step root n new_vertices u x
+    sound_there : (u : ℕ) (x : Vertex S) → u ≢ w → slice_get vertices u ≡ Some x → IsSound step low root n new_vertices u x
     sound_there u x ne at =
         let old = t.sound u x at in
         let e : path vertices x.depth u ≡ path new_vertices x.depth u = sym (same_path u x ne at) in
         record { reaches = subst (λ (r : List Bool). Reached step root r x.state x.cost) e old.reaches; deep = subst (λ (r : List Bool). length r ≡ x.depth) e old.deep; short = old.short }
 
-    new_sound : (u : ℕ) (x : Vertex S) → slice_get new_vertices u ≡ Some x → IsSound step root n new_vertices u x
+    new_sound : (u : ℕ) (x : Vertex S) → slice_get new_vertices u ≡ Some x → IsSound step low root n new_vertices u x
     new_sound u x at = elim (where_is vertices new_vertices w new f.puts u x at) [
-      | here e same ↦ subst (λ (y : Vertex S). IsSound step root n new_vertices u y) (sym same) (subst (λ (v : ℕ). IsSound step root n new_vertices v new) (sym e) f.sound)
+      | here e same ↦ subst (λ (y : Vertex S). IsSound step low root n new_vertices u y) (sym same) (subst (λ (v : ℕ). IsSound step low root n new_vertices v new) (sym e) f.sound)
       | there ne old ↦ sound_there u x ne old
     ]
 
@@ -125,34 +125,34 @@ module _ {S : Type 0} (step : S → Bool → S → ℕ → Type 0) (root : S) (n
       ]
     ]
 
-    new_best : (u : ℕ) (x : Vertex S) → slice_get new_vertices u ≡ Some x → x.settled ≡ true → (r : List Bool) (c : ℕ) → length r ≤ n → Reached step root r x.state c → Has step root n new_vertices x.state c r
+    new_best : (u : ℕ) (x : Vertex S) → slice_get new_vertices u ≡ Some x → x.settled ≡ true → (r : List Bool) (c : ℕ) → length r ≤ n → Reached step root r x.state c → Has step low root n new_vertices x.state c r
     new_best u x at settled r c short h = elim (where_is vertices new_vertices w new f.puts u x at) [
       | here e same ↦
           let states : x.state ≡ new.state = ap (λ (y : Vertex S). y.state) same in
           let flag : new.settled ≡ true = sym (ap (λ (y : Vertex S). y.settled) same) ∙ settled in
-          subst (λ (z : S). Has step root n new_vertices z c r) (sym states) (still_has new.state c r (f.best flag r c short (subst (λ (z : S). Reached step root r z c) states h)))
+          subst (λ (z : S). Has step low root n new_vertices z c r) (sym states) (still_has new.state c r (f.best flag r c short (subst (λ (z : S). Reached step root r z c) states h)))
       | there ne old ↦ still_has x.state c r (t.best u x old settled r c short h)
     ]
 
     -- the table with the new vertex
     pub put_in : (Left' : ℕ → Bool → Type 0) → ((u : ℕ) (b : Bool) → u ≢ w → (Left' u b → ⊥) → (x : Vertex S) → slice_get vertices u ≡ Some x → x.settled ≡ true → x.depth < n →
-        (Left u b → ⊥) ⊎ ((s : S) (k : ℕ) → step x.state b s k → Has step root n new_vertices s (x.cost + k) (b ∷ path vertices x.depth u))) →
-        (new.settled ≡ true → new.depth < n → (b : Bool) → (Left' w b → ⊥) → (s : S) (k : ℕ) → step new.state b s k → Has step root n new_vertices s (new.cost + k) (b ∷ path new_vertices new.depth w)) →
-        IsTable step root n new_vertices Left'
+        (Left u b → ⊥) ⊎ ((s : S) (k : ℕ) → step x.state b s k → Has step low root n new_vertices s (x.cost + k) (b ∷ path vertices x.depth u))) →
+        (new.settled ≡ true → new.depth < n → (b : Bool) → (Left' w b → ⊥) → (s : S) (k : ℕ) → step new.state b s k → Has step low root n new_vertices s (new.cost + k) (b ∷ path new_vertices new.depth w)) →
+        IsTable step low root n new_vertices Left'
     put_in Left' less more = record { first = still_has root 0 [] t.first; sound = new_sound; parents = new_parents; apart = new_apart; best = new_best; next = go }
       where
         go : (u : ℕ) (x : Vertex S) → slice_get new_vertices u ≡ Some x → x.settled ≡ true → x.depth < n → (b : Bool) → (Left' u b → ⊥) → (s : S) (k : ℕ) → step x.state b s k →
-            Has step root n new_vertices s (x.cost + k) (b ∷ path new_vertices x.depth u)
+            Has step low root n new_vertices s (x.cost + k) (b ∷ path new_vertices x.depth u)
         go u x at settled deep b not_left s k h = elim (where_is vertices new_vertices w new f.puts u x at) [
           | here e same ↦
               let flag : new.settled ≡ true = sym (ap (λ (y : Vertex S). y.settled) same) ∙ settled in
               let less_n : new.depth < n = subst (λ (y : Vertex S). y.depth < n) same deep in
               let out : Left' w b → ⊥ = λ z. not_left (subst (λ (v : ℕ). Left' v b) (sym e) z) in
               let h' : step new.state b s k = subst (λ (y : Vertex S). step y.state b s k) same h in
-              subst (λ (y : Vertex S). Has step root n new_vertices s (y.cost + k) (b ∷ path new_vertices y.depth u)) (sym same)
-              (subst (λ (v : ℕ). Has step root n new_vertices s (new.cost + k) (b ∷ path new_vertices new.depth v)) (sym e) (more flag less_n b out s k h'))
+              subst (λ (y : Vertex S). Has step low root n new_vertices s (y.cost + k) (b ∷ path new_vertices y.depth u)) (sym same)
+              (subst (λ (v : ℕ). Has step low root n new_vertices s (new.cost + k) (b ∷ path new_vertices new.depth v)) (sym e) (more flag less_n b out s k h'))
           | there ne old ↦
-              subst (λ (q : List Bool). Has step root n new_vertices s (x.cost + k) (b ∷ q)) (sym (same_path u x ne old))
+              subst (λ (q : List Bool). Has step low root n new_vertices s (x.cost + k) (b ∷ q)) (sym (same_path u x ne old))
               (elim (less u b ne not_left x old settled deep) [
                 | inl free ↦ still_has s (x.cost + k) (b ∷ path vertices x.depth u) (t.next u x old settled deep b free s k h)
                 | inr found ↦ found s k h
