@@ -276,13 +276,6 @@ impl<'a> SearchedLine<'a> {
         }
     }
 
-    /// What every whole breaking costs at least beyond a layout.
-    pub fn least_ahead(&self, index: u32, column: u32) -> u64
-        ensures { (s : Layout) → s.index ≡ index → s.column ≡ column → result ≡ least_ahead self.now s }
-    {
-        0
-    }
-
     /// The state of the first token, with its frames in a store.
     pub fn first<'r>(&self, store: &mut FrameStore<'r>) -> Result<NodeState, NoMemory>
         requires { IsSearchable self.now }
