@@ -1,5 +1,5 @@
 -- The gaps of parts that are noted in a row are decided, and stay so.
-use Rattle.std.proofs.Common.{◌≡◌, ◌∙◌, ◌⊎◌, inl, inr, ℕ, ◌+◌, ◌-◌, ◌<◌, ◌≤◌, Option, Some, None, List, [], length, get_or, replicate, refl, sym, ap, subst, arith}
+use Rattle.std.proofs.Common.{◌≡◌, ◌∙◌, inl, inr, ℕ, ◌+◌, ◌-◌, ◌<◌, ◌≤◌, Option, Some, None, List, length, get_or, refl, sym, subst, arith}
 use Rattle.std.specs.Prelude.{IsSome, slice_range}
 use Rattle.style_table.specs.declared.style.Style.{Style}
 use Rattle.token_arena.specs.Gaps.{Contents}
@@ -84,10 +84,3 @@ behind_decided plan knowns first end begun is all rest = by_row (row_of (get_or 
     by_row : (row : Option KnownRow) → row_of (get_or knowns first Unknown) ≡ row → begun ≡ (elim row [ None ↦ first | Some row ↦ row.end ]) → IsRowDecided plan first end
     by_row None was is = subst (λ n. IsRowDecided plan n end) is rest
     by_row (Some row) was is = both_decided plan first row.end end (all first row was) (subst (λ n. IsRowDecided plan n end) is rest)
-
--- nothing is noted
-pub none_noted : (plan : List (Option Slot)) (knowns : List KnownEnd) → ((id : ℕ) → get_or knowns id Unknown ≡ Unknown) → AreRowsDecided plan knowns
-none_noted plan knowns nothing id row is = absurd (never (sym (ap (λ (known : KnownEnd). row_of known) (nothing id)) ∙ is))
-  where
-    never : None ≡ Some row → ⊥
-    never e = cc
