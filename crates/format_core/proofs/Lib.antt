@@ -11,3 +11,4 @@ pub mod NothingNew
 pub mod RowsDecided
 pub mod RunsTold
 pub mod Told
+pub mod RowsStay

@@ -102,7 +102,7 @@ twin_along d e b b' c c' dialect first second twin =
 
 -- ## What is decided stays
 
-items_keep : (style : Style) (budget : ℕ) (arena : Contents) (run : ℕ) (plan : List (Option Slot)) (ids : List ℕ) (final : List (Option Slot)) (done : List LaidLine) (place : ℕ) (slot : Slot)
+pub items_keep : (style : Style) (budget : ℕ) (arena : Contents) (run : ℕ) (plan : List (Option Slot)) (ids : List ℕ) (final : List (Option Slot)) (done : List LaidLine) (place : ℕ) (slot : Slot)
     → AfterItems style budget arena run plan ids final done → slot_of plan place ≡ Some slot → slot_of final place ≡ Some slot
 items_keep style budget arena run plan ids final done place slot laid is =
     views_keep style budget arena ids (toks_of_items style arena ids) run (after_kept style arena plan ids) (lines_of_items style arena ids) final done laid place slot
@@ -147,7 +147,7 @@ length-parts style budget arena run plan ids first (end ∷ ends) final done lai
     length-parts style budget arena run laid.0 ids end ends final laid.2 laid.4 ∙ length-items style budget arena run plan (slice_range ids first end) laid.0 laid.1 laid.3
 
 -- behind a part each gap of its items is decided
-items_decided : (style : Style) (budget : ℕ) (arena : Contents) (run : ℕ) (plan : List (Option Slot)) (ids : List ℕ) (final : List (Option Slot)) (done : List LaidLine) (k : ℕ) → length plan ≡ length arena.tokens + 1
+pub items_decided : (style : Style) (budget : ℕ) (arena : Contents) (run : ℕ) (plan : List (Option Slot)) (ids : List ℕ) (final : List (Option Slot)) (done : List LaidLine) (k : ℕ) → length plan ≡ length arena.tokens + 1
     → AreWithin arena ids → k < length ids → AfterItems style budget arena run plan ids final done → IsDecided final (get_or ids k 0)
 items_decided style budget arena run plan ids final done k long all below laid =
     let kept : List (Option Slot) = after_kept style arena plan ids in

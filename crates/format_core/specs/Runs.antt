@@ -1,5 +1,5 @@
 -- What a run sees: docs/PROFILE.md, "Runs".
-use Rattle.std.specs.Prelude.{◌<◌, ℕ, Option, IsSome, List, get_or, length}
+use Rattle.std.specs.Prelude.{◌≡◌, ◌<◌, ℕ, Option, Some, IsSome, List, get_or, length}
 use Rattle.style_table.specs.declared.style.Style.{Style}
 use Rattle.token_arena.specs.Gaps.{Contents}
 use Rattle.branch_runs.specs.Marks.{marks_of}
@@ -14,6 +14,11 @@ use Rattle.line_tokens.specs.declared.line.ULine.{ULine}
 use Rattle.unwrapped_lines.specs.Lines.{unwrapped_lines_of}
 use Rattle.replacements.specs.Decisions.{slot_of, decided_all}
 use Rattle.replacements.specs.declared.slot.Slot.{Slot}
+use Rattle.run_layout.specs.OpenGaps.{IsRowDecided}
+use Rattle.view_parts.specs.declared.known.KnownEnd.{KnownEnd}
+use Rattle.view_parts.specs.declared.known.KnownEnd.TheVariants.{Unknown}
+use Rattle.view_parts.specs.declared.known.KnownRow.{KnownRow}
+use Rattle.view_parts.specs.Known.{row_of}
 use Rattle.format_core.specs.KeptGaps.{kept_decisions}
 
 -- how many runs a text has
@@ -39,3 +44,7 @@ after_kept style arena plan ids = decided_all plan (kept_decisions style arena 0
 -- the gap before each of these items is decided
 abbrev pub AreDecided : List (Option Slot) → List ℕ → Type 0
 AreDecided plan ids = (place : ℕ) → place < length ids → IsSome (slot_of plan (get_or ids place 0))
+
+-- the gap before each item of parts that are noted in a row is decided
+abbrev pub AreRowsDecided : List (Option Slot) → List KnownEnd → Type 0
+AreRowsDecided plan knowns = (id : ℕ) (row : KnownRow) → row_of (get_or knowns id Unknown) ≡ Some row → IsRowDecided plan id row.end

@@ -1,15 +1,16 @@
 //! The plan of a text, run by run over one store of items.
 
-ghost use Rattle.std.specs.Prelude.{◌≡◌, ◌<◌, ◌≤◌, ◌+◌, ◌*◌, ◌^◌, ◌-◌, ℕ, All, None, Some, IfOk, IsFalse, IsTrue, OnOk, drop, get_or, length, option_map, slice_range};
+ghost use Rattle.std.specs.Prelude.{◌≡◌, ◌<◌, ◌≤◌, ◌+◌, ◌*◌, ◌^◌, ◌-◌, ℕ, All, List, Option, None, Some, IfOk, IsFalse, IsTrue, OnOk, drop, get_or, length, option_map, slice_range};
 ghost use Rattle.c_chars.specs.declared.TheConstants.{LIMIT};
 ghost use Rattle.style_table.specs.Range.{IsInRange};
 ghost use Rattle.token_classes.specs.Viewed.{AreWithin, item_classes};
 ghost use Rattle.directives.specs.Sections.{sections_of, IsCut};
 ghost use Rattle.early_gaps.specs.Dead.{IsTreeOf};
+ghost use Rattle.replacements.specs.declared.slot.Slot.{Slot};
 ghost use Rattle.run_layout.specs.Counted.{IsCounted};
 ghost use Rattle.view_parts.specs.Known.{AreKnown, AreSpans};
 ghost use Rattle.view_parts.specs.Parts.{part_len, ArePartsUpTo};
-ghost use Rattle.format_core.specs.Runs.{AreDecided, runs_of, seen_by};
+ghost use Rattle.format_core.specs.Runs.{AreDecided, AreRowsDecided, runs_of, seen_by};
 ghost use Rattle.format_core.specs.RunsTold.{AreItemsTold, AreRunsTold, AreSeenTold, IsPlanned};
 
 use crate::kept::keep_gaps;
@@ -30,7 +31,7 @@ use token_arena::TokenArena;
 use token_classes::{TokenClass, classes_among, item_classes};
 use token_views::View;
 use unwrapped_lines::lines_of_classes;
-use view_parts::{KnownEnd, KnownSpans, join_rows, known_part_end, known_parts_end};
+use view_parts::{KnownEnd, KnownSpans, behind_row, join_rows, known_part_end, known_parts_end};
 
 /// The plan of a text, and what is told of its lines.
 #[derive(Drop)]
@@ -85,13 +86,16 @@ fn lay_out_items(
     Ok(())
 }
 
-/// Whether the gap before each item of a view is decided.
-fn are_decided(view: &View<'_>, plan: &Plan<'_>) -> bool
-    requires { All (λ id. id < length plan.now) view.now }
+/// Whether the gap before each item of a view is decided. Parts that are noted in a row, with which a segment begins,
+/// aren't looked at.
+fn are_decided(view: &View<'_>, known: &[KnownEnd], plan: &Plan<'_>) -> bool
+    requires within { All (λ id. id < length plan.now) view.now }
+    requires rows { AreRowsDecided plan.now known.now }
     ensures { IsTrue result → AreDecided plan.now view.now }
 {
     for segment in view.segments() {
-        if !is_row_decided(plan, segment.first, segment.end) {
+        let begun = behind_row(known, TokenId(segment.first));
+        if !is_row_decided(plan, begun.0, segment.end) {
             return false;
         }
     }
@@ -165,7 +169,7 @@ fn lay_out_part(
         return Ok(());
     }
     let part = view.part(first, end, room)?;
-    if are_decided(&part, plan) {
+    if are_decided(&part, &[], plan) {
         return Ok(());
     }
     lay_out_items(
@@ -197,35 +201,29 @@ impl Way {
     }
 }
 
-/// Goes on behind parts that are noted as one row, where the gap before each of their items is decided.
+/// Goes on behind a part that is noted in a row, or parts that follow one another.
 fn pass_row(
     arena: &TokenArena<'_, '_>,
     view: &View<'_>,
     id: TokenId,
     known: &mut [KnownEnd],
-    plan: &Plan<'_>,
     way: &mut Way,
 ) -> bool
-    requires within { AreWithin arena.now view.now }
     requires here { way.old.first < length view.now }
     requires item { (d : ℕ) → get_or view.now way.old.first d ≡ id.0 }
-    requires whole { length plan.now ≡ length arena.now.tokens + 1 }
     requires known { AreKnown arena.now known.old }
     ensures known { AreKnown arena.now known.new }
+    ensures rows { (plan : List (Option Slot)) → AreRowsDecided plan known.old → AreRowsDecided plan known.new }
     ensures parts { IsTrue result → ArePartsUpTo arena.now view.now way.old.first way.new.first }
-    ensures decided { IsTrue result → AreDecided plan.now (slice_range view.now way.old.first way.new.first) }
+    ensures decided { IsTrue result → (plan : List (Option Slot)) → AreRowsDecided plan known.old → AreDecided plan (slice_range view.now way.old.first way.new.first) }
     ensures some { IsTrue result → way.old.first < way.new.first }
     ensures inside { IsTrue result → way.new.first ≤ length view.now }
     ensures stays { IsFalse result → way.new.first ≡ way.old.first }
 {
     let first = way.first;
-    let begun = way.segment;
     let Some(end) = known_parts_end(arena, view, first, id, known, &mut way.segment) else {
         return false;
     };
-    if !is_decided_row(arena, view, first, end, plan, begun) {
-        return false;
-    }
     way.row = join_rows(arena, known, way.row, id);
     way.first = end;
     true
@@ -260,6 +258,7 @@ fn lay_out_next<'k>(
     requires cheap { tally.old.cost ≤ tally.old.searched * 18446744073709551615 }
     requires counted { IsCounted arena.now tally.old.lines }
     requires known { AreKnown arena.now known.old }
+    requires rows { AreRowsDecided plan.old known.old }
     requires spans { AreSpans arena.now spans.old.spans.items }
     ensures told { OnOk result (AreItemsTold style.now budget arena.now number plan.old (slice_range view.now way.old.first way.new.first) plan.new tally.old tally.new) }
     ensures end { OnOk result (way.new.first ≡ way.old.first + part_len arena.now (drop way.old.first view.now)) }
@@ -270,6 +269,7 @@ fn lay_out_next<'k>(
     ensures cheap { OnOk result (tally.new.cost ≤ tally.new.searched * 18446744073709551615) }
     ensures counted { OnOk result (IsCounted arena.now tally.new.lines) }
     ensures known { OnOk result (AreKnown arena.now known.new) }
+    ensures rows { OnOk result (AreRowsDecided plan.new known.new) }
     ensures spans { OnOk result (AreSpans arena.now spans.new.spans.items) }
 {
     let first = way.first;
@@ -321,6 +321,7 @@ fn lay_out_seen<'k>(
     requires cheap { tally.old.cost ≤ tally.old.searched * 18446744073709551615 }
     requires counted { IsCounted arena.now tally.old.lines }
     requires known { AreKnown arena.now known.old }
+    requires rows { AreRowsDecided plan.old known.old }
     requires spans { AreSpans arena.now spans.old.spans.items }
     ensures told { OnOk result (AreSeenTold style.now budget arena.now number plan.old (seen_by arena.now number) plan.new tally.old tally.new) }
     ensures len { OnOk result (length plan.new ≡ length plan.old) }
@@ -328,10 +329,11 @@ fn lay_out_seen<'k>(
     ensures cheap { OnOk result (tally.new.cost ≤ tally.new.searched * 18446744073709551615) }
     ensures counted { OnOk result (IsCounted arena.now tally.new.lines) }
     ensures known { OnOk result (AreKnown arena.now known.new) }
+    ensures rows { OnOk result (AreRowsDecided plan.new known.new) }
     ensures spans { OnOk result (AreSpans arena.now spans.new.spans.items) }
 {
     let view = tree.view(number, run)?;
-    if are_decided(&view, plan) {
+    if are_decided(&view, known, plan) {
         return Ok(());
     }
     let items = arena.len();
@@ -341,7 +343,7 @@ fn lay_out_seen<'k>(
     let mut way = Way::start();
     while way.first < count {
         let id = view.at_near(way.first, &mut way.segment);
-        if pass_row(arena, &view, id, known, plan, &mut way) {
+        if pass_row(arena, &view, id, known, &mut way) {
             continue;
         }
         lay_out_next(
@@ -394,6 +396,7 @@ fn lay_out_runs<'k>(
     requires free { tally.old.cost ≡ 0 }
     requires counted { IsCounted arena.now tally.old.lines }
     requires known { AreKnown arena.now known.old }
+    requires rows { AreRowsDecided plan.old known.old }
     requires spans { AreSpans arena.now spans.old.spans.items }
     ensures told { OnOk result (AreRunsTold style.now budget arena.now plan.old 0 (runs_of arena.now) plan.new tally.old tally.new) }
     ensures len { OnOk result (length plan.new ≡ length plan.old) }

@@ -3,3 +3,4 @@ pub mod InOrder
 pub mod Rows
 pub mod Spans
 pub mod RowParts
+pub mod NotedRows

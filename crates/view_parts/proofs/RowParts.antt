@@ -58,7 +58,7 @@ rows_joined arena id row behind seen first second are later = record {
       (follow_later arena behind.seen seen row.end behind.end later.ends later.later second later.follow);
 }
 
-some_is : {A : Type 0} (a b : A) → Some a ≡ Some b → a ≡ b
+pub some_is : {A : Type 0} (a b : A) → Some a ≡ Some b → a ≡ b
 some_is a b e = cc
 
 -- what is noted of one part, or of several
@@ -118,15 +118,15 @@ rows_in_view arena view first id behind known increase below at last is are =
 -- ## Rows that are joined
 
 -- the two rows of which one was made
-record AreJoined (first : KnownEnd) (next : ℕ) (later : KnownEnd) (made : KnownRow) : Type 0 where
-  row : KnownRow
-  behind : KnownRow
-  row_is : row_of first ≡ Some row
-  behind_is : row_of later ≡ Some behind
-  follows : row.end ≡ next
-  made_is : record { end = behind.end; seen = max row.seen behind.seen } ≡ made
+pub record AreJoined (first : KnownEnd) (next : ℕ) (later : KnownEnd) (made : KnownRow) : Type 0 where
+  pub row : KnownRow
+  pub behind : KnownRow
+  pub row_is : row_of first ≡ Some row
+  pub behind_is : row_of later ≡ Some behind
+  pub follows : row.end ≡ next
+  pub made_is : record { end = behind.end; seen = max row.seen behind.seen } ≡ made
 
-of_joined : (first : KnownEnd) (next : ℕ) (later : KnownEnd) (made : KnownRow) → joined first next later ≡ Some made → AreJoined first next later made
+pub of_joined : (first : KnownEnd) (next : ℕ) (later : KnownEnd) (made : KnownRow) → joined first next later ≡ Some made → AreJoined first next later made
 of_joined first next later made e = by_first (row_of first) refl e
   where
     none : None ≡ Some made → ⊥
@@ -145,7 +145,7 @@ of_joined first next later made e = by_first (row_of first) refl e
     by_first None a e = absurd (none e)
     by_first (Some row) a e = by_later row (row_of later) a refl e
 
-in_or_past : (place n : ℕ) → (place < n) ⊎ (n ≤ place)
+pub in_or_past : (place n : ℕ) → (place < n) ⊎ (n ≤ place)
 in_or_past place n = grind arith
 
 -- what is noted for any item is so: behind the last one it is nothing
@@ -156,7 +156,7 @@ any_known arena knowns id all =
       | inr past ↦ subst (λ (k : KnownEnd). IsKnown arena id k) (sym (get_or_past knowns id Unknown past)) tt
     ]
 
-some_within : (knowns : List KnownEnd) (id : ℕ) (row : KnownRow) → row_of (get_or knowns id Unknown) ≡ Some row → id < length knowns
+pub some_within : (knowns : List KnownEnd) (id : ℕ) (row : KnownRow) → row_of (get_or knowns id Unknown) ≡ Some row → id < length knowns
 some_within knowns id row is =
     elim (in_or_past id (length knowns)) [
       | inl below ↦ below

@@ -89,6 +89,9 @@ noted_end arena view first id end seen last increase some later inside at at_las
       ends = subst (λ k. EndsBehind arena (range_with_len id ((last + 1) - id)) k) c row_told;
     }
 
+pub here_or_not : (at id : ℕ) → (at ≡ id) ⊎ (at ≡ id → ⊥)
+here_or_not at id = grind arith
+
 pub noted_all : (arena : Contents) (knowns : List KnownEnd) (at : ℕ) (known : KnownEnd) → IsKnown arena at known → AreKnown arena knowns → at < length knowns → length (slice_set knowns at known) ≡ length knowns → AreKnown arena (slice_set knowns at known)
 noted_all arena knowns at known so all within whole = λ id below.
     elim (here_or_not at id) [
@@ -99,9 +102,6 @@ noted_all arena knowns at known so all within whole = λ id below.
           let is : get_or (slice_set knowns at known) id Unknown ≡ get_or knowns id Unknown = get_or-set_other knowns at id known Unknown (λ e. other (sym e)) in
           subst (λ (k : KnownEnd). IsKnown arena id k) (sym is) (all id (omega (arith, below, whole)))
     ]
-  where
-    here_or_not : (at id : ℕ) → (at ≡ id) ⊎ (at ≡ id → ⊥)
-    here_or_not at id = grind arith
 
 -- nothing is known yet
 pub none_known : (arena : Contents) (n : ℕ) (knowns : List KnownEnd) → knowns ≡ replicate n Unknown → AreKnown arena knowns

@@ -1,5 +1,5 @@
 -- Where parts end, as it is noted for items that began one.
-use Rattle.std.specs.Prelude.{⊤, ◌≡◌, ◌<◌, ◌-◌, ◌==◌, ℕ, if◌then◌else◌, Option, Some, None, List, [], ◌∷◌, All, get_or, length, max, slice_set}
+use Rattle.std.specs.Prelude.{⊤, ◌≡◌, ◌<◌, ◌+◌, ◌-◌, ◌==◌, ◌⊎◌, ℕ, if◌then◌else◌, Option, Some, None, List, [], ◌∷◌, All, get_or, length, max, slice_set}
 use Rattle.std.specs.List.{range_with_len}
 use Rattle.token_arena.specs.Gaps.{Contents}
 use Rattle.view_parts.specs.declared.known.KnownEnd.{KnownEnd}
@@ -55,6 +55,36 @@ row_of Unknown = None
 row_of (InRow known) = Some known
 row_of (InRows known) = Some known
 row_of (InSpan number) = None
+
+-- the item behind the parts that are noted in a row at this one, or this one
+abbrev pub behind_row : List KnownEnd → ℕ → ℕ
+behind_row knowns id =
+    elim (row_of (get_or knowns id Unknown)) [
+      | None ↦ id
+      | Some row ↦ row.end
+    ]
+
+-- the items of a view at the places from one to before another are those of this row, which begins with this item
+pub record HasRow (view : List ℕ) (first end id : ℕ) (row : KnownRow) : Type 0 where
+  pub some : id < row.end
+  pub ends : end ≡ first + (row.end - id)
+  pub items : (k : ℕ) → k < row.end - id → get_or view (first + k) 0 ≡ id + k
+
+-- and they are noted so
+pub record HasNotedRow (knowns : List KnownEnd) (view : List ℕ) (first end id : ℕ) : Type 0 where
+  pub row : KnownRow
+  pub noted : row_of (get_or knowns id Unknown) ≡ Some row
+  pub has : HasRow view first end id row
+
+-- a row that is noted at this item has the items of a view at the places from one to before another
+abbrev pub IsRowAt : List ℕ → ℕ → ℕ → ℕ → KnownEnd → Type 0
+IsRowAt view first end id known = (row : KnownRow) → row_of known ≡ Some row → HasRow view first end id row
+
+-- each row that is noted now was noted before, or has the items of a view at the places from one to before another
+abbrev pub AreRowsFrom : List KnownEnd → List ℕ → ℕ → ℕ → List KnownEnd → Type 0
+AreRowsFrom earlier view first end knowns =
+    (id : ℕ) (row : KnownRow) → row_of (get_or knowns id Unknown) ≡ Some row
+    → (row_of (get_or earlier id Unknown) ≡ Some row) ⊎ HasRow view first end id row
 
 abbrev pub joined_rows : KnownRow → ℕ → KnownRow → Option KnownRow
 joined_rows row next behind = if row.end == next then Some (record { end = behind.end; seen = max row.seen behind.seen }) else None

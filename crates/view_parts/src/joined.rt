@@ -2,7 +2,7 @@
 
 ghost use Rattle.std.specs.Prelude.{◌≡◌, ◌<◌, ◌≤◌, ℕ, length, get_or, IfSome};
 ghost use Rattle.view_parts.specs.declared.known.KnownEnd.TheVariants.{Unknown};
-ghost use Rattle.view_parts.specs.Known.{AreKnown, after_joined, item_of_row, joined, row_of};
+ghost use Rattle.view_parts.specs.Known.{AreKnown, HasNotedRow, after_joined, behind_row, item_of_row, joined, row_of};
 ghost use Rattle.view_parts.specs.Parts.{ArePartsUpTo};
 
 use crate::known::{KnownEnd, KnownRow};
@@ -73,8 +73,19 @@ pub fn join_rows(
     }
 }
 
-/// Where the parts of a view end that begin at a place with this item and are noted as one row, where the view has that
-/// row.
+/// The item behind the parts that are noted in a row at this item, or this item.
+#[inline(always)]
+pub fn behind_row(known: &[KnownEnd], id: TokenId) -> TokenId
+    ensures { result.0 ≡ behind_row known.now id.0 }
+{
+    match noted(known, id).row() {
+        Some(row) => TokenId(row.end),
+        None => id,
+    }
+}
+
+/// Where a part of a view ends that begins at a place with this item, or parts that follow one another, which are noted
+/// in a row, where the view has that row.
 #[inline(always)]
 pub fn known_parts_end(
     arena: &TokenArena<'_, '_>,
@@ -88,10 +99,11 @@ pub fn known_parts_end(
     requires item { (d : ℕ) → get_or view.now first d ≡ id.0 }
     requires known { AreKnown arena.now known.now }
     ensures parts { IfSome result (λ end. ArePartsUpTo arena.now view.now first end) }
+    ensures row { IfSome result (λ end. HasNotedRow known.now view.now first end id.0) }
     ensures some { IfSome result (λ end. first < end) }
     ensures inside { IfSome result (λ end. end ≤ length view.now) }
 {
-    let KnownEnd::InRows(row) = noted(known, id) else {
+    let Some(row) = noted(known, id).row() else {
         return None;
     };
     let count = view.len();

@@ -2,7 +2,7 @@
 
 ghost use Rattle.std.specs.Prelude.{◌≡◌, ◌<◌, ◌≤◌, ◌+◌, ◌-◌, ℕ, [], length, drop, get_or, slice_range, IfOk, IfSome, IsTrue, OnOk};
 ghost use Rattle.token_classes.specs.Viewed.{AreWithin, item_classes};
-ghost use Rattle.view_parts.specs.Known.{AreKnown, AreSpans, IsKnown, IsKnownRow};
+ghost use Rattle.view_parts.specs.Known.{AreKnown, AreRowsFrom, AreSpans, HasRow, IsKnown, IsKnownRow, IsRowAt};
 ghost use Rattle.view_parts.specs.Parts.{part_len, EndsBehind};
 
 use crate::ends::part_end;
@@ -109,7 +109,8 @@ fn noted_row(
     requires later { end < seen }
     requires inside { seen ≤ length view.now }
     requires ends { EndsBehind arena.now (slice_range view.now first seen) (end - first) }
-    ensures { IfSome result (λ known. IsKnownRow arena.now id.0 known) }
+    ensures known { IfSome result (λ known. IsKnownRow arena.now id.0 known) }
+    ensures row { IfSome result (λ known. HasRow view.now first end id.0 known) }
 {
     let count = view.len();
     let items = arena.len();
@@ -219,6 +220,7 @@ fn noted_span<'k>(
     requires ends { EndsBehind arena.now (slice_range view.now first seen) (end - first) }
     requires known { AreSpans arena.now spans.old.spans.items }
     ensures end { IfOk result (λ known. (id : ℕ) → IsKnown arena.now id known) }
+    ensures row { IfOk result (λ known. (id : ℕ) → IsRowAt view.now first end id known) }
     ensures known { OnOk result (AreSpans arena.now spans.new.spans.items) }
 {
     let number = spans.spans.len();
@@ -256,6 +258,7 @@ fn noted_part<'k>(
     requires ends { EndsBehind arena.now (slice_range view.now first seen) (end - first) }
     requires known { AreSpans arena.now spans.old.spans.items }
     ensures end { IfOk result (λ known. IsKnown arena.now id.0 known) }
+    ensures row { IfOk result (λ known. IsRowAt view.now first end id.0 known) }
     ensures known { OnOk result (AreSpans arena.now spans.new.spans.items) }
 {
     if let Some(row) = noted_row(arena, view, first, id, end, seen, segment) {
@@ -295,6 +298,7 @@ pub fn known_part_end<'k>(
     ensures some { IfOk result (λ end. first < end) }
     ensures inside { IfOk result (λ end. end ≤ length view.now) }
     ensures known { AreKnown arena.now known.new }
+    ensures rows { IfOk result (λ end. AreRowsFrom known.old view.now first end known.new) }
     ensures spans { OnOk result (AreSpans arena.now spans.new.spans.items) }
 {
     let id = view.at_near(first, segment);

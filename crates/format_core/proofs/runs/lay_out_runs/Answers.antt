@@ -14,6 +14,7 @@ loop-number-init c = record {
   cheap = omega (arith, c.requires.none, c.requires.free);
   counted = c.requires.counted;
   known = c.requires.known;
+  rows = c.requires.rows;
   spans = c.requires.spans;
   on = runs_begin c.args.style.now c.args.budget c.args.arena.now c.args.plan.now c.runs-count.result (c.runs-count.result - 0) c.args.tally.now (omega arith);
 }
@@ -31,6 +32,7 @@ loop-number-preserved c =
       cheap = made.cheap;
       counted = made.counted;
       known = made.known;
+      rows = made.rows;
       spans = made.spans;
       on = run_done c.args.style.now c.args.budget c.args.arena.now c.args.plan.now count c.args.tally.now c.loop-number.tally c.lay_out_seen.new.tally c.loop-number.plan c.lay_out_seen.new.plan number (count - (number + 1)) (count - number)
           more v.on made.told;

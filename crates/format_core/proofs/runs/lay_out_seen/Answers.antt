@@ -35,6 +35,7 @@ loop-way-init c = record {
   cheap = c.requires.cheap;
   counted = c.requires.counted;
   known = c.requires.known;
+  rows = c.requires.rows;
   spans = c.requires.spans;
   on = subst (λ k. GoesOnFrom c.args.style.now c.args.budget c.args.arena.now c.args.number c.args.plan.now c.in_ok-view.view c.args.tally.now c.args.plan.now k c.args.tally.now) (sym c.start-way.ensures)
       (from_begin c.args.style.now c.args.budget c.args.arena.now c.args.number c.args.plan.now c.in_ok-view.view c.args.tally.now);
@@ -52,9 +53,10 @@ loop-way-preserved-then-pass_row c =
       cheap = v.cheap;
       counted = v.counted;
       known = passed.known;
+      rows = passed.rows c.loop-way.plan v.rows;
       spans = v.spans;
       on = from_row c.args.style.now c.args.budget c.args.arena.now c.args.number c.args.plan.now c.in_ok-view.view c.args.tally.now c.loop-way.tally c.loop-way.plan c.loop-way.way.first c.pass_row.new.way.first (passed.inside is)
-          (passed.parts is) (passed.decided is) v.on;
+          (passed.parts is) (passed.decided is c.loop-way.plan v.rows) v.on;
     }
 
 pub loop-way-preserved : goal.loop-way-preserved
@@ -72,6 +74,7 @@ loop-way-preserved c =
       cheap = made.cheap;
       counted = made.counted;
       known = made.known;
+      rows = made.rows;
       spans = made.spans;
       on = from_part c.args.style.now c.args.budget c.args.arena.now c.args.number c.args.plan.now c.in_ok-view.view c.args.tally.now c.loop-way.tally c.lay_out_next.new.tally c.loop-way.plan c.lay_out_next.new.plan c.loop-way.way.first
           c.lay_out_next.new.way.first here (omega (arith, some, stays)) (made.end ∙ next) v.on
@@ -93,6 +96,7 @@ loop-way-preserved-then-is_err c =
       cheap = made.cheap;
       counted = made.counted;
       known = made.known;
+      rows = made.rows;
       spans = made.spans;
       on = from_part c.args.style.now c.args.budget c.args.arena.now c.args.number c.args.plan.now c.in_ok-view.view c.args.tally.now c.loop-way.tally c.lay_out_next.new.tally c.loop-way.plan c.lay_out_next.new.plan c.loop-way.way.first
           c.lay_out_next.new.way.first here (omega (arith, some, stays)) (made.end ∙ next) v.on

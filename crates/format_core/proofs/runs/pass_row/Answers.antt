@@ -1,0 +1,13 @@
+use Rattle.std.proofs.Common.{List, sym, subst}
+use Rattle.view_parts.specs.declared.known.KnownEnd.{KnownEnd}
+use Rattle.format_core.specs.Runs.{AreRowsDecided}
+use Rattle.format_core.proofs.RowsStay.{noted_decided, joined_decided}
+use Rattle.format_core.proofs.runs.pass_row.Goals as goal
+
+pub returns-clause-rows : goal.returns-clause-rows
+returns-clause-rows c = λ plan all.
+    subst (λ (knowns : List KnownEnd). AreRowsDecided plan knowns) (sym c.join_rows-way.ensures.joined) (joined_decided plan c.args.known.now c.args.way.now.row.0 c.args.id.0 all)
+
+pub returns-clause-decided : goal.returns-clause-decided
+returns-clause-decided c = λ yes plan all.
+    noted_decided plan c.args.known.now c.args.view.now c.args.way.now.first c.in-Some.end c.args.id.0 c.in-Some.ensures.row all
