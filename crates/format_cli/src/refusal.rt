@@ -94,7 +94,7 @@ impl Stream for Refusal<'_> {
     }
 }
 
-/// Writes the row that tells a refusal, nothing where the notes have failed: in one write, where there is memory for it.
+/// Writes the row that tells a refusal, nothing where the notes have failed: in one write, if there is memory for it.
 pub fn tell<E: Sink>(alloc: Global, refusal: Refusal, notes: &mut E) -> Result<(), Failed>
     ensures part { AppendsPart (E.taken notes.old) (E.taken notes.new) (row_of refusal.entry) }
     ensures ok { OnOk result (Appends (E.taken notes.old) (E.taken notes.new) (row_of refusal.entry)) }
