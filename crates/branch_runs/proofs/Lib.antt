@@ -5,8 +5,7 @@ pub mod Together
 pub mod Examples
 pub mod Zeros
 pub mod Linked
-pub mod Walked
-pub mod Jumped
+pub mod Nodes
 pub mod Kept
 pub mod Order
 pub mod Places
@@ -14,3 +13,9 @@ pub mod Bridge
 pub mod ZeroLemmas
 pub mod Within
 pub mod OfTexts
+pub mod Taken
+pub mod Left
+pub mod Between
+pub mod Differ
+pub mod Inside
+pub mod Ascending

@@ -8,11 +8,19 @@ use Rattle.branch_runs.specs.declared.mark.Open.{Open}
 use Rattle.branch_runs.specs.Tree.{Group, nothing, none, branch}
 use Rattle.branch_runs.specs.Reading.{Around, branches_of, group_of, outside, rest_with, rest_of, effects_in, kind_in, open_after, read}
 use Rattle.branch_runs.specs.Runs.{need, has_live, texts, texts_in}
-use Rattle.branch_runs.specs.Walk.{left, left_around}
 use Rattle.branch_runs.specs.Cut.{IsCutFrom, BeginsNoText}
 use Rattle.token_views.specs.Segments.{AscendFrom}
 use Rattle.branch_runs.proofs.Together.{still_text}
 use Rattle.std.proofs.lemmas.List.{append-nil}
+
+-- the texts to take behind the innermost group, where the groups around it have these local numbers
+abbrev pub left_around : Around → List ℕ → List (ℕ × ℕ)
+left_around around [] = []
+left_around around (number ∷ outer) = texts (group_of around) number ++ left_around (outside around) outer
+
+-- the texts to take from a place on, where the innermost group has this local number and those around it have these
+abbrev pub left : Group × Around → ℕ → List ℕ → List (ℕ × ℕ)
+left rest local outer = texts rest.0 local ++ left_around rest.1 outer
 
 -- the first list is the second with some left out
 pub data Sub : List (ℕ × ℕ) → List (ℕ × ℕ) → Type 0 where
@@ -45,7 +53,7 @@ pub record Subs (g : Group) (around : Around) (ys : List (ℕ × ℕ)) : Type 0 
   pub whole : (local : ℕ) (outer : List ℕ) → Sub (left (g, around) local outer) ys
   pub rest : (k r local : ℕ) (outer : List ℕ) → Sub (later (outside_by k around) r local outer) ys
 
-none_of : (ys : List (ℕ × ℕ)) → Sub [] ys
+pub none_of : (ys : List (ℕ × ℕ)) → Sub [] ys
 none_of [] = stop
 none_of (y ∷ ys) = skip (none_of ys)
 
@@ -127,7 +135,7 @@ ascend_lower : (low high : ℕ) (xs : List (ℕ × ℕ)) → low ≤ high → As
 ascend_lower low high [] h a = tt
 ascend_lower low high (x ∷ xs) h a = (omega (arith, a.0), a.1, a.2)
 
-ascend_sub : {xs ys : List (ℕ × ℕ)} (low : ℕ) → Sub xs ys → AscendFrom low ys → AscendFrom low xs
+pub ascend_sub : {xs ys : List (ℕ × ℕ)} (low : ℕ) → Sub xs ys → AscendFrom low ys → AscendFrom low xs
 ascend_sub low stop a = tt
 ascend_sub low (keep {x} {xs} {ys} s) a = (a.0, a.1, ascend_sub (x.1 + 1) s a.2)
 ascend_sub low (skip {y} {xs} {ys} s) a = ascend_lower low (y.1 + 1) xs (omega (arith, a.0, a.1)) (ascend_sub (y.1 + 1) s a.2)
@@ -152,7 +160,7 @@ next_ascends LastBranch f e at ys is some other a = ascend_lower (at + 1) e ys (
 next_ascends Ends f e at ys is some other a = ascend_lower (at + 1) e ys (omega (arith, is, some)) a
 next_ascends Flat f e at ys is some other a = ascend_lower (at + 1) e ys (omega (arith, is, some)) a
 
-stretches_ascend : (marks : List Mark) (at : ℕ) → IsCutFrom at marks → AscendFrom at (text_stretches marks) × (BeginsNoText marks → AscendFrom (at + 1) (text_stretches marks))
+pub stretches_ascend : (marks : List Mark) (at : ℕ) → IsCutFrom at marks → AscendFrom at (text_stretches marks) × (BeginsNoText marks → AscendFrom (at + 1) (text_stretches marks))
 stretches_ascend [] at cut = (tt, λ h. tt)
 stretches_ascend (m ∷ marks) at cut =
     let more = stretches_ascend marks m.end cut.3 in (

@@ -38,7 +38,7 @@ abbrev mutual
   AgreeIn i j none = ⊤
   AgreeIn i j (branch live g bs) = Agree i j g × AgreeIn i j bs
 
-AnyHas-cases : (xs ys : List (ℕ × ℕ)) (i : ℕ) → AnyHas (xs ++ ys) i → AnyHas xs i ⊎ AnyHas ys i
+pub AnyHas-cases : (xs ys : List (ℕ × ℕ)) (i : ℕ) → AnyHas (xs ++ ys) i → AnyHas xs i ⊎ AnyHas ys i
 AnyHas-cases [] ys i h = inr h
 AnyHas-cases (x ∷ xs) ys i (inl h) = inl (inl h)
 AnyHas-cases (x ∷ xs) ys i (inr h) = elim (AnyHas-cases xs ys i h) [ inl a ↦ inl (inr a) | inr a ↦ inr a ]

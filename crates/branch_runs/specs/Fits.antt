@@ -66,3 +66,7 @@ FitNodes marks at (node ∷ nodes) = FitsNode marks at node × FitNodes marks (a
 abbrev pub LevelsFrom : ℕ → List Level → Type 0
 LevelsFrom at [] = ⊤
 LevelsFrom at (level ∷ levels) = (at ≤ level.next) × (at ≤ level.past) × LevelsFrom at levels
+
+-- what a list of nodes has past its end
+abbrev pub no_node : Node
+no_node = record { first = 0; end = 0; kind = Text; need = 0; later = 0; next = 0; past = 0 }

@@ -8,6 +8,8 @@ pub mod Dead
 pub mod Laws
 pub mod Links
 pub mod Fits
-pub mod Walk
-pub mod Jumps
 pub mod Front
+pub mod Anew
+pub mod Seen
+pub mod Visible
+pub mod Inside

@@ -5,18 +5,21 @@
 //! a literal `#if 0` is seen by some run. `docs/PROFILE.md`, "Runs", says which branch a run takes.
 #![tactic(auto)]
 
+mod change;
 mod effect;
-mod jump;
 mod laws;
 mod link;
 mod mark;
 mod node;
 mod open_groups;
+mod seen;
 mod stack;
 mod tree;
-mod walk;
+mod visible;
+mod window;
 mod zero;
 
+pub use change::Change;
 pub use laws::views_are_of_texts;
 pub use mark::{Mark, MarkKind};
 pub use token_views::{NoMemory, TokenId, View};

@@ -10,13 +10,16 @@ ghost use Rattle.branch_runs.specs.Runs.{need, view_of};
 ghost use Rattle.branch_runs.specs.Dead.{is_dead_in};
 ghost use Rattle.branch_runs.specs.Laws.{IsCovered, NeverParted};
 ghost use Rattle.branch_runs.specs.Cut.{IsCutFrom, end_of};
+ghost use Rattle.branch_runs.specs.Anew.{IsChange, items_between};
 
+use crate::change::{Change, changes_of};
 use crate::effect::effects;
-use crate::jump::{Jump, jumps_of};
 use crate::link::nodes_of;
 use crate::mark::marks_of;
 use crate::node::Node;
-use crate::walk::stretches_of;
+use crate::seen::seen_texts;
+use crate::visible::Visible;
+use crate::window::{stretches_between, stretches_of};
 use crate::{Mark, NoMemory};
 use bumpalo::Bump;
 use directives::Section;
@@ -28,8 +31,9 @@ use token_views::{TokenId, View};
 #[derive(Drop)]
 pub struct CondTree<'a> {
     nodes: &'a [Node],
-    jumps: &'a [Jump],
     dead: &'a [bool],
+    texts: Visible<'a>,
+    changes: &'a [Change],
     count: u32,
 }
 
@@ -40,16 +44,19 @@ impl<'a> Model for CondTree<'a> {
     ghost use Rattle.branch_runs.specs.Reading.{read};
     ghost use Rattle.branch_runs.specs.Links.{node_mark};
     ghost use Rattle.branch_runs.specs.Fits.{FitNodes};
-    ghost use Rattle.branch_runs.specs.Jumps.{FitJumps};
     ghost use Rattle.branch_runs.specs.Cut.{IsCutFrom};
     ghost use Rattle.branch_runs.specs.Dead.{flags_in};
     ghost use Rattle.branch_runs.specs.Runs.{need};
+    ghost use Rattle.token_views.specs.Segments.{AscendFrom};
+    ghost use Rattle.branch_runs.specs.Inside.{text_bounds};
+    ghost use Rattle.branch_runs.specs.Seen.{seen_texts};
+    ghost use Rattle.branch_runs.specs.Anew.{AreNoted};
 
     ghost Value = { List Mark };
 
     ghost view = { λ t. map node_mark t.nodes.now };
 
-    ghost invariant = { λ t. record { fit : FitNodes (map node_mark t.nodes.now) 0 t.nodes.now; jumps : FitJumps (map node_mark t.nodes.now) t.jumps.now; need_is : t.count ≡ need (read (map node_mark t.nodes.now)); small : length t.nodes.now ≤ LIMIT; cut : IsCutFrom 0 (map node_mark t.nodes.now); flags : t.dead.now ≡ flags_in [] (map node_mark t.nodes.now) } };
+    ghost invariant = { λ t. record { fit : FitNodes (map node_mark t.nodes.now) 0 t.nodes.now; need_is : t.count ≡ need (read (map node_mark t.nodes.now)); small : length t.nodes.now ≤ LIMIT; cut : IsCutFrom 0 (map node_mark t.nodes.now); flags : t.dead.now ≡ flags_in [] (map node_mark t.nodes.now); texts : t.texts ≡ seen_texts (read (map node_mark t.nodes.now)) 0 t.count; ascend : AscendFrom 0 (map text_bounds t.texts); each_run : length t.changes.now ≡ t.count; changes : AreNoted t.changes.now t.texts } };
 }
 
 impl<'a> CondTree<'a> {
@@ -86,11 +93,14 @@ impl<'a> CondTree<'a> {
     {
         let (marks, dead) = effects(marks, items, bump)?;
         let (nodes, count) = nodes_of(marks, bump)?;
-        let jumps = jumps_of(nodes, bump)?;
+        let texts = seen_texts(nodes, count, bump)?;
+        let changes = changes_of(texts, count, bump)?;
+        let texts = Visible::make(texts, bump)?;
         Ok(CondTree {
             nodes,
-            jumps,
             dead,
+            texts,
+            changes,
             count,
         })
     }
@@ -111,9 +121,37 @@ impl<'a> CondTree<'a> {
         ensures increase { IfOk result (λ view. Increase view) }
         ensures within { IfOk result (λ view. All (λ id. id < end_of 0 self.now) view) }
     {
-        let stretches = stretches_of(self.nodes, self.jumps, r, run)?;
+        let stretches = stretches_of(&self.texts, r, run)?;
         let view = View::of_stretches(stretches, run)?;
         Ok(view)
+    }
+
+    /// The items from one to before another that a run sees. It looks at no text before the first that it gives
+    /// items of, but for those that it halves the texts at, and at few that the run doesn't see.
+    pub fn view_between<'r>(
+        &self,
+        r: u32,
+        first: u32,
+        end: u32,
+        run: &'r Bump,
+    ) -> Result<View<'r>, NoMemory>
+        requires { r < need (read self.now) }
+        ensures view { IfOk result (λ view. view ≡ items_between first end (view_of (read self.now) r)) }
+        ensures increase { IfOk result (λ view. Increase view) }
+        ensures within { IfOk result (λ view. All (λ id. id < end_of 0 self.now) view) }
+    {
+        let stretches = stretches_between(&self.texts, r, first, end, run)?;
+        let view = View::of_stretches(stretches, run)?;
+        Ok(view)
+    }
+
+    /// How the view of a run differs from that of the run before it. It takes no memory, and no walk.
+    pub fn change(&self, r: u32) -> Change
+        requires later { 0 < r }
+        requires run { r < need (read self.now) }
+        ensures { IsChange (read self.now) r result }
+    {
+        self.changes[r as usize]
     }
 
     /// Whether an item stands in the group of a literal `#if 0`. It takes no memory.

@@ -1,0 +1,9 @@
+use Rattle.std.proofs.Common.{◌≡◌, length, drop, replicate}
+use Rattle.branch_runs.specs.Anew.{no_change, noted}
+use Rattle.branch_runs.proofs.change.changes_of.Given as goal
+
+abbrev pub invariant-loop-text : goal.invariant-loop-text
+invariant-loop-text l = record {
+  left : noted l.changes (drop l.text-index l.texts) ≡ noted (replicate l.runs no_change) l.texts;
+  count : length l.changes ≡ l.runs;
+}

@@ -1,0 +1,92 @@
+use Rattle.std.proofs.Common.{arith, ◌≡◌, ◌≢◌, ◌+◌, ◌<◌, ◌⊎◌, subst, inl, inr, ℕ, List, ◌∷◌, map, length, get_or}
+use Rattle.branch_runs.specs.declared.mark.MarkKind.TheVariants.{Text, Flat, Branch, LastBranch, Ends}
+use Rattle.branch_runs.specs.declared.node.Node.{Node}
+use Rattle.branch_runs.specs.declared.seen.OpenSlot.{OpenSlot}
+use Rattle.branch_runs.specs.Links.{node_mark}
+use Rattle.branch_runs.specs.Fits.{FitsNode, FitNodes, rest_at, no_node}
+use Rattle.branch_runs.specs.Seen.{till_of}
+use Rattle.branch_runs.proofs.Nodes.{fits_at, is_branch}
+use Rattle.branch_runs.proofs.Left.{Leaves, Room, leaves_opens, leaves_off, leaves_branch, leaves_ends, leaves_flat, leaves_out}
+use Rattle.branch_runs.proofs.seen.step.Goals as goal
+
+here : (nodes : List Node) (at : ℕ) → FitNodes (map node_mark nodes) 0 nodes → at < length nodes → FitsNode (map node_mark nodes) at (get_or nodes at no_node)
+here nodes at fit within = fits_at (map node_mark nodes) at nodes no_node fit within
+
+-- no directive is a text
+flat : (nodes : List Node) (at from till : ℕ) (slots : List OpenSlot) → FitNodes (map node_mark nodes) 0 nodes → at < length nodes
+    → ((get_or nodes at no_node).kind ≡ Text) ⊎ ((get_or nodes at no_node).kind ≡ Flat) → (get_or nodes at no_node).kind ≢ Text → Room (rest_at (map node_mark nodes) at) from till slots
+    → Leaves (rest_at (map node_mark nodes) at) (rest_at (map node_mark nodes) (at + 1)) from till from till slots slots
+flat nodes at from till slots fit within (inl is) other h = absurd (other is)
+flat nodes at from till slots fit within (inr is) other h = leaves_flat (map node_mark nodes) at from till slots (get_or nodes at no_node) (here nodes at fit within) is h
+
+pub returns-in-Text-clause-left : goal.returns-in-Text-clause-left
+returns-in-Text-clause-left c = (flat c.args.nodes.now c.args.place.at c.args.place.from c.args.place.till c.args.slots.now c.requires.fit c.requires.within c.in-Text.is c.requires.directive c.requires.runs).left
+
+pub returns-in-Text-clause-runs : goal.returns-in-Text-clause-runs
+returns-in-Text-clause-runs c = let p = flat c.args.nodes.now c.args.place.at c.args.place.from c.args.place.till c.args.slots.now c.requires.fit c.requires.within c.in-Text.is c.requires.directive c.requires.runs in (p.room, p.small, p.fits)
+
+pub overflow_add-next : goal.overflow_add-next
+overflow_add-next c = let p = leaves_opens (map node_mark c.args.nodes.now) c.args.place.at c.args.place.from c.args.place.till c.args.slots.now _ (here c.args.nodes.now c.args.place.at c.requires.fit c.requires.within) c.in-Opens.is c.requires.runs in omega (arith, p.fits.0, p.fits.2)
+
+pub till_of-requires : goal.till_of-requires
+till_of-requires c = let p = leaves_opens (map node_mark c.args.nodes.now) c.args.place.at c.args.place.from c.args.place.till c.args.slots.now _ (here c.args.nodes.now c.args.place.at c.requires.fit c.requires.within) c.in-Opens.is c.requires.runs in omega (arith, p.fits.0, p.fits.2)
+
+pub returns-in_ok-push-in-Opens-clause-left : goal.returns-in_ok-push-in-Opens-clause-left
+returns-in_ok-push-in-Opens-clause-left c = rw (c.in_ok-push-in-Opens.ensures.ok, c.till_of.ensures) (leaves_opens (map node_mark c.args.nodes.now) c.args.place.at c.args.place.from c.args.place.till c.args.slots.now _ (here c.args.nodes.now c.args.place.at c.requires.fit c.requires.within) c.in-Opens.is c.requires.runs).left
+
+pub returns-in_ok-push-in-Opens-clause-runs : goal.returns-in_ok-push-in-Opens-clause-runs
+returns-in_ok-push-in-Opens-clause-runs c = let p = leaves_opens (map node_mark c.args.nodes.now) c.args.place.at c.args.place.from c.args.place.till c.args.slots.now _ (here c.args.nodes.now c.args.place.at c.requires.fit c.requires.within) c.in-Opens.is c.requires.runs in rw (c.in_ok-push-in-Opens.ensures.ok, c.till_of.ensures) (p.room, p.small, p.fits)
+
+pub returns-in_ok-push-in-IfZero-clause-left : goal.returns-in_ok-push-in-IfZero-clause-left
+returns-in_ok-push-in-IfZero-clause-left c = rw c.in_ok-push-in-IfZero.ensures.ok (leaves_off (map node_mark c.args.nodes.now) c.args.place.at c.args.place.from c.args.place.till c.args.slots.now _ (here c.args.nodes.now c.args.place.at c.requires.fit c.requires.within) c.in-IfZero.is c.requires.runs).left
+
+pub returns-in_ok-push-in-IfZero-clause-runs : goal.returns-in_ok-push-in-IfZero-clause-runs
+returns-in_ok-push-in-IfZero-clause-runs c = let p = leaves_off (map node_mark c.args.nodes.now) c.args.place.at c.args.place.from c.args.place.till c.args.slots.now _ (here c.args.nodes.now c.args.place.at c.requires.fit c.requires.within) c.in-IfZero.is c.requires.runs in rw c.in_ok-push-in-IfZero.ensures.ok (p.room, p.small, p.fits)
+
+pub returns-in_ok-push-in-IfZero-clause-after : goal.returns-in_ok-push-in-IfZero-clause-after
+returns-in_ok-push-in-IfZero-clause-after c = (here c.args.nodes.now c.args.place.at c.requires.fit c.requires.within).next_after
+
+-- a branch of an open conditional
+on_branch : (nodes : List Node) (at from till : ℕ) (old : List OpenSlot) (slot : OpenSlot) (slots : List OpenSlot) → FitsNode (map node_mark nodes) at (get_or nodes at no_node)
+    → ((get_or nodes at no_node).kind ≡ Branch) ⊎ ((get_or nodes at no_node).kind ≡ LastBranch) → old ≡ slot ∷ slots → Room (rest_at (map node_mark nodes) at) from till old
+    → Leaves (rest_at (map node_mark nodes) at) (rest_at (map node_mark nodes) (at + 1)) from till slot.next (till_of (get_or nodes at no_node).later (get_or nodes at no_node).need slot.next slot.till) old
+    (record { next = slot.next + (get_or nodes at no_node).need; from = slot.from; till = slot.till } ∷ slots)
+on_branch nodes at from till old slot slots fits is top h =
+    rw top (leaves_branch (map node_mark nodes) at from till slot slots (get_or nodes at no_node) fits (is_branch _ is) (subst (λ xs. Room (rest_at (map node_mark nodes) at) from till xs) top h))
+
+pub overflow_add-slot : goal.overflow_add-slot
+overflow_add-slot c = let p = on_branch c.args.nodes.now c.args.place.at c.args.place.from c.args.place.till c.args.slots.now c.in-Some.slot c.pop.new.self (here c.args.nodes.now c.args.place.at c.requires.fit c.requires.within) c.in-Branch.is c.in-Some.ensures c.requires.runs in omega (arith, p.fits.0, p.fits.2)
+
+pub till_of-requires-in-Some : goal.till_of-requires-in-Some
+till_of-requires-in-Some c = let p = on_branch c.args.nodes.now c.args.place.at c.args.place.from c.args.place.till c.args.slots.now c.in-Some.slot c.pop.new.self (here c.args.nodes.now c.args.place.at c.requires.fit c.requires.within) c.in-Branch.is c.in-Some.ensures c.requires.runs in omega (arith, p.fits.0, p.fits.2)
+
+pub returns-in_ok-push-in-Some-clause-left : goal.returns-in_ok-push-in-Some-clause-left
+returns-in_ok-push-in-Some-clause-left c = rw (c.in_ok-push-in-Some.ensures.ok, c.till_of-in-Some.ensures) (on_branch c.args.nodes.now c.args.place.at c.args.place.from c.args.place.till c.args.slots.now c.in-Some.slot c.pop.new.self (here c.args.nodes.now c.args.place.at c.requires.fit c.requires.within) c.in-Branch.is c.in-Some.ensures c.requires.runs).left
+
+pub returns-in_ok-push-in-Some-clause-runs : goal.returns-in_ok-push-in-Some-clause-runs
+returns-in_ok-push-in-Some-clause-runs c = let p = on_branch c.args.nodes.now c.args.place.at c.args.place.from c.args.place.till c.args.slots.now c.in-Some.slot c.pop.new.self (here c.args.nodes.now c.args.place.at c.requires.fit c.requires.within) c.in-Branch.is c.in-Some.ensures c.requires.runs in rw (c.in_ok-push-in-Some.ensures.ok, c.till_of-in-Some.ensures) (p.room, p.small, p.fits)
+
+pub returns-in-None-clause-left : goal.returns-in-None-clause-left
+returns-in-None-clause-left c = (leaves_out c.args.nodes.now c.args.place.at c.args.place.from c.args.place.till c.args.slots.now c.pop.new.self _ (here c.args.nodes.now c.args.place.at c.requires.fit c.requires.within) (inl (is_branch _ c.in-Branch.is)) c.in-None.ensures.0 c.in-None.ensures.1 c.requires.runs).left
+
+pub returns-in-None-clause-runs : goal.returns-in-None-clause-runs
+returns-in-None-clause-runs c = let p = leaves_out c.args.nodes.now c.args.place.at c.args.place.from c.args.place.till c.args.slots.now c.pop.new.self _ (here c.args.nodes.now c.args.place.at c.requires.fit c.requires.within) (inl (is_branch _ c.in-Branch.is)) c.in-None.ensures.0 c.in-None.ensures.1 c.requires.runs in (p.room, p.small, p.fits)
+
+-- the end of an open conditional
+on_end : (nodes : List Node) (at from till : ℕ) (old : List OpenSlot) (slot : OpenSlot) (slots : List OpenSlot) → FitsNode (map node_mark nodes) at (get_or nodes at no_node)
+    → (get_or nodes at no_node).kind ≡ Ends → old ≡ slot ∷ slots → Room (rest_at (map node_mark nodes) at) from till old
+    → Leaves (rest_at (map node_mark nodes) at) (rest_at (map node_mark nodes) (at + 1)) from till slot.from slot.till old slots
+on_end nodes at from till old slot slots fits is top h =
+    rw top (leaves_ends (map node_mark nodes) at from till slot slots (get_or nodes at no_node) fits is (subst (λ xs. Room (rest_at (map node_mark nodes) at) from till xs) top h))
+
+pub returns-in-Some-pop-clause-left : goal.returns-in-Some-pop-clause-left
+returns-in-Some-pop-clause-left c = (on_end c.args.nodes.now c.args.place.at c.args.place.from c.args.place.till c.args.slots.now c.in-Some-pop.slot c.pop-in-Ends.new.self (here c.args.nodes.now c.args.place.at c.requires.fit c.requires.within) c.in-Ends.is c.in-Some-pop.ensures c.requires.runs).left
+
+pub returns-in-Some-pop-clause-runs : goal.returns-in-Some-pop-clause-runs
+returns-in-Some-pop-clause-runs c = let p = on_end c.args.nodes.now c.args.place.at c.args.place.from c.args.place.till c.args.slots.now c.in-Some-pop.slot c.pop-in-Ends.new.self (here c.args.nodes.now c.args.place.at c.requires.fit c.requires.within) c.in-Ends.is c.in-Some-pop.ensures c.requires.runs in (p.room, p.small, p.fits)
+
+pub returns-in-None-pop-clause-left : goal.returns-in-None-pop-clause-left
+returns-in-None-pop-clause-left c = (leaves_out c.args.nodes.now c.args.place.at c.args.place.from c.args.place.till c.args.slots.now c.pop-in-Ends.new.self _ (here c.args.nodes.now c.args.place.at c.requires.fit c.requires.within) (inr c.in-Ends.is) c.in-None-pop.ensures.0 c.in-None-pop.ensures.1 c.requires.runs).left
+
+pub returns-in-None-pop-clause-runs : goal.returns-in-None-pop-clause-runs
+returns-in-None-pop-clause-runs c = let p = leaves_out c.args.nodes.now c.args.place.at c.args.place.from c.args.place.till c.args.slots.now c.pop-in-Ends.new.self _ (here c.args.nodes.now c.args.place.at c.requires.fit c.requires.within) (inr c.in-Ends.is) c.in-None-pop.ensures.0 c.in-None-pop.ensures.1 c.requires.runs in (p.room, p.small, p.fits)
