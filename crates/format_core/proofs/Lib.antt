@@ -6,9 +6,17 @@ pub mod RowsPassed
 pub mod Planned
 pub mod OfTexts
 pub mod Seen
+pub mod SeenBefore
+pub mod SeenInOrder
 pub mod SoundPlan
 pub mod NothingNew
 pub mod RowsDecided
 pub mod RunsTold
 pub mod Told
 pub mod RowsStay
+pub mod Between
+pub mod FirstParts
+pub mod BoundsNoted
+pub mod Stretches
+pub mod FromBound
+pub mod WindowParts

@@ -8,18 +8,15 @@ use Rattle.view_parts.specs.Parts.{ends_from, part_ends, part_len}
 use Rattle.replacements.specs.declared.slot.Slot.{Slot}
 use Rattle.run_layout.specs.declared.report.Tally.{Tally}
 use Rattle.format_core.specs.RunsTold.{AreItemsTold, ArePartsTold}
-use Rattle.format_core.proofs.RunsTold.{GoesOnParts, parts_begin, part_done, parts_end}
-
--- what goes on from the part that begins at this place goes on from the first part
-pub record GoesOnFrom (style : Style) (budget : ℕ) (arena : Contents) (run : ℕ) (plan : List (Option Slot)) (ids : List ℕ) (before : Tally) (here : List (Option Slot)) (first : ℕ) (now : Tally) : Type 0 where
-  pub fuel : ℕ
-  pub enough : length ids - first ≤ fuel
-  pub on : GoesOnParts style budget arena run plan ids (part_ends arena ids) before here first (ends_from fuel arena ids first) now
+use Rattle.format_core.specs.PartByPart.{GoesOnParts, GoesOnFrom}
+use Rattle.format_core.proofs.RunsTold.{parts_begin, part_done, parts_end}
+use Rattle.format_core.proofs.SoundPlan.{items_keep}
 
 pub from_begin : (style : Style) (budget : ℕ) (arena : Contents) (run : ℕ) (plan : List (Option Slot)) (ids : List ℕ) (before : Tally) → GoesOnFrom style budget arena run plan ids before plan 0 before
 from_begin style budget arena run plan ids before = record {
   fuel = length ids;
   enough = omega arith;
+  stays = λ place slot is. is;
   on = parts_begin style budget arena run plan ids (part_ends arena ids) (part_ends arena ids) before refl;
 }
 
@@ -38,6 +35,7 @@ from_part style budget arena run plan ids before now next here after first end h
         record {
           fuel = fuel;
           enough = omega (arith, enough, some);
+          stays = λ place slot is. items_keep style budget arena run here (slice_range ids first end) after laid.done place slot laid.items (from.stays place slot is);
           on = part_done style budget arena run plan ids (part_ends arena ids) before now next here after first end (ends_from (suc fuel) arena ids first) (ends_from fuel arena ids end) more on laid;
         }
 

@@ -9,14 +9,15 @@ use Rattle.replacements.specs.Decisions.{slot_of}
 use Rattle.run_layout.specs.declared.report.Tally.{Tally}
 use Rattle.format_core.specs.Runs.{AreDecided}
 use Rattle.format_core.proofs.Parts.{part_length, part_item}
-use Rattle.format_core.proofs.PartsTold.{GoesOnFrom, from_part}
+use Rattle.format_core.specs.PartByPart.{GoesOnFrom}
+use Rattle.format_core.proofs.PartsTold.{from_part}
 use Rattle.format_core.proofs.RunsTold.{items_told_nothing}
 
 -- the gap before each item of a view at places from one to before another is decided
-abbrev AreDecidedUpTo : List (Option Slot) → List ℕ → ℕ → ℕ → Type 0
+abbrev pub AreDecidedUpTo : List (Option Slot) → List ℕ → ℕ → ℕ → Type 0
 AreDecidedUpTo plan ids first last = (k : ℕ) → first ≤ k → k < last → IsSome (slot_of plan (get_or ids k 0))
 
-decided_up_to : (plan : List (Option Slot)) (ids : List ℕ) (first last : ℕ) → last ≤ length ids → AreDecided plan (slice_range ids first last) → AreDecidedUpTo plan ids first last
+pub decided_up_to : (plan : List (Option Slot)) (ids : List ℕ) (first last : ℕ) → last ≤ length ids → AreDecided plan (slice_range ids first last) → AreDecidedUpTo plan ids first last
 decided_up_to plan ids first last inside all = λ k low high.
     let e : first + (k - first) ≡ k = omega (arith, low) in
     let below : k - first < length (slice_range ids first last) = omega (arith, low, high, inside, part_length ids first last) in
@@ -26,11 +27,11 @@ part_decided_in : (plan : List (Option Slot)) (ids : List ℕ) (first end last :
 part_decided_in plan ids first end last upto all = λ k below.
     subst (λ id. IsSome (slot_of plan id)) (sym (part_item ids first end k 0 below)) (all (first + k) (omega arith) (omega (arith, below, part_length ids first end, upto)))
 
-follow_order : (arena : Contents) (ids : List ℕ) (first last : ℕ) (ends : List ℕ) → FollowUpTo arena ids first last ends → first ≤ last
+pub follow_order : (arena : Contents) (ids : List ℕ) (first last : ℕ) (ends : List ℕ) → FollowUpTo arena ids first last ends → first ≤ last
 follow_order arena ids first last [] follow = omega (arith, follow)
 follow_order arena ids first last (end ∷ ends) follow = (let rest = follow_order arena ids end last ends follow.3 in omega (arith, follow.1, rest))
 
-from_parts : (style : Style) (budget : ℕ) (arena : Contents) (run : ℕ) (plan : List (Option Slot)) (ids : List ℕ) (before now : Tally) (here : List (Option Slot)) (first last : ℕ) (ends : List ℕ) → AreDecidedUpTo here ids first last
+pub from_parts : (style : Style) (budget : ℕ) (arena : Contents) (run : ℕ) (plan : List (Option Slot)) (ids : List ℕ) (before now : Tally) (here : List (Option Slot)) (first last : ℕ) (ends : List ℕ) → AreDecidedUpTo here ids first last
     → FollowUpTo arena ids first last ends → GoesOnFrom style budget arena run plan ids before here first now → GoesOnFrom style budget arena run plan ids before here last now
 from_parts style budget arena run plan ids before now here first last [] some follow from = subst (λ k. GoesOnFrom style budget arena run plan ids before here k now) follow from
 from_parts style budget arena run plan ids before now here first last (end ∷ ends) some follow from =

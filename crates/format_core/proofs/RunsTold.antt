@@ -24,6 +24,7 @@ use Rattle.run_layout.proofs.Walked.{cut_within}
 use Rattle.format_core.specs.Plans.{AfterParts, AfterSeen, AfterRuns}
 use Rattle.format_core.specs.Runs.{AreDecided, seen_by, lines_of_items, after_kept, toks_of_items}
 use Rattle.format_core.specs.RunsTold.{AreItemsTold, ArePartsTold, AreSeenTold, AreRunsTold}
+use Rattle.format_core.specs.PartByPart.{GoesOnParts}
 use Rattle.format_core.proofs.NothingNew.{kept_nothing}
 use Rattle.format_core.proofs.Parts.{part_decided}
 use Rattle.format_core.proofs.SoundPlan.{tell}
@@ -85,18 +86,6 @@ items_told_nothing style budget arena run plan ids tally some =
     }
 
 -- ## The parts of a view
-
-pub record AllParts (style : Style) (budget : ℕ) (arena : Contents) (run : ℕ) (plan : List (Option Slot)) (ids : List ℕ) (ends : List ℕ) (before now : Tally) (final : List (Option Slot)) (done : List LaidLine) : Type 0 where
-  pub whole : List LaidLine
-  pub parts_are : AfterParts style budget arena run plan ids 0 ends final whole
-  pub reports : before.reports.items ++ reports_of whole ≡ now.reports.items ++ reports_of done
-  pub searched : before.searched + searched_of whole ≡ now.searched + searched_of done
-  pub cost : before.cost + cost_of whole ≡ now.cost + cost_of done
-
--- what goes on from here goes on from the first part
-abbrev pub GoesOnParts : Style → ℕ → Contents → ℕ → List (Option Slot) → List ℕ → List ℕ → Tally → List (Option Slot) → ℕ → List ℕ → Tally → Type 0
-GoesOnParts style budget arena run plan ids ends before here first left now =
-    (final : List (Option Slot)) (done : List LaidLine) → AfterParts style budget arena run here ids first left final done → AllParts style budget arena run plan ids ends before now final done
 
 pub parts_begin : (style : Style) (budget : ℕ) (arena : Contents) (run : ℕ) (plan : List (Option Slot)) (ids ends left : List ℕ) (before : Tally) → left ≡ ends → GoesOnParts style budget arena run plan ids ends before plan 0 left before
 parts_begin style budget arena run plan ids ends left before all = λ final done h.

@@ -108,7 +108,7 @@ items_keep style budget arena run plan ids final done place slot laid is =
     views_keep style budget arena ids (toks_of_items style arena ids) run (after_kept style arena plan ids) (lines_of_items style arena ids) final done laid place slot
     (stay plan (kept_decisions style arena 0 ids (kept_gaps_of (classes_of arena ids))) place slot is)
 
-parts_keep : (style : Style) (budget : ℕ) (arena : Contents) (run : ℕ) (plan : List (Option Slot)) (ids : List ℕ) (first : ℕ) (ends : List ℕ) (final : List (Option Slot)) (done : List LaidLine) (place : ℕ) (slot : Slot)
+pub parts_keep : (style : Style) (budget : ℕ) (arena : Contents) (run : ℕ) (plan : List (Option Slot)) (ids : List ℕ) (first : ℕ) (ends : List ℕ) (final : List (Option Slot)) (done : List LaidLine) (place : ℕ) (slot : Slot)
     → AfterParts style budget arena run plan ids first ends final done → slot_of plan place ≡ Some slot → slot_of final place ≡ Some slot
 parts_keep style budget arena run plan ids first [] final done place slot laid is = subst (λ (p : List (Option Slot)). slot_of p place ≡ Some slot) (sym laid.0) is
 parts_keep style budget arena run plan ids first (end ∷ ends) final done place slot laid is =
@@ -177,7 +177,7 @@ parts_decided style budget arena run plan ids first (end ∷ ends) final done pl
     ]
 
 -- behind a run each gap of an item that it sees is decided
-seen_decided : (style : Style) (budget : ℕ) (arena : Contents) (plan : List (Option Slot)) (run id : ℕ) (final : List (Option Slot)) (done : List LaidLine) → length plan ≡ length arena.tokens + 1
+pub seen_decided : (style : Style) (budget : ℕ) (arena : Contents) (plan : List (Option Slot)) (run id : ℕ) (final : List (Option Slot)) (done : List LaidLine) → length plan ≡ length arena.tokens + 1
     → Contains (seen_by arena run) id → AfterSeen style budget arena run plan (seen_by arena run) final done → IsDecided final id
 seen_decided style budget arena plan run id final done long (k, below, is) laid =
     let ids = seen_by arena run in

@@ -1,3 +1,6 @@
+pub mod Bounds
+pub mod Windows
+pub mod PartByPart
 pub mod Faults
 pub mod LineEnds
 pub mod KeptGaps

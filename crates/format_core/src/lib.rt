@@ -6,6 +6,7 @@
 //! that it writes has the same items as its input.
 #![tactic(auto)]
 
+mod bounds;
 mod fault;
 mod formatted;
 mod kept;

@@ -1,22 +1,33 @@
 //! The plan of a text, run by run over one store of items.
 
-ghost use Rattle.std.specs.Prelude.{◌≡◌, ◌<◌, ◌≤◌, ◌+◌, ◌*◌, ◌^◌, ◌-◌, ℕ, All, List, Option, None, Some, IfOk, IsFalse, IsTrue, OnOk, drop, get_or, length, option_map, slice_range};
+ghost use Rattle.std.specs.Prelude.{◌≡◌, ◌<◌, ◌≤◌, ◌+◌, ◌*◌, ◌^◌, ◌-◌, ℕ, All, List, Option, None, Some, IfOk, IfSome, IsTrue, OnOk, get_or, length, option_map, slice_range};
+ghost use Rattle.std.specs.Option.{ForNone, ForSome};
 ghost use Rattle.c_chars.specs.declared.TheConstants.{LIMIT};
 ghost use Rattle.style_table.specs.Range.{IsInRange};
 ghost use Rattle.token_classes.specs.Viewed.{AreWithin, item_classes};
 ghost use Rattle.directives.specs.Sections.{sections_of, IsCut};
 ghost use Rattle.early_gaps.specs.Dead.{IsTreeOf};
+ghost use Rattle.branch_runs.specs.Anew.{items_between};
+ghost use Rattle.token_arena.specs.Gaps.{Contents};
+ghost use Rattle.run_layout.specs.declared.report.Tally.{Tally};
 ghost use Rattle.replacements.specs.declared.slot.Slot.{Slot};
 ghost use Rattle.run_layout.specs.Counted.{IsCounted};
 ghost use Rattle.view_parts.specs.Known.{AreKnown, AreSpans};
-ghost use Rattle.view_parts.specs.Parts.{part_len, ArePartsUpTo};
+ghost use Rattle.view_parts.specs.Parts.{ArePartsUpTo};
 ghost use Rattle.format_core.specs.Runs.{AreDecided, AreRowsDecided, runs_of, seen_by};
+ghost use Rattle.std.specs.Prelude.{IsSome};
+ghost use Rattle.std.specs.List.{Contains};
+ghost use Rattle.replacements.specs.Decisions.{slot_of};
+ghost use Rattle.format_core.specs.Bounds.{AreBounds, BeginTold, IsBound};
+ghost use Rattle.format_core.specs.Windows.{AreInStep, AreToldIn, IsWindow, place_before};
+ghost use Rattle.format_core.specs.PartByPart.{GoesOnFrom};
 ghost use Rattle.format_core.specs.RunsTold.{AreItemsTold, AreRunsTold, AreSeenTold, IsPlanned};
 
+use crate::bounds::{KnownBound, last_bound};
 use crate::kept::keep_gaps;
 use annotator::roles_of_classes;
 use brackets::bracket_facts;
-use branch_runs::CondTree;
+use branch_runs::{Change, CondTree};
 use bumpalo::Bump;
 use bumpalo::collections::into_bump_slice_mut;
 use directives::Section;
@@ -31,7 +42,13 @@ use token_arena::TokenArena;
 use token_classes::{TokenClass, classes_among, item_classes};
 use token_views::View;
 use unwrapped_lines::lines_of_classes;
-use view_parts::{KnownEnd, KnownSpans, behind_row, join_rows, known_part_end, known_parts_end};
+use view_parts::{
+    KnownEnd, KnownSpans, PartsEnd, behind_row, join_rows, known_part_end, known_parts_end,
+};
+
+/// How many items behind what is new in a run are looked at first at least. Most parts end within as many, and so do
+/// the items that tell it.
+const LEAST_AHEAD: u32 = 64;
 
 /// The plan of a text, and what is told of its lines.
 #[derive(Drop)]
@@ -44,44 +61,75 @@ pub(crate) struct Planned<'a> {
     pub tally: Tally<'a>,
 }
 
-/// Decides the gaps of these items, where they are open: first those that stay as they are. `all` are the classes of
-/// all items of the text.
-fn lay_out_items(
+/// A text, and what its gaps are decided by.
+#[derive(Drop)]
+struct Context<'c, 'a, 's> {
+    /// What the memory of a run is taken from.
     alloc: Global,
-    style: &Style,
+    /// How it is formatted.
+    style: &'c Style,
+    /// How many cells the search of a line may have.
     budget: u64,
-    arena: &TokenArena<'_, '_>,
-    all: &[TokenClass],
+    /// Its items.
+    arena: &'c TokenArena<'a, 's>,
+    /// The classes of all items.
+    classes: &'c [TokenClass],
+}
+
+/// What is made of a text, run by run.
+#[derive(Drop)]
+struct Made<'a> {
+    /// What is decided for each gap.
+    plan: Plan<'a>,
+    /// What came of the lines of the runs so far.
+    tally: Tally<'a>,
+}
+
+/// Decides the gaps of these items, where they are open: first those that stay as they are.
+fn lay_out_items(
+    context: &Context<'_, '_, '_>,
     number: u32,
     view: &View<'_>,
-    plan: &mut Plan<'_>,
-    tally: &mut Tally<'_>,
+    made: &mut Made<'_>,
     run: &Bump,
 ) -> Result<(), NoMemory>
-    requires range { IsInRange style.now }
-    requires budget { budget ≤ 16000000 }
-    requires all { all.now ≡ item_classes arena.now }
-    requires within { AreWithin arena.now view.now }
-    requires whole { length plan.old ≡ length arena.now.tokens + 1 }
-    requires room { tally.old.searched + length view.now < 2 ^ 60 }
-    requires cheap { tally.old.cost ≤ tally.old.searched * 18446744073709551615 }
-    requires counted { IsCounted arena.now tally.old.lines }
-    ensures told { OnOk result (AreItemsTold style.now budget arena.now number plan.old view.now plan.new tally.old tally.new) }
-    ensures len { OnOk result (length plan.new ≡ length plan.old) }
-    ensures room { OnOk result (tally.new.searched ≤ tally.old.searched + length view.now) }
-    ensures cheap { OnOk result (tally.new.cost ≤ tally.new.searched * 18446744073709551615) }
-    ensures counted { OnOk result (IsCounted arena.now tally.new.lines) }
+    requires range { IsInRange context.now.style.now }
+    requires budget { context.now.budget ≤ 16000000 }
+    requires all { context.now.classes.now ≡ item_classes context.now.arena.now }
+    requires within { AreWithin context.now.arena.now view.now }
+    requires whole { length made.old.plan ≡ length context.now.arena.now.tokens + 1 }
+    requires room { made.old.tally.searched + length view.now < 2 ^ 60 }
+    requires cheap { made.old.tally.cost ≤ made.old.tally.searched * 18446744073709551615 }
+    requires counted { IsCounted context.now.arena.now made.old.tally.lines }
+    ensures told { OnOk result (AreItemsTold context.now.style.now context.now.budget context.now.arena.now number made.old.plan view.now made.new.plan made.old.tally made.new.tally) }
+    ensures len { OnOk result (length made.new.plan ≡ length made.old.plan) }
+    ensures room { OnOk result (made.new.tally.searched ≤ made.old.tally.searched + length view.now) }
+    ensures cheap { OnOk result (made.new.tally.cost ≤ made.new.tally.searched * 18446744073709551615) }
+    ensures counted { OnOk result (IsCounted context.now.arena.now made.new.tally.lines) }
 {
+    let style = context.style;
+    let arena = context.arena;
     let items = arena.len();
     let count = view.len();
     prove!(count <= items);
-    let classes = classes_among(all, arena, view, run)?;
+    let classes = classes_among(context.classes, arena, view, run)?;
     let facts = bracket_facts(classes, run)?;
-    keep_gaps(style, arena, view, facts.kept, plan);
+    keep_gaps(style, arena, view, facts.kept, &mut made.plan);
     let lines = lines_of_classes(style, arena, view, classes, facts.partners, run)?;
     let toks = roles_of_classes(arena, view, classes, facts.partners, lines, run)?;
     lay_out_view(
-        alloc, style, budget, arena, view, classes, toks, number, lines, plan, tally, run,
+        context.alloc,
+        style,
+        context.budget,
+        arena,
+        view,
+        classes,
+        toks,
+        number,
+        lines,
+        &mut made.plan,
+        &mut made.tally,
+        run,
     )?;
     Ok(())
 }
@@ -102,8 +150,8 @@ fn are_decided(view: &View<'_>, known: &[KnownEnd], plan: &Plan<'_>) -> bool
     true
 }
 
-/// Whether a part of a view stands in a row and the gap before each of its items is decided. Its first item is looked for
-/// in the segment with this number first.
+/// Whether a part of a view stands in a row and the gap before each of its items is decided. Its first item is looked
+/// for in the segment with this number first.
 #[inline(always)]
 fn is_decided_row(
     arena: &TokenArena<'_, '_>,
@@ -135,49 +183,73 @@ fn is_decided_row(
 /// Decides the gaps of a part of a view, from one place to before another, where they are open. A part of which all
 /// gaps are decided, as an earlier run left it, isn't looked at.
 fn lay_out_part(
-    alloc: Global,
-    style: &Style,
-    budget: u64,
-    arena: &TokenArena<'_, '_>,
-    all: &[TokenClass],
+    context: &Context<'_, '_, '_>,
     number: u32,
     view: &View<'_>,
     first: u32,
     end: u32,
-    plan: &mut Plan<'_>,
-    tally: &mut Tally<'_>,
+    made: &mut Made<'_>,
     segment: usize,
     room: &Bump,
 ) -> Result<(), NoMemory>
-    requires range { IsInRange style.now }
-    requires budget { budget ≤ 16000000 }
-    requires all { all.now ≡ item_classes arena.now }
-    requires within { AreWithin arena.now view.now }
+    requires range { IsInRange context.now.style.now }
+    requires budget { context.now.budget ≤ 16000000 }
+    requires all { context.now.classes.now ≡ item_classes context.now.arena.now }
+    requires within { AreWithin context.now.arena.now view.now }
     requires some { first < end }
     requires inside { end ≤ length view.now }
-    requires whole { length plan.old ≡ length arena.now.tokens + 1 }
-    requires room { tally.old.searched + (end - first) < 2 ^ 60 }
-    requires cheap { tally.old.cost ≤ tally.old.searched * 18446744073709551615 }
-    requires counted { IsCounted arena.now tally.old.lines }
-    ensures told { OnOk result (AreItemsTold style.now budget arena.now number plan.old (slice_range view.now first end) plan.new tally.old tally.new) }
-    ensures len { OnOk result (length plan.new ≡ length plan.old) }
-    ensures room { OnOk result (tally.new.searched ≤ tally.old.searched + (end - first)) }
-    ensures cheap { OnOk result (tally.new.cost ≤ tally.new.searched * 18446744073709551615) }
-    ensures counted { OnOk result (IsCounted arena.now tally.new.lines) }
+    requires whole { length made.old.plan ≡ length context.now.arena.now.tokens + 1 }
+    requires room { made.old.tally.searched + (end - first) < 2 ^ 60 }
+    requires cheap { made.old.tally.cost ≤ made.old.tally.searched * 18446744073709551615 }
+    requires counted { IsCounted context.now.arena.now made.old.tally.lines }
+    ensures told { OnOk result (AreItemsTold context.now.style.now context.now.budget context.now.arena.now number made.old.plan (slice_range view.now first end) made.new.plan made.old.tally made.new.tally) }
+    ensures len { OnOk result (length made.new.plan ≡ length made.old.plan) }
+    ensures room { OnOk result (made.new.tally.searched ≤ made.old.tally.searched + (end - first)) }
+    ensures cheap { OnOk result (made.new.tally.cost ≤ made.new.tally.searched * 18446744073709551615) }
+    ensures counted { OnOk result (IsCounted context.now.arena.now made.new.tally.lines) }
 {
-    if number > 0 && is_decided_row(arena, view, first, end, plan, segment) {
+    let arena = context.arena;
+    if number > 0 && is_decided_row(arena, view, first, end, &made.plan, segment) {
         return Ok(());
     }
     let part = view.part(first, end, room)?;
-    if are_decided(&part, &[], plan) {
+    if are_decided(&part, &[], &made.plan) {
         return Ok(());
     }
-    lay_out_items(
-        alloc, style, budget, arena, all, number, &part, plan, tally, room,
-    )
+    lay_out_items(context, number, &part, made, room)
 }
 
-/// How far a run has come in its view.
+/// What a run sees of the items from one to before another.
+#[derive(Drop)]
+struct Window<'r> {
+    /// The number of the run.
+    number: u32,
+    /// What it sees of them.
+    view: View<'r>,
+    /// The first of those items.
+    first: u32,
+    /// The item behind them.
+    end: u32,
+    /// The item behind those that are new in the run.
+    new_end: u32,
+    /// Whether another run follows, which may start where parts end.
+    later: bool,
+}
+
+/// A run, and what of it is looked at.
+#[derive(Drop)]
+struct Turn {
+    /// The number of the run.
+    number: u32,
+    /// Where it starts.
+    bound: KnownBound,
+    /// The item behind those that are new in it.
+    new_end: u32,
+    /// Whether another run follows.
+    later: bool,
+}
+
+/// How far a run has come in a window.
 #[derive(Drop)]
 struct Way {
     /// The place of the next part.
@@ -186,17 +258,21 @@ struct Way {
     segment: usize,
     /// The item with which the row of parts begins that ends there.
     row: TokenId,
+    /// The item behind those that tell where the parts before it end.
+    told: u32,
 }
 
 impl Way {
-    /// At the first part.
-    fn start() -> Way
-        ensures { result.first ≡ 0 }
+    /// At the first part, before which parts end as the items before this one tell.
+    fn start(told: u32) -> Way
+        ensures first { result.first ≡ 0 }
+        ensures told { result.told ≡ told }
     {
         Way {
             first: 0,
             segment: 0,
             row: TokenId(0),
+            told,
         }
     }
 }
@@ -208,153 +284,248 @@ fn pass_row(
     id: TokenId,
     known: &mut [KnownEnd],
     way: &mut Way,
-) -> bool
+) -> Option<PartsEnd>
     requires here { way.old.first < length view.now }
     requires item { (d : ℕ) → get_or view.now way.old.first d ≡ id.0 }
     requires known { AreKnown arena.now known.old }
     ensures known { AreKnown arena.now known.new }
     ensures rows { (plan : List (Option Slot)) → AreRowsDecided plan known.old → AreRowsDecided plan known.new }
-    ensures parts { IsTrue result → ArePartsUpTo arena.now view.now way.old.first way.new.first }
-    ensures decided { IsTrue result → (plan : List (Option Slot)) → AreRowsDecided plan known.old → AreDecided plan (slice_range view.now way.old.first way.new.first) }
-    ensures some { IsTrue result → way.old.first < way.new.first }
-    ensures inside { IsTrue result → way.new.first ≤ length view.now }
-    ensures stays { IsFalse result → way.new.first ≡ way.old.first }
+    ensures parts { IfSome result (λ parts. ArePartsUpTo arena.now view.now way.old.first parts.end) }
+    ensures decided { IfSome result (λ parts. (plan : List (Option Slot)) → AreRowsDecided plan known.old → AreDecided plan (slice_range view.now way.old.first parts.end)) }
+    ensures some { IfSome result (λ parts. way.old.first < parts.end) }
+    ensures inside { IfSome result (λ parts. parts.end ≤ length view.now) }
+    ensures end { IfSome result (λ parts. way.new.first ≡ parts.end) }
+    ensures told { IfSome result (λ parts. ForSome parts.told (λ told. AreToldIn arena.now view.now way.old.first parts.end told)) }
+    ensures whole { IfSome result (λ parts. ForNone parts.told (parts.end ≡ length view.now)) }
+    ensures always { IfSome result (λ parts. IsSome parts.told) }
+    ensures stays { ForNone result (way.new.first ≡ way.old.first) }
+    ensures same { way.new.told ≡ way.old.told }
 {
     let first = way.first;
-    let Some(end) = known_parts_end(arena, view, first, id, known, &mut way.segment) else {
-        return false;
-    };
+    let parts = known_parts_end(arena, view, first, id, known, &mut way.segment)?;
+    // Parts whose end isn't told may go on behind the view.
+    if parts.told.is_none() {
+        return None;
+    }
     way.row = join_rows(arena, known, way.row, id);
-    way.first = end;
-    true
+    way.first = parts.end;
+    Some(parts)
 }
 
-/// Decides the gaps of the next part of a view, where they are open. Where it ends that an earlier run saw is known.
-#[inline(always)]
+/// Decides the gaps of the next part of a window, where they are open, or passes over parts that are noted in a row.
+/// Where the window doesn't tell where the part ends, the result is none.
 fn lay_out_next<'k>(
-    alloc: Global,
-    style: &Style,
-    budget: u64,
-    arena: &TokenArena<'_, '_>,
-    all: &[TokenClass],
-    number: u32,
-    view: &View<'_>,
+    context: &Context<'_, '_, '_>,
+    window: &Window<'_>,
     id: TokenId,
     known: &mut [KnownEnd],
     spans: &mut KnownSpans<'k>,
     keep: &'k Bump,
-    plan: &mut Plan<'_>,
-    tally: &mut Tally<'_>,
+    made: &mut Made<'_>,
     way: &mut Way,
     room: &Bump,
-) -> Result<(), NoMemory>
-    requires range { IsInRange style.now }
-    requires budget { budget ≤ 16000000 }
-    requires all { all.now ≡ item_classes arena.now }
-    requires within { AreWithin arena.now view.now }
-    requires here { way.old.first < length view.now }
-    requires whole { length plan.old ≡ length arena.now.tokens + 1 }
-    requires room { tally.old.searched + (length view.now - way.old.first) < 2 ^ 60 }
-    requires cheap { tally.old.cost ≤ tally.old.searched * 18446744073709551615 }
-    requires counted { IsCounted arena.now tally.old.lines }
-    requires known { AreKnown arena.now known.old }
-    requires rows { AreRowsDecided plan.old known.old }
-    requires spans { AreSpans arena.now spans.old.spans.items }
-    ensures told { OnOk result (AreItemsTold style.now budget arena.now number plan.old (slice_range view.now way.old.first way.new.first) plan.new tally.old tally.new) }
-    ensures end { OnOk result (way.new.first ≡ way.old.first + part_len arena.now (drop way.old.first view.now)) }
-    ensures some { OnOk result (way.old.first < way.new.first) }
-    ensures inside { OnOk result (way.new.first ≤ length view.now) }
-    ensures len { OnOk result (length plan.new ≡ length plan.old) }
-    ensures room { OnOk result (tally.new.searched ≤ tally.old.searched + (way.new.first - way.old.first)) }
-    ensures cheap { OnOk result (tally.new.cost ≤ tally.new.searched * 18446744073709551615) }
-    ensures counted { OnOk result (IsCounted arena.now tally.new.lines) }
-    ensures known { OnOk result (AreKnown arena.now known.new) }
-    ensures rows { OnOk result (AreRowsDecided plan.new known.new) }
-    ensures spans { OnOk result (AreSpans arena.now spans.new.spans.items) }
+) -> Result<Option<PartsEnd>, NoMemory>
+    requires range { IsInRange context.now.style.now }
+    requires budget { context.now.budget ≤ 16000000 }
+    requires all { context.now.classes.now ≡ item_classes context.now.arena.now }
+    requires within { AreWithin context.now.arena.now window.now.view }
+    requires window { IsWindow context.now.arena.now window.now.number window.now.view window.now.first window.now.end }
+    requires here { way.old.first < length window.now.view }
+    requires item { (d : ℕ) → get_or window.now.view way.old.first d ≡ id.0 }
+    requires room { made.old.tally.searched + (length window.now.view - way.old.first) < 2 ^ 60 }
+    requires state { AreInStep context.now.arena.now made.old known.old spans.old.spans.items }
+    ensures state { OnOk result (AreInStep context.now.arena.now made.new known.new spans.new.spans.items) }
+    ensures on { OnOk result ((plan : List (Option Slot)) (before : Tally) → GoesOnFrom context.now.style.now context.now.budget context.now.arena.now window.now.number plan (seen_by context.now.arena.now window.now.number) before made.old.plan (place_before context.now.arena.now window.now.number window.now.first + way.old.first) made.old.tally → GoesOnFrom context.now.style.now context.now.budget context.now.arena.now window.now.number plan (seen_by context.now.arena.now window.now.number) before made.new.plan (place_before context.now.arena.now window.now.number window.now.first + way.new.first) made.new.tally) }
+    ensures room { OnOk result (made.new.tally.searched ≤ made.old.tally.searched + (way.new.first - way.old.first)) }
+    ensures inside { OnOk result (way.new.first ≤ length window.now.view) }
+    ensures end { IfOk result (λ found. IfSome found (λ parts. way.new.first ≡ parts.end)) }
+    ensures some { IfOk result (λ found. IfSome found (λ parts. way.old.first < parts.end)) }
+    ensures told { IfOk result (λ found. IfSome found (λ parts. ForSome parts.told (λ told. AreToldIn context.now.arena.now window.now.view way.old.first parts.end told))) }
+    ensures whole { IfOk result (λ found. IfSome found (λ parts. ForNone parts.told (parts.end ≡ length window.now.view))) }
+    ensures none { IfOk result (λ found. ForNone found (window.now.end < length context.now.arena.now.tokens)) }
+    ensures stays { IfOk result (λ found. ForNone found (way.new.first ≡ way.old.first)) }
+    ensures same { OnOk result (way.new.told ≡ way.old.told) }
 {
     let first = way.first;
     let begun = way.segment;
-    let end = known_part_end(
-        arena,
+    let arena = context.arena;
+    let view = &window.view;
+    if let Some(parts) = pass_row(arena, view, id, known, way) {
+        return Ok(Some(parts));
+    }
+    let classes = context.classes;
+    let near = &mut way.segment;
+    let part = known_part_end(arena, view, classes, first, known, spans, keep, near, room)?;
+    if part.told.is_none() && window.end < arena.len() {
+        return Ok(None);
+    }
+    lay_out_part(
+        context,
+        window.number,
         view,
-        all,
         first,
-        known,
-        spans,
-        keep,
-        &mut way.segment,
+        part.end,
+        made,
+        begun,
         room,
     )?;
-    lay_out_part(
-        alloc, style, budget, arena, all, number, view, first, end, plan, tally, begun, room,
-    )?;
     way.row = join_rows(arena, known, way.row, id);
-    way.first = end;
+    way.first = part.end;
+    Ok(Some(part))
+}
+
+/// Notes where parts end that begin at this place, for a later run.
+fn note_bound(
+    window: &Window<'_>,
+    first: u32,
+    parts: PartsEnd,
+    bounds: &mut Vec<KnownBound, &Bump>,
+    way: &mut Way,
+) -> Result<(), NoMemory>
+    requires later { ForSome parts.told (λ told. parts.end < told) }
+    requires below { ForSome parts.told (λ told. told ≤ length window.now.view) }
+    requires within { All (λ id. id < LIMIT) window.now.view }
+    ensures first { OnOk result (way.new.first ≡ way.old.first) }
+    ensures bounds { OnOk result ((arena : Contents) → IsWindow arena window.now.number window.now.view window.now.first window.now.end → ForSome parts.told (λ told. AreToldIn arena window.now.view first parts.end told) → first < parts.end → BeginTold arena (items_between 0 way.old.told (seen_by arena window.now.number)) (place_before arena window.now.number window.now.first + first) → AreBounds arena (seen_by arena window.now.number) bounds.old.items way.old.told → AreBounds arena (seen_by arena window.now.number) bounds.new.items way.new.told) }
+    ensures told { OnOk result ((arena : Contents) → IsWindow arena window.now.number window.now.view window.now.first window.now.end → ForSome parts.told (λ told. AreToldIn arena window.now.view first parts.end told) → first < parts.end → BeginTold arena (items_between 0 way.old.told (seen_by arena window.now.number)) (place_before arena window.now.number window.now.first + first) → ForNone parts.told (parts.end ≡ length window.now.view) → parts.end < length window.now.view → BeginTold arena (items_between 0 way.new.told (seen_by arena window.now.number)) (place_before arena window.now.number window.now.first + parts.end)) }
+{
+    let Some(told) = parts.told else {
+        return Ok(());
+    };
+    let mut near = way.segment;
+    let item = window.view.at_near(parts.end, &mut near);
+    let last = window.view.at_near(told - 1, &mut near);
+    way.told = way.told.max(last.0 + 1);
+    bounds.push(KnownBound {
+        item: item.0,
+        told: way.told,
+    })?;
     Ok(())
 }
 
-/// Decides the gaps of the items that the run with this number sees, where they are open, part after part. A run of
-/// branches without text sees nothing new, and its parts aren't asked for. What a part takes of memory serves the next
-/// one too.
-fn lay_out_seen<'k>(
-    alloc: Global,
-    style: &Style,
-    budget: u64,
-    arena: &TokenArena<'_, '_>,
-    all: &[TokenClass],
-    tree: &CondTree<'_>,
-    number: u32,
+/// Goes over a window from part to part, up to the first one that begins behind what is new. Where the window doesn't
+/// tell where a part ends, the result is the item with which it begins. What a part takes of memory serves the next one
+/// too.
+fn lay_out_window<'k>(
+    context: &Context<'_, '_, '_>,
+    window: &Window<'_>,
     known: &mut [KnownEnd],
     spans: &mut KnownSpans<'k>,
     keep: &'k Bump,
-    plan: &mut Plan<'_>,
-    tally: &mut Tally<'_>,
+    bounds: &mut Vec<KnownBound, &'k Bump>,
+    made: &mut Made<'_>,
+    way: &mut Way,
+) -> Result<Option<TokenId>, NoMemory>
+    requires range { IsInRange context.now.style.now }
+    requires budget { context.now.budget ≤ 16000000 }
+    requires all { context.now.classes.now ≡ item_classes context.now.arena.now }
+    requires within { AreWithin context.now.arena.now window.now.view }
+    requires window { IsWindow context.now.arena.now window.now.number window.now.view window.now.first window.now.end }
+    requires new { window.now.new_end ≤ window.now.end }
+    requires start { way.old.first ≡ 0 }
+    requires room { made.old.tally.searched ≤ 2 ^ 59 + 33554432 }
+    requires state { AreInStep context.now.arena.now made.old known.old spans.old.spans.items }
+    requires begin { IsTrue window.now.later → BeginTold context.now.arena.now (items_between 0 way.old.told (seen_by context.now.arena.now window.now.number)) (place_before context.now.arena.now window.now.number window.now.first) }
+    requires bounds { AreBounds context.now.arena.now (seen_by context.now.arena.now window.now.number) bounds.old.items way.old.told }
+    ensures state { OnOk result (AreInStep context.now.arena.now made.new known.new spans.new.spans.items) }
+    ensures on { OnOk result ((plan : List (Option Slot)) (before : Tally) → GoesOnFrom context.now.style.now context.now.budget context.now.arena.now window.now.number plan (seen_by context.now.arena.now window.now.number) before made.old.plan (place_before context.now.arena.now window.now.number window.now.first) made.old.tally → GoesOnFrom context.now.style.now context.now.budget context.now.arena.now window.now.number plan (seen_by context.now.arena.now window.now.number) before made.new.plan (place_before context.now.arena.now window.now.number window.now.first + way.new.first) made.new.tally) }
+    ensures room { OnOk result (made.new.tally.searched ≤ made.old.tally.searched + way.new.first) }
+    ensures inside { OnOk result (way.new.first ≤ length window.now.view) }
+    ensures bounds { OnOk result (AreBounds context.now.arena.now (seen_by context.now.arena.now window.now.number) bounds.new.items way.new.told) }
+    ensures begin { IfOk result (λ found. IfSome found (λ id. IsTrue window.now.later → BeginTold context.now.arena.now (items_between 0 way.new.told (seen_by context.now.arena.now window.now.number)) (place_before context.now.arena.now window.now.number window.now.first + way.new.first))) }
+    ensures stopped { IfOk result (λ found. IfSome found (λ id. id.0 ≡ get_or window.now.view way.new.first 0)) }
+    ensures here { IfOk result (λ found. IfSome found (λ id. way.new.first < length window.now.view)) }
+    ensures short { IfOk result (λ found. IfSome found (λ id. window.now.end < length context.now.arena.now.tokens)) }
+    ensures done { IfOk result (λ found. ForNone found ((k : ℕ) → place_before context.now.arena.now window.now.number window.now.first + way.new.first ≤ k → k < length (seen_by context.now.arena.now window.now.number) → window.now.new_end ≤ get_or (seen_by context.now.arena.now window.now.number) k 0)) }
+{
+    let view = &window.view;
+    let count = view.len();
+    let items = context.arena.len();
+    prove!(count <= items);
+    let mut room = Bump::new(context.alloc);
+    while way.first < count {
+        let first = way.first;
+        let id = view.at_near(first, &mut way.segment);
+        if id.0 >= window.new_end {
+            return Ok(None);
+        }
+        let found = lay_out_next(context, window, id, known, spans, keep, made, way, &room)?;
+        let Some(parts) = found else {
+            return Ok(Some(id));
+        };
+        if window.later {
+            note_bound(window, first, parts, bounds, way)?;
+        }
+        if room.reset().is_err() {
+            room = Bump::new(context.alloc);
+        }
+    }
+    Ok(None)
+}
+
+/// How many items behind what is new were needed, where those before `told` tell where parts end, or else all before
+/// `end`.
+fn ahead_of(new_end: u32, told: u32, end: u32) -> u32 {
+    let needed = if told > new_end { told } else { end };
+    needed.saturating_sub(new_end).max(LEAST_AHEAD)
+}
+
+/// Decides the gaps of the items that a run sees, where they are open, part after part: from where it starts up to
+/// behind what is new in it. So many items behind that are looked at first as `ahead` says; where they don't tell where
+/// a part ends, twice as many are. What is new in the next run is often in the same part, so that run looks first at as
+/// many as this one needed.
+fn lay_out_seen<'k>(
+    context: &Context<'_, '_, '_>,
+    tree: &CondTree<'_>,
+    turn: &Turn,
+    known: &mut [KnownEnd],
+    spans: &mut KnownSpans<'k>,
+    keep: &'k Bump,
+    bounds: &mut Vec<KnownBound, &'k Bump>,
+    made: &mut Made<'_>,
+    ahead: &mut u32,
     run: &Bump,
 ) -> Result<(), NoMemory>
-    requires range { IsInRange style.now }
-    requires budget { budget ≤ 16000000 }
-    requires all { all.now ≡ item_classes arena.now }
-    requires tree { IsTreeOf arena.now tree.now }
-    requires number { number < runs_of arena.now }
-    requires whole { length plan.old ≡ length arena.now.tokens + 1 }
-    requires room { tally.old.searched ≤ 2 ^ 59 }
-    requires cheap { tally.old.cost ≤ tally.old.searched * 18446744073709551615 }
-    requires counted { IsCounted arena.now tally.old.lines }
-    requires known { AreKnown arena.now known.old }
-    requires rows { AreRowsDecided plan.old known.old }
-    requires spans { AreSpans arena.now spans.old.spans.items }
-    ensures told { OnOk result (AreSeenTold style.now budget arena.now number plan.old (seen_by arena.now number) plan.new tally.old tally.new) }
-    ensures len { OnOk result (length plan.new ≡ length plan.old) }
-    ensures room { OnOk result (tally.new.searched ≤ tally.old.searched + 33554432) }
-    ensures cheap { OnOk result (tally.new.cost ≤ tally.new.searched * 18446744073709551615) }
-    ensures counted { OnOk result (IsCounted arena.now tally.new.lines) }
-    ensures known { OnOk result (AreKnown arena.now known.new) }
-    ensures rows { OnOk result (AreRowsDecided plan.new known.new) }
-    ensures spans { OnOk result (AreSpans arena.now spans.new.spans.items) }
+    requires range { IsInRange context.now.style.now }
+    requires budget { context.now.budget ≤ 16000000 }
+    requires all { context.now.classes.now ≡ item_classes context.now.arena.now }
+    requires tree { IsTreeOf context.now.arena.now tree.now }
+    requires number { turn.now.number < runs_of context.now.arena.now }
+    requires room { made.old.tally.searched ≤ 2 ^ 59 }
+    requires state { AreInStep context.now.arena.now made.old known.old spans.old.spans.items }
+    requires bound { IsBound context.now.arena.now (seen_by context.now.arena.now turn.now.number) turn.now.bound.item turn.now.bound.told }
+    requires bounds { AreBounds context.now.arena.now (seen_by context.now.arena.now turn.now.number) bounds.old.items turn.now.bound.told }
+    requires new { turn.now.new_end ≤ length context.now.arena.now.tokens }
+    requires before { (id : ℕ) → id < turn.now.bound.item → Contains (seen_by context.now.arena.now turn.now.number) id → IsSome (slot_of made.old.plan id) }
+    requires behind { (id : ℕ) → turn.now.new_end ≤ id → Contains (seen_by context.now.arena.now turn.now.number) id → IsSome (slot_of made.old.plan id) }
+    ensures told { OnOk result (AreSeenTold context.now.style.now context.now.budget context.now.arena.now turn.now.number made.old.plan (seen_by context.now.arena.now turn.now.number) made.new.plan made.old.tally made.new.tally) }
+    ensures room { OnOk result (made.new.tally.searched ≤ made.old.tally.searched + 33554432) }
+    ensures state { OnOk result (AreInStep context.now.arena.now made.new known.new spans.new.spans.items) }
+    ensures bounds { OnOk result ((told : ℕ) × AreBounds context.now.arena.now (seen_by context.now.arena.now turn.now.number) bounds.new.items told) }
 {
-    let view = tree.view(number, run)?;
-    if are_decided(&view, known, plan) {
-        return Ok(());
+    let items = context.arena.len();
+    let mut first = turn.bound.item;
+    let mut told = turn.bound.told;
+    let mut end = turn.new_end.saturating_add(*ahead).min(items).max(first);
+    loop {
+        let window = Window {
+            number: turn.number,
+            view: tree.view_between(turn.number, first, end, run)?,
+            first,
+            end,
+            new_end: turn.new_end,
+            later: turn.later,
+        };
+        let mut way = Way::start(told);
+        let stopped = lay_out_window(context, &window, known, spans, keep, bounds, made, &mut way)?;
+        let Some(id) = stopped else {
+            *ahead = ahead_of(turn.new_end, way.told, end);
+            return Ok(());
+        };
+        first = id.0;
+        told = way.told;
+        end = (end + (end - first)).min(items);
     }
-    let items = arena.len();
-    let count = view.len();
-    prove!(count <= items);
-    let mut room = Bump::new(alloc);
-    let mut way = Way::start();
-    while way.first < count {
-        let id = view.at_near(way.first, &mut way.segment);
-        if pass_row(arena, &view, id, known, &mut way) {
-            continue;
-        }
-        lay_out_next(
-            alloc, style, budget, arena, all, number, &view, id, known, spans, keep, plan, tally,
-            &mut way, &room,
-        )?;
-        if room.reset().is_err() {
-            room = Bump::new(alloc);
-        }
-    }
-    Ok(())
 }
 
 /// How many items tell the end of a part at least that is noted for later runs, where it stands in no row: few do not
@@ -373,43 +544,85 @@ fn least_noted(number: u32, runs: u32) -> Option<u32>
     }
 }
 
-/// Decides the gaps of all items of texts, run by run. What a run takes of memory serves the next one too.
+/// How the view of a run differs from that of the run before it: all that the first run sees is new.
+fn change_of(context: &Context<'_, '_, '_>, tree: &CondTree<'_>, number: u32) -> Change
+    requires tree { IsTreeOf context.now.arena.now tree.now }
+    requires number { number < runs_of context.now.arena.now }
+    ensures end { result.end ≤ length context.now.arena.now.tokens }
+    ensures first { number ≡ 0 → result.first ≡ 0 }
+    ensures before { 0 < number → items_between 0 result.first (seen_by context.now.arena.now number) ≡ items_between 0 result.first (seen_by context.now.arena.now (number - 1)) }
+    ensures behind { 0 < number → (id : ℕ) → result.end ≤ id → Contains (seen_by context.now.arena.now number) id → Contains (seen_by context.now.arena.now (number - 1)) id }
+    ensures all { number ≡ 0 → result.end ≡ length context.now.arena.now.tokens }
+{
+    let items = context.arena.len();
+    if number == 0 {
+        return Change {
+            first: 0,
+            end: items,
+        };
+    }
+    let change = tree.change(number);
+    Change {
+        first: change.first,
+        end: change.end.min(items),
+    }
+}
+
+/// Decides the gaps of all items of texts, run by run. A run that sees nothing new is passed over. What a run takes of
+/// memory serves the next one too.
 fn lay_out_runs<'k>(
-    alloc: Global,
-    style: &Style,
-    budget: u64,
-    arena: &TokenArena<'_, '_>,
-    all: &[TokenClass],
+    context: &Context<'_, '_, '_>,
     tree: &CondTree<'_>,
     known: &mut [KnownEnd],
     spans: &mut KnownSpans<'k>,
     keep: &'k Bump,
-    plan: &mut Plan<'_>,
-    tally: &mut Tally<'_>,
+    made: &mut Made<'_>,
 ) -> Result<(), NoMemory>
-    requires range { IsInRange style.now }
-    requires budget { budget ≤ 16000000 }
-    requires all { all.now ≡ item_classes arena.now }
-    requires tree { IsTreeOf arena.now tree.now }
-    requires whole { length plan.old ≡ length arena.now.tokens + 1 }
-    requires none { tally.old.searched ≡ 0 }
-    requires free { tally.old.cost ≡ 0 }
-    requires counted { IsCounted arena.now tally.old.lines }
-    requires known { AreKnown arena.now known.old }
-    requires rows { AreRowsDecided plan.old known.old }
-    requires spans { AreSpans arena.now spans.old.spans.items }
-    ensures told { OnOk result (AreRunsTold style.now budget arena.now plan.old 0 (runs_of arena.now) plan.new tally.old tally.new) }
-    ensures len { OnOk result (length plan.new ≡ length plan.old) }
+    requires range { IsInRange context.now.style.now }
+    requires budget { context.now.budget ≤ 16000000 }
+    requires all { context.now.classes.now ≡ item_classes context.now.arena.now }
+    requires tree { IsTreeOf context.now.arena.now tree.now }
+    requires whole { length made.old.plan ≡ length context.now.arena.now.tokens + 1 }
+    requires none { made.old.tally.searched ≡ 0 }
+    requires free { made.old.tally.cost ≡ 0 }
+    requires counted { IsCounted context.now.arena.now made.old.tally.lines }
+    requires known { AreKnown context.now.arena.now known.old }
+    requires rows { AreRowsDecided made.old.plan known.old }
+    requires spans { AreSpans context.now.arena.now spans.old.spans.items }
+    ensures told { OnOk result (AreRunsTold context.now.style.now context.now.budget context.now.arena.now made.old.plan 0 (runs_of context.now.arena.now) made.new.plan made.old.tally made.new.tally) }
+    ensures len { OnOk result (length made.new.plan ≡ length made.old.plan) }
 {
-    let mut run = Bump::new(alloc);
+    let mut run = Bump::new(context.alloc);
+    let mut bounds = Vec::new(keep);
+    let mut ahead = LEAST_AHEAD;
     let count = tree.runs();
     for number in 0..count {
+        let change = change_of(context, tree, number);
+        let bound = last_bound(&mut bounds, change.first);
+        if change.end == 0 {
+            continue;
+        }
         spans.least = least_noted(number, count);
+        let turn = Turn {
+            number,
+            bound,
+            new_end: change.end,
+            later: spans.least.is_some(),
+        };
         lay_out_seen(
-            alloc, style, budget, arena, all, tree, number, known, spans, keep, plan, tally, &run,
+            context,
+            tree,
+            &turn,
+            known,
+            spans,
+            keep,
+            &mut bounds,
+            made,
+            &mut ahead,
+            &run,
         )?;
         if run.reset().is_err() {
-            run = Bump::new(alloc);
+            run = Bump::new(context.alloc);
         }
     }
     Ok(())
@@ -438,14 +651,20 @@ pub(crate) fn plan_of<'a>(
     decide_early(
         alloc, style, arena, sections, &tree, ranges, bump, &mut plan,
     )?;
-    let all = item_classes(arena, bump)?;
-    let mut tally = Tally::new(bump);
+    let context = Context {
+        alloc,
+        style,
+        budget,
+        arena,
+        classes: item_classes(arena, bump)?,
+    };
     let runs = tree.runs();
-    let again = if runs > 1 { all.len() } else { 0 };
+    let again = if runs > 1 { context.classes.len() } else { 0 };
     let known = into_bump_slice_mut(vec![in bump; KnownEnd::Unknown; again]?);
     let mut spans = KnownSpans::none(again / 2, bump);
-    lay_out_runs(
-        alloc, style, budget, arena, all, &tree, known, &mut spans, bump, &mut plan, &mut tally,
-    )?;
+    let tally = Tally::new(bump);
+    let mut made = Made { plan, tally };
+    lay_out_runs(&context, &tree, known, &mut spans, bump, &mut made)?;
+    let Made { plan, tally } = made;
     Ok(Planned { plan, runs, tally })
 }

@@ -4,3 +4,4 @@ pub mod Rows
 pub mod Spans
 pub mod RowParts
 pub mod NotedRows
+pub mod Told

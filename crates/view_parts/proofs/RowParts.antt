@@ -15,7 +15,7 @@ use Rattle.view_parts.specs.Walk.{start}
 use Rattle.view_parts.proofs.Rows.{row_from, row_item, noted_all}
 use Rattle.view_parts.proofs.Walked.{len_behind}
 
-range_cut : (a m n k : ℕ) → k ≡ m + n → range_with_len a k ≡ range_with_len a m ++ range_with_len (a + m) n
+pub range_cut : (a m n k : ℕ) → k ≡ m + n → range_with_len a k ≡ range_with_len a m ++ range_with_len (a + m) n
 range_cut a zero n k e =
     let all : k ≡ n = omega (arith, e) in
     let here : a ≡ a + 0 = omega arith in

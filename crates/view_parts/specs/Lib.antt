@@ -1,4 +1,5 @@
 pub mod Known
 pub mod Parts
 pub mod Rows
+pub mod Told
 pub mod Walk

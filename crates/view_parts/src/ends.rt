@@ -1,7 +1,7 @@
 //! Where the parts of a view end.
 
 ghost use Rattle.std.specs.Prelude.{not, true, ◌&&◌, ◌≡◌, ◌<◌, ◌≤◌, ◌+◌, ◌-◌, ◌^◌, ℕ, length, drop, get_or, slice_range, IfOk};
-ghost use Rattle.std.specs.Option.{ForSome};
+ghost use Rattle.std.specs.Option.{ForNone, ForSome};
 ghost use Rattle.token_classes.specs.declared.class.TokenClass.{TokenClass};
 ghost use Rattle.token_classes.specs.Classes.{is_bracket, is_comment};
 ghost use Rattle.token_classes.specs.Viewed.{AreWithin, item_classes};
@@ -133,6 +133,7 @@ pub fn part_end(
     ensures seen { IfOk result (λ part. ForSome part.seen (λ seen. EndsBehind arena.now (slice_range view.now first seen) (part.end - first))) }
     ensures later { IfOk result (λ part. ForSome part.seen (λ seen. part.end < seen)) }
     ensures below { IfOk result (λ part. ForSome part.seen (λ seen. seen ≤ length view.now)) }
+    ensures whole { IfOk result (λ part. ForNone part.seen (part.end ≡ length view.now)) }
 {
     let count = view.len();
     let mut waiting: Vec<Opener, &Bump> = Vec::new(room);

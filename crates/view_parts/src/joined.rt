@@ -1,11 +1,13 @@
 //! Parts that follow one another in a row, which are noted as one.
 
-ghost use Rattle.std.specs.Prelude.{◌≡◌, ◌<◌, ◌≤◌, ℕ, length, get_or, IfSome};
+ghost use Rattle.std.specs.Prelude.{◌≡◌, ◌<◌, ◌≤◌, ◌-◌, ℕ, length, get_or, slice_range, IfSome};
+ghost use Rattle.std.specs.Option.{ForNone, ForSome};
 ghost use Rattle.view_parts.specs.declared.known.KnownEnd.TheVariants.{Unknown};
 ghost use Rattle.view_parts.specs.Known.{AreKnown, HasNotedRow, after_joined, behind_row, item_of_row, joined, row_of};
 ghost use Rattle.view_parts.specs.Parts.{ArePartsUpTo};
+ghost use Rattle.view_parts.specs.Told.{TellParts};
 
-use crate::known::{KnownEnd, KnownRow};
+use crate::known::{KnownEnd, KnownRow, PartsEnd};
 use line_tokens::TokenId;
 use token_arena::TokenArena;
 use token_views::View;
@@ -94,14 +96,18 @@ pub fn known_parts_end(
     id: TokenId,
     known: &[KnownEnd],
     segment: &mut usize,
-) -> Option<u32>
+) -> Option<PartsEnd>
     requires here { first < length view.now }
     requires item { (d : ℕ) → get_or view.now first d ≡ id.0 }
     requires known { AreKnown arena.now known.now }
-    ensures parts { IfSome result (λ end. ArePartsUpTo arena.now view.now first end) }
-    ensures row { IfSome result (λ end. HasNotedRow known.now view.now first end id.0) }
-    ensures some { IfSome result (λ end. first < end) }
-    ensures inside { IfSome result (λ end. end ≤ length view.now) }
+    ensures parts { IfSome result (λ parts. ArePartsUpTo arena.now view.now first parts.end) }
+    ensures row { IfSome result (λ parts. HasNotedRow known.now view.now first parts.end id.0) }
+    ensures some { IfSome result (λ parts. first < parts.end) }
+    ensures inside { IfSome result (λ parts. parts.end ≤ length view.now) }
+    ensures told { IfSome result (λ parts. ForSome parts.told (λ told. TellParts arena.now (slice_range view.now first told) (parts.end - first))) }
+    ensures later { IfSome result (λ parts. ForSome parts.told (λ told. parts.end < told)) }
+    ensures below { IfSome result (λ parts. ForSome parts.told (λ told. told ≤ length view.now)) }
+    ensures whole { IfSome result (λ parts. ForNone parts.told (parts.end ≡ length view.now)) }
 {
     let Some(row) = noted(known, id).row() else {
         return None;
@@ -112,5 +118,8 @@ pub fn known_parts_end(
     if behind >= count - first || view.at_near(first + behind, segment).0 != last {
         return None;
     }
-    Some(first + (row.end - id.0))
+    Some(PartsEnd {
+        end: first + (row.end - id.0),
+        told: Some(first + behind + 1),
+    })
 }

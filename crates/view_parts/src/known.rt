@@ -1,9 +1,11 @@
 //! Where parts end that earlier runs saw.
 
 ghost use Rattle.std.specs.Prelude.{◌≡◌, ◌<◌, ◌≤◌, ◌+◌, ◌-◌, ℕ, [], length, drop, get_or, slice_range, IfOk, IfSome, IsTrue, OnOk};
+ghost use Rattle.std.specs.Option.{ForNone, ForSome};
 ghost use Rattle.token_classes.specs.Viewed.{AreWithin, item_classes};
 ghost use Rattle.view_parts.specs.Known.{AreKnown, AreRowsFrom, AreSpans, HasRow, IsKnown, IsKnownRow, IsRowAt};
 ghost use Rattle.view_parts.specs.Parts.{part_len, EndsBehind};
+ghost use Rattle.view_parts.specs.Told.{TellParts};
 
 use crate::ends::part_end;
 use bumpalo::Bump;
@@ -67,6 +69,15 @@ impl<'k> KnownSpans<'k> {
     }
 }
 
+/// Where a part of a view ends, or the last of parts that follow one another.
+#[derive(Clone, Copy)]
+pub struct PartsEnd {
+    /// The place behind the last item.
+    pub end: u32,
+    /// The place behind the items that tell so, whatever follows them. There is none where the parts end with the view.
+    pub told: Option<u32>,
+}
+
 /// The end of the part that begins at a place with this item, where a view has the items in a row that tell it.
 fn recalled_row(
     arena: &TokenArena<'_, '_>,
@@ -75,13 +86,17 @@ fn recalled_row(
     id: TokenId,
     known: KnownRow,
     segment: &mut usize,
-) -> Option<u32>
+) -> Option<PartsEnd>
     requires here { first < length view.now }
     requires item { (d : ℕ) → get_or view.now first d ≡ id.0 }
     requires known { IsKnownRow arena.now id.0 known }
-    ensures end { IfSome result (λ end. end ≡ first + part_len arena.now (drop first view.now)) }
-    ensures some { IfSome result (λ end. first < end) }
-    ensures inside { IfSome result (λ end. end ≤ length view.now) }
+    ensures end { IfSome result (λ part. part.end ≡ first + part_len arena.now (drop first view.now)) }
+    ensures some { IfSome result (λ part. first < part.end) }
+    ensures inside { IfSome result (λ part. part.end ≤ length view.now) }
+    ensures told { IfSome result (λ part. ForSome part.told (λ told. TellParts arena.now (slice_range view.now first told) (part.end - first))) }
+    ensures later { IfSome result (λ part. ForSome part.told (λ told. part.end < told)) }
+    ensures below { IfSome result (λ part. ForSome part.told (λ told. told ≤ length view.now)) }
+    ensures whole { IfSome result (λ part. ForNone part.told (part.end ≡ length view.now)) }
 {
     let count = view.len();
     let last = known.seen - 1;
@@ -89,7 +104,10 @@ fn recalled_row(
     if behind >= count - first || view.at_near(first + behind, segment).0 != last {
         return None;
     }
-    Some(first + (known.end - id.0))
+    Some(PartsEnd {
+        end: first + (known.end - id.0),
+        told: Some(first + behind + 1),
+    })
 }
 
 /// What is known of a part that begins at a place with this item, where its items and those that tell its end stand in a
@@ -157,12 +175,16 @@ fn recalled_span(
     number: u32,
     spans: &KnownSpans<'_>,
     segment: &mut usize,
-) -> Option<u32>
+) -> Option<PartsEnd>
     requires here { first < length view.now }
     requires known { AreSpans arena.now spans.now.spans.items }
-    ensures end { IfSome result (λ end. end ≡ first + part_len arena.now (drop first view.now)) }
-    ensures some { IfSome result (λ end. first < end) }
-    ensures inside { IfSome result (λ end. end ≤ length view.now) }
+    ensures end { IfSome result (λ part. part.end ≡ first + part_len arena.now (drop first view.now)) }
+    ensures some { IfSome result (λ part. first < part.end) }
+    ensures inside { IfSome result (λ part. part.end ≤ length view.now) }
+    ensures told { IfSome result (λ part. ForSome part.told (λ told. TellParts arena.now (slice_range view.now first told) (part.end - first))) }
+    ensures later { IfSome result (λ part. ForSome part.told (λ told. part.end < told)) }
+    ensures below { IfSome result (λ part. ForSome part.told (λ told. told ≤ length view.now)) }
+    ensures whole { IfSome result (λ part. ForNone part.told (part.end ≡ length view.now)) }
 {
     let count = view.len();
     prove!(first < count);
@@ -174,7 +196,10 @@ fn recalled_span(
     if !has_items(view, first, &span.told, segment) {
         return None;
     }
-    Some(first + span.count)
+    Some(PartsEnd {
+        end: first + span.count,
+        told: Some(first + span.told.len()),
+    })
 }
 
 /// The end of the part that begins at a place with this item, of which this is known, where the view has the items that
@@ -187,14 +212,18 @@ fn recalled(
     known: KnownEnd,
     spans: &KnownSpans<'_>,
     segment: &mut usize,
-) -> Option<u32>
+) -> Option<PartsEnd>
     requires here { first < length view.now }
     requires item { (d : ℕ) → get_or view.now first d ≡ id.0 }
     requires known { IsKnown arena.now id.0 known }
     requires spans { AreSpans arena.now spans.now.spans.items }
-    ensures end { IfSome result (λ end. end ≡ first + part_len arena.now (drop first view.now)) }
-    ensures some { IfSome result (λ end. first < end) }
-    ensures inside { IfSome result (λ end. end ≤ length view.now) }
+    ensures end { IfSome result (λ part. part.end ≡ first + part_len arena.now (drop first view.now)) }
+    ensures some { IfSome result (λ part. first < part.end) }
+    ensures inside { IfSome result (λ part. part.end ≤ length view.now) }
+    ensures told { IfSome result (λ part. ForSome part.told (λ told. TellParts arena.now (slice_range view.now first told) (part.end - first))) }
+    ensures later { IfSome result (λ part. ForSome part.told (λ told. part.end < told)) }
+    ensures below { IfSome result (λ part. ForSome part.told (λ told. told ≤ length view.now)) }
+    ensures whole { IfSome result (λ part. ForNone part.told (part.end ≡ length view.now)) }
 {
     match known {
         KnownEnd::Unknown | KnownEnd::InRows(_) => None,
@@ -273,8 +302,8 @@ fn noted_part<'k>(
     }
 }
 
-/// Where the part of a view ends that begins at a place, as [`part_end`](crate::part_end) says, and in one step where
-/// it is known.
+/// Where the part of a view ends that begins at a place, as [`part_end`](crate::part_end) says, and which items tell so.
+/// Where it is known, that takes one step.
 ///
 /// `known` has what is known for each item of the text, or for none where nothing is to be kept. `segment` is kept from
 /// one place of a view to the next, and starts at 0.
@@ -288,25 +317,30 @@ pub fn known_part_end<'k>(
     keep: &'k Bump,
     segment: &mut usize,
     room: &Bump,
-) -> Result<u32, NoMemory>
+) -> Result<PartsEnd, NoMemory>
     requires within { AreWithin arena.now view.now }
     requires all { all.now ≡ item_classes arena.now }
     requires here { first < length view.now }
     requires known { AreKnown arena.now known.old }
     requires spans { AreSpans arena.now spans.old.spans.items }
-    ensures end { IfOk result (λ end. end ≡ first + part_len arena.now (drop first view.now)) }
-    ensures some { IfOk result (λ end. first < end) }
-    ensures inside { IfOk result (λ end. end ≤ length view.now) }
+    ensures end { IfOk result (λ part. part.end ≡ first + part_len arena.now (drop first view.now)) }
+    ensures some { IfOk result (λ part. first < part.end) }
+    ensures inside { IfOk result (λ part. part.end ≤ length view.now) }
+    ensures told { IfOk result (λ part. ForSome part.told (λ told. TellParts arena.now (slice_range view.now first told) (part.end - first))) }
+    ensures later { IfOk result (λ part. ForSome part.told (λ told. part.end < told)) }
+    ensures below { IfOk result (λ part. ForSome part.told (λ told. told ≤ length view.now)) }
+    ensures whole { IfOk result (λ part. ForNone part.told (part.end ≡ length view.now)) }
+    ensures untold { IfOk result (λ part. ForNone part.told (known.new ≡ known.old)) }
     ensures known { AreKnown arena.now known.new }
-    ensures rows { IfOk result (λ end. AreRowsFrom known.old view.now first end known.new) }
+    ensures rows { IfOk result (λ part. AreRowsFrom known.old view.now first part.end known.new) }
     ensures spans { OnOk result (AreSpans arena.now spans.new.spans.items) }
 {
     let id = view.at_near(first, segment);
     let begun = *segment;
     let number = id.0 as usize;
     if number < known.len() {
-        if let Some(end) = recalled(arena, view, first, id, known[number], spans, segment) {
-            return Ok(end);
+        if let Some(part) = recalled(arena, view, first, id, known[number], spans, segment) {
+            return Ok(part);
         }
     }
     let part = part_end(arena, view, all, first, segment, room)?;
@@ -317,5 +351,8 @@ pub fn known_part_end<'k>(
             )?;
         }
     }
-    Ok(part.end)
+    Ok(PartsEnd {
+        end: part.end,
+        told: part.seen,
+    })
 }

@@ -11,5 +11,5 @@ mod walk;
 
 pub use ends::{PartEnd, part_end};
 pub use joined::{behind_row, join_rows, known_parts_end};
-pub use known::{KnownEnd, KnownRow, KnownSpan, KnownSpans, known_part_end};
+pub use known::{KnownEnd, KnownRow, KnownSpan, KnownSpans, PartsEnd, known_part_end};
 pub use line_tokens::NoMemory;

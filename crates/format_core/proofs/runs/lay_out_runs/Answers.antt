@@ -1,47 +1,110 @@
-use Rattle.std.proofs.Common.{◌≡◌, ◌∙◌, ◌+◌, ◌-◌, suc, List, ap, subst, refl, arith}
+use Rattle.std.proofs.Common.{◌≡◌, ◌∙◌, ◌+◌, ◌-◌, suc, List, length, ap, subst, arith}
 use Rattle.branch_runs.specs.declared.mark.Mark.{Mark}
 use Rattle.branch_runs.specs.Reading.{read}
 use Rattle.branch_runs.specs.Runs.{need}
-use Rattle.format_core.specs.Runs.{runs_of}
+use Rattle.format_core.specs.Bounds.{AreBounds}
+use Rattle.format_core.specs.Runs.{runs_of, seen_by}
 use Rattle.format_core.specs.RunsTold.{AreRunsTold}
+use Rattle.format_core.specs.declared.bounds.KnownBound.{KnownBound}
 use Rattle.format_core.proofs.RunsTold.{runs_begin, run_done, runs_end}
+use Rattle.format_core.proofs.SeenBefore.{none_seen, run_seen, behind_change, before_change, nothing_new_told, run_bounds}
 use Rattle.format_core.proofs.runs.lay_out_runs.Goals as goal
 
 pub loop-number-init : goal.loop-number-init
 loop-number-init c = record {
-  len = refl;
   room = omega (arith, c.requires.none);
-  cheap = omega (arith, c.requires.none, c.requires.free);
-  counted = c.requires.counted;
-  known = c.requires.known;
-  rows = c.requires.rows;
-  spans = c.requires.spans;
-  on = runs_begin c.args.style.now c.args.budget c.args.arena.now c.args.plan.now c.runs-count.result (c.runs-count.result - 0) c.args.tally.now (omega arith);
+  state = record {
+    whole = c.requires.whole;
+    cheap = omega (arith, c.requires.none, c.requires.free);
+    counted = c.requires.counted;
+    known = c.requires.known;
+    rows = c.requires.rows;
+    spans = c.requires.spans;
+  };
+  bounds = λ later. absurd (omega (arith, later));
+  none = λ first. ap (λ (xs : List KnownBound). length xs) c.new-bounds.ensures.items;
+  seen = none_seen c.args.context.now.arena.now c.args.made.now.plan;
+  on = runs_begin c.args.context.now.style.now c.args.context.now.budget c.args.context.now.arena.now c.args.made.now.plan c.runs-count.result (c.runs-count.result - 0) c.args.made.now.tally (omega arith);
 }
+
+pub loop-number-preserved-then-change-eq0 : goal.loop-number-preserved-then-change-eq0
+loop-number-preserved-then-change-eq0 c =
+    let arena = c.args.context.now.arena.now in
+    let number = c.loop-number.number in
+    let count = c.runs-count.result in
+    let v = c.loop-number.invariant in
+    let changed = c.change_of-change.ensures in
+    let more : count - number ≡ suc (count - (number + 1)) = omega (arith, c.loop-number-test.true) in
+    let here : number ≡ number + 1 - 1 = omega arith in
+    let told = nothing_new_told c.args.context.now.style.now c.args.context.now.budget arena c.loop-number.made.plan number c.change_of-change.result.end c.loop-number.made.tally v.seen changed.all changed.behind c.if-change-eq0.true in
+    let left =
+    run_bounds c.args.context.now.arena.now c.loop-number.number c.loop-number.bounds.items c.last_bound-bound.new.bounds.items c.change_of-change.result.first c.last_bound-bound.result.item c.last_bound-bound.result.told v.bounds v.none changed.before
+    c.last_bound-bound.ensures.low (c.last_bound-bound.ensures.bounds c.args.context.now.arena.now) (c.last_bound-bound.ensures.last c.args.context.now.arena.now) in
+    record {
+      room = omega (arith, v.room);
+      state = v.state;
+      bounds = λ later. (c.last_bound-bound.result.told, subst (λ r. AreBounds arena (seen_by arena r) c.last_bound-bound.new.bounds.items c.last_bound-bound.result.told) here left.bounds);
+      none = λ first. absurd (omega (arith, first));
+      seen = run_seen c.args.context.now.style.now c.args.context.now.budget arena c.loop-number.made.plan c.loop-number.made.plan number c.loop-number.made.tally c.loop-number.made.tally v.state.whole v.seen told;
+      on = run_done c.args.context.now.style.now c.args.context.now.budget arena c.args.made.now.plan count c.args.made.now.tally c.loop-number.made.tally c.loop-number.made.tally c.loop-number.made.plan c.loop-number.made.plan number (count - (number + 1)) (count - number) more v.on told;
+    }
+
+pub lay_out_seen-requires-clause-bound : goal.lay_out_seen-requires-clause-bound
+lay_out_seen-requires-clause-bound c =
+    let v = c.loop-number.invariant in
+    let changed = c.change_of-change.ensures in
+    let left =
+    run_bounds c.args.context.now.arena.now c.loop-number.number c.loop-number.bounds.items c.last_bound-bound.new.bounds.items c.change_of-change.result.first c.last_bound-bound.result.item c.last_bound-bound.result.told v.bounds v.none changed.before
+    c.last_bound-bound.ensures.low (c.last_bound-bound.ensures.bounds c.args.context.now.arena.now) (c.last_bound-bound.ensures.last c.args.context.now.arena.now) in
+    left.bound
+
+pub lay_out_seen-requires-clause-bounds : goal.lay_out_seen-requires-clause-bounds
+lay_out_seen-requires-clause-bounds c =
+    let v = c.loop-number.invariant in
+    let changed = c.change_of-change.ensures in
+    let left =
+    run_bounds c.args.context.now.arena.now c.loop-number.number c.loop-number.bounds.items c.last_bound-bound.new.bounds.items c.change_of-change.result.first c.last_bound-bound.result.item c.last_bound-bound.result.told v.bounds v.none changed.before
+    c.last_bound-bound.ensures.low (c.last_bound-bound.ensures.bounds c.args.context.now.arena.now) (c.last_bound-bound.ensures.last c.args.context.now.arena.now) in
+    left.bounds
+
+pub lay_out_seen-requires-clause-before : goal.lay_out_seen-requires-clause-before
+lay_out_seen-requires-clause-before c =
+    let v = c.loop-number.invariant in
+    let changed = c.change_of-change.ensures in
+    let left =
+    run_bounds c.args.context.now.arena.now c.loop-number.number c.loop-number.bounds.items c.last_bound-bound.new.bounds.items c.change_of-change.result.first c.last_bound-bound.result.item c.last_bound-bound.result.told v.bounds v.none changed.before
+    c.last_bound-bound.ensures.low (c.last_bound-bound.ensures.bounds c.args.context.now.arena.now) (c.last_bound-bound.ensures.last c.args.context.now.arena.now) in
+    λ id early sees.
+    before_change c.args.context.now.arena.now c.loop-number.made.plan c.loop-number.number c.change_of-change.result.first v.seen changed.first changed.before id (omega (arith, early, left.bound.order, c.last_bound-bound.ensures.low)) sees
+
+pub lay_out_seen-requires-clause-behind : goal.lay_out_seen-requires-clause-behind
+lay_out_seen-requires-clause-behind c =
+    let v = c.loop-number.invariant in
+    let changed = c.change_of-change.ensures in
+    behind_change c.args.context.now.arena.now c.loop-number.made.plan c.loop-number.number c.change_of-change.result.end v.seen changed.all changed.behind
 
 pub loop-number-preserved : goal.loop-number-preserved
 loop-number-preserved c =
+    let arena = c.args.context.now.arena.now in
     let number = c.loop-number.number in
     let count = c.runs-count.result in
     let v = c.loop-number.invariant in
     let made = c.in_ok-lay_out_seen.ensures in
     let more : count - number ≡ suc (count - (number + 1)) = omega (arith, c.loop-number-test.true) in
+    let here : number ≡ number + 1 - 1 = omega arith in
     record {
-      len = made.len ∙ v.len;
       room = omega (arith, made.room, v.room);
-      cheap = made.cheap;
-      counted = made.counted;
-      known = made.known;
-      rows = made.rows;
-      spans = made.spans;
-      on = run_done c.args.style.now c.args.budget c.args.arena.now c.args.plan.now count c.args.tally.now c.loop-number.tally c.lay_out_seen.new.tally c.loop-number.plan c.lay_out_seen.new.plan number (count - (number + 1)) (count - number)
-          more v.on made.told;
+      state = made.state;
+      bounds = λ later. (made.bounds.0, subst (λ r. AreBounds arena (seen_by arena r) c.lay_out_seen.new.bounds.items made.bounds.0) here made.bounds.1);
+      none = λ first. absurd (omega (arith, first));
+      seen = run_seen c.args.context.now.style.now c.args.context.now.budget arena c.loop-number.made.plan c.lay_out_seen.new.made.plan number c.loop-number.made.tally c.lay_out_seen.new.made.tally v.state.whole v.seen made.told;
+      on = run_done c.args.context.now.style.now c.args.context.now.budget arena c.args.made.now.plan count c.args.made.now.tally c.loop-number.made.tally c.lay_out_seen.new.made.tally c.loop-number.made.plan c.lay_out_seen.new.made.plan number (count - (number + 1)) (count - number) more v.on made.told;
     }
 
 pub returns-clause-told : goal.returns-clause-told
 returns-clause-told c =
     let number = c.loop-number.number in
     let count = c.runs-count.result in
-    let all : count ≡ runs_of c.args.arena.now = c.runs-count.ensures.need ∙ ap (λ (tree : List Mark). need (read tree)) c.requires.tree.marks in
-    subst (λ n. AreRunsTold c.args.style.now c.args.budget c.args.arena.now c.args.plan.now 0 n c.loop-number.plan c.args.tally.now c.loop-number.tally) all
-    (runs_end c.args.style.now c.args.budget c.args.arena.now c.args.plan.now count number (count - number) c.args.tally.now c.loop-number.tally c.loop-number.plan (omega (arith, c.loop-number-test.false)) c.loop-number.invariant.on)
+    let all : count ≡ runs_of c.args.context.now.arena.now = c.runs-count.ensures.need ∙ ap (λ (tree : List Mark). need (read tree)) c.requires.tree.marks in
+    subst (λ n. AreRunsTold c.args.context.now.style.now c.args.context.now.budget c.args.context.now.arena.now c.args.made.now.plan 0 n c.loop-number.made.plan c.args.made.now.tally c.loop-number.made.tally) all
+    (runs_end c.args.context.now.style.now c.args.context.now.budget c.args.context.now.arena.now c.args.made.now.plan count number (count - number) c.args.made.now.tally c.loop-number.made.tally c.loop-number.made.plan (omega (arith, c.loop-number-test.false)) c.loop-number.invariant.on)

@@ -1,18 +1,17 @@
-use Rattle.std.proofs.Common.{◌≡◌, ◌≤◌, ◌-◌, ◌*◌, length}
-use Rattle.run_layout.specs.Counted.{IsCounted}
-use Rattle.view_parts.specs.Known.{AreKnown, AreSpans}
-use Rattle.format_core.specs.Runs.{AreRowsDecided}
+use Rattle.std.proofs.Common.{◌≡◌, ◌≤◌, ◌<◌, ◌-◌, ◌*◌, ℕ, length}
+use Rattle.format_core.specs.Bounds.{AreBounds}
+use Rattle.format_core.specs.Runs.{seen_by}
+use Rattle.format_core.specs.Windows.{AreInStep}
 use Rattle.format_core.proofs.RunsTold.{GoesOnRuns}
+use Rattle.format_core.proofs.SeenBefore.{AreSeenDecided}
 use Rattle.format_core.proofs.runs.lay_out_runs.Given as goal
 
 abbrev pub invariant-loop-number : goal.invariant-loop-number
 invariant-loop-number l = record {
-  len : length l.plan ≡ length l.initial.plan;
-  room : l.tally.searched ≤ l.number * 33554432;
-  cheap : l.tally.cost ≤ l.tally.searched * 18446744073709551615;
-  counted : IsCounted l.arena l.tally.lines;
-  known : AreKnown l.arena l.known;
-  rows : AreRowsDecided l.plan l.known;
-  spans : AreSpans l.arena l.spans.spans.items;
-  on : GoesOnRuns l.style l.budget l.arena l.initial.plan l.count l.initial.tally l.plan l.number (l.count - l.number) l.tally;
+  room : l.made.tally.searched ≤ l.number * 33554432;
+  state : AreInStep l.context.arena.now l.made l.known l.spans.spans.items;
+  bounds : 0 < l.number → (told : ℕ) × AreBounds l.context.arena.now (seen_by l.context.arena.now (l.number - 1)) l.bounds.items told;
+  none : l.number ≡ 0 → length l.bounds.items ≡ 0;
+  seen : AreSeenDecided l.context.arena.now l.made.plan l.number;
+  on : GoesOnRuns l.context.style.now l.context.budget l.context.arena.now l.initial.made.plan l.count l.initial.made.tally l.made.plan l.number (l.count - l.number) l.made.tally;
 }

@@ -1,123 +1,119 @@
-use Rattle.std.proofs.Common.{◌≡◌, ◌∙◌, ◌+◌, ◌-◌, ◌<◌, ◌≤◌, ℕ, List, length, get_or, drop, sym, ap, subst, refl, arith}
-use Rattle.std.specs.Prelude.{slice_range}
+use Rattle.std.proofs.Common.{◌≡◌, ◌∙◌, ◌+◌, ◌<◌, ◌≤◌, ℕ, Option, List, length, get_or, sym, ap, subst, arith}
+use Rattle.std.specs.Prelude.{IfSome, IsTrue}
+use Rattle.line_tokens.specs.declared.TokenId.{TokenId}
 use Rattle.branch_runs.specs.declared.mark.Mark.{Mark}
+use Rattle.branch_runs.specs.Anew.{items_between}
 use Rattle.branch_runs.specs.Reading.{read}
 use Rattle.branch_runs.specs.Runs.{view_of}
-use Rattle.token_classes.proofs.Lists.{few_below}
-use Rattle.view_parts.specs.Parts.{part_ends, part_len}
-use Rattle.format_core.specs.Runs.{AreDecided, seen_by}
-use Rattle.format_core.specs.RunsTold.{AreItemsTold}
-use Rattle.format_core.proofs.RunsTold.{all_seen, seen_told_nothing}
-use Rattle.format_core.proofs.PartsTold.{GoesOnFrom, from_begin, from_part, from_end}
-use Rattle.format_core.proofs.RowsPassed.{from_row}
+use Rattle.format_core.specs.Bounds.{BeginTold}
+use Rattle.format_core.specs.PartByPart.{GoesOnFrom}
+use Rattle.format_core.specs.Runs.{seen_by}
+use Rattle.format_core.proofs.FromBound.{from_bound, behind_new}
+use Rattle.format_core.proofs.SeenInOrder.{seen_increases, seen_few}
+use Rattle.format_core.proofs.Stretches.{front_short, window_fits, next_window}
 use Rattle.format_core.proofs.runs.lay_out_seen.Goals as goal
 
-pub returns-then-are_decided-clause-told : goal.returns-then-are_decided-clause-told
-returns-then-are_decided-clause-told c =
-    let arena = c.args.arena.now in
-    let plan = c.args.plan.now in
-    let number = c.args.number in
-    let is : c.in_ok-view.view ≡ seen_by arena number = c.in_ok-view.ensures.view ∙ ap (λ (tree : List Mark). view_of (read tree) number) c.requires.tree.marks in
-    seen_told_nothing c.args.style.now c.args.budget arena number plan (seen_by arena number) c.args.tally.now (subst (λ (ids : List ℕ). AreDecided plan ids) is (c.are_decided.ensures c.if-are_decided.true))
-
-pub prove-unreachable-requires : goal.prove-unreachable-requires
-prove-unreachable-requires c =
-    let view = c.in_ok-view.view in
-    let items = length c.args.arena.now.tokens in
-    let few : length view ≤ items - 0 = few_below 0 items view c.len-count.ensures.increase (λ k d below. subst (λ n. get_or view k d < n) c.requires.tree.end (c.in_ok-view.ensures.within k d below)) in
-    omega (arith, few, c.if-prove.true, c.len-count.ensures.count, c.len-items.ensures.count)
-
-pub loop-way-init : goal.loop-way-init
-loop-way-init c = record {
-  len = refl;
-  inside = omega (arith, c.start-way.ensures);
-  room = omega arith;
-  cheap = c.requires.cheap;
-  counted = c.requires.counted;
-  known = c.requires.known;
-  rows = c.requires.rows;
-  spans = c.requires.spans;
-  on = subst (λ k. GoesOnFrom c.args.style.now c.args.budget c.args.arena.now c.args.number c.args.plan.now c.in_ok-view.view c.args.tally.now c.args.plan.now k c.args.tally.now) (sym c.start-way.ensures)
-      (from_begin c.args.style.now c.args.budget c.args.arena.now c.args.number c.args.plan.now c.in_ok-view.view c.args.tally.now);
-}
-
-pub loop-way-preserved-then-pass_row : goal.loop-way-preserved-then-pass_row
-loop-way-preserved-then-pass_row c =
-    let v = c.loop-way.invariant in
-    let passed = c.pass_row.ensures in
-    let is = c.if-pass_row.true in
-    record {
-      len = v.len;
-      inside = passed.inside is;
-      room = omega (arith, v.room, passed.some is);
-      cheap = v.cheap;
-      counted = v.counted;
-      known = passed.known;
-      rows = passed.rows c.loop-way.plan v.rows;
-      spans = v.spans;
-      on = from_row c.args.style.now c.args.budget c.args.arena.now c.args.number c.args.plan.now c.in_ok-view.view c.args.tally.now c.loop-way.tally c.loop-way.plan c.loop-way.way.first c.pass_row.new.way.first (passed.inside is)
-          (passed.parts is) (passed.decided is c.loop-way.plan v.rows) v.on;
-    }
-
-pub loop-way-preserved : goal.loop-way-preserved
-loop-way-preserved c =
-    let v = c.loop-way.invariant in
-    let made = c.in_ok-lay_out_next.ensures in
-    let stays = c.pass_row.ensures.stays c.if-pass_row.false in
-    let some = made.some in
-    let here : c.loop-way.way.first < length c.in_ok-view.view = omega (arith, c.loop-way-test.true, c.len-count.ensures.count) in
-    let next = ap (λ k. k + part_len c.args.arena.now (drop k c.in_ok-view.view)) stays in
-    record {
-      len = made.len ∙ v.len;
-      inside = made.inside;
-      room = omega (arith, made.room, v.room, some, stays);
-      cheap = made.cheap;
-      counted = made.counted;
-      known = made.known;
-      rows = made.rows;
-      spans = made.spans;
-      on = from_part c.args.style.now c.args.budget c.args.arena.now c.args.number c.args.plan.now c.in_ok-view.view c.args.tally.now c.loop-way.tally c.lay_out_next.new.tally c.loop-way.plan c.lay_out_next.new.plan c.loop-way.way.first
-          c.lay_out_next.new.way.first here (omega (arith, some, stays)) (made.end ∙ next) v.on
-          (subst (λ k. AreItemsTold c.args.style.now c.args.budget c.args.arena.now c.args.number c.loop-way.plan (slice_range c.in_ok-view.view k c.lay_out_next.new.way.first) c.lay_out_next.new.plan c.loop-way.tally c.lay_out_next.new.tally) stays made.told);
-    }
-
-pub loop-way-preserved-then-is_err : goal.loop-way-preserved-then-is_err
-loop-way-preserved-then-is_err c =
-    let v = c.loop-way.invariant in
-    let made = c.in_ok-lay_out_next.ensures in
-    let stays = c.pass_row.ensures.stays c.if-pass_row.false in
-    let some = made.some in
-    let here : c.loop-way.way.first < length c.in_ok-view.view = omega (arith, c.loop-way-test.true, c.len-count.ensures.count) in
-    let next = ap (λ k. k + part_len c.args.arena.now (drop k c.in_ok-view.view)) stays in
-    record {
-      len = made.len ∙ v.len;
-      inside = made.inside;
-      room = omega (arith, made.room, v.room, some, stays);
-      cheap = made.cheap;
-      counted = made.counted;
-      known = made.known;
-      rows = made.rows;
-      spans = made.spans;
-      on = from_part c.args.style.now c.args.budget c.args.arena.now c.args.number c.args.plan.now c.in_ok-view.view c.args.tally.now c.loop-way.tally c.lay_out_next.new.tally c.loop-way.plan c.lay_out_next.new.plan c.loop-way.way.first
-          c.lay_out_next.new.way.first here (omega (arith, some, stays)) (made.end ∙ next) v.on
-          (subst (λ k. AreItemsTold c.args.style.now c.args.budget c.args.arena.now c.args.number c.loop-way.plan (slice_range c.in_ok-view.view k c.lay_out_next.new.way.first) c.lay_out_next.new.plan c.loop-way.tally c.lay_out_next.new.tally) stays made.told);
-    }
-
-pub lay_out_next-requires-clause-room : goal.lay_out_next-requires-clause-room
-lay_out_next-requires-clause-room c =
+pub loop-window-init : goal.loop-window-init
+loop-window-init c =
+    let arena = c.args.context.now.arena.now in
+    let number = c.args.turn.now.number in
+    let bound = c.args.turn.now.bound in
+    let increase = seen_increases arena number in
     let most : c.len-items.result ≤ 8388608 = c.len-items.ensures.most in
-    omega (arith, most, c.if-prove.false, c.len-count.ensures.count, c.loop-way.invariant.room, c.loop-way.invariant.inside, c.requires.room)
+    record {
+      order = omega (arith, c.max-end.ensures);
+      new = omega (arith, c.max-end.ensures, c.min.ensures, c.saturating_add.ensures, c.requires.new, c.len-items.ensures.count, most);
+      place = front_short bound.item (seen_by arena number) increase;
+      room = omega arith;
+      state = c.requires.state;
+      begin = λ later. c.requires.bound.begin;
+      bounds = c.requires.bounds;
+      on = from_bound c.args.context.now.style.now c.args.context.now.budget arena number c.args.made.now.plan (seen_by arena number) c.args.made.now.tally bound.item bound.told increase c.requires.bound.begin c.requires.before;
+    }
 
-pub returns-clause-told : goal.returns-clause-told
-returns-clause-told c =
-    let arena = c.args.arena.now in
-    let number = c.args.number in
-    let ids = c.in_ok-view.view in
-    let is : ids ≡ seen_by arena number = c.in_ok-view.ensures.view ∙ ap (λ (tree : List Mark). view_of (read tree) number) c.requires.tree.marks in
-    all_seen c.args.style.now c.args.budget arena number c.args.plan.now ids (seen_by arena number) (part_ends arena ids) c.loop-way.plan c.args.tally.now c.loop-way.tally is refl
-    (from_end c.args.style.now c.args.budget arena number c.args.plan.now ids c.args.tally.now c.loop-way.tally c.loop-way.plan c.loop-way.way.first (omega (arith, c.loop-way-test.false, c.len-count.ensures.count)) c.loop-way.invariant.on)
-
-pub returns-clause-room : goal.returns-clause-room
-returns-clause-room c =
+pub lay_out_window-requires-clause-room : goal.lay_out_window-requires-clause-room
+lay_out_window-requires-clause-room c =
     let most : c.len-items.result ≤ 8388608 = c.len-items.ensures.most in
-    omega (arith, most, c.if-prove.false, c.len-count.ensures.count, c.loop-way.invariant.inside, c.loop-way.invariant.room)
+    omega (arith, most, c.loop-window.invariant.room, c.loop-window.invariant.place, seen_few c.args.context.now.arena.now c.args.turn.now.number, c.requires.room, c.len-items.ensures.count)
+
+pub returns-in_default-clause-told : goal.returns-in_default-clause-told
+returns-in_default-clause-told c =
+    let arena = c.args.context.now.arena.now in
+    let number = c.args.turn.now.number in
+    let seen = seen_by arena number in
+    let v = c.loop-window.invariant in
+    let first = c.loop-window.first in
+    let end = c.loop-window.end in
+    let laid = c.in_ok-stopped.ensures in
+    let is : c.in_ok-view_between.field-0 ≡ items_between first end seen = c.in_ok-view_between.ensures.view ∙ ap (λ (tree : List Mark). items_between first end (view_of (read tree) number)) c.requires.tree.marks in
+    let fits = window_fits first end seen (seen_increases arena number) v.order in
+    let as_many : length c.in_ok-view_between.field-0 ≡ length (items_between first end seen) = ap (λ (xs : List ℕ). length xs) is in
+    let inside : length (items_between 0 first seen) + c.lay_out_window.new.way.first ≤ length seen = omega (arith, fits, as_many, laid.inside) in
+    behind_new c.args.context.now.style.now c.args.context.now.budget arena number c.args.made.now.plan seen c.args.made.now.tally c.lay_out_window.new.made.tally c.lay_out_window.new.made.plan
+    (length (items_between 0 first seen) + c.lay_out_window.new.way.first) c.args.turn.now.new_end inside (laid.done c.in_default.is) c.requires.behind (laid.on c.args.made.now.plan c.args.made.now.tally v.on)
+
+pub returns-in_default-clause-room : goal.returns-in_default-clause-room
+returns-in_default-clause-room c =
+    let arena = c.args.context.now.arena.now in
+    let number = c.args.turn.now.number in
+    let seen = seen_by arena number in
+    let v = c.loop-window.invariant in
+    let first = c.loop-window.first in
+    let end = c.loop-window.end in
+    let laid = c.in_ok-stopped.ensures in
+    let is : c.in_ok-view_between.field-0 ≡ items_between first end seen = c.in_ok-view_between.ensures.view ∙ ap (λ (tree : List Mark). items_between first end (view_of (read tree) number)) c.requires.tree.marks in
+    let fits = window_fits first end seen (seen_increases arena number) v.order in
+    let as_many : length c.in_ok-view_between.field-0 ≡ length (items_between first end seen) = ap (λ (xs : List ℕ). length xs) is in
+    let most : c.len-items.result ≤ 8388608 = c.len-items.ensures.most in
+    omega (arith, most, c.len-items.ensures.count, seen_few arena number, fits, as_many, laid.inside, laid.room, v.room)
+
+pub overflow_sub-end : goal.overflow_sub-end
+overflow_sub-end c =
+    let arena = c.args.context.now.arena.now in
+    let number = c.args.turn.now.number in
+    let seen = seen_by arena number in
+    let first = c.loop-window.first in
+    let end = c.loop-window.end in
+    let laid = c.in_ok-stopped.ensures in
+    let is : c.in_ok-view_between.field-0 ≡ items_between first end seen = c.in_ok-view_between.ensures.view ∙ ap (λ (tree : List Mark). items_between first end (view_of (read tree) number)) c.requires.tree.marks in
+    let next = next_window first end seen c.in_ok-view_between.field-0 c.lay_out_window.new.way.first c.in-Some.id.0 (seen_increases arena number) c.loop-window.invariant.order is (subst (λ (o : Option TokenId). IfSome o (λ id. id.0 ≡ get_or c.in_ok-view_between.field-0 c.lay_out_window.new.way.first 0)) c.in-Some.is laid.stopped) (subst (λ (o : Option TokenId). IfSome o (λ id. c.lay_out_window.new.way.first < length c.in_ok-view_between.field-0)) c.in-Some.is laid.here) in
+    omega (arith, next.before)
+
+pub loop-window-smaller : goal.loop-window-smaller
+loop-window-smaller c =
+    let arena = c.args.context.now.arena.now in
+    let number = c.args.turn.now.number in
+    let seen = seen_by arena number in
+    let first = c.loop-window.first in
+    let end = c.loop-window.end in
+    let laid = c.in_ok-stopped.ensures in
+    let is : c.in_ok-view_between.field-0 ≡ items_between first end seen = c.in_ok-view_between.ensures.view ∙ ap (λ (tree : List Mark). items_between first end (view_of (read tree) number)) c.requires.tree.marks in
+    let next = next_window first end seen c.in_ok-view_between.field-0 c.lay_out_window.new.way.first c.in-Some.id.0 (seen_increases arena number) c.loop-window.invariant.order is (subst (λ (o : Option TokenId). IfSome o (λ id. id.0 ≡ get_or c.in_ok-view_between.field-0 c.lay_out_window.new.way.first 0)) c.in-Some.is laid.stopped) (subst (λ (o : Option TokenId). IfSome o (λ id. c.lay_out_window.new.way.first < length c.in_ok-view_between.field-0)) c.in-Some.is laid.here) in
+    let short : end < length arena.tokens = (subst (λ (o : Option TokenId). IfSome o (λ id. end < length arena.tokens)) c.in-Some.is laid.short) in
+    omega (arith, next.before, short, c.min-end.ensures, c.len-items.ensures.count)
+
+pub loop-window-preserved : goal.loop-window-preserved
+loop-window-preserved c =
+    let arena = c.args.context.now.arena.now in
+    let number = c.args.turn.now.number in
+    let seen = seen_by arena number in
+    let v = c.loop-window.invariant in
+    let first = c.loop-window.first in
+    let end = c.loop-window.end in
+    let laid = c.in_ok-stopped.ensures in
+    let is : c.in_ok-view_between.field-0 ≡ items_between first end seen = c.in_ok-view_between.ensures.view ∙ ap (λ (tree : List Mark). items_between first end (view_of (read tree) number)) c.requires.tree.marks in
+    let next = next_window first end seen c.in_ok-view_between.field-0 c.lay_out_window.new.way.first c.in-Some.id.0 (seen_increases arena number) c.loop-window.invariant.order is (subst (λ (o : Option TokenId). IfSome o (λ id. id.0 ≡ get_or c.in_ok-view_between.field-0 c.lay_out_window.new.way.first 0)) c.in-Some.is laid.stopped) (subst (λ (o : Option TokenId). IfSome o (λ id. c.lay_out_window.new.way.first < length c.in_ok-view_between.field-0)) c.in-Some.is laid.here) in
+    let short : end < length arena.tokens = (subst (λ (o : Option TokenId). IfSome o (λ id. end < length arena.tokens)) c.in-Some.is laid.short) in
+    let begin : IsTrue c.args.turn.now.later → BeginTold arena (items_between 0 c.lay_out_window.new.way.told seen) (length (items_between 0 first seen) + c.lay_out_window.new.way.first) =
+    subst (λ (o : Option TokenId). IfSome o (λ id. IsTrue c.args.turn.now.later → BeginTold arena (items_between 0 c.lay_out_window.new.way.told seen) (length (items_between 0 first seen) + c.lay_out_window.new.way.first))) c.in-Some.is laid.begin in
+    record {
+      order = omega (arith, next.before, short, c.min-end.ensures, c.len-items.ensures.count);
+      new = omega (arith, v.new, next.before, short, c.min-end.ensures, c.len-items.ensures.count);
+      place = front_short c.in-Some.id.0 seen (seen_increases arena number);
+      room = omega (arith, v.room, laid.room, next.stands);
+      state = laid.state;
+      begin = λ later. subst (λ k. BeginTold arena (items_between 0 c.lay_out_window.new.way.told seen) k) (sym next.stands) (begin later);
+      bounds = laid.bounds;
+      on = subst (λ k. GoesOnFrom c.args.context.now.style.now c.args.context.now.budget arena number c.args.made.now.plan seen c.args.made.now.tally c.lay_out_window.new.made.plan k c.lay_out_window.new.made.tally) (sym next.stands)
+          (laid.on c.args.made.now.plan c.args.made.now.tally v.on);
+    }

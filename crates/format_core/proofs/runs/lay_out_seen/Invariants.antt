@@ -1,22 +1,23 @@
-use Rattle.std.proofs.Common.{◌≡◌, ◌≤◌, ◌+◌, ◌-◌, ◌*◌, length}
-use Rattle.run_layout.specs.Counted.{IsCounted}
-use Rattle.view_parts.specs.Known.{AreKnown, AreSpans}
-use Rattle.format_core.specs.Runs.{AreRowsDecided}
-use Rattle.format_core.proofs.PartsTold.{GoesOnFrom}
+use Rattle.std.proofs.Common.{◌≤◌, ◌+◌, ◌-◌, length}
+use Rattle.std.specs.Prelude.{IsTrue}
+use Rattle.branch_runs.specs.Anew.{items_between}
+use Rattle.format_core.specs.Bounds.{AreBounds, BeginTold}
+use Rattle.format_core.specs.PartByPart.{GoesOnFrom}
+use Rattle.format_core.specs.Runs.{seen_by}
+use Rattle.format_core.specs.Windows.{AreInStep, place_before}
 use Rattle.format_core.proofs.runs.lay_out_seen.Given as goal
 
-abbrev pub invariant-loop-way : goal.invariant-loop-way
-invariant-loop-way l = record {
-  len : length l.plan ≡ length l.initial.plan;
-  inside : l.way.first ≤ length l.view;
-  room : l.tally.searched ≤ l.initial.tally.searched + l.way.first;
-  cheap : l.tally.cost ≤ l.tally.searched * 18446744073709551615;
-  counted : IsCounted l.arena l.tally.lines;
-  known : AreKnown l.arena l.known;
-  rows : AreRowsDecided l.plan l.known;
-  spans : AreSpans l.arena l.spans.spans.items;
-  on : GoesOnFrom l.style l.budget l.arena l.number l.initial.plan l.view l.initial.tally l.plan l.way.first l.tally;
+abbrev pub invariant-loop-window : goal.invariant-loop-window
+invariant-loop-window l = record {
+  order : l.first ≤ l.end;
+  new : l.turn.new_end ≤ l.end;
+  place : place_before l.context.arena.now l.turn.number l.first ≤ length (seen_by l.context.arena.now l.turn.number);
+  room : l.made.tally.searched ≤ l.initial.made.tally.searched + place_before l.context.arena.now l.turn.number l.first;
+  state : AreInStep l.context.arena.now l.made l.known l.spans.spans.items;
+  begin : IsTrue l.turn.later → BeginTold l.context.arena.now (items_between 0 l.told (seen_by l.context.arena.now l.turn.number)) (place_before l.context.arena.now l.turn.number l.first);
+  bounds : AreBounds l.context.arena.now (seen_by l.context.arena.now l.turn.number) l.bounds.items l.told;
+  on : GoesOnFrom l.context.style.now l.context.budget l.context.arena.now l.turn.number l.initial.made.plan (seen_by l.context.arena.now l.turn.number) l.initial.made.tally l.made.plan (place_before l.context.arena.now l.turn.number l.first) l.made.tally;
 }
 
-abbrev pub decreases-loop-way : goal.decreases-loop-way
-decreases-loop-way l = l.count - l.way.first
+abbrev pub decreases-loop-window : goal.decreases-loop-window
+decreases-loop-window l = l.items - l.end

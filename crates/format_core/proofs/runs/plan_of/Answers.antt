@@ -15,7 +15,7 @@ returns-clause-plan c =
     let begun = c.new-tally.ensures in
     record {
       done = told.done;
-      planned = planned_by style _ c.args.budget arena _ c.decide_early.new.plan c.lay_out_runs.new.plan told.done c.in_ok-plan.ensures c.in_ok-decide_early.ensures.plan told.runs;
+      planned = planned_by style _ c.args.budget arena _ c.decide_early.new.plan c.lay_out_runs.new.made.plan told.done c.in_ok-plan.ensures c.in_ok-decide_early.ensures.plan told.runs;
       runs = c.runs-runs.ensures.need ∙ ap (λ (tree : List Mark). need (read tree)) c.in_ok-tree.ensures.marks;
       reports = told.told.reports ∙ ap (λ (xs : List Report). xs ++ reports_of told.done) begun.reports;
       searched = omega (arith, told.told.searched, begun.searched);

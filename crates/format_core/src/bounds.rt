@@ -1,0 +1,35 @@
+//! Places of a view where a later run may start.
+
+ghost use Rattle.std.specs.Prelude.{◌≤◌, ℕ, List};
+ghost use Rattle.token_arena.specs.Gaps.{Contents};
+ghost use Rattle.format_core.specs.Bounds.{AreBounds, IsBound};
+
+use bumpalo::Bump;
+
+/// Where parts of a view end, as its first items tell.
+#[derive(Clone, Copy)]
+pub(crate) struct KnownBound {
+    /// The item before which they end.
+    pub item: u32,
+    /// The item behind those that tell so.
+    pub told: u32,
+}
+
+/// Takes away the bounds that are told by this item or one behind it. The result is the last one that is left.
+pub(crate) fn last_bound(bounds: &mut Vec<KnownBound, &Bump>, first: u32) -> KnownBound
+    ensures low { result.told ≤ first }
+    ensures bounds { (arena : Contents) (view : List ℕ) (told : ℕ) → AreBounds arena view bounds.old.items told → AreBounds arena view bounds.new.items result.told }
+    ensures last { (arena : Contents) (view : List ℕ) (told : ℕ) → AreBounds arena view bounds.old.items told → IsBound arena view result.item result.told }
+{
+    let mut count = bounds.len();
+    while count > 0 {
+        let bound = bounds[count - 1];
+        if bound.told <= first {
+            bounds.truncate(count);
+            return bound;
+        }
+        count -= 1;
+    }
+    bounds.truncate(0);
+    KnownBound { item: 0, told: 0 }
+}
