@@ -12,13 +12,24 @@ fn char_of(span: Span) -> LogicalChar {
     LogicalChar { byte, from, to }
 }
 
+/// The characters of a text.
+fn chars_of<'s>(rt: &impl Abort, text: &'s [u8], dialect: Dialect) -> Chars<'s> {
+    assert!(rt; text.len() <= LIMIT);
+    Chars::new(text, dialect)
+}
+
 /// Compares the characters that are left.
 fn compare(rt: &impl Abort, name: &str, left: Chars<'_>, spans: &[Span]) {
     let mut chars = left;
     for span in spans {
         let expected = char_of(*span);
-        same(rt, name, chars.peek(0), Some(expected));
-        same(rt, name, chars.next(), Some(expected));
+        let peeked = chars.peek(0);
+        same(
+            rt,
+            name,
+            (peeked, chars.next()),
+            (Some(expected), Some(expected)),
+        );
     }
     same(rt, name, chars.next(), None);
 }
@@ -54,10 +65,10 @@ const CHARACTERS: &[(&str, Dialect, &[u8], &[Span])] = &[
 
 #[test]
 fn joins_lines_and_replaces_trigraphs(rt: HostRuntime) {
+    let rt = &rt;
     for case in CHARACTERS {
         let (name, dialect, text, spans) = *case;
-        assert!(rt; text.len() <= LIMIT);
-        compare(&rt, name, Chars::new(text, dialect), spans);
+        compare(rt, name, chars_of(rt, text, dialect), spans);
     }
 }
 
@@ -90,12 +101,13 @@ const PLAIN: &[(&str, &[u8], Option<Span>)] = &[
 /// A short way may decline; one that is told is the next character.
 #[test]
 fn takes_plain_bytes_at_once(rt: HostRuntime) {
+    let rt = &rt;
     for case in PLAIN {
         let (name, text, span) = *case;
-        assert!(rt; text.len() <= LIMIT);
-        let mut chars = Chars::new(text, Dialect::C11);
-        same(&rt, name, chars.peek_plain(), span.map(char_of));
-        same(&rt, name, chars.next_plain(), span.map(char_of));
+        let mut chars = chars_of(rt, text, Dialect::C11);
+        let want = span.map(char_of);
+        let peeked = chars.peek_plain();
+        same(rt, name, (peeked, chars.next_plain()), (want, want));
     }
 }
 
@@ -108,12 +120,12 @@ const WORDS: &[(&str, &[u8], usize)] = &[
 
 #[test]
 fn passes_words(rt: HostRuntime) {
+    let rt = &rt;
     for case in WORDS {
         let (name, text, at) = *case;
-        assert!(rt; text.len() <= LIMIT);
-        let mut chars = Chars::new(text, Dialect::C11);
+        let mut chars = chars_of(rt, text, Dialect::C11);
         chars.pass_word();
-        same(&rt, name, chars.at(), at);
+        same(rt, name, chars.at(), at);
     }
 }
 
@@ -127,11 +139,11 @@ const SPACES: &[(&str, &[u8], u32)] = &[
 
 #[test]
 fn passes_spaces(rt: HostRuntime) {
+    let rt = &rt;
     for case in SPACES {
         let (name, text, count) = *case;
-        assert!(rt; text.len() <= LIMIT);
-        let mut chars = Chars::new(text, Dialect::C23);
-        same(&rt, name, chars.pass_spaces(), count);
-        same(&rt, name, chars.at(), count as usize);
+        let mut chars = chars_of(rt, text, Dialect::C23);
+        let passed = chars.pass_spaces();
+        same(rt, name, (passed, chars.at()), (count, count as usize));
     }
 }

@@ -11,6 +11,8 @@
 //! - `arena`: what the store keeps of a text, and which texts it refuses (`token_arena`).
 //! - `sections`: texts and directives, the gaps that directives keep, and spellings (`directives`).
 //! - `runs`: what each run sees, which items are dead, and long texts (`branch_runs`).
+//!
+//! `fixtures` makes what they stand on, and `comparing` compares.
 #![tactic(auto)]
 
 #[cfg(test)]
@@ -19,6 +21,8 @@ mod arena;
 mod characters;
 #[cfg(test)]
 mod comparing;
+#[cfg(test)]
+mod fixtures;
 #[cfg(test)]
 mod items;
 #[cfg(test)]

@@ -4,13 +4,13 @@ ghost use Rattle.std.specs.Prelude.{◌≡◌};
 ghost use Rattle.directives.specs.Sections.{sections_of};
 
 use crate::comparing::same;
+use crate::fixtures::store;
 use bumpalo::Bump;
 use directives::DirectiveKind::{Define, Else, Endif, If, Include, Null, Unknown};
 use directives::{
     Dialect, Directive, Section, TokenId, begins_with, is_spelled, kept_after_name, sections,
 };
-use std::test::Fail;
-use token_arena::{TokenArena, build};
+use token_arena::TokenArena;
 
 /// The directive that begins a text with its `#`.
 const FIRST: Directive = Directive {
@@ -147,14 +147,15 @@ const SECTIONS: &[(&str, &str, &[Section])] = &[
 ];
 
 #[test]
-fn cuts_texts_into_sections(rt: HostRuntime) -> Result<(), Fail> {
+fn cuts_texts_into_sections(rt: HostRuntime) {
+    let rt = &rt;
+    let bump = Bump::new(rt.alloc());
     for case in SECTIONS {
         let (name, text, expected) = *case;
-        let bump = Bump::new(rt.alloc());
-        let arena = build(&bump, text.as_bytes(), Dialect::C11)?;
-        same(&rt, name, sections(&arena, &bump)?, expected);
+        let arena = store(rt, &bump, text.as_bytes());
+        let cut = sections(&arena, &bump).expect(rt, name);
+        same(rt, name, cut, expected);
     }
-    Ok(())
 }
 
 /// Whether the gaps behind the name of the directive that begins the text are kept.
@@ -189,15 +190,15 @@ const BEHIND_NAMES: &[(&str, bool)] = &[
 
 /// Each case is named by its text.
 #[test]
-fn keeps_gaps_behind_names(rt: HostRuntime) -> Result<(), Fail> {
+fn keeps_gaps_behind_names(rt: HostRuntime) {
+    let rt = &rt;
+    let bump = Bump::new(rt.alloc());
     for case in BEHIND_NAMES {
         let (text, kept) = *case;
-        let bump = Bump::new(rt.alloc());
-        let arena = build(&bump, text.as_bytes(), Dialect::C11)?;
-        let cut = sections(&arena, &bump)?;
-        same(&rt, text, first_is_kept(&arena, cut), kept);
+        let arena = store(rt, &bump, text.as_bytes());
+        let cut = sections(&arena, &bump).expect(rt, text);
+        same(rt, text, first_is_kept(&arena, cut), kept);
     }
-    Ok(())
 }
 
 /// The bytes of an item, a word, and whether the item is spelled so.

@@ -1,17 +1,23 @@
 //! The table of docs/DEFINITIONS.md, "Items that may touch", row by row.
 
+ghost use Rattle.std.specs.Prelude.{◌<◌, length};
+
 use crate::comparing::same;
 use c_lexer::ItemKind::{
     self, CharConst, Identifier, LineComment, Number, Other, Punct, StringLit,
 };
 use c_lexer::{Dialect, Item};
+use std::process::Abort;
 use touching::{may_touch, near_touch};
 
 /// An item's kind and bytes.
 type Side = (ItemKind, &'static [u8]);
 
-fn item_of(side: Side) -> Item<'static> {
+fn item_of(rt: &impl Abort, side: Side) -> Item<'static>
+    ensures { length result.raw.now < 9 }
+{
     let (kind, raw) = side;
+    assert!(rt; raw.len() < 9);
     Item {
         kind,
         raw,
@@ -114,11 +120,11 @@ const PAIRS: &[(&str, Side, Side, bool)] = &[
 
 #[test]
 fn each_row_of_the_table(rt: HostRuntime) {
+    let rt = &rt;
     for case in PAIRS {
         let (name, left, right, touch) = *case;
-        let (left, right) = (item_of(left), item_of(right));
-        assert!(rt; left.raw.len() < 9 && right.raw.len() < 9);
-        same(&rt, name, may_touch(Dialect::C11, &left, &right), touch);
+        let (left, right) = (item_of(rt, left), item_of(rt, right));
+        same(rt, name, may_touch(Dialect::C11, &left, &right), touch);
     }
 }
 

@@ -1,11 +1,10 @@
 //! Views of two runs beside each other, over the store of one text.
 
-use branch_runs::CondTree;
+use crate::comparing::same;
+use crate::fixtures::{Seen, item_at, seen, store, tree, view};
 use bumpalo::Bump;
-use directives::sections;
 use std::process::Abort;
-use std::test::Fail;
-use token_arena::{Dialect, TokenArena, TokenId, build};
+use token_arena::TokenArena;
 use token_views::{Segment, View};
 
 /// A call with branches of `#if` in its list. Its items are `f ( a ,` from 0 on, `b ,` from 7 on, `c ,` from 11 on and
@@ -26,7 +25,7 @@ const BEHIND: Segment = Segment {
 };
 
 /// What the first run sees, and what the second one does.
-const FIRST: [Segment; 3] = [
+const FIRST: &[Segment] = &[
     BEFORE,
     Segment {
         first: 7,
@@ -36,7 +35,7 @@ const FIRST: [Segment; 3] = [
     BEHIND,
 ];
 
-const SECOND: [Segment; 3] = [
+const SECOND: &[Segment] = &[
     BEFORE,
     Segment {
         first: 11,
@@ -47,50 +46,47 @@ const SECOND: [Segment; 3] = [
 ];
 
 /// Each item that both views have: its bytes, and its place in the one and in the other.
-const COMMON: [(&[u8], u32, u32); 7] = [
-    (b"f", 0, 0),
-    (b"(", 1, 1),
-    (b"a", 2, 2),
-    (b",", 3, 3),
-    (b"d", 6, 6),
-    (b")", 7, 7),
-    (b";", 8, 8),
+const COMMON: &[(&str, &[u8], u32, u32)] = &[
+    ("f", b"f", 0, 0),
+    ("(", b"(", 1, 1),
+    ("a", b"a", 2, 2),
+    ("the first comma", b",", 3, 3),
+    ("d", b"d", 6, 6),
+    (")", b")", 7, 7),
+    (";", b";", 8, 8),
 ];
 
-/// The item at a place of a view.
-fn item_at(rt: &impl Abort, view: &View<'_>, k: u32) -> TokenId {
-    assert!(rt; k < view.len());
-    view.at(k)
+/// The number of the item at a place of a view, and what the store has of it.
+fn seen_at<'s>(
+    rt: &impl Abort,
+    arena: &TokenArena<'_, 's>,
+    view: &View<'_>,
+    k: u32,
+) -> (u32, Seen<'s>) {
+    let id = item_at(rt, view, k);
+    (id.0, seen(rt, arena, id))
 }
 
-/// Sees that both views have this item of the store at these places.
-fn compare(rt: &impl Abort, arena: &TokenArena<'_, '_>, ids: (TokenId, TokenId), raw: &[u8]) {
-    let (one, other) = ids;
-    assert_eq!(rt; one.0, other.0);
-    assert!(rt; one.0 < arena.len() && other.0 < arena.len());
-    let (token, again) = (arena.get(one), arena.get(other));
-    assert_eq!(rt; token.item.raw, raw);
-    assert_eq!(rt; again.item.raw, raw);
-    assert_eq!(rt; again.item.kind, token.item.kind);
-    assert_eq!(rt; again.item.start, token.item.start);
-    assert_eq!(rt; again.gap, token.gap);
-    assert_eq!(rt; again.line(), token.line());
+/// Sees that the views of both runs have the items that are common.
+fn compare(rt: &impl Abort, arena: &TokenArena<'_, '_>, first: &View<'_>, second: &View<'_>) {
+    for case in COMMON {
+        let (name, raw, here, there) = *case;
+        let token = seen_at(rt, arena, first, here);
+        same(rt, name, seen_at(rt, arena, second, there), token);
+        same(rt, name, token.1.1, raw);
+    }
 }
 
 #[test]
-fn gives_the_same_tokens_through_two_views(rt: HostRuntime) -> Result<(), Fail> {
+fn gives_the_same_tokens_through_two_views(rt: HostRuntime) {
+    let rt = &rt;
     let bump = Bump::new(rt.alloc());
-    let arena = build(&bump, CALL, Dialect::C11)?;
-    let tree = CondTree::build(&arena, sections(&arena, &bump)?, &bump)?;
-    assert_eq!(rt; tree.runs(), 2);
-    let (first_run, second_run) = (Bump::new(rt.alloc()), Bump::new(rt.alloc()));
-    let first = tree.view(0, &first_run)?;
-    let second = tree.view(1, &second_run)?;
-    assert_eq!(rt; first.segments(), FIRST.as_slice());
-    assert_eq!(rt; second.segments(), SECOND.as_slice());
-    for (raw, here, there) in COMMON {
-        let ids = (item_at(&rt, &first, here), item_at(&rt, &second, there));
-        compare(&rt, &arena, ids, raw);
-    }
-    Ok(())
+    let arena = store(rt, &bump, CALL);
+    let tree = tree(rt, &bump, &arena);
+    same(rt, "how many runs", tree.runs(), 2);
+    let first = view(rt, &bump, &tree, 0);
+    let second = view(rt, &bump, &tree, 1);
+    same(rt, "the first run", first.segments(), FIRST);
+    same(rt, "the second run", second.segments(), SECOND);
+    compare(rt, &arena, &first, &second);
 }

@@ -2,8 +2,8 @@
 
 use crate::comparing::same;
 use bumpalo::Bump;
-use std::test::Fail;
-use token_views::{Stretch, View};
+use std::process::Abort;
+use token_views::{Segment, Stretch, View};
 
 /// The items `f ( a ,`, `b ,` and `d ) ;` of a text in which a directive stands behind each of the first two, and
 /// `c ,` between two directives.
@@ -26,38 +26,61 @@ const PLACES: &[(&str, u32, u32, bool)] = &[
     (";", 8, 17, false),
 ];
 
+/// The view of `CALL`.
+fn view_of_call<'r>(rt: &impl Abort, run: &'r Bump) -> View<'r> {
+    View::of_stretches(&CALL, run).expect(rt, "a view")
+}
+
+/// What a view tells of a place: the number of its item, told twice, and whether a directive stands before it.
+fn told(rt: &impl Abort, view: &View<'_>, k: u32, number: &mut usize) -> (u32, u32, bool) {
+    assert!(rt; k < view.len());
+    let id = view.at(k).0;
+    (id, view.at_near(k, number).0, view.directive_before(k))
+}
+
 #[test]
-fn finds_each_place(rt: HostRuntime) -> Result<(), Fail> {
+fn finds_each_place(rt: HostRuntime) {
+    let rt = &rt;
     let run = Bump::new(rt.alloc());
-    let view = View::of_stretches(&CALL, &run)?;
+    let view = view_of_call(rt, &run);
     let mut number = 0;
     for case in PLACES {
         let (name, k, id, behind_directive) = *case;
-        assert!(rt; k < view.len());
-        same(&rt, name, view.at(k).0, id);
-        same(&rt, name, view.at_near(k, &mut number).0, id);
-        same(&rt, name, view.directive_before(k), behind_directive);
+        let found = told(rt, &view, k, &mut number);
+        same(rt, name, found, (id, id, behind_directive));
     }
-    same(&rt, "how many places", view.len(), 9);
-    same(&rt, "whether it is empty", view.is_empty(), false);
-    Ok(())
+    let size = (view.len(), view.is_empty());
+    same(rt, "how many places, and whether none", size, (9, false));
 }
 
-/// The segments of the view of `CALL`, and how many places stand before each.
-const SEGMENTS: &[(&str, u32)] = &[("the first", 0), ("the second", 4), ("the third", 6)];
+/// The segments of the view of `CALL`, with how many places stand before each.
+const SEGMENTS: &[Segment] = &[
+    Segment {
+        first: 0,
+        end: 4,
+        before: 0,
+    },
+    Segment {
+        first: 7,
+        end: 9,
+        before: 4,
+    },
+    Segment {
+        first: 15,
+        end: 18,
+        before: 6,
+    },
+];
 
 #[test]
-fn keeps_a_segment_for_each_stretch(rt: HostRuntime) -> Result<(), Fail> {
+fn keeps_a_segment_for_each_stretch(rt: HostRuntime) {
+    let rt = &rt;
     let run = Bump::new(rt.alloc());
-    let view = View::of_stretches(&CALL, &run)?;
-    let segments = View::from_segments(view.segments()).segments();
-    same(&rt, "how many segments", segments.len(), 3);
-    for (segment, (name, before)) in segments.iter().zip(SEGMENTS) {
-        same(&rt, name, segment.before, *before);
-    }
-    let none = View::of_stretches(&[], &run)?;
-    assert!(rt; none.is_empty() && none.segments().is_empty());
-    Ok(())
+    let view = View::from_segments(view_of_call(rt, &run).segments());
+    same(rt, "three stretches", view.segments(), SEGMENTS);
+    let none = View::of_stretches(&[], &run).expect(rt, "a view");
+    let size = (none.is_empty(), none.segments().len());
+    same(rt, "no stretch", size, (true, 0));
 }
 
 /// The first item, the end and the items between.
@@ -68,20 +91,23 @@ const ROWS: &[(&str, u32, u32, &[u32])] = &[
     ("an end before the front", 9, 2, &[]),
 ];
 
+/// Sees that a view has these items, and no directive among them.
+fn compare(rt: &impl Abort, name: &str, view: &View<'_>, ids: &[u32]) {
+    same(rt, name, view.len() as usize, ids.len());
+    let mut number = 0;
+    for (k, id) in (0..view.len()).zip(ids) {
+        let found = told(rt, view, k, &mut number);
+        same(rt, name, found, (*id, *id, false));
+    }
+}
+
 #[test]
-fn sees_all_items_in_a_row(rt: HostRuntime) -> Result<(), Fail> {
+fn sees_all_items_in_a_row(rt: HostRuntime) {
+    let rt = &rt;
     let run = Bump::new(rt.alloc());
     for case in ROWS {
         let (name, first, end, ids) = *case;
-        let view = View::of(first, end, &run)?;
-        same(&rt, name, view.len() as usize, ids.len());
-        let mut k = 0;
-        for id in ids {
-            assert!(rt; k < view.len());
-            same(&rt, name, view.at(k).0, *id);
-            same(&rt, name, view.directive_before(k), false);
-            k += 1;
-        }
+        let view = View::of(first, end, &run).expect(rt, name);
+        compare(rt, name, &view, ids);
     }
-    Ok(())
 }

@@ -3,10 +3,10 @@
 ghost use Rattle.style_table.specs.Range.{IsInRange};
 
 use crate::comparing::same;
+use crate::fixtures::style;
 use fmt_ports::MemSink;
 use std::alloc::Global;
 use std::process::Abort;
-use std::test::Fail;
 use style_config::{ConfigFault, LIMIT, SkippedKey, read};
 use style_table::{Style, UseTab, dump};
 
@@ -232,66 +232,73 @@ const FAULTS: &[Row] = &[
 
 /// The style and the skipped keys that were read are those that a row has.
 fn is_seen(rt: &impl Abort, name: &str, style: &Style, skipped: &[SkippedKey], seen: &Seen) {
-    same(rt, name, style.indent_width, seen.indent_width);
-    same(rt, name, style.column_limit, seen.column_limit);
-    let before_comments = style.spaces_before_trailing_comments;
-    same(rt, name, before_comments, seen.before_comments);
-    same(rt, name, style.brace_wrapping_after_enum, seen.after_enum);
-    same(rt, name, skipped.len(), seen.skipped.len());
+    let found = (
+        style.indent_width,
+        style.column_limit,
+        style.spaces_before_trailing_comments,
+        style.brace_wrapping_after_enum,
+        skipped.len(),
+    );
+    let wanted = (
+        seen.indent_width,
+        seen.column_limit,
+        seen.before_comments,
+        seen.after_enum,
+        seen.skipped.len(),
+    );
+    same(rt, name, found, wanted);
     for (key, wanted) in skipped.iter().zip(seen.skipped) {
         same(rt, name, (key.line, key.key.text()), *wanted);
     }
 }
 
 /// Sees that a configuration is read as its row says.
-fn check(rt: &impl Abort, alloc: Global, row: &Row) -> Result<(), Fail> {
+fn check(rt: &impl Abort, alloc: Global, row: &Row) {
     let name = row.name;
-    let llvm = Style::named("LLVM").ok_or("a style")?;
-    assert!(rt; row.text.len() <= LIMIT, "the length of {name}");
-    match (read(alloc, row.text, llvm), &row.seen) {
-        (Ok((style, skipped)), Ok(seen)) => is_seen(rt, name, &style, skipped.keys(), seen),
-        (Err(found), Err(fault)) => same(rt, name, found, *fault),
-        (found, _) => assert!(rt; false, "{name} is read: {}", found.is_ok()),
+    assert!(rt; row.text.len() <= LIMIT);
+    match read(alloc, row.text, style(rt, "LLVM")) {
+        Ok((style, skipped)) => {
+            let seen = row.seen.as_ref().expect(rt, name);
+            is_seen(rt, name, &style, skipped.keys(), seen);
+        }
+        Err(found) => same(rt, name, Some(&found), row.seen.as_ref().err()),
     }
-    Ok(())
 }
 
 #[test]
-fn reads_configurations(rt: HostRuntime) -> Result<(), Fail> {
+fn reads_configurations(rt: HostRuntime) {
     for rows in [DUMPS, BASES, FAULTS] {
         for row in rows {
-            check(&rt, rt.alloc(), row)?;
+            check(&rt, rt.alloc(), row);
         }
     }
-    Ok(())
 }
 
 /// What is dumped of a style is read back over a base.
-fn is_read_back(rt: &impl Abort, alloc: Global, style: &Style, base: &str) -> Result<(), Fail>
-    requires { IsInRange style.now }
+fn is_read_back(rt: &impl Abort, alloc: Global, name: &str, dumped: &Style, base: &str)
+    requires { IsInRange dumped.now }
 {
     let mut sink = MemSink::new(alloc, Vec::new(alloc));
-    same(
-        rt,
-        "whether it is dumped",
-        dump(style, &mut sink).is_ok(),
-        true,
-    );
-    let base = Style::named(base).ok_or("a style")?;
+    same(rt, name, dump(dumped, &mut sink).is_ok(), true);
     let text = sink.taken();
-    assert!(rt; text.len() <= LIMIT, "the length of a dump");
-    let (read, skipped) = read(alloc, text, base).ok().ok_or("a style")?;
-    same(rt, "whether it is read back", read == *style, true);
-    same(rt, "how many keys are skipped", skipped.keys().len(), 0);
-    Ok(())
+    assert!(rt; text.len() <= LIMIT);
+    let (found, skipped) = read(alloc, text, style(rt, base)).expect(rt, name);
+    same(rt, name, (found, skipped.keys().len()), (*dumped, 0));
 }
 
+/// A style, its use of tabs, and the base over which its dump is read.
+const DUMPED: &[(&str, UseTab, &str)] = &[
+    ("Microsoft", UseTab::AlignWithSpaces, "Google"),
+    ("Google", UseTab::Never, "WebKit"),
+];
+
 #[test]
-fn reads_back_what_is_dumped(rt: HostRuntime) -> Result<(), Fail> {
-    let mut tabbed = Style::named("Microsoft").ok_or("a style")?;
-    tabbed.use_tab = UseTab::AlignWithSpaces;
-    is_read_back(&rt, rt.alloc(), &tabbed, "Google")?;
-    let mut plain = Style::named("Google").ok_or("a style")?;
-    plain.use_tab = UseTab::Never;
-    is_read_back(&rt, rt.alloc(), &plain, "WebKit")
+fn reads_back_what_is_dumped(rt: HostRuntime) {
+    let rt = &rt;
+    for case in DUMPED {
+        let (name, use_tab, base) = *case;
+        let mut dumped = style(rt, name);
+        dumped.use_tab = use_tab;
+        is_read_back(rt, rt.alloc(), name, &dumped, base);
+    }
 }

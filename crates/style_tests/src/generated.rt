@@ -1,7 +1,8 @@
 //! Worked rows of the text that `--generate` makes.
 
+use crate::comparing::same;
 use generated_input::generated;
-use std::test::Fail;
+use std::str::from_utf8;
 
 /// The first six pieces from 5.
 const SIX_PIECES: &str = "static int f0(int a,int b){return a+b*5;}
@@ -20,23 +21,24 @@ long v5=190;
 #endif
 ";
 
+/// The two numbers, and the text that they tell.
+const TEXTS: &[(&str, u32, u32, &str)] = &[
+    ("six pieces from 5", 5, 6, SIX_PIECES),
+    (
+        "two pieces from the largest number",
+        999_999_999,
+        2,
+        "static int f0(int a,int b){return a+b*999;}\n#ifdef C1\nint v1=36;\n#else\nlong v1=36;\n#endif\n",
+    ),
+    ("no piece", 7, 0, ""),
+];
+
 #[test]
-fn makes_pieces(rt: HostRuntime) -> Result<(), Fail> {
-    let alloc = rt.alloc();
-    for (seed, count, want) in [
-        (5, 6, SIX_PIECES),
-        (
-            999_999_999,
-            2,
-            "static int f0(int a,int b){return a+b*999;}\n#ifdef C1\nint v1=36;\n#else\nlong v1=36;\n#endif\n",
-        ),
-        (7, 0, ""),
-    ] {
-        let text = generated(alloc, seed, count)?;
-        assert!(rt;
-            text.as_slice() == want.as_bytes(),
-            "{count} pieces from {seed}"
-        );
+fn makes_pieces(rt: HostRuntime) {
+    let rt = &rt;
+    for case in TEXTS {
+        let (name, seed, count, want) = *case;
+        let text = generated(rt.alloc(), seed, count).expect(rt, name);
+        same(rt, name, from_utf8(&text).ok(), Some(want));
     }
-    Ok(())
 }

@@ -4,6 +4,7 @@
 //! - `named_styles`: the five named styles, and the values that keys take.
 //! - `configurations`: what is read of configurations, those of another tool among them, and their faults.
 //! - `comparing`: what is found beside what is wanted.
+//! - `fixtures`: styles, and ends of which a call fails.
 //! - `generated`: the pieces of the text that `--generate` makes.
 //! - `words`: what the words of the command say, and why they are refused.
 #![tactic(auto)]
@@ -12,6 +13,8 @@
 mod comparing;
 #[cfg(test)]
 mod configurations;
+#[cfg(test)]
+mod fixtures;
 #[cfg(test)]
 mod generated;
 #[cfg(test)]

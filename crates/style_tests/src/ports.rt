@@ -3,13 +3,15 @@
 ghost use Rattle.std.specs.Prelude.{◌++◌};
 
 use crate::comparing::same;
+use crate::fixtures::{one_call, sink};
 use fmt_ports::{
-    Failed, FileFault, Files, InFault, MemFiles, MemSink, MemSource, Name, RealFiles, RealIn,
-    RealOut, Sink, TextSink, read_all, write_all,
+    Failed, FileFault, Files, InFault, MemFiles, MemSource, Name, RealFiles, RealIn, RealOut, Sink,
+    TextSink, read_all, write_all,
 };
-use std::fs;
+use std::alloc::Global;
 use std::os::unix::fs::PermissionsExt;
-use std::test::Fail;
+use std::process::Abort;
+use std::{fs, rt};
 use text_streams::{PIECE, Stream, bytes_of, is_same, write_in_pieces};
 
 /// A source of three bytes: the call that fails, the limit, and all its bytes or why they can't be had.
@@ -22,21 +24,30 @@ const READINGS: &[Reading] = &[
     ("a read that fails at the end", 2, 3, Err(InFault::Failed)),
 ];
 
+/// The source that a reading has.
+fn source(rt: &impl Abort, alloc: Global, failing: u64) -> MemSource {
+    let bytes = b"abc".to_vec(alloc).expect(rt, "memory");
+    MemSource::new(bytes, one_call(rt, alloc, failing))
+}
+
+/// Whether a reader of these bytes is read within a limit.
+fn reads_within(alloc: Global, limit: u64) -> bool {
+    let mut reader = RealIn::new(b"abc".as_slice());
+    read_all(alloc, &mut reader, limit).is_ok()
+}
+
 #[test]
-fn reads_all_bytes(rt: HostRuntime) -> Result<(), Fail> {
+fn reads_all_bytes(rt: HostRuntime) {
+    let rt = &rt;
     let alloc = rt.alloc();
-    for (name, failing, limit, wanted) in READINGS {
-        let mut source = MemSource::new(b"abc".to_vec(alloc)?, vec![in alloc; *failing; 1]?);
-        match (read_all(alloc, &mut source, *limit), wanted) {
-            (Ok(found), Ok(bytes)) => same(&rt, name, found.as_slice(), *bytes),
-            (Err(found), Err(fault)) => same(&rt, name, found, *fault),
-            (found, _) => assert!(rt; false, "{name}: {}", found.is_ok()),
+    for case in READINGS {
+        let (name, failing, limit, wanted) = *case;
+        match read_all(alloc, &mut source(rt, alloc, failing), limit) {
+            Ok(found) => same(rt, name, Ok(found.as_slice()), wanted),
+            Err(fault) => same(rt, name, Err(fault), wanted),
         }
-        let mut reader = RealIn::new(b"abc".as_slice());
-        let all = read_all(alloc, &mut reader, *limit);
-        same(&rt, name, all.is_ok(), *limit == 3);
+        same(rt, name, reads_within(alloc, limit), limit == 3);
     }
-    Ok(())
 }
 
 /// A sink: the call that fails, and what it takes of three bytes and then of two.
@@ -46,44 +57,36 @@ const WRITINGS: &[(&str, u64, &[u8])] = &[
     ("the second call fails", 2, b"abc"),
 ];
 
-#[test]
-fn writes_all_bytes(rt: HostRuntime) -> Result<(), Fail> {
-    let alloc = rt.alloc();
-    for (name, failing, taken) in WRITINGS {
-        let mut sink = MemSink::new(alloc, vec![in alloc; *failing; 1]?);
-        same(
-            &rt,
-            name,
-            write_all(&mut sink, b"abc").is_ok(),
-            *failing != 1,
-        );
-        same(
-            &rt,
-            name,
-            write_all(&mut sink, b"de").is_ok(),
-            *failing != 2,
-        );
-        same(&rt, name, sink.taken(), *taken);
-    }
-    Ok(())
+/// Whether all of three bytes and of two is taken.
+fn write_both(sink: &mut impl Sink) -> (bool, bool) {
+    let first = write_all(sink, b"abc").is_ok();
+    (first, write_all(sink, b"de").is_ok())
 }
 
 #[test]
-fn writes_into_texts_and_rooms(rt: HostRuntime) -> Result<(), Fail> {
-    let alloc = rt.alloc();
-    let mut text = TextSink::with_room(alloc, 2)?;
-    same(&rt, "a text", write_all(&mut text, b"abc").is_ok(), true);
-    same(
-        &rt,
-        "a text",
-        text.into_text().as_slice(),
-        b"abc".as_slice(),
-    );
+fn writes_all_bytes(rt: HostRuntime) {
+    let rt = &rt;
+    for case in WRITINGS {
+        let (name, failing, taken) = *case;
+        let mut sink = sink(rt, rt.alloc(), failing);
+        let written = write_both(&mut sink);
+        same(rt, name, written, (failing != 1, failing != 2));
+        same(rt, name, sink.taken(), taken);
+    }
+}
+
+#[test]
+fn writes_into_texts_and_rooms(rt: HostRuntime) {
+    let rt = &rt;
     let mut room = [0u8; 2];
     let mut writer = RealOut::new(room.as_mut_slice());
     let written = write_all(&mut writer, b"abc");
-    same(&rt, "a writer that is full", written.is_err(), true);
-    Ok(())
+    same(rt, "a writer that is full", written.is_err(), true);
+    let mut text = TextSink::with_room(rt.alloc(), 2).expect(rt, "memory");
+    let written = write_all(&mut text, b"abc").is_ok();
+    let taken = text.into_text();
+    let wanted = (true, b"abc".as_slice());
+    same(rt, "a text", (written, taken.as_slice()), wanted);
 }
 
 /// Bytes that are written twice, in two calls.
@@ -99,7 +102,7 @@ impl Stream for Twice<'_> {
     }
 }
 
-/// Twice the bytes `ab`, and a text: whether they are the same.
+/// A text, and whether it is twice the bytes `ab`.
 const COMPARISONS: &[(&[u8], bool)] = &[
     (b"abab", true),
     (b"abac", false),
@@ -110,16 +113,19 @@ const COMPARISONS: &[(&[u8], bool)] = &[
 ];
 
 #[test]
-fn compares_what_is_written(rt: HostRuntime) -> Result<(), Fail> {
-    for (text, same) in COMPARISONS {
-        assert_eq!(rt; is_same(&Twice(b"ab"), text), *same, "{text:?}");
+fn compares_what_is_written(rt: HostRuntime) {
+    let rt = &rt;
+    for case in COMPARISONS {
+        let text = case.0;
+        same(rt, "a text", (text, is_same(&Twice(b"ab"), text)), *case);
     }
-    assert!(rt; is_same(&Twice(b""), b""), "nothing");
-    Ok(())
+    same(rt, "nothing", is_same(&Twice(b""), b""), true);
 }
 
-/// Twice so many bytes: the call that fails, whether all is written, and how many bytes the sink took.
-const PIECES: &[(usize, u64, bool, usize)] = &[
+/// Twice so many bytes: their number, the call that fails, whether all is written, and how many the sink took.
+type Pieces = (usize, u64, bool, usize);
+
+const PIECES: &[Pieces] = &[
     (2, 1, false, 0),
     (2, 2, true, 4),
     (PIECE / 2, 2, true, PIECE),
@@ -130,59 +136,94 @@ const PIECES: &[(usize, u64, bool, usize)] = &[
     (0, 1, true, 0),
 ];
 
-#[test]
-fn writes_in_pieces(rt: HostRuntime) -> Result<(), Fail> {
-    let alloc = rt.alloc();
-    for (size, failing, whole, taken) in PIECES {
-        let text = vec![in alloc; b'a'; *size]?;
-        let mut sink = MemSink::new(alloc, vec![in alloc; *failing; 1]?);
-        let written = write_in_pieces(alloc, &Twice(&text), &mut sink).is_ok();
-        assert_eq!(rt; written, *whole, "{size} bytes, {failing}");
-        assert_eq!(rt; sink.taken().len(), *taken, "{size} bytes, {failing}");
-    }
-    let made = bytes_of(alloc, &Twice(b"ab"), 1)?;
-    assert_eq!(rt; made.as_slice(), b"abab".as_slice());
-    Ok(())
+/// What becomes of twice so many bytes where this call fails.
+fn in_pieces(rt: &impl Abort, alloc: Global, size: usize, failing: u64) -> Pieces {
+    let text = vec![in alloc; b'a'; size].expect(rt, "memory");
+    let mut sink = sink(rt, alloc, failing);
+    let written = write_in_pieces(alloc, &Twice(&text), &mut sink).is_ok();
+    (size, failing, written, sink.taken().len())
 }
 
 #[test]
-fn holds_files_in_memory(rt: HostRuntime) -> Result<(), Fail> {
+fn writes_in_pieces(rt: HostRuntime) {
+    let rt = &rt;
     let alloc = rt.alloc();
-    let mut files = MemFiles::new(alloc, Vec::new(alloc));
-    files.put("a.c", b"abc")?;
-    let read = files.read("a.c", 3).ok().ok_or("a file")?;
-    same(&rt, "a write", files.write("b.c", &read).is_ok(), true);
-    let found = files.find("b.c", 3).ok().ok_or("a search")?;
-    let found = found.ok_or("a file")?;
-    same(
-        &rt,
-        "a file that was written",
-        found.as_slice(),
-        b"abc".as_slice(),
-    );
-    same(&rt, "a file", files.held("a.c"), Some(b"abc".as_slice()));
-    same(&rt, "a name", Name::from_text(alloc, "a.c")?.text(), "a.c");
-    Ok(())
+    for case in PIECES {
+        let (size, failing, ..) = *case;
+        let found = in_pieces(rt, alloc, size, failing);
+        same(rt, "so many bytes and this call", found, *case);
+    }
+    let made = bytes_of(alloc, &Twice(b"ab"), 1).expect(rt, "bytes");
+    same(rt, "in memory", made.as_slice(), b"abab".as_slice());
+}
+
+/// Sees that a file has these bytes.
+fn is_read(rt: &impl Abort, files: &mut impl Files, file: &str, bytes: &[u8]) {
+    let read = files.read(file, 3).expect(rt, file);
+    same(rt, file, read.as_slice(), bytes);
+}
+
+/// Sees that it is found, with these bytes.
+fn is_found(rt: &impl Abort, files: &mut impl Files, file: &str, bytes: &[u8]) {
+    let found = files.find(file, 3).expect(rt, file);
+    let read = found.expect(rt, file);
+    same(rt, file, read.as_slice(), bytes);
 }
 
 #[test]
-fn writes_real_files_and_keeps_their_permissions(rt: HostRuntime) -> Result<(), Fail> {
-    let alloc = rt.alloc();
-    let name = "written_by_a_test.c";
-    let mut files = RealFiles::new(rt.clone()?, alloc);
-    for mode in [0o600, 0o640] {
-        same(&rt, "a new file", files.write(name, b"old").is_ok(), true);
-        fs::set_permissions(&rt, name, PermissionsExt::from_mode(mode))?;
-        same(&rt, "an old file", files.write(name, b"new").is_ok(), true);
-        let read = files.read(name, 3).ok().ok_or("a file")?;
-        same(&rt, "its bytes", read.as_slice(), b"new".as_slice());
-        let permissions = fs::metadata(&rt, name)?.permissions();
-        same(&rt, "its permissions", permissions.mode() % 0o1000, mode);
-        fs::remove_file(&rt, name)?;
-        let missing = matches!(files.read(name, 3), Err(FileFault::Missing));
-        same(&rt, "a file that isn't there", missing, true);
-        let none = matches!(files.find(name, 3), Ok(None));
-        same(&rt, "a search for it", none, true);
+fn holds_files_in_memory(rt: HostRuntime) {
+    let rt = &rt;
+    let mut files = MemFiles::new(rt.alloc(), Vec::new(rt.alloc()));
+    files.put("a.c", b"abc").expect(rt, "memory");
+    is_read(rt, &mut files, "a.c", b"abc");
+    same(rt, "a write", files.write("b.c", b"abc").is_ok(), true);
+    is_found(rt, &mut files, "b.c", b"abc");
+    same(rt, "a file", files.held("a.c"), Some(b"abc".as_slice()));
+}
+
+#[test]
+fn keeps_names(rt: HostRuntime) {
+    let rt = &rt;
+    let name = Name::from_text(rt.alloc(), "a.c").expect(rt, "memory");
+    same(rt, "a name", name.text(), "a.c");
+}
+
+const REAL: &str = "written_by_a_test.c";
+
+/// The permissions of the real file.
+fn real_mode(rt: &(impl Abort + rt::Files)) -> u32 {
+    let found = fs::metadata(rt, REAL).expect(rt, "permissions");
+    found.permissions().mode() % 0o1000
+}
+
+/// Writes the real file anew under these permissions, and sees that it keeps them.
+fn write_anew<R: Abort + rt::Files>(rt: &R, files: &mut impl Files, kept: u32) {
+    let permissions = PermissionsExt::from_mode(kept);
+    fs::set_permissions(rt, REAL, permissions).expect(rt, "permissions");
+    same(rt, "an old file", files.write(REAL, b"new").is_ok(), true);
+    is_read(rt, files, REAL, b"new");
+    same(rt, "its permissions", real_mode(rt), kept);
+}
+
+/// Sees that the real file isn't there.
+fn is_missing(rt: &impl Abort, files: &mut impl Files) {
+    let fault = files.read(REAL, 3).err();
+    same(rt, "no file", fault, Some(FileFault::Missing));
+    let found = files.find(REAL, 3).expect(rt, "a search for it");
+    same(rt, "a search for it", found.is_none(), true);
+}
+
+const MODES: &[u32] = &[0o600, 0o640];
+
+#[test]
+fn writes_real_files_and_keeps_their_permissions(rt: HostRuntime) {
+    let rt = &rt;
+    let clone = rt.clone().expect(rt, "memory");
+    let mut files = RealFiles::new(clone, rt.alloc());
+    for mode in MODES {
+        same(rt, "a new file", files.write(REAL, b"old").is_ok(), true);
+        write_anew(rt, &mut files, *mode);
+        fs::remove_file(rt, REAL).expect(rt, "a file");
+        is_missing(rt, &mut files);
     }
-    Ok(())
 }

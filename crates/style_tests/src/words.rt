@@ -3,9 +3,8 @@
 use crate::comparing::same;
 use command_words::{Generate, StyleChoice, Words, WordsFault, read_words};
 use off_regions::{LineRange, RangeFault};
-use std::alloc::{AllocError, Global};
+use std::alloc::Global;
 use std::process::Abort;
-use std::test::Fail;
 
 /// What words say.
 struct Said {
@@ -323,12 +322,13 @@ const ROWS: &[Row] = &[
     },
 ];
 
-fn texts(alloc: Global, words: &[&str]) -> Result<Vec<String>, AllocError> {
+fn texts(rt: &impl Abort, alloc: Global, words: &[&str]) -> Vec<String> {
     let mut all = Vec::new(alloc);
     for word in words {
-        all.push(String::from_str(alloc, word)?)?;
+        let text = String::from_str(alloc, word).expect(rt, "memory");
+        all.push(text).expect(rt, "memory");
     }
-    Ok(all)
+    all
 }
 
 /// Whether words ask for these lines.
@@ -342,7 +342,6 @@ fn has_lines(found: &Words<'_>, lines: Option<&[LineRange]>) -> bool {
 
 /// Words say what a row has.
 fn do_say(rt: &impl Abort, name: &str, found: &Words<'_>, said: &Said) {
-    same(rt, name, found.style, said.style);
     same(rt, name, has_lines(found, said.lines), true);
     let flags = [
         found.in_place,
@@ -352,22 +351,25 @@ fn do_say(rt: &impl Abort, name: &str, found: &Words<'_>, said: &Said) {
     ];
     let wanted = [said.in_place, said.dry_run, said.werror, said.dump_config];
     same(rt, name, flags, wanted);
-    same(rt, name, found.generate, said.generate);
-    same(rt, name, found.files.as_slice(), said.files);
+    let found = (found.style, found.generate, found.files.as_slice());
+    same(rt, name, found, (said.style, said.generate, said.files));
+}
+
+/// Sees that words are read as their row says.
+fn check(rt: &impl Abort, alloc: Global, row: &Row) {
+    let name = row.name;
+    let words = texts(rt, alloc, row.words);
+    match read_words(alloc, &words) {
+        Ok(found) => do_say(rt, name, &found, row.said.as_ref().expect(rt, name)),
+        Err(found) => same(rt, name, Some(&found), row.said.as_ref().err()),
+    }
 }
 
 #[test]
-fn reads_words(rt: HostRuntime) -> Result<(), Fail> {
-    let alloc = rt.alloc();
+fn reads_words(rt: HostRuntime) {
     for row in ROWS {
-        let words = texts(alloc, row.words)?;
-        match (read_words(alloc, &words), &row.said) {
-            (Ok(found), Ok(said)) => do_say(&rt, row.name, &found, said),
-            (Err(found), Err(fault)) => same(&rt, row.name, found, *fault),
-            (found, _) => assert!(rt; false, "{} is read: {}", row.name, found.is_ok()),
-        }
+        check(&rt, rt.alloc(), row);
     }
-    Ok(())
 }
 
 /// A fault, and its row on standard error.
@@ -404,11 +406,11 @@ const NOTES: &[(WordsFault<'static>, &str)] = &[
 ];
 
 #[test]
-fn shows_its_note(rt: HostRuntime) -> Result<(), Fail> {
-    let alloc = rt.alloc();
-    for (fault, note) in NOTES {
-        let shown = format!(in alloc; "{fault}")?;
-        same(&rt, note, shown.as_str(), *note);
+fn shows_its_note(rt: HostRuntime) {
+    let rt = &rt;
+    for case in NOTES {
+        let (fault, note) = *case;
+        let shown = format!(in rt.alloc(); "{fault}").expect(rt, note);
+        same(rt, note, shown.as_str(), note);
     }
-    Ok(())
 }
