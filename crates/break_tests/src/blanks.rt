@@ -2,9 +2,8 @@
 
 use crate::comparing::same;
 use crate::fixtures::{style, token};
-use line_tokens::{LineTok, Role};
+use line_tokens::Role;
 use spacing::spaces_before;
-use std::test::Fail;
 
 /// Two tokens, whether they may touch, and the blanks between them.
 const GAPS: &[(&str, Role, Role, bool, u8)] = &[
@@ -25,16 +24,13 @@ const GAPS: &[(&str, Role, Role, bool, u8)] = &[
 ];
 
 #[test]
-fn spaces_a_line(rt: HostRuntime) -> Result<(), Fail> {
-    let style = style("LLVM")?;
+fn spaces_a_line(rt: HostRuntime) {
+    let style = style(&rt, "LLVM");
     for case in GAPS {
         let (text, left, right, touch, want) = *case;
-        let right = LineTok {
-            touch,
-            ..token(right, 0, 1)
-        };
+        let mut right = token(right, 0, 1);
+        right.touch = touch;
         let found = spaces_before(&style, &token(left, 0, 1), &right);
         same(&rt, text, found, want);
     }
-    Ok(())
 }

@@ -4,7 +4,6 @@ use crate::comparing::same;
 use crate::fixtures::{style, token};
 use line_tokens::Role;
 use penalties::{GapRule, gap_rule};
-use std::test::Fail;
 
 /// What a break costs.
 #[derive(Clone, Copy)]
@@ -43,12 +42,11 @@ const GAPS: &[(&str, Role, Role, u32, Price)] = &[
 ];
 
 #[test]
-fn prices_the_gaps_of_a_line(rt: HostRuntime) -> Result<(), Fail> {
-    let style = style("LLVM")?;
+fn prices_the_gaps_of_a_line(rt: HostRuntime) {
+    let style = style(&rt, "LLVM");
     for case in GAPS {
         let (text, left, right, depth, price) = *case;
         let (left, right) = (token(left, 0, 1), token(right, depth, 1));
         same(&rt, text, gap_rule(&style, &left, &right), rule(price));
     }
-    Ok(())
 }

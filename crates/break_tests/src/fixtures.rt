@@ -1,18 +1,18 @@
-//! Named styles, and tokens by their roles.
+//! Named styles, tokens by their roles, and steps from one token to the next.
 
-ghost use Rattle.std.specs.Prelude.{IfOk};
 ghost use Rattle.style_table.specs.Range.{IsInRange};
 
-use line_tokens::{GapFacts, ItemKind, LineTok, Role, TokenId};
-use std::test::Fail;
+use crate::comparing::holds;
+use line_state::{State, allowed, step};
+use line_tokens::{Fixed, GapFacts, ItemKind, LineTok, Role, TokenId};
+use std::process::Abort;
 use style_table::Style;
 
 /// The style of this name.
-pub fn style(name: &str) -> Result<Style, Fail>
-    ensures { IfOk result IsInRange }
+pub fn style(rt: &impl Abort, name: &str) -> Style
+    ensures { IsInRange result }
 {
-    let style = Style::named(name).ok_or("a style")?;
-    Ok(style)
+    Style::named(name).expect(rt, "a style")
 }
 
 /// A token of this role, depth and width, behind a blank. An operator binds as `||` does.
@@ -38,6 +38,27 @@ pub fn token(role: Role, depth: u32, width: u32) -> LineTok {
         first_width: width,
         last_width: width,
     }
+}
+
+/// The state behind a token, where the gap before it may break so.
+pub fn step_by(
+    rt: &impl Abort,
+    style: &Style,
+    state: &State,
+    left: &LineTok,
+    right: &LineTok,
+    fixed: Option<Fixed>,
+    brk: bool,
+) -> Option<State>
+    requires { IsInRange style.now }
+{
+    if !allowed(style, state, left, right, fixed, brk) {
+        return None;
+    }
+    let most = u128::from(state.index) * 18_446_744_073_709_551_615;
+    holds(rt, "few tokens", state.index < 4_294_967_295);
+    holds(rt, "a cost of these tokens", state.cost <= most);
+    Some(step(style, state, left, right, fixed, brk).expect(rt, "a state"))
 }
 
 /// How many of these hold.

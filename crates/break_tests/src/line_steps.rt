@@ -1,11 +1,9 @@
 //! A worked line, token by token.
 
-use crate::comparing::same_at;
-use crate::fixtures::{style, token};
-use line_state::{State, allowed, cells, start, step};
+use crate::comparing::same;
+use crate::fixtures::{step_by, style, token};
+use line_state::{cells, start};
 use line_tokens::Role;
-use std::process::Abort;
-use std::test::Fail;
 
 /// A token by its role, depth and width, whether the gap before it breaks, and the column, the cost and the cells
 /// behind it.
@@ -22,27 +20,29 @@ const CALL: &[Step] = &[
     (Role::Semi, 0, 1, false, 78, 19, 1),
 ];
 
-/// This is so behind the token `at` of the line.
-fn is_behind(rt: &impl Abort, at: usize, state: &State, column: u32, cost: u128, count: u64) {
-    same_at(rt, "the column", at, state.column, column);
-    same_at(rt, "the cost", at, state.cost, cost);
-    same_at(rt, "the cells", at, cells(state), count);
-}
-
 #[test]
-fn walks_a_call(rt: HostRuntime) -> Result<(), Fail> {
-    let style = style("LLVM")?;
+fn walks_a_call(rt: HostRuntime) {
+    let style = style(&rt, "LLVM");
     let mut state = start(rt.alloc(), &style, 0);
     let mut left = token(Role::Word, 0, 40);
-    for (k, step_by) in CALL.iter().enumerate() {
-        let (role, depth, width, brk, column, cost, count) = *step_by;
+    for (k, case) in CALL.iter().enumerate() {
+        let (role, depth, width, brk, column, cost, count) = *case;
         let right = token(role, depth, width);
-        assert!(rt; allowed(&style, &state, &left, &right, None, brk), "{k}");
-        assert!(rt; state.index < 10);
-        assert!(rt; state.cost <= u128::from(state.index) * 18_446_744_073_709_551_615);
-        state = step(&style, &state, &left, &right, None, brk)?;
-        is_behind(&rt, k, &state, column, cost, count);
+        let next = step_by(&rt, &style, &state, &left, &right, None, brk);
+        same(
+            &rt,
+            "a gap that may break so",
+            (k, next.is_some()),
+            (k, true),
+        );
+        state = next.expect(&rt, "a state");
+        let found = (k, state.column, state.cost, cells(&state));
+        same(
+            &rt,
+            "the column, the cost, the cells",
+            found,
+            (k, column, cost, count),
+        );
         left = right;
     }
-    Ok(())
 }

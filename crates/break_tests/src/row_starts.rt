@@ -1,23 +1,18 @@
 //! Rows of lines under the named styles, as `docs/PROFILE.md` says under "Rows of lines".
 
-use crate::comparing::{same, same_at};
+use crate::comparing::same;
 use crate::fixtures::{style, token};
 use indenter::{empty_lines, start_column};
-use line_tokens::{GapFacts, LineKind, LineTok, Role, TokenId, ULine};
-use std::test::Fail;
+use line_tokens::{LineKind, LineTok, Role, TokenId, ULine};
+use std::process::Abort;
 
 /// A token with this number and so many new-lines before it.
 fn token_behind(id: u32, role: Role, lines: u32) -> LineTok {
-    let token = token(role, 0, 1);
-    LineTok {
-        id: TokenId(id),
-        gap: GapFacts {
-            lines,
-            began: lines > 0,
-            ..token.gap
-        },
-        ..token
-    }
+    let mut token = token(role, 0, 1);
+    token.id = TokenId(id);
+    token.gap.lines = lines;
+    token.gap.began = lines > 0;
+    token
 }
 
 /// A line of this kind and level.
@@ -34,19 +29,12 @@ fn line(kind: LineKind, level: u32) -> ULine {
 const LEVELS: &[(&str, u32, u32)] = &[("LLVM", 3, 6), ("WebKit", 2, 8), ("LLVM", 0, 0)];
 
 #[test]
-fn starts_at_the_level(rt: HostRuntime) -> Result<(), Fail> {
+fn starts_at_the_level(rt: HostRuntime) {
     for (name, level, column) in LEVELS {
-        let style = style(name)?;
         let line = line(LineKind::Simple, *level);
-        same_at(
-            &rt,
-            name,
-            *level as usize,
-            start_column(&style, &line),
-            *column,
-        );
+        let found = start_column(&style(&rt, name), &line);
+        same(&rt, name, (*level, found), (*level, *column));
     }
-    Ok(())
 }
 
 /// The first token of a line, behind so many new-lines, and the empty lines that stay before it.
@@ -127,21 +115,19 @@ const STARTS: &[Start] = &[
 ];
 
 /// How many empty lines stay before the first token of a line.
-fn empty_lines_of(start: &Start) -> Result<u32, Fail> {
-    let style = style(start.style)?;
+fn empty_lines_of(rt: &impl Abort, start: &Start) -> u32 {
+    let style = style(rt, start.style);
     let line = line(start.kind, 1);
     let first = token_behind(start.id, start.role, start.lines);
-    let count = match start.before {
+    match start.before {
         Some(role) => empty_lines(&style, Some(&token(role, 0, 1)), &line, &first),
         None => empty_lines(&style, None, &line, &first),
-    };
-    Ok(count)
+    }
 }
 
 #[test]
-fn keeps_few_empty_lines(rt: HostRuntime) -> Result<(), Fail> {
+fn keeps_few_empty_lines(rt: HostRuntime) {
     for start in STARTS {
-        same(&rt, start.name, empty_lines_of(start)?, start.empty);
+        same(&rt, start.name, empty_lines_of(&rt, start), start.empty);
     }
-    Ok(())
 }

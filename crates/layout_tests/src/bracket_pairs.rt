@@ -1,13 +1,16 @@
 //! Classes, partners and kept gaps, as `docs/PROFILE.md` says under "Statements and lines".
 
-use crate::comparing::{same, same_at};
-use crate::fixtures::{count_of, items_around, items_from};
-use brackets::{bracket_facts, partners_of_classes};
+ghost use Rattle.std.specs.Prelude.{◌<◌, length};
+
+use crate::comparing::{holds, same};
+use crate::fixtures::{count_of, items, view_of};
+use brackets::{Partner, bracket_facts, partners_of_classes};
 use bumpalo::Bump;
+use bumpalo::collections::into_bump_slice;
 use line_tokens::TokenId;
-use std::alloc::{AllocError, Global};
-use std::test::Fail;
-use token_arena::{Dialect, build};
+use std::alloc::AllocError;
+use std::process::Abort;
+use token_arena::TokenArena;
 use token_classes::TokenClass::{
     self, CallWord, CapitalWord, CloseBrace, CloseRound, CloseSquare, Comma, Equals, Hash, If,
     Literal, OpenBrace, OpenRound, OpenSquare, PlainWord, Semicolon, Sign, TypeWord,
@@ -31,12 +34,15 @@ fn letter_class(letter: u8) -> TokenClass {
 }
 
 /// The classes of tokens of one letter.
-fn letter_classes(alloc: Global, letters: &[u8]) -> Result<Vec<TokenClass>, AllocError> {
-    let mut classes = Vec::new(alloc);
+fn letter_classes<'r>(rt: &impl Abort, letters: &[u8], run: &'r Bump) -> &'r [TokenClass]
+    ensures { length result.now < 100 }
+{
+    let mut classes = Vec::new(run);
     for letter in letters {
-        classes.push(letter_class(*letter))?;
+        classes.push(letter_class(*letter)).expect(rt, "memory");
     }
-    Ok(classes)
+    holds(rt, "few letters", classes.len() < 100);
+    into_bump_slice(classes)
 }
 
 /// Tokens of one letter, and the place of the partner of each.
@@ -55,20 +61,24 @@ const PAIRS: &[(&str, &[u8], &[Option<u32>])] = &[
     ("nested", b"{{}}", &[Some(3), Some(2), Some(1), Some(0)]),
 ];
 
+/// The places of partners.
+fn places_of<'r>(rt: &impl Abort, partners: &[Partner], run: &'r Bump) -> &'r [Option<u32>] {
+    let mut places = Vec::new(run);
+    for partner in partners {
+        places.push(partner.place()).expect(rt, "memory");
+    }
+    into_bump_slice(places)
+}
+
 #[test]
-fn pairs_brackets(rt: HostRuntime) -> Result<(), Fail> {
+fn pairs_brackets(rt: HostRuntime) {
     let run = Bump::new(rt.alloc());
     for case in PAIRS {
         let (name, letters, want) = *case;
-        let classes = letter_classes(rt.alloc(), letters)?;
-        assert!(rt; classes.len() < 100);
-        let found = partners_of_classes(&classes, &run)?;
-        same(&rt, name, found.len(), want.len());
-        for (k, (partner, place)) in found.iter().zip(want).enumerate() {
-            same_at(&rt, name, k, partner.place(), *place);
-        }
+        let classes = letter_classes(&rt, letters, &run);
+        let partners = partners_of_classes(classes, &run).expect(&rt, "partners");
+        same(&rt, name, places_of(&rt, partners, &run), want);
     }
-    Ok(())
 }
 
 /// Tokens of one letter; below each stands whether the gap before it is kept.
@@ -89,44 +99,73 @@ const KEPT: &[(&str, &[u8], &[u8])] = &[
     ("a brace without partner", b"({a;)", b"....."),
 ];
 
+/// A mark for each gap that is kept, and a point for each other.
+fn marks_of<'r>(rt: &impl Abort, kept: &[bool], run: &'r Bump) -> &'r [u8] {
+    let mut marks = Vec::new(run);
+    for is_kept in kept {
+        let mark = if *is_kept { b'^' } else { b'.' };
+        marks.push(mark).expect(rt, "memory");
+    }
+    into_bump_slice(marks)
+}
+
 #[test]
-fn keeps_the_gaps_of_statement_braces(rt: HostRuntime) -> Result<(), Fail> {
+fn keeps_the_gaps_of_statement_braces(rt: HostRuntime) {
     let run = Bump::new(rt.alloc());
     for case in KEPT {
-        let (name, letters, want) = *case;
-        let classes = letter_classes(rt.alloc(), letters)?;
-        assert!(rt; classes.len() < 100);
-        let facts = bracket_facts(&classes, &run)?;
-        let partners = partners_of_classes(&classes, &run)?;
+        let (name, letters, marks) = *case;
+        let classes = letter_classes(&rt, letters, &run);
+        let facts = bracket_facts(classes, &run).expect(&rt, "facts");
+        let partners = partners_of_classes(classes, &run).expect(&rt, "partners");
         same(&rt, name, facts.partners, partners);
-        same(&rt, name, facts.kept.len(), want.len());
-        for (k, (kept, mark)) in facts.kept.iter().zip(want).enumerate() {
-            same_at(&rt, name, k, *kept, *mark == b'^');
-        }
+        same(&rt, name, marks_of(&rt, facts.kept, &run), marks);
+    }
+}
+
+/// Statements in brackets and in many braces: tokens of these classes, so many times.
+const DEEP: &[(&[TokenClass], u32)] = &[
+    (&[OpenRound], 1),
+    (&[OpenBrace, Semicolon], 100_000),
+    (&[CloseBrace], 100_000),
+    (&[CloseRound], 1),
+];
+
+/// Adds these classes so many times.
+fn push_times(
+    classes: &mut Vec<TokenClass, &Bump>,
+    added: &[TokenClass],
+    count: u32,
+) -> Result<(), AllocError> {
+    for _ in 0..count {
+        classes.extend_from_slice(added)?;
     }
     Ok(())
 }
 
+/// The classes of many statements.
+fn deep_classes<'r>(rt: &impl Abort, run: &'r Bump) -> &'r [TokenClass]
+    ensures { length result.now < 1000000 }
+{
+    let mut classes = Vec::new(run);
+    for (added, count) in DEEP {
+        push_times(&mut classes, added, *count).expect(rt, "memory");
+    }
+    holds(rt, "not too many", classes.len() < 1_000_000);
+    into_bump_slice(classes)
+}
+
 #[test]
-fn keeps_the_gaps_of_many_statement_braces(rt: HostRuntime) -> Result<(), Fail> {
-    let depth = 100_000;
+fn keeps_the_gaps_of_many_statement_braces(rt: HostRuntime) {
     let run = Bump::new(rt.alloc());
-    let mut classes = Vec::new(rt.alloc());
-    classes.push(OpenRound)?;
-    for _ in 0..depth {
-        classes.push(OpenBrace)?;
-        classes.push(Semicolon)?;
-    }
-    for _ in 0..depth {
-        classes.push(CloseBrace)?;
-    }
-    classes.push(CloseRound)?;
-    assert!(rt; classes.len() < 1_000_000);
-    let kept = bracket_facts(&classes, &run)?.kept;
-    // All are, but those before the brackets outside and before the first brace.
-    same(&rt, "how many gaps", kept.len(), 300_002);
-    same(&rt, "how many are kept", count_of(kept), 299_999);
-    Ok(())
+    let facts = bracket_facts(deep_classes(&rt, &run), &run).expect(&rt, "facts");
+    // All are kept, but those before the brackets outside and before the first brace.
+    let found = (facts.kept.len(), count_of(facts.kept));
+    same(
+        &rt,
+        "how many gaps, and how many are kept",
+        found,
+        (300_002, 299_999),
+    );
 }
 
 /// An item, and its class.
@@ -149,16 +188,22 @@ const CLASSES: &[(&str, TokenClass)] = &[
     ("+", Sign),
 ];
 
+/// How many items a text has, and the class of the first.
+fn first_class(rt: &impl Abort, text: &[u8], run: &Bump) -> (u32, TokenClass) {
+    let arena = items(rt, text, run);
+    holds(rt, "some items", !arena.is_empty());
+    let class = item_class(&arena, TokenId(0), run).expect(rt, "a class");
+    (arena.len(), class)
+}
+
 #[test]
-fn tells_the_classes_of_items(rt: HostRuntime) -> Result<(), Fail> {
+fn tells_the_classes_of_items(rt: HostRuntime) {
     let run = Bump::new(rt.alloc());
     for case in CLASSES {
         let (text, want) = *case;
-        let arena = build(&run, text.as_bytes(), Dialect::C11)?;
-        assert!(rt; arena.len() == 1, "{text}");
-        same(&rt, text, item_class(&arena, TokenId(0), &run)?, want);
+        let found = first_class(&rt, text.as_bytes(), &run);
+        same(&rt, text, found, (1, want));
     }
-    Ok(())
 }
 
 /// The classes of the items of the next test's text.
@@ -190,17 +235,23 @@ const AROUND: &[TokenClass] = &[
     Semicolon,
 ];
 
+/// The classes of a text's items, but for those of a directive where its first and its end are told.
+fn viewed_classes<'r>(
+    rt: &impl Abort,
+    arena: &TokenArena<'_, '_>,
+    directive: Option<(u32, u32)>,
+    run: &'r Bump,
+) -> &'r [TokenClass] {
+    let all = item_classes(arena, run).expect(rt, "classes");
+    let view = view_of(rt, arena, directive, run);
+    classes_among(all, arena, &view, run).expect(rt, "classes")
+}
+
 #[test]
-fn takes_the_classes_of_views(rt: HostRuntime) -> Result<(), Fail> {
+fn takes_the_classes_of_views(rt: HostRuntime) {
     let run = Bump::new(rt.alloc());
-    let arena = build(&run, b"if (x)\n#undef y\ny[0];", Dialect::C11)?;
-    assert!(rt; arena.len() == 12);
-    let all = item_classes(&arena, &run)?;
-    let whole = items_from(&arena, 0, &run)?;
-    let found = classes_among(all, &arena, &whole, &run)?;
-    same(&rt, "all", found, ALL);
-    let around = items_around(&arena, 4, 7, &run)?;
-    let found = classes_among(all, &arena, &around, &run)?;
-    same(&rt, "around a directive", found, AROUND);
-    Ok(())
+    let arena = items(&rt, b"if (x)\n#undef y\ny[0];", &run);
+    same(&rt, "all", viewed_classes(&rt, &arena, None, &run), ALL);
+    let around = viewed_classes(&rt, &arena, Some((4, 7)), &run);
+    same(&rt, "around a directive", around, AROUND);
 }

@@ -2,17 +2,13 @@
 
 ghost use Rattle.style_table.specs.Range.{IsInRange};
 
-use crate::comparing::same;
-use crate::fixtures::style;
+use crate::fixtures::{Output, WHOLE, is_written, items, open_plan, style};
 use bumpalo::Bump;
 use directives::sections;
-use fmt_ports::MemSink;
 use laid_directives::lay_all;
-use replacements::{Plan, write_out};
 use std::alloc::Global;
-use std::test::Fail;
+use std::process::Abort;
 use style_table::{AlignEscapedNewlines, IndentPPDirectives, Style};
-use token_arena::{Dialect, build};
 
 /// What a row sets beside the LLVM style, 20 columns and backslashes that aren't aligned.
 #[derive(Clone, Copy)]
@@ -314,26 +310,26 @@ fn with_setting(mut style: Style, setting: Setting) -> Style
     }
 }
 
-/// The text of a row with its directives laid out; what they leave open keeps its bytes.
-fn laid(alloc: Global, bump: &Bump, row: &Row) -> Result<Vec<u8>, Fail> {
-    let style = with_setting(style("LLVM")?, row.setting);
-    let arena = build(bump, row.input, Dialect::C11)?;
-    let sections = sections(&arena, bump)?;
-    let mut plan = Plan::make(&arena, bump)?;
-    lay_all(alloc, &style, &arena, sections, &mut plan)?;
-    let mut sink = MemSink::new(alloc, Vec::new(alloc));
-    write_out(&style, false, &arena, sections, &plan, &mut sink)
-        .ok()
-        .ok_or("a write")?;
-    Ok(sink.taken().to_vec(alloc)?)
+/// The text of a row is this with its directives laid out; what they leave open keeps its bytes.
+fn is_laid(rt: &impl Abort, alloc: Global, row: &Row, bump: &Bump) {
+    let style = with_setting(style(rt, "LLVM"), row.setting);
+    let arena = items(rt, row.input, bump);
+    let sections = sections(&arena, bump).expect(rt, "sections");
+    let mut plan = open_plan(rt, &arena, bump);
+    lay_all(alloc, &style, &arena, sections, &mut plan).expect(rt, "a plan");
+    let output = Output {
+        text: row.output,
+        ..WHOLE
+    };
+    is_written(
+        rt, alloc, row.name, &style, &arena, sections, &plan, &output,
+    );
 }
 
 #[test]
-fn lays_out_each_row(rt: HostRuntime) -> Result<(), Fail> {
+fn lays_out_each_row(rt: HostRuntime) {
     let bump = Bump::new(rt.alloc());
     for row in &ROWS {
-        let output = laid(rt.alloc(), &bump, row)?;
-        same(&rt, row.name, output.as_slice(), row.output);
+        is_laid(&rt, rt.alloc(), row, &bump);
     }
-    Ok(())
 }

@@ -1,43 +1,77 @@
-//! Named styles, views of texts, and what the lower layers tell of a view.
+//! Named styles, items, views and plans of texts, what the lower layers tell of a view, and what is written of a plan.
 
-ghost use Rattle.std.specs.Prelude.{◌≡◌, ◌<◌, length, IfOk};
+ghost use Rattle.std.specs.Prelude.{◌≡◌, ◌+◌, ◌<◌, length, IfOk};
 ghost use Rattle.annotator.specs.Tokens.{TellItems};
 ghost use Rattle.token_classes.specs.Viewed.{AreWithin, classes_of};
 ghost use Rattle.style_table.specs.Range.{IsInRange};
 ghost use Rattle.line_tokens.specs.Lines.{CutPlaces};
 
+use crate::comparing::{holds, same};
 use annotator::roles_of_classes;
 use brackets::partners_of_classes;
 use bumpalo::Bump;
+use directives::Section;
+use fmt_ports::MemSink;
 use line_tokens::{LineTok, NoMemory, ULine};
-use std::test::Fail;
+use replacements::{Plan, write_out};
+use std::alloc::Global;
+use std::process::Abort;
 use style_table::Style;
-use token_arena::TokenArena;
+use token_arena::{Dialect, TokenArena, build};
 use token_classes::{TokenClass, classes};
 use token_views::{Stretch, View};
 use unwrapped_lines::lines_of_classes;
 
 /// The style of this name.
-pub fn style(name: &str) -> Result<Style, Fail>
-    ensures { IfOk result IsInRange }
+pub fn style(rt: &impl Abort, name: &str) -> Style
+    ensures { IsInRange result }
 {
-    let style = Style::named(name).ok_or("a style")?;
-    Ok(style)
+    Style::named(name).expect(rt, "a style")
 }
 
-/// The view of a text's items from one on.
-pub fn items_from<'r>(
-    arena: &TokenArena<'_, '_>,
-    first: u32,
-    run: &'r Bump,
-) -> Result<View<'r>, NoMemory>
-    ensures { IfOk result (AreWithin arena.now) }
+/// The items of a text.
+pub fn items<'t>(rt: &impl Abort, text: &'t [u8], run: &'t Bump) -> TokenArena<'t, 't> {
+    build(run, text, Dialect::C11).expect(rt, "the items of a text")
+}
+
+/// The three items of a text.
+pub fn three_items<'t>(rt: &impl Abort, run: &'t Bump) -> TokenArena<'t, 't>
+    ensures { length result.tokens ≡ 3 }
 {
-    View::of(first, arena.len(), run)
+    let arena = items(rt, b"a b c", run);
+    holds(rt, "three items", arena.len() == 3);
+    arena
+}
+
+/// A plan for a text, in which nothing is decided.
+pub fn open_plan<'r>(rt: &impl Abort, arena: &TokenArena<'_, '_>, run: &'r Bump) -> Plan<'r>
+    ensures { length result ≡ length arena.now.tokens + 1 }
+{
+    Plan::make(arena, run).expect(rt, "a plan")
+}
+
+/// The view of a text's items, but for those of a directive where its first and its end are told.
+pub fn view_of<'r>(
+    rt: &impl Abort,
+    arena: &TokenArena<'_, '_>,
+    directive: Option<(u32, u32)>,
+    run: &'r Bump,
+) -> View<'r>
+    ensures { AreWithin arena.now result }
+{
+    match directive {
+        None => View::of(0, arena.len(), run).expect(rt, "a view"),
+        Some((first, end)) => {
+            holds(rt, "items before a directive", 0 < first);
+            holds(rt, "a directive", first < end);
+            holds(rt, "items behind it", end < arena.len());
+            items_around(arena, first, end, run).expect(rt, "a view")
+        }
+    }
 }
 
 /// The view of the items before a directive and of those behind it; its items are those from `first` up to `end`.
-pub fn items_around<'r>(
+fn items_around<'r>(
     arena: &TokenArena<'_, '_>,
     first: u32,
     end: u32,
@@ -87,24 +121,66 @@ pub struct Told<'r> {
 
 /// The classes, the lines and the tokens of a view.
 pub fn read_view<'r>(
+    rt: &impl Abort,
     style: &Style,
     arena: &TokenArena<'_, '_>,
     view: &View<'_>,
     run: &'r Bump,
-) -> Result<Told<'r>, Fail>
+) -> Told<'r>
     requires { AreWithin arena.now view.now }
-    ensures classes { IfOk result (λ t. t.classes.now ≡ classes_of arena.now view.now) }
-    ensures cut { IfOk result (λ t. CutPlaces 0 (length view.now) t.lines.now) }
-    ensures count { IfOk result (λ t. length t.tokens.now ≡ length view.now) }
-    ensures items { IfOk result (λ t. TellItems arena.now view.now t.tokens.now) }
+    ensures classes { result.classes.now ≡ classes_of arena.now view.now }
+    ensures cut { CutPlaces 0 (length view.now) result.lines.now }
+    ensures count { length result.tokens.now ≡ length view.now }
+    ensures items { TellItems arena.now view.now result.tokens.now }
 {
-    let classes = classes(arena, view, run)?;
-    let partners = partners_of_classes(classes, run)?;
-    let lines = lines_of_classes(style, arena, view, classes, partners, run)?;
-    let tokens = roles_of_classes(arena, view, classes, partners, lines, run)?;
-    Ok(Told {
+    let classes = classes(arena, view, run).expect(rt, "classes");
+    let partners = partners_of_classes(classes, run).expect(rt, "partners");
+    let lines = lines_of_classes(style, arena, view, classes, partners, run).expect(rt, "lines");
+    let tokens = roles_of_classes(arena, view, classes, partners, lines, run).expect(rt, "tokens");
+    Told {
         classes,
         lines,
         tokens,
-    })
+    }
+}
+
+/// What a sink takes of a text, whose calls with these numbers fail.
+#[derive(Clone, Copy)]
+pub struct Output {
+    /// Whether lines end in `\r\n`.
+    pub crlf: bool,
+    /// The numbers of the calls that fail.
+    pub failing: &'static [u64],
+    /// What the sink takes.
+    pub text: &'static [u8],
+    /// Whether it takes all.
+    pub done: bool,
+}
+
+/// A sink takes all of an empty text.
+pub const WHOLE: Output = Output {
+    crlf: false,
+    failing: &[],
+    text: b"",
+    done: true,
+};
+
+/// This is written of the plan of the case of this name.
+pub fn is_written(
+    rt: &impl Abort,
+    alloc: Global,
+    name: &str,
+    style: &Style,
+    arena: &TokenArena<'_, '_>,
+    sections: &[Section],
+    plan: &Plan<'_>,
+    output: &Output,
+)
+    requires range { IsInRange style.now }
+    requires whole { length plan.now ≡ length arena.now.tokens + 1 }
+{
+    let failing = output.failing.to_vec(alloc).expect(rt, "memory");
+    let mut sink = MemSink::new(alloc, failing);
+    let done = write_out(style, output.crlf, arena, sections, plan, &mut sink).is_ok();
+    same(rt, name, (sink.taken(), done), (output.text, output.done));
 }

@@ -1,72 +1,61 @@
 //! Decisions for small texts.
 
-use crate::comparing::same;
+use crate::comparing::{holds, same};
+use crate::fixtures::{items, open_plan, three_items};
 use bumpalo::Bump;
-use replacements::{Decided, Decision, Fixed, Plan, Slot};
+use replacements::{Decided, Decision, Fixed, Slot};
 use std::process::Abort;
-use std::test::Fail;
-use token_arena::{Dialect, build};
 
-/// A decision for so many blanks before an item at a column.
-fn blanks(count: u32, end: u32) -> Slot {
-    Slot {
-        decision: Decision::Spaces(count),
-        end,
-    }
-}
+/// What is decided for the first, the second and the last gap of the next test's text.
+const SLOTS: (Option<Slot>, Option<Slot>, Option<Slot>) = (
+    None,
+    Some(Slot {
+        decision: Decision::Spaces(1),
+        end: 2,
+    }),
+    Some(Slot {
+        decision: Decision::Spaces(0),
+        end: 5,
+    }),
+);
 
 #[test]
-fn keeps_the_first_decision(rt: HostRuntime) -> Result<(), Fail> {
+fn keeps_the_first_decision(rt: HostRuntime) {
     let bump = Bump::new(rt.alloc());
-    let arena = build(&bump, b"a b c", Dialect::C11)?;
-    assert!(rt; arena.len() == 3);
-    let mut plan = Plan::make(&arena, &bump)?;
-    same(&rt, "the last gap", plan.slot(3), None);
-    let decided = [
-        plan.decide(1, Decision::Spaces(1), 2),
-        plan.decide(1, Decision::Old, 7),
-        plan.decide(3, Decision::Spaces(0), 5),
-    ];
-    let want = [Decided::New, Decided::Kept, Decided::New];
-    same(&rt, "what is decided", decided, want);
-    same(&rt, "a gap that is open", plan.slot(0), None);
+    let arena = three_items(&rt, &bump);
+    let mut plan = open_plan(&rt, &arena, &bump);
+    same(&rt, "the last gap, open", plan.slot(3), None);
+    let first = plan.decide(1, Decision::Spaces(1), 2);
+    let second = plan.decide(1, Decision::Old, 7);
+    let last = plan.decide(3, Decision::Spaces(0), 5);
+    let want = (Decided::New, Decided::Kept, Decided::New);
+    same(&rt, "what is decided", (first, second, last), want);
+    let slots = (plan.slot(0), plan.slot(1), plan.slot(3));
+    same(&rt, "the first, the second and the last gap", slots, SLOTS);
+    let decided = (plan.is_decided(2), plan.is_decided(3));
+    let want = (false, true);
     same(
         &rt,
-        "a gap that is decided",
-        plan.slot(1),
-        Some(blanks(1, 2)),
+        "whether the third and the last are decided",
+        decided,
+        want,
     );
-    same(&rt, "whether a gap is open", plan.is_decided(2), false);
-    same(
-        &rt,
-        "whether the last gap is decided",
-        plan.is_decided(3),
-        true,
-    );
-    same(
-        &rt,
-        "the last gap, decided",
-        plan.slot(3),
-        Some(blanks(0, 5)),
-    );
-    Ok(())
 }
 
-/// What is told of a text's gap that is decided at column 9.
+/// What is told of a text's gap while it's open, and what once it is decided at column 9.
 fn told(
     rt: &impl Abort,
-    bump: &Bump,
     text: &[u8],
     place: u32,
     decision: Decision,
-) -> Result<Option<Fixed>, Fail> {
-    assert!(rt; text.len() < 100);
-    let arena = build(bump, text, Dialect::C11)?;
-    assert!(rt; place <= arena.len());
-    let mut plan = Plan::make(&arena, bump)?;
-    same(rt, "an open gap", plan.fixed_of(&arena, place), None);
-    same(rt, "a gap", plan.decide(place, decision, 9), Decided::New);
-    Ok(plan.fixed_of(&arena, place))
+    bump: &Bump,
+) -> (Option<Fixed>, Decided, Option<Fixed>) {
+    let arena = items(rt, text, bump);
+    holds(rt, "a gap of the text", place <= arena.len());
+    let mut plan = open_plan(rt, &arena, bump);
+    let open = plan.fixed_of(&arena, place);
+    let decided = plan.decide(place, decision, 9);
+    (open, decided, plan.fixed_of(&arena, place))
 }
 
 /// Indentation to column 9.
@@ -133,12 +122,12 @@ const ENDS: &[(&str, &[u8], u32, Decision, bool)] = &[
 ];
 
 #[test]
-fn tells_where_a_decision_ends_a_line(rt: HostRuntime) -> Result<(), Fail> {
+fn tells_where_a_decision_ends_a_line(rt: HostRuntime) {
     let bump = Bump::new(rt.alloc());
     for case in ENDS {
         let (name, text, place, decision, broken) = *case;
-        let fixed = told(&rt, &bump, text, place, decision)?;
-        same(&rt, name, fixed, Some(Fixed { column: 9, broken }));
+        let fixed = Some(Fixed { column: 9, broken });
+        let found = told(&rt, text, place, decision, &bump);
+        same(&rt, name, found, (None, Decided::New, fixed));
     }
-    Ok(())
 }

@@ -1,6 +1,5 @@
 //! The bytes of decisions, as `docs/PROFILE.md` says under "White space of a decision".
 
-ghost use Rattle.std.specs.Prelude.{IfOk};
 ghost use Rattle.style_table.specs.Range.{IsInRange};
 
 use crate::comparing::same;
@@ -8,35 +7,34 @@ use crate::fixtures::style;
 use fmt_ports::TextSink;
 use gap_text::{Decision, short_lines, write_gap};
 use std::alloc::Global;
-use std::test::Fail;
+use std::process::Abort;
 use style_table::{Style, UseTab};
 
 /// The LLVM style with tabs of four columns, used so.
-fn tabbed(use_tab: UseTab) -> Result<Style, Fail>
-    ensures { IfOk result IsInRange }
+fn tabbed(rt: &impl Abort, use_tab: UseTab) -> Style
+    ensures { IsInRange result }
 {
-    let llvm = style("LLVM")?;
-    Ok(Style {
-        use_tab,
-        tab_width: 4,
-        ..llvm
-    })
+    let mut style = style(rt, "LLVM");
+    style.use_tab = use_tab;
+    style.tab_width = 4;
+    style
 }
+
+/// The old bytes of each gap.
+const OLD: &[u8] = b" \\\n\t";
 
 /// What a decision writes with tabs used so.
 fn written(
+    rt: &impl Abort,
     alloc: Global,
     use_tab: UseTab,
     crlf: bool,
     decision: Decision,
-    old: &[u8],
-) -> Result<Vec<u8>, Fail> {
-    let style = tabbed(use_tab)?;
-    let mut sink = TextSink::with_room(alloc, 0)?;
-    write_gap(&style, crlf, decision, old, &mut sink)
-        .ok()
-        .ok_or("a write")?;
-    Ok(sink.into_text())
+) -> Vec<u8> {
+    let style = tabbed(rt, use_tab);
+    let mut sink = TextSink::with_room(alloc, 0).expect(rt, "a sink");
+    write_gap(&style, crlf, decision, OLD, &mut sink).expect(rt, "a write");
+    sink.into_text()
 }
 
 /// Two line ends, and a row of a line of level 3 (six columns) that starts at column 9.
@@ -49,42 +47,6 @@ const ROW: Decision = Decision::Lines {
 /// The same row behind a splice.
 const SPLICE: Decision = Decision::Splice { pad: 2, column: 9 };
 
-/// A use of tabs, and what is written of `ROW` and of `SPLICE`.
-const INDENTED: &[(&str, UseTab, &[u8], &[u8])] = &[
-    ("Never", UseTab::Never, b"\n\n         ", b"  \\\n         "),
-    (
-        "ForIndentation",
-        UseTab::ForIndentation,
-        b"\n\n\t     ",
-        b"  \\\n\t\t ",
-    ),
-    (
-        "ForContinuationAndIndentation",
-        UseTab::ForContinuationAndIndentation,
-        b"\n\n\t\t ",
-        b"  \\\n\t\t ",
-    ),
-    (
-        "AlignWithSpaces",
-        UseTab::AlignWithSpaces,
-        b"\n\n\t     ",
-        b"  \\\n\t\t ",
-    ),
-    ("Always", UseTab::Always, b"\n\n\t\t ", b"  \\\n\t\t "),
-];
-
-#[test]
-fn indents_as_the_style_says(rt: HostRuntime) -> Result<(), Fail> {
-    for case in INDENTED {
-        let (name, use_tab, row, spliced) = *case;
-        let text = written(rt.alloc(), use_tab, false, ROW, b"")?;
-        same(&rt, name, text.as_slice(), row);
-        let text = written(rt.alloc(), use_tab, false, SPLICE, b"")?;
-        same(&rt, name, text.as_slice(), spliced);
-    }
-    Ok(())
-}
-
 /// A row at column 3 of a line of the deepest level.
 const DEEP: Decision = Decision::Lines {
     count: 1,
@@ -92,15 +54,92 @@ const DEEP: Decision = Decision::Lines {
     level: u32::MAX,
 };
 
-/// A decision, whether lines end in two bytes, and what is written.
-const DECIDED: &[(&str, Decision, bool, &[u8])] = &[
-    ("the old bytes", Decision::Old, false, b" \\\n\t"),
-    ("no blank", Decision::Spaces(0), false, b""),
-    ("three blanks", Decision::Spaces(3), true, b"   "),
-    ("two line ends", ROW, true, b"\r\n\r\n         "),
-    ("a deep row", DEEP, false, b"\n   "),
+/// A use of tabs, a decision, whether lines end in two bytes, and what is written.
+const WRITTEN: &[(&str, UseTab, Decision, bool, &[u8])] = &[
+    ("a row, Never", UseTab::Never, ROW, false, b"\n\n         "),
+    (
+        "a splice, Never",
+        UseTab::Never,
+        SPLICE,
+        false,
+        b"  \\\n         ",
+    ),
+    (
+        "a row, ForIndentation",
+        UseTab::ForIndentation,
+        ROW,
+        false,
+        b"\n\n\t     ",
+    ),
+    (
+        "a splice, ForIndentation",
+        UseTab::ForIndentation,
+        SPLICE,
+        false,
+        b"  \\\n\t\t ",
+    ),
+    (
+        "a row, ForContinuationAndIndentation",
+        UseTab::ForContinuationAndIndentation,
+        ROW,
+        false,
+        b"\n\n\t\t ",
+    ),
+    (
+        "a splice, ForContinuationAndIndentation",
+        UseTab::ForContinuationAndIndentation,
+        SPLICE,
+        false,
+        b"  \\\n\t\t ",
+    ),
+    (
+        "a row, AlignWithSpaces",
+        UseTab::AlignWithSpaces,
+        ROW,
+        false,
+        b"\n\n\t     ",
+    ),
+    (
+        "a splice, AlignWithSpaces",
+        UseTab::AlignWithSpaces,
+        SPLICE,
+        false,
+        b"  \\\n\t\t ",
+    ),
+    ("a row, Always", UseTab::Always, ROW, false, b"\n\n\t\t "),
+    (
+        "a splice, Always",
+        UseTab::Always,
+        SPLICE,
+        false,
+        b"  \\\n\t\t ",
+    ),
+    (
+        "the old bytes",
+        UseTab::Never,
+        Decision::Old,
+        false,
+        b" \\\n\t",
+    ),
+    ("no blank", UseTab::Never, Decision::Spaces(0), false, b""),
+    (
+        "three blanks",
+        UseTab::Never,
+        Decision::Spaces(3),
+        true,
+        b"   ",
+    ),
+    (
+        "two line ends",
+        UseTab::Never,
+        ROW,
+        true,
+        b"\r\n\r\n         ",
+    ),
+    ("a deep row", UseTab::Never, DEEP, false, b"\n   "),
     (
         "a splice",
+        UseTab::Never,
         Decision::Splice { pad: 0, column: 0 },
         true,
         b"\\\r\n",
@@ -108,13 +147,12 @@ const DECIDED: &[(&str, Decision, bool, &[u8])] = &[
 ];
 
 #[test]
-fn writes_what_was_decided(rt: HostRuntime) -> Result<(), Fail> {
-    for case in DECIDED {
-        let (name, decision, crlf, want) = *case;
-        let text = written(rt.alloc(), UseTab::Never, crlf, decision, b" \\\n\t")?;
+fn writes_what_was_decided(rt: HostRuntime) {
+    for case in WRITTEN {
+        let (name, use_tab, decision, crlf, want) = *case;
+        let text = written(&rt, rt.alloc(), use_tab, crlf, decision);
         same(&rt, name, text.as_slice(), want);
     }
-    Ok(())
 }
 
 /// A use of tabs, whether lines end in two bytes, how many there are, the column, and what is told at once.
@@ -128,11 +166,10 @@ const SHORT: &[(&str, UseTab, bool, u32, u32, Option<&[u8]>)] = &[
 ];
 
 #[test]
-fn tells_short_lines_in_one_piece(rt: HostRuntime) -> Result<(), Fail> {
+fn tells_short_lines_in_one_piece(rt: HostRuntime) {
     for case in SHORT {
         let (name, use_tab, crlf, count, column, want) = *case;
-        let style = tabbed(use_tab)?;
+        let style = tabbed(&rt, use_tab);
         same(&rt, name, short_lines(&style, crlf, count, column), want);
     }
-    Ok(())
 }
