@@ -7,14 +7,3 @@ use std::process::Abort;
 pub fn same<T: Copy + PartialEq + Debug>(rt: &impl Abort, name: &str, found: T, want: T) {
     assert_eq!(rt; found, want, "{name}");
 }
-
-/// The same of one of the items, rows or runs of a case.
-pub fn same_at<T: Copy + PartialEq + Debug>(
-    rt: &impl Abort,
-    name: &str,
-    at: usize,
-    found: T,
-    want: T,
-) {
-    assert_eq!(rt; found, want, "{name}, {at}");
-}

@@ -3,7 +3,7 @@
 //!
 //! The libraries have no tests of their own, so that they are proved once. All that is here speaks to their public calls.
 //!
-//! - `fixtures`: what several of these are made of
+//! - `fixtures`: long texts, and what the lower layers tell of a text
 //! - `comparing`: what is found beside what is wanted
 //! - `parts`: parts of a view (`view_parts`)
 //! - `text_lines`: the lines of whole texts (`unwrapped_lines`)

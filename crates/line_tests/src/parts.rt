@@ -6,8 +6,7 @@ use crate::comparing::same;
 use crate::fixtures::items_from;
 use bumpalo::Bump;
 use bumpalo::collections::into_bump_slice;
-use line_tokens::NoMemory;
-use std::test::Fail;
+use std::process::Abort;
 use token_arena::{Dialect, TokenArena, build};
 use token_classes::item_classes;
 use token_views::View;
@@ -42,35 +41,40 @@ const PARTS: &[(&str, &[u32])] = &[
 
 /// The places behind the last item of each part of a view.
 fn ends_of<'r>(
+    rt: &impl Abort,
+    name: &str,
     arena: &TokenArena<'_, '_>,
     view: &View<'_>,
     run: &'r Bump,
-) -> Result<&'r [u32], NoMemory>
+) -> &'r [u32]
     requires { AreWithin arena.now view.now }
 {
-    let all = item_classes(arena, run)?;
+    let all = item_classes(arena, run).expect(rt, name);
     let count = view.len();
     let mut ends = Vec::new(run);
     let mut segment = 0;
     let mut first = 0;
     for _ in 0..count {
         if first < count {
-            first = part_end(arena, view, all, first, &mut segment, run)?.end;
-            ends.push(first)?;
+            let part = part_end(arena, view, all, first, &mut segment, run);
+            first = part.expect(rt, name).end;
+            ends.push(first).expect(rt, name);
         }
     }
-    Ok(into_bump_slice(ends))
+    into_bump_slice(ends)
+}
+
+/// The parts of a text end behind so many of its items.
+fn has_parts(rt: &impl Abort, run: &Bump, text: &str, want: &[u32]) {
+    let arena = build(run, text.as_bytes(), Dialect::C11).expect(rt, text);
+    let view = items_from(&arena, 0, run).expect(rt, text);
+    same(rt, text, ends_of(rt, text, &arena, &view, run), want);
 }
 
 #[test]
-fn ends_parts_behind_declarations(rt: HostRuntime) -> Result<(), Fail> {
-    for case in PARTS {
-        let (text, want) = *case;
-        let run = Bump::new(rt.alloc());
-        let arena = build(&run, text.as_bytes(), Dialect::C11)?;
-        let view = items_from(&arena, 0, &run)?;
-        let found = ends_of(&arena, &view, &run)?;
-        same(&rt, text, found, want);
+fn ends_parts_behind_declarations(rt: HostRuntime) {
+    let run = Bump::new(rt.alloc());
+    for (text, want) in PARTS {
+        has_parts(&rt, &run, text, want);
     }
-    Ok(())
 }

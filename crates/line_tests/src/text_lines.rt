@@ -1,19 +1,15 @@
 //! The lines of whole texts, as `docs/PROFILE.md` says under "Statements and lines".
 
-use crate::comparing::{same, same_at};
-use crate::fixtures::{items_from, style};
-use brackets::partners;
+use crate::comparing::same;
+use crate::fixtures::{Told, read_text, repeated};
 use bumpalo::Bump;
 use line_tokens::LineKind::{
     Brace, CaseLabel, Close, Comment, Control, EnumHead, Enumerator, ExternHead, FuncHead,
     GotoLabel, MacroLine, Simple, StructHead,
 };
 use line_tokens::{LineKind, ULine};
-use std::alloc::Global;
 use std::process::Abort;
-use std::test::Fail;
-use token_arena::{Dialect, TokenArena, TokenId, build};
-use unwrapped_lines::lines;
+use token_arena::{TokenArena, TokenId};
 
 /// A line: its text, its level and its kind.
 type Row = (&'static str, u32, LineKind);
@@ -313,109 +309,91 @@ const UNBALANCED: &[Case] = &[
     ("nothing", "LLVM", " \n", &[]),
 ];
 
-/// The lines of a text in a style.
-fn lines_of<'r>(
-    name: &str,
-    arena: &TokenArena<'_, '_>,
-    run: &'r Bump,
-) -> Result<&'r [ULine], Fail> {
-    let style = style(name)?;
-    let view = items_from(arena, 0, run)?;
-    let partners = partners(arena, &view, run)?;
-    Ok(lines(&style, arena, &view, partners, run)?)
-}
-
-/// The text from one item up to another one's end.
-fn text_of<'s>(
-    rt: &impl Abort,
-    arena: &TokenArena<'_, 's>,
-    first: u32,
-    last: u32,
-) -> Result<&'s [u8], Fail> {
-    assert!(rt; first < arena.len() && last < arena.len());
-    let from = arena.get(TokenId(first)).item.start as usize;
-    let item = arena.get(TokenId(last)).item;
-    let to = (item.start as usize).saturating_add(item.raw.len());
-    let text = arena.text().get(from..to).ok_or("a stretch of the text")?;
-    Ok(text)
-}
-
-/// The text has these lines in a style.
-fn has_lines(rt: &impl Abort, run: &Bump, case: &Case) -> Result<(), Fail> {
-    let (name, style, text, want) = *case;
-    let arena = build(run, text.as_bytes(), Dialect::C11)?;
-    let found = lines_of(style, &arena, run)?;
-    same(rt, name, found.len(), want.len());
-    for (k, (line, row)) in found.iter().zip(want).enumerate() {
-        let (code, level, kind) = *row;
-        let text = text_of(rt, &arena, line.first, line.last)?;
-        same_at(rt, name, k, text, code.as_bytes());
-        same_at(rt, name, k, line.level, level);
-        same_at(rt, name, k, line.kind, kind);
+/// The text of a line.
+fn text_of<'s>(arena: &TokenArena<'_, 's>, line: &ULine) -> Option<&'s [u8]> {
+    if line.first >= arena.len() || line.last >= arena.len() {
+        return None;
     }
-    Ok(())
+    let first = arena.get(TokenId(line.first)).item;
+    let last = arena.get(TokenId(line.last)).item;
+    let end = (last.start as usize).saturating_add(last.raw.len());
+    arena.text().get(first.start as usize..end)
+}
+
+/// The lines of a text are these.
+fn are_lines(rt: &impl Abort, name: &str, found: &Told<'_, '_>, want: &[Row]) {
+    same(rt, name, found.lines.len(), want.len());
+    for (k, (line, row)) in found.lines.iter().zip(want).enumerate() {
+        let (code, level, kind) = *row;
+        let told = (k, text_of(&found.arena, line), line.level, line.kind);
+        same(rt, name, told, (k, Some(code.as_bytes()), level, kind));
+    }
 }
 
 #[test]
-fn cuts_texts_into_lines(rt: HostRuntime) -> Result<(), Fail> {
+fn cuts_texts_into_lines(rt: HostRuntime) {
     let run = Bump::new(rt.alloc());
     for cases in [STATEMENTS, COMMENTS, UNBALANCED] {
-        for case in cases {
-            has_lines(&rt, &run, case)?;
+        for (name, style, text, want) in cases {
+            let told = read_text(&rt, &run, name, style, text);
+            are_lines(&rt, name, &told, want);
         }
     }
-    Ok(())
 }
 
-/// A text that begins so, goes on with so many times a piece, and ends so.
-fn repeated(
-    alloc: Global,
-    head: &[u8],
-    piece: &[u8],
-    count: u32,
-    tail: &[u8],
-) -> Result<Vec<u8>, Fail> {
-    let mut text = Vec::new(alloc);
-    text.extend_from_slice(head)?;
-    for _time in 0..count {
-        text.extend_from_slice(piece)?;
+/// What a long text has.
+#[derive(Clone, Copy)]
+enum Long {
+    /// A `switch` with 10,000 labels that no colon ends, for which none is looked for twice.
+    Labels,
+    /// 10,000 blocks in one another.
+    Blocks,
+}
+
+/// A long text by its pieces, and how many lines it has.
+const LONG: &[(&str, Long, &[(&str, usize)], usize)] = &[
+    (
+        "labels",
+        Long::Labels,
+        &[("switch(x){", 1), ("case a;", 10_000), ("}", 1)],
+        10_002,
+    ),
+    (
+        "blocks",
+        Long::Blocks,
+        &[("{", 10_000), ("}", 10_000)],
+        20_000,
+    ),
+];
+
+/// The level and the kind of one of its lines.
+fn line_at(long: Long, line: u32) -> (u32, LineKind) {
+    match long {
+        Long::Labels if line == 0 => (0, Control),
+        Long::Labels if line <= 10_000 => (1, Simple),
+        Long::Blocks if line < 10_000 => (line, Brace),
+        Long::Labels => (0, Close),
+        Long::Blocks => (19_999u32.saturating_sub(line), Close),
     }
-    text.extend_from_slice(tail)?;
-    Ok(text)
+}
+
+/// The lines of a long text are these.
+fn are_lines_of(rt: &impl Abort, name: &str, found: &[ULine], long: Long) {
+    let mut at = 0u32;
+    for line in found {
+        let (level, kind) = line_at(long, at);
+        same(rt, name, (at, line.level, line.kind), (at, level, kind));
+        at = at.saturating_add(1);
+    }
 }
 
 #[test]
-fn looks_for_no_colon_twice(rt: HostRuntime) -> Result<(), Fail> {
+fn cuts_long_texts_into_lines(rt: HostRuntime) {
     let run = Bump::new(rt.alloc());
-    let text = repeated(rt.alloc(), b"switch(x){", b"case a;", 10_000, b"}")?;
-    let arena = build(&run, text.as_slice(), Dialect::C11)?;
-    let found = lines_of("LLVM", &arena, &run)?;
-    assert!(rt; found.len() == 10_002);
-    for line in &found[1..10_001] {
-        same(&rt, "a level", line.level, 1);
-        same(&rt, "a kind", line.kind, Simple);
+    for (name, long, pieces, count) in LONG {
+        let text = repeated(&rt, rt.alloc(), pieces);
+        let found = read_text(&rt, &run, name, "LLVM", &text).lines;
+        same(&rt, name, found.len(), *count);
+        are_lines_of(&rt, name, found, *long);
     }
-    Ok(())
-}
-
-#[test]
-fn nests_ten_thousand_braces(rt: HostRuntime) -> Result<(), Fail> {
-    let run = Bump::new(rt.alloc());
-    let open = repeated(rt.alloc(), b"", b"{", 10_000, b"")?;
-    let text = repeated(rt.alloc(), open.as_slice(), b"}", 10_000, b"")?;
-    let arena = build(&run, text.as_slice(), Dialect::C11)?;
-    let found = lines_of("LLVM", &arena, &run)?;
-    same(&rt, "how many lines", found.len(), 20_000);
-    let mut level = 0;
-    for line in found.iter().take(10_000) {
-        same(&rt, "the level of an opener", line.level, level);
-        same(&rt, "its kind", line.kind, Brace);
-        level = level.saturating_add(1);
-    }
-    for line in found.iter().skip(10_000) {
-        level = level.saturating_sub(1);
-        same(&rt, "the level of a closer", line.level, level);
-        same(&rt, "its kind", line.kind, Close);
-    }
-    Ok(())
 }

@@ -1,7 +1,7 @@
 //! The roles of whole texts, as `docs/PROFILE.md` says under "Roles".
 
-use crate::comparing::{same, same_at};
-use crate::fixtures::{items_from, style};
+use crate::comparing::same;
+use crate::fixtures::{items_from, read_text};
 use annotator::roles;
 use brackets::partners;
 use bumpalo::Bump;
@@ -14,14 +14,12 @@ use line_tokens::Role::{
 };
 use line_tokens::{LineKind, LineTok, ULine};
 use std::process::Abort;
-use std::test::Fail;
 use token_arena::{Dialect, build};
-use unwrapped_lines::lines;
 
 /// A text with the roles of its items.
 type Case = (&'static str, &'static str, &'static [Role]);
 
-const CASES: [Case; 43] = [
+const CASES: &[Case] = &[
     (
         "declarators",
         "int *p, *q;",
@@ -311,67 +309,51 @@ const CASES: [Case; 43] = [
     ),
 ];
 
-/// The tokens of a text.
-fn tokens_of<'r>(text: &[u8], run: &'r Bump) -> Result<&'r [LineTok], Fail> {
-    let arena = build(run, text, Dialect::C11)?;
-    let style = style("LLVM")?;
-    let view = items_from(&arena, 0, run)?;
-    let partners = partners(&arena, &view, run)?;
-    let lines = lines(&style, &arena, &view, partners, run)?;
-    Ok(roles(&arena, &view, partners, lines, run)?)
-}
-
 /// The tokens have these roles.
 fn have_roles(rt: &impl Abort, name: &str, found: &[LineTok], want: &[Role]) {
     same(rt, name, found.len(), want.len());
     for (k, (token, role)) in found.iter().zip(want).enumerate() {
-        same_at(rt, name, k, token.role, *role);
+        same(rt, name, (k, token.role), (k, *role));
     }
 }
 
-/// The items of a text have these roles.
-fn is_told(rt: &impl Abort, run: &Bump, case: &Case) -> Result<(), Fail> {
-    let (name, text, want) = *case;
-    let found = tokens_of(text.as_bytes(), run)?;
-    have_roles(rt, name, found, want);
-    Ok(())
-}
-
 #[test]
-fn tells_the_roles_of_texts(rt: HostRuntime) -> Result<(), Fail> {
+fn tells_the_roles_of_texts(rt: HostRuntime) {
     let run = Bump::new(rt.alloc());
-    for case in &CASES {
-        is_told(&rt, &run, case)?;
+    for (name, text, want) in CASES {
+        let told = read_text(&rt, &run, name, "LLVM", text);
+        have_roles(&rt, name, told.tokens, want);
     }
-    Ok(())
 }
 
-#[test]
-fn takes_an_operand_for_one_line(rt: HostRuntime) -> Result<(), Fail> {
-    let run = Bump::new(rt.alloc());
-    let arena = build(&run, b"#define M x=(a);if(b){c;}", Dialect::C11)?;
-    let count = arena.len();
-    assert!(rt; count == 17);
-    let view = items_from(&arena, 3, &run)?;
-    let partners = partners(&arena, &view, &run)?;
-    let line = ULine {
-        first: 0,
-        last: 13,
-        level: 0,
-        kind: LineKind::Simple,
-    };
+/// The roles of an operand's items.
+const OPERAND: &[Role] = &[
+    Word, Assign, GroupOpen, Word, GroupClose, Semi, Word, CtrlOpen, Word, CtrlClose, BlockOpen,
+    Word, Semi, BlockClose,
+];
+
+/// An operand that is one line.
+const LINE: ULine = ULine {
+    first: 0,
+    last: 13,
+    level: 0,
+    kind: LineKind::Simple,
+};
+
+/// The 14 items of an operand have these roles where they are one line.
+fn is_one_line(rt: &impl Abort, run: &Bump, text: &str, want: &[Role]) {
+    let arena = build(run, text.as_bytes(), Dialect::C11).expect(rt, text);
+    let view = items_from(&arena, 3, run).expect(rt, text);
     assert!(rt; view.len() == 14);
-    let found = roles(&arena, &view, partners, &[line], &run)?;
-    have_roles(
-        &rt,
-        "an operand",
-        found,
-        &[
-            Word, Assign, GroupOpen, Word, GroupClose, Semi, Word, CtrlOpen, Word, CtrlClose,
-            BlockOpen, Word, Semi, BlockClose,
-        ],
-    );
-    Ok(())
+    let partners = partners(&arena, &view, run).expect(rt, text);
+    let found = roles(&arena, &view, partners, &[LINE], run).expect(rt, text);
+    have_roles(rt, text, found, want);
+}
+
+#[test]
+fn takes_an_operand_for_one_line(rt: HostRuntime) {
+    let run = Bump::new(rt.alloc());
+    is_one_line(&rt, &run, "#define M x=(a);if(b){c;}", OPERAND);
 }
 
 /// What tables look at beside the role: how tightly a token binds, how many brackets are open, and whether the gap is
@@ -425,35 +407,31 @@ const LOOKED_AT: &[(&str, &str, &[u32], &[u8], &[u8])] = &[
     ),
 ];
 
-/// The item `at` of a text has these.
-fn is_looked_at(
+/// The tokens have these depths and powers, and stand behind these gaps.
+fn are_looked_at(
     rt: &impl Abort,
     name: &str,
-    at: usize,
-    token: &LineTok,
-    depth: u32,
-    power: u8,
-    gap: u8,
+    found: &[LineTok],
+    depths: &[u32],
+    powers: &[u8],
+    gaps: &[u8],
 ) {
-    same_at(rt, name, at, token.depth, depth);
-    same_at(rt, name, at, token.power, power);
-    same_at(rt, name, at, letter(token), gap);
+    let count = found.len();
+    let counts = (depths.len(), powers.len(), gaps.len());
+    same(rt, name, (count, count, count), counts);
+    for (k, token) in found.iter().enumerate() {
+        let gap = letter(token);
+        let told = (k, Some(&token.depth), Some(&token.power), Some(&gap));
+        let want = (k, depths.get(k), powers.get(k), gaps.get(k));
+        same(rt, name, told, want);
+    }
 }
 
 #[test]
-fn tells_what_else_tables_look_at(rt: HostRuntime) -> Result<(), Fail> {
+fn tells_what_else_tables_look_at(rt: HostRuntime) {
     let run = Bump::new(rt.alloc());
-    for case in LOOKED_AT {
-        let (name, text, depths, powers, gaps) = *case;
-        let found = tokens_of(text.as_bytes(), &run)?;
-        assert!(rt;
-            found.len() == depths.len() && found.len() == powers.len(),
-            "{name}"
-        );
-        assert!(rt; found.len() == gaps.len(), "{name}");
-        for (k, token) in found.iter().enumerate() {
-            is_looked_at(&rt, name, k, token, depths[k], powers[k], gaps[k]);
-        }
+    for (name, text, depths, powers, gaps) in LOOKED_AT {
+        let told = read_text(&rt, &run, name, "LLVM", text);
+        are_looked_at(&rt, name, told.tokens, depths, powers, gaps);
     }
-    Ok(())
 }

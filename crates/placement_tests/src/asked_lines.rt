@@ -1,10 +1,12 @@
 //! Worked ranges and worked texts.
 
 use crate::comparing::same;
+use crate::fixtures::repeated;
 use bumpalo::Bump;
+use bumpalo::collections::into_bump_slice;
 use off_regions::{LineRange, MOST_RANGES, RangeFault, Ranges, frozen};
-use std::alloc::{AllocError, Global};
-use std::test::Fail;
+use std::alloc::Global;
+use std::process::Abort;
 use token_arena::{Dialect, build};
 
 /// A text that is no list of ranges, and why.
@@ -13,7 +15,7 @@ struct FaultRow {
     fault: RangeFault,
 }
 
-const FAULTS: [FaultRow; 30] = [
+const FAULTS: &[FaultRow] = &[
     FaultRow {
         text: "",
         fault: RangeFault::BadText { place: 0 },
@@ -138,7 +140,7 @@ const FAULTS: [FaultRow; 30] = [
 
 #[test]
 fn tells_the_first_fault(rt: HostRuntime) {
-    for row in &FAULTS {
+    for row in FAULTS {
         let fault = Ranges::parse(rt.alloc(), row.text).err();
         same(&rt, row.text, fault, Some(row.fault));
     }
@@ -156,67 +158,91 @@ const MANY: &[(&str, usize, &str, Result<usize, RangeFault>)] = &[
     ),
 ];
 
-/// `1:1` so many times, with commas between, and something behind it.
-fn repeated(alloc: Global, times: usize, behind: &str) -> Result<String, AllocError> {
-    let mut text = String::from_str(alloc, "1:1")?;
-    for _turn in 1..times {
-        text.push_str(",1:1")?;
-    }
-    text.push_str(behind)?;
-    Ok(text)
+/// How many ranges a text has.
+fn count_of(alloc: Global, text: &str) -> Result<usize, RangeFault> {
+    Ok(Ranges::parse(alloc, text)?.as_slice().len())
 }
 
 #[test]
-fn counts_ranges_in_form(rt: HostRuntime) -> Result<(), Fail> {
+fn counts_ranges_in_form(rt: HostRuntime) {
     for case in MANY {
         let (name, times, behind, wanted) = *case;
-        let text = repeated(rt.alloc(), times, behind)?;
-        let read = Ranges::parse(rt.alloc(), &text);
-        let told = read.map(|ranges| ranges.as_slice().len());
-        same(&rt, name, told, wanted);
+        let text = repeated(
+            &rt,
+            rt.alloc(),
+            "1:1",
+            ",1:1",
+            times.saturating_sub(1),
+            behind,
+        );
+        same(&rt, name, count_of(rt.alloc(), &text), wanted);
     }
-    Ok(())
 }
 
-/// Ranges in form, and the pairs of lines that they are.
-const IN_FORM: &[(&str, &[(u32, u32)])] = &[
-    ("1:1", &[(1, 1)]),
-    ("7:9,007:007", &[(7, 9), (7, 7)]),
-    ("4:5,1:999999999", &[(4, 5), (1, 999_999_999)]),
-    ("1:3,2:2,3:4", &[(1, 3), (2, 2), (3, 4)]),
+/// Ranges in form, and the lines that they are.
+const IN_FORM: &[(&str, &[LineRange])] = &[
+    ("1:1", &[LineRange { first: 1, last: 1 }]),
+    (
+        "7:9,007:007",
+        &[
+            LineRange { first: 7, last: 9 },
+            LineRange { first: 7, last: 7 },
+        ],
+    ),
+    (
+        "4:5,1:999999999",
+        &[
+            LineRange { first: 4, last: 5 },
+            LineRange {
+                first: 1,
+                last: 999_999_999,
+            },
+        ],
+    ),
+    (
+        "1:3,2:2,3:4",
+        &[
+            LineRange { first: 1, last: 3 },
+            LineRange { first: 2, last: 2 },
+            LineRange { first: 3, last: 4 },
+        ],
+    ),
+];
+
+/// The lines are read, and they are these.
+fn are(rt: &impl Abort, name: &str, read: Option<Ranges>, wanted: &[LineRange]) {
+    let told = match &read {
+        Some(ranges) => Some((ranges.is_empty(), ranges.as_slice())),
+        None => None,
+    };
+    same(rt, name, told, Some((wanted.is_empty(), wanted)));
+}
+
+#[test]
+fn reads_ranges(rt: HostRuntime) {
+    for (text, wanted) in IN_FORM {
+        are(&rt, text, Ranges::parse(rt.alloc(), text).ok(), wanted);
+    }
+}
+
+/// Pairs of lines, and the ranges that they are.
+const PAIRS: &[(&str, &[(u32, u32)], &[LineRange])] = &[
+    ("no ranges", &[], &[]),
+    (
+        "two ranges",
+        &[(7, 9), (7, 7)],
+        &[
+            LineRange { first: 7, last: 9 },
+            LineRange { first: 7, last: 7 },
+        ],
+    ),
 ];
 
 #[test]
-fn reads_ranges(rt: HostRuntime) -> Result<(), Fail> {
-    for case in IN_FORM {
-        let (text, pairs) = *case;
-        let read = Ranges::parse(rt.alloc(), text).ok().ok_or("ranges")?;
-        same(&rt, text, read.is_empty(), false);
-        same(&rt, text, read.as_slice().len(), pairs.len());
-        for (range, (first, last)) in read.as_slice().iter().zip(pairs) {
-            let wanted = LineRange {
-                first: *first,
-                last: *last,
-            };
-            same(&rt, text, *range, wanted);
-        }
+fn makes_ranges_of_pairs(rt: HostRuntime) {
+    for (name, pairs, wanted) in PAIRS {
+        are(&rt, name, Ranges::of(rt.alloc(), pairs).ok(), wanted);
     }
-    Ok(())
-}
-
-#[test]
-fn makes_ranges_of_pairs(rt: HostRuntime) -> Result<(), Fail> {
-    let none = Ranges::of(rt.alloc(), &[]).ok().ok_or("no ranges")?;
-    same(&rt, "no ranges", none.is_empty(), true);
-    let made = Ranges::of(rt.alloc(), &[(7, 9), (7, 7)])
-        .ok()
-        .ok_or("ranges")?;
-    let wanted = [
-        LineRange { first: 7, last: 9 },
-        LineRange { first: 7, last: 7 },
-    ];
-    same(&rt, "two ranges", made.as_slice(), wanted.as_slice());
-    Ok(())
 }
 
 /// A text, its ranges, and a mark for each gap: `x` where it stays.
@@ -227,7 +253,7 @@ struct Row {
     marks: &'static [u8],
 }
 
-const ROWS: [Row; 28] = [
+const ROWS: &[Row] = &[
     Row {
         name: "the empty text",
         text: b"",
@@ -398,18 +424,28 @@ const ROWS: [Row; 28] = [
     },
 ];
 
-#[test]
-fn marks_gaps(rt: HostRuntime) -> Result<(), Fail> {
-    for row in &ROWS {
-        let bump = Bump::new(rt.alloc());
-        let arena = build(&bump, row.text, Dialect::C11)?;
-        let ranges = Ranges::parse(rt.alloc(), row.lines).ok();
-        let marks = frozen(&arena, ranges.as_ref(), &bump).ok().ok_or("marks")?;
-        let mut told = Vec::new(rt.alloc());
-        for mark in marks {
-            told.push(if *mark { b'x' } else { b'.' })?;
-        }
-        same(&rt, row.name, told.as_slice(), row.marks);
+/// A mark for each gap: `x` where it stays.
+fn letters<'r>(rt: &impl Abort, frozen: &[bool], run: &'r Bump) -> &'r [u8] {
+    let mut told = Vec::new(run);
+    for stays in frozen {
+        told.push(if *stays { b'x' } else { b'.' })
+            .expect(rt, "marks");
     }
-    Ok(())
+    into_bump_slice(told)
+}
+
+/// The gaps of a text have these marks where its lines are asked for.
+fn has_marks(rt: &impl Abort, alloc: Global, run: &Bump, row: &Row) {
+    let asked = Ranges::parse(alloc, row.lines).ok();
+    let arena = build(run, row.text, Dialect::C11).expect(rt, row.name);
+    let marks = frozen(&arena, asked.as_ref(), run).expect(rt, row.name);
+    same(rt, row.name, letters(rt, marks, run), row.marks);
+}
+
+#[test]
+fn marks_gaps(rt: HostRuntime) {
+    let run = Bump::new(rt.alloc());
+    for row in ROWS {
+        has_marks(&rt, rt.alloc(), &run, row);
+    }
 }

@@ -2,10 +2,9 @@
 
 ghost use Rattle.std.specs.Prelude.{◌≤◌, length};
 
-use crate::comparing::same_at;
+use crate::comparing::same;
 use bumpalo::Bump;
 use run_layout::{column_behind, column_through};
-use std::test::Fail;
 use token_arena::{Dialect, TokenArena, build};
 
 /// A text, the width of a tab, a place, and the column of what stands behind the gap there.
@@ -39,15 +38,22 @@ fn column_at(tab: u32, arena: &TokenArena<'_, '_>, place: u32) -> u32
     column
 }
 
+/// The same of a text.
+fn column_in(text: &str, tab: u32, place: u32, run: &Bump) -> Option<u32> {
+    let arena = build(run, text.as_bytes(), Dialect::C11).ok()?;
+    if 1 <= tab && place <= arena.len() {
+        Some(column_at(tab, &arena, place))
+    } else {
+        None
+    }
+}
+
 #[test]
-fn counts_columns_of_the_input(rt: HostRuntime) -> Result<(), Fail> {
+fn counts_columns_of_the_input(rt: HostRuntime) {
+    let run = Bump::new(rt.alloc());
     for row in ROWS {
         let (text, tab, place, column) = *row;
-        let bump = Bump::new(rt.alloc());
-        let arena = build(&bump, text.as_bytes(), Dialect::C11)?;
-        assert!(rt; 1 <= tab && place <= arena.len());
-        let told = column_at(tab, &arena, place);
-        same_at(&rt, text, place as usize, told, column);
+        let told = column_in(text, tab, place, &run);
+        same(&rt, text, (place, told), (place, Some(column)));
     }
-    Ok(())
 }

@@ -1,21 +1,21 @@
 //! The rows of whole texts, as `docs/PROFILE.md` says under "Joined lines".
 
-ghost use Rattle.std.specs.Prelude.{◌≡◌, ◌≤◌, ◌<◌, length, IfOk};
+ghost use Rattle.std.specs.Prelude.{◌≡◌, ◌≤◌, ◌<◌, length, IfSome};
 ghost use Rattle.style_table.specs.Range.{IsInRange};
 ghost use Rattle.token_classes.specs.Viewed.{AreWithin};
 
 use crate::comparing::same;
+use crate::fixtures::repeated;
 use crate::joined_lines::With::{
     Blocks, Braces, Cases, Enums, Functions, Ifs, Limit, Loops, Unlimited,
 };
-use annotator::{roles, roles_of_classes};
-use brackets::{partners, partners_of_classes};
+use annotator::roles_of_classes;
+use brackets::partners_of_classes;
 use bumpalo::Bump;
+use bumpalo::collections::into_bump_slice;
 use line_joiner::{join, join_of_classes};
 use line_tokens::{Fixed, LineTok, ULine};
-use std::alloc::Global;
 use std::process::Abort;
-use std::test::Fail;
 use style_table::{
     AllowShortBlocksOnASingleLine as ShortBlocks,
     AllowShortFunctionsOnASingleLine as ShortFunctions,
@@ -24,7 +24,7 @@ use style_table::{
 use token_arena::{Dialect, TokenArena, build};
 use token_classes::classes;
 use token_views::{Stretch, View};
-use unwrapped_lines::{lines, lines_of_classes};
+use unwrapped_lines::lines_of_classes;
 
 /// What a case changes in its style.
 #[derive(Clone, Copy)]
@@ -43,7 +43,7 @@ enum With {
 /// A text with its rows; a blank in a row is one between two items whose gap in the input isn't empty.
 type Case = (&'static [With], &'static str, &'static [&'static str]);
 
-const FUNCTIONS: [Case; 14] = [
+const FUNCTIONS: &[Case] = &[
     (&[], "int f(void){return 1;}", &["int f(void){return 1;}"]),
     (
         &[],
@@ -88,7 +88,12 @@ const FUNCTIONS: [Case; 14] = [
     (&[], "FOO(x){return 1;}", &["FOO(x){return 1;}"]),
 ];
 
-const BRANCHES: [Case; 17] = [
+const BRANCHES: &[Case] = &[
+    (
+        &[],
+        "int f(void){}if(a)b();",
+        &["int f(void){}", "if(a)", "b();"],
+    ),
     (&[], "if(a)b();", &["if(a)", "b();"]),
     (&[Ifs(ShortIfs::WithoutElse)], "if(a)b();", &["if(a)b();"]),
     (&[Ifs(ShortIfs::OnlyFirstIf)], "if(a)b();", &["if(a)b();"]),
@@ -160,7 +165,7 @@ const BRANCHES: [Case; 17] = [
     ),
 ];
 
-const BLOCKS: [Case; 15] = [
+const BLOCKS: &[Case] = &[
     (&[], "while(a)b();", &["while(a)", "b();"]),
     (&[Loops], "while(a)b();", &["while(a)b();"]),
     (&[Loops], "for(;;)b();", &["for(;;)b();"]),
@@ -221,7 +226,7 @@ const BLOCKS: [Case; 15] = [
     ),
 ];
 
-const LABELS: [Case; 16] = [
+const LABELS: &[Case] = &[
     (
         &[],
         "switch(a){case 1:b();}",
@@ -272,7 +277,7 @@ const LABELS: [Case; 16] = [
     (&[], "enum{A,B// c\n};", &["enum{", "A,", "B// c", "};"]),
 ];
 
-const GAPS: [Case; 13] = [
+const GAPS: &[Case] = &[
     (
         &[],
         "int f(void){\nreturn 1;\n}",
@@ -360,270 +365,255 @@ fn with_key(style: Style, with: With) -> Style
 }
 
 /// LLVM with these changes.
-fn styled(keys: &[With]) -> Result<Style, Fail>
-    ensures { IfOk result (λ changed. IsInRange changed) }
+fn styled(keys: &[With]) -> Option<Style>
+    ensures { IfSome result (λ changed. IsInRange changed) }
 {
-    let mut style = Style::named("LLVM").ok_or("a style")?;
+    let mut style = Style::named("LLVM")?;
     for with in keys {
         style = with_key(style, *with);
     }
-    Ok(style)
+    Some(style)
 }
 
-/// Where an item of a row begins, which a blank may stand before.
-fn behind_blank(row: &[u8], at: usize) -> usize {
-    if row.get(at) == Some(&b' ') {
-        at.saturating_add(1)
+/// The bytes of the item of a token.
+fn item_of<'s>(arena: &TokenArena<'_, 's>, token: &LineTok) -> Option<&'s [u8]> {
+    if token.id.0 < arena.len() {
+        Some(arena.get(token.id).item.raw)
     } else {
-        at
+        None
     }
 }
 
-/// The items of a line are those of this row.
-fn is_row(
-    rt: &impl Abort,
+/// What is left of a row behind the items of a line, where these are the row's.
+fn behind_line<'t>(
     arena: &TokenArena<'_, '_>,
     toks: &[LineTok],
     line: &ULine,
-    row: &str,
-) -> Result<(), Fail> {
-    let text = row.as_bytes();
-    let mut at = 0;
+    row: &'t [u8],
+) -> Option<&'t [u8]> {
+    let mut rest = row;
     for place in line.first..=line.last {
-        let tok = toks.get(place as usize).ok_or("a token")?;
-        assert!(rt; tok.id.0 < arena.len());
-        let raw = arena.get(tok.id).item.raw;
-        let from = behind_blank(text, at);
-        at = from.saturating_add(raw.len());
-        assert!(rt; text.get(from..at) == Some(raw), "{row}");
+        let item = item_of(arena, toks.get(place as usize)?)?;
+        rest = rest.strip_prefix(b" ").unwrap_or(rest).strip_prefix(item)?;
     }
-    same(rt, row, at, text.len());
-    Ok(())
+    Some(rest)
 }
+
+/// Tokens, and their lines once short ones are joined.
+type Joined<'r> = (&'r [LineTok], &'r [ULine]);
 
 /// The items of these lines are those of the rows.
 fn are_rows(
     rt: &impl Abort,
-    arena: &TokenArena<'_, '_>,
-    toks: &[LineTok],
-    found: &[ULine],
-    rows: &[&str],
     name: &str,
-) -> Result<(), Fail> {
-    same(rt, name, found.len(), rows.len());
-    for (line, row) in found.iter().zip(rows) {
-        is_row(rt, arena, toks, line, row)?;
+    arena: &TokenArena<'_, '_>,
+    found: Joined<'_>,
+    rows: &[&str],
+) {
+    let (toks, lines) = found;
+    same(rt, name, lines.len(), rows.len());
+    for (line, row) in lines.iter().zip(rows) {
+        let rest = behind_line(arena, toks, line, row.as_bytes());
+        same(rt, row, rest, Some(b""));
     }
-    Ok(())
 }
 
-/// The lines of a view with short ones joined, where nothing is decided but what `decided` says of places.
-fn has_rows(
+/// What is decided before each of so many tokens: nothing, but for one place.
+fn decisions<'r>(
     rt: &impl Abort,
-    run: &Bump,
-    arena: &TokenArena<'_, '_>,
-    view: &View<'_>,
-    decided: &[(u32, Fixed)],
-    keys: &[With],
-    name: &str,
-    rows: &[&str],
-) -> Result<(), Fail>
-    requires { AreWithin arena.now view.now }
+    count: usize,
+    decided: Option<(usize, Fixed)>,
+    run: &'r Bump,
+) -> &'r [Option<Fixed>]
+    ensures { length result.now ≡ count }
 {
-    let style = styled(keys)?;
-    let classes = classes(arena, view, run)?;
-    let partners = partners_of_classes(classes, run)?;
-    let lines = lines_of_classes(&style, arena, view, classes, partners, run)?;
-    let toks = roles_of_classes(arena, view, classes, partners, lines, run)?;
-    let mut fixed = vec![in run; None; toks.len()]?;
-    for (place, decision) in decided {
-        if let Some(slot) = fixed.get_mut(*place as usize) {
-            *slot = Some(*decision);
+    let mut fixed = vec![in run; None; count].expect(rt, "room for decisions");
+    if let Some((place, decision)) = decided {
+        if place < fixed.len() {
+            fixed[place] = Some(decision);
         }
     }
-    assert!(rt; fixed.len() == toks.len());
-    let found = join_of_classes(&style, classes, lines, toks, &fixed, run)?;
-    are_rows(rt, arena, toks, found, rows, name)
+    into_bump_slice(fixed)
 }
 
-/// The texts have these rows.
-fn have_rows(rt: &impl Abort, run: &Bump, cases: &[Case]) -> Result<(), Fail> {
-    for case in cases {
-        let arena = build(run, case.1.as_bytes(), Dialect::C11)?;
-        let view = View::of(0, arena.len(), run)?;
-        has_rows(rt, run, &arena, &view, &[], case.0, case.1, case.2)?;
-    }
-    Ok(())
-}
-
-#[test]
-fn joins_functions(rt: HostRuntime) -> Result<(), Fail> {
-    let run = Bump::new(rt.alloc());
-    have_rows(&rt, &run, &FUNCTIONS)
-}
-
-#[test]
-fn joins_branches(rt: HostRuntime) -> Result<(), Fail> {
-    let run = Bump::new(rt.alloc());
-    have_rows(&rt, &run, &BRANCHES)
-}
-
-#[test]
-fn joins_blocks(rt: HostRuntime) -> Result<(), Fail> {
-    let run = Bump::new(rt.alloc());
-    have_rows(&rt, &run, &BLOCKS)
-}
-
-#[test]
-fn joins_labels_and_enums(rt: HostRuntime) -> Result<(), Fail> {
-    let run = Bump::new(rt.alloc());
-    have_rows(&rt, &run, &LABELS)
-}
-
-#[test]
-fn looks_at_gaps_and_columns(rt: HostRuntime) -> Result<(), Fail> {
-    let run = Bump::new(rt.alloc());
-    have_rows(&rt, &run, &GAPS)
-}
-
-#[test]
-fn joins_over_no_directive(rt: HostRuntime) -> Result<(), Fail> {
-    let run = Bump::new(rt.alloc());
-    let text = "struct{\n#define X 1\n}";
-    let arena = build(&run, text.as_bytes(), Dialect::C11)?;
-    assert_eq!(rt; arena.len(), 7);
-    let stretches = [Stretch { first: 0, end: 2 }, Stretch { first: 6, end: 7 }];
-    let view = View::of_stretches(&stretches, &run)?;
-    let rows = ["struct{", "}"];
-    has_rows(&rt, &run, &arena, &view, &[], &[], text, &rows)
-}
-
-/// The text has these rows where this is decided.
-fn has_rows_decided(
+/// The tokens of a view, and its lines with short ones joined, which are the same for a caller who has no classes.
+fn joined<'r>(
     rt: &impl Abort,
-    run: &Bump,
-    decided: &[(u32, Fixed)],
-    text: &str,
-    rows: &[&str],
-) -> Result<(), Fail> {
-    let arena = build(run, text.as_bytes(), Dialect::C11)?;
-    let view = View::of(0, arena.len(), run)?;
-    has_rows(rt, run, &arena, &view, decided, &[], text, rows)
+    name: &str,
+    style: &Style,
+    arena: &TokenArena<'_, '_>,
+    view: &View<'_>,
+    decided: Option<(usize, Fixed)>,
+    run: &'r Bump,
+) -> Joined<'r>
+    requires range { IsInRange style.now }
+    requires within { AreWithin arena.now view.now }
+{
+    let classes = classes(arena, view, run).expect(rt, name);
+    let partners = partners_of_classes(classes, run).expect(rt, name);
+    let lines = lines_of_classes(style, arena, view, classes, partners, run).expect(rt, name);
+    let toks = roles_of_classes(arena, view, classes, partners, lines, run).expect(rt, name);
+    let fixed = decisions(rt, toks.len(), decided, run);
+    let found = join_of_classes(style, classes, lines, toks, fixed, run).expect(rt, name);
+    let told = join(style, arena, lines, toks, fixed, run).expect(rt, name);
+    same(rt, name, told, found);
+    (toks, found)
+}
+
+/// The items of a text, its tokens, and its lines once short ones are joined in LLVM with these changes.
+fn read<'r, 's>(
+    rt: &impl Abort,
+    keys: &[With],
+    decided: Option<(usize, Fixed)>,
+    text: &'s str,
+    run: &'r Bump,
+) -> (TokenArena<'r, 's>, Joined<'r>) {
+    let style = styled(keys).expect(rt, text);
+    let arena = build(run, text.as_bytes(), Dialect::C11).expect(rt, text);
+    let view = View::of(0, arena.len(), run).expect(rt, text);
+    let found = joined(rt, text, &style, &arena, &view, decided, run);
+    (arena, found)
+}
+
+/// The text of a case has its rows where this is decided.
+fn has_rows(rt: &impl Abort, run: &Bump, decided: Option<(usize, Fixed)>, case: &Case) {
+    let (keys, text, rows) = *case;
+    let (arena, found) = read(rt, keys, decided, text, run);
+    are_rows(rt, text, &arena, found, rows);
 }
 
 #[test]
-fn follows_what_is_decided(rt: HostRuntime) -> Result<(), Fail> {
+fn joins_short_lines(rt: HostRuntime) {
     let run = Bump::new(rt.alloc());
-    let text = "int f(void){return 1;}";
-    let (one, three) = ([text], ["int f(void){", "return 1;", "}"]);
-    let (joined, apart): (&[&str], &[&str]) = (&one, &three);
-    let cases: [(u32, u32, bool, &[&str]); 5] = [
-        // A decided new-line stands between two lines, or inside one.
-        (6, 2, true, apart),
-        (8, 4, true, joined),
-        // The `return` is stored further right, up to the limit and past it.
-        (6, 69, false, joined),
-        (6, 70, false, apart),
-        (6, 4294967295, false, apart),
-    ];
-    for (place, column, broken, rows) in cases {
-        let decided = [(place, Fixed { column, broken })];
-        has_rows_decided(&rt, &run, &decided, text, rows)?;
+    for cases in [FUNCTIONS, BRANCHES, BLOCKS, LABELS, GAPS] {
+        for case in cases {
+            has_rows(&rt, &run, None, case);
+        }
     }
-    Ok(())
 }
 
-/// A text that begins so, goes on with so many times a piece, and ends so.
-fn repeated(
-    alloc: Global,
-    head: &[u8],
-    piece: &[u8],
-    count: u32,
-    tail: &[u8],
-) -> Result<Vec<u8>, Fail> {
-    let mut text = Vec::new(alloc);
-    text.extend_from_slice(head)?;
-    for _time in 0..count {
-        text.extend_from_slice(piece)?;
-    }
-    text.extend_from_slice(tail)?;
-    Ok(text)
+/// The items around a directive.
+const AROUND: &[Stretch] = &[Stretch { first: 0, end: 2 }, Stretch { first: 6, end: 7 }];
+
+/// A text of seven items has these rows for who doesn't see its directive.
+fn has_rows_around(rt: &impl Abort, run: &Bump, text: &str, rows: &[&str]) {
+    let style = styled(&[]).expect(rt, text);
+    let arena = build(run, text.as_bytes(), Dialect::C11).expect(rt, text);
+    assert!(rt; arena.len() == 7);
+    let view = View::of_stretches(AROUND, run).expect(rt, text);
+    let found = joined(rt, text, &style, &arena, &view, None, run);
+    are_rows(rt, text, &arena, found, rows);
 }
 
-/// How many lines a text has once short ones are joined.
-fn count_of(run: &Bump, keys: &[With], text: &[u8]) -> Result<usize, Fail> {
-    let style = styled(keys)?;
-    let arena = build(run, text, Dialect::C11)?;
-    let view = View::of(0, arena.len(), run)?;
-    let classes = classes(&arena, &view, run)?;
-    let partners = partners_of_classes(classes, run)?;
-    let lines = lines_of_classes(&style, &arena, &view, classes, partners, run)?;
-    let toks = roles_of_classes(&arena, &view, classes, partners, lines, run)?;
-    let fixed = vec![in run; None; toks.len()]?;
-    Ok(join_of_classes(&style, classes, lines, toks, &fixed, run)?.len())
+#[test]
+fn joins_over_no_directive(rt: HostRuntime) {
+    let run = Bump::new(rt.alloc());
+    has_rows_around(&rt, &run, "struct{\n#define X 1\n}", &["struct{", "}"]);
+}
+
+/// A function on one row.
+const JOINED: Case = (&[], "int f(void){return 1;}", &["int f(void){return 1;}"]);
+
+/// The same function, which isn't joined.
+const APART: Case = (
+    &[],
+    "int f(void){return 1;}",
+    &["int f(void){", "return 1;", "}"],
+);
+
+/// What is decided before a place of the function, and its rows.
+const DECIDED: &[((usize, Fixed), Case)] = &[
+    // A decided new-line stands between two lines, or inside one.
+    (
+        (
+            6,
+            Fixed {
+                column: 2,
+                broken: true,
+            },
+        ),
+        APART,
+    ),
+    (
+        (
+            8,
+            Fixed {
+                column: 4,
+                broken: true,
+            },
+        ),
+        JOINED,
+    ),
+    // The `return` is stored further right, up to the limit and past it.
+    (
+        (
+            6,
+            Fixed {
+                column: 69,
+                broken: false,
+            },
+        ),
+        JOINED,
+    ),
+    (
+        (
+            6,
+            Fixed {
+                column: 70,
+                broken: false,
+            },
+        ),
+        APART,
+    ),
+    (
+        (
+            6,
+            Fixed {
+                column: 4294967295,
+                broken: false,
+            },
+        ),
+        APART,
+    ),
+];
+
+#[test]
+fn follows_what_is_decided(rt: HostRuntime) {
+    let run = Bump::new(rt.alloc());
+    for (decided, case) in DECIDED {
+        has_rows(&rt, &run, Some(*decided), case);
+    }
 }
 
 /// What changes in the style, a text by its head, a piece that stands 10,000 times, and its tail; and its lines.
-const LONG: &[(&str, &[With], &[u8], &[u8], &[u8], usize)] = &[
-    ("enumerators", &[], b"enum{", b"A,", b"};", 10_002),
+const LONG: &[(&str, &[With], &str, &str, &str, usize)] = &[
+    ("enumerators", &[], "enum{", "A,", "};", 10_002),
     (
         "enumerators without a limit",
         &[Unlimited, Braces(BreakBeforeBraces::Attach)],
-        b"enum{",
-        b"A,",
-        b"};",
+        "enum{",
+        "A,",
+        "};",
         1,
     ),
-    ("labels", &[Cases], b"switch(x){", b"case a:", b"}", 10_002),
+    ("labels", &[Cases], "switch(x){", "case a:", "}", 10_002),
     (
         "branches behind comments",
         &[Ifs(ShortIfs::WithoutElse)],
-        b"",
-        b"if(a)b();\n// c\n",
-        b"",
+        "",
+        "if(a)b();\n// c\n",
+        "",
         20_000,
     ),
 ];
 
 #[test]
-fn joins_long_lists_in_one_pass(rt: HostRuntime) -> Result<(), Fail> {
+fn joins_long_lists_in_one_pass(rt: HostRuntime) {
     let run = Bump::new(rt.alloc());
     for case in LONG {
         let (name, keys, head, piece, tail, count) = *case;
-        let text = repeated(rt.alloc(), head, piece, 10_000, tail)?;
-        let told = count_of(&run, keys, text.as_slice())?;
-        same(&rt, name, told, count);
+        let text = repeated(&rt, rt.alloc(), head, piece, 10_000, tail);
+        let (_arena, found) = read(&rt, keys, None, &text, &run);
+        same(&rt, name, found.1.len(), count);
     }
-    Ok(())
-}
-
-/// How many lines a view has in LLVM once short ones are joined, for a caller who has no classes.
-fn count_without_classes(
-    arena: &TokenArena<'_, '_>,
-    view: &View<'_>,
-    run: &Bump,
-) -> Result<usize, Fail>
-    requires { AreWithin arena.now view.now }
-{
-    let style = Style::named("LLVM").ok_or("a style")?;
-    let partners = partners(arena, view, run)?;
-    let lines = lines(&style, arena, view, partners, run)?;
-    let toks = roles(arena, view, partners, lines, run)?;
-    let fixed = vec![in run; None; toks.len()]?;
-    Ok(join(&style, arena, lines, toks, &fixed, run)?.len())
-}
-
-/// The same of a text.
-fn text_without_classes(text: &[u8], run: &Bump) -> Result<usize, Fail> {
-    let arena = build(run, text, Dialect::C11)?;
-    let view = View::of(0, arena.len(), run)?;
-    count_without_classes(&arena, &view, run)
-}
-
-#[test]
-fn joins_without_classes(rt: HostRuntime) -> Result<(), Fail> {
-    let run = Bump::new(rt.alloc());
-    let count = text_without_classes(b"int f(void){}if(a)b();", &run)?;
-    same(&rt, "how many lines", count, 3);
-    Ok(())
 }

@@ -1,9 +1,12 @@
 //! Whole texts of which some gaps stay: in the LLVM style, with what is asked for.
 
+ghost use Rattle.style_table.specs.Range.{IsInRange};
+
 use crate::comparing::same;
 use bumpalo::Bump;
 use format_core::{Job, Ranges, format};
-use std::test::Fail;
+use std::alloc::Global;
+use std::process::Abort;
 use style_table::Style;
 use token_arena::Dialect;
 
@@ -102,20 +105,26 @@ const ROWS: &[Row] = &[
     },
 ];
 
+/// The text of a row is formatted so.
+fn is_formatted(rt: &impl Abort, alloc: Global, style: &Style, run: &Bump, row: &Row)
+    requires { IsInRange style.now }
+{
+    let ranges = Ranges::parse(alloc, row.lines).ok();
+    let job = Job {
+        budget: 2_000_000,
+        dialect: Dialect::C11,
+        ranges: ranges.as_ref(),
+    };
+    let made = format(alloc, run, row.text, style, &job).expect(rt, row.name);
+    let bytes = made.bytes(alloc).expect(rt, row.name);
+    same(rt, row.name, bytes.as_slice(), row.out);
+}
+
 #[test]
-fn keeps_gaps(rt: HostRuntime) -> Result<(), Fail> {
-    let style = Style::named("LLVM").ok_or("a style")?;
+fn keeps_gaps(rt: HostRuntime) {
+    let style = Style::named("LLVM").expect(&rt, "a style");
+    let run = Bump::new(rt.alloc());
     for row in ROWS {
-        let bump = Bump::new(rt.alloc());
-        let ranges = Ranges::parse(rt.alloc(), row.lines).ok();
-        let job = Job {
-            budget: 2_000_000,
-            dialect: Dialect::C11,
-            ranges: ranges.as_ref(),
-        };
-        let made = format(rt.alloc(), &bump, row.text, &style, &job)?;
-        let bytes = made.bytes(rt.alloc())?;
-        same(&rt, row.name, bytes.as_slice(), row.out);
+        is_formatted(&rt, rt.alloc(), &style, &run, row);
     }
-    Ok(())
 }

@@ -3,6 +3,7 @@
 //!
 //! - `asked_lines`: which gaps stay, since formatting is off or nobody asked for their lines (`off_regions`)
 //! - `comparing`: what is found beside what is wanted
+//! - `fixtures`: long texts
 //! - `input_columns`: the columns of kept gaps (`run_layout`)
 //! - `kept_texts`: whole texts of which some gaps stay (`format_core`)
 //! - `joined_lines`: short lines that become one (`line_joiner`)
@@ -13,6 +14,8 @@
 mod asked_lines;
 #[cfg(test)]
 mod comparing;
+#[cfg(test)]
+mod fixtures;
 #[cfg(test)]
 mod input_columns;
 #[cfg(test)]

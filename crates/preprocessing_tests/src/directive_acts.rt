@@ -1,42 +1,10 @@
 //! What C11 says of define directives, conditionals and line numbers.
 
 use crate::comparing::same;
+use crate::fixtures::{table_with, token, tokens};
 use pp_directives::{World, define_of, jump_of};
-use pp_events::{ItemKind, Macro, PpToken, Tok};
-use std::alloc::{AllocError, Global};
-use std::collections::VecDeque;
-use std::test::Fail;
-
-/// The kind of a word, of a number or of a punctuator.
-fn kind_of(text: &[u8]) -> ItemKind {
-    match text.first() {
-        Some(b'a'..=b'z' | b'A'..=b'Z' | b'_') => ItemKind::Identifier,
-        Some(b'0'..=b'9') => ItemKind::Number,
-        _ => ItemKind::Punct,
-    }
-}
-
-/// A token with white space before it.
-fn token(alloc: Global, text: &[u8]) -> Result<Tok, AllocError> {
-    Ok(Tok {
-        token: PpToken::Plain {
-            text: text.to_vec(alloc)?,
-        },
-        kind: kind_of(text),
-        hide: Vec::new(alloc),
-        white: true,
-        line: 1,
-    })
-}
-
-/// The tokens of a text with white space between them.
-fn tokens(alloc: Global, text: &str) -> Result<VecDeque<Tok>, AllocError> {
-    let mut out = VecDeque::new(alloc);
-    for word in text.split_whitespace() {
-        out.push_back(token(alloc, word.as_bytes())?)?;
-    }
-    Ok(out)
-}
+use std::alloc::Global;
+use std::process::Abort;
 
 /// Whether the macro is function-like, the operand, and how many parts the body has where 6.10.3 allows it.
 const DEFINITIONS: &[(&str, bool, &str, Option<usize>)] = &[
@@ -74,18 +42,20 @@ const DEFINITIONS: &[(&str, bool, &str, Option<usize>)] = &[
     ),
 ];
 
+/// How many parts the body of a macro has where 6.10.3 allows it.
+fn parts_of(rt: &impl Abort, alloc: Global, function_like: bool, operand: &str) -> Option<usize> {
+    let told = define_of(alloc, function_like, tokens(rt, alloc, operand));
+    let made = told.expect(rt, "memory")?;
+    Some(made.body.len())
+}
+
 #[test]
-fn refuses_what_the_constraints_of_6_10_3_refuse(rt: HostRuntime) -> Result<(), Fail> {
-    let alloc = rt.alloc();
+fn refuses_what_the_constraints_of_6_10_3_refuse(rt: HostRuntime) {
     for case in DEFINITIONS {
         let (name, function_like, operand, expected) = *case;
-        let parts = match define_of(alloc, function_like, tokens(alloc, operand)?)? {
-            None => None,
-            Some(m) => Some(m.body.len()),
-        };
+        let parts = parts_of(&rt, rt.alloc(), function_like, operand);
         same(&rt, name, parts, expected);
     }
-    Ok(())
 }
 
 /// A directive of a conditional.
@@ -101,28 +71,16 @@ enum Step {
     Endif,
 }
 
-/// A table with the macro `Y`.
-fn table_with_y(alloc: Global) -> Result<Vec<Macro>, AllocError> {
-    let mut table = Vec::new(alloc);
-    table.push(Macro {
-        name: b"Y".to_vec(alloc)?,
-        function_like: false,
-        arity: 0,
-        variadic: false,
-        body: Vec::new(alloc),
-    })?;
-    Ok(table)
-}
-
 /// One directive.
-fn take(alloc: Global, world: &mut World, step: Step) -> Result<(), AllocError> {
-    let yes = tokens(alloc, "Y")?;
-    match step {
+fn take(rt: &impl Abort, alloc: Global, world: &mut World, step: Step) {
+    let yes = tokens(rt, alloc, "Y");
+    let done = match step {
         Step::If(holds) => world.begin_ifdef(alloc, holds, yes),
         Step::Elif(holds) => world.elifdef(alloc, holds, yes),
         Step::Else => world.otherwise(alloc),
         Step::Endif => world.endif(alloc),
-    }
+    };
+    done.expect(rt, "memory");
 }
 
 /// Directives, whether the group behind them is taken, and how many of them 6.10p1 doesn't allow.
@@ -173,19 +131,23 @@ const GROUPS: &[(&str, &[Step], bool, usize)] = &[
     ),
 ];
 
+/// Whether the group behind these directives is taken where `Y` is defined, and how many of them aren't allowed.
+fn group_behind(rt: &impl Abort, alloc: Global, steps: &[Step]) -> (bool, usize) {
+    let table = table_with(rt, alloc, b"Y", Vec::new(alloc));
+    let mut world = World::starting(alloc, table, 0);
+    for step in steps {
+        take(rt, alloc, &mut world, *step);
+    }
+    (world.conds.is_active(), world.events.len())
+}
+
 #[test]
-fn takes_the_first_group_that_holds(rt: HostRuntime) -> Result<(), Fail> {
-    let alloc = rt.alloc();
+fn takes_the_first_group_that_holds(rt: HostRuntime) {
     for case in GROUPS {
         let (name, steps, active, malformed) = *case;
-        let mut world = World::starting(alloc, table_with_y(alloc)?, 0);
-        for step in steps {
-            take(alloc, &mut world, *step)?;
-        }
-        same(&rt, name, world.conds.is_active(), active);
-        same(&rt, name, world.events.len(), malformed);
+        let told = group_behind(&rt, rt.alloc(), steps);
+        same(&rt, name, told, (active, malformed));
     }
-    Ok(())
 }
 
 /// The operand of a line directive, and its number.
@@ -200,12 +162,15 @@ const NUMBERS: &[(&str, &str, Option<u32>)] = &[
     ("a suffix", "12u", None),
 ];
 
+/// The number that a line directive of this operand gives.
+fn number_of(rt: &impl Abort, alloc: Global, operand: &str) -> Option<u32> {
+    jump_of(&[token(rt, alloc, operand)])
+}
+
 #[test]
-fn reads_numbers_of_lines(rt: HostRuntime) -> Result<(), Fail> {
+fn reads_numbers_of_lines(rt: HostRuntime) {
     for case in NUMBERS {
         let (name, text, number) = *case;
-        let operand = [token(rt.alloc(), text.as_bytes())?];
-        same(&rt, name, jump_of(&operand), number);
+        same(&rt, name, number_of(&rt, rt.alloc(), text), number);
     }
-    Ok(())
 }

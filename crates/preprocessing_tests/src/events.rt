@@ -1,143 +1,155 @@
 //! Texts and their events, by the examples of C11 6.10.3 and by its rules of conditionals, includes and lines.
 
 use crate::comparing::same;
+use crate::fixtures::{copy, plain, push};
 use pp_directives::{Condition, Event, IncludeText, Setting};
 use pp_events::{PpToken, Spaced, spelling_of};
-use pp_text::{Dialect, EventsFault, events};
-use std::alloc::{AllocError, Global};
+use pp_text::{Dialect, events};
+use std::alloc::Global;
+use std::process::Abort;
 use std::str::from_utf8;
-use std::test::Fail;
 
-/// Bytes of a spelling.
-fn push_bytes(out: &mut String, bytes: &[u8]) -> Result<(), AllocError> {
-    match from_utf8(bytes) {
-        Ok(text) => out.push_str(text),
-        Err(_) => out.push_str("?"),
-    }
+/// A spelling as a text.
+fn spelled(token: &PpToken) -> &str {
+    from_utf8(spelling_of(token)).unwrap_or("?")
 }
 
 /// A string that `#` made: its tokens, a blank where white space stands before one.
-fn show_string(out: &mut String, parts: &Vec<Spaced>) -> Result<(), AllocError> {
-    out.push_str("str<")?;
+fn show_string(rt: &impl Abort, out: &mut String, parts: &Vec<Spaced>) {
+    push(rt, out, "str<");
     for part in parts {
-        if part.white {
-            out.push_str(" ")?;
-        }
-        push_bytes(out, spelling_of(&part.token))?;
+        push(rt, out, if part.white { " " } else { "" });
+        push(rt, out, spelled(&part.token));
     }
-    out.push_str(">")
+    push(rt, out, ">");
 }
 
 /// A token: its spelling, `line 7` of a line's number, and `str<x>` of a string that `#` made.
-fn show_token(out: &mut String, token: &PpToken) -> Result<(), AllocError> {
+fn show_token(rt: &impl Abort, out: &mut String, token: &PpToken) {
     match token {
-        PpToken::Plain { .. } => push_bytes(out, spelling_of(token)),
-        PpToken::Line { number } => write!(out, "line {number}"),
-        PpToken::Str { parts } => show_string(out, &parts.items),
-        PpToken::Pasted { .. } => out.push_str("pasted"),
+        PpToken::Plain { .. } => push(rt, out, spelled(token)),
+        PpToken::Line { number } => write!(out, "line {number}").expect(rt, "memory"),
+        PpToken::Str { parts } => show_string(rt, out, &parts.items),
+        PpToken::Pasted { .. } => push(rt, out, "pasted"),
     }
 }
 
 /// Tokens behind a word, in brackets.
-fn show_tokens(out: &mut String, word: &str, tokens: &Vec<PpToken>) -> Result<(), AllocError> {
-    out.push_str(word)?;
-    out.push_str("[")?;
+fn show_tokens(rt: &impl Abort, out: &mut String, word: &str, tokens: &Vec<PpToken>) {
+    push(rt, out, word);
+    push(rt, out, "[");
     for token in tokens {
-        out.push_str(" ")?;
-        show_token(out, token)?;
+        push(rt, out, " ");
+        show_token(rt, out, token);
     }
-    out.push_str(" ]")
+    push(rt, out, " ]");
 }
 
 /// An event: a token as it is, and every other one by a word in capital letters.
-fn show_event(out: &mut String, event: &Event) -> Result<(), AllocError> {
+fn show_event(rt: &impl Abort, out: &mut String, event: &Event) {
     match event {
-        Event::Token(token) => show_token(out, token),
-        Event::Pragma(tokens) => show_tokens(out, "PRAGMA", tokens),
-        Event::Line(tokens) => show_tokens(out, "LINE", tokens),
-        Event::Error(tokens) => show_tokens(out, "ERROR", tokens),
-        Event::Warning(tokens) => show_tokens(out, "WARNING", tokens),
-        Event::Embed(tokens) => show_tokens(out, "EMBED", tokens),
-        Event::IncludeNotFound => out.push_str("NOTFOUND"),
-        Event::Malformed(tokens) => show_tokens(out, "MALFORMED", tokens),
-        Event::Unlexed => out.push_str("UNLEXED"),
-        Event::TurnsSpent => out.push_str("SPENT"),
+        Event::Token(token) => show_token(rt, out, token),
+        Event::Pragma(tokens) => show_tokens(rt, out, "PRAGMA", tokens),
+        Event::Line(tokens) => show_tokens(rt, out, "LINE", tokens),
+        Event::Error(tokens) => show_tokens(rt, out, "ERROR", tokens),
+        Event::Warning(tokens) => show_tokens(rt, out, "WARNING", tokens),
+        Event::Embed(tokens) => show_tokens(rt, out, "EMBED", tokens),
+        Event::IncludeNotFound => push(rt, out, "NOTFOUND"),
+        Event::Malformed(tokens) => show_tokens(rt, out, "MALFORMED", tokens),
+        Event::Unlexed => push(rt, out, "UNLEXED"),
+        Event::TurnsSpent => push(rt, out, "SPENT"),
     }
 }
 
 /// Events in order, a blank behind each.
-fn show_events(alloc: Global, found: &Vec<Event>) -> Result<String, AllocError> {
+fn show_events(rt: &impl Abort, alloc: Global, found: &Vec<Event>) -> String {
     let mut out = String::new(alloc);
     for event in found {
-        show_event(&mut out, event)?;
-        out.push_str(" ")?;
+        show_event(rt, &mut out, event);
+        push(rt, &mut out, " ");
     }
-    Ok(out)
-}
-
-/// An item.
-fn plain(alloc: Global, text: &[u8]) -> Result<PpToken, AllocError> {
-    Ok(PpToken::Plain {
-        text: text.to_vec(alloc)?,
-    })
+    out
 }
 
 /// Items.
-fn key_of(alloc: Global, texts: &[&[u8]]) -> Result<Vec<PpToken>, AllocError> {
+fn key_of(rt: &impl Abort, alloc: Global, texts: &[&[u8]]) -> Vec<PpToken> {
     let mut key = Vec::new(alloc);
     for text in texts {
-        key.push(plain(alloc, text)?)?;
+        key.push(plain(rt, alloc, text)).expect(rt, "memory");
     }
-    Ok(key)
+    key
 }
 
-/// A condition that holds.
-fn holding(alloc: Global, texts: &[&[u8]]) -> Result<Condition, AllocError> {
-    Ok(Condition {
-        key: key_of(alloc, texts)?,
-        holds: true,
-    })
-}
+/// The conditions that hold.
+const HOLDING: &[&[&[u8]]] = &[&[b"1"], &[b"2", b">", b"1"], &[b"1", b"&&", b"0"]];
 
-/// The conditions `1`, `2 > 1` and `1 && 0` hold, and no other.
-fn conditions(alloc: Global) -> Result<Vec<Condition>, AllocError> {
+/// These conditions, and no other.
+fn conditions(rt: &impl Abort, alloc: Global) -> Vec<Condition> {
     let mut made = Vec::new(alloc);
-    made.push(holding(alloc, &[b"1"])?)?;
-    made.push(holding(alloc, &[b"2", b">", b"1"])?)?;
-    made.push(holding(alloc, &[b"1", b"&&", b"0"])?)?;
-    Ok(made)
+    for texts in HOLDING {
+        let condition = Condition {
+            key: key_of(rt, alloc, texts),
+            holds: true,
+        };
+        made.push(condition).expect(rt, "memory");
+    }
+    made
 }
 
 /// An include of `"a.h"` finds these bytes.
-fn includes(alloc: Global, bytes: &[u8]) -> Result<Vec<IncludeText>, AllocError> {
+fn includes(rt: &impl Abort, alloc: Global, bytes: &[u8]) -> Vec<IncludeText> {
     let mut made = Vec::new(alloc);
-    made.push(IncludeText {
-        key: key_of(alloc, &[b"\"a.h\""])?,
-        bytes: bytes.to_vec(alloc)?,
-    })?;
-    Ok(made)
+    let text = IncludeText {
+        key: key_of(rt, alloc, &[b"\"a.h\""]),
+        bytes: copy(rt, alloc, bytes),
+    };
+    made.push(text).expect(rt, "memory");
+    made
 }
 
-/// The events of a text.
-fn shown(
-    alloc: Global,
-    header: &[u8],
+/// What a text is told in: the bytes of `a.h`, how deep includes go, and the turns.
+#[derive(Clone, Copy)]
+struct Within {
+    header: &'static [u8],
     depth: u64,
     turns: u64,
-    text: &[u8],
-) -> Result<String, EventsFault> {
-    let setting = Setting {
-        macros: Vec::new(alloc),
-        includes: includes(alloc, header)?,
-        conditions: conditions(alloc)?,
-        depth,
-        turns,
-    };
-    let told = events(alloc, Dialect::C11, &setting, text)?;
-    Ok(show_events(alloc, &told)?)
 }
 
-/// A text and its events.
+/// No header is found, and so many turns are there.
+fn turning(turns: u64) -> Within {
+    Within {
+        header: b"",
+        depth: 0,
+        turns,
+    }
+}
+
+/// A setting of it.
+fn setting(rt: &impl Abort, alloc: Global, within: Within) -> Setting {
+    Setting {
+        macros: Vec::new(alloc),
+        includes: includes(rt, alloc, within.header),
+        conditions: conditions(rt, alloc),
+        depth: within.depth,
+        turns: within.turns,
+    }
+}
+
+/// The text has these events.
+fn has_events(
+    rt: &impl Abort,
+    alloc: Global,
+    within: Within,
+    name: &str,
+    text: &[u8],
+    expected: &str,
+) {
+    let setting = setting(rt, alloc, within);
+    let told = events(alloc, Dialect::C11, &setting, text).expect(rt, name);
+    same(rt, name, show_events(rt, alloc, &told).as_str(), expected);
+}
+
+/// The examples of 6.10.3, and their events.
 const EXAMPLES: &[(&str, &[u8], &str)] = &[
     (
         "6.10.3.3 EXAMPLE: a string of a paste",
@@ -197,17 +209,7 @@ const EXAMPLES: &[(&str, &[u8], &str)] = &[
     ),
 ];
 
-#[test]
-fn expands_the_examples_of_6_10_3(rt: HostRuntime) -> Result<(), Fail> {
-    for case in EXAMPLES {
-        let (name, text, expected) = *case;
-        let told = shown(rt.alloc(), b"", 0, 10000, text)?;
-        same(&rt, name, told.as_str(), expected);
-    }
-    Ok(())
-}
-
-/// A text and its events.
+/// Texts with conditionals, and their events.
 const CONDITIONALS: &[(&str, &[u8], &str)] = &[
     (
         "a condition is expanded, 6.10.1p4",
@@ -250,16 +252,6 @@ const CONDITIONALS: &[(&str, &[u8], &str)] = &[
         "MALFORMED[ ] x MALFORMED[ ] ",
     ),
 ];
-
-#[test]
-fn follows_conditionals(rt: HostRuntime) -> Result<(), Fail> {
-    for case in CONDITIONALS {
-        let (name, text, expected) = *case;
-        let told = shown(rt.alloc(), b"", 0, 10000, text)?;
-        same(&rt, name, told.as_str(), expected);
-    }
-    Ok(())
-}
 
 /// The bytes of `a.h`, how deep includes go, a text and its events.
 const INCLUDES: &[(&str, &[u8], u64, &[u8], &str)] = &[
@@ -337,16 +329,19 @@ const INCLUDES: &[(&str, &[u8], u64, &[u8], &str)] = &[
 ];
 
 #[test]
-fn reads_included_texts(rt: HostRuntime) -> Result<(), Fail> {
+fn reads_included_texts(rt: HostRuntime) {
     for case in INCLUDES {
         let (name, header, depth, text, expected) = *case;
-        let told = shown(rt.alloc(), header, depth, 10000, text)?;
-        same(&rt, name, told.as_str(), expected);
+        let within = Within {
+            header,
+            depth,
+            turns: 10000,
+        };
+        has_events(&rt, rt.alloc(), within, name, text, expected);
     }
-    Ok(())
 }
 
-/// A text and its events.
+/// Texts with lines and other directives, and their events.
 const LINES: &[(&str, &[u8], &str)] = &[
     ("no text", b"", ""),
     (
@@ -388,13 +383,12 @@ const LINES: &[(&str, &[u8], &str)] = &[
 ];
 
 #[test]
-fn counts_lines_and_tells_of_the_rest(rt: HostRuntime) -> Result<(), Fail> {
-    for case in LINES {
-        let (name, text, expected) = *case;
-        let told = shown(rt.alloc(), b"", 0, 10000, text)?;
-        same(&rt, name, told.as_str(), expected);
+fn tells_the_events_of_texts(rt: HostRuntime) {
+    for cases in [EXAMPLES, CONDITIONALS, LINES] {
+        for (name, text, expected) in cases {
+            has_events(&rt, rt.alloc(), turning(10000), name, text, expected);
+        }
     }
-    Ok(())
 }
 
 /// The turns, a text and its events.
@@ -410,13 +404,10 @@ const TURNS: &[(&str, u64, &[u8], &str)] = &[
 ];
 
 #[test]
-fn spends_turns(rt: HostRuntime) -> Result<(), Fail> {
-    for case in TURNS {
-        let (name, turns, text, expected) = *case;
-        let told = shown(rt.alloc(), b"", 0, turns, text)?;
-        same(&rt, name, told.as_str(), expected);
+fn spends_turns(rt: HostRuntime) {
+    for (name, turns, text, expected) in TURNS {
+        has_events(&rt, rt.alloc(), turning(*turns), name, text, expected);
     }
-    Ok(())
 }
 
 /// A text, one of other white space, and the events of both; 6.10.3p10 looks at the white space before a `(`.
@@ -484,13 +475,9 @@ const FORMATTED: &[(&str, &[u8], &[u8], &str)] = &[
 ];
 
 #[test]
-fn tells_the_same_of_a_formatted_text(rt: HostRuntime) -> Result<(), Fail> {
-    for case in FORMATTED {
-        let (name, text, formatted, expected) = *case;
-        let told = shown(rt.alloc(), b"", 0, 100, text)?;
-        same(&rt, name, told.as_str(), expected);
-        let told = shown(rt.alloc(), b"", 0, 100, formatted)?;
-        same(&rt, name, told.as_str(), expected);
+fn tells_the_same_of_a_formatted_text(rt: HostRuntime) {
+    for (name, text, formatted, expected) in FORMATTED {
+        has_events(&rt, rt.alloc(), turning(100), name, text, expected);
+        has_events(&rt, rt.alloc(), turning(100), name, formatted, expected);
     }
-    Ok(())
 }

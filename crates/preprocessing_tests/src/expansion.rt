@@ -3,10 +3,10 @@
 ghost use Rattle.std.specs.Prelude.{None};
 
 use crate::comparing::same;
-use pp_events::{ItemKind, Macro, Part, PpToken, Spellings, Tok, What, expand};
-use std::alloc::{AllocError, Global};
-use std::collections::VecDeque;
-use std::test::Fail;
+use crate::fixtures::{table_with, token, tokens};
+use pp_events::{ItemKind, Part, Spellings, What, expand};
+use std::alloc::Global;
+use std::process::Abort;
 
 /// Tells of no spelling that it is an item.
 struct NoItem;
@@ -19,56 +19,40 @@ impl Spellings for NoItem {
     }
 }
 
-/// An identifier with white space before it.
-fn word(alloc: Global, text: &[u8]) -> Result<Tok, AllocError> {
-    Ok(Tok {
-        token: PpToken::Plain {
-            text: text.to_vec(alloc)?,
-        },
-        kind: ItemKind::Identifier,
-        hide: Vec::new(alloc),
-        white: true,
-        line: 1,
-    })
-}
-
-/// `#define z z w`
-fn z_macro(alloc: Global) -> Result<Macro, AllocError> {
+/// The body of `#define z z w`.
+fn body_of_z(rt: &impl Abort, alloc: Global) -> Vec<Part> {
     let mut body = Vec::new(alloc);
-    for text in [b"z", b"w"] {
-        body.push(Part {
-            what: What::Word(word(alloc, text)?),
+    for text in ["z", "w"] {
+        let part = Part {
+            what: What::Word(token(rt, alloc, text)),
             white: true,
             glue: false,
-        })?;
+        };
+        body.push(part).expect(rt, "memory");
     }
-    Ok(Macro {
-        name: b"z".to_vec(alloc)?,
-        function_like: false,
-        arity: 0,
-        variadic: false,
-        body,
-    })
+    body
 }
 
+/// How many tokens a `z` becomes in so many turns, and how many turns are left.
+fn replaced(rt: &impl Abort, alloc: Global, turns: u64) -> Option<(usize, u64)> {
+    let table = table_with(rt, alloc, b"z", body_of_z(rt, alloc));
+    let text = tokens(rt, alloc, "z");
+    let told = expand(alloc, &NoItem, table.as_slice(), turns, text);
+    let (tokens, left) = told.expect(rt, "memory")?;
+    Some((tokens.len(), left))
+}
+
+/// The turns, how many tokens there are then, and how many turns are left.
+const CASES: &[(&str, u64, Option<(usize, u64)>)] = &[
+    ("a turn for each name", 3, Some((2, 0))),
+    ("a turn that is left", 4, Some((2, 1))),
+    ("a turn too few", 2, None),
+];
+
 #[test]
-fn replaces_a_name_once(rt: HostRuntime) -> Result<(), Fail> {
-    let alloc = rt.alloc();
-    let mut table = Vec::new(alloc);
-    table.push(z_macro(alloc)?)?;
-    let cases = [
-        ("a turn for each name", 3u64, Some((2usize, 0u64))),
-        ("a turn that is left", 4, Some((2, 1))),
-        ("a turn too few", 2, None),
-    ];
-    for (name, turns, expected) in cases {
-        let mut text = VecDeque::new(alloc);
-        text.push_back(word(alloc, b"z")?)?;
-        let told = match expand(alloc, &NoItem, table.as_slice(), turns, text)? {
-            Some((tokens, left)) => Some((tokens.len(), left)),
-            None => None,
-        };
-        same(&rt, name, told, expected);
+fn replaces_a_name_once(rt: HostRuntime) {
+    for case in CASES {
+        let (name, turns, expected) = *case;
+        same(&rt, name, replaced(&rt, rt.alloc(), turns), expected);
     }
-    Ok(())
 }

@@ -63,7 +63,7 @@ const NEWER: &[(&str, &[u8], ItemKind)] = &[
 fn knows_the_items_of_c23(rt: HostRuntime) {
     for case in NEWER {
         let (name, text, kind) = *case;
-        same(&rt, name, kind_of(Dialect::C23, text), Some(kind));
-        same(&rt, name, kind_of(Dialect::C11, text), None);
+        let kinds = (kind_of(Dialect::C23, text), kind_of(Dialect::C11, text));
+        same(&rt, name, kinds, (Some(kind), None));
     }
 }

@@ -4,6 +4,7 @@
 //! preprocessing; a case has what the C standard says of an example, by which the model is tested too.
 //!
 //! - `comparing`: what is found beside what is wanted.
+//! - `fixtures`: tokens, macros and texts.
 //! - `expansion`: names that are replaced, and the turns that it takes (`pp_events`).
 //! - `stream`: the sections of texts, in both editions (`pp_stream`).
 //! - `kinds`: the kinds of spellings (`pp_kinds`).
@@ -20,6 +21,8 @@ mod directive_acts;
 mod events;
 #[cfg(test)]
 mod expansion;
+#[cfg(test)]
+mod fixtures;
 #[cfg(test)]
 mod kinds;
 #[cfg(test)]

@@ -1,55 +1,55 @@
 //! Texts and their sections, by C11 6.10.
 
 use crate::comparing::same;
+use crate::fixtures::push;
 use pp_stream::{Dialect, PpItem, PpSection, sections_of};
-use std::alloc::{AllocError, Global};
+use std::alloc::Global;
 use std::process::Abort;
 use std::str::from_utf8;
-use std::test::Fail;
 
 /// An item: a blank where white space stands before it, its spelling and its line.
-fn show_item(out: &mut String, item: &PpItem) -> Result<(), AllocError> {
+fn show_item(rt: &impl Abort, out: &mut String, item: &PpItem) {
     let blank = if item.white { " " } else { "" };
     let text = from_utf8(item.text.as_slice()).unwrap_or("?");
     let line = item.line;
-    write!(out, "{blank}{text}@{line}")
+    write!(out, "{blank}{text}@{line}").expect(rt, "memory");
 }
 
 /// A section without its items: its kind, `()` where it defines a function-like macro, and the line behind it.
-fn show_head(out: &mut String, section: &PpSection) -> Result<(), AllocError> {
+fn show_head(rt: &impl Abort, out: &mut String, section: &PpSection) {
     let (kind, next) = (section.kind, section.next);
     let parameters = if section.function_like { "()" } else { "" };
-    write!(out, "{kind:?}{parameters}/{next}")
+    write!(out, "{kind:?}{parameters}/{next}").expect(rt, "memory");
 }
 
-/// A section with its items.
-fn show_section(out: &mut String, section: &PpSection) -> Result<(), AllocError> {
-    show_head(out, section)?;
-    out.push_str("[")?;
-    for item in &section.items {
-        show_item(out, item)?;
+/// Sections with their items.
+fn shown(rt: &impl Abort, alloc: Global, sections: &Vec<PpSection>) -> String {
+    let mut out = String::new(alloc);
+    for section in sections {
+        show_head(rt, &mut out, section);
+        push(rt, &mut out, "[");
+        for item in &section.items {
+            show_item(rt, &mut out, item);
+        }
+        push(rt, &mut out, "]");
     }
-    out.push_str("]")
+    out
 }
 
-/// The sections of a text.
-fn shown(
+/// The text has these sections.
+fn has_sections(
     rt: &impl Abort,
     alloc: Global,
-    text: &[u8],
     dialect: Dialect,
-) -> Result<String, AllocError> {
+    name: &str,
+    text: &[u8],
+    expected: &str,
+) {
     assert!(rt; text.len() < 1000);
-    let mut out = String::new(alloc);
-    match sections_of(alloc, text, dialect)? {
-        Some(sections) => {
-            for section in &sections {
-                show_section(&mut out, section)?;
-            }
-        }
-        None => out.push_str("no sections")?,
+    match sections_of(alloc, text, dialect).expect(rt, name) {
+        Some(sections) => same(rt, name, shown(rt, alloc, &sections).as_str(), expected),
+        None => same(rt, name, "no sections", expected),
     }
-    Ok(out)
 }
 
 /// A text and its sections.
@@ -135,13 +135,10 @@ const SECTIONS: &[(&str, &[u8], &str)] = &[
 ];
 
 #[test]
-fn cuts_texts_into_sections(rt: HostRuntime) -> Result<(), Fail> {
-    for case in SECTIONS {
-        let (name, text, expected) = *case;
-        let found = shown(&rt, rt.alloc(), text, Dialect::C11)?;
-        same(&rt, name, found.as_str(), expected);
+fn cuts_texts_into_sections(rt: HostRuntime) {
+    for (name, text, expected) in SECTIONS {
+        has_sections(&rt, rt.alloc(), Dialect::C11, name, text, expected);
     }
-    Ok(())
 }
 
 /// A text, and its sections in C11 and in C23.
@@ -179,13 +176,9 @@ const EDITIONS: &[(&str, &[u8], &str, &str)] = &[
 ];
 
 #[test]
-fn knows_the_names_of_each_edition(rt: HostRuntime) -> Result<(), Fail> {
-    for case in EDITIONS {
-        let (name, text, older, newer) = *case;
-        let found = shown(&rt, rt.alloc(), text, Dialect::C11)?;
-        same(&rt, name, found.as_str(), older);
-        let found = shown(&rt, rt.alloc(), text, Dialect::C23)?;
-        same(&rt, name, found.as_str(), newer);
+fn knows_the_names_of_each_edition(rt: HostRuntime) {
+    for (name, text, older, newer) in EDITIONS {
+        has_sections(&rt, rt.alloc(), Dialect::C11, name, text, older);
+        has_sections(&rt, rt.alloc(), Dialect::C23, name, text, newer);
     }
-    Ok(())
 }
