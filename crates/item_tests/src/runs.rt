@@ -110,8 +110,8 @@ fn takes_one_branch_of_each_conditional(rt: HostRuntime) {
     }
 }
 
-/// A text, and for each run behind the first the first item that changes from the run before it, and the item behind the
-/// last one that is new.
+/// A text, and for each run behind the first the first item that changes from the run before it, and the item behind
+/// the last one that is new.
 const CHANGES: &[(&str, &str, &[(u32, u32)])] = &[
     ("one run", "a\n#if A\nb\n#endif", &[]),
     (
