@@ -1,7 +1,7 @@
 -- The texts with their runs increase.
 use Rattle.std.proofs.Common.{◌≡◌, ℕ, zero, suc, ◌+◌, ◌<◌, ◌^◌, true, List, [], ◌∷◌, ◌++◌, map, sym, subst, arith}
 use Rattle.std.proofs.lemmas.List.{append-nil}
-use Rattle.token_views.specs.Segments.{AscendFrom}
+use Rattle.token_arena.specs.Segments.{AscendFrom}
 use Rattle.branch_runs.specs.declared.mark.MarkKind.{MarkKind}
 use Rattle.branch_runs.specs.declared.mark.MarkKind.TheVariants.{Text, IfZero, Opens, Branch, LastBranch, Ends, Flat}
 use Rattle.branch_runs.specs.declared.mark.Mark.{Mark}

@@ -2,12 +2,12 @@
 use Rattle.std.proofs.Common.{◌≡◌, ◌≢◌, ℕ, zero, suc, ◌+◌, ◌≤◌, Bool, true, false, List, [], ◌∷◌, map, length, arith}
 use Rattle.std.specs.Prelude.{All}
 use Rattle.token_arena.specs.Gaps.{Contents}
-use Rattle.directives.specs.declared.Section.{Section}
-use Rattle.directives.specs.declared.Section.TheVariants.{Text, Dir}
-use Rattle.directives.specs.declared.nesting.Nesting.{Nesting}
-use Rattle.directives.specs.declared.nesting.Nesting.TheVariants.{Opens, Branch, LastBranch, Ends, Flat}
-use Rattle.directives.specs.Nesting.{nesting_of}
-use Rattle.directives.specs.Sections as sections
+use Rattle.token_arena.specs.declared.directives.Section.{Section}
+use Rattle.token_arena.specs.declared.directives.Section.TheVariants.{Text, Dir}
+use Rattle.token_arena.specs.declared.directives.nesting.Nesting.{Nesting}
+use Rattle.token_arena.specs.declared.directives.nesting.Nesting.TheVariants.{Opens, Branch, LastBranch, Ends, Flat}
+use Rattle.token_arena.specs.Nesting.{nesting_of}
+use Rattle.token_arena.specs.Sections as sections
 use Rattle.branch_runs.specs.declared.mark.MarkKind.TheVariants as kind
 use Rattle.branch_runs.specs.Marks.{mark_of, kind_by, IsWithin}
 use Rattle.branch_runs.specs.Zero.{is_if_zero}

@@ -4,7 +4,7 @@ use Rattle.std.specs.Prelude.{min, max, nat_lt, if◌then◌else◌, All}
 use Rattle.std.specs.List.{range_with_len}
 use Rattle.std.proofs.lemmas.List.{drop_more, drop_all}
 use Rattle.std.proofs.lemmas.List.Elements.{All-contains_itself, All-contains}
-use Rattle.token_views.specs.Segments.{AscendFrom, ids_of}
+use Rattle.token_arena.specs.Segments.{AscendFrom, ids_of}
 use Rattle.branch_runs.specs.declared.seen.SeenText.{SeenText}
 use Rattle.branch_runs.specs.Seen.{is_seen, taken}
 use Rattle.branch_runs.specs.Visible.{no_text, text_at, NoneSeen, IsSeenAt}

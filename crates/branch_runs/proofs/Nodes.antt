@@ -9,8 +9,8 @@ use Rattle.branch_runs.specs.Tree.{Group, Branches, nothing, none, branch}
 use Rattle.branch_runs.specs.Reading.{Around, branches_of, group_of, outside, rest_with, rest_of}
 use Rattle.branch_runs.specs.Runs.{needs, has_live}
 use Rattle.branch_runs.specs.Fits.{rest_at, IsBranch, FitsNode, FitNodes}
-use Rattle.token_views.specs.declared.view.Stretch.{Stretch}
-use Rattle.token_views.specs.Segments.{bounds_of}
+use Rattle.token_arena.specs.declared.view.Stretch.{Stretch}
+use Rattle.token_arena.specs.Segments.{bounds_of}
 use Rattle.branch_runs.proofs.Cover.{need_some}
 
 pub no_needs : (bs : Branches) → needs bs ≡ 0 → has_live bs ≡ false

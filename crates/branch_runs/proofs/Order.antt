@@ -9,7 +9,7 @@ use Rattle.branch_runs.specs.Tree.{Group, nothing, none, branch}
 use Rattle.branch_runs.specs.Reading.{Around, branches_of, group_of, outside, rest_with, rest_of, effects_in, kind_in, open_after, read}
 use Rattle.branch_runs.specs.Runs.{need, has_live, texts, texts_in}
 use Rattle.branch_runs.specs.Cut.{IsCutFrom, BeginsNoText}
-use Rattle.token_views.specs.Segments.{AscendFrom}
+use Rattle.token_arena.specs.Segments.{AscendFrom}
 use Rattle.branch_runs.proofs.Together.{still_text}
 use Rattle.std.proofs.lemmas.List.{append-nil}
 

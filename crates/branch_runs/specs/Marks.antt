@@ -1,12 +1,12 @@
 -- The sections of a text, as conditionals see them.
 use Rattle.std.specs.Prelude.{◌<◌, ◌≤◌, ℕ, Bool, true, false, List, map}
 use Rattle.token_arena.specs.Gaps.{Contents}
-use Rattle.directives.specs.Nesting.{nesting_of}
-use Rattle.directives.specs.Sections.{sections_of}
-use Rattle.directives.specs.declared.nesting.Nesting.{Nesting}
-use Rattle.directives.specs.declared.nesting.Nesting.TheVariants.{Opens, Branch, LastBranch, Ends, Flat}
-use Rattle.directives.specs.declared.Section.{Section}
-use Rattle.directives.specs.declared.Section.TheVariants.{Text, Dir}
+use Rattle.token_arena.specs.Nesting.{nesting_of}
+use Rattle.token_arena.specs.Sections.{sections_of}
+use Rattle.token_arena.specs.declared.directives.nesting.Nesting.{Nesting}
+use Rattle.token_arena.specs.declared.directives.nesting.Nesting.TheVariants.{Opens, Branch, LastBranch, Ends, Flat}
+use Rattle.token_arena.specs.declared.directives.Section.{Section}
+use Rattle.token_arena.specs.declared.directives.Section.TheVariants.{Text, Dir}
 use Rattle.branch_runs.specs.Zero.{is_if_zero}
 use Rattle.branch_runs.specs.declared.mark.MarkKind.{MarkKind}
 use Rattle.branch_runs.specs.declared.mark.MarkKind.TheVariants as kind

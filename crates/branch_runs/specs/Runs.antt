@@ -1,6 +1,6 @@
 -- Runs, and what each sees. docs/PROFILE.md, "Runs", says the rules.
 use Rattle.std.specs.Prelude.{ℕ, ◌+◌, ◌-◌, nat_lt, max, Bool, true, false, not, ◌||◌, List, [], ◌∷◌, ◌++◌, if◌then◌else◌}
-pub use Rattle.token_views.specs.Segments.{ids_of}
+pub use Rattle.token_arena.specs.Segments.{ids_of}
 use Rattle.branch_runs.specs.Tree.{Group, Branches, nothing, text, conditional, none, branch}
 
 -- How many runs a group needs: as many as the conditional in it that needs most, and at least one. A conditional needs

@@ -7,10 +7,10 @@ use Rattle.c_grammar.specs.Touch.{is_number}
 use Rattle.c_grammar.specs.Fitting.{is_comment}
 use Rattle.token_arena.specs.Stored.{Stored}
 use Rattle.token_arena.specs.Gaps.{Contents}
-use Rattle.directives.specs.Directives.{spelling}
-use Rattle.directives.specs.declared.Directive.{Directive}
-use Rattle.directives.specs.declared.DirectiveKind.{DirectiveKind}
-use Rattle.directives.specs.declared.DirectiveKind.TheVariants.{If}
+use Rattle.token_arena.specs.Directives.{spelling}
+use Rattle.token_arena.specs.declared.directives.Directive.{Directive}
+use Rattle.token_arena.specs.declared.directives.DirectiveKind.{DirectiveKind}
+use Rattle.token_arena.specs.declared.directives.DirectiveKind.TheVariants.{If}
 
 -- these items without the comments among them
 abbrev pub without_comments : List Stored → List Stored

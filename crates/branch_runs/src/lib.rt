@@ -22,5 +22,5 @@ mod zero;
 pub use change::Change;
 pub use laws::views_are_of_texts;
 pub use mark::{Mark, MarkKind};
-pub use token_views::{NoMemory, TokenId, View};
+pub use token_arena::{NoMemory, TokenId, View};
 pub use tree::CondTree;

@@ -7,8 +7,7 @@ use crate::NoMemory;
 use crate::zero::is_if_zero;
 use bumpalo::Bump;
 use bumpalo::collections::into_bump_slice;
-use directives::{Nesting, Section, nesting_of};
-use token_arena::TokenArena;
+use token_arena::{Nesting, Section, TokenArena, nesting_of};
 
 /// What a section does to the conditionals that are open.
 #[derive(Clone, Copy, Debug, PartialEq, Eq)]

@@ -2,7 +2,7 @@
 
 ghost use Rattle.std.specs.Prelude.{◌≡◌, ◌≢◌, ◌<◌, ◌≤◌, ◌+◌, ◌^◌, map, length, IfOk, slice_index_or};
 ghost use Rattle.c_chars.specs.declared.TheConstants.{LIMIT};
-ghost use Rattle.token_views.specs.Segments.{AscendFrom};
+ghost use Rattle.token_arena.specs.Segments.{AscendFrom};
 ghost use Rattle.branch_runs.specs.declared.mark.MarkKind.TheVariants as MarkKind;
 ghost use Rattle.branch_runs.specs.Links.{node_mark};
 ghost use Rattle.branch_runs.specs.Reading.{read};

@@ -2,8 +2,8 @@
 
 ghost use Rattle.std.specs.Prelude.{◌≡◌, ◌<◌, ◌≤◌, [], All, IfOk, length, map};
 ghost use Rattle.c_chars.specs.declared.TheConstants.{LIMIT};
-ghost use Rattle.token_views.specs.Ids.{Increase};
-ghost use Rattle.directives.specs.Sections.{sections_of, IsCut};
+ghost use Rattle.token_arena.specs.Ids.{Increase};
+ghost use Rattle.token_arena.specs.Sections.{sections_of, IsCut};
 ghost use Rattle.branch_runs.specs.Marks.{marks_of};
 ghost use Rattle.branch_runs.specs.Reading.{read, effects};
 ghost use Rattle.branch_runs.specs.Runs.{need, view_of};
@@ -22,10 +22,8 @@ use crate::visible::Visible;
 use crate::window::{stretches_between, stretches_of};
 use crate::{Mark, NoMemory};
 use bumpalo::Bump;
-use directives::Section;
 use std::marker::Model;
-use token_arena::TokenArena;
-use token_views::{TokenId, View};
+use token_arena::{Section, TokenArena, TokenId, View};
 
 /// The conditionals of a text. A contract sees the marks of its sections, each with what it does where it stands.
 #[derive(Drop)]
@@ -47,7 +45,7 @@ impl<'a> Model for CondTree<'a> {
     ghost use Rattle.branch_runs.specs.Cut.{IsCutFrom};
     ghost use Rattle.branch_runs.specs.Dead.{flags_in};
     ghost use Rattle.branch_runs.specs.Runs.{need};
-    ghost use Rattle.token_views.specs.Segments.{AscendFrom};
+    ghost use Rattle.token_arena.specs.Segments.{AscendFrom};
     ghost use Rattle.branch_runs.specs.Inside.{text_bounds};
     ghost use Rattle.branch_runs.specs.Seen.{seen_texts};
     ghost use Rattle.branch_runs.specs.Anew.{AreNoted};
@@ -60,7 +58,7 @@ impl<'a> Model for CondTree<'a> {
 }
 
 impl<'a> CondTree<'a> {
-    /// Reads the conditionals from the sections of a text, which [`directives::sections`] gives.
+    /// Reads the conditionals from the sections of a text, which [`token_arena::sections`] gives.
     pub fn build(
         arena: &TokenArena<'_, '_>,
         sections: &[Section],

@@ -1,7 +1,7 @@
 //! What a run sees from one item to before another.
 
 ghost use Rattle.std.specs.Prelude.{◌≡◌, ◌<◌, ◌≤◌, ℕ, map, length, IfOk};
-ghost use Rattle.token_views.specs.Segments.{AscendFrom, bounds_of};
+ghost use Rattle.token_arena.specs.Segments.{AscendFrom, bounds_of};
 ghost use Rattle.branch_runs.specs.Seen.{taken};
 ghost use Rattle.branch_runs.specs.Visible.{text_at};
 ghost use Rattle.branch_runs.specs.Inside.{text_bounds, inside};
@@ -10,7 +10,7 @@ use crate::NoMemory;
 use crate::visible::Visible;
 use bumpalo::Bump;
 use bumpalo::collections::into_bump_slice;
-use token_views::Stretch;
+use token_arena::Stretch;
 
 // The place of the first text that ends behind an item, or behind all texts; found by halving.
 fn first_behind(texts: &Visible<'_>, item: u32) -> usize

@@ -6,9 +6,8 @@ ghost use Rattle.c_grammar.specs.Fitting.{is_comment};
 ghost use Rattle.token_arena.specs.Entries.{told_by};
 ghost use Rattle.branch_runs.specs.Zero.{without_comments, IsFirst, is_zero, tests_zero, is_if_zero};
 
-use directives::{Dialect, Directive, DirectiveKind, is_spelled};
 use line_tokens::{ItemKind, TokenId};
-use token_arena::{Token, TokenArena};
+use token_arena::{Dialect, Directive, DirectiveKind, Token, TokenArena, is_spelled};
 
 // Whether items of this kind are comments.
 fn is_comment(kind: ItemKind) -> bool

@@ -1,8 +1,8 @@
 -- What is known to come is a lower bound, and isn't larger from a smaller column.
 use Rattle.std.proofs.Common.{◌≡◌, ℕ, ◌+◌, ◌-◌, ◌*◌, ◌<◌, ◌≤◌, min, Bool, true, false, if◌then◌else◌, Option, Some, None, List, length, refl, arith, ap, suc, zero}
 use Rattle.std.proofs.lemmas.Nat.{mul-le}
-use Rattle.least_breaking.proofs.Bounds.{IsBound}
-use Rattle.least_breaking.proofs.Ways.{Reached}
+use Rattle.line_state.proofs.Bounds.{IsBound}
+use Rattle.line_state.proofs.Ways.{Reached}
 use Rattle.line_tokens.specs.Columns.{columns}
 use Rattle.line_tokens.specs.declared.LineTok.{LineTok}
 use Rattle.line_tokens.specs.declared.Fixed.{Fixed}

@@ -5,9 +5,9 @@ use Rattle.line_tokens.specs.Columns.{columns, stored_or}
 use Rattle.line_tokens.specs.Roles.{is_trailing}
 use Rattle.line_tokens.specs.declared.Fixed.{Fixed}
 use Rattle.style_table.specs.declared.style.Style.{Style}
-use Rattle.penalties.specs.declared.GapRule.{GapRule}
-use Rattle.penalties.specs.Breaks.{gap_rule}
-use Rattle.spacing.specs.Spaces.{spaces_before}
+use Rattle.layout_tables.specs.declared.penalties.GapRule.{GapRule}
+use Rattle.layout_tables.specs.Breaks.{gap_rule}
+use Rattle.layout_tables.specs.Spaces.{spaces_before}
 use Rattle.line_state.specs.declared.gap.Gap.{Gap}
 use Rattle.line_state.specs.declared.gap.GapRules.{GapRules}
 use Rattle.line_state.specs.Layout.{Layout, as_decided, keeps_rules_at, cost_of, gap_cost, excess_at, excess, is_some_decision, spot_of, start_of, broken_start}

@@ -1,10 +1,10 @@
 -- Choices that break only where they have to.
 use Rattle.std.proofs.Common.{◌≡◌, ◌∙◌, ◌⊎◌, inl, inr, ℕ, suc, ◌+◌, ◌*◌, ◌<◌, ◌≤◌, Bool, true, false, cond, not, Option, Some, None, List, [], ◌∷◌, ◌++◌, length, length-append, refl, sym, ap, arith, subst, zero, take, slice_get}
 use Rattle.std.specs.Prelude.{if◌then◌else◌}
-use Rattle.least_breaking.specs.Choices.{Leads}
+use Rattle.line_state.specs.Choices.{Leads}
 use Rattle.line_tokens.specs.declared.Fixed.{Fixed}
 use Rattle.style_table.specs.declared.style.Style.{Style}
-use Rattle.penalties.specs.Breaks.{gap_rule}
+use Rattle.layout_tables.specs.Breaks.{gap_rule}
 use Rattle.line_state.specs.declared.gap.Gap.{Gap}
 use Rattle.line_state.specs.declared.node.NodeState.{NodeState}
 use Rattle.line_state.specs.declared.state.State.{State}

@@ -1,15 +1,15 @@
 -- On a narrow line a layout dominates those of its frames that stand at no smaller column.
 use Rattle.std.proofs.Common.{◌≡◌, ℕ, ◌+◌, ◌-◌, ◌*◌, ◌<◌, ◌≤◌, Bool, true, false, not, ◌&&◌, ◌||◌, ◌==◌, nat_lt, nat_le, cond, if◌then◌else◌, Option, Some, None, List, [], ◌∷◌, ◌++◌, length, take, refl, arith, ap, sym, ◌∙◌, subst, suc, zero, slice_set, slice_index_or}
 use Rattle.std.proofs.lemmas.Nat.{mul-le}
-use Rattle.least_breaking.proofs.Ways.{Reached}
-use Rattle.least_breaking.proofs.Dominance.{GoesAsWell, Dominates}
+use Rattle.line_state.proofs.Ways.{Reached}
+use Rattle.line_state.proofs.Dominance.{GoesAsWell, Dominates}
 use Rattle.line_tokens.specs.Columns.{columns, stored_or, end_of}
 use Rattle.line_tokens.specs.Roles.{is_comma, is_decl_name, is_list_close, is_trailing}
 use Rattle.line_tokens.specs.declared.Fixed.{Fixed}
 use Rattle.line_tokens.specs.declared.role.Role.{Role}
 use Rattle.style_table.specs.declared.style.Style.{Style}
-use Rattle.penalties.specs.Breaks.{gap_rule}
-use Rattle.spacing.specs.Spaces.{spaces_before}
+use Rattle.layout_tables.specs.Breaks.{gap_rule}
+use Rattle.layout_tables.specs.Spaces.{spaces_before}
 use Rattle.line_state.specs.declared.frames.Frame.{Frame}
 use Rattle.line_state.specs.declared.gap.Gap.{Gap}
 use Rattle.line_state.specs.Brackets.{opens_frame, binds_commas, binds_opening, is_dont_align}

@@ -1,9 +1,9 @@
 -- A settled vertex that another one passes needs not be followed.
 use Rattle.std.proofs.Common.{◌≡◌, ◌≢◌, ℕ, ◌<◌, ◌≤◌, Bool, true, Option, Some, None, List, [], ◌∷◌, length, refl, arith, sym, ◌∙◌, slice_get, zero, suc}
-use Rattle.least_breaking.proofs.Ways.{rank, AtMost}
-use Rattle.least_breaking.proofs.Dominance.{Dominates}
-use Rattle.least_breaking.proofs.Table.{Vertex, path, IsTable, Nothing}
-use Rattle.least_breaking.proofs.Moves.{AllOf, drop}
+use Rattle.line_state.proofs.Ways.{rank, AtMost}
+use Rattle.line_state.proofs.Dominance.{Dominates}
+use Rattle.line_state.proofs.Table.{Vertex, path, IsTable, Nothing}
+use Rattle.line_state.proofs.Moves.{AllOf, drop}
 use Rattle.line_state.specs.Layout.{Layout}
 use Rattle.line_state.specs.Line.{Line, gaps, first_layout, Step}
 use Rattle.line_state.proofs.Steps.{functional}

@@ -1,7 +1,7 @@
 -- Admissible choices, one after another.
 use Rattle.std.proofs.Common.{◌≡◌, ◌∙◌, ℕ, suc, ◌+◌, ◌<◌, Bool, Option, Some, None, IfSome, List, [], ◌∷◌, ◌++◌, length, get_or, drop, append_assoc, sym, ap, arith, subst}
 use Rattle.std.proofs.Math.Seq.{drop-cons}
-use Rattle.least_breaking.specs.Choices.{Leads}
+use Rattle.line_state.specs.Choices.{Leads}
 use Rattle.line_state.specs.declared.gap.Gap.{Gap}
 use Rattle.line_state.specs.declared.node.NodeState.{NodeState}
 use Rattle.line_state.specs.declared.state.State.{State}

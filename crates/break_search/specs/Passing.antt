@@ -1,7 +1,7 @@
 -- Vertices that need not be followed, since what follows others is at least as good.
 use Rattle.std.specs.Prelude.{◌≡◌, ◌≢◌, ℕ, ◌≤◌, true, Some, List, slice_get}
-use Rattle.least_breaking.proofs.Ways.{AtMost}
-use Rattle.least_breaking.proofs.Table.{Vertex}
+use Rattle.line_state.proofs.Ways.{AtMost}
+use Rattle.line_state.proofs.Table.{Vertex}
 use Rattle.line_state.specs.Layout.{Layout}
 use Rattle.break_search.specs.Vertices.{rank_at}
 

@@ -2,7 +2,7 @@
 use Rattle.std.specs.Prelude.{◌≡◌, ℕ, ◌+◌, ◌*◌, ◌≤◌, Option, Some, length, zero, suc}
 use Rattle.line_tokens.specs.Columns.{stored_or}
 use Rattle.style_table.specs.declared.style.Style.{Style}
-use Rattle.spacing.specs.Spaces.{spaces_before}
+use Rattle.layout_tables.specs.Spaces.{spaces_before}
 use Rattle.line_state.specs.declared.gap.Gap.{Gap}
 use Rattle.line_state.specs.Line.{Line, first_gap, gap_at}
 use Rattle.break_search.specs.declared.outcome.Saturation.{Saturation}

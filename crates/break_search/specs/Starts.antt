@@ -1,6 +1,6 @@
 -- The layouts that given choices pass through.
 use Rattle.std.specs.Prelude.{◌≡◌, ◌==◌, false, ℕ, Bool, Option, Some, None, List, [], ◌∷◌, length}
-use Rattle.least_breaking.specs.Choices.{Leads}
+use Rattle.line_state.specs.Choices.{Leads}
 use Rattle.style_table.specs.declared.style.Style.{Style}
 use Rattle.line_state.specs.declared.gap.Gap.{Gap}
 use Rattle.line_state.specs.Layout.{Layout, layout_after, start_of}

@@ -2,7 +2,7 @@
 
 ghost use Rattle.std.specs.Prelude.{◌≡◌, ◌≢◌, ℕ, ◌<◌, length};
 ghost use Rattle.std.specs.Bool.{OnTrue};
-ghost use Rattle.least_breaking.proofs.Table.{HaveParents};
+ghost use Rattle.line_state.proofs.Table.{HaveParents};
 ghost use Rattle.break_search.specs.Passing.{IsBetter, Passes};
 ghost use Rattle.break_search.specs.Vertices.{HavePaths, HaveLevels, AreLevel};
 

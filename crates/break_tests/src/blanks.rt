@@ -2,8 +2,8 @@
 
 use crate::comparing::same;
 use crate::fixtures::{style, token};
+use layout_tables::spaces_before;
 use line_tokens::Role;
-use spacing::spaces_before;
 
 /// Two tokens, whether they may touch, and the blanks between them.
 const GAPS: &[(&str, Role, Role, bool, u8)] = &[

@@ -2,8 +2,8 @@
 
 use crate::comparing::same;
 use crate::fixtures::{style, token};
+use layout_tables::{GapRule, gap_rule};
 use line_tokens::Role;
-use penalties::{GapRule, gap_rule};
 
 /// What a break costs.
 #[derive(Clone, Copy)]

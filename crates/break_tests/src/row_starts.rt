@@ -2,7 +2,7 @@
 
 use crate::comparing::same;
 use crate::fixtures::{style, token};
-use indenter::{empty_lines, start_column};
+use layout_tables::{empty_lines, start_column};
 use line_tokens::{LineKind, LineTok, Role, TokenId, ULine};
 use std::process::Abort;
 

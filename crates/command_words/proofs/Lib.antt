@@ -3,3 +3,4 @@ mod Builders
 mod FormLemmas
 mod LineLemmas
 pub mod Examples
+mod Joined

@@ -3,3 +3,4 @@ pub mod Budget
 pub mod Generate
 pub mod Lines
 pub mod Said
+pub mod Generated

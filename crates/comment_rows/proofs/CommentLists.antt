@@ -12,8 +12,8 @@ use Rattle.line_tokens.specs.declared.LineTok.{LineTok}
 use Rattle.line_tokens.specs.Columns.{end_of}
 use Rattle.replacements.specs.declared.slot.Slot.{Slot}
 use Rattle.replacements.specs.Decisions.{slot_of}
-use Rattle.comment_place.specs.declared.rows.TrailRow.{TrailRow}
-use Rattle.comment_place.specs.Columns.{aligned, lined_up, shared_column}
+use Rattle.comment_rows.specs.declared.place.TrailRow.{TrailRow}
+use Rattle.comment_rows.specs.Columns.{aligned, lined_up, shared_column}
 use Rattle.comment_rows.specs.declared.comments.Comment.{Comment}
 use Rattle.comment_rows.specs.Comments.{comment_at, comment_of, comments_behind, comments_in, comments_made, first_start, placed, placed_slot, row_of, start_by}
 

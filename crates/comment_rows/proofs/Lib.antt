@@ -1,3 +1,4 @@
 pub mod NextRows
 pub mod CommentLists
 pub mod BehindTokens
+pub mod Lined

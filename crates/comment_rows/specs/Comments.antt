@@ -5,14 +5,14 @@ use Rattle.line_tokens.specs.declared.LineTok.{LineTok}
 use Rattle.line_tokens.specs.declared.role.Role.TheVariants.{Word}
 use Rattle.c_grammar.specs.declared.ItemKind.TheVariants.{Other}
 use Rattle.style_table.specs.declared.style.Style.{Style}
-use Rattle.spacing.specs.Spaces.{spaces_before}
+use Rattle.layout_tables.specs.Spaces.{spaces_before}
 use Rattle.line_tokens.specs.Columns.{columns, end_of}
-use Rattle.gap_text.specs.declared.Decision.{Decision}
-use Rattle.gap_text.specs.declared.Decision.TheVariants.{Old, Spaces, Lines, Splice}
+use Rattle.replacements.specs.declared.gap_text.Decision.{Decision}
+use Rattle.replacements.specs.declared.gap_text.Decision.TheVariants.{Old, Spaces, Lines, Splice}
 use Rattle.replacements.specs.declared.slot.Slot.{Slot}
 use Rattle.replacements.specs.Decisions.{slot_of}
-use Rattle.comment_place.specs.declared.rows.TrailRow.{TrailRow}
-use Rattle.comment_place.specs.Columns.{aligned}
+use Rattle.comment_rows.specs.declared.place.TrailRow.{TrailRow}
+use Rattle.comment_rows.specs.Columns.{aligned}
 use Rattle.comment_rows.specs.declared.comments.Comment.{Comment}
 
 -- ## Where tokens stand

@@ -9,12 +9,11 @@ ghost use Rattle.replacements.specs.Decisions.{decided, decided_all, slot_of};
 ghost use Rattle.comment_rows.specs.Comments.{column_behind, comment_at, comment_of, comments_in, comments_made, no_token, placed, placed_slot, row_of};
 
 use crate::rows::{end_of, first_start, is_next, start_by};
+use crate::{TrailRow, align};
 use bumpalo::Bump;
-use comment_place::{TrailRow, align};
-use gap_text::Decision;
+use layout_tables::spaces_before;
 use line_tokens::{LineTok, NoMemory};
-use replacements::Plan;
-use spacing::spaces_before;
+use replacements::{Decision, Plan};
 use style_table::Style;
 
 /// A trailing comment of a view, as it is read off the plan. Contracts tell the decisions for a view by these.

@@ -6,6 +6,8 @@
 #![tactic(auto)]
 
 mod comments;
+mod place;
 mod rows;
 
 pub use comments::{Comment, place_comments};
+pub use place::{TrailRow, align};

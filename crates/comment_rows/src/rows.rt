@@ -6,10 +6,9 @@ ghost use Rattle.line_tokens.specs.declared.LineTok.{LineTok};
 ghost use Rattle.line_tokens.specs.Columns.{end_of};
 ghost use Rattle.comment_rows.specs.Comments.{ends_in, first_start, is_next, rows_before, start_by};
 
-use gap_text::Decision;
+use layout_tables::spaces_before;
 use line_tokens::LineTok;
-use replacements::{Plan, Slot};
-use spacing::spaces_before;
+use replacements::{Decision, Plan, Slot};
 use style_table::Style;
 
 /// How many rows end in a gap that is decided so, where the input's gap has so many new-lines.

@@ -3,7 +3,7 @@ use Rattle.std.specs.Prelude.{ℕ, zero, suc, ◌+◌, ◌-◌, List, [], ◌∷
 use Rattle.c_chars.specs.declared.Dialect.{Dialect}
 use Rattle.token_arena.specs.Stored.{Stored}
 use Rattle.token_arena.specs.Gaps.{Contents}
-use Rattle.directives.specs.declared.Directive.{Directive}
+use Rattle.token_arena.specs.declared.directives.Directive.{Directive}
 use Rattle.directive_layout.specs.Parts.{first_part, next_part}
 use Rattle.directive_layout.specs.Laid.{is_operand}
 use Rattle.directive_layout.specs.declared.part.HeadPart.{HeadPart}

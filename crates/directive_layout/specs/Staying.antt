@@ -3,10 +3,10 @@ use Rattle.std.specs.Prelude.{◌&&◌, not, Bool, true, false, if◌then◌else
 use Rattle.c_chars.specs.declared.Dialect.{Dialect}
 use Rattle.token_arena.specs.Stored.{Stored}
 use Rattle.token_arena.specs.Gaps.{Contents}
-use Rattle.directives.specs.Keeping.{behind_of, keeps_after_name}
-use Rattle.directives.specs.declared.Directive.{Directive}
-use Rattle.directives.specs.declared.DirectiveKind.{DirectiveKind}
-use Rattle.directives.specs.declared.DirectiveKind.TheVariants.{Define}
+use Rattle.token_arena.specs.Keeping.{behind_of, keeps_after_name}
+use Rattle.token_arena.specs.declared.directives.Directive.{Directive}
+use Rattle.token_arena.specs.declared.directives.DirectiveKind.{DirectiveKind}
+use Rattle.token_arena.specs.declared.directives.DirectiveKind.TheVariants.{Define}
 use Rattle.style_table.specs.declared.style.Style.{Style}
 use Rattle.directive_layout.specs.Parts.{opens_list}
 use Rattle.directive_layout.specs.declared.part.HeadPart.{HeadPart}

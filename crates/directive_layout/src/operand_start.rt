@@ -2,15 +2,14 @@
 
 ghost use Rattle.std.specs.Prelude.{◌≡◌, ◌≤◌, ◌<◌};
 ghost use Rattle.std.specs.List.{Contains};
-ghost use Rattle.directives.specs.Sections.{sections_of};
-ghost use Rattle.directives.specs.declared.Section.TheVariants.{Dir};
+ghost use Rattle.token_arena.specs.Sections.{sections_of};
+ghost use Rattle.token_arena.specs.declared.directives.Section.TheVariants.{Dir};
 ghost use Rattle.directive_layout.specs.OperandStart.{operand_first};
 
 use crate::part::{first_part, next_part};
 use crate::walk::is_operand;
-use directives::Directive;
 use line_tokens::TokenId;
-use token_arena::TokenArena;
+use token_arena::{Directive, TokenArena};
 
 /// The number of the first item of a directive's operand; of the first behind the directive where it has none.
 ///

@@ -2,17 +2,16 @@
 
 ghost use Rattle.std.specs.Prelude.{◌≡◌, ◌≤◌, length};
 ghost use Rattle.token_arena.specs.Entries.{told_by};
-ghost use Rattle.directives.specs.Keeping.{behind_of};
-ghost use Rattle.directives.specs.Sections.{sections_of};
-ghost use Rattle.directives.specs.declared.Section.TheVariants.{Dir};
+ghost use Rattle.token_arena.specs.Keeping.{behind_of};
+ghost use Rattle.token_arena.specs.Sections.{sections_of};
+ghost use Rattle.token_arena.specs.declared.directives.Section.TheVariants.{Dir};
 ghost use Rattle.std.specs.List.{Contains};
 ghost use Rattle.directive_layout.specs.Staying.{is_behind_name, is_body_gap, stays, is_definition, staying_in};
 
 use crate::part::{HeadPart, opens_list};
 use c_chars::Dialect;
-use directives::{Directive, DirectiveKind, kept_after_name};
 use style_table::Style;
-use token_arena::{Token, TokenArena};
+use token_arena::{Directive, DirectiveKind, Token, TokenArena, kept_after_name};
 
 /// Which gaps of a directive keep the input's bytes.
 #[derive(Clone, Copy, Debug, PartialEq, Eq)]

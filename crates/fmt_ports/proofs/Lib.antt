@@ -1,2 +1,4 @@
 pub mod Parts
 mod Taken
+mod Behind
+mod Compared

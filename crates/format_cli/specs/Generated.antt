@@ -3,7 +3,7 @@ use Rattle.std.specs.Prelude.{◌≡◌, ◌≢◌, ◌⊎◌, ◌↔◌, ℕ, B
 use Rattle.std.specs.Io.KnownBytes.{Appends, Keeps}
 use Rattle.fmt_ports.specs.Causes.{AppendsPart}
 use Rattle.command_words.specs.declared.pieces.Generate.{Generate}
-use Rattle.generated_input.specs.Generated.{generated}
+use Rattle.command_words.specs.Generated.{generated}
 use Rattle.format_cli.specs.declared.input.Options.{Options}
 use Rattle.format_cli.specs.declared.input.Place.TheVariants.{Nowhere}
 use Rattle.format_cli.specs.declared.refusal.Refusal.{Refusal}

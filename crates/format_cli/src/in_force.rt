@@ -13,11 +13,10 @@ ghost use Rattle.format_cli.specs.Notes.{skipped_row, skipped_rows};
 
 use crate::refusal::{Refusal, write_number, write_two};
 use command_words::StyleChoice;
-use fmt_ports::{Failed, FileFault, Files, Sink};
+use fmt_ports::{Failed, FileFault, Files, Sink, Stream, write_in_pieces};
 use std::alloc::Global;
 use style_config::{ConfigFault, LIMIT, SkippedKey};
 use style_table::Style;
-use text_streams::{Stream, write_in_pieces};
 
 /// The configuration of the working folder.
 const DEFAULT_FILE: &str = ".clang-format";

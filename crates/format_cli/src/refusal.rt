@@ -6,12 +6,11 @@ ghost use Rattle.fmt_ports.specs.Causes.{AppendsPart, Counts};
 ghost use Rattle.format_cli.specs.Notes.{fault_row, numbered_row, range_row, row_of, status_of};
 
 use command_words::USAGE;
-use fmt_ports::{Failed, Sink, write_all};
+use fmt_ports::{Failed, Sink, Stream, write_all, write_in_pieces};
 use itoa::Buffer;
 use off_regions::RangeFault;
 use std::alloc::Global;
 use style_config::ConfigFault;
-use text_streams::{Stream, write_in_pieces};
 
 /// The name of the input where the words give no FILE.
 pub const STANDARD_INPUT: &str = "<stdin>";

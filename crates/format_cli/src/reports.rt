@@ -6,10 +6,9 @@ ghost use Rattle.fmt_ports.specs.Causes.{AppendsPart, Counts};
 ghost use Rattle.format_cli.specs.Notes.{numbered_row, report_row, report_rows};
 
 use crate::refusal::write_number;
-use fmt_ports::{Failed, Sink};
+use fmt_ports::{Failed, Sink, Stream, write_in_pieces};
 use format_core::Report;
 use std::alloc::Global;
-use text_streams::{Stream, write_in_pieces};
 
 /// Tells the lines of an input that are reported, a row each.
 pub fn tell_reports<E: Sink>(

@@ -8,11 +8,10 @@ ghost use Rattle.format_cli.specs.Notes.{change_word, cost_row, input_rows, line
 use crate::input::Place;
 use crate::refusal::{write_number, write_two};
 use crate::reports::tell_reports;
-use fmt_ports::{Failed, Sink};
+use fmt_ports::{Failed, Sink, Stream, write_in_pieces};
 use format_core::{Counts, Formatted};
 use itoa::Buffer;
 use std::alloc::Global;
-use text_streams::{Stream, write_in_pieces};
 
 /// Tells the reports of an input, and in a dry run its summary behind them.
 pub fn tell_input<'a, 's, E: Sink>(

@@ -2,7 +2,7 @@
 use Rattle.std.proofs.Common.{◌≡◌, ◌∙◌, inl, inr, ℕ, zero, suc, ◌+◌, ◌<◌, ◌≤◌, Bool, true, false, nat_le, nat_lt, ◌&&◌, List, [], ◌∷◌, ◌++◌, length, get_or, take, drop, refl, sym, ap, subst, arith}
 use Rattle.std.specs.Prelude.{if◌then◌else◌}
 use Rattle.std.proofs.lemmas.Bool.{lt-ltb, le-ltb, le-leb, lt-leb}
-use Rattle.token_views.specs.Ids.{Increase, IncreaseFrom}
+use Rattle.token_arena.specs.Ids.{Increase, IncreaseFrom}
 use Rattle.branch_runs.specs.Anew.{items_between}
 use Rattle.format_core.proofs.Parts.{before_or_behind}
 

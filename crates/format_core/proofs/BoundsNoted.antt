@@ -4,7 +4,7 @@ use Rattle.std.specs.Prelude.{slice_range}
 use Rattle.std.proofs.lemmas.List.{length-take, take-append-drop}
 use Rattle.std.proofs.lemmas.List.Folds.{drop_split}
 use Rattle.token_arena.specs.Gaps.{Contents}
-use Rattle.token_views.specs.Ids.{Increase}
+use Rattle.token_arena.specs.Ids.{Increase}
 use Rattle.branch_runs.specs.Anew.{items_between}
 use Rattle.format_core.specs.Bounds.{BeginTold, IsBound}
 use Rattle.format_core.specs.Runs.{seen_by}

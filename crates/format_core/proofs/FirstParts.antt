@@ -6,8 +6,8 @@ use Rattle.std.proofs.lemmas.Bool.{lt-ltb}
 use Rattle.std.proofs.lemmas.List.{append-nil, length-drop, length-take, get_or-append-add, get_or_append_left, get_or-take}
 use Rattle.token_arena.specs.Gaps.{Contents}
 use Rattle.token_classes.specs.Viewed.{item_class}
-use Rattle.token_views.specs.Ids.{Increase, IncreaseFrom}
-use Rattle.brackets.specs.declared.pairing.Opener.{Opener}
+use Rattle.token_arena.specs.Ids.{Increase, IncreaseFrom}
+use Rattle.token_classes.specs.declared.pairing.Opener.{Opener}
 use Rattle.branch_runs.specs.Anew.{items_between}
 use Rattle.view_parts.specs.declared.walk.Reading.{Reading}
 use Rattle.view_parts.specs.declared.walk.Reading.TheVariants.{Ends, Never, GoesOn}

@@ -2,10 +2,10 @@
 use Rattle.std.proofs.Common.{◌≡◌, ◌≢◌, ◌==◌, ℕ, ◌<◌, ◌≤◌, ◌⊎◌, inl, inr, Bool, true, false, List, [], ◌∷◌, length, map, refl, arith}
 use Rattle.std.specs.Prelude.{nat_lt, if◌then◌else◌}
 use Rattle.token_arena.specs.Gaps.{Contents}
-use Rattle.directives.specs.declared.Section.{Section}
-use Rattle.directives.specs.declared.Section.TheVariants.{Text, Dir}
-use Rattle.directives.specs.Nesting.{nesting_of}
-use Rattle.directives.specs.Sections.{sections_of, IsCut}
+use Rattle.token_arena.specs.declared.directives.Section.{Section}
+use Rattle.token_arena.specs.declared.directives.Section.TheVariants.{Text, Dir}
+use Rattle.token_arena.specs.Nesting.{nesting_of}
+use Rattle.token_arena.specs.Sections.{sections_of, IsCut}
 use Rattle.branch_runs.specs.declared.mark.MarkKind.TheVariants as kind
 use Rattle.branch_runs.specs.Marks.{mark_of, marks_of}
 use Rattle.branch_runs.specs.Reading.{tree_of}

@@ -11,12 +11,12 @@ use Rattle.replacements.specs.Decisions.{decided_all}
 use Rattle.run_layout.specs.Rows.{item_at, column_behind}
 use Rattle.off_regions.specs.declared.range.LineRange.{LineRange}
 use Rattle.run_layout.specs.Outcomes.{LaidLine}
-use Rattle.early_gaps.specs.BeforeRuns.{early_decisions, early_plan}
+use Rattle.format_core.specs.BeforeRuns.{early_decisions, early_plan}
 use Rattle.format_core.specs.Plans.{AfterRuns, IsPlanOf}
 use Rattle.format_core.specs.Runs.{runs_of}
 use Rattle.format_core.specs.KeptGaps.{input_column, kept_slot, kept_decisions}
-use Rattle.directives.specs.declared.Section.{Section}
-use Rattle.directives.specs.Sections.{sections_of}
+use Rattle.token_arena.specs.declared.directives.Section.{Section}
+use Rattle.token_arena.specs.Sections.{sections_of}
 use Rattle.replacements.specs.Written.{written}
 use Rattle.format_core.specs.LineEnds.{ends_by}
 

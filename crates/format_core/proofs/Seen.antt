@@ -3,15 +3,15 @@ use Rattle.std.proofs.Common.{◌≡◌, ◌∙◌, ℕ, ◌+◌, ◌<◌, ◌�
 use Rattle.std.specs.Prelude.{All}
 use Rattle.style_table.specs.declared.style.Style.{Style}
 use Rattle.token_arena.specs.Gaps.{Contents}
-use Rattle.directives.specs.Sections.{sections_of}
-use Rattle.directives.proofs.Whole.{sections_are_cut}
+use Rattle.token_arena.specs.Sections.{sections_of}
+use Rattle.token_arena.proofs.Whole.{sections_are_cut}
 use Rattle.branch_runs.specs.Marks.{marks_of}
 use Rattle.branch_runs.specs.Cut.{end_of}
 use Rattle.branch_runs.specs.Reading.{effects}
 use Rattle.branch_runs.proofs.Bridge.{marks_cut, marks_end}
 use Rattle.branch_runs.proofs.Order.{effects_cut}
 use Rattle.branch_runs.proofs.Within.{view_within, effects_end}
-use Rattle.brackets.specs.Kept.{kept_gaps_of}
+use Rattle.token_classes.specs.Kept.{kept_gaps_of}
 use Rattle.token_classes.specs.Viewed.{classes_of}
 use Rattle.replacements.specs.declared.slot.Slot.{Slot}
 use Rattle.run_layout.proofs.MadeFor.{length-decided_all}

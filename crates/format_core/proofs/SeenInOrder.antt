@@ -1,11 +1,11 @@
 -- The items that a run sees increase.
 use Rattle.std.proofs.Common.{ℕ, ◌-◌, ◌≤◌, [], length, arith}
 use Rattle.token_arena.specs.Gaps.{Contents}
-use Rattle.token_views.specs.Ids.{Increase}
-use Rattle.token_views.proofs.IncreaseLemmas.{ids_increase}
+use Rattle.token_arena.specs.Ids.{Increase}
+use Rattle.token_arena.proofs.IncreaseLemmas.{ids_increase}
 use Rattle.token_classes.proofs.Lists.{few_below}
-use Rattle.directives.specs.Sections.{sections_of}
-use Rattle.directives.proofs.Whole.{sections_are_cut}
+use Rattle.token_arena.specs.Sections.{sections_of}
+use Rattle.token_arena.proofs.Whole.{sections_are_cut}
 use Rattle.branch_runs.specs.Marks.{marks_of}
 use Rattle.branch_runs.specs.Reading.{effects, tree_of}
 use Rattle.branch_runs.specs.Runs.{texts}

@@ -7,12 +7,12 @@ use Rattle.c_chars.specs.declared.Dialect.{Dialect}
 use Rattle.c_grammar.specs.Twin.{IsTwin}
 use Rattle.style_table.specs.declared.style.Style.{Style}
 use Rattle.token_arena.specs.Gaps.{Contents}
-use Rattle.directives.proofs.Whole.{sections_are_cut}
+use Rattle.token_arena.proofs.Whole.{sections_are_cut}
 use Rattle.branch_runs.specs.Marks.{marks_of}
 use Rattle.branch_runs.proofs.Live.{is_covered}
-use Rattle.directives.specs.Sections.{sections_of}
-use Rattle.brackets.specs.Kept.{kept_gaps_of}
-use Rattle.brackets.specs.Partners.{partners_of}
+use Rattle.token_arena.specs.Sections.{sections_of}
+use Rattle.token_classes.specs.Kept.{kept_gaps_of}
+use Rattle.token_classes.specs.Partners.{partners_of}
 use Rattle.token_classes.specs.Viewed.{AreWithin, classes_of}
 use Rattle.unwrapped_lines.proofs.Started.{lines_cut_views}
 use Rattle.view_parts.specs.Parts.{part_ends}
@@ -34,13 +34,13 @@ use Rattle.run_layout.proofs.Stands.{MadeStand, all_sound, old_stands}
 use Rattle.run_layout.proofs.Telling.{stand_for_items}
 use Rattle.run_layout.specs.Tells.{StandForItems}
 use Rattle.off_regions.specs.declared.range.LineRange.{LineRange}
-use Rattle.early_gaps.specs.BeforeRuns.{early_plan}
-use Rattle.early_gaps.specs.Laws.{IsLeft}
-use Rattle.early_gaps.proofs.LeftOpen.{early_or_left_open}
-use Rattle.early_gaps.proofs.SoundStart.{early_sound}
-use Rattle.early_gaps.specs.Columns.{column_at}
+use Rattle.format_core.specs.BeforeRuns.{early_plan}
+use Rattle.format_core.specs.EarlyLaws.{IsLeft}
+use Rattle.format_core.proofs.LeftOpen.{early_or_left_open}
+use Rattle.format_core.proofs.SoundStart.{early_sound}
+use Rattle.format_core.specs.Columns.{column_at}
 use Rattle.run_layout.specs.InputColumns.{kept_slot}
-use Rattle.early_gaps.proofs.Tells.{early_keeps, length-early}
+use Rattle.format_core.proofs.Tells.{early_keeps, length-early}
 use Rattle.format_core.specs.KeptGaps.{input_column, kept_decisions}
 use Rattle.format_core.specs.Laws.{PlannedTextsAreTwins, EarlyDecisionsStay, KeptGapsStay, EveryGapIsDecided}
 use Rattle.format_core.specs.Plans.{AfterItems, AfterParts, AfterSeen, AfterRuns, IsPlanOf}

@@ -2,7 +2,7 @@
 use Rattle.std.proofs.Common.{◌≡◌, ◌∙◌, inl, inr, ℕ, ◌+◌, ◌-◌, ◌<◌, ◌≤◌, List, ◌++◌, length, length-append, get_or, sym, ap, subst, arith}
 use Rattle.std.specs.List.{Contains}
 use Rattle.std.proofs.lemmas.List.{get_or_default, get_or-append-add, get_or_append_left}
-use Rattle.token_views.specs.Ids.{Increase}
+use Rattle.token_arena.specs.Ids.{Increase}
 use Rattle.branch_runs.specs.Anew.{items_between}
 use Rattle.format_core.proofs.Between.{items_from, view_cut, window_cut, between_has, from_has}
 use Rattle.format_core.proofs.FirstParts.{place_of}

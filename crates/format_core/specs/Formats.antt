@@ -3,7 +3,7 @@ use Rattle.std.specs.Prelude.{◌≡◌, ℕ, List, Option}
 use Rattle.c_chars.specs.declared.Dialect.{Dialect}
 use Rattle.token_arena.specs.Gaps.{Contents}
 use Rattle.token_arena.specs.Holds.{HoldsItems}
-use Rattle.directives.specs.Sections.{sections_of}
+use Rattle.token_arena.specs.Sections.{sections_of}
 use Rattle.style_table.specs.declared.style.Style.{Style}
 use Rattle.off_regions.specs.declared.range.LineRange.{LineRange}
 use Rattle.replacements.specs.declared.slot.Slot.{Slot}

@@ -6,7 +6,7 @@ use Rattle.off_regions.specs.declared.range.LineRange.{LineRange}
 use Rattle.replacements.specs.declared.slot.Slot.{Slot}
 use Rattle.run_layout.specs.Outcomes.{LaidLine}
 use Rattle.run_layout.specs.View.{AfterView}
-use Rattle.early_gaps.specs.BeforeRuns.{early_plan}
+use Rattle.format_core.specs.BeforeRuns.{early_plan}
 use Rattle.view_parts.specs.Parts.{part_ends}
 use Rattle.format_core.specs.Runs.{runs_of, seen_by, lines_of_items, toks_of_items, after_kept}
 

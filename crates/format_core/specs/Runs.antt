@@ -5,8 +5,8 @@ use Rattle.token_arena.specs.Gaps.{Contents}
 use Rattle.branch_runs.specs.Marks.{marks_of}
 use Rattle.branch_runs.specs.Reading.{tree_of}
 use Rattle.branch_runs.specs.Runs.{need, view_of}
-use Rattle.brackets.specs.Kept.{kept_gaps_of}
-use Rattle.brackets.specs.Partners.{partners_of}
+use Rattle.token_classes.specs.Kept.{kept_gaps_of}
+use Rattle.token_classes.specs.Partners.{partners_of}
 use Rattle.token_classes.specs.Viewed.{classes_of}
 use Rattle.line_tokens.specs.declared.LineTok.{LineTok}
 use Rattle.annotator.specs.Tokens.{roles_of}

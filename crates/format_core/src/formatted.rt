@@ -18,14 +18,12 @@ use crate::runs::{Planned, plan_of};
 use bumpalo::Bump;
 use bumpalo::collections::into_bump_slice;
 use c_chars::{Dialect, LIMIT};
-use directives::sections;
-use fmt_ports::{Failed, Sink};
+use fmt_ports::{Failed, Sink, bytes_of, is_same, write_in_pieces};
 use off_regions::Ranges;
 use run_layout::{Counts, Report};
 use std::alloc::{AllocError, Global};
 use style_table::Style;
-use text_streams::{bytes_of, is_same, write_in_pieces};
-use token_arena::build;
+use token_arena::{build, sections};
 
 /// What a text is formatted by, beside a style.
 #[derive(Clone, Copy)]

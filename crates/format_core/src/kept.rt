@@ -6,13 +6,11 @@ ghost use Rattle.token_classes.specs.Viewed.{AreWithin};
 ghost use Rattle.replacements.specs.Decisions.{decided_all};
 ghost use Rattle.format_core.specs.KeptGaps.{kept_decisions, kept_slot};
 
-use gap_text::Decision;
 use line_tokens::TokenId;
-use replacements::Plan;
+use replacements::{Decision, Plan};
 use run_layout::{column_behind, column_through};
 use style_table::Style;
-use token_arena::TokenArena;
-use token_views::View;
+use token_arena::{TokenArena, View};
 
 /// Keeps the bytes of a gap, if it is marked and open; the item behind it starts at a column.
 fn keep(plan: &mut Plan<'_>, id: TokenId, mark: bool, column: u32)

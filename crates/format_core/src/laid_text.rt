@@ -2,12 +2,10 @@
 
 ghost use Rattle.std.specs.Prelude.{◌≡◌, ◌≤◌, ◌+◌, length};
 
-use directives::Section;
-use fmt_ports::{Failed, Sink};
+use fmt_ports::{Failed, Sink, Stream};
 use replacements::{Plan, write_out};
 use style_table::Style;
-use text_streams::Stream;
-use token_arena::TokenArena;
+use token_arena::{Section, TokenArena};
 
 /// A text that is laid out. It is written gap by gap, and never made in memory.
 #[derive(Drop)]

@@ -7,6 +7,7 @@
 #![tactic(auto)]
 
 mod bounds;
+mod early_gaps;
 mod fault;
 mod formatted;
 mod kept;
@@ -15,6 +16,7 @@ mod laws;
 mod line_ends;
 mod runs;
 
+pub use early_gaps::{decide_early, early_or_left, early_plans_are_sound, early_plans_keep};
 pub use fault::FormatFault;
 pub use formatted::{Formatted, Job, format};
 pub use laid_text::LaidText;

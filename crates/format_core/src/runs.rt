@@ -5,8 +5,8 @@ ghost use Rattle.std.specs.Option.{ForNone, ForSome};
 ghost use Rattle.c_chars.specs.declared.TheConstants.{LIMIT};
 ghost use Rattle.style_table.specs.Range.{IsInRange};
 ghost use Rattle.token_classes.specs.Viewed.{AreWithin, item_classes};
-ghost use Rattle.directives.specs.Sections.{sections_of, IsCut};
-ghost use Rattle.early_gaps.specs.Dead.{IsTreeOf};
+ghost use Rattle.token_arena.specs.Sections.{sections_of, IsCut};
+ghost use Rattle.format_core.specs.Dead.{IsTreeOf};
 ghost use Rattle.branch_runs.specs.Anew.{items_between};
 ghost use Rattle.token_arena.specs.Gaps.{Contents};
 ghost use Rattle.run_layout.specs.declared.report.Tally.{Tally};
@@ -24,23 +24,20 @@ ghost use Rattle.format_core.specs.PartByPart.{GoesOnFrom};
 ghost use Rattle.format_core.specs.RunsTold.{AreItemsTold, AreRunsTold, AreSeenTold, IsPlanned};
 
 use crate::bounds::{KnownBound, last_bound};
+use crate::decide_early;
 use crate::kept::keep_gaps;
 use annotator::roles_of_classes;
-use brackets::bracket_facts;
 use branch_runs::{Change, CondTree};
 use bumpalo::Bump;
 use bumpalo::collections::into_bump_slice_mut;
-use directives::Section;
-use early_gaps::decide_early;
 use line_tokens::{NoMemory, TokenId};
 use off_regions::Ranges;
 use replacements::Plan;
 use run_layout::{Tally, is_row_decided, lay_out_view};
 use std::alloc::Global;
 use style_table::Style;
-use token_arena::TokenArena;
-use token_classes::{TokenClass, classes_among, item_classes};
-use token_views::View;
+use token_arena::{Section, TokenArena, View};
+use token_classes::{TokenClass, bracket_facts, classes_among, item_classes};
 use unwrapped_lines::lines_of_classes;
 use view_parts::{
     KnownEnd, KnownSpans, PartsEnd, behind_row, join_rows, known_part_end, known_parts_end,

@@ -5,11 +5,9 @@ ghost use Rattle.branch_runs.specs.Cut.{end_of};
 
 use branch_runs::CondTree;
 use bumpalo::Bump;
-use directives::sections;
 use std::alloc::Global;
 use std::process::Abort;
-use token_arena::{Dialect, GapFacts, ItemKind, TokenArena, TokenId, build};
-use token_views::View;
+use token_arena::{Dialect, GapFacts, ItemKind, TokenArena, TokenId, View, build, sections};
 
 /// A text of pieces, each so many times.
 pub fn repeated(rt: &impl Abort, alloc: Global, pieces: &[(&[u8], usize)]) -> Vec<u8> {

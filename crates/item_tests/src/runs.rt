@@ -10,8 +10,7 @@ use bumpalo::Bump;
 use std::alloc::Global;
 use std::process::Abort;
 use std::str::from_utf8;
-use token_arena::TokenArena;
-use token_views::View;
+use token_arena::{TokenArena, View};
 
 /// Adds the bytes of an item, and a blank before them where another stands there.
 fn push_item(rt: &impl Abort, out: &mut String, arena: &TokenArena<'_, '_>, id: TokenId) {

@@ -1,16 +1,16 @@
 //! Texts and their sections, worked out by hand from C11 6.10.
 
 ghost use Rattle.std.specs.Prelude.{◌≡◌};
-ghost use Rattle.directives.specs.Sections.{sections_of};
+ghost use Rattle.token_arena.specs.Sections.{sections_of};
 
 use crate::comparing::same;
 use crate::fixtures::store;
 use bumpalo::Bump;
-use directives::DirectiveKind::{Define, Else, Endif, If, Include, Null, Unknown};
-use directives::{
-    Dialect, Directive, Section, TokenId, begins_with, is_spelled, kept_after_name, sections,
+use token_arena::DirectiveKind::{Define, Else, Endif, If, Include, Null, Unknown};
+use token_arena::{
+    Dialect, Directive, Section, TokenArena, TokenId, begins_with, is_spelled, kept_after_name,
+    sections,
 };
-use token_arena::TokenArena;
 
 /// The directive that begins a text with its `#`.
 const FIRST: Directive = Directive {

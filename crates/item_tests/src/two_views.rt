@@ -4,8 +4,7 @@ use crate::comparing::same;
 use crate::fixtures::{Seen, item_at, seen, store, tree, view};
 use bumpalo::Bump;
 use std::process::Abort;
-use token_arena::TokenArena;
-use token_views::{Segment, View};
+use token_arena::{Segment, TokenArena, View};
 
 /// A call with branches of `#if` in its list. Its items are `f ( a ,` from 0 on, `b ,` from 7 on, `c ,` from 11 on and
 /// `d ) ;` from 15 on; the others are those of directives.

@@ -3,7 +3,7 @@
 use crate::comparing::same;
 use bumpalo::Bump;
 use std::process::Abort;
-use token_views::{Segment, Stretch, View};
+use token_arena::{Segment, Stretch, View};
 
 /// The items `f ( a ,`, `b ,` and `d ) ;` of a text in which a directive stands behind each of the first two, and
 /// `c ,` between two directives.

@@ -4,7 +4,6 @@ ghost use Rattle.std.specs.Prelude.{◌<◌, length};
 
 use crate::comparing::{holds, same};
 use crate::fixtures::{count_of, items, view_of};
-use brackets::{Partner, bracket_facts, partners_of_classes};
 use bumpalo::Bump;
 use bumpalo::collections::into_bump_slice;
 use line_tokens::TokenId;
@@ -15,7 +14,9 @@ use token_classes::TokenClass::{
     self, CallWord, CapitalWord, CloseBrace, CloseRound, CloseSquare, Comma, Equals, Hash, If,
     Literal, OpenBrace, OpenRound, OpenSquare, PlainWord, Semicolon, Sign, TypeWord,
 };
-use token_classes::{classes_among, item_class, item_classes};
+use token_classes::{
+    Partner, bracket_facts, classes_among, item_class, item_classes, partners_of_classes,
+};
 
 /// The class of a token of one letter.
 fn letter_class(letter: u8) -> TokenClass {

@@ -4,11 +4,11 @@ ghost use Rattle.style_table.specs.Range.{IsInRange};
 
 use crate::fixtures::{Output, WHOLE, is_written, items, open_plan, style};
 use bumpalo::Bump;
-use directives::sections;
-use laid_directives::lay_all;
+use directive_layout::lay_all;
 use std::alloc::Global;
 use std::process::Abort;
 use style_table::{AlignEscapedNewlines, IndentPPDirectives, Style};
+use token_arena::sections;
 
 /// What a row sets beside the LLVM style, 20 columns and backslashes that aren't aligned.
 #[derive(Clone, Copy)]

@@ -8,18 +8,15 @@ ghost use Rattle.line_tokens.specs.Lines.{CutPlaces};
 
 use crate::comparing::{holds, same};
 use annotator::roles_of_classes;
-use brackets::partners_of_classes;
 use bumpalo::Bump;
-use directives::Section;
 use fmt_ports::MemSink;
 use line_tokens::{LineTok, NoMemory, ULine};
 use replacements::{Plan, write_out};
 use std::alloc::Global;
 use std::process::Abort;
 use style_table::Style;
-use token_arena::{Dialect, TokenArena, build};
-use token_classes::{TokenClass, classes};
-use token_views::{Stretch, View};
+use token_arena::{Dialect, Section, Stretch, TokenArena, View, build};
+use token_classes::{TokenClass, classes, partners_of_classes};
 use unwrapped_lines::lines_of_classes;
 
 /// The style of this name.

@@ -5,7 +5,7 @@ ghost use Rattle.style_table.specs.Range.{IsInRange};
 use crate::comparing::same;
 use crate::fixtures::style;
 use fmt_ports::TextSink;
-use gap_text::{Decision, short_lines, write_gap};
+use replacements::{Decision, short_lines, write_gap};
 use std::alloc::Global;
 use std::process::Abort;
 use style_table::{Style, UseTab};

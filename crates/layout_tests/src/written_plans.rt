@@ -4,10 +4,9 @@ ghost use Rattle.std.specs.Prelude.{◌≡◌, ◌+◌, length};
 
 use crate::fixtures::{Output, WHOLE, is_written, items, open_plan, style};
 use bumpalo::Bump;
-use directives::sections;
 use replacements::{Decision, Plan};
 use std::process::Abort;
-use token_arena::TokenArena;
+use token_arena::{TokenArena, sections};
 
 /// A text, what is decided for its gaps, and the text of that plan in the LLVM style.
 struct Row {

@@ -9,6 +9,7 @@
 
 mod frames;
 mod gap;
+mod group;
 mod node;
 mod placing;
 mod rules;
@@ -19,6 +20,7 @@ mod store;
 
 pub use frames::{Frame, Frames};
 pub use gap::{Gap, GapRules, gap_rules};
+pub use group::{Group, Link};
 pub use line_tokens::NoMemory;
 pub use node::{NodeState, digest, is_same_place};
 pub use placing::{advance, lay, step};

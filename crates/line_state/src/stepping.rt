@@ -13,9 +13,8 @@ use crate::placing::{cost, end_column, frame_above, placed, start_column};
 use crate::rules::{allows, is_refused};
 use crate::spot::Spot;
 use crate::store::FrameStore;
+use layout_tables::{gap_rule, spaces_before};
 use line_tokens::{Fixed, LineTok, NoMemory, Role};
-use penalties::gap_rule;
-use spacing::spaces_before;
 use style_table::Style;
 
 /// The state before a line's first token, at the column at which the line starts.

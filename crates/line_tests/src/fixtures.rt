@@ -4,14 +4,13 @@ ghost use Rattle.std.specs.Prelude.{IfOk};
 ghost use Rattle.token_classes.specs.Viewed.{AreWithin};
 
 use annotator::roles;
-use brackets::partners;
 use bumpalo::Bump;
 use line_tokens::{LineTok, NoMemory, ULine};
 use std::alloc::Global;
 use std::process::Abort;
 use style_table::Style;
-use token_arena::{Dialect, TokenArena, build};
-use token_views::View;
+use token_arena::{Dialect, TokenArena, View, build};
+use token_classes::partners;
 use unwrapped_lines::lines;
 
 /// These pieces in order, each so many times.

@@ -7,9 +7,8 @@ use crate::fixtures::items_from;
 use bumpalo::Bump;
 use bumpalo::collections::into_bump_slice;
 use std::process::Abort;
-use token_arena::{Dialect, TokenArena, build};
+use token_arena::{Dialect, TokenArena, View, build};
 use token_classes::item_classes;
-use token_views::View;
 use view_parts::part_end;
 
 /// A text, and behind how many of its items each part ends.

@@ -3,7 +3,6 @@
 use crate::comparing::same;
 use crate::fixtures::{items_from, read_text};
 use annotator::roles;
-use brackets::partners;
 use bumpalo::Bump;
 use line_tokens::Role::{
     self, AsmColon, Assign, Binary, BlockClose, BlockOpen, CallClose, CallOpen, CastClose,
@@ -15,6 +14,7 @@ use line_tokens::Role::{
 use line_tokens::{LineKind, LineTok, ULine};
 use std::process::Abort;
 use token_arena::{Dialect, build};
+use token_classes::partners;
 
 /// A text with the roles of its items.
 type Case = (&'static str, &'static str, &'static [Role]);

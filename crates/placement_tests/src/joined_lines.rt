@@ -10,7 +10,6 @@ use crate::joined_lines::With::{
     Blocks, Braces, Cases, Enums, Functions, Ifs, Limit, Loops, Unlimited,
 };
 use annotator::roles_of_classes;
-use brackets::partners_of_classes;
 use bumpalo::Bump;
 use bumpalo::collections::into_bump_slice;
 use line_joiner::{join, join_of_classes};
@@ -21,9 +20,8 @@ use style_table::{
     AllowShortFunctionsOnASingleLine as ShortFunctions,
     AllowShortIfStatementsOnASingleLine as ShortIfs, BreakBeforeBraces, Style,
 };
-use token_arena::{Dialect, TokenArena, build};
-use token_classes::classes;
-use token_views::{Stretch, View};
+use token_arena::{Dialect, Stretch, TokenArena, View, build};
+use token_classes::{classes, partners_of_classes};
 use unwrapped_lines::lines_of_classes;
 
 /// What a case changes in its style.

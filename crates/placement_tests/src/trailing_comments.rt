@@ -2,7 +2,7 @@
 
 use self::Comment::{Fixed, Open};
 use crate::comparing::same;
-use comment_place::{TrailRow, align};
+use comment_rows::{TrailRow, align};
 use style_table::AlignTrailingCommentsKind::{Always, Never};
 use style_table::{AlignTrailingCommentsKind, Style};
 

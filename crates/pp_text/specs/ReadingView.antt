@@ -7,8 +7,8 @@ use Rattle.pp_model.specs.Setting.{holds_in, find_text}
 use Rattle.pp_model.specs.Stream.{source_of}
 use Rattle.pp_events.specs.View.{tok_shown}
 use Rattle.pp_events.specs.declared.token.Tok.{Tok as TokValue}
-use Rattle.pp_stream.specs.View.{section_shown}
-use Rattle.pp_stream.specs.declared.item.PpSection.{PpSection}
+use Rattle.pp_items.specs.View.{section_shown}
+use Rattle.pp_items.specs.declared.item.PpSection.{PpSection}
 use Rattle.pp_directives.specs.SettingView.{text_shown, condition_shown}
 use Rattle.pp_directives.specs.WorldView.{world_shown, conds_shown, shift_shown}
 use Rattle.pp_text.specs.Unread.{Rules, Unread, Waiting, Reading}

@@ -18,7 +18,7 @@ use crate::rules::Rules;
 use c_chars::LIMIT;
 use pp_directives::{Event, World, find_text, names_file};
 use pp_events::{Tok, expand};
-use pp_stream::{PpSection, sections_of};
+use pp_items::{PpSection, sections_of};
 use std::alloc::AllocError;
 use std::collections::VecDeque;
 

@@ -3,14 +3,14 @@
 ghost use Rattle.std.specs.Prelude.{◌≡◌, map, IfOk};
 ghost use Rattle.pp_model.specs.Preprocess.{act, acted, plain};
 ghost use Rattle.pp_events.specs.View.{tok_shown};
-ghost use Rattle.pp_stream.specs.View.{kind_shown};
+ghost use Rattle.pp_items.specs.View.{kind_shown};
 ghost use Rattle.pp_directives.specs.WorldView.{world_shown};
 ghost use Rattle.pp_text.specs.ReadingView.{rules_shown};
 
 use crate::rules::Rules;
 use pp_directives::World;
 use pp_events::Tok;
-use pp_stream::SectionKind;
+use pp_items::SectionKind;
 use std::alloc::AllocError;
 use std::collections::VecDeque;
 

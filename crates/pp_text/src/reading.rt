@@ -3,7 +3,7 @@
 ghost use Rattle.std.specs.Prelude.{◌≡◌, ◌+◌, ◌-◌, ◌<◌, ◌≤◌, ℕ, true, false, List, [], ◌∷◌, map, length, IfOk, IsErrOf, Option, Some, None};
 ghost use Rattle.pp_model.specs.Preprocess.{included, plain, one_section, is_include};
 ghost use Rattle.pp_events.specs.View.{tok_shown};
-ghost use Rattle.pp_stream.specs.View.{section_shown, kind_shown};
+ghost use Rattle.pp_items.specs.View.{section_shown, kind_shown};
 ghost use Rattle.pp_directives.specs.SettingView.{text_shown};
 ghost use Rattle.pp_directives.specs.WorldView.{world_shown, event_shown, shift_shown};
 ghost use Rattle.pp_text.specs.Unread.{Rules as TextRules, includes_of, whole, unwound, behind_section, begun_text};
@@ -19,7 +19,7 @@ use crate::rules::Rules;
 use crate::tokens::toks_of;
 use pp_directives::{Conditionals, Event, Shift, World};
 use pp_events::Tok;
-use pp_stream::{PpSection, SectionKind};
+use pp_items::{PpSection, SectionKind};
 use std::alloc::{AllocError, Global};
 use std::collections::VecDeque;
 use std::mem;

@@ -17,7 +17,7 @@ impl Spellings for EditionSpellings {
     ghost kinds = { λ s. kind_of s.dialect };
 
     fn kind_of(&self, text: &[u8]) -> Option<ItemKind> {
-        pp_kinds::kind_of(self.dialect, text)
+        pp_items::kind_of(self.dialect, text)
     }
 }
 

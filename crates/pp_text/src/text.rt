@@ -13,7 +13,7 @@ use crate::reading::{Reading, Unread};
 use crate::rules::{EditionSpellings, Rules};
 use c_chars::{Dialect, LIMIT};
 use pp_directives::{Event, Setting, Shift, World, table_by};
-use pp_stream::sections_of;
+use pp_items::sections_of;
 use std::alloc::Global;
 use std::collections::VecDeque;
 

@@ -3,12 +3,12 @@
 ghost use Rattle.std.specs.Prelude.{◌≡◌, map, IfOk};
 ghost use Rattle.pp_model.specs.Preprocess.{tok_of};
 ghost use Rattle.pp_events.specs.View.{tok_shown};
-ghost use Rattle.pp_stream.specs.View.{item_shown, items_shown};
+ghost use Rattle.pp_items.specs.View.{item_shown, items_shown};
 ghost use Rattle.pp_directives.specs.WorldView.{shift_shown};
 
 use pp_directives::Shift;
 use pp_events::{PpToken, Tok};
-use pp_stream::PpItem;
+use pp_items::PpItem;
 use std::alloc::{AllocError, Global};
 use std::collections::VecDeque;
 

@@ -1,10 +1,10 @@
 //! Spellings and their kinds, by C11 6.4.
 
 use crate::comparing::same;
-use pp_kinds::ItemKind::{
+use pp_items::ItemKind::{
     self, CharConst, Identifier, Number, Other, Punct, StrayQuote, StringLit,
 };
-use pp_kinds::{Dialect, kind_of};
+use pp_items::{Dialect, kind_of};
 
 /// A spelling, and the kind of the one item that it is.
 const KINDS: &[(&str, &[u8], Option<ItemKind>)] = &[

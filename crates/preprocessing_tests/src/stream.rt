@@ -2,7 +2,7 @@
 
 use crate::comparing::same;
 use crate::fixtures::push;
-use pp_stream::{Dialect, PpItem, PpSection, sections_of};
+use pp_items::{Dialect, PpItem, PpSection, sections_of};
 use std::alloc::Global;
 use std::process::Abort;
 use std::str::from_utf8;

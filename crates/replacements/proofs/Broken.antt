@@ -14,7 +14,7 @@ use Rattle.c_grammar.proofs.White.{white_reads_so}
 use Rattle.style_table.specs.declared.style.Style.{Style}
 use Rattle.style_table.specs.declared.style.UseTab.{UseTab}
 use Rattle.style_table.specs.declared.style.UseTab.TheVariants.{Never, ForIndentation, ForContinuationAndIndentation, AlignWithSpaces, Always}
-use Rattle.gap_text.specs.GapText.{blanks, tabs_to, indentation_by, indentation, level_columns, line_end, line_ends}
+use Rattle.replacements.specs.GapText.{blanks, tabs_to, indentation_by, indentation, level_columns, line_end, line_ends}
 use Rattle.replacements.specs.Guards.{guard_text, guarded_ends, guarded_lines, is_behind_backslash}
 use Rattle.replacements.specs.declared.guard.Guard.{Guard}
 use Rattle.replacements.specs.declared.guard.Guard.TheVariants as guard

@@ -11,7 +11,7 @@ use Rattle.c_grammar.specs.Text.{ReadItem, start_of, end_of}
 use Rattle.token_arena.specs.Stored.{Stored, stored_of, stored_from}
 use Rattle.token_arena.specs.Gaps.{Contents, behind, gap_of, gap_from, gap_start}
 use Rattle.token_arena.specs.Holds.{HoldsItems}
-use Rattle.directives.specs.Directives.{is_hash_token}
+use Rattle.token_arena.specs.Directives.{is_hash_token}
 use Rattle.replacements.specs.Guards.{guard_before, guard_from, guard_of}
 use Rattle.replacements.specs.Stances.{hash_comes, IsKnown}
 use Rattle.replacements.specs.declared.guard.Guard.{Guard}

@@ -23,7 +23,7 @@ use Rattle.c_grammar.proofs.NewText.{ends_return}
 use Rattle.c_grammar.proofs.Stops.{stray_stops, line_stops}
 use Rattle.c_grammar.proofs.Unique.{is_blank}
 use Rattle.token_arena.specs.Stored.{Stored, stored_of, ends_in_backslash, new_lines}
-use Rattle.directives.specs.Directives.{spelling}
+use Rattle.token_arena.specs.Directives.{spelling}
 use Rattle.replacements.specs.Guards.{guard_of}
 use Rattle.replacements.specs.Stances.{hash_comes}
 use Rattle.replacements.specs.declared.guard.Guard.TheVariants as guard

@@ -18,3 +18,15 @@ pub mod Made
 pub mod Hashes
 pub mod SameGaps
 pub mod PlanEntries
+pub mod Blanks
+pub mod ShortLines
+pub mod Places
+pub mod Headers
+pub mod OneLineGaps
+pub mod FreeGaps
+pub mod Trigraphs
+pub mod ReadItems
+pub mod NewText
+pub mod Rewritten
+pub mod FirstMark
+pub mod Breaking

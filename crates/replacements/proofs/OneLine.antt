@@ -13,7 +13,7 @@ use Rattle.c_grammar.proofs.White.{white_reads_so}
 use Rattle.style_table.specs.declared.style.Style.{Style}
 use Rattle.style_table.specs.declared.style.UseTab.{UseTab}
 use Rattle.style_table.specs.declared.style.UseTab.TheVariants.{Never, ForIndentation, ForContinuationAndIndentation, AlignWithSpaces, Always}
-use Rattle.gap_text.specs.GapText.{blanks, tabs_to, indentation_by, indentation, line_end}
+use Rattle.replacements.specs.GapText.{blanks, tabs_to, indentation_by, indentation, line_end}
 use Rattle.replacements.proofs.Broken.{white_append, white_is_gap}
 use Rattle.replacements.proofs.Following.{no_and}
 

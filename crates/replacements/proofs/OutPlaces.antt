@@ -17,7 +17,7 @@ use Rattle.c_grammar.proofs.White.{white_reads_so}
 use Rattle.c_grammar.specs.Rewritten.{Blank}
 use Rattle.c_grammar.specs.Grammar.{is_white}
 use Rattle.token_arena.specs.Stored.{Stored, stored_of, new_lines}
-use Rattle.directives.specs.Directives.{spelling}
+use Rattle.token_arena.specs.Directives.{spelling}
 use Rattle.replacements.specs.Written.{first_gap, mark_bytes}
 use Rattle.replacements.proofs.Spelled.{has_mark, no_mark, marked}
 use Rattle.replacements.proofs.Leaving.{OutPlace, out_place, from_start, from_line, new_lines-any}

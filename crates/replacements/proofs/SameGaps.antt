@@ -3,15 +3,15 @@ use Rattle.std.proofs.Common.{◌≡◌, ◌&&◌, ◌∙◌, ◌≤◌, ℕ, Bo
 use Rattle.std.specs.Prelude.{◌==◌, not, if◌then◌else◌}
 use Rattle.std.proofs.lemmas.Bool.{ne_eqb, and_right}
 use Rattle.c_grammar.specs.Fitting.{is_comment}
-use Rattle.directives.specs.Directives.{is_hash_token}
+use Rattle.token_arena.specs.Directives.{is_hash_token}
 use Rattle.token_arena.specs.Stored.{Stored}
 use Rattle.token_arena.specs.Gaps.{Contents, Stands, behind}
-use Rattle.directives.specs.declared.Section.{Section}
+use Rattle.token_arena.specs.declared.directives.Section.{Section}
 use Rattle.replacements.specs.declared.slot.Slot.{Slot}
 use Rattle.style_table.specs.declared.style.Style.{Style}
-use Rattle.gap_text.specs.GapText.{blanks, indentation, level_columns, line_ends}
-use Rattle.gap_text.specs.declared.Decision.{Decision}
-use Rattle.gap_text.specs.declared.Decision.TheVariants.{Lines, Spaces}
+use Rattle.replacements.specs.GapText.{blanks, indentation, level_columns, line_ends}
+use Rattle.replacements.specs.declared.gap_text.Decision.{Decision}
+use Rattle.replacements.specs.declared.gap_text.Decision.TheVariants.{Lines, Spaces}
 use Rattle.replacements.specs.Guards.{guard_before, guard_of}
 use Rattle.replacements.specs.Same.{ComesNoHash, IsSame}
 use Rattle.replacements.specs.Stances.{hash_comes, stance_in}

@@ -21,14 +21,14 @@ use Rattle.c_grammar.proofs.NewText.{read_at}
 use Rattle.c_grammar.proofs.White.{white_reads_so}
 use Rattle.touching.specs.Spelling.{spelling}
 use Rattle.touching.specs.TakingAway.{would_open}
-use Rattle.free_gaps.specs.FreeGaps.{MayBreak, AreFreeBytes, FitBytes, TextBytes, NoBytes, LineBytes}
-use Rattle.free_gaps.specs.OneLine.{would_name, IsKeptApart}
-use Rattle.free_gaps.proofs.Breaking.{blanks_text_bytes}
+use Rattle.replacements.specs.FreeGaps.{MayBreak, AreFreeBytes, FitBytes, TextBytes, NoBytes, LineBytes}
+use Rattle.replacements.specs.OneLine.{would_name, IsKeptApart}
+use Rattle.replacements.proofs.Breaking.{blanks_text_bytes}
 use Rattle.token_arena.specs.Stored.{Stored, stored_of, stored_from}
 use Rattle.style_table.specs.declared.style.Style.{Style}
-use Rattle.gap_text.specs.declared.Decision.{Decision}
-use Rattle.gap_text.specs.declared.Decision.TheVariants.{Old, Spaces, Lines, Splice}
-use Rattle.gap_text.specs.GapText.{blanks}
+use Rattle.replacements.specs.declared.gap_text.Decision.{Decision}
+use Rattle.replacements.specs.declared.gap_text.Decision.TheVariants.{Old, Spaces, Lines, Splice}
+use Rattle.replacements.specs.GapText.{blanks}
 use Rattle.replacements.specs.Guards.{guarded_lines, guarded_text}
 use Rattle.replacements.specs.Places.{behind_item, would_begin_name}
 use Rattle.replacements.specs.Places.{would_open as opens_stored}

@@ -15,16 +15,16 @@ use Rattle.c_grammar.proofs.ItemBytes.{AreParted}
 use Rattle.c_grammar.proofs.AllGaps.{first_place}
 use Rattle.c_grammar.proofs.KeptBytes.{kept_bytes_fit}
 use Rattle.c_grammar.proofs.NewText.{read_at}
-use Rattle.free_gaps.specs.FreeGaps.{AreFreeBytes, FreeBehind, FreeText, BeginsNoMark}
-use Rattle.free_gaps.proofs.FirstMark.{keeps_marks_away}
-use Rattle.free_gaps.proofs.Rewritten.{rewrites_free_gaps}
+use Rattle.replacements.specs.FreeGaps.{AreFreeBytes, FreeBehind, FreeText, BeginsNoMark}
+use Rattle.replacements.proofs.FirstMark.{keeps_marks_away}
+use Rattle.replacements.proofs.Rewritten.{rewrites_free_gaps}
 use Rattle.token_arena.specs.Stored.{Stored, stored_of, stored_from, stored_items}
 use Rattle.token_arena.specs.Gaps.{Contents, behind}
-use Rattle.directives.specs.Sections.{sections_of, sections_from, lines_of}
-use Rattle.directives.specs.declared.Section.{Section}
+use Rattle.token_arena.specs.Sections.{sections_of, sections_from, lines_of}
+use Rattle.token_arena.specs.declared.directives.Section.{Section}
 use Rattle.style_table.specs.declared.style.Style.{Style}
-use Rattle.gap_text.specs.declared.Decision.{Decision}
-use Rattle.gap_text.specs.declared.Decision.TheVariants.{Old}
+use Rattle.replacements.specs.declared.gap_text.Decision.{Decision}
+use Rattle.replacements.specs.declared.gap_text.Decision.TheVariants.{Old}
 use Rattle.replacements.specs.Decisions.{slot_of}
 use Rattle.replacements.specs.Guards.{guard_of, guarded_text}
 use Rattle.replacements.specs.Sound.{MayPart, MayEnd, MayStandBetween, MayStand, IsSound, SoundPlansAreTwins}

@@ -5,11 +5,11 @@ use Rattle.c_chars.specs.Characters.{mark_len}
 use Rattle.c_chars.specs.declared.Dialect.{Dialect}
 use Rattle.c_grammar.specs.Items.{Place, LineStart}
 use Rattle.c_grammar.specs.Text.{ReadItem, end_of, raw_of}
-use Rattle.free_gaps.proofs.ReadItems.{IsRead, AreRead, are_read}
+use Rattle.replacements.proofs.ReadItems.{IsRead, AreRead, are_read}
 use Rattle.token_arena.specs.Stored.{Stored, stored_of, stored_from, stored_items}
 use Rattle.token_arena.specs.Gaps.{Contents}
 use Rattle.token_arena.specs.Holds.{HoldsItems}
-use Rattle.directives.specs.Sections.{sections_of, sections_from, lines_of}
+use Rattle.token_arena.specs.Sections.{sections_of, sections_from, lines_of}
 use Rattle.replacements.specs.Places.{stands_at, behind_item, place_from, place_in}
 use Rattle.replacements.specs.Stances.{stance_in}
 use Rattle.replacements.specs.declared.stance.Stance.{Stance}

@@ -5,10 +5,10 @@ use Rattle.std.proofs.lemmas.Bool.Decides.{nat_tests}
 use Rattle.c_chars.specs.declared.Dialect.{Dialect}
 use Rattle.c_grammar.specs.Fitting.{is_comment}
 use Rattle.token_arena.specs.Stored.{Stored}
-use Rattle.directives.specs.Directives.{is_hash_token}
-use Rattle.directives.specs.Sections.{before_lines, lines_of, behind_hash, text_before, line_before, sections_from}
-use Rattle.directives.specs.declared.Section.{Section}
-use Rattle.directives.specs.declared.Section.TheVariants.{Text, Dir}
+use Rattle.token_arena.specs.Directives.{is_hash_token}
+use Rattle.token_arena.specs.Sections.{before_lines, lines_of, behind_hash, text_before, line_before, sections_from}
+use Rattle.token_arena.specs.declared.directives.Section.{Section}
+use Rattle.token_arena.specs.declared.directives.Section.TheVariants.{Text, Dir}
 use Rattle.replacements.specs.Stances.{stance_in, hash_comes}
 use Rattle.replacements.specs.declared.stance.Stance.{Stance}
 use Rattle.replacements.specs.declared.stance.Stance.TheVariants.{OfText, Leads, Within}

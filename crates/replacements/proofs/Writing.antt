@@ -4,9 +4,9 @@ use Rattle.std.specs.Prelude.{if◌then◌else◌}
 use Rattle.c_chars.specs.Characters.{mark_len}
 use Rattle.token_arena.specs.Stored.{Stored}
 use Rattle.token_arena.specs.Gaps.{Contents, StandFrom, behind, gap_of, gap_start}
-use Rattle.directives.specs.declared.Section.{Section}
+use Rattle.token_arena.specs.declared.directives.Section.{Section}
 use Rattle.style_table.specs.declared.style.Style.{Style}
-use Rattle.gap_text.specs.declared.Decision.{Decision}
+use Rattle.replacements.specs.declared.gap_text.Decision.{Decision}
 use Rattle.replacements.specs.Guards.{guard_of, guarded_text}
 use Rattle.replacements.specs.Stances.{stance_in, hash_comes}
 use Rattle.replacements.specs.Written.{bytes_between, decision_at, first_gap, is_of_text, is_old, laid_gap, planned_gap, written_from}

@@ -3,8 +3,8 @@ use Rattle.std.specs.Prelude.{ℕ, Bool, true, false, List, Option, Some, None, 
 use Rattle.std.specs.List.{list_any}
 use Rattle.c_grammar.specs.Grammar.{is_new_line}
 use Rattle.c_grammar.specs.Rewritten.{read_alone}
-use Rattle.gap_text.specs.declared.Decision.{Decision}
-use Rattle.gap_text.specs.declared.Decision.TheVariants.{Old, Spaces, Lines, Splice}
+use Rattle.replacements.specs.declared.gap_text.Decision.{Decision}
+use Rattle.replacements.specs.declared.gap_text.Decision.TheVariants.{Old, Spaces, Lines, Splice}
 use Rattle.line_tokens.specs.declared.Fixed.{Fixed}
 use Rattle.token_arena.specs.Gaps.{Contents, gap_of}
 use Rattle.token_arena.specs.Stored.{Stored}

@@ -1,6 +1,6 @@
 -- How a plan lies in memory.
 use Rattle.std.specs.Prelude.{Option, Some, None, List, map}
-use Rattle.gap_text.specs.declared.Decision.TheVariants as decision
+use Rattle.replacements.specs.declared.gap_text.Decision.TheVariants as decision
 use Rattle.replacements.specs.declared.slot.Slot.{Slot}
 use Rattle.replacements.specs.declared.entry.Entry.{Entry}
 use Rattle.replacements.specs.declared.entry.Entry.TheVariants.{Old, Spaces, Lines, Splice, Open}

@@ -3,9 +3,9 @@ use Rattle.std.specs.Prelude.{◌==◌, ◌++◌, ℕ, zero, suc, Bool, true, fa
 use Rattle.c_grammar.specs.Touch.{takes_line, ends}
 use Rattle.token_arena.specs.Stored.{Stored}
 use Rattle.style_table.specs.declared.style.Style.{Style}
-use Rattle.gap_text.specs.GapText.{gap_text, line_end}
-use Rattle.gap_text.specs.declared.Decision.{Decision}
-use Rattle.gap_text.specs.declared.Decision.TheVariants.{Old, Spaces, Lines, Splice}
+use Rattle.replacements.specs.GapText.{gap_text, line_end}
+use Rattle.replacements.specs.declared.gap_text.Decision.{Decision}
+use Rattle.replacements.specs.declared.gap_text.Decision.TheVariants.{Old, Spaces, Lines, Splice}
 use Rattle.replacements.specs.declared.guard.Guard.{Guard}
 use Rattle.replacements.specs.declared.guard.Guard.TheVariants as guard
 

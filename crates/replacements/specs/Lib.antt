@@ -8,3 +8,6 @@ pub mod Written
 pub mod Sound
 pub mod Same
 pub mod Entries
+pub mod GapText
+pub mod FreeGaps
+pub mod OneLine

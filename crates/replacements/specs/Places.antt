@@ -2,10 +2,10 @@
 use Rattle.std.specs.Prelude.{ℕ, zero, suc, Bool, false, List, [], ◌∷◌, if◌then◌else◌}
 use Rattle.c_chars.specs.declared.Dialect.{Dialect}
 use Rattle.c_grammar.specs.Items.{Place, LineStart, AfterMacroName, past_item}
-use Rattle.free_gaps.specs.OneLine.{would_name}
+use Rattle.replacements.specs.OneLine.{would_name}
 use Rattle.token_arena.specs.Stored.{Stored}
 use Rattle.token_arena.specs.Gaps.{Contents}
-use Rattle.directives.specs.Directives.{spelling, is_opening}
+use Rattle.token_arena.specs.Directives.{spelling, is_opening}
 
 -- where an item stands that this place leads to
 abbrev pub stands_at : Place → Stored → Place

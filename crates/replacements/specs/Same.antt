@@ -4,7 +4,7 @@ use Rattle.c_chars.specs.declared.Dialect.{Dialect}
 use Rattle.token_arena.specs.Stored.{Stored}
 use Rattle.token_arena.specs.Gaps.{Contents}
 use Rattle.style_table.specs.declared.style.Style.{Style}
-use Rattle.gap_text.specs.declared.Decision.{Decision}
+use Rattle.replacements.specs.declared.gap_text.Decision.{Decision}
 use Rattle.replacements.specs.Guards.{guard_before}
 use Rattle.replacements.specs.Stances.{hash_comes}
 use Rattle.replacements.specs.Written.{bytes_between, planned_gap}

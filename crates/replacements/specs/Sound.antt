@@ -8,10 +8,10 @@ use Rattle.touching.specs.Spelling.{spelling}
 use Rattle.token_arena.specs.Stored.{Stored}
 use Rattle.token_arena.specs.Gaps.{Contents}
 use Rattle.token_arena.specs.Holds.{HoldsItems}
-use Rattle.directives.specs.Sections.{sections_of}
+use Rattle.token_arena.specs.Sections.{sections_of}
 use Rattle.style_table.specs.declared.style.Style.{Style}
-use Rattle.gap_text.specs.declared.Decision.{Decision}
-use Rattle.gap_text.specs.declared.Decision.TheVariants.{Old, Spaces, Lines, Splice}
+use Rattle.replacements.specs.declared.gap_text.Decision.{Decision}
+use Rattle.replacements.specs.declared.gap_text.Decision.TheVariants.{Old, Spaces, Lines, Splice}
 use Rattle.replacements.specs.Decisions.{slot_of}
 use Rattle.replacements.specs.Places.{behind_item, place_in, would_open, would_begin_name}
 use Rattle.replacements.specs.Stances.{stance_in}

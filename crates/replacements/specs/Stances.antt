@@ -5,9 +5,9 @@ use Rattle.c_grammar.specs.Fitting.{is_comment}
 use Rattle.c_grammar.specs.Items.{is_hash}
 use Rattle.c_grammar.specs.Rewritten.{read_alone}
 use Rattle.token_arena.specs.Stored.{Stored}
-use Rattle.directives.specs.Directives.{is_hash_token}
-use Rattle.directives.specs.declared.Section.{Section}
-use Rattle.directives.specs.declared.Section.TheVariants.{Text, Dir}
+use Rattle.token_arena.specs.Directives.{is_hash_token}
+use Rattle.token_arena.specs.declared.directives.Section.{Section}
+use Rattle.token_arena.specs.declared.directives.Section.TheVariants.{Text, Dir}
 use Rattle.replacements.specs.declared.stance.Stance.{Stance}
 use Rattle.replacements.specs.declared.stance.Stance.TheVariants.{OfText, Leads, Within}
 

@@ -3,10 +3,10 @@ use Rattle.std.specs.Prelude.{◌==◌, ◌&&◌, ◌||◌, not, ℕ, ◌+◌, �
 use Rattle.c_chars.specs.Characters.{mark_len}
 use Rattle.token_arena.specs.Stored.{Stored}
 use Rattle.token_arena.specs.Gaps.{Contents, behind}
-use Rattle.directives.specs.declared.Section.{Section}
+use Rattle.token_arena.specs.declared.directives.Section.{Section}
 use Rattle.style_table.specs.declared.style.Style.{Style}
-use Rattle.gap_text.specs.declared.Decision.{Decision}
-use Rattle.gap_text.specs.declared.Decision.TheVariants.{Old, Spaces, Lines, Splice}
+use Rattle.replacements.specs.declared.gap_text.Decision.{Decision}
+use Rattle.replacements.specs.declared.gap_text.Decision.TheVariants.{Old, Spaces, Lines, Splice}
 use Rattle.replacements.specs.Decisions.{slot_of}
 use Rattle.replacements.specs.Guards.{guard_of, guarded_text}
 use Rattle.replacements.specs.Stances.{stance_in, hash_comes}

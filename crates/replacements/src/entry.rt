@@ -3,8 +3,8 @@
 ghost use Rattle.std.specs.Prelude.{◌≡◌, ◌↔◌, Some, IsSome, IsTrue};
 ghost use Rattle.replacements.specs.Entries.{slot_in};
 
+use crate::Decision;
 use crate::slot::Slot;
-use gap_text::Decision;
 
 /// What a plan has for a gap: that it is open, or the decision and the column at which the item behind the gap
 /// starts. It takes less room than an `Option<Slot>`.

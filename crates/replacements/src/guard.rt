@@ -6,8 +6,8 @@ ghost use Rattle.c_grammar.specs.Touch.{ends, takes_line};
 ghost use Rattle.token_arena.specs.Entries.{told_by};
 ghost use Rattle.replacements.specs.Guards.{guard_before, guard_for, guard_of, guard_text, guarded_ends, is_behind_backslash};
 
+use crate::Decision;
 use c_grammar::ItemKind;
-use gap_text::Decision;
 use line_tokens::TokenId;
 use token_arena::{Token, TokenArena};
 

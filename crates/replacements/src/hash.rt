@@ -2,15 +2,14 @@
 
 ghost use Rattle.std.specs.Prelude.{◌≡◌, ◌<◌, length, drop, IsTrue};
 ghost use Rattle.c_grammar.specs.Fitting.{is_comment};
-ghost use Rattle.directives.specs.Directives.{is_hash_token};
+ghost use Rattle.token_arena.specs.Directives.{is_hash_token};
 ghost use Rattle.token_arena.specs.Entries.{told_by};
 ghost use Rattle.replacements.specs.Stances.{hash_comes, may_begin_hash, IsAt, IsKnown, SpellsNoHash};
 
 use c_chars::Dialect;
 use c_grammar::ItemKind;
-use directives::is_spelled;
 use line_tokens::TokenId;
-use token_arena::{Token, TokenArena};
+use token_arena::{Token, TokenArena, is_spelled};
 
 fn is_comment(kind: ItemKind) -> bool
     ensures { result ≡ is_comment kind }

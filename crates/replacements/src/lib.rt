@@ -7,6 +7,8 @@
 #![tactic(auto)]
 
 mod entry;
+mod free_gaps;
+mod gap_text;
 mod guard;
 mod hash;
 mod laws;
@@ -18,7 +20,8 @@ mod sound;
 mod stance;
 mod written;
 
-pub use gap_text::Decision;
+pub use free_gaps::{keeps_marks_away, rewrites_free_gaps};
+pub use gap_text::{Decision, short_lines, write_gap};
 pub use guard::{Guard, guard_of, is_behind_backslash};
 pub use laws::{decisions_stay, first_decision_stands};
 pub use line_tokens::{Fixed, NoMemory};

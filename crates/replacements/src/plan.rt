@@ -8,12 +8,12 @@ ghost use Rattle.replacements.specs.Decisions.{AreDecided, IsSomeOpen, decided, 
 ghost use Rattle.replacements.specs.Breaks.{fixed_by, has_line_end, has_new_line_at};
 ghost use Rattle.replacements.specs.Entries.{slots_in};
 
+use crate::Decision;
 use crate::entry::Entry;
 use crate::reading::has_new_line_at;
 use crate::slot::{Decided, Slot};
 use bumpalo::Bump;
 use bumpalo::collections::into_bump_slice_mut;
-use gap_text::Decision;
 use line_tokens::{Fixed, NoMemory};
 use std::marker::Model;
 use token_arena::TokenArena;

@@ -1,8 +1,8 @@
 //! Gaps that the input has as they are decided.
 
 ghost use Rattle.std.specs.Prelude.{◌≡◌, ◌≤◌, ℕ, Bool, true, length, IsTrue};
-ghost use Rattle.gap_text.specs.GapText.{blanks};
-ghost use Rattle.gap_text.specs.declared.Decision.TheVariants.{Lines, Spaces};
+ghost use Rattle.replacements.specs.GapText.{blanks};
+ghost use Rattle.replacements.specs.declared.gap_text.Decision.TheVariants.{Lines, Spaces};
 ghost use Rattle.style_table.specs.declared.style.Style.{Style};
 ghost use Rattle.token_arena.specs.Entries.{told_by};
 ghost use Rattle.replacements.specs.Same.{ComesNoHash, IsSame};
@@ -10,8 +10,8 @@ ghost use Rattle.replacements.specs.Written.{bytes_between, is_old};
 
 use crate::guard::{guard_before, is_free};
 use crate::hash::begins_no_hash;
+use crate::{Decision, short_lines};
 use c_grammar::ItemKind;
-use gap_text::{Decision, short_lines};
 use style_table::Style;
 use token_arena::{Token, TokenArena};
 

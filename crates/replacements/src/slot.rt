@@ -1,6 +1,6 @@
 //! What is kept of a decision.
 
-use gap_text::Decision;
+use crate::Decision;
 
 /// Whether a decision was taken.
 #[derive(Clone, Copy, Debug, PartialEq, Eq)]

@@ -3,7 +3,7 @@
 ghost use Rattle.std.specs.Prelude.{◌≡◌, ◌≤◌, ℕ, drop, length};
 ghost use Rattle.replacements.specs.Stances.{stance_in};
 
-use directives::Section;
+use token_arena::Section;
 
 /// How an item stands in its text.
 #[derive(Clone, Copy, Debug, PartialEq, Eq)]

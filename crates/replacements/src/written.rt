@@ -3,7 +3,7 @@
 ghost use Rattle.std.specs.Prelude.{◌≡◌, ◌==◌, ◌&&◌, ◌<◌, ◌≤◌, ◌+◌, ◌++◌, List, ℕ, length, drop, OnOk, false, if◌then◌else◌};
 ghost use Rattle.std.specs.Io.KnownBytes.{Appends};
 ghost use Rattle.c_chars.specs.Characters.{mark_len};
-ghost use Rattle.directives.specs.declared.Section.{Section};
+ghost use Rattle.token_arena.specs.declared.directives.Section.{Section};
 ghost use Rattle.fmt_ports.specs.Causes.{AppendsPart, Counts};
 ghost use Rattle.token_arena.specs.Entries.{told_by};
 ghost use Rattle.token_arena.specs.Gaps.{gap_start, Stands, StandFrom};
@@ -17,12 +17,11 @@ use crate::hash::{HashRun, hash_comes};
 use crate::plan::Plan;
 use crate::same::{between, comes_no_hash, is_same};
 use crate::stance::{Stance, stance_at};
-use directives::Section;
+use crate::{Decision, write_gap};
 use fmt_ports::{Failed, Sink, write_all};
-use gap_text::{Decision, write_gap};
 use line_tokens::TokenId;
 use style_table::Style;
-use token_arena::{Token, TokenArena};
+use token_arena::{Section, Token, TokenArena};
 
 /// The bytes of a byte order mark.
 const MARK: [u8; 3] = [0xEF, 0xBB, 0xBF];

@@ -8,14 +8,14 @@ use Rattle.std.proofs.lemmas.Option.{slice_get-get_or, get_or_from_slice_get}
 use Rattle.c_grammar.specs.Touch.{takes_line}
 use Rattle.c_grammar.specs.declared.ItemKind.{ItemKind}
 use Rattle.c_grammar.specs.declared.ItemKind.TheVariants as kind
-use Rattle.least_breaking.specs.Choices.{Leads}
+use Rattle.line_state.specs.Choices.{Leads}
 use Rattle.style_table.specs.declared.style.Style.{Style}
 use Rattle.line_tokens.specs.Roles.{is_own}
 use Rattle.line_tokens.specs.declared.LineTok.{LineTok}
 use Rattle.line_tokens.specs.declared.Fixed.{Fixed}
-use Rattle.spacing.specs.Spaces.{spaces_by_table, spaces_before}
-use Rattle.penalties.specs.Breaks.{ends_its_row, gap_rule}
-use Rattle.penalties.proofs.Needs.{needs_none}
+use Rattle.layout_tables.specs.Spaces.{spaces_by_table, spaces_before}
+use Rattle.layout_tables.specs.Breaks.{ends_its_row, gap_rule}
+use Rattle.layout_tables.proofs.Needs.{needs_none}
 use Rattle.line_state.specs.declared.gap.Gap.{Gap}
 use Rattle.line_state.specs.Layout.{Layout, is_allowed, is_decided, is_some_decision, as_decided, keeps_frame_rules, layout_after, start_of}
 use Rattle.line_state.specs.Line.{Line, Step}
@@ -24,7 +24,7 @@ use Rattle.token_arena.specs.Stored.{Stored}
 use Rattle.token_arena.specs.Gaps.{Contents}
 use Rattle.token_classes.specs.Viewed.{AreWithin}
 use Rattle.line_tokens.specs.declared.line.ULine.{ULine}
-use Rattle.gap_text.specs.declared.Decision.TheVariants.{Spaces}
+use Rattle.replacements.specs.declared.gap_text.Decision.TheVariants.{Spaces}
 use Rattle.replacements.specs.declared.slot.Slot.{Slot}
 use Rattle.replacements.specs.declared.stance.Stance.TheVariants.{OfText}
 use Rattle.replacements.specs.Places.{place_in}

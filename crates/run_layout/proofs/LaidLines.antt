@@ -3,13 +3,13 @@ use Rattle.std.proofs.Common.{◌≡◌, ◌∙◌, ◌⊎◌, inl, inr, ◌||�
 use Rattle.std.specs.Prelude.{slice_get, if◌then◌else◌}
 use Rattle.std.proofs.lemmas.Bool.{or_parts}
 use Rattle.std.proofs.lemmas.Option.{slice_get-get_or}
-use Rattle.least_breaking.specs.Choices.{Leads}
+use Rattle.line_state.specs.Choices.{Leads}
 use Rattle.style_table.specs.declared.style.Style.{Style}
 use Rattle.line_tokens.specs.declared.LineTok.{LineTok}
 use Rattle.line_tokens.specs.declared.Fixed.{Fixed}
 use Rattle.line_tokens.specs.Roles.{is_trailing, is_own}
-use Rattle.penalties.specs.Breaks.{ends_its_row}
-use Rattle.penalties.proofs.Needs.{needs_none}
+use Rattle.layout_tables.specs.Breaks.{ends_its_row}
+use Rattle.layout_tables.proofs.Needs.{needs_none}
 use Rattle.line_state.specs.declared.gap.Gap.{Gap}
 use Rattle.line_state.specs.Layout.{Layout, is_allowed, is_decided, is_some_decision, layout_after}
 use Rattle.line_state.specs.Line.{Line, Step, gaps, decision_at, joined, first_layout}

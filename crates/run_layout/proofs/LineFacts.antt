@@ -1,8 +1,8 @@
 -- A line as it is broken, as the code reads it.
 use Rattle.std.proofs.Common.{◌≡◌, ◌∙◌, ℕ, zero, suc, ◌+◌, ◌-◌, ◌<◌, Option, Some, None, List, [], ◌∷◌, length, map, get_or, take, drop, refl, sym, ap, arith, slice_get}
 use Rattle.std.proofs.lemmas.List.{take-map, drop-map}
-use Rattle.least_breaking.specs.Choices.{IsLeast}
-use Rattle.least_breaking.proofs.Thrift.{thrifty_least}
+use Rattle.line_state.specs.Choices.{IsLeast}
+use Rattle.line_state.proofs.Thrift.{thrifty_least}
 use Rattle.style_table.specs.declared.style.Style.{Style}
 use Rattle.line_tokens.specs.declared.LineTok.{LineTok}
 use Rattle.line_tokens.specs.declared.Fixed.{Fixed}
@@ -12,7 +12,7 @@ use Rattle.line_state.specs.Line.{Step, gaps, joined, first_layout}
 use Rattle.line_state.proofs.Steps.{first_index, functional}
 use Rattle.token_arena.specs.Gaps.{Contents}
 use Rattle.line_tokens.specs.declared.line.ULine.{ULine}
-use Rattle.indenter.specs.Rows.{start_column}
+use Rattle.layout_tables.specs.Indents.{start_column}
 use Rattle.replacements.specs.declared.slot.Slot.{Slot}
 use Rattle.replacements.specs.Breaks.{fixed_by}
 use Rattle.replacements.specs.Decisions.{slot_of}

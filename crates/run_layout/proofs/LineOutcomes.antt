@@ -8,7 +8,7 @@ use Rattle.break_search.specs.Outcome.{line_of, IsFound, IsOver}
 use Rattle.break_search.specs.Starts.{IsAdmissible}
 use Rattle.token_arena.specs.Gaps.{Contents}
 use Rattle.line_tokens.specs.declared.line.ULine.{ULine}
-use Rattle.indenter.specs.Rows.{start_column}
+use Rattle.layout_tables.specs.Indents.{start_column}
 use Rattle.replacements.specs.declared.slot.Slot.{Slot}
 use Rattle.replacements.specs.Decisions.{decided_all}
 use Rattle.run_layout.specs.Tells.{StandForItems}

@@ -1,11 +1,11 @@
 -- Without a limit of columns one breaking is admissible.
 use Rattle.std.proofs.Common.{◌≡◌, ◌∙◌, Bool, true, false, not, Option, Some, None, List, [], ◌∷◌, refl, sym, ap, arith, subst}
 use Rattle.std.specs.Prelude.{if◌then◌else◌}
-use Rattle.least_breaking.specs.Choices.{Leads}
+use Rattle.line_state.specs.Choices.{Leads}
 use Rattle.style_table.specs.declared.style.Style.{Style}
 use Rattle.line_tokens.specs.declared.Fixed.{Fixed}
-use Rattle.penalties.specs.Breaks.{gap_rule}
-use Rattle.penalties.proofs.Needs.{no_choice}
+use Rattle.layout_tables.specs.Breaks.{gap_rule}
+use Rattle.layout_tables.proofs.Needs.{no_choice}
 use Rattle.line_state.specs.declared.gap.Gap.{Gap}
 use Rattle.line_state.specs.Layout.{Layout, is_allowed, as_decided, keeps_frame_rules, layout_after}
 use Rattle.line_state.specs.Line.{Step}

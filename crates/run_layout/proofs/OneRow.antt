@@ -5,8 +5,8 @@ use Rattle.std.proofs.Math.ListN.{drop_of_length-le}
 use Rattle.std.proofs.Math.Seq.{drop-cons}
 use Rattle.std.proofs.lemmas.Option.{slice_get-get_or}
 use Rattle.std.proofs.lemmas.List.{length-set, length-take, length-replicate, replicate-append-replicate}
-use Rattle.least_breaking.specs.Choices.{Leads}
-use Rattle.least_breaking.proofs.Thrift.{IsThrifty, thrifty_more, thrifty_least}
+use Rattle.line_state.specs.Choices.{Leads}
+use Rattle.line_state.proofs.Thrift.{IsThrifty, thrifty_more, thrifty_least}
 use Rattle.style_table.specs.declared.style.Style.{Style}
 use Rattle.line_tokens.specs.Roles.{is_trailing}
 use Rattle.line_tokens.specs.declared.LineTok.{LineTok}
@@ -18,12 +18,12 @@ use Rattle.line_tokens.specs.Columns.{columns, end_of, stored_or}
 use Rattle.line_state.specs.Layout.{Layout, spot_of, start_layout, is_allowed, is_some_decision, layout_after, cost_of, gap_cost, is_free, excess_at, start_of, broken_start, open_frames, topmost, new_frame, placed_frames, opened_frame, comma_frame, is_after_opener, frames_after, cells_of}
 use Rattle.line_state.specs.Line.{Line, Step, gaps, gap_at, gap_between, decision_at, first_layout, first_cost, step_over}
 use Rattle.line_state.proofs.Steps.{StayTogether, is_first, stored, least_of, least_allowed, least_stays, functional, placing}
-use Rattle.penalties.specs.Breaks.{gap_rule}
-use Rattle.spacing.specs.Spaces.{spaces_before}
+use Rattle.layout_tables.specs.Breaks.{gap_rule}
+use Rattle.layout_tables.specs.Spaces.{spaces_before}
 use Rattle.break_search.specs.Outcome.{own_cells, own_cells_by, IsFound}
 use Rattle.break_search.specs.Thrift.{IsStraight}
 use Rattle.line_tokens.specs.declared.line.ULine.{ULine}
-use Rattle.gap_text.specs.declared.Decision.TheVariants.{Spaces}
+use Rattle.replacements.specs.declared.gap_text.Decision.TheVariants.{Spaces}
 use Rattle.replacements.specs.declared.slot.Slot.{Slot}
 use Rattle.run_layout.specs.Rows.{no_tok}
 use Rattle.run_layout.specs.Broken.{made_at, inside_made}

@@ -8,8 +8,8 @@ use Rattle.line_tokens.specs.Roles.{is_trailing, is_ctrl_open, is_list_open, is_
 use Rattle.style_table.specs.declared.style.Style.{Style}
 use Rattle.line_state.specs.Brackets.{opens_frame}
 use Rattle.line_state.specs.Line.{Line}
-use Rattle.penalties.specs.Breaks.{gap_rule}
-use Rattle.spacing.specs.Spaces.{is_never, is_always, is_left, is_right, is_attached, spaces_by_table, spaces_before}
+use Rattle.layout_tables.specs.Breaks.{gap_rule}
+use Rattle.layout_tables.specs.Spaces.{is_never, is_always, is_left, is_right, is_attached, spaces_by_table, spaces_before}
 use Rattle.run_layout.specs.OneRow.{most_behind, open_behind, IsOneRowUpTo, IsRowLine}
 use Rattle.run_layout.proofs.RowSteps.{row_goes_on}
 

@@ -11,7 +11,7 @@ use Rattle.line_state.specs.Line.{Line, gaps, first_layout}
 use Rattle.token_arena.specs.Gaps.{Contents}
 use Rattle.token_classes.specs.Viewed.{AreWithin}
 use Rattle.line_tokens.specs.declared.line.ULine.{ULine}
-use Rattle.indenter.specs.Rows.{start_column}
+use Rattle.layout_tables.specs.Indents.{start_column}
 use Rattle.replacements.specs.declared.slot.Slot.{Slot}
 use Rattle.replacements.specs.Decisions.{decided, decided_all}
 use Rattle.run_layout.specs.Rows.{no_tok}

@@ -9,9 +9,9 @@ use Rattle.line_tokens.specs.Roles.{is_trailing}
 use Rattle.std.specs.Prelude.{if◌then◌else◌}
 use Rattle.line_tokens.specs.Columns.{columns, end_of, stored_or}
 use Rattle.line_state.specs.Line.{Line, decision_at, first_cost}
-use Rattle.penalties.specs.Breaks.{gap_rule}
-use Rattle.spacing.specs.Spaces.{spaces_before}
-use Rattle.gap_text.specs.declared.Decision.TheVariants.{Spaces}
+use Rattle.layout_tables.specs.Breaks.{gap_rule}
+use Rattle.layout_tables.specs.Spaces.{spaces_before}
+use Rattle.replacements.specs.declared.gap_text.Decision.TheVariants.{Spaces}
 use Rattle.replacements.specs.declared.slot.Slot.{Slot}
 use Rattle.replacements.specs.Decisions.{decided, decided_all}
 use Rattle.run_layout.specs.OneRow.{open_behind, Fits, IsOneRow, IsRow, IsRowLine, stay_start, row_made}

@@ -7,11 +7,11 @@ use Rattle.c_grammar.specs.Items.{Place, LineStart}
 use Rattle.style_table.specs.declared.style.Style.{Style}
 use Rattle.token_arena.specs.Stored.{Stored}
 use Rattle.token_arena.specs.Gaps.{Contents}
-use Rattle.directives.specs.Sections.{sections_of}
-use Rattle.gap_text.specs.declared.Decision.TheVariants.{Old, Spaces, Lines}
+use Rattle.token_arena.specs.Sections.{sections_of}
+use Rattle.replacements.specs.declared.gap_text.Decision.TheVariants.{Old, Spaces, Lines}
 use Rattle.token_classes.specs.Viewed.{item_class}
 use Rattle.line_tokens.specs.declared.line.ULine.{ULine}
-use Rattle.indenter.specs.Rows.{start_column}
+use Rattle.layout_tables.specs.Indents.{start_column}
 use Rattle.replacements.specs.declared.stance.Stance.{Stance}
 use Rattle.replacements.specs.declared.stance.Stance.TheVariants.{OfText}
 use Rattle.replacements.specs.Sound.{MayStandBetween, MayStand, item_before, stance_before, place_before}

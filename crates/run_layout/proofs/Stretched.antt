@@ -1,10 +1,10 @@
 -- Items of a view that follow one another in the text.
 use Rattle.std.proofs.Common.{◌≡◌, ◌∙◌, ◌⊎◌, inl, inr, ℕ, ◌+◌, ◌-◌, ◌<◌, ◌≤◌, Option, List, length, map, get_or, ap, subst, sym, arith}
 use Rattle.std.specs.Prelude.{IsSome}
-use Rattle.token_views.specs.declared.view.Segment.{Segment}
-use Rattle.token_views.specs.declared.view.Stretch.{Stretch}
-use Rattle.token_views.specs.Segments.{ids_of, segment_bounds, AreSegments, no_segment, HasPlace}
-use Rattle.token_views.proofs.SegmentLemmas.{item_at_start}
+use Rattle.token_arena.specs.declared.view.Segment.{Segment}
+use Rattle.token_arena.specs.declared.view.Stretch.{Stretch}
+use Rattle.token_arena.specs.Segments.{ids_of, segment_bounds, AreSegments, no_segment, HasPlace}
+use Rattle.token_arena.proofs.SegmentLemmas.{item_at_start}
 use Rattle.token_arena.specs.Gaps.{Contents}
 use Rattle.token_classes.specs.Viewed.{AreWithin}
 use Rattle.replacements.specs.declared.slot.Slot.{Slot}

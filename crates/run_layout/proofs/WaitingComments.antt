@@ -8,19 +8,19 @@ use Rattle.c_grammar.specs.declared.ItemKind.{ItemKind}
 use Rattle.style_table.specs.declared.style.Style.{Style}
 use Rattle.line_tokens.specs.Roles.{is_trailing}
 use Rattle.line_tokens.specs.declared.LineTok.{LineTok}
-use Rattle.spacing.specs.Spaces.{spaces_before}
-use Rattle.penalties.specs.Breaks.{ends_its_row}
+use Rattle.layout_tables.specs.Spaces.{spaces_before}
+use Rattle.layout_tables.specs.Breaks.{ends_its_row}
 use Rattle.line_state.specs.declared.gap.Gap.{Gap}
 use Rattle.line_tokens.specs.Columns.{columns, end_of}
 use Rattle.token_arena.specs.Gaps.{Contents}
 use Rattle.token_classes.specs.Viewed.{AreWithin}
-use Rattle.gap_text.specs.declared.Decision.TheVariants.{Spaces}
+use Rattle.replacements.specs.declared.gap_text.Decision.TheVariants.{Spaces}
 use Rattle.replacements.specs.declared.slot.Slot.{Slot}
 use Rattle.replacements.specs.Decisions.{slot_of, decided, decided_all}
 use Rattle.replacements.proofs.Firsts.{kept, new, length_one}
 use Rattle.replacements.specs.Sound.{MayJoin, MayStand, IsSound}
-use Rattle.comment_place.specs.Columns.{aligned}
-use Rattle.comment_place.specs.declared.rows.TrailRow.{TrailRow}
+use Rattle.comment_rows.specs.Columns.{aligned}
+use Rattle.comment_rows.specs.declared.place.TrailRow.{TrailRow}
 use Rattle.comment_rows.specs.declared.comments.Comment.{Comment}
 use Rattle.comment_rows.specs.Comments.{comment_at, comment_of, comments_behind, comments_in, comments_made, first_start, placed, placed_slot, row_of, start_by}
 use Rattle.comment_rows.proofs.CommentLists.{length-aligned, none_made}

@@ -7,12 +7,12 @@ use Rattle.line_tokens.specs.Roles.{is_trailing}
 use Rattle.line_state.specs.declared.gap.Gap.{Gap}
 use Rattle.line_state.specs.Layout.{Layout, is_decided, layout_after, start_of}
 use Rattle.line_state.specs.Line.{Line, first_layout, gap_at}
-use Rattle.spacing.specs.Spaces.{spaces_before}
+use Rattle.layout_tables.specs.Spaces.{spaces_before}
 use Rattle.token_arena.specs.Gaps.{Contents}
 use Rattle.line_tokens.specs.declared.line.ULine.{ULine}
-use Rattle.indenter.specs.Rows.{start_column, empty_lines}
-use Rattle.gap_text.specs.declared.Decision.{Decision}
-use Rattle.gap_text.specs.declared.Decision.TheVariants.{Spaces, Lines}
+use Rattle.layout_tables.specs.Indents.{start_column, empty_lines}
+use Rattle.replacements.specs.declared.gap_text.Decision.{Decision}
+use Rattle.replacements.specs.declared.gap_text.Decision.TheVariants.{Spaces, Lines}
 use Rattle.replacements.specs.declared.slot.Slot.{Slot}
 use Rattle.replacements.specs.Decisions.{slot_of}
 use Rattle.replacements.specs.Breaks.{fixed_by}

@@ -2,8 +2,8 @@
 use Rattle.std.specs.Prelude.{◌==◌, min, ℕ, zero, suc, ◌+◌, ◌-◌, ◌%◌, List, [], ◌∷◌, get_or, if◌then◌else◌}
 use Rattle.style_table.specs.declared.style.Style.{Style}
 use Rattle.token_arena.specs.Gaps.{Contents, gap_of}
-use Rattle.indenter.specs.Rows.{most_column}
-use Rattle.gap_text.specs.declared.Decision.TheVariants.{Old}
+use Rattle.layout_tables.specs.Indents.{most_column}
+use Rattle.replacements.specs.declared.gap_text.Decision.TheVariants.{Old}
 use Rattle.replacements.specs.declared.slot.Slot.{Slot}
 use Rattle.run_layout.specs.Rows.{item_at, column_behind}
 

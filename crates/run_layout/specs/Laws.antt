@@ -4,16 +4,16 @@ use Rattle.style_table.specs.declared.style.Style.{Style}
 use Rattle.token_arena.specs.Gaps.{Contents}
 use Rattle.line_tokens.specs.declared.LineTok.{LineTok}
 use Rattle.line_tokens.specs.Roles.{is_trailing}
-use Rattle.penalties.specs.Breaks.{ends_its_row}
+use Rattle.layout_tables.specs.Breaks.{ends_its_row}
 use Rattle.token_classes.specs.Viewed.{AreWithin}
-use Rattle.directives.specs.Sections.{sections_of}
+use Rattle.token_arena.specs.Sections.{sections_of}
 use Rattle.line_tokens.specs.declared.line.ULine.{ULine}
 use Rattle.line_tokens.specs.Lines.{CutPlaces}
 use Rattle.replacements.specs.declared.slot.Slot.{Slot}
 use Rattle.replacements.specs.declared.stance.Stance.TheVariants.{OfText}
 use Rattle.replacements.specs.Sound.{IsSound}
 use Rattle.replacements.specs.Stances.{stance_in}
-use Rattle.least_breaking.specs.Choices.{Leads}
+use Rattle.line_state.specs.Choices.{Leads}
 use Rattle.line_state.specs.Layout.{Layout}
 use Rattle.line_state.specs.Line.{Line, Step}
 use Rattle.replacements.specs.Decisions.{slot_of}

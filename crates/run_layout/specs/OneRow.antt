@@ -1,6 +1,6 @@
 -- Lines that stay on one row: nothing in them breaks, and no token goes past the limit. They need no search.
 use Rattle.std.specs.Prelude.{◌≡◌, ◌==◌, ◌<◌, ◌≤◌, ◌⊎◌, ◌+◌, ◌*◌, nat_lt, ℕ, suc, min, Bool, true, false, Option, Some, None, List, [], ◌∷◌, length, replicate, slice_get, if◌then◌else◌}
-use Rattle.least_breaking.proofs.Thrift.{IsThrifty}
+use Rattle.line_state.proofs.Thrift.{IsThrifty}
 use Rattle.line_tokens.specs.declared.LineTok.{LineTok}
 use Rattle.line_tokens.specs.declared.Fixed.{Fixed}
 use Rattle.line_tokens.specs.Roles.{is_trailing}
@@ -11,9 +11,9 @@ use Rattle.line_state.specs.Line.{Line, Step, gaps, first_layout, first_cost, de
 use Rattle.line_state.proofs.Steps.{StayTogether}
 use Rattle.break_search.specs.Outcome.{own_cells}
 use Rattle.break_search.specs.Thrift.{IsStraight}
-use Rattle.spacing.specs.Spaces.{spaces_before}
+use Rattle.layout_tables.specs.Spaces.{spaces_before}
 use Rattle.style_table.specs.declared.style.Style.{Style}
-use Rattle.gap_text.specs.declared.Decision.TheVariants.{Spaces}
+use Rattle.replacements.specs.declared.gap_text.Decision.TheVariants.{Spaces}
 use Rattle.replacements.specs.declared.slot.Slot.{Slot}
 use Rattle.replacements.specs.Decisions.{slot_of}
 

@@ -1,8 +1,8 @@
 -- Items of a view that follow one another in the text.
 use Rattle.std.specs.Prelude.{◌≡◌, ◌<◌, ◌+◌, ◌-◌, ℕ, List, get_or, length}
-use Rattle.token_views.specs.declared.view.Segment.{Segment}
-use Rattle.token_views.specs.declared.view.Stretch.{Stretch}
-use Rattle.token_views.specs.Segments.{no_segment, HasPlace}
+use Rattle.token_arena.specs.declared.view.Segment.{Segment}
+use Rattle.token_arena.specs.declared.view.Stretch.{Stretch}
+use Rattle.token_arena.specs.Segments.{no_segment, HasPlace}
 
 -- the items of a view from a place on are those of a stretch
 abbrev pub AreFrom : List ℕ → ℕ → Stretch → Type 0

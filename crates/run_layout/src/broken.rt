@@ -7,7 +7,7 @@ ghost use Rattle.line_state.specs.Layout.{is_some_decision};
 ghost use Rattle.line_state.specs.Line.{first_layout};
 ghost use Rattle.break_search.specs.Outcome.{line_of};
 ghost use Rattle.break_search.specs.Starts.{IsAdmissible, starts_of};
-ghost use Rattle.indenter.specs.Rows.{start_column};
+ghost use Rattle.layout_tables.specs.Indents.{start_column};
 ghost use Rattle.replacements.specs.Decisions.{decided, decided_all, slot_of};
 ghost use Rattle.line_tokens.specs.declared.LineTok.{LineTok};
 ghost use Rattle.run_layout.specs.Broken.{decision_by, empty_inside, first_made, fixed_of_token, inside_made, number, waits};
@@ -17,16 +17,13 @@ use crate::row::token_at;
 use break_search::starts;
 use bumpalo::Bump;
 use bumpalo::collections::into_bump_slice;
-use gap_text::Decision;
-use indenter::{empty_lines, start_column};
+use layout_tables::{empty_lines, spaces_before, start_column};
 use line_tokens::{Fixed, LineTok, NoMemory, ULine};
-use replacements::Plan;
-use spacing::spaces_before;
+use replacements::{Decision, Plan};
 use std::alloc::Global;
 use style_table::Style;
-use token_arena::TokenArena;
+use token_arena::{TokenArena, View};
 use token_classes::TokenClass;
-use token_views::View;
 
 /// The empty lines before a further row of a line: only behind a directive are there any.
 fn empty_inside(style: &Style, line: &ULine, token: &LineTok) -> u32

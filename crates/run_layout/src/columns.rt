@@ -3,7 +3,7 @@
 ghost use Rattle.std.specs.Prelude.{◌≡◌, ◌<◌, length};
 ghost use Rattle.run_layout.specs.Rows.{item_at, start_behind, column_behind};
 
-use gap_text::Decision;
+use replacements::Decision;
 use token_arena::{TokenArena, TokenId};
 
 /// Where an item starts behind a decision, where what stands before the gap ends at `column`.

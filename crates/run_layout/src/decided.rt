@@ -8,8 +8,7 @@ ghost use Rattle.run_layout.specs.OpenGaps.{AreDecided, IsOpen, IsRowDecided, Is
 use crate::stretches::stretch_near;
 use line_tokens::ULine;
 use replacements::Plan;
-use token_arena::TokenArena;
-use token_views::View;
+use token_arena::{TokenArena, View};
 
 /// Whether the gap before each item from one up to another is decided.
 #[inline(always)]

@@ -8,14 +8,12 @@ ghost use Rattle.run_layout.specs.Broken.{first_slot};
 
 use crate::columns::start_behind;
 use crate::item::item;
-use gap_text::Decision;
-use indenter::{empty_lines, start_column};
+use layout_tables::{empty_lines, start_column};
 use line_tokens::{LineTok, Role, TokenId, ULine};
-use replacements::Plan;
+use replacements::{Decision, Plan};
 use style_table::Style;
-use token_arena::TokenArena;
+use token_arena::{TokenArena, View};
 use token_classes::TokenClass;
-use token_views::View;
 
 /// An item as the rule on empty lines sees it.
 fn row_token(arena: &TokenArena<'_, '_>, id: u32, role: Role) -> LineTok

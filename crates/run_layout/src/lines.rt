@@ -26,14 +26,13 @@ use crate::reported::{InputCursor, report_line};
 use crate::row::{end_of, first_start, is_row, token_at, write_row};
 use break_search::{Outcome, least_breaks, search};
 use bumpalo::Bump;
-use indenter::start_column;
+use layout_tables::start_column;
 use line_tokens::{LineTok, NoMemory, ULine};
 use replacements::Plan;
 use std::alloc::Global;
 use style_table::Style;
-use token_arena::TokenArena;
+use token_arena::{TokenArena, View};
 use token_classes::TokenClass;
-use token_views::View;
 
 /// The tokens of a line, among those of a view.
 #[inline(always)]

@@ -9,13 +9,11 @@ ghost use Rattle.run_layout.specs.Outcomes.{reported_made};
 
 use crate::columns::column_behind;
 use crate::first::decide_first;
-use gap_text::Decision;
 use line_tokens::ULine;
-use replacements::Plan;
+use replacements::{Decision, Plan};
 use style_table::Style;
-use token_arena::TokenArena;
+use token_arena::{TokenArena, View};
 use token_classes::TokenClass;
-use token_views::View;
 
 /// Up to where the columns of the input are told. They are told only where a line is reported, each once in a run.
 #[derive(Clone, Copy)]

@@ -7,15 +7,13 @@ ghost use Rattle.line_state.specs.Brackets.{opens_frame};
 ghost use Rattle.line_tokens.specs.Columns.{end_of, stored_or};
 ghost use Rattle.line_state.specs.Line.{Line};
 ghost use Rattle.run_layout.specs.Rows.{no_tok};
-ghost use Rattle.gap_text.specs.declared.Decision.TheVariants.{Spaces};
+ghost use Rattle.replacements.specs.declared.gap_text.Decision.TheVariants.{Spaces};
 ghost use Rattle.replacements.specs.Decisions.{decided, decided_all};
 ghost use Rattle.run_layout.specs.OneRow.{Fits, IsRow, IsRowLine, most_behind, open_behind, row_made};
 
-use gap_text::Decision;
+use layout_tables::{must_break, spaces_before};
 use line_tokens::{Fixed, LineTok};
-use penalties::must_break;
-use replacements::Plan;
-use spacing::spaces_before;
+use replacements::{Decision, Plan};
 use style_table::Style;
 
 /// The token at a place.

@@ -2,11 +2,10 @@
 
 ghost use Rattle.std.specs.Prelude.{◌≡◌, ◌<◌, ◌≤◌, ◌+◌, ◌-◌, IfSome, length};
 ghost use Rattle.token_classes.specs.Viewed.{AreWithin};
-ghost use Rattle.token_views.specs.Segments.{AreSegments};
+ghost use Rattle.token_arena.specs.Segments.{AreSegments};
 ghost use Rattle.run_layout.specs.Stretches.{AreFrom, IsRest};
 
-use token_arena::TokenArena;
-use token_views::{Segment, Stretch, View};
+use token_arena::{Segment, Stretch, TokenArena, View};
 
 /// The items of the segment with this number from a place on, if the place is in it.
 #[inline(always)]

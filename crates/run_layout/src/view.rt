@@ -18,9 +18,8 @@ use line_tokens::{LineTok, NoMemory, ULine};
 use replacements::Plan;
 use std::alloc::Global;
 use style_table::Style;
-use token_arena::TokenArena;
+use token_arena::{TokenArena, View};
 use token_classes::TokenClass;
-use token_views::View;
 
 /// Lays out a view: joins its short lines, and decides the gap before each of its items where it is open, that before
 /// trailing comments last. What came of the lines is noted. `lines` are the view's unwrapped lines, `classes` and `toks` those of its places.

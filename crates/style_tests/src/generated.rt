@@ -1,7 +1,7 @@
 //! Worked rows of the text that `--generate` makes.
 
 use crate::comparing::same;
-use generated_input::generated;
+use command_words::generated;
 use std::str::from_utf8;
 
 /// The first six pieces from 5.

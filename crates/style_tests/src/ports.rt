@@ -5,14 +5,13 @@ ghost use Rattle.std.specs.Prelude.{◌++◌};
 use crate::comparing::same;
 use crate::fixtures::{one_call, sink};
 use fmt_ports::{
-    Failed, FileFault, Files, InFault, MemFiles, MemSource, Name, RealFiles, RealIn, RealOut, Sink,
-    TextSink, read_all, write_all,
+    Failed, FileFault, Files, InFault, MemFiles, MemSource, Name, PIECE, RealFiles, RealIn,
+    RealOut, Sink, Stream, TextSink, bytes_of, is_same, read_all, write_all, write_in_pieces,
 };
 use std::alloc::Global;
 use std::os::unix::fs::PermissionsExt;
 use std::process::Abort;
 use std::{fs, rt};
-use text_streams::{PIECE, Stream, bytes_of, is_same, write_in_pieces};
 
 /// A source of three bytes: the call that fails, the limit, and all its bytes or why they can't be had.
 type Reading = (&'static str, u64, u64, Result<&'static [u8], InFault>);

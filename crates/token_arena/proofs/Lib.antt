@@ -7,3 +7,13 @@ pub mod NextLemmas
 pub mod Spans
 pub mod Eights
 pub mod RowsKept
+pub mod SegmentLemmas
+pub mod IncreaseLemmas
+pub mod Parts
+pub mod Codes
+pub mod LinesOf
+pub mod Numbers
+pub mod Ranges
+pub mod Spellings
+pub mod Standings
+pub mod Whole

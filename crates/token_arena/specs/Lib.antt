@@ -4,3 +4,10 @@ pub mod Holds
 pub mod Entries
 pub mod Eight
 pub mod Building
+pub mod Segments
+pub mod Ids
+pub mod Directives
+pub mod Keeping
+pub mod Nesting
+pub mod Sections
+pub mod Standing

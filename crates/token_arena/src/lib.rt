@@ -6,13 +6,20 @@
 #![tactic(auto)]
 
 mod arena;
+mod directives;
 mod facts;
 mod fault;
 mod reading;
+mod view;
 
 pub use arena::{Token, TokenArena};
 pub use c_lexer::{Dialect, Item, ItemKind, LIMIT};
+pub use directives::{
+    Directive, DirectiveKind, Nesting, Section, begins_with, behind_word, is_spelled,
+    kept_after_name, nesting_of, sections, sections_say_how_items_stand,
+};
 pub use facts::Rows;
 pub use fault::ArenaFault;
-pub use line_tokens::{Fixed, GapFacts, LineTok, Role, TokenId};
+pub use line_tokens::{Fixed, GapFacts, LineTok, NoMemory, Role, TokenId};
 pub use reading::build;
+pub use view::{Segment, Stretch, View};

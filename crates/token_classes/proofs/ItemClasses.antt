@@ -8,8 +8,8 @@ use Rattle.std.specs.Prelude.{slice_get, slice_set}
 use Rattle.c_chars.specs.declared.Dialect.{Dialect}
 use Rattle.token_arena.specs.Gaps.{Contents}
 use Rattle.token_arena.specs.Stored.{Stored}
-use Rattle.token_views.specs.declared.view.Segment.{Segment}
-use Rattle.token_views.specs.Segments.{ids_of, segment_bounds, AscendFrom, AreSegments, no_segment}
+use Rattle.token_arena.specs.declared.view.Segment.{Segment}
+use Rattle.token_arena.specs.Segments.{ids_of, segment_bounds, AscendFrom, AreSegments, no_segment}
 use Rattle.token_classes.specs.declared.class.TokenClass.{TokenClass}
 use Rattle.token_classes.specs.declared.class.TokenClass.TheVariants.{If, Nothing}
 use Rattle.token_classes.specs.Viewed.{class_or_nothing, item_class, item_classes}

@@ -1,5 +1,5 @@
 -- Lists.
-use Rattle.token_views.specs.Ids.{IncreaseFrom}
+use Rattle.token_arena.specs.Ids.{IncreaseFrom}
 use Rattle.std.proofs.Common.{◌≡◌, ℕ, suc, ◌+◌, ◌-◌, ◌<◌, ◌≤◌, All, arith, List, [], ◌∷◌, ◌++◌, length, take, get_or, map, refl, ap, ◌∙◌}
 use Rattle.std.proofs.lemmas.List.{take_more, map-append}
 

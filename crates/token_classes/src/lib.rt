@@ -5,11 +5,17 @@
 
 mod class;
 mod class_sets;
+mod kept;
 mod listed;
+mod pairing;
+mod partner;
 mod spelling;
 mod viewed;
 mod words;
 
 pub use class::TokenClass;
+pub use kept::{BracketFacts, bracket_facts};
 pub use line_tokens::NoMemory;
+pub use pairing::{Opener, partners, partners_of_classes, waiting_step};
+pub use partner::Partner;
 pub use viewed::{classes, classes_among, item_class, item_classes};

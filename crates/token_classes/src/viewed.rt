@@ -13,8 +13,7 @@ use bumpalo::Bump;
 use bumpalo::collections::{into_bump_slice, into_bump_slice_mut};
 use c_chars::Dialect;
 use line_tokens::{NoMemory, TokenId};
-use token_arena::{ItemKind, TokenArena};
-use token_views::View;
+use token_arena::{ItemKind, TokenArena, View};
 
 /// The class of a punctuator. One of a single byte is spelled by that byte, whichever it is.
 #[inline(always)]

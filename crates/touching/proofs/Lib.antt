@@ -8,3 +8,4 @@ mod Words
 pub mod Cuts
 mod Nearer
 pub mod TakenAway
+pub mod Edges

@@ -1,3 +1,4 @@
 pub mod Spelling
 pub mod TakingAway
 pub mod Near
+pub mod Edges

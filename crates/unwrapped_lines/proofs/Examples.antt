@@ -5,7 +5,7 @@ use Rattle.token_classes.specs.declared.class.TokenClass.TheVariants.{If, Else, 
 use Rattle.unwrapped_lines.specs.declared.token.CodeToken.{CodeToken}
 use Rattle.line_tokens.specs.declared.line.LineKind.TheVariants.{Simple, Control, FuncHead, Close}
 use Rattle.unwrapped_lines.specs.declared.braces.Braces.{Braces}
-use Rattle.brackets.specs.Partners.{partners_of}
+use Rattle.token_classes.specs.Partners.{partners_of}
 use Rattle.unwrapped_lines.specs.Tree.{lines_of}
 
 with_partners : List TokenClass → List (Option ℕ) → List CodeToken

@@ -1,8 +1,8 @@
 -- Tokens of a view, read segment by segment.
 use Rattle.std.proofs.Common.{◌≡◌, ◌∙◌, ℕ, zero, suc, ◌+◌, ◌-◌, ◌<◌, ◌≤◌, All, true, false, List, [], ◌∷◌, ◌++◌, length, map, drop, get_or, refl, arith, sym, ap, subst, length-append}
-use Rattle.token_views.specs.declared.view.Segment.{Segment}
-use Rattle.token_views.specs.Segments.{ids_of, segment_bounds, AreSegments, CountFrom, no_segment, HasPlace}
-use Rattle.token_views.proofs.SegmentLemmas.{length_items, item_at_start}
+use Rattle.token_arena.specs.declared.view.Segment.{Segment}
+use Rattle.token_arena.specs.Segments.{ids_of, segment_bounds, AreSegments, CountFrom, no_segment, HasPlace}
+use Rattle.token_arena.proofs.SegmentLemmas.{length_items, item_at_start}
 use Rattle.std.proofs.lemmas.List.{append-nil, append_assoc, drop_more}
 use Rattle.token_classes.proofs.ItemClasses.{viewed_fits}
 use Rattle.token_classes.specs.Classes.{is_comment}

@@ -1,6 +1,6 @@
 -- A view as a list of tokens and comments.
 use Rattle.std.specs.Prelude.{◌≡◌, ◌≤◌, ◌-◌, ◌++◌, drop, ◌&&◌, ◌||◌, not, ℕ, ◌+◌, nat_le, Bool, false, Option, Some, None, List, [], ◌∷◌, length, map, get_or, slice_get, if◌then◌else◌}
-use Rattle.token_views.specs.declared.view.Segment.{Segment}
+use Rattle.token_arena.specs.declared.view.Segment.{Segment}
 use Rattle.token_arena.specs.Gaps.{Contents}
 use Rattle.token_arena.specs.Stored.{Stored}
 use Rattle.token_classes.specs.declared.class.TokenClass.{TokenClass}

@@ -14,14 +14,12 @@ use crate::line::Line;
 use crate::part::Begin;
 use crate::tree::tree_lines;
 use crate::viewed::{code_tokens, parts};
-use brackets::Partner;
 use bumpalo::Bump;
 use bumpalo::collections::into_bump_slice;
 use line_tokens::{NoMemory, ULine};
 use style_table::Style;
-use token_arena::TokenArena;
-use token_classes::{TokenClass, classes};
-use token_views::View;
+use token_arena::{TokenArena, View};
+use token_classes::{Partner, TokenClass, classes};
 
 /// The lines that begin at these places; the last goes up to `count`.
 fn lines_between<'r>(

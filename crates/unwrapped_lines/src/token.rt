@@ -1,7 +1,6 @@
 //! Tokens as the cut into lines sees them.
 
-use brackets::Partner;
-use token_classes::TokenClass;
+use token_classes::{Partner, TokenClass};
 
 /// A token that is no comment.
 #[derive(Clone, Copy, Drop)]

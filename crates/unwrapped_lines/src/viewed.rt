@@ -5,17 +5,15 @@ ghost use Rattle.token_classes.specs.Viewed.{AreWithin, classes_of};
 ghost use Rattle.token_classes.specs.Classes.{is_colon, is_comment};
 ghost use Rattle.token_classes.specs.declared.class.TokenClass.TheVariants.{Nothing};
 ghost use Rattle.unwrapped_lines.specs.Viewed.{item_began, line_ends_behind, colon_touches, numbers_of, AreTokensBefore, segment_stop, partner_number, token_at, code_tokens, part_of, parts_of};
-ghost use Rattle.token_views.specs.Segments.{ids_of, segment_bounds, AreSegments, no_segment};
+ghost use Rattle.token_arena.specs.Segments.{ids_of, segment_bounds, AreSegments, no_segment};
 ghost use Rattle.c_chars.specs.declared.TheConstants.{LIMIT};
 
 use crate::part::Part;
 use crate::token::CodeToken;
-use brackets::Partner;
 use bumpalo::Bump;
 use line_tokens::{NoMemory, TokenId};
-use token_arena::TokenArena;
-use token_classes::{TokenClass, item_class};
-use token_views::{Segment, View};
+use token_arena::{Segment, TokenArena, View};
+use token_classes::{Partner, TokenClass, item_class};
 
 /// Whether an item began its line.
 fn item_began(arena: &TokenArena<'_, '_>, id: u32) -> bool

@@ -5,7 +5,7 @@ use Rattle.std.proofs.lemmas.Bool.{ltb-true, ltb-false}
 use Rattle.std.proofs.lemmas.List.{length-drop}
 use Rattle.token_arena.specs.Gaps.{Contents}
 use Rattle.token_classes.specs.Viewed.{item_class}
-use Rattle.brackets.specs.declared.pairing.Opener.{Opener}
+use Rattle.token_classes.specs.declared.pairing.Opener.{Opener}
 use Rattle.view_parts.specs.declared.walk.Reading.{Reading}
 use Rattle.view_parts.specs.declared.walk.Reading.TheVariants.{Ends, Never, GoesOn}
 use Rattle.view_parts.specs.declared.walk.Walk.{Walk}

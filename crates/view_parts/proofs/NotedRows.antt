@@ -1,7 +1,7 @@
 -- Which rows are noted, and which items of a view they have.
 use Rattle.std.proofs.Common.{◌≡◌, ◌∙◌, inl, inr, ℕ, ◌+◌, ◌-◌, ◌<◌, ◌≤◌, Option, Some, None, List, length, get_or, get_or-set_same, get_or-set_other, refl, sym, ap, subst, arith}
 use Rattle.std.specs.Prelude.{IfOk, Result, Ok, Err, slice_set}
-use Rattle.token_views.specs.Ids.{Increase}
+use Rattle.token_arena.specs.Ids.{Increase}
 use Rattle.view_parts.specs.declared.known.KnownEnd.{KnownEnd}
 use Rattle.view_parts.specs.declared.known.KnownEnd.TheVariants.{Unknown, InRows}
 use Rattle.view_parts.specs.declared.known.KnownRow.{KnownRow}

@@ -5,7 +5,7 @@ use Rattle.std.specs.List.{range_with_len}
 use Rattle.std.proofs.lemmas.Bool.{eqb-true}
 use Rattle.std.proofs.lemmas.List.{get_or_past, length-set}
 use Rattle.token_arena.specs.Gaps.{Contents}
-use Rattle.token_views.specs.Ids.{Increase}
+use Rattle.token_arena.specs.Ids.{Increase}
 use Rattle.view_parts.specs.declared.known.KnownEnd.{KnownEnd}
 use Rattle.view_parts.specs.declared.known.KnownEnd.TheVariants.{Unknown, InRow, InRows, InSpan}
 use Rattle.view_parts.specs.declared.known.KnownRow.{KnownRow}

@@ -7,10 +7,10 @@ use Rattle.std.proofs.lemmas.List.FromFn.{get_or-range_with_len}
 use Rattle.token_arena.specs.Gaps.{Contents}
 use Rattle.token_classes.specs.declared.class.TokenClass.{TokenClass}
 use Rattle.token_classes.specs.Classes.{is_bracket, is_comment}
-use Rattle.token_views.specs.Ids.{Increase, IncreaseFrom}
-use Rattle.token_views.specs.declared.view.Segment.{Segment}
-use Rattle.token_views.specs.Segments.{ids_of, segment_bounds, AreSegments, CountFrom, HasPlace, no_segment}
-use Rattle.token_views.proofs.SegmentLemmas.{item_at_start, length_items}
+use Rattle.token_arena.specs.Ids.{Increase, IncreaseFrom}
+use Rattle.token_arena.specs.declared.view.Segment.{Segment}
+use Rattle.token_arena.specs.Segments.{ids_of, segment_bounds, AreSegments, CountFrom, HasPlace, no_segment}
+use Rattle.token_arena.proofs.SegmentLemmas.{item_at_start, length_items}
 use Rattle.view_parts.specs.declared.known.KnownEnd.{KnownEnd}
 use Rattle.view_parts.specs.declared.known.KnownEnd.TheVariants.{Unknown}
 use Rattle.view_parts.specs.declared.known.KnownRow.{KnownRow}

@@ -4,10 +4,10 @@ use Rattle.std.specs.Prelude.{slice_range}
 use Rattle.std.proofs.lemmas.List.{ext_get_or, get_or-drop, get_or-take, length-drop, length-take-le}
 use Rattle.std.proofs.lemmas.List.FromFn.{get_or-range_with_len}
 use Rattle.token_arena.specs.Gaps.{Contents}
-use Rattle.token_views.specs.Ids.{Increase}
-use Rattle.token_views.specs.declared.view.Segment.{Segment}
-use Rattle.token_views.specs.Segments.{ids_of, segment_bounds, AreSegments, CountFrom, HasPlace, no_segment}
-use Rattle.token_views.proofs.SegmentLemmas.{item_at_start, length_items, well}
+use Rattle.token_arena.specs.Ids.{Increase}
+use Rattle.token_arena.specs.declared.view.Segment.{Segment}
+use Rattle.token_arena.specs.Segments.{ids_of, segment_bounds, AreSegments, CountFrom, HasPlace, no_segment}
+use Rattle.token_arena.proofs.SegmentLemmas.{item_at_start, length_items, well}
 use Rattle.view_parts.specs.declared.known.KnownSpan.{KnownSpan}
 use Rattle.view_parts.specs.Known.{IsSpan}
 use Rattle.view_parts.specs.Parts.{part_len, EndsBehind}

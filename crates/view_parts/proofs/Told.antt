@@ -7,7 +7,7 @@ use Rattle.std.proofs.Math.Seq.{drop-append_seam}
 use Rattle.std.proofs.lemmas.List.{drop-drop, length-append, length-drop, length-take-le}
 use Rattle.std.proofs.lemmas.List.FromFn.{length-range_with_len}
 use Rattle.token_arena.specs.Gaps.{Contents}
-use Rattle.token_views.specs.Ids.{Increase}
+use Rattle.token_arena.specs.Ids.{Increase}
 use Rattle.view_parts.specs.declared.known.KnownRow.{KnownRow}
 use Rattle.view_parts.specs.declared.known.KnownSpan.{KnownSpan}
 use Rattle.view_parts.specs.Known.{AreKnownRows, FollowInRow, IsKnownRow, IsSpan}

@@ -10,9 +10,9 @@ use Rattle.token_classes.specs.Classes.{is_comment, is_word, is_bracket}
 use Rattle.token_classes.proofs.ItemClasses.{class_at}
 use Rattle.token_classes.specs.Viewed.{AreWithin, item_class, item_classes}
 use Rattle.token_classes.specs.declared.class.TokenClass.TheVariants.{OpenRound, CloseRound, OpenSquare, CloseSquare, OpenBrace, CloseBrace}
-use Rattle.brackets.specs.declared.pairing.Opener.{Opener}
-use Rattle.brackets.proofs.BracketLemmas.{other_step}
-use Rattle.brackets.specs.Partners.{Matching, StandBefore, TakesStep}
+use Rattle.token_classes.specs.declared.pairing.Opener.{Opener}
+use Rattle.token_classes.proofs.BracketLemmas.{other_step}
+use Rattle.token_classes.specs.Partners.{Matching, StandBefore, TakesStep}
 use Rattle.view_parts.specs.declared.walk.Reading.{Reading}
 use Rattle.view_parts.specs.declared.walk.Reading.TheVariants.{Ends, Never, GoesOn}
 use Rattle.view_parts.specs.declared.walk.Walk.{Walk}

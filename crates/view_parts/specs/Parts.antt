@@ -3,8 +3,8 @@ use Rattle.std.specs.Prelude.{◌≡◌, ◌<◌, ℕ, zero, suc, ◌+◌, nat_l
 use Rattle.token_arena.specs.Gaps.{Contents}
 use Rattle.token_classes.specs.declared.class.TokenClass.{TokenClass}
 use Rattle.token_classes.specs.Viewed.{item_class}
-use Rattle.brackets.specs.declared.pairing.Opener.{Opener}
-use Rattle.brackets.specs.Partners.{bracket_step}
+use Rattle.token_classes.specs.declared.pairing.Opener.{Opener}
+use Rattle.token_classes.specs.Partners.{bracket_step}
 use Rattle.view_parts.specs.declared.walk.Reading.TheVariants.{Ends, Never, GoesOn}
 use Rattle.view_parts.specs.declared.walk.Walk.{Walk}
 use Rattle.view_parts.specs.Walk.{start, reading}

@@ -5,17 +5,15 @@ ghost use Rattle.std.specs.Option.{ForNone, ForSome};
 ghost use Rattle.token_classes.specs.declared.class.TokenClass.{TokenClass};
 ghost use Rattle.token_classes.specs.Classes.{is_bracket, is_comment};
 ghost use Rattle.token_classes.specs.Viewed.{AreWithin, item_classes};
-ghost use Rattle.token_views.specs.Ids.{Increase};
+ghost use Rattle.token_arena.specs.Ids.{Increase};
 ghost use Rattle.view_parts.specs.Parts.{part_len, EndsBehind};
 ghost use Rattle.view_parts.specs.Rows.{IsRow};
 
 use crate::walk::{Reading, read, start};
-use brackets::{Opener, waiting_step};
 use bumpalo::Bump;
 use line_tokens::{NoMemory, TokenId};
-use token_arena::TokenArena;
-use token_classes::TokenClass;
-use token_views::View;
+use token_arena::{TokenArena, View};
+use token_classes::{Opener, TokenClass, waiting_step};
 
 /// Where a part ends.
 #[derive(Clone, Copy)]

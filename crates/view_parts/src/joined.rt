@@ -9,8 +9,7 @@ ghost use Rattle.view_parts.specs.Told.{TellParts};
 
 use crate::known::{KnownEnd, KnownRow, PartsEnd};
 use line_tokens::TokenId;
-use token_arena::TokenArena;
-use token_views::View;
+use token_arena::{TokenArena, View};
 
 impl KnownEnd {
     /// The row of a part, or of parts that follow one another.

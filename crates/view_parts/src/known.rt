@@ -10,9 +10,8 @@ ghost use Rattle.view_parts.specs.Told.{TellParts};
 use crate::ends::part_end;
 use bumpalo::Bump;
 use line_tokens::{NoMemory, TokenId};
-use token_arena::TokenArena;
+use token_arena::{TokenArena, View};
 use token_classes::TokenClass;
-use token_views::View;
 
 /// Where a part ends that goes on in a row up to what tells so, or the last of parts that follow one another in a row.
 #[derive(Clone, Copy)]

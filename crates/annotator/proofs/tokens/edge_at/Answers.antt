@@ -1,6 +1,6 @@
 use Rattle.std.proofs.Common.{◌∙◌, ap}
 use Rattle.token_arena.specs.Stored.{Stored}
-use Rattle.item_edges.specs.Edges.{edge_of}
+use Rattle.touching.specs.Edges.{edge_of}
 use Rattle.annotator.proofs.tokens.edge_at.Goals as goal
 
 pub returns : goal.returns

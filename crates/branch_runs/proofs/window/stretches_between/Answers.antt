@@ -1,7 +1,7 @@
 use Rattle.std.proofs.Common.{◌≡◌, ◌∙◌, ◌<◌, ◌≤◌, ◌++◌, [], map, drop, sym, ap, arith}
 use Rattle.std.specs.Prelude.{min, max}
 use Rattle.std.proofs.lemmas.List.{append-nil}
-use Rattle.token_views.specs.Segments.{bounds_of}
+use Rattle.token_arena.specs.Segments.{bounds_of}
 use Rattle.branch_runs.specs.Seen.{taken}
 use Rattle.branch_runs.specs.Visible.{text_at}
 use Rattle.branch_runs.specs.Inside.{inside}

@@ -1,6 +1,6 @@
 use Rattle.std.proofs.Common.{◌∙◌, ◌++◌, map, sym, ap, arith}
 use Rattle.std.proofs.lemmas.List.{append-nil}
-use Rattle.token_views.specs.Segments.{bounds_of}
+use Rattle.token_arena.specs.Segments.{bounds_of}
 use Rattle.branch_runs.specs.Visible.{text_at}
 use Rattle.branch_runs.proofs.Inside.{taken_next, none_seen}
 use Rattle.branch_runs.proofs.Nodes.{pushed-stretch}

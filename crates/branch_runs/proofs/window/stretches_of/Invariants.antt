@@ -1,5 +1,5 @@
 use Rattle.std.proofs.Common.{◌≡◌, ◌-◌, ◌++◌, map, length, drop}
-use Rattle.token_views.specs.Segments.{bounds_of}
+use Rattle.token_arena.specs.Segments.{bounds_of}
 use Rattle.branch_runs.specs.Seen.{taken}
 use Rattle.branch_runs.proofs.window.stretches_of.Given as goal
 

@@ -1,5 +1,5 @@
 use Rattle.std.proofs.Common.{length, get_or}
-use Rattle.token_views.specs.Segments.{no_segment}
+use Rattle.token_arena.specs.Segments.{no_segment}
 use Rattle.token_classes.proofs.ItemClasses.{viewed_fits}
 use Rattle.format_core.proofs.RowsDecided.{segment_first}
 use Rattle.format_core.proofs.RowsStay.{behind_decided}

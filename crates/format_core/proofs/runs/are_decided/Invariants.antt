@@ -1,5 +1,5 @@
 use Rattle.std.proofs.Common.{map, drop}
-use Rattle.token_views.specs.Segments.{ids_of, segment_bounds}
+use Rattle.token_arena.specs.Segments.{ids_of, segment_bounds}
 use Rattle.format_core.specs.Runs.{AreDecided}
 use Rattle.format_core.proofs.runs.are_decided.Given as goal
 

@@ -1,7 +1,7 @@
 use Rattle.std.proofs.Common.{◌≡◌, ◌∙◌, ◌-◌, ◌≤◌, ℕ, Bool, List, Option, length, ap, arith}
 use Rattle.token_classes.proofs.Lists.{few_below}
-use Rattle.brackets.specs.Kept.{kept_gaps_of}
-use Rattle.brackets.specs.Partners.{partners_of}
+use Rattle.token_classes.specs.Kept.{kept_gaps_of}
+use Rattle.token_classes.specs.Partners.{partners_of}
 use Rattle.token_classes.specs.Viewed.{classes_of}
 use Rattle.token_classes.specs.declared.class.TokenClass.{TokenClass}
 use Rattle.unwrapped_lines.specs.Lines.{unwrapped_lines_of}

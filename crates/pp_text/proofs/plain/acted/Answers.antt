@@ -2,7 +2,7 @@ use Rattle.std.proofs.Common.{map, sym}
 use Rattle.pp_model.specs.Finding.{kind_of}
 use Rattle.pp_model.specs.Preprocess.{act, acted}
 use Rattle.pp_events.specs.View.{tok_shown}
-use Rattle.pp_stream.specs.View.{kind_shown}
+use Rattle.pp_items.specs.View.{kind_shown}
 use Rattle.pp_directives.specs.WorldView.{world_shown}
 use Rattle.pp_text.proofs.Acts.{acted_when, acted_unless}
 use Rattle.pp_text.proofs.Results.{ok_to}

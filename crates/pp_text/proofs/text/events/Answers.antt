@@ -4,7 +4,7 @@ use Rattle.pp_model.specs.Finding.{kind_of}
 use Rattle.pp_model.specs.Preprocess.{starting, Lexed}
 use Rattle.pp_model.specs.Setting.{Preprocess, table_by, holds_in, find_text}
 use Rattle.pp_model.specs.Stream.{source_of}
-use Rattle.pp_stream.specs.View.{section_shown, source_shown}
+use Rattle.pp_items.specs.View.{section_shown, source_shown}
 use Rattle.pp_directives.specs.SettingView.{setting_shown, definition_shown}
 use Rattle.pp_directives.specs.WorldView.{event_shown, world_shown}
 use Rattle.pp_text.specs.Unread.{Rules}

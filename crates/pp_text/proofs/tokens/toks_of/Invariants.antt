@@ -1,7 +1,7 @@
 use Rattle.std.proofs.Common.{◌≡◌, map}
 use Rattle.pp_model.specs.Preprocess.{tok_of}
 use Rattle.pp_events.specs.View.{tok_shown}
-use Rattle.pp_stream.specs.View.{item_shown}
+use Rattle.pp_items.specs.View.{item_shown}
 use Rattle.pp_directives.specs.WorldView.{shift_shown}
 use Rattle.pp_text.proofs.tokens.toks_of.Given as goal
 

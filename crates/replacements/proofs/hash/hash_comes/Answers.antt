@@ -1,7 +1,7 @@
 use Rattle.std.proofs.Common.{◌≡◌, ◌∙◌, false, sym, ap}
 use Rattle.std.proofs.lemmas.Option.{slice_get_within}
 use Rattle.c_grammar.specs.Fitting.{is_comment}
-use Rattle.directives.specs.Directives.{is_hash_token}
+use Rattle.token_arena.specs.Directives.{is_hash_token}
 use Rattle.token_arena.specs.Entries.{told_by}
 use Rattle.replacements.proofs.Items.{hash_began, hash_here}
 use Rattle.replacements.proofs.hash.hash_comes.Goals as goal

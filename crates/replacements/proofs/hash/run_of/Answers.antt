@@ -1,6 +1,6 @@
 use Rattle.std.proofs.Common.{◌≡◌, ◌∙◌, false, true, sym, ap, arith}
 use Rattle.c_grammar.specs.Fitting.{is_comment}
-use Rattle.directives.specs.Directives.{is_hash_token}
+use Rattle.token_arena.specs.Directives.{is_hash_token}
 use Rattle.token_arena.specs.Entries.{told_by}
 use Rattle.replacements.proofs.Items.{known_at, known_end, hash_began, hash_here, one_begun, one_more}
 use Rattle.replacements.proofs.hash.run_of.Goals as goal

@@ -1,6 +1,6 @@
 use Rattle.std.proofs.Common.{◌≡◌, ◌∙◌, ap, refl, rules, sym}
-use Rattle.gap_text.specs.GapText.{blanks}
-use Rattle.gap_text.specs.declared.Decision.TheVariants.{Spaces}
+use Rattle.replacements.specs.GapText.{blanks}
+use Rattle.replacements.specs.declared.gap_text.Decision.TheVariants.{Spaces}
 use Rattle.token_arena.specs.Entries.{told_by}
 use Rattle.replacements.specs.Written.{bytes_between}
 use Rattle.replacements.proofs.SameGaps.{same_blank, same_blanks}

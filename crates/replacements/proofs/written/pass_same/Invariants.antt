@@ -1,6 +1,6 @@
 use Rattle.std.proofs.Common.{◌≡◌, ◌≤◌, ◌++◌, List, drop}
 use Rattle.c_chars.specs.Characters.{mark_len}
-use Rattle.directives.specs.declared.Section.{Section}
+use Rattle.token_arena.specs.declared.directives.Section.{Section}
 use Rattle.token_arena.specs.Gaps.{gap_start}
 use Rattle.replacements.specs.Guards.{guard_before}
 use Rattle.replacements.specs.Written.{bytes_between, written_from}

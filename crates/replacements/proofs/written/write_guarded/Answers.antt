@@ -1,6 +1,6 @@
 use Rattle.std.proofs.Common.{◌≡◌, ◌∙◌, List, ℕ, refl, ap}
 use Rattle.fmt_ports.proofs.Parts.{part_of_front, part_of_rest}
-use Rattle.gap_text.specs.GapText.{gap_text}
+use Rattle.replacements.specs.GapText.{gap_text}
 use Rattle.replacements.specs.Guards.{guard_for, guard_text, guarded_ends}
 use Rattle.replacements.proofs.written.write_guarded.Goals as goal
 

@@ -1,11 +1,11 @@
 use Rattle.std.proofs.Common.{◌∙◌, ◌+◌, ◌||◌, length, map, get_or, refl, ap, false, arith}
 use Rattle.std.specs.Prelude.{None, if◌then◌else◌}
 use Rattle.std.proofs.lemmas.Option.{slice_get_within}
-use Rattle.gap_text.specs.declared.Decision.{Decision}
+use Rattle.replacements.specs.declared.gap_text.Decision.{Decision}
 use Rattle.line_state.specs.Layout.{is_some_decision}
 use Rattle.replacements.specs.Decisions.{decided}
 use Rattle.break_search.specs.Outcome.{line_of}
-use Rattle.indenter.specs.Rows.{start_column}
+use Rattle.layout_tables.specs.Indents.{start_column}
 use Rattle.run_layout.specs.Broken.{number, waits}
 use Rattle.run_layout.proofs.Writing.{write_more, token_within, number_of, decision_here}
 use Rattle.run_layout.proofs.broken.write_breaks.Goals as goal

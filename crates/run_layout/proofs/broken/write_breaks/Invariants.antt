@@ -1,5 +1,5 @@
 use Rattle.std.proofs.Common.{◌≡◌, length, map}
-use Rattle.indenter.specs.Rows.{start_column}
+use Rattle.layout_tables.specs.Indents.{start_column}
 use Rattle.break_search.specs.Outcome.{line_of}
 use Rattle.run_layout.specs.Broken.{number}
 use Rattle.run_layout.proofs.Writing.{IsWritten}

@@ -2,7 +2,7 @@ use Rattle.std.proofs.Common.{◌∙◌, ℕ, List, length, ap}
 use Rattle.line_state.specs.Line.{first_layout}
 use Rattle.break_search.specs.Outcome.{line_of}
 use Rattle.break_search.specs.Starts.{starts_of}
-use Rattle.indenter.specs.Rows.{start_column}
+use Rattle.layout_tables.specs.Indents.{start_column}
 use Rattle.run_layout.proofs.Writing.{length-starts}
 use Rattle.run_layout.proofs.broken.write_broken.Goals as goal
 

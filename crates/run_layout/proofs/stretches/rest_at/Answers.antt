@@ -1,5 +1,5 @@
 use Rattle.std.proofs.Common.{arith}
-use Rattle.token_views.proofs.SegmentLemmas.{well}
+use Rattle.token_arena.proofs.SegmentLemmas.{well}
 use Rattle.run_layout.proofs.stretches.rest_at.Goals as goal
 
 pub overflow_sub-count : goal.overflow_sub-count

@@ -1,5 +1,5 @@
 use Rattle.std.proofs.Common.{◌-◌, ◌∙◌, ap, arith, length, take, drop, get_or}
-use Rattle.token_views.specs.Segments.{no_segment}
+use Rattle.token_arena.specs.Segments.{no_segment}
 use Rattle.token_classes.proofs.ItemClasses.{only_segment, viewed_fits}
 use Rattle.token_classes.proofs.viewed.classes_among.Goals as goal
 

@@ -1,6 +1,6 @@
 use Rattle.std.proofs.Common.{◌≤◌, ◌-◌, ◌∙◌, ◌++◌, ap, sym, arith, length, map, take, drop, get_or}
 use Rattle.std.proofs.lemmas.List.{length-map}
-use Rattle.token_views.specs.Segments.{ids_of, segment_bounds, no_segment}
+use Rattle.token_arena.specs.Segments.{ids_of, segment_bounds, no_segment}
 use Rattle.token_classes.specs.Viewed.{item_class}
 use Rattle.token_classes.specs.Words.{class_of}
 use Rattle.token_classes.proofs.ItemClasses.{row_classes, segment_more, viewed_fits}

@@ -1,5 +1,5 @@
 use Rattle.std.proofs.Common.{◌≡◌, map, take}
-use Rattle.token_views.specs.Segments.{ids_of, segment_bounds}
+use Rattle.token_arena.specs.Segments.{ids_of, segment_bounds}
 use Rattle.token_classes.specs.Viewed.{item_class}
 use Rattle.token_classes.proofs.viewed.copied_classes.Given as goal
 

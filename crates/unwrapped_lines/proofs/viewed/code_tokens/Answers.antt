@@ -1,5 +1,5 @@
 use Rattle.std.proofs.Common.{◌∙◌, ◌≤◌, ℕ, length, map, arith, ap, subst}
-use Rattle.token_views.specs.Segments.{ids_of, segment_bounds}
+use Rattle.token_arena.specs.Segments.{ids_of, segment_bounds}
 use Rattle.unwrapped_lines.specs.Viewed.{AreTokensBefore, code_tokens}
 use Rattle.unwrapped_lines.proofs.SegmentLemmas.{places_before, before_segment, behind_all, first_before, next_tokens, all_tokens}
 use Rattle.unwrapped_lines.proofs.viewed.code_tokens.Goals as goal

@@ -1,6 +1,6 @@
 use Rattle.std.proofs.Common.{map, length, ◌≤◌}
 use Rattle.std.specs.Prelude.{vec_capacity}
-use Rattle.token_views.specs.Segments.{ids_of, segment_bounds}
+use Rattle.token_arena.specs.Segments.{ids_of, segment_bounds}
 use Rattle.unwrapped_lines.specs.Viewed.{AreTokensBefore}
 use Rattle.unwrapped_lines.proofs.SegmentLemmas.{places_before}
 use Rattle.unwrapped_lines.proofs.viewed.code_tokens.Given as goal

@@ -1,6 +1,6 @@
 use Rattle.std.proofs.Common.{◌≡◌, ◌+◌, map, get_or}
 use Rattle.std.specs.Prelude.{vec_capacity}
-use Rattle.token_views.specs.Segments.{ids_of, segment_bounds, no_segment}
+use Rattle.token_arena.specs.Segments.{ids_of, segment_bounds, no_segment}
 use Rattle.unwrapped_lines.specs.Viewed.{AreTokensBefore}
 use Rattle.unwrapped_lines.proofs.viewed.push_segment.Given as goal
 

@@ -5,7 +5,7 @@ use Rattle.token_classes.specs.Words.{class_of}
 use Rattle.std.proofs.Common.{List, Bool, true, false, not, ◌==◌}
 use Rattle.view_parts.specs.Parts.{is_open}
 use Rattle.std.specs.Vec.{vec_len}
-use Rattle.brackets.specs.Partners.{StandBefore}
+use Rattle.token_classes.specs.Partners.{StandBefore}
 use Rattle.view_parts.specs.Parts.{part_len}
 use Rattle.view_parts.proofs.Walked.{AreQuiet, all_quiet, asked_by, open_is, quiet_row, stand_later, next_item, ends_so, ends_fit, next_fits, next_passes, len_behind, never_ends, all_read, whole_end, seen_end}
 use Rattle.view_parts.proofs.ends.part_end.Goals.{else-loop-walk-test, then-loop-walk-test+else-not-alone+in-Never}

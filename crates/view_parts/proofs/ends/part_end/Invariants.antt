@@ -1,5 +1,5 @@
 use Rattle.std.proofs.Common.{◌≡◌, ◌<◌, ◌≤◌, ◌-◌, ◌+◌, true, drop, reverse}
-use Rattle.brackets.specs.Partners.{count_braces, StandBefore}
+use Rattle.token_classes.specs.Partners.{count_braces, StandBefore}
 use Rattle.view_parts.specs.Walk.{is_end}
 use Rattle.view_parts.specs.Rows.{IsRow}
 use Rattle.view_parts.proofs.Walked.{IsAsked, Passes}

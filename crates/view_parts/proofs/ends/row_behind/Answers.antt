@@ -1,6 +1,6 @@
 use Rattle.std.proofs.Common.{arith}
-use Rattle.token_views.specs.Segments.{HasPlace}
-use Rattle.token_views.proofs.SegmentLemmas.{well}
+use Rattle.token_arena.specs.Segments.{HasPlace}
+use Rattle.token_arena.proofs.SegmentLemmas.{well}
 use Rattle.view_parts.proofs.Rows.{segment_row}
 use Rattle.view_parts.proofs.ends.row_behind.Goals as goal
 

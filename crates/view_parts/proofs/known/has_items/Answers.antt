@@ -1,5 +1,5 @@
 use Rattle.std.proofs.Common.{◌≡◌, ◌∙◌, ◌+◌, ◌-◌, ◌≤◌, length, get_or, arith}
-use Rattle.token_views.specs.Segments.{no_segment}
+use Rattle.token_arena.specs.Segments.{no_segment}
 use Rattle.view_parts.proofs.Spans.{inside_of, same_more, same_all}
 use Rattle.view_parts.proofs.known.has_items.Goals as goal
 

@@ -1,5 +1,5 @@
 use Rattle.std.proofs.Common.{◌∙◌, ap, map}
-use Rattle.pp_stream.specs.View.{section_shown}
+use Rattle.pp_items.specs.View.{section_shown}
 use Rattle.pp_directives.specs.WorldView.{world_shown}
 use Rattle.pp_text.specs.Unread.{whole, entered}
 use Rattle.pp_text.specs.ReadingView.{rules_shown, unread_shown, waiting_shown, sections_shown}

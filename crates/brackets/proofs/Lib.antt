@@ -1,4 +1,0 @@
-pub mod BracketLemmas
-pub mod KeptLemmas
-pub mod KeptPlaces
-pub mod KeptSteps

@@ -1,3 +1,0 @@
-pub mod Kept
-pub mod Partner
-pub mod Partners

@@ -1,0 +1,8 @@
+use Rattle.command_words.proofs.Joined.{part_added}
+use Rattle.command_words.proofs.generated.add_parts.Goals as goal
+
+pub loop-part-preserved : goal.loop-part-preserved
+loop-part-preserved c =
+    rw c.in_ok-extend_from_slice.ensures.items
+    (rw c.as_bytes.ensures.value
+    (rw c.loop-part.invariant (part_added c.args.text.now.items c.args.parts.now c.loop-part.part-index _ c.loop-part-test.true)))

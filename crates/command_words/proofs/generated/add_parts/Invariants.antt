@@ -1,0 +1,7 @@
+use Rattle.std.proofs.Common.{◌≡◌, ◌++◌, map, take}
+use Rattle.std.specs.List.{concat}
+use Rattle.command_words.proofs.generated.add_parts.Given as goal
+
+-- the parts so far stand behind the text
+abbrev pub invariant-loop-part : goal.invariant-loop-part
+invariant-loop-part l = l.text.items ≡ l.initial.text.items ++ concat (map (λ part. part.now) (take l.part-index l.parts))

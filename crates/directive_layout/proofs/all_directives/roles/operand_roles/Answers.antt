@@ -1,0 +1,11 @@
+use Rattle.std.proofs.Common.{arith}
+use Rattle.directive_layout.proofs.Laid.{directive_bounds}
+use Rattle.directive_layout.proofs.all_directives.roles.operand_roles.Goals as goal
+
+pub overflow_add-first : goal.overflow_add-first
+overflow_add-first c =
+    let bounds = directive_bounds c.args.arena.now c.args.dir.now c.requires in
+    omega (arith, bounds.1, c.operand_first-first.ensures.within, c.len-count.ensures.count, c.len-count.ensures.most)
+
+pub roles_between-requires-clause-within : goal.roles_between-requires-clause-within
+roles_between-requires-clause-within c = (directive_bounds c.args.arena.now c.args.dir.now c.requires).1

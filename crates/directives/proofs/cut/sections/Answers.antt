@@ -1,5 +1,0 @@
-use Rattle.directives.proofs.Whole.{sections_are_cut}
-use Rattle.directives.proofs.cut.sections.Goals as goal
-
-pub returns-clause-cut : goal.returns-clause-cut
-returns-clause-cut c = rw c.in_ok-sections.ensures (sections_are_cut c.args.arena.now)

@@ -1,6 +1,0 @@
-use Rattle.c_grammar.specs.Rewritten.{read_alone}
-use Rattle.directives.proofs.Spellings.{begins}
-use Rattle.directives.proofs.spelling.begins_with.Goals as goal
-
-pub returns-in-Some : goal.returns-in-Some
-returns-in-Some c = begins c.args.word.now (read_alone c.args.dialect c.args.raw.now) (read_alone c.args.dialect c.in-Some.field-0.now) c.in-Some.ensures

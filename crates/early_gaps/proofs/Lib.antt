@@ -1,6 +1,0 @@
-pub mod Places
-pub mod InputColumns
-pub mod Staying
-pub mod SoundStart
-pub mod Tells
-pub mod LeftOpen

@@ -1,2 +1,0 @@
-pub mod FreeGaps
-pub mod OneLine

@@ -1,4 +1,0 @@
-pub mod Depths
-pub mod Roles
-pub mod AllLaid
-pub mod Laws

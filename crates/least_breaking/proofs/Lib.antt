@@ -1,9 +1,0 @@
-pub mod Ways
-pub mod Dominance
-pub mod Bounds
-pub mod Cover
-pub mod Table
-pub mod Updates
-pub mod Moves
-pub mod Weights
-pub mod Thrift

@@ -1,0 +1,3 @@
+pub mod LinesCut
+pub mod RolesCut
+pub mod Parts

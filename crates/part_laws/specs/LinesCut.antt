@@ -1,0 +1,40 @@
+-- A view that is cut behind its first part: docs/PROFILE.md, "Parts".
+use Rattle.std.specs.Prelude.{◌≡◌, ℕ, ◌+◌, Option, Some, None, List, [], ◌++◌, length, map}
+use Rattle.line_tokens.specs.declared.line.ULine.{ULine}
+use Rattle.style_table.specs.declared.style.Style.{Style}
+use Rattle.token_arena.specs.Gaps.{Contents}
+use Rattle.token_classes.specs.Viewed.{AreWithin, classes_of}
+use Rattle.token_classes.specs.Partners.{partners_of}
+use Rattle.view_parts.specs.Walk.{start}
+use Rattle.view_parts.specs.Parts.{next_end}
+use Rattle.unwrapped_lines.specs.Lines.{unwrapped_lines_of}
+
+-- the first part of these items ends where the later ones begin
+pub record IsFirstPart (arena : Contents) (earlier later : List ℕ) : Type 0 where
+  pub within : AreWithin arena (earlier ++ later)
+  pub ends : next_end arena start [] (earlier ++ later) ≡ Some (length earlier)
+
+-- a partner, and a line, behind so many places
+abbrev pub partner_behind : ℕ → Option ℕ → Option ℕ
+partner_behind count None = None
+partner_behind count (Some place) = Some (count + place)
+
+abbrev pub line_behind : ℕ → ULine → ULine
+line_behind count line = record { first = count + line.first; last = count + line.last; level = line.level; kind = line.kind }
+
+-- the partners of the brackets among these items, and their unwrapped lines
+abbrev pub partners_in : Contents → List ℕ → List (Option ℕ)
+partners_in arena ids = partners_of (classes_of arena ids)
+
+abbrev pub lines_in : Style → Contents → List ℕ → List ULine
+lines_in style arena ids = unwrapped_lines_of style arena ids (partners_in arena ids)
+
+-- No bracket of a part has its partner in another part.
+abbrev pub PartnersStay : Type 0
+PartnersStay = (arena : Contents) (earlier later : List ℕ) → IsFirstPart arena earlier later
+    → partners_in arena (earlier ++ later) ≡ partners_in arena earlier ++ map (partner_behind (length earlier)) (partners_in arena later)
+
+-- The lines of a view are those of its first part by itself, and then those of what follows by itself.
+abbrev pub LinesStay : Type 0
+LinesStay = (style : Style) (arena : Contents) (earlier later : List ℕ) → IsFirstPart arena earlier later
+    → lines_in style arena (earlier ++ later) ≡ lines_in style arena earlier ++ map (line_behind (length earlier)) (lines_in style arena later)

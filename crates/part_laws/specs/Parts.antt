@@ -1,0 +1,24 @@
+-- The roles of a view, told part by part: docs/PROFILE.md, "Parts".
+use Rattle.std.specs.Prelude.{◌≡◌, ℕ, List, [], ◌∷◌, ◌++◌, slice_range}
+use Rattle.line_tokens.specs.declared.LineTok.{LineTok}
+use Rattle.style_table.specs.declared.style.Style.{Style}
+use Rattle.token_arena.specs.Gaps.{Contents}
+use Rattle.token_classes.specs.Viewed.{AreWithin}
+use Rattle.view_parts.specs.Parts.{part_ends}
+use Rattle.annotator.specs.Tokens.{stands_apart, roles_of}
+use Rattle.part_laws.specs.LinesCut.{partners_in, lines_in}
+use Rattle.part_laws.specs.RolesCut.{with_first_apart}
+
+-- what these items do in their lines
+abbrev pub toks_of_items : Style → Contents → List ℕ → List LineTok
+toks_of_items style arena ids = roles_of arena ids (partners_in arena ids) (lines_in style arena ids)
+
+-- the tokens of the parts of a view that end at these places, the first of which begins at this one: those of each by itself, but that its first tells whether a directive stands before it in the view
+abbrev pub toks_of_parts : Style → Contents → List ℕ → ℕ → List ℕ → List LineTok
+toks_of_parts style arena ids first [] = []
+toks_of_parts style arena ids first (end ∷ ends) =
+    with_first_apart (stands_apart ids first) (toks_of_items style arena (slice_range ids first end)) ++ toks_of_parts style arena ids end ends
+
+-- The roles of a view are those of its parts.
+abbrev pub RolesStay : Type 0
+RolesStay = (style : Style) (arena : Contents) (ids : List ℕ) → AreWithin arena ids → toks_of_items style arena ids ≡ toks_of_parts style arena ids 0 (part_ends arena ids)

@@ -1,0 +1,16 @@
+//! The laws of roles that are told part by part. They stand on the contracts of functions that do nothing.
+
+ghost use Rattle.part_laws.specs.RolesCut.{TellsParts};
+ghost use Rattle.part_laws.specs.Parts.{RolesStay};
+
+/// The tokens of a view of two parts, between which it may be cut, are those of the first by itself and those of
+/// the second by itself, but that the view tells whether a directive stands between the two.
+pub fn tells_parts()
+    ensures { TellsParts }
+{}
+
+/// The tokens of a view are those of each of its parts by itself, one part behind another, but that the view tells
+/// whether a directive stands before a part.
+pub fn roles_stay()
+    ensures { RolesStay }
+{}

@@ -1,0 +1,10 @@
+pub mod Counts
+pub mod Words
+pub mod Walks
+pub mod ItemReads
+pub mod Opens
+pub mod Follows
+pub mod KindWords
+pub mod WideUnits
+pub mod Sequences
+pub mod Spelled

@@ -1,4 +1,0 @@
-pub mod Words
-pub mod WideUnits
-pub mod Sequences
-pub mod Spelled

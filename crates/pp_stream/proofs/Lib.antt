@@ -1,6 +1,0 @@
-pub mod Counts
-pub mod Words
-pub mod Walks
-pub mod ItemReads
-pub mod Opens
-pub mod Follows

@@ -1,4 +1,0 @@
-pub mod View
-pub mod Walk
-pub mod Reading
-pub mod Cut

@@ -1,8 +1,0 @@
-//! The law of the table. It stands on the contract of a function that does nothing.
-
-ghost use Rattle.spacing.specs.Laws.{KeepsApart};
-
-/// No blank stands only where nothing stood, or where the two tokens may touch.
-pub fn keeps_apart()
-    ensures { KeepsApart }
-{}

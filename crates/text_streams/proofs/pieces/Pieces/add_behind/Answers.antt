@@ -1,5 +1,0 @@
-use Rattle.text_streams.proofs.Behind.{grows_by_write, grows_on}
-use Rattle.text_streams.proofs.pieces.Pieces.add_behind.Goals as goal
-
-pub returns-clause-grows : goal.returns-clause-grows
-returns-clause-grows g c = grows_on _ _ _ c.flush.ensures.grows (grows_by_write _ _ c.write.result c.args.bytes.now c.write.ensures.bytes)

@@ -1,4 +1,0 @@
-use Rattle.text_streams.proofs.pieces.write_in_pieces.Given as goal
-
-abbrev pub ghosts-write_through : goal.ghosts-write_through
-ghosts-write_through g a = record { name = a.pieces.out.ghost_name; first = g.K.Sink.taken a.pieces.out.now }

@@ -1,9 +1,0 @@
-use Rattle.std.proofs.lemmas.List.{take_rest}
-use Rattle.text_streams.proofs.Compared.{more_taken}
-use Rattle.text_streams.proofs.same.SameSinkSink.write.Goals as goal
-
-pub returns-clause-bytes : goal.returns-clause-bytes
-returns-clause-bytes g c =
-    let text = c.args.self.now.text.now in
-    let at = c.args.self.now.at in
-    more_taken text c.args.bytes.now at c.common_len-count.result c.args.self.now.byte c.args.self.now.differs c.if-self.false (rw (take_rest text at) at c.common_len-count.ensures.same)

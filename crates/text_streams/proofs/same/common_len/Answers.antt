@@ -1,6 +1,0 @@
-use Rattle.text_streams.proofs.Compared.{same_front}
-use Rattle.text_streams.proofs.same.common_len.Goals as goal
-
-pub returns-then-starts_with-clause-same : goal.returns-then-starts_with-clause-same
-returns-then-starts_with-clause-same c =
-    same_front c.args.a.now c.args.b.now c.starts_with.result c.starts_with.ensures.value c.if-starts_with.true

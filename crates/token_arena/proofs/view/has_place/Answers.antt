@@ -1,0 +1,7 @@
+use Rattle.std.proofs.Common.{arith}
+use Rattle.token_arena.proofs.SegmentLemmas.{well}
+use Rattle.token_arena.proofs.view.has_place.Goals as goal
+
+pub overflow_sub-result-then-segment-k : goal.overflow_sub-result-then-segment-k
+overflow_sub-result-then-segment-k c =
+    omega (arith, (well c.args.segments.now 0 0 c.args.number (omega arith) c.requires.order c.requires.counts (omega (arith, c.if-number-segments.false))).some)

@@ -1,0 +1,217 @@
+//! Partners of brackets, found with a stack of the openers that wait.
+
+ghost use Rattle.std.specs.Prelude.{◌≡◌, ◌∷◌, [], ◌++◌, ◌<◌, ◌≤◌, ◌+◌, ◌^◌, reverse, IfOk, Option, Some, None, IfSome, IfNone, MatchOption, length, ℕ, All, OnOk, slice_set};
+ghost use Rattle.std.specs.Option.{ForSome, ForNone};
+ghost use Rattle.token_classes.specs.Viewed.{AreWithin, classes_of};
+ghost use Rattle.token_classes.specs.Partners.{partners_of, count_braces, nearest_brace, topmost, is_round, is_square, bracket_step, matching_of, paired, TakesStep, StandBefore};
+
+use crate::partner::Partner;
+use crate::{TokenClass, classes};
+use bumpalo::Bump;
+use bumpalo::collections::into_bump_slice;
+use line_tokens::NoMemory;
+use token_arena::{TokenArena, View};
+
+/// An opening bracket that waits for its partner.
+#[derive(Clone, Copy, Drop)]
+pub struct Opener {
+    /// Where it stands.
+    pub place: u32,
+    /// Which bracket it is.
+    pub kind: TokenClass,
+}
+
+#[tactic(auto, using(crate::proofs::BracketLemmas::no_brace))]
+/// Takes off the openers above the nearest brace, and the brace, and gives the brace's place.
+fn take_brace(stack: &mut Vec<Opener, &Bump>, braces: &mut usize) -> Option<u32>
+    requires { braces.old ≡ count_braces (reverse stack.old.items) }
+    ensures some { IfSome result (λ p. nearest_brace (reverse stack.old.items) ≡ Some (record { place = p; below = reverse stack.new.items })) }
+    ensures none { IfNone result (nearest_brace (reverse stack.old.items) ≡ None) }
+    ensures same { IfNone result (stack.new.items ≡ stack.old.items) }
+    ensures count { braces.new ≡ count_braces (reverse stack.new.items) }
+    ensures fewer { braces.new ≤ braces.old }
+{
+    if *braces == 0 {
+        return None;
+    }
+    while let Some(o) = stack.pop() {
+        if o.kind == TokenClass::OpenBrace {
+            *braces -= 1;
+            return Some(o.place);
+        }
+    }
+    None
+}
+
+/// Takes off the topmost opener, where it is a square one.
+#[inline(always)]
+fn take_square(stack: &mut Vec<Opener, &Bump>) -> Option<u32>
+    ensures some { IfSome result (λ p. topmost is_square (reverse stack.old.items) ≡ Some (record { place = p; below = reverse stack.new.items })) }
+    ensures none { IfNone result (topmost is_square (reverse stack.old.items) ≡ None) }
+    ensures same { IfNone result (stack.new.items ≡ stack.old.items) }
+    ensures count { count_braces (reverse stack.new.items) ≡ count_braces (reverse stack.old.items) }
+{
+    match stack.last() {
+        Some(o) => {
+            if o.kind == TokenClass::OpenSquare {
+                let place = o.place;
+                let _ = stack.pop();
+                Some(place)
+            } else {
+                None
+            }
+        }
+        None => None,
+    }
+}
+
+/// Takes off the topmost opener, where it is a round one.
+#[inline(always)]
+fn take_round(stack: &mut Vec<Opener, &Bump>) -> Option<u32>
+    ensures some { IfSome result (λ p. topmost is_round (reverse stack.old.items) ≡ Some (record { place = p; below = reverse stack.new.items })) }
+    ensures none { IfNone result (topmost is_round (reverse stack.old.items) ≡ None) }
+    ensures same { IfNone result (stack.new.items ≡ stack.old.items) }
+    ensures count { count_braces (reverse stack.new.items) ≡ count_braces (reverse stack.old.items) }
+{
+    match stack.last() {
+        Some(o) => {
+            if o.kind == TokenClass::OpenRound {
+                let place = o.place;
+                let _ = stack.pop();
+                Some(place)
+            } else {
+                None
+            }
+        }
+        None => None,
+    }
+}
+
+/// Makes the two places partners.
+#[inline(always)]
+fn match_up(partners: &mut [Partner], o: u32, i: u32)
+    requires few { length partners.old < 2 ^ 32 }
+    requires opener { o < length partners.old }
+    requires closer { i < length partners.old }
+    ensures { partners.new ≡ slice_set (slice_set partners.old o (Some i)) i (Some o) }
+{
+    partners[o as usize] = Partner::at(i);
+    partners[i as usize] = Partner::at(o);
+}
+
+/// Makes the opener and the closer partners, where the closer has one.
+#[inline(always)]
+pub(crate) fn close(partners: &mut [Partner], o: Option<u32>, i: u32)
+    requires few { length partners.old < 2 ^ 32 }
+    requires opener { ForSome o (λ p. p < length partners.old) }
+    requires closer { i < length partners.old }
+    ensures { partners.new ≡ paired partners.old o i }
+{
+    if let Some(p) = o {
+        match_up(partners, p, i);
+    }
+}
+
+/// Lets an opener wait. It stands apart since it may have to take memory.
+#[inline(never)]
+fn push_opener(stack: &mut Vec<Opener, &Bump>, place: u32, kind: TokenClass) -> Result<(), NoMemory>
+    ensures items { OnOk result (stack.new.items ≡ stack.old.items ++ record { place = place; kind = kind } ∷ []) }
+{
+    stack.push(Opener { place, kind })?;
+    Ok(())
+}
+
+/// One token, as far as the openers that wait go: the place of the opener that it takes off.
+///
+/// `stack` has the openers, the topmost last, and `braces` says how many of them are a `{`. Who reads tokens from the
+/// left begins with none.
+#[inline(always)]
+pub fn waiting_step(
+    stack: &mut Vec<Opener, &Bump>,
+    braces: &mut usize,
+    i: u32,
+    c: TokenClass,
+) -> Result<Option<u32>, NoMemory>
+    requires count { braces.old ≡ count_braces (reverse stack.old.items) }
+    requires small { braces.old ≤ i }
+    requires before { StandBefore i (reverse stack.old.items) }
+    ensures step { IfOk result (λ o. TakesStep c i (reverse stack.old.items) o (reverse stack.new.items)) }
+    ensures opener { IfOk result (λ o. ForSome o (λ p. p < i)) }
+    ensures count { OnOk result (braces.new ≡ count_braces (reverse stack.new.items)) }
+    ensures small { OnOk result (braces.new ≤ i + 1) }
+    ensures before { OnOk result (StandBefore (i + 1) (reverse stack.new.items)) }
+{
+    if !c.is_bracket() {
+        return Ok(None);
+    }
+    match c {
+        TokenClass::OpenRound | TokenClass::OpenSquare => {
+            push_opener(stack, i, c)?;
+            Ok(None)
+        }
+        TokenClass::OpenBrace => {
+            *braces += 1;
+            push_opener(stack, i, c)?;
+            Ok(None)
+        }
+        TokenClass::CloseRound => Ok(take_round(stack)),
+        TokenClass::CloseSquare => Ok(take_square(stack)),
+        TokenClass::CloseBrace => Ok(take_brace(stack, braces)),
+        _ => Ok(None),
+    }
+}
+
+/// One token.
+#[inline(always)]
+fn bracket_step(
+    stack: &mut Vec<Opener, &Bump>,
+    braces: &mut usize,
+    partners: &mut [Partner],
+    i: u32,
+    c: TokenClass,
+) -> Result<(), NoMemory>
+    requires count { braces.old ≡ count_braces (reverse stack.old.items) }
+    requires small { braces.old ≤ i }
+    requires before { StandBefore i (reverse stack.old.items) }
+    requires here { i < length partners.old }
+    requires few { length partners.old < 2 ^ 32 }
+    ensures step { OnOk result (matching_of stack.new.items partners.new ≡ bracket_step c i (matching_of stack.old.items partners.old)) }
+    ensures count { OnOk result (braces.new ≡ count_braces (reverse stack.new.items)) }
+    ensures small { OnOk result (braces.new ≤ i + 1) }
+    ensures before { OnOk result (StandBefore (i + 1) (reverse stack.new.items)) }
+{
+    let o = waiting_step(stack, braces, i, c)?;
+    close(partners, o, i);
+    Ok(())
+}
+
+/// The partner of each place of a view, by the classes of its tokens.
+pub fn partners_of_classes<'r>(
+    classes: &[TokenClass],
+    run: &'r Bump,
+) -> Result<&'r [Partner], NoMemory>
+    requires { length classes.now < 2 ^ 32 }
+    ensures { IfOk result (λ partners. partners.now ≡ partners_of classes.now) }
+{
+    let mut partners = vec![in run; Partner::none(); classes.len()]?;
+    let mut stack: Vec<Opener, &Bump> = Vec::new(run);
+    let mut braces: usize = 0;
+    for (i, c) in classes.iter().enumerate() {
+        bracket_step(&mut stack, &mut braces, &mut partners, i as u32, *c)?;
+    }
+    Ok(into_bump_slice(partners))
+}
+
+/// The partner of each place of a view: the place of the other bracket of its pair, none for every other token.
+///
+/// Brackets pair as `docs/PROFILE.md` says under "Partners". Want of memory is the only error.
+pub fn partners<'r>(
+    arena: &TokenArena<'_, '_>,
+    view: &View<'_>,
+    run: &'r Bump,
+) -> Result<&'r [Partner], NoMemory>
+    requires { AreWithin arena.now view.now }
+    ensures { IfOk result (λ partners. partners.now ≡ partners_of (classes_of arena.now view.now)) }
+{
+    partners_of_classes(classes(arena, view, run)?, run)
+}

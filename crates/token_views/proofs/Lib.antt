@@ -1,3 +1,0 @@
-pub mod SegmentLemmas
-pub mod IncreaseLemmas
-pub mod Parts

@@ -1,8 +1,0 @@
-use Rattle.std.proofs.Common.{arith}
-use Rattle.token_views.proofs.SegmentLemmas.{found}
-use Rattle.token_views.proofs.view.segment_at.Goals as goal
-
-pub returns-clause-has : goal.returns-clause-has
-returns-clause-has c =
-    let v = c.loop-high.invariant in
-    found c.args.segments.now c.args.k c.loop-high.low c.loop-high.high c.requires.rule c.requires.within v.some v.within (omega (arith, c.loop-high-test.false)) v.low v.high
