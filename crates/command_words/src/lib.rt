@@ -11,12 +11,12 @@
 mod budget;
 mod command;
 mod fault;
-mod generated;
+mod generator;
 mod pieces;
 mod read;
 
 pub use budget::DEFAULT_BUDGET;
 pub use fault::{USAGE, WordsFault};
-pub use generated::generated;
+pub use generator::generated;
 pub use pieces::Generate;
 pub use read::{StyleChoice, Words, read_words};

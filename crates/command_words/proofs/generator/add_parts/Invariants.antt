@@ -1,6 +1,6 @@
 use Rattle.std.proofs.Common.{◌≡◌, ◌++◌, map, take}
 use Rattle.std.specs.List.{concat}
-use Rattle.command_words.proofs.generated.add_parts.Given as goal
+use Rattle.command_words.proofs.generator.add_parts.Given as goal
 
 -- the parts so far stand behind the text
 abbrev pub invariant-loop-part : goal.invariant-loop-part

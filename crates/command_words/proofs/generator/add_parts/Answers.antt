@@ -1,5 +1,5 @@
 use Rattle.command_words.proofs.Joined.{part_added}
-use Rattle.command_words.proofs.generated.add_parts.Goals as goal
+use Rattle.command_words.proofs.generator.add_parts.Goals as goal
 
 pub loop-part-preserved : goal.loop-part-preserved
 loop-part-preserved c =

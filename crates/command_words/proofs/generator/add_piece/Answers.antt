@@ -1,5 +1,5 @@
 use Rattle.command_words.specs.Generated.{piece}
-use Rattle.command_words.proofs.generated.add_piece.Goals as goal
+use Rattle.command_words.proofs.generator.add_piece.Goals as goal
 
 pub returns : goal.returns
 unfolding piece

@@ -1,6 +1,6 @@
 use Rattle.std.proofs.Common.{◌∙◌}
 use Rattle.command_words.proofs.Joined.{no_pieces, piece_added}
-use Rattle.command_words.proofs.generated.generated.Goals as goal
+use Rattle.command_words.proofs.generator.generated.Goals as goal
 
 pub loop-index-init : goal.loop-index-init
 loop-index-init c = c.new-text.ensures.items ∙ no_pieces c.args.seed
