@@ -5,10 +5,10 @@
 //!
 //! - `fixtures`: what several of these are made of
 //! - `comparing`: what is found beside what is wanted
-//! - `row_starts`: where lines start, and empty lines (`indenter`)
-//! - `blanks`: the blanks of a row (`spacing`)
-//! - `break_costs`: where rows may end (`penalties`)
-//! - `digests`: numbers that are found by digests (`digest_chains`)
+//! - `row_starts`: where lines start, and empty lines (`layout_tables`)
+//! - `blanks`: the blanks of a row (`layout_tables`)
+//! - `break_costs`: where rows may end (`layout_tables`)
+//! - `digests`: numbers that are found by digests (`line_state`)
 //! - `line_steps`: a line, one token after another (`line_state`)
 //! - `searches`: the least breaking, beside a search of every breaking (`break_search`)
 #![tactic(auto)]

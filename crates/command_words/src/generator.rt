@@ -2,6 +2,7 @@
 //!
 //! It has pieces of four kinds in turn: a function, a variable in two branches, a call that is too long for its line,
 //! and a macro. [`generated`] joins them; docs/PROFILE.md, "Words of the command", shows them.
+
 ghost use Rattle.std.specs.Prelude.{◌≡◌, ◌++◌, IfOk, OnOk, map};
 ghost use Rattle.std.specs.List.{concat};
 ghost use Rattle.command_words.specs.Generated.{branch_parts, call_parts, function_parts, generated, macro_parts, parts_of, piece, value_of};

@@ -1,4 +1,4 @@
-//! The words of the command: those that stand after the program's name.
+//! The words of the command, those that stand after the program's name, and the text that `--generate` makes.
 //!
 //! `read_words` tells what they say, borrowed from them. What is of the command's form is what a simple
 //! command of `clap` takes, stated in `specs/Command.antt`; docs/PROFILE.md, "Words of the command", says

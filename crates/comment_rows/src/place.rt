@@ -1,4 +1,6 @@
 //! Rows that end in comments, and the column that their comments share.
+//!
+//! [`align`] puts the comments of rows that follow one another into one column. It takes no memory.
 
 ghost use Rattle.std.specs.Prelude.{◌≡◌, length};
 ghost use Rattle.comment_rows.specs.Columns.{aligned, largest_column, moved_to, shared_column, StandRight};

@@ -81,8 +81,8 @@ fn is_definition(kind: DirectiveKind) -> bool
     matches!(kind, DirectiveKind::Define)
 }
 
-/// Which gaps of a directive keep the input's bytes: those behind its name as `directives` tells it, and the body of a
-/// macro where `SkipMacroDefinitionBody` says so.
+/// Which gaps of a directive keep the input's bytes: those behind its name as [`kept_after_name`] tells it, and the
+/// body of a macro where `SkipMacroDefinitionBody` says so.
 pub fn staying_in(style: &Style, arena: &TokenArena<'_, '_>, dir: &Directive) -> Staying
     requires { Contains (sections_of arena.now) (Dir dir.now) }
     ensures { result ≡ staying_in style.now arena.now dir.now }

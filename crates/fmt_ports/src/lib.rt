@@ -5,6 +5,9 @@
 //! leaves the count as it was. So a caller who keeps the count knows whether anything outside
 //! failed. The ends in memory tell all their bytes; those of the process pass on what the reader
 //! or writer inside tells.
+//!
+//! A [`Stream`] is a text that writes itself and needn't be in memory; [`write_in_pieces`] gives it
+//! to a sink, and [`is_same`] compares it with bytes.
 #![tactic(auto)]
 
 mod beside;

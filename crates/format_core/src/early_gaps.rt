@@ -1,8 +1,9 @@
-//! What is decided for the gaps that no run decides: those that stay as they are, those of directives, and the last gap.
+//! What is decided for the gaps that no run decides: those that stay, those of directives, and the last gap.
 //!
 //! [`decide_early`] decides them before any run: first the gaps that stay, then those of directives, as
-//! `laid_directives` lays them out, and the last gap. All of it stays, since a gap keeps what is decided for it first.
+//! `directive_layout` lays them out, and the last gap. All of it stays, since a gap keeps what is decided for it first.
 //! [`early_plans_are_sound`] carries the law that each of these decisions may stand.
+
 mod behind;
 mod columns;
 mod early;

@@ -1,9 +1,9 @@
 //! The formatted text of a text.
 //!
-//! [`format`] reads a text into an arena and decides its gaps: first those that no run decides, and then run by run, so
-//! that every branch of `#if` is laid out. Each line is broken at its least breaking, or it is reported and keeps the
-//! bytes inside it. [`format`] takes all the memory that is needed, so that [`Formatted::write`] takes none. The text
-//! that it writes has the same items as its input.
+//! [`format`] reads a text into an arena and decides its gaps: first those that no run decides ([`decide_early`]), and
+//! then run by run, so that every branch of `#if` is laid out. Each line is broken at its least breaking, or it is
+//! reported and keeps the bytes inside it. [`format`] takes all the memory that is needed, so that
+//! [`Formatted::write`] takes none. The text that it writes has the same items as its input.
 #![tactic(auto)]
 
 mod bounds;

@@ -6,10 +6,10 @@
 //! - `characters`: the characters of a text, and the words and blanks that are passed at once (`c_chars`).
 //! - `items`: the items of a text, their gaps and their last characters (`c_lexer`).
 //! - `touching_items`: the table of the items that may touch (`touching`).
-//! - `two_views`: what two runs see of one text (`token_views` over `token_arena`).
-//! - `views`: the places of a view (`token_views`).
+//! - `two_views`: what two runs see of one text (`token_arena`).
+//! - `views`: the places of a view (`token_arena`).
 //! - `arena`: what the store keeps of a text, and which texts it refuses (`token_arena`).
-//! - `sections`: texts and directives, the gaps that directives keep, and spellings (`directives`).
+//! - `sections`: texts and directives, the gaps that directives keep, and spellings (`token_arena`).
 //! - `runs`: what each run sees, which items are dead, and long texts (`branch_runs`).
 //!
 //! `fixtures` makes what they stand on, and `comparing` compares.

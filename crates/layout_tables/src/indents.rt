@@ -1,4 +1,5 @@
 //! Where the row of an unwrapped line starts, and how many empty lines stand before it.
+
 ghost use Rattle.std.specs.Prelude.{◌≡◌};
 ghost use Rattle.layout_tables.specs.Indents.{start_column, is_close, begins_with_close, opens_block, keeps_none, empty_lines};
 

@@ -2,6 +2,7 @@
 //!
 //! One table decides, by the roles of the two tokens: `docs/PROFILE.md`, "Breaks". It is read from the
 //! top, and the first row whose condition holds decides.
+
 ghost use Rattle.std.specs.Prelude.{◌≡◌, ◌<◌, ◌^◌, ◌==◌, ◌||◌, ◌&&◌, not, IsTrue};
 ghost use Rattle.line_tokens.specs.Roles.{is_own};
 ghost use Rattle.layout_tables.specs.Breaks.{ends_its_row, is_string, is_all, is_behind, is_never_first, is_never_last, is_assignment_gap, operator_side, ternary_side, break_by_table, cost_in, gap_rule};

@@ -2,6 +2,7 @@
 //!
 //! One table decides, by the roles of the two tokens: `docs/PROFILE.md`, "Spaces without a break". It is
 //! read from the top, and the first row whose condition holds decides.
+
 mod laws;
 
 ghost use Rattle.std.specs.Prelude.{◌≡◌, ◌≤◌};

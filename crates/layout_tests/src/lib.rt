@@ -4,11 +4,11 @@
 //!
 //! - `fixtures`: what several of these are made of
 //! - `comparing`: what is found beside what is wanted
-//! - `bracket_pairs`: classes, partners and kept gaps (`token_classes`, `brackets`)
-//! - `written_gaps`: the bytes of decisions (`gap_text`)
+//! - `bracket_pairs`: classes, partners and kept gaps (`token_classes`)
+//! - `written_gaps`: the bytes of decisions (`replacements`)
 //! - `plans`: decisions for gaps (`replacements`)
 //! - `written_plans`: the texts of plans (`replacements`)
-//! - `directive_rows`: directives that are laid out (`directive_layout`, `laid_directives`)
+//! - `directive_rows`: directives that are laid out (`directive_layout`)
 //! - `laid_runs`: lines that are laid out, whole texts (`run_layout`)
 #![tactic(auto)]
 

@@ -1,4 +1,7 @@
-//! Numbers by digests.
+//! Numbers that are looked up by digests.
+//!
+//! A [`Group`] lists numbers, each under a digest: a number that equal things share and that few others have. Who looks
+//! for a thing walks along the chain of its digest, and compares with what the numbers there stand for.
 
 ghost use Rattle.std.specs.Prelude.{◌≡◌, ℕ, ◌<◌, List, [], length, slice_get, Some, IfOk, OnOk};
 ghost use Rattle.line_state.specs.declared.group.Link.{Link};

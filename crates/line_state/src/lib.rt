@@ -3,8 +3,13 @@
 //!
 //! A state holds the column behind the line's last placed token and a frame for each bracket that is
 //! open there. `step` places one token more, `allowed` tells whether a choice is admissible, `cells`
-//! tells what a state counts, and `digest` a number by which its layout is looked up. The rules are
-//! those of `docs/PROFILE.md`, "Breaking a line"; which breaking is best isn't asked here.
+//! tells what a state counts, and `digest` a number by which its layout is looked up in a [`Group`].
+//! The rules are those of `docs/PROFILE.md`, "Breaking a line"; no call asks which breaking is best.
+//!
+//! What it means that one list of choices is the least of all is stated here too, of any such step
+//! (`specs/Choices.antt`, `specs/Cells.antt`), with lemmas on a search for it that settles the open
+//! layout whose cost and bound are the least in sum, and offers what follows it. Nothing in these
+//! knows of tokens or columns.
 #![tactic(auto)]
 
 mod frames;

@@ -1,4 +1,7 @@
-//! The laws of lines that are told part by part. They stand on the contracts of functions that do nothing.
+//! The lines of a view, and the partners of its brackets, are those of its parts.
+//!
+//! [`partners_stay`] and [`lines_stay`] carry the laws: what is told of the first part by itself, and of what follows
+//! by itself, is told of them in the view. They stand on the contracts of functions that do nothing.
 
 ghost use Rattle.part_laws.specs.LinesCut.{LinesStay, PartnersStay};
 

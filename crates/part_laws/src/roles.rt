@@ -1,4 +1,8 @@
-//! The laws of roles that are told part by part. They stand on the contracts of functions that do nothing.
+//! The roles of a view are those of its parts.
+//!
+//! [`tells_parts`] carries the law of a cut: what is told of a part by itself is told of it in the view. [`roles_stay`]
+//! carries that of all parts of a view: such cuts are where they end. They stand on the contracts of functions that do
+//! nothing.
 
 ghost use Rattle.part_laws.specs.RolesCut.{TellsParts};
 ghost use Rattle.part_laws.specs.Parts.{RolesStay};

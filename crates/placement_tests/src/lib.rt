@@ -7,7 +7,7 @@
 //! - `input_columns`: the columns of kept gaps (`run_layout`)
 //! - `kept_texts`: whole texts of which some gaps stay (`format_core`)
 //! - `joined_lines`: short lines that become one (`line_joiner`)
-//! - `trailing_comments`: trailing comments in one column (`comment_place`)
+//! - `trailing_comments`: trailing comments in one column (`comment_rows`)
 #![tactic(auto)]
 
 #[cfg(test)]

@@ -1,4 +1,8 @@
-//! The kind of a spelling that is one item (C11 6.4).
+//! The kind of a spelling: what a text of logical characters is as one item (C11 6.4), as the model of
+//! preprocessing asks of pastes and of a setting's tokens.
+//!
+//! A spelling has any length, and no memory is taken. No trigraph and no splice is in it, so it isn't read
+//! by the lexer, which would take `"??/"` for an open quote.
 
 ghost use Rattle.std.specs.Prelude.{◌≡◌, ◌||◌, true, false, map, codes};
 ghost use Rattle.std.specs.List.{list_any};

@@ -1,4 +1,7 @@
-//! The preprocessing tokens of a text: its items as lines and sections, and the kinds of what stands in them.
+//! What preprocessing reads: the items of a text, cut into sections, and the kinds of spellings.
+//!
+//! [`sections_of`] cuts a text into texts between directives and directives, each with its items. [`kind_of`] tells
+//! what a spelling is as one item. Both are as the model of preprocessing defines them.
 #![tactic(auto)]
 
 mod class;

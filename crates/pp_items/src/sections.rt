@@ -1,4 +1,7 @@
-//! The sections of a text.
+//! The sections of a text, computed: what preprocessing reads of its bytes.
+//!
+//! [`sections_of`] cuts a text into texts between directives and directives, each with its items, as the
+//! model of preprocessing defines it (C11 6.10p1, p2).
 
 ghost use Rattle.std.specs.Prelude.{◌≡◌, ◌≤◌, length, IfOk};
 ghost use Rattle.c_chars.specs.declared.TheConstants.{LIMIT};

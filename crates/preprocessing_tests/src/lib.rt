@@ -6,8 +6,8 @@
 //! - `comparing`: what is found beside what is wanted.
 //! - `fixtures`: tokens, macros and texts.
 //! - `expansion`: names that are replaced, and the turns that it takes (`pp_events`).
-//! - `stream`: the sections of texts, in both editions (`pp_stream`).
-//! - `kinds`: the kinds of spellings (`pp_kinds`).
+//! - `stream`: the sections of texts, in both editions (`pp_items`).
+//! - `kinds`: the kinds of spellings (`pp_items`).
 //! - `directive_acts`: define directives, conditionals and numbers of lines (`pp_directives`).
 //! - `events`: the events of whole texts: the examples of C11 6.10.3, conditionals, includes, lines, turns, and
 //!   the same events of formatted texts (`pp_text`).

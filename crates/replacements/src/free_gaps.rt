@@ -1,4 +1,8 @@
-//! The laws of free gaps. Each stands on the contract of a function that does nothing.
+//! Other bytes between the items of a text, where lines are broken and joined among them and gaps go.
+//!
+//! [`rewrites_free_gaps`] carries the law: such bytes leave all items and all directives as they were.
+//! [`keeps_marks_away`] says when no byte order mark comes of them. Each stands on the contract of a function that does
+//! nothing.
 
 ghost use Rattle.replacements.specs.FreeGaps.{KeepsMarksAway, RewritesFreeGaps};
 

@@ -1,7 +1,8 @@
 //! The bytes of a decided gap.
 //!
-//! A decision says what stands between two items. This crate writes it to a sink; it never looks at
+//! A decision says what stands between two items. This module writes it to a sink; it never looks at
 //! the items.
+
 mod short;
 mod white;
 

@@ -1,9 +1,10 @@
 //! What is decided for each gap of a text, once for all runs, and the text that is written of it.
 //!
 //! A text is laid out run by run over one store of items, and several runs see the same gap. The first
-//! that decides it has the word: a later decision for it changes nothing and is told so.
-//! [`sound_plans_are_twins`] carries the law of the text: where each decision may stand, it is a twin of
-//! the input.
+//! that decides it has the word: a later decision for it changes nothing and is told so. [`write_gap`]
+//! writes the bytes of one decision, [`write_out`] the text of a plan. [`sound_plans_are_twins`] carries
+//! the law of the text: where each decision may stand, it is a twin of the input. It rests on
+//! [`rewrites_free_gaps`], the law on other bytes between the items of a text.
 #![tactic(auto)]
 
 mod entry;

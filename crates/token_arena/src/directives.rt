@@ -2,6 +2,7 @@
 //!
 //! A directive is a line of items whose first, comments aside, is a `#`; comments before it on its line
 //! belong to it. A text is all items between two directives.
+
 mod cut;
 mod keeping;
 mod laws;

@@ -3,6 +3,8 @@
 //! [`build`] reads a text into an arena. From then on every layer asks the arena: an item is named by
 //! its [`TokenId`], its bytes are borrowed from the text and never copied, and the gaps and the items
 //! joined are the text. Nothing here changes after `build`.
+//!
+//! [`sections`] cuts the items into texts and directives. A [`View`] lists those that a run sees.
 #![tactic(auto)]
 
 mod arena;

@@ -1,4 +1,7 @@
-//! Views and their segments.
+//! Which items of a text a run sees.
+//!
+//! A [`View`] is an increasing list of items. It is kept as segments, one for each unbroken stretch of
+//! items, so its memory grows with the directives of a text and not with its items.
 
 ghost use Rattle.std.specs.Prelude.{◌≡◌, ◌≢◌, ◌<◌, ◌≤◌, ◌+◌, ◌-◌, ◌↔◌, ℕ, All, map, length, get_or, min, slice_range, IsTrue, IfOk};
 ghost use Rattle.std.specs.Bool.{OnTrue};

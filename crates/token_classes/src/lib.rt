@@ -1,6 +1,8 @@
 //! What the tokens of a text are spelled, as far as brackets, lines and roles depend on it: each item has a class.
 //!
 //! Classes are told once for a text ([`item_classes`]); those of a view are taken from them ([`classes_among`]).
+//! [`bracket_facts`] tells by them which brackets of a view belong together, and which gaps inside them stay as they
+//! are.
 #![tactic(auto)]
 
 mod class;

@@ -1,4 +1,7 @@
 //! What the first bytes of an item tell of the items beside it.
+//!
+//! An [`Edge`] is told once for an item; [`touch_of`] tells from two of them whether the items may touch, for most
+//! items.
 
 ghost use Rattle.std.specs.Prelude.{◌≡◌, ◌==◌};
 ghost use Rattle.touching.specs.declared.edge.Edge.TheVariants.{Quiet};
