@@ -115,23 +115,23 @@ impl<'s> Cursor<'s> {
 
     /// Steps behind the next n bytes.
     #[inline(always)]
-    fn pass(&mut self, n: usize)
-        requires { n ≤ length self.old.rest.now }
+    fn pass(&mut self, count: usize)
+        requires { count ≤ length self.old.rest.now }
         ensures dialect { self.new.dialect ≡ self.old.dialect }
-        ensures rest { self.new.rest.now ≡ drop n self.old.rest.now }
-        ensures at { self.new.at ≡ self.old.at + n }
+        ensures rest { self.new.rest.now ≡ drop count self.old.rest.now }
+        ensures at { self.new.at ≡ self.old.at + count }
     {
-        self.rest = &self.rest[n..];
-        self.at += n;
+        self.rest = &self.rest[count..];
+        self.at += count;
     }
 
-    /// The character that k others stand before.
+    /// The character that so many others stand before.
     #[inline(always)]
-    fn peek(&self, k: usize) -> Option<LogicalChar>
-        ensures { result ≡ slice_get (chars self.now.dialect self.now.at self.now.rest.now) k }
+    fn peek(&self, index: usize) -> Option<LogicalChar>
+        ensures { result ≡ slice_get (chars self.now.dialect self.now.at self.now.rest.now) index }
     {
         let mut ahead = *self;
-        for _ in 0..k {
+        for _ in 0..index {
             if ahead.next().is_none() {
                 return None;
             }
@@ -270,11 +270,11 @@ impl<'s> Chars<'s> {
     ///
     /// It reads on from the next character each time, so k is to be small.
     #[inline(always)]
-    pub fn peek(&self, k: usize) -> Option<LogicalChar>
-        requires { k ≤ 8 }
-        ensures { result ≡ slice_get self.now.chars k }
+    pub fn peek(&self, index: usize) -> Option<LogicalChar>
+        requires { index ≤ 8 }
+        ensures { result ≡ slice_get self.now.chars index }
     {
-        self.cursor.peek(k)
+        self.cursor.peek(index)
     }
 
     /// The offset behind the last character that was read; where none was, the one of the text behind

@@ -8,10 +8,10 @@ use crate::Dialect;
 
 /// What a trigraph with this last byte stands for, or 0 (C11 5.2.1.1).
 #[tactic(auto, unfolding(crate::specs::Characters::trigraph))]
-fn trigraph(c: u8) -> u8
-    ensures { result ≡ trigraph c }
+fn trigraph(byte: u8) -> u8
+    ensures { result ≡ trigraph byte }
 {
-    match c {
+    match byte {
         b'=' => b'#',
         b'(' => b'[',
         b'/' => b'\\',
@@ -25,19 +25,19 @@ fn trigraph(c: u8) -> u8
     }
 }
 
-fn begins_trigraph(s: &[u8]) -> bool
-    ensures { result ≡ begins_trigraph s.now }
+fn begins_trigraph(bytes: &[u8]) -> bool
+    ensures { result ≡ begins_trigraph bytes.now }
 {
-    match s {
+    match bytes {
         [a, b, c, ..] => *a == b'?' && (*b == b'?' && !(trigraph(*c) == 0)),
         _ => false,
     }
 }
 
-fn begins_return(s: &[u8]) -> bool
-    ensures { result ≡ begins_return s.now }
+fn begins_return(bytes: &[u8]) -> bool
+    ensures { result ≡ begins_return bytes.now }
 {
-    match s {
+    match bytes {
         [a, b, ..] => *a == b'\r' && *b == b'\n',
         _ => false,
     }
@@ -50,19 +50,19 @@ fn has_trigraphs(dialect: Dialect) -> bool
 }
 
 /// Whether the text begins with a trigraph of the dialect.
-fn replaces(dialect: Dialect, s: &[u8]) -> bool
-    ensures { result ≡ (has_trigraphs dialect && begins_trigraph s.now) }
+fn replaces(dialect: Dialect, bytes: &[u8]) -> bool
+    ensures { result ≡ (has_trigraphs dialect && begins_trigraph bytes.now) }
 {
-    has_trigraphs(dialect) && begins_trigraph(s)
+    has_trigraphs(dialect) && begins_trigraph(bytes)
 }
 
 /// Whether the byte is a character by itself, whatever follows it: it begins no trigraph, no line end
 /// of two bytes and no splice.
 #[inline(always)]
-pub(crate) fn is_plain(b: u8) -> bool
-    ensures { result ≡ is_plain b }
+pub(crate) fn is_plain(byte: u8) -> bool
+    ensures { result ≡ is_plain byte }
 {
-    b != b'?' && (b != b'\r' && b != b'\\')
+    byte != b'?' && (byte != b'\r' && byte != b'\\')
 }
 
 /// Of each byte, whether it is a letter, a digit, `_` or `$`.
@@ -90,112 +90,115 @@ const WORD_BYTES: [bool; 256] = [
 
 /// What the table tells of a byte.
 #[inline(always)]
-fn told(table: &[bool; 256], b: u8) -> bool
-    ensures { result ≡ get_or table.now b false }
+fn told(table: &[bool; 256], byte: u8) -> bool
+    ensures { result ≡ get_or table.now byte false }
 {
-    table[b as usize]
+    table[byte as usize]
 }
 
 /// A letter, a digit, `_` or `$`.
 #[inline(always)]
-pub fn is_word_byte(b: u8) -> bool
-    ensures { result ≡ is_word_byte b }
+pub fn is_word_byte(byte: u8) -> bool
+    ensures { result ≡ is_word_byte byte }
 {
-    told(&WORD_BYTES, b)
+    told(&WORD_BYTES, byte)
 }
 
 /// How many letters, digits, `_` and `$` the bytes begin with.
 #[inline(always)]
-pub(crate) fn word_len(s: &[u8]) -> usize
-    ensures { result ≡ prefix_len is_word_byte s.now }
+pub(crate) fn word_len(bytes: &[u8]) -> usize
+    ensures { result ≡ prefix_len is_word_byte bytes.now }
 {
-    for i in 0..s.len() {
-        if !is_word_byte(s[i]) {
+    for i in 0..bytes.len() {
+        if !is_word_byte(bytes[i]) {
             return i;
         }
     }
-    s.len()
+    bytes.len()
 }
 
 /// A space or a tab.
 #[tactic(auto, unfolding(crate::specs::Characters::is_space_byte))]
 #[inline(always)]
-fn is_space_byte(b: u8) -> bool
-    ensures { result ≡ is_space_byte b }
+fn is_space_byte(byte: u8) -> bool
+    ensures { result ≡ is_space_byte byte }
 {
-    b == b' ' || b == b'\t'
+    byte == b' ' || byte == b'\t'
 }
 
 /// How many spaces and tabs the bytes begin with.
 #[inline(always)]
-pub(crate) fn space_len(s: &[u8]) -> usize
-    ensures { result ≡ prefix_len is_space_byte s.now }
+pub(crate) fn space_len(bytes: &[u8]) -> usize
+    ensures { result ≡ prefix_len is_space_byte bytes.now }
 {
-    for i in 0..s.len() {
-        if !is_space_byte(s[i]) {
+    for i in 0..bytes.len() {
+        if !is_space_byte(bytes[i]) {
             return i;
         }
     }
-    s.len()
+    bytes.len()
 }
 
 /// Whether the byte is a character by itself that is no white space, and that comments and literals don't look
 /// at: none of `"'*?\\`.
 #[tactic(auto, unfolding(crate::specs::Characters::is_ink_byte))]
 #[inline(always)]
-fn is_ink_byte(b: u8) -> bool
-    ensures { result ≡ is_ink_byte b }
+fn is_ink_byte(byte: u8) -> bool
+    ensures { result ≡ is_ink_byte byte }
 {
-    b > b'\\' || (b > b' ' && b != b'"' && (b != b'\'' && b != b'*' && (b != b'?' && b != b'\\')))
+    byte > b'\\'
+        || (byte > b' '
+            && byte != b'"'
+            && (byte != b'\'' && byte != b'*' && (byte != b'?' && byte != b'\\')))
 }
 
 /// How many such bytes the bytes begin with.
 #[inline(always)]
-pub(crate) fn ink_len(s: &[u8]) -> usize
-    ensures { result ≡ prefix_len is_ink_byte s.now }
+pub(crate) fn ink_len(bytes: &[u8]) -> usize
+    ensures { result ≡ prefix_len is_ink_byte bytes.now }
 {
-    for i in 0..s.len() {
-        if !is_ink_byte(s[i]) {
+    for i in 0..bytes.len() {
+        if !is_ink_byte(bytes[i]) {
             return i;
         }
     }
-    s.len()
+    bytes.len()
 }
 
 /// Such a byte, a space or a tab.
 #[tactic(auto, unfolding(crate::specs::Characters::is_text_byte))]
 #[inline(always)]
-fn is_text_byte(b: u8) -> bool
-    ensures { result ≡ is_text_byte b }
+fn is_text_byte(byte: u8) -> bool
+    ensures { result ≡ is_text_byte byte }
 {
-    is_ink_byte(b) || is_space_byte(b)
+    is_ink_byte(byte) || is_space_byte(byte)
 }
 
 /// How many such bytes, spaces and tabs the bytes begin with.
 #[inline(always)]
-pub(crate) fn text_len(s: &[u8]) -> usize
-    ensures { result ≡ prefix_len is_text_byte s.now }
+pub(crate) fn text_len(bytes: &[u8]) -> usize
+    ensures { result ≡ prefix_len is_text_byte bytes.now }
 {
-    for i in 0..s.len() {
-        if !is_text_byte(s[i]) {
+    for i in 0..bytes.len() {
+        if !is_text_byte(bytes[i]) {
             return i;
         }
     }
-    s.len()
+    bytes.len()
 }
 
 /// The first character before splices are taken out, and how many bytes it has.
-pub(crate) fn unit(dialect: Dialect, s: &[u8]) -> (u8, usize)
-    requires { 0 < length s.now }
-    ensures unit { IsUnit dialect s.now result.0 result.1 }
-    ensures within { result.1 ≤ length s.now }
+pub(crate) fn unit(dialect: Dialect, bytes: &[u8]) -> (u8, usize)
+    requires { 0 < length bytes.now }
+    ensures unit { IsUnit dialect bytes.now result.0 result.1 }
+    ensures within { result.1 ≤ length bytes.now }
     ensures some { 0 < result.1 }
 {
-    if replaces(dialect, s) {
-        (trigraph(s[2]), 3)
-    } else if begins_return(s) {
+    if replaces(dialect, bytes) {
+        (trigraph(bytes[2]), 3)
+    } else if begins_return(bytes) {
         (b'\n', 2)
     } else {
-        (s[0], 1)
+        (bytes[0], 1)
     }
 }

@@ -11,104 +11,104 @@ use c_chars::Dialect;
 /// White space and new-lines.
 #[tactic(auto, unfolding(c_grammar::specs::Grammar::is_white, c_grammar::specs::Grammar::is_new_line))]
 #[inline(always)]
-pub(crate) fn is_blank(b: u8) -> bool
-    ensures { result ≡ (is_white b || is_new_line b) }
+pub(crate) fn is_blank(byte: u8) -> bool
+    ensures { result ≡ (is_white byte || is_new_line byte) }
 {
-    matches!(b, 9 | 11 | 12 | 13 | b' ' | b'\n')
+    matches!(byte, 9 | 11 | 12 | 13 | b' ' | b'\n')
 }
 
 /// White space that ends no line.
 #[tactic(auto, unfolding(c_grammar::specs::Grammar::is_white))]
 #[inline(always)]
-pub(crate) fn is_white(b: u8) -> bool
-    ensures { result ≡ is_white b }
+pub(crate) fn is_white(byte: u8) -> bool
+    ensures { result ≡ is_white byte }
 {
-    matches!(b, 9 | 11 | 12 | 13 | b' ')
+    matches!(byte, 9 | 11 | 12 | 13 | b' ')
 }
 
 #[tactic(auto, unfolding(c_grammar::specs::Grammar::is_new_line))]
 #[inline(always)]
-pub(crate) fn is_new_line(b: u8) -> bool
-    ensures { result ≡ is_new_line b }
+pub(crate) fn is_new_line(byte: u8) -> bool
+    ensures { result ≡ is_new_line byte }
 {
-    b == b'\n'
+    byte == b'\n'
 }
 
 #[tactic(auto, unfolding(c_grammar::specs::Grammar::is_digit))]
 #[inline(always)]
-pub(crate) fn is_digit(b: u8) -> bool
-    ensures { result ≡ is_digit b }
+pub(crate) fn is_digit(byte: u8) -> bool
+    ensures { result ≡ is_digit byte }
 {
-    b.is_ascii_digit()
+    byte.is_ascii_digit()
 }
 
 /// A letter, `_` or `$`.
 #[tactic(auto, unfolding(c_grammar::specs::Grammar::is_letter))]
 #[inline(always)]
-pub(crate) fn is_letter(b: u8) -> bool
-    ensures { result ≡ is_letter b }
+pub(crate) fn is_letter(byte: u8) -> bool
+    ensures { result ≡ is_letter byte }
 {
-    b.is_ascii_alphabetic() || b == b'_' || b == b'$'
+    byte.is_ascii_alphabetic() || byte == b'_' || byte == b'$'
 }
 
 #[tactic(auto, unfolding(c_grammar::specs::Grammar::is_sign))]
 #[inline(always)]
-fn is_sign(b: u8) -> bool
-    ensures { result ≡ is_sign b }
+fn is_sign(byte: u8) -> bool
+    ensures { result ≡ is_sign byte }
 {
-    b == b'+' || b == b'-'
+    byte == b'+' || byte == b'-'
 }
 
 #[tactic(auto, unfolding(c_grammar::specs::Grammar::is_exponent))]
 #[inline(always)]
-fn is_exponent(b: u8) -> bool
-    ensures { result ≡ is_exponent b }
+fn is_exponent(byte: u8) -> bool
+    ensures { result ≡ is_exponent byte }
 {
-    matches!(b, b'e' | b'E' | b'p' | b'P')
+    matches!(byte, b'e' | b'E' | b'p' | b'P')
 }
 
 /// A letter or a digit.
 #[inline(always)]
-pub(crate) fn is_word(b: u8) -> bool
-    ensures { result ≡ (is_letter b || is_digit b) }
+pub(crate) fn is_word(byte: u8) -> bool
+    ensures { result ≡ (is_letter byte || is_digit byte) }
 {
-    c_chars::is_word_byte(b)
+    c_chars::is_word_byte(byte)
 }
 
 /// An apostrophe or a quotation mark.
 #[inline(always)]
-pub(crate) fn is_quote_mark(b: u8) -> bool
-    ensures { result ≡ is_quote_mark b }
+pub(crate) fn is_quote_mark(byte: u8) -> bool
+    ensures { result ≡ is_quote_mark byte }
 {
-    matches!(b, b'\'' | b'"')
+    matches!(byte, b'\'' | b'"')
 }
 
 /// What ends a word that stands before it, which begins no literal: no letter, no digit, no quote, no
 /// backslash and no byte past ASCII.
 #[inline(always)]
-pub(crate) fn ends_word(b: u8) -> bool
-    ensures { result ≡ ends_word b }
+pub(crate) fn ends_word(byte: u8) -> bool
+    ensures { result ≡ ends_word byte }
 {
-    !(is_word(b) || (is_beyond(b) || is_quote_mark(b)))
+    !(is_word(byte) || (is_beyond(byte) || is_quote_mark(byte)))
 }
 
 /// What ends a number that stands before it: no part of one, no sign, no quote, no backslash and no byte
 /// past ASCII.
 #[inline(always)]
-pub(crate) fn ends_number(b: u8) -> bool
-    ensures { result ≡ ends_number b }
+pub(crate) fn ends_number(byte: u8) -> bool
+    ensures { result ≡ ends_number byte }
 {
-    !(is_single(b) || (is_sign(b) || (is_beyond(b) || b == b'\'')))
+    !(is_single(byte) || (is_sign(byte) || (is_beyond(byte) || byte == b'\'')))
 }
 
 /// A punctuator by itself, that none begins with that is longer.
 #[tactic(auto, unfolding(crate::specs::Class::is_lone_mark))]
 #[inline(always)]
-pub(crate) fn is_lone_mark(b: u8) -> bool
-    ensures { result ≡ is_lone_mark b }
+pub(crate) fn is_lone_mark(byte: u8) -> bool
+    ensures { result ≡ is_lone_mark byte }
 {
     matches!(
-        b,
+        byte,
         b'[' | b']' | b'(' | b')' | b'{' | b'}' | b'~' | b';' | b','
     )
 }
@@ -116,20 +116,20 @@ pub(crate) fn is_lone_mark(b: u8) -> bool
 /// What ends a punctuator of one byte that stands before it: it goes on with none, and neither a number
 /// nor a comment is begun.
 #[inline(always)]
-pub(crate) fn ends_mark(b: u8) -> bool
-    ensures { result ≡ ends_mark b }
+pub(crate) fn ends_mark(byte: u8) -> bool
+    ensures { result ≡ ends_mark byte }
 {
-    !(punctuator::goes_on_long(b) || (is_digit(b) || (b == b'/' || b == b'*')))
+    !(punctuator::goes_on_long(byte) || (is_digit(byte) || (byte == b'/' || byte == b'*')))
 }
 
 /// The first byte of a punctuator.
 #[tactic(auto, unfolding(crate::specs::Class::begins_punctuator))]
 #[inline(always)]
-pub(crate) fn begins_punctuator(b: u8) -> bool
-    ensures { result ≡ begins_punctuator b }
+pub(crate) fn begins_punctuator(byte: u8) -> bool
+    ensures { result ≡ begins_punctuator byte }
 {
     matches!(
-        b,
+        byte,
         b'[' | b']'
             | b'('
             | b')'
@@ -159,53 +159,53 @@ pub(crate) fn begins_punctuator(b: u8) -> bool
 
 /// A hexadecimal digit.
 #[tactic(auto, unfolding(c_grammar::specs::Grammar::is_hex))]
-pub(crate) fn is_hex(b: u8) -> bool
-    ensures { result ≡ is_hex b }
+pub(crate) fn is_hex(byte: u8) -> bool
+    ensures { result ≡ is_hex byte }
 {
-    is_digit(b) || matches!(b, b'A'..=b'F' | b'a'..=b'f')
+    is_digit(byte) || matches!(byte, b'A'..=b'F' | b'a'..=b'f')
 }
 
 /// A backslash, or a byte past ASCII.
 #[tactic(auto, unfolding(crate::specs::Class::is_beyond))]
 #[inline(always)]
-pub(crate) fn is_beyond(b: u8) -> bool
-    ensures { result ≡ is_beyond b }
+pub(crate) fn is_beyond(byte: u8) -> bool
+    ensures { result ≡ is_beyond byte }
 {
-    b == b'\\' || b >= 128
+    byte == b'\\' || byte >= 128
 }
 
 /// Whether these two separate digits (C23 6.4.4.1).
 #[inline(always)]
-fn is_separated(dialect: Dialect, c: u8, e: u8) -> bool
-    ensures { result ≡ is_separated dialect (c ∷ e ∷ []) }
+fn is_separated(dialect: Dialect, byte: u8, next: u8) -> bool
+    ensures { result ≡ is_separated dialect (byte ∷ next ∷ []) }
 {
     match dialect {
         Dialect::C11 => false,
-        Dialect::C23 => c == b'\'' && is_separable(e),
+        Dialect::C23 => byte == b'\'' && is_separable(next),
     }
 }
 
 /// What may stand behind a separator.
 #[tactic(auto, unfolding(c_grammar::specs::Grammar::is_digit))]
 #[inline(always)]
-fn is_separable(e: u8) -> bool
-    ensures { result ≡ (is_digit e || ((nat_le 65 e && nat_le e 90) || (nat_le 97 e && nat_le e 122) || e == 95)) }
+fn is_separable(next: u8) -> bool
+    ensures { result ≡ (is_digit next || ((nat_le 65 next && nat_le next 90) || (nat_le 97 next && nat_le next 122) || next == 95)) }
 {
-    e.is_ascii_digit() || (e.is_ascii_alphabetic() || e == b'_')
+    next.is_ascii_digit() || (next.is_ascii_alphabetic() || next == b'_')
 }
 
 /// Whether a number goes on with both of these as one unit (C11 6.4.8).
 #[inline(always)]
-pub(crate) fn is_pair(dialect: Dialect, c: u8, e: u8) -> bool
-    ensures { result ≡ is_pair dialect c e }
+pub(crate) fn is_pair(dialect: Dialect, byte: u8, next: u8) -> bool
+    ensures { result ≡ is_pair dialect byte next }
 {
-    (is_exponent(c) && is_sign(e)) || is_separated(dialect, c, e)
+    (is_exponent(byte) && is_sign(next)) || is_separated(dialect, byte, next)
 }
 
 /// Whether a number goes on with this one by itself (C11 6.4.8).
 #[inline(always)]
-pub(crate) fn is_single(c: u8) -> bool
-    ensures { result ≡ is_single c }
+pub(crate) fn is_single(byte: u8) -> bool
+    ensures { result ≡ is_single byte }
 {
-    is_word(c) || c == b'.'
+    is_word(byte) || byte == b'.'
 }

@@ -10,10 +10,10 @@ use c_chars::Chars;
 
 /// Whether this byte ends a block comment, behind a star or not.
 #[inline(always)]
-fn ends_block(star: bool, b: u8) -> bool
-    ensures { result ≡ (star && b == 47) }
+fn ends_block(star: bool, byte: u8) -> bool
+    ensures { result ≡ (star && byte == 47) }
 {
-    star && b == b'/'
+    star && byte == b'/'
 }
 
 /// Passes characters that end no block comment, unless a star stands before them.

@@ -43,13 +43,13 @@ pub(crate) fn first_front(table: &[&[u8]], text: &Chars) -> usize
     1
 }
 
-/// What stands behind the next n characters.
+/// What stands behind so many of the next characters.
 #[inline(always)]
-pub(crate) fn behind<'s>(text: &Chars<'s>, n: usize) -> Chars<'s>
-    ensures { result ≡ behind text.now n }
+pub(crate) fn behind<'s>(text: &Chars<'s>, count: usize) -> Chars<'s>
+    ensures { result ≡ behind text.now count }
 {
     let mut rest = text.ahead();
-    for _ in 0..n {
+    for _ in 0..count {
         match rest.next() {
             Some(_) => {}
             None => break,
@@ -91,15 +91,15 @@ pub(crate) fn begins_number(text: &Chars, first: u8) -> bool
 
 /// Whether the text, which begins with this byte, begins with these two.
 #[inline(always)]
-pub(crate) fn begins_two(text: &Chars, first: u8, a: u8, b: u8) -> bool
+pub(crate) fn begins_two(text: &Chars, first: u8, one: u8, two: u8) -> bool
     requires { IsFirst first (bytes_of text.now.chars) }
-    ensures { result ≡ starts_with nat_eq (bytes_of text.now.chars) (a ∷ b ∷ []) }
+    ensures { result ≡ starts_with nat_eq (bytes_of text.now.chars) (one ∷ two ∷ []) }
 {
-    if first != a {
+    if first != one {
         return false;
     }
     match text.peek(1) {
-        Some(c) => b == c.byte,
+        Some(c) => two == c.byte,
         None => false,
     }
 }

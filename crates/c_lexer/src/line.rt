@@ -67,10 +67,10 @@ fn next_of_word(chars: &mut Chars) -> Option<LogicalChar>
 }
 
 /// How many lines a character ends: one or none.
-fn lines_of(c: u8) -> u32
-    ensures { result ≡ if is_new_line c then 1 else 0 }
+fn lines_of(byte: u8) -> u32
+    ensures { result ≡ if is_new_line byte then 1 else 0 }
 {
-    if class::is_new_line(c) { 1 } else { 0 }
+    if class::is_new_line(byte) { 1 } else { 0 }
 }
 
 /// The gap that a text begins with, and what stands behind it.

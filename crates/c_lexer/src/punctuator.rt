@@ -19,11 +19,11 @@ const LONG: [&[u8]; 29] = [
 /// Whether some punctuator of two bytes and more begins with this one.
 #[tactic(auto, unfolding(crate::specs::Run::begins_long))]
 #[inline(always)]
-pub(crate) fn begins_long(b: u8) -> bool
-    ensures { result ≡ begins_long b }
+pub(crate) fn begins_long(byte: u8) -> bool
+    ensures { result ≡ begins_long byte }
 {
     matches!(
-        b,
+        byte,
         b'-' | b'='
             | b'&'
             | b'+'
@@ -44,11 +44,11 @@ pub(crate) fn begins_long(b: u8) -> bool
 /// Whether some punctuator has this second byte.
 #[tactic(auto, unfolding(crate::specs::Run::goes_on_long))]
 #[inline(always)]
-pub(crate) fn goes_on_long(b: u8) -> bool
-    ensures { result ≡ goes_on_long b }
+pub(crate) fn goes_on_long(byte: u8) -> bool
+    ensures { result ≡ goes_on_long byte }
 {
     matches!(
-        b,
+        byte,
         b'=' | b'>' | b'&' | b'+' | b'|' | b'-' | b'<' | b'.' | b':' | b'#' | b'%'
     )
 }
@@ -56,16 +56,16 @@ pub(crate) fn goes_on_long(b: u8) -> bool
 /// Whether the two bytes are a punctuator, and none that is longer begins with them.
 #[tactic(auto, unfolding(crate::specs::Run::is_pair_mark))]
 #[inline(always)]
-pub(crate) fn is_pair(a: u8, b: u8) -> bool
-    ensures { result ≡ is_pair_mark a b }
+pub(crate) fn is_pair(first: u8, second: u8) -> bool
+    ensures { result ≡ is_pair_mark first second }
 {
-    match b {
+    match second {
         b'=' => matches!(
-            a,
+            first,
             b'=' | b'!' | b'+' | b'<' | b'>' | b'-' | b'|' | b'&' | b'*' | b'/' | b'%' | b'^'
         ),
-        b'>' => a == b'-',
-        b'&' | b'+' | b'|' | b'-' | b'#' => a == b,
+        b'>' => first == b'-',
+        b'&' | b'+' | b'|' | b'-' | b'#' => first == second,
         _ => false,
     }
 }

@@ -11,10 +11,10 @@ use c_chars::Chars;
 
 /// Whether the byte is this one, and no backslash takes its meaning.
 #[inline(always)]
-fn stands_for(escaped: bool, b: u8, byte: u8) -> bool
-    ensures { result ≡ (not escaped && b == byte) }
+fn stands_for(escaped: bool, mark: u8, byte: u8) -> bool
+    ensures { result ≡ (not escaped && mark == byte) }
 {
-    !escaped && b == byte
+    !escaped && mark == byte
 }
 
 /// Passes characters that close no quote, unless a backslash takes the meaning of the first.

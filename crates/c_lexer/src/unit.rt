@@ -12,11 +12,11 @@ use crate::{class, front, line, utf8};
 use c_chars::{Chars, Dialect};
 
 /// Whether the text begins with so many hexadecimal digits.
-fn begins_hex(text: &Chars, n: usize) -> bool
-    ensures { result ≡ begins_hex n (bytes_of text.now.chars) }
+fn begins_hex(text: &Chars, count: usize) -> bool
+    ensures { result ≡ begins_hex count (bytes_of text.now.chars) }
 {
     let mut rest = text.ahead();
-    for _ in 0..n {
+    for _ in 0..count {
         match rest.next() {
             Some(c) => {
                 if !class::is_hex(c.byte) {
@@ -30,10 +30,10 @@ fn begins_hex(text: &Chars, n: usize) -> bool
 }
 
 /// Whether the text begins with a backslash, this letter and so many hexadecimal digits.
-fn begins_name(text: &Chars, letter: u8, n: usize) -> bool
-    ensures { result ≡ begins_name letter n (bytes_of text.now.chars) }
+fn begins_name(text: &Chars, letter: u8, count: usize) -> bool
+    ensures { result ≡ begins_name letter count (bytes_of text.now.chars) }
 {
-    front::begins_with(text, &[b'\\', letter]) && begins_hex(&front::behind(text, 2), n)
+    front::begins_with(text, &[b'\\', letter]) && begins_hex(&front::behind(text, 2), count)
 }
 
 /// What stands behind the universal character name that the text begins with; none where it begins

@@ -32,15 +32,15 @@ pub fn only_char(bytes: &[u8]) -> Option<char>
 }
 
 /// How many bytes a character has in UTF-8 that begins with this one.
-pub fn char_len(b: u8) -> usize
-    ensures len { result ≡ continuation_len b + 1 }
+pub fn char_len(byte: u8) -> usize
+    ensures len { result ≡ continuation_len byte + 1 }
     ensures within { result ≤ 4 }
 {
-    if b < 128 {
+    if byte < 128 {
         1
-    } else if b < 224 {
+    } else if byte < 224 {
         2
-    } else if b < 240 {
+    } else if byte < 240 {
         3
     } else {
         4

@@ -40,9 +40,9 @@ pub fn view<'r>(rt: &impl Abort, run: &'r Bump, tree: &CondTree<'_>, r: u32) -> 
 }
 
 /// The item at a place of a view.
-pub fn item_at(rt: &impl Abort, view: &View<'_>, k: u32) -> TokenId {
-    assert!(rt; k < view.len());
-    view.at(k)
+pub fn item_at(rt: &impl Abort, view: &View<'_>, place: u32) -> TokenId {
+    assert!(rt; place < view.len());
+    view.at(place)
 }
 
 /// What is looked at of an item: its kind, its bytes, its offset, its gap and its line.

@@ -141,9 +141,9 @@ const CHANGES: &[(&str, &str, &[(u32, u32)])] = &[
 ];
 
 /// What changes from the run before this one.
-fn change_of(rt: &impl Abort, tree: &CondTree<'_>, r: u32) -> Change {
-    assert!(rt; 0 < r && r < tree.runs());
-    tree.change(r)
+fn change_of(rt: &impl Abort, tree: &CondTree<'_>, run: u32) -> Change {
+    assert!(rt; 0 < run && run < tree.runs());
+    tree.change(run)
 }
 
 #[test]

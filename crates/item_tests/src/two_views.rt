@@ -60,9 +60,9 @@ fn seen_at<'s>(
     rt: &impl Abort,
     arena: &TokenArena<'_, 's>,
     view: &View<'_>,
-    k: u32,
+    place: u32,
 ) -> (u32, Seen<'s>) {
-    let id = item_at(rt, view, k);
+    let id = item_at(rt, view, place);
     (id.0, seen(rt, arena, id))
 }
 

@@ -32,10 +32,14 @@ fn view_of_call<'r>(rt: &impl Abort, run: &'r Bump) -> View<'r> {
 }
 
 /// What a view tells of a place: the number of its item, told twice, and whether a directive stands before it.
-fn told(rt: &impl Abort, view: &View<'_>, k: u32, number: &mut usize) -> (u32, u32, bool) {
-    assert!(rt; k < view.len());
-    let id = view.at(k).0;
-    (id, view.at_near(k, number).0, view.directive_before(k))
+fn told(rt: &impl Abort, view: &View<'_>, place: u32, number: &mut usize) -> (u32, u32, bool) {
+    assert!(rt; place < view.len());
+    let id = view.at(place).0;
+    (
+        id,
+        view.at_near(place, number).0,
+        view.directive_before(place),
+    )
 }
 
 #[test]

@@ -115,11 +115,11 @@ fn by_table(style: &Style, left: &LineTok, right: &LineTok) -> u8
 
 /// Whether a row may hold behind a token with this role, whatever follows. Of most roles none does.
 #[inline(always)]
-fn left_tells(l: Role) -> bool
-    ensures { result ≡ left_tells l }
+fn left_tells(left: Role) -> bool
+    ensures { result ≡ left_tells left }
 {
     matches!(
-        l,
+        left,
         Role::CtrlOpen
             | Role::CallOpen
             | Role::CastOpen
@@ -141,11 +141,11 @@ fn left_tells(l: Role) -> bool
 
 /// Whether a row may hold before a token with this role, where none holds behind the other.
 #[inline(always)]
-fn right_tells(r: Role) -> bool
-    ensures { result ≡ right_tells r }
+fn right_tells(right: Role) -> bool
+    ensures { result ≡ right_tells right }
 {
     matches!(
-        r,
+        right,
         Role::Trailing
             | Role::Comma
             | Role::Semi

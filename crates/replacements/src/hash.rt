@@ -19,10 +19,10 @@ fn is_comment(kind: ItemKind) -> bool
 
 /// Whether a `#` may be spelled from this byte on.
 #[inline(always)]
-fn may_begin_hash(b: u8) -> bool
-    ensures { result ≡ may_begin_hash b }
+fn may_begin_hash(byte: u8) -> bool
+    ensures { result ≡ may_begin_hash byte }
 {
-    b == b'#' || (b == b'%' || (b == b'?' || (b == b'\r' || b == b'\\')))
+    byte == b'#' || (byte == b'%' || (byte == b'?' || (byte == b'\r' || byte == b'\\')))
 }
 
 /// Whether the first byte tells that bytes spell no `#`. It does for most items, and then no other byte is looked at.

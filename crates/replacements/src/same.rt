@@ -79,10 +79,10 @@ fn are_same_blanks(
 
 /// Whether bytes are the same.
 #[inline(always)]
-fn are_equal(a: &[u8], b: &[u8]) -> bool
-    ensures { IsTrue result → a.now ≡ b.now }
+fn are_equal(left: &[u8], right: &[u8]) -> bool
+    ensures { IsTrue result → left.now ≡ right.now }
 {
-    a == b
+    left == right
 }
 
 /// Whether lines that are decided before an item stand there in the input. No `#` comes where the item begins its line.

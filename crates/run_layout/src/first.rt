@@ -50,11 +50,11 @@ fn first_role(class: TokenClass) -> Role
 }
 
 /// Whether a `{` stands before a place, where the places have these classes.
-fn opens_before(classes: &[TokenClass], k: u32) -> bool
-    requires { k < length classes.now }
-    ensures { result ≡ opens_before classes.now k }
+fn opens_before(classes: &[TokenClass], place: u32) -> bool
+    requires { place < length classes.now }
+    ensures { result ≡ opens_before classes.now place }
 {
-    k > 0 && classes[k as usize - 1].is_open_brace()
+    place > 0 && classes[place as usize - 1].is_open_brace()
 }
 
 /// The empty lines before an item, where the `{` of a block stands directly before it or doesn't.

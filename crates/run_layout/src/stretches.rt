@@ -9,18 +9,18 @@ use token_arena::{Segment, Stretch, TokenArena, View};
 
 /// The items of the segment with this number from a place on, if the place is in it.
 #[inline(always)]
-fn rest_at(segments: &[Segment], number: usize, k: u32) -> Option<Stretch>
+fn rest_at(segments: &[Segment], number: usize, place: u32) -> Option<Stretch>
     requires { AreSegments segments.now }
-    ensures { IfSome result (λ rest. IsRest segments.now number k rest) }
+    ensures { IfSome result (λ rest. IsRest segments.now number place rest) }
 {
     if number >= segments.len() {
         return None;
     }
     let segment = segments[number];
     let count = segment.end - segment.first;
-    if segment.before <= k && k - segment.before < count {
+    if segment.before <= place && place - segment.before < count {
         Some(Stretch {
-            first: segment.first + (k - segment.before),
+            first: segment.first + (place - segment.before),
             end: segment.end,
         })
     } else {
@@ -34,27 +34,27 @@ fn rest_at(segments: &[Segment], number: usize, k: u32) -> Option<Stretch>
 pub(crate) fn stretch_near(
     arena: &TokenArena<'_, '_>,
     view: &View<'_>,
-    k: u32,
+    place: u32,
     end: u32,
     number: &mut usize,
 ) -> Stretch
     requires items { AreWithin arena.now view.now }
-    requires some { k < end }
+    requires some { place < end }
     requires within { end ≤ length view.now }
     ensures some { result.first < result.end }
-    ensures within { k + (result.end - result.first) ≤ end }
-    ensures are { AreFrom view.now k result }
+    ensures within { place + (result.end - result.first) ≤ end }
+    ensures are { AreFrom view.now place result }
     ensures items { result.end ≤ length arena.now.tokens }
 {
     let items = arena.len();
-    if let Some(rest) = rest_at(view.segments(), *number, k) {
-        let count = (rest.end - rest.first).min(end - k);
+    if let Some(rest) = rest_at(view.segments(), *number, place) {
+        let count = (rest.end - rest.first).min(end - place);
         return Stretch {
             first: rest.first,
             end: rest.first + count,
         };
     }
-    let first = view.at_near(k, number).0;
+    let first = view.at_near(place, number).0;
     prove!(first < items);
     Stretch {
         first,

@@ -145,35 +145,35 @@ impl<'r> View<'r> {
     }
 
     /// The item at a place, found by halving.
-    pub fn at(&self, k: u32) -> TokenId
-        requires { k < length self.now }
-        ensures { (d : ℕ) → get_or self.now k d ≡ result.0 }
+    pub fn at(&self, place: u32) -> TokenId
+        requires { place < length self.now }
+        ensures { (d : ℕ) → get_or self.now place d ≡ result.0 }
     {
         let mut segment = 0;
-        self.at_near(k, &mut segment)
+        self.at_near(place, &mut segment)
     }
 
     /// The item at a place. It is looked for in the segment with this number first, which then becomes the number
     /// of its segment: who asks for one place after another starts at 0 and searches once for each segment.
     #[inline(always)]
-    pub fn at_near(&self, k: u32, number: &mut usize) -> TokenId
-        requires { k < length self.now }
-        ensures { (d : ℕ) → get_or self.now k d ≡ result.0 }
+    pub fn at_near(&self, place: u32, number: &mut usize) -> TokenId
+        requires { place < length self.now }
+        ensures { (d : ℕ) → get_or self.now place d ≡ result.0 }
     {
-        if !has_place(self.segments, *number, k) {
-            *number = segment_at(self.segments, k);
+        if !has_place(self.segments, *number, place) {
+            *number = segment_at(self.segments, place);
         }
         let segment = self.segments[*number];
-        TokenId(segment.first + (k - segment.before))
+        TokenId(segment.first + (place - segment.before))
     }
 
     /// Whether items of the text are left out directly before a place that isn't the first.
-    pub fn directive_before(&self, k: u32) -> bool
-        requires { k < length self.now }
-        ensures { IsTrue result ↔ ((0 < k) × (get_or self.now k 0 ≢ get_or self.now (k - 1) 0 + 1)) }
+    pub fn directive_before(&self, place: u32) -> bool
+        requires { place < length self.now }
+        ensures { IsTrue result ↔ ((0 < place) × (get_or self.now place 0 ≢ get_or self.now (place - 1) 0 + 1)) }
     {
-        let segment = self.segments[segment_at(self.segments, k)];
-        k > 0 && segment.before == k
+        let segment = self.segments[segment_at(self.segments, place)];
+        place > 0 && segment.before == place
     }
 }
 
@@ -195,31 +195,31 @@ fn between(segment: &Segment, first: u32, end: u32) -> Stretch
 
 // Whether the segment with this number has a place.
 #[inline(always)]
-fn has_place(segments: &[Segment], number: usize, k: u32) -> bool
+fn has_place(segments: &[Segment], number: usize, place: u32) -> bool
     requires { AreSegments segments.now }
     ensures within { OnTrue result (number < length segments.now) }
-    ensures has { OnTrue result (HasPlace segments.now k number) }
+    ensures has { OnTrue result (HasPlace segments.now place number) }
 {
     if number >= segments.len() {
         return false;
     }
     let segment = segments[number];
-    segment.before <= k && k - segment.before < segment.end - segment.first
+    segment.before <= place && place - segment.before < segment.end - segment.first
 }
 
 // The number of the segment that has a place.
 #[inline(never)]
-fn segment_at(segments: &[Segment], k: u32) -> usize
+fn segment_at(segments: &[Segment], place: u32) -> usize
     requires rule { AreSegments segments.now }
-    requires within { k < length (ids_of (map segment_bounds segments.now)) }
+    requires within { place < length (ids_of (map segment_bounds segments.now)) }
     ensures within { result < length segments.now }
-    ensures has { HasPlace segments.now k result }
+    ensures has { HasPlace segments.now place result }
 {
     let mut low = 0;
     let mut high = segments.len();
     while high - low > 1 {
         let mid = low + (high - low) / 2;
-        if segments[mid].before <= k {
+        if segments[mid].before <= place {
             low = mid;
         } else {
             high = mid;

@@ -89,26 +89,26 @@ fn take_round(stack: &mut Vec<Opener, &Bump>) -> Option<u32>
 
 /// Makes the two places partners.
 #[inline(always)]
-fn match_up(partners: &mut [Partner], o: u32, i: u32)
+fn match_up(partners: &mut [Partner], opened: u32, place: u32)
     requires few { length partners.old < 2 ^ 32 }
-    requires opener { o < length partners.old }
-    requires closer { i < length partners.old }
-    ensures { partners.new ≡ slice_set (slice_set partners.old o (Some i)) i (Some o) }
+    requires opener { opened < length partners.old }
+    requires closer { place < length partners.old }
+    ensures { partners.new ≡ slice_set (slice_set partners.old opened (Some place)) place (Some opened) }
 {
-    partners[o as usize] = Partner::at(i);
-    partners[i as usize] = Partner::at(o);
+    partners[opened as usize] = Partner::at(place);
+    partners[place as usize] = Partner::at(opened);
 }
 
 /// Makes the opener and the closer partners, where the closer has one.
 #[inline(always)]
-pub(crate) fn close(partners: &mut [Partner], o: Option<u32>, i: u32)
+pub(crate) fn close(partners: &mut [Partner], opened: Option<u32>, place: u32)
     requires few { length partners.old < 2 ^ 32 }
-    requires opener { ForSome o (λ p. p < length partners.old) }
-    requires closer { i < length partners.old }
-    ensures { partners.new ≡ paired partners.old o i }
+    requires opener { ForSome opened (λ p. p < length partners.old) }
+    requires closer { place < length partners.old }
+    ensures { partners.new ≡ paired partners.old opened place }
 {
-    if let Some(p) = o {
-        match_up(partners, p, i);
+    if let Some(p) = opened {
+        match_up(partners, p, place);
     }
 }
 
@@ -129,29 +129,29 @@ fn push_opener(stack: &mut Vec<Opener, &Bump>, place: u32, kind: TokenClass) -> 
 pub fn waiting_step(
     stack: &mut Vec<Opener, &Bump>,
     braces: &mut usize,
-    i: u32,
-    c: TokenClass,
+    place: u32,
+    class: TokenClass,
 ) -> Result<Option<u32>, NoMemory>
     requires count { braces.old ≡ count_braces (reverse stack.old.items) }
-    requires small { braces.old ≤ i }
-    requires before { StandBefore i (reverse stack.old.items) }
-    ensures step { IfOk result (λ o. TakesStep c i (reverse stack.old.items) o (reverse stack.new.items)) }
-    ensures opener { IfOk result (λ o. ForSome o (λ p. p < i)) }
+    requires small { braces.old ≤ place }
+    requires before { StandBefore place (reverse stack.old.items) }
+    ensures step { IfOk result (λ o. TakesStep class place (reverse stack.old.items) o (reverse stack.new.items)) }
+    ensures opener { IfOk result (λ o. ForSome o (λ p. p < place)) }
     ensures count { OnOk result (braces.new ≡ count_braces (reverse stack.new.items)) }
-    ensures small { OnOk result (braces.new ≤ i + 1) }
-    ensures before { OnOk result (StandBefore (i + 1) (reverse stack.new.items)) }
+    ensures small { OnOk result (braces.new ≤ place + 1) }
+    ensures before { OnOk result (StandBefore (place + 1) (reverse stack.new.items)) }
 {
-    if !c.is_bracket() {
+    if !class.is_bracket() {
         return Ok(None);
     }
-    match c {
+    match class {
         TokenClass::OpenRound | TokenClass::OpenSquare => {
-            push_opener(stack, i, c)?;
+            push_opener(stack, place, class)?;
             Ok(None)
         }
         TokenClass::OpenBrace => {
             *braces += 1;
-            push_opener(stack, i, c)?;
+            push_opener(stack, place, class)?;
             Ok(None)
         }
         TokenClass::CloseRound => Ok(take_round(stack)),
@@ -167,21 +167,21 @@ fn bracket_step(
     stack: &mut Vec<Opener, &Bump>,
     braces: &mut usize,
     partners: &mut [Partner],
-    i: u32,
-    c: TokenClass,
+    place: u32,
+    class: TokenClass,
 ) -> Result<(), NoMemory>
     requires count { braces.old ≡ count_braces (reverse stack.old.items) }
-    requires small { braces.old ≤ i }
-    requires before { StandBefore i (reverse stack.old.items) }
-    requires here { i < length partners.old }
+    requires small { braces.old ≤ place }
+    requires before { StandBefore place (reverse stack.old.items) }
+    requires here { place < length partners.old }
     requires few { length partners.old < 2 ^ 32 }
-    ensures step { OnOk result (matching_of stack.new.items partners.new ≡ bracket_step c i (matching_of stack.old.items partners.old)) }
+    ensures step { OnOk result (matching_of stack.new.items partners.new ≡ bracket_step class place (matching_of stack.old.items partners.old)) }
     ensures count { OnOk result (braces.new ≡ count_braces (reverse stack.new.items)) }
-    ensures small { OnOk result (braces.new ≤ i + 1) }
-    ensures before { OnOk result (StandBefore (i + 1) (reverse stack.new.items)) }
+    ensures small { OnOk result (braces.new ≤ place + 1) }
+    ensures before { OnOk result (StandBefore (place + 1) (reverse stack.new.items)) }
 {
-    let o = waiting_step(stack, braces, i, c)?;
-    close(partners, o, i);
+    let o = waiting_step(stack, braces, place, class)?;
+    close(partners, o, place);
     Ok(())
 }
 

@@ -32,30 +32,30 @@ pub enum Edge {
 
 /// Whether a byte is a letter of ASCII or `_`.
 #[inline(always)]
-fn is_name_byte(b: u8) -> bool
-    ensures { result ≡ is_name_byte b }
+fn is_name_byte(byte: u8) -> bool
+    ensures { result ≡ is_name_byte byte }
 {
-    b.is_ascii_alphabetic() || b == b'_'
+    byte.is_ascii_alphabetic() || byte == b'_'
 }
 
 /// Whether a byte is a digit.
 #[inline(always)]
-fn is_number_byte(b: u8) -> bool
-    ensures { result ≡ is_number_byte b }
+fn is_number_byte(byte: u8) -> bool
+    ensures { result ≡ is_number_byte byte }
 {
-    b.is_ascii_digit()
+    byte.is_ascii_digit()
 }
 
 /// What a punctuator of one byte is to the items beside it.
 #[inline(always)]
-fn byte_edge(b: u8) -> Edge
-    ensures { result ≡ byte_edge b }
+fn byte_edge(byte: u8) -> Edge
+    ensures { result ≡ byte_edge byte }
 {
     // Every fifth item is one of these two.
-    if matches!(b, b'(' | b')') {
+    if matches!(byte, b'(' | b')') {
         return Edge::Quiet;
     }
-    match b {
+    match byte {
         b',' | b';' | b'[' | b']' | b'{' | b'}' => Edge::Quiet,
         b'!'
         | b'#'
@@ -78,11 +78,11 @@ fn byte_edge(b: u8) -> Edge
 
 /// Whether a byte is an operator by itself.
 #[inline(always)]
-fn is_operator(b: u8) -> bool
-    ensures { result ≡ is_operator b }
+fn is_operator(byte: u8) -> bool
+    ensures { result ≡ is_operator byte }
 {
     matches!(
-        b,
+        byte,
         b'!' | b'#'
             | b'%'
             | b'&'
@@ -122,11 +122,11 @@ fn punct_edge(raw: &[u8]) -> Edge
 
 /// Whether the first byte is this one.
 #[inline(always)]
-fn begins_in(b: u8, raw: &[u8]) -> bool
-    ensures { result ≡ begins_with (λ a. a == b) raw.now }
+fn begins_in(byte: u8, raw: &[u8]) -> bool
+    ensures { result ≡ begins_with (λ a. a == byte) raw.now }
 {
     match raw {
-        [a, ..] => *a == b,
+        [a, ..] => *a == byte,
         _ => false,
     }
 }

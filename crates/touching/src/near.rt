@@ -13,48 +13,49 @@ use c_grammar::ItemKind;
 
 /// A byte that is a character wherever it stands, and no `?`.
 #[inline(always)]
-fn is_plain(b: u8) -> bool
-    ensures { result ≡ is_plain b }
+fn is_plain(byte: u8) -> bool
+    ensures { result ≡ is_plain byte }
 {
-    b != b'?' && b != b'\r' && b != b'\\' && b != 0xEF
+    byte != b'?' && byte != b'\r' && byte != b'\\' && byte != 0xEF
 }
 
 /// An identifier or a number, and what would go on with it.
 #[inline(always)]
-fn word_by_word(left: ItemKind, right: ItemKind, r: u8) -> bool
-    ensures { result ≡ word_by_word left right (r ∷ []) }
+fn word_by_word(left: ItemKind, right: ItemKind, next: u8) -> bool
+    ensures { result ≡ word_by_word left right (next ∷ []) }
 {
     matches!(left, ItemKind::Identifier | ItemKind::Number)
         && match right {
             ItemKind::Identifier | ItemKind::Number => true,
-            ItemKind::CharConst | ItemKind::StringLit => is_letter(r),
+            ItemKind::CharConst | ItemKind::StringLit => is_letter(next),
             _ => false,
         }
 }
 
 /// What may be a prefix, and a quote.
 #[inline(always)]
-fn word_by_quote(left: ItemKind, r: u8) -> bool
-    ensures { result ≡ (is_identifier left && is_of (codes "'\"") r) }
+fn word_by_quote(left: ItemKind, right: u8) -> bool
+    ensures { result ≡ (is_identifier left && is_of (codes "'\"") right) }
 {
-    matches!(left, ItemKind::Identifier) && (r == b'\'' || r == b'"')
+    matches!(left, ItemKind::Identifier) && (right == b'\'' || right == b'"')
 }
 
 /// A number, and what may go on with it.
 #[inline(always)]
 #[tactic(auto, unfolding(c_grammar::specs::Grammar::is_sign))]
-fn number_may_go_on(left: ItemKind, r: u8) -> bool
-    ensures { result ≡ (is_number left && (is_of (codes ".'") r || is_sign r)) }
+fn number_may_go_on(left: ItemKind, right: u8) -> bool
+    ensures { result ≡ (is_number left && (is_of (codes ".'") right || is_sign right)) }
 {
-    matches!(left, ItemKind::Number) && (r == b'.' || r == b'\'' || r == b'+' || r == b'-')
+    matches!(left, ItemKind::Number)
+        && (right == b'.' || right == b'\'' || right == b'+' || right == b'-')
 }
 
 /// A point, and a number.
 #[inline(always)]
-fn point_by_number(l: u8, right: ItemKind) -> bool
-    ensures { result ≡ ((l == 46) && is_number right) }
+fn point_by_number(left: u8, right: ItemKind) -> bool
+    ensures { result ≡ ((left == 46) && is_number right) }
 {
-    l == b'.' && matches!(right, ItemKind::Number)
+    left == b'.' && matches!(right, ItemKind::Number)
 }
 
 /// An item that is none of C, or one that takes its line.
@@ -70,40 +71,40 @@ fn keeps_apart(left: ItemKind, right: ItemKind) -> bool
 
 /// Whether a byte is one of these.
 #[inline(always)]
-fn is_second(r: u8) -> bool
-    ensures { result ≡ is_of seconds r }
+fn is_second(right: u8) -> bool
+    ensures { result ≡ is_of seconds right }
 {
     matches!(
-        r,
+        right,
         b':' | b'/' | b'*' | b'>' | b'+' | b'-' | b'<' | b'=' | b'&' | b'|' | b'#' | b'%' | b'.'
     )
 }
 
 /// Whether a byte is one of these.
 #[inline(always)]
-fn is_third(r: u8) -> bool
-    ensures { result ≡ is_of thirds r }
+fn is_third(right: u8) -> bool
+    ensures { result ≡ is_of thirds right }
 {
-    matches!(r, b'=' | b'.' | b'%')
+    matches!(right, b'=' | b'.' | b'%')
 }
 
 /// Whether a word begins with these two.
 #[inline(always)]
-fn begins_with(l: u8, r: u8, word: &[u8]) -> bool
-    ensures { result ≡ is_front (l ∷ r ∷ []) word.now }
+fn begins_with(left: u8, right: u8, word: &[u8]) -> bool
+    ensures { result ≡ is_front (left ∷ right ∷ []) word.now }
 {
     match word {
-        [a, b, ..] => l == *a && r == *b,
+        [a, b, ..] => left == *a && right == *b,
         _ => false,
     }
 }
 
 /// Whether a word of this table begins with these two.
-fn some_begins(l: u8, r: u8, table: &[&[u8]]) -> bool
-    ensures { result ≡ list_any (is_front (l ∷ r ∷ [])) (map (λ p. p.now) table.now) }
+fn some_begins(left: u8, right: u8, table: &[&[u8]]) -> bool
+    ensures { result ≡ list_any (is_front (left ∷ right ∷ [])) (map (λ p. p.now) table.now) }
 {
     for word in table {
-        if begins_with(l, r, word) {
+        if begins_with(left, right, word) {
             return true;
         }
     }
@@ -112,29 +113,29 @@ fn some_begins(l: u8, r: u8, table: &[&[u8]]) -> bool
 
 /// Whether a punctuator or a comment begins with these two.
 #[inline(always)]
-fn pair_goes_on(l: u8, r: u8) -> bool
-    ensures { result ≡ pair_goes_on l r }
+fn pair_goes_on(left: u8, right: u8) -> bool
+    ensures { result ≡ pair_goes_on left right }
 {
-    if !is_second(r) {
+    if !is_second(right) {
         return false;
     }
-    some_begins(l, r, &GOING_ON)
+    some_begins(left, right, &GOING_ON)
 }
 
 /// Whether a punctuator goes on with a character, where its bytes tell it.
 #[inline(always)]
-fn punct_goes_on(dialect: Dialect, left: ItemKind, raw: &[u8], r: u8) -> Option<bool>
+fn punct_goes_on(dialect: Dialect, left: ItemKind, raw: &[u8], right: u8) -> Option<bool>
     requires { 0 < length raw.now }
-    ensures { IfSome result (λ goes_on. goes_on ≡ punct_goes_on left (spelling dialect raw.now) (r ∷ [])) }
+    ensures { IfSome result (λ goes_on. goes_on ≡ punct_goes_on left (spelling dialect raw.now) (right ∷ [])) }
 {
     let _read = dialect;
     if !matches!(left, ItemKind::Punct) {
         return Some(false);
     }
     if raw.len() == 1 && is_plain(raw[0]) {
-        return Some(pair_goes_on(raw[0], r));
+        return Some(pair_goes_on(raw[0], right));
     }
-    if raw.len() == 2 && is_plain(raw[0]) && is_plain(raw[1]) && !is_third(r) {
+    if raw.len() == 2 && is_plain(raw[0]) && is_plain(raw[1]) && !is_third(right) {
         return Some(false);
     }
     None

@@ -64,11 +64,11 @@ fn is_done(chars: &Chars<'_>, right: Option<u8>) -> bool
 }
 
 /// Whether this character, where there is one, is that byte.
-fn follows(right: Option<u8>, b: u8) -> bool
-    ensures { result ≡ is_front (option_to_list right) (b ∷ []) }
+fn follows(right: Option<u8>, byte: u8) -> bool
+    ensures { result ≡ is_front (option_to_list right) (byte ∷ []) }
 {
     match right {
-        Some(e) => e == b,
+        Some(e) => e == byte,
         None => true,
     }
 }
@@ -93,10 +93,10 @@ pub(crate) fn begins(dialect: Dialect, raw: &[u8], right: Option<u8>, word: &[u8
 }
 
 #[tactic(auto, unfolding(c_grammar::specs::Grammar::is_exponent))]
-fn is_exponent(c: u8) -> bool
-    ensures { result ≡ is_exponent c }
+fn is_exponent(byte: u8) -> bool
+    ensures { result ≡ is_exponent byte }
 {
-    c == b'e' || c == b'E' || c == b'p' || c == b'P'
+    byte == b'e' || byte == b'E' || byte == b'p' || byte == b'P'
 }
 
 /// Whether the last character is one that a sign may follow in a number.

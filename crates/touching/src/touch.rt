@@ -22,10 +22,10 @@ pub(crate) const GOING_ON: [&[u8]; 57] = [
 ];
 
 #[tactic(auto, unfolding(c_grammar::specs::Grammar::is_letter))]
-pub(crate) fn is_letter(c: u8) -> bool
-    ensures { result ≡ is_letter c }
+pub(crate) fn is_letter(byte: u8) -> bool
+    ensures { result ≡ is_letter byte }
 {
-    c.is_ascii_alphabetic() || c == b'_' || c == b'$'
+    byte.is_ascii_alphabetic() || byte == b'_' || byte == b'$'
 }
 
 /// Whether a letter, `_` or `$` comes first.
@@ -39,10 +39,10 @@ fn begins_letter(dialect: Dialect, raw: &[u8]) -> bool
     }
 }
 
-fn is_one_of(c: u8, cs: &[u8]) -> bool
-    ensures { result ≡ is_of cs.now c }
+fn is_one_of(byte: u8, cs: &[u8]) -> bool
+    ensures { result ≡ is_of cs.now byte }
 {
-    cs.iter().any(|x| *x == c)
+    cs.iter().any(|x| *x == byte)
 }
 
 /// Whether one of these characters comes first.

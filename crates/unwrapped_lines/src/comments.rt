@@ -30,24 +30,24 @@ fn token_follows(parts: &[Part], from: usize) -> bool
 
 /// Whether no line goes on at a place.
 #[inline(always)]
-fn is_between(lines: &[Line], total: usize, end_level: u32, m: Marks) -> bool
-    ensures { result ≡ is_between (record { lines = lines.now; total = total; end_level = end_level }) m }
+fn is_between(lines: &[Line], total: usize, end_level: u32, marks: Marks) -> bool
+    ensures { result ≡ is_between (record { lines = lines.now; total = total; end_level = end_level }) marks }
 {
-    match lines.get(m.begun) {
-        Some(l) => l.first as usize == m.seen,
-        None => total <= m.seen,
+    match lines.get(marks.begun) {
+        Some(l) => l.first as usize == marks.seen,
+        None => total <= marks.seen,
     }
 }
 
 #[inline(always)]
-fn begins_line(parts: &[Part], k: usize, p: Part, m: Marks) -> bool
-    requires { k < length parts.now }
-    ensures { result ≡ begins_line p (drop (k + 1) parts.now) m }
+fn begins_line(parts: &[Part], index: usize, part: Part, marks: Marks) -> bool
+    requires { index < length parts.now }
+    ensures { result ≡ begins_line part (drop (index + 1) parts.now) marks }
 {
-    match p {
-        Part::Token => m.run != Run::Begun,
+    match part {
+        Part::Token => marks.run != Run::Begun,
         Part::Own | Part::Trailing => false,
-        Part::Inner => m.run == Run::Apart && token_follows(parts, k + 1),
+        Part::Inner => marks.run == Run::Apart && token_follows(parts, index + 1),
     }
 }
 
@@ -58,32 +58,32 @@ fn new_begin(
     total: usize,
     end_level: u32,
     parts: &[Part],
-    k: usize,
-    p: Part,
-    m: Marks,
+    index: usize,
+    part: Part,
+    marks: Marks,
 ) -> Option<Begin>
-    requires here { k < length parts.now }
+    requires here { index < length parts.now }
     requires few { length parts.now < 2 ^ 32 }
-    ensures { result ≡ new_begin (record { lines = lines.now; total = total; end_level = end_level }) k p (drop (k + 1) parts.now) m }
+    ensures { result ≡ new_begin (record { lines = lines.now; total = total; end_level = end_level }) index part (drop (index + 1) parts.now) marks }
 {
-    if !is_between(lines, total, end_level, m) {
+    if !is_between(lines, total, end_level, marks) {
         return None;
     }
-    if p == Part::Own {
-        let level = match lines.get(m.begun) {
+    if part == Part::Own {
+        let level = match lines.get(marks.begun) {
             Some(l) => l.list_level,
             None => end_level,
         };
         return Some(Begin {
-            first: k as u32,
+            first: index as u32,
             level,
             kind: LineKind::Comment,
         });
     }
-    if begins_line(parts, k, p, m) {
-        match lines.get(m.begun) {
+    if begins_line(parts, index, part, marks) {
+        match lines.get(marks.begun) {
             Some(l) => Some(Begin {
-                first: k as u32,
+                first: index as u32,
                 level: l.level,
                 kind: l.kind,
             }),
@@ -95,12 +95,12 @@ fn new_begin(
 }
 
 #[inline(always)]
-fn inner_run(between: bool, parts: &[Part], k: usize, run: Run) -> Run
-    requires { k < length parts.now }
-    ensures { result ≡ inner_run between (drop (k + 1) parts.now) run }
+fn inner_run(between: bool, parts: &[Part], index: usize, run: Run) -> Run
+    requires { index < length parts.now }
+    ensures { result ≡ inner_run between (drop (index + 1) parts.now) run }
 {
     if between && run == Run::Apart {
-        if token_follows(parts, k + 1) {
+        if token_follows(parts, index + 1) {
             Run::Begun
         } else {
             Run::Joined
@@ -116,38 +116,42 @@ fn next_marks(
     total: usize,
     end_level: u32,
     parts: &[Part],
-    k: usize,
-    p: Part,
-    m: Marks,
+    index: usize,
+    part: Part,
+    marks: Marks,
 ) -> Marks
-    requires here { k < length parts.now }
-    requires seen { m.seen < 2 ^ 40 }
-    requires begun { m.begun < 2 ^ 40 }
-    ensures same { result ≡ next_marks (record { lines = lines.now; total = total; end_level = end_level }) p (drop (k + 1) parts.now) m }
-    ensures seen { result.seen ≤ m.seen + 1 }
-    ensures begun { result.begun ≤ m.begun + 1 }
+    requires here { index < length parts.now }
+    requires seen { marks.seen < 2 ^ 40 }
+    requires begun { marks.begun < 2 ^ 40 }
+    ensures same { result ≡ next_marks (record { lines = lines.now; total = total; end_level = end_level }) part (drop (index + 1) parts.now) marks }
+    ensures seen { result.seen ≤ marks.seen + 1 }
+    ensures begun { result.begun ≤ marks.begun + 1 }
 {
-    let between = is_between(lines, total, end_level, m);
-    match p {
+    let between = is_between(lines, total, end_level, marks);
+    match part {
         Part::Token => Marks {
-            seen: m.seen + 1,
-            begun: if between { m.begun + 1 } else { m.begun },
+            seen: marks.seen + 1,
+            begun: if between {
+                marks.begun + 1
+            } else {
+                marks.begun
+            },
             run: Run::Apart,
         },
         Part::Own => Marks {
-            seen: m.seen,
-            begun: m.begun,
+            seen: marks.seen,
+            begun: marks.begun,
             run: Run::Apart,
         },
         Part::Trailing => Marks {
-            seen: m.seen,
-            begun: m.begun,
+            seen: marks.seen,
+            begun: marks.begun,
             run: Run::Apart,
         },
         Part::Inner => Marks {
-            seen: m.seen,
-            begun: m.begun,
-            run: inner_run(between, parts, k, m.run),
+            seen: marks.seen,
+            begun: marks.begun,
+            run: inner_run(between, parts, index, marks.run),
         },
     }
 }
@@ -199,14 +203,14 @@ fn pass_tokens(lines: &[Line], total: usize, end_level: u32, parts: &[Part], fro
 
 /// The line whose first token stands at a place, as nearly every line begins: no inner comments before it have begun it.
 #[inline(always)]
-fn starting(lines: &[Line], total: usize, end_level: u32, p: Part, m: Marks) -> Option<Line>
-    ensures begin { IfSome result (λ line. (k : ℕ) → (ps : List Part) → new_begin (record { lines = lines.now; total = total; end_level = end_level }) k p ps m ≡ Some (record { first = k; level = line.level; kind = line.kind })) }
-    ensures next { IfSome result (λ line. (ps : List Part) → next_marks (record { lines = lines.now; total = total; end_level = end_level }) p ps m ≡ record { seen = m.seen + 1; begun = m.begun + 1; run = Apart }) }
+fn starting(lines: &[Line], total: usize, end_level: u32, part: Part, marks: Marks) -> Option<Line>
+    ensures begin { IfSome result (λ line. (k : ℕ) → (ps : List Part) → new_begin (record { lines = lines.now; total = total; end_level = end_level }) k part ps marks ≡ Some (record { first = k; level = line.level; kind = line.kind })) }
+    ensures next { IfSome result (λ line. (ps : List Part) → next_marks (record { lines = lines.now; total = total; end_level = end_level }) part ps marks ≡ record { seen = marks.seen + 1; begun = marks.begun + 1; run = Apart }) }
 {
-    match lines.get(m.begun) {
+    match lines.get(marks.begun) {
         Some(line) => {
-            let first = line.first as usize == m.seen;
-            if p == Part::Token && first && m.run != Run::Begun {
+            let first = line.first as usize == marks.seen;
+            if part == Part::Token && first && marks.run != Run::Begun {
                 Some(*line)
             } else {
                 None

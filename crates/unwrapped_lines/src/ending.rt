@@ -20,40 +20,46 @@ fn skip_line(
     braces: &Braces,
     tokens: &[CodeToken],
     stack: &mut Vec<Open, &Bump>,
-    o: Open,
+    opened: Open,
     place: Place,
-    f: Form,
+    formed: Form,
 ) -> Result<Place, NoMemory>
     requires small { length tokens.now < 2 ^ 30 }
-    requires leads { LeadsToEnd braces.now tokens.now (o ∷ reverse stack.old.items) place.start place.at }
-    requires here { place.at < o.end }
-    requires form { form_of braces.now tokens.now o place.start place.at ≡ f }
-    requires stays { StaysIn place.at o f f.next }
-    requires level { f.level ≤ 2 * place.at }
+    requires leads { LeadsToEnd braces.now tokens.now (opened ∷ reverse stack.old.items) place.start place.at }
+    requires here { place.at < opened.end }
+    requires form { form_of braces.now tokens.now opened place.start place.at ≡ formed }
+    requires stays { StaysIn place.at opened formed formed.next }
+    requires level { formed.level ≤ 2 * place.at }
     ensures leads { IfOk result (λ p. LeadsToEnd braces.now tokens.now (reverse stack.new.items) p.start p.at) }
     ensures up { IfOk result (λ p. length tokens.now - p.at < length tokens.now - place.at) }
 {
-    match f.next {
+    match formed.next {
         Next::Ends => {
-            stack.push(o)?;
-            let start = settle(tokens, stack, f.end)?;
-            Ok(Place { start, at: f.end })
+            stack.push(opened)?;
+            let start = settle(tokens, stack, formed.end)?;
+            Ok(Place {
+                start,
+                at: formed.end,
+            })
         }
         Next::Goes(start) => {
-            stack.push(o)?;
-            Ok(Place { start, at: f.end })
+            stack.push(opened)?;
+            Ok(Place {
+                start,
+                at: formed.end,
+            })
         }
         Next::Waits(head) => {
-            stack.push(o)?;
-            stack.push(body_of(o, head, f.level))?;
+            stack.push(opened)?;
+            stack.push(body_of(opened, head, formed.level))?;
             Ok(Place {
                 start: Start::Fresh,
-                at: f.end,
+                at: formed.end,
             })
         }
         Next::Opens(_, b) => {
-            if b.end < o.end {
-                stack.push(o)?;
+            if b.end < opened.end {
+                stack.push(opened)?;
                 Ok(Place {
                     start: Start::Closing(b),
                     at: b.end,
@@ -63,7 +69,7 @@ fn skip_line(
                 stack.push(b)?;
                 Ok(Place {
                     start: Start::Fresh,
-                    at: f.end + 1,
+                    at: formed.end + 1,
                 })
             }
         }

@@ -21,20 +21,20 @@ use crate::{colons, scans};
 use line_tokens::LineKind;
 use token_classes::TokenClass;
 
-/// A block at the brace at `i`.
+/// A block at the brace at `place`.
 #[inline(always)]
 fn block_at(
     tokens: &[CodeToken],
     end: usize,
-    i: usize,
+    place: usize,
     context: Context,
     head: Head,
     head_level: u32,
     level: u32,
 ) -> Open
-    requires { i < end }
-    ensures same { result ≡ block_at tokens.now end i context head head_level level }
-    ensures least { i < result.end }
+    requires { place < end }
+    ensures same { result ≡ block_at tokens.now end place context head head_level level }
+    ensures least { place < result.end }
     ensures most { result.end ≤ end }
 {
     Open {
@@ -42,7 +42,7 @@ fn block_at(
         context,
         level,
         case_level: level,
-        end: block_end(tokens, end, i),
+        end: block_end(tokens, end, place),
         head,
         head_level,
         assigned: false,
@@ -52,18 +52,18 @@ fn block_at(
 #[inline(always)]
 fn label_form(
     tokens: &[CodeToken],
-    o: Open,
+    opened: Open,
     kind: LineKind,
     level: u32,
     wrapped: bool,
     colon: usize,
 ) -> Form
-    requires here { colon < o.end }
-    requires list { o.end ≤ length tokens.now }
+    requires here { colon < opened.end }
+    requires list { opened.end ≤ length tokens.now }
     requires small { length tokens.now < 2 ^ 30 }
     requires low { level < 2 ^ 31 }
-    ensures same { result ≡ label_form tokens.now o kind level wrapped colon }
-    ensures stays { StaysIn colon o result result.next }
+    ensures same { result ≡ label_form tokens.now opened kind level wrapped colon }
+    ensures stays { StaysIn colon opened result result.next }
     ensures level { result.level ≡ level }
 {
     let next = colon + 1;
@@ -71,12 +71,12 @@ fn label_form(
         kind,
         level,
         end: next,
-        next: if seen(tokens, o.end, next).is_open_brace() {
+        next: if seen(tokens, opened.end, next).is_open_brace() {
             Next::Opens(
                 wrapped,
                 block_at(
                     tokens,
-                    o.end,
+                    opened.end,
                     next,
                     Context::Code,
                     Head::Plain,
@@ -90,12 +90,12 @@ fn label_form(
     }
 }
 
-fn goto_level(braces: &Braces, o: Open) -> u32
-    ensures same { result ≡ goto_level braces.now o }
-    ensures most { result ≤ o.level }
+fn goto_level(braces: &Braces, opened: Open) -> u32
+    ensures same { result ≡ goto_level braces.now opened }
+    ensures most { result ≤ opened.level }
 {
     if braces.indent_goto_labels {
-        o.level.saturating_sub(1)
+        opened.level.saturating_sub(1)
     } else {
         0
     }
@@ -103,50 +103,56 @@ fn goto_level(braces: &Braces, o: Open) -> u32
 
 /// A label.
 #[inline(always)]
-fn label(braces: &Braces, tokens: &[CodeToken], colons: &[u32], o: Open, at: usize) -> Option<Form>
+fn label(
+    braces: &Braces,
+    tokens: &[CodeToken],
+    colons: &[u32],
+    opened: Open,
+    at: usize,
+) -> Option<Form>
     requires colons { AreCaseColons colons.now tokens.now }
-    requires here { at < o.end }
-    requires list { o.end ≤ length tokens.now }
+    requires here { at < opened.end }
+    requires list { opened.end ≤ length tokens.now }
     requires small { length tokens.now < 2 ^ 30 }
-    requires low { o.level ≤ 2 * at }
-    requires case_low { o.case_level ≤ 2 * at }
-    ensures same { result ≡ label braces.now tokens.now o at }
-    ensures stays { IfSome result (λ f. StaysIn at o f f.next) }
+    requires low { opened.level ≤ 2 * at }
+    requires case_low { opened.case_level ≤ 2 * at }
+    ensures same { result ≡ label braces.now tokens.now opened at }
+    ensures stays { IfSome result (λ f. StaysIn at opened f f.next) }
     ensures level { IfSome result (λ f. f.level ≤ 2 * at) }
 {
     let c = class_at(tokens, at);
     if c.is_case() {
-        let colon = colons::label_colon(tokens, colons, o.end, at);
-        if colon < o.end {
+        let colon = colons::label_colon(tokens, colons, opened.end, at);
+        if colon < opened.end {
             return Some(label_form(
                 tokens,
-                o,
+                opened,
                 LineKind::CaseLabel,
-                o.case_level,
+                opened.case_level,
                 braces.after_case_label,
                 colon,
             ));
         }
     }
-    if !seen(tokens, o.end, at + 1).is_colon() {
+    if !seen(tokens, opened.end, at + 1).is_colon() {
         return None;
     }
     if c.is_default() {
         return Some(label_form(
             tokens,
-            o,
+            opened,
             LineKind::CaseLabel,
-            o.case_level,
+            opened.case_level,
             braces.after_case_label,
             at + 1,
         ));
     }
-    if c.is_plain() && o.context.is_code() && !touched_at(tokens, at + 1) {
+    if c.is_plain() && opened.context.is_code() && !touched_at(tokens, at + 1) {
         return Some(label_form(
             tokens,
-            o,
+            opened,
             LineKind::GotoLabel,
-            goto_level(braces, o),
+            goto_level(braces, opened),
             false,
             at + 1,
         ));
@@ -211,14 +217,14 @@ fn control_block(
     braces: &Braces,
     tokens: &[CodeToken],
     end: usize,
-    i: usize,
+    place: usize,
     head: Head,
     level: u32,
 ) -> Open
-    requires here { i < end }
+    requires here { place < end }
     requires low { level < 2 ^ 31 }
-    ensures same { result ≡ control_block braces.now tokens.now end i head level }
-    ensures least { i < result.end }
+    ensures same { result ≡ control_block braces.now tokens.now end place head level }
+    ensures least { place < result.end }
     ensures most { result.end ≤ end }
     ensures block { result.block ≡ true }
     ensures level { result.level ≤ level + 2 }
@@ -232,13 +238,13 @@ fn control_block(
             context: Context::Code,
             level: case_level + 1,
             case_level,
-            end: block_end(tokens, end, i),
+            end: block_end(tokens, end, place),
             head,
             head_level: level,
             assigned: false,
         }
     } else {
-        block_at(tokens, end, i, Context::Code, head, level, level + 1)
+        block_at(tokens, end, place, Context::Code, head, level, level + 1)
     }
 }
 
@@ -264,31 +270,31 @@ fn kind_or_close(closes: bool, kind: LineKind) -> LineKind
 fn control_form(
     braces: &Braces,
     tokens: &[CodeToken],
-    o: Open,
+    opened: Open,
     closes: bool,
     level: u32,
     at: usize,
 ) -> Form
-    requires here { at < o.end }
-    requires header { OnTrue closes (at + 1 < o.end) }
-    requires list { o.end ≤ length tokens.now }
+    requires here { at < opened.end }
+    requires header { OnTrue closes (at + 1 < opened.end) }
+    requires list { opened.end ≤ length tokens.now }
     requires small { length tokens.now < 2 ^ 30 }
     requires low { level < 2 ^ 31 }
-    ensures same { result ≡ control_form braces.now tokens.now o closes level at }
-    ensures stays { StaysIn at o result result.next }
+    ensures same { result ≡ control_form braces.now tokens.now opened closes level at }
+    ensures stays { StaysIn at opened result result.next }
     ensures level { result.level ≡ level }
 {
     let from = behind_close(closes, at);
-    let h = header_end(tokens, o.end, from);
-    let head = head_of(tokens, o.end, from);
+    let h = header_end(tokens, opened.end, from);
+    let head = head_of(tokens, opened.end, from);
     Form {
         kind: kind_or_close(closes, LineKind::Control),
         level,
         end: h,
-        next: if seen(tokens, o.end, h).is_open_brace() {
+        next: if seen(tokens, opened.end, h).is_open_brace() {
             Next::Opens(
                 braces.after_control,
-                control_block(braces, tokens, o.end, h, head, level),
+                control_block(braces, tokens, opened.end, h, head, level),
             )
         } else {
             Next::Waits(head)
@@ -298,27 +304,27 @@ fn control_form(
 
 /// The end of the tail of a `do`, or the place where there is none.
 #[inline(always)]
-pub fn tail_end(tokens: &[CodeToken], end: usize, i: usize) -> usize
-    requires { i < 2 ^ 33 }
-    ensures same { result ≡ tail_end tokens.now end i }
-    ensures least { i ≤ result }
-    ensures most { i < result → result ≤ end }
+pub fn tail_end(tokens: &[CodeToken], end: usize, place: usize) -> usize
+    requires { place < 2 ^ 33 }
+    ensures same { result ≡ tail_end tokens.now end place }
+    ensures least { place ≤ result }
+    ensures most { place < result → result ≤ end }
 {
-    let g = after_group(tokens, end, i + 1);
-    if seen(tokens, end, i).is_while() && i + 1 < g && seen(tokens, end, g).is_semicolon() {
+    let g = after_group(tokens, end, place + 1);
+    if seen(tokens, end, place).is_while() && place + 1 < g && seen(tokens, end, g).is_semicolon() {
         g + 1
     } else {
-        i
+        place
     }
 }
 
 #[inline(always)]
-fn ends_macro(tokens: &[CodeToken], i: usize) -> bool
-    ensures { result ≡ ends_macro tokens.now i }
+fn ends_macro(tokens: &[CodeToken], place: usize) -> bool
+    ensures { result ≡ ends_macro tokens.now place }
 {
-    tokens.len() <= i
-        || (began_at(tokens, i)
-            && (class_at(tokens, i).is_word() || class_at(tokens, i).is_close_brace()))
+    tokens.len() <= place
+        || (began_at(tokens, place)
+            && (class_at(tokens, place).is_word() || class_at(tokens, place).is_close_brace()))
 }
 
 #[inline(always)]
@@ -338,48 +344,48 @@ fn macro_end(tokens: &[CodeToken], end: usize, at: usize) -> usize
     }
 }
 
-fn tagged_kind(c: TokenClass) -> LineKind
-    ensures { result ≡ tagged_kind c }
+fn tagged_kind(class: TokenClass) -> LineKind
+    ensures { result ≡ tagged_kind class }
 {
-    if scans::is_member_word(c) {
+    if scans::is_member_word(class) {
         LineKind::StructHead
-    } else if c.is_enum() {
+    } else if class.is_enum() {
         LineKind::EnumHead
     } else {
         LineKind::FuncHead
     }
 }
 
-fn wraps_tagged(braces: &Braces, c: TokenClass) -> bool
-    ensures { result ≡ wraps_tagged braces.now c }
+fn wraps_tagged(braces: &Braces, class: TokenClass) -> bool
+    ensures { result ≡ wraps_tagged braces.now class }
 {
-    if c.is_struct() {
+    if class.is_struct() {
         braces.after_struct
-    } else if c.is_union() {
+    } else if class.is_union() {
         braces.after_union
-    } else if c.is_enum() {
+    } else if class.is_enum() {
         braces.after_enum
     } else {
         braces.after_function
     }
 }
 
-fn tagged_context(c: TokenClass) -> Context
-    ensures { result ≡ tagged_context c }
+fn tagged_context(class: TokenClass) -> Context
+    ensures { result ≡ tagged_context class }
 {
-    if scans::is_member_word(c) {
+    if scans::is_member_word(class) {
         Context::Member
-    } else if c.is_enum() {
+    } else if class.is_enum() {
         Context::Enumerators
     } else {
         Context::Code
     }
 }
 
-fn tagged_head(c: TokenClass) -> Head
-    ensures { result ≡ tagged_head c }
+fn tagged_head(class: TokenClass) -> Head
+    ensures { result ≡ tagged_head class }
 {
-    if c.is_struct() || c.is_union() || c.is_enum() {
+    if class.is_struct() || class.is_union() || class.is_enum() {
         Head::Tagged
     } else {
         Head::Plain
@@ -391,23 +397,23 @@ fn tagged_head(c: TokenClass) -> Head
 fn other_form(
     braces: &Braces,
     tokens: &[CodeToken],
-    o: Open,
+    opened: Open,
     closes: bool,
     level: u32,
     at: usize,
     assigned: bool,
 ) -> Form
-    requires here { at < o.end }
-    requires list { o.end ≤ length tokens.now }
+    requires here { at < opened.end }
+    requires list { opened.end ≤ length tokens.now }
     requires small { length tokens.now < 2 ^ 30 }
     requires low { level < 2 ^ 31 }
     requires first { OnFalse closes (is_open_brace (class_at tokens.now at) ≡ false) }
-    ensures same { result ≡ other_form braces.now tokens.now o closes level at assigned }
-    ensures stays { StaysIn at o result result.next }
+    ensures same { result ≡ other_form braces.now tokens.now opened closes level at assigned }
+    ensures stays { StaysIn at opened result result.next }
     ensures level { result.level ≡ level }
 {
     let from = behind_close(closes, at);
-    let stop = scans::statement_stop(tokens, o.end, from, assigned);
+    let stop = scans::statement_stop(tokens, opened.end, from, assigned);
     if stop.opens {
         let tag = scans::tag_before(tokens, from, stop.at);
         Form {
@@ -421,7 +427,7 @@ fn other_form(
                     context: tagged_context(tag),
                     level: level + 1,
                     case_level: level + 1,
-                    end: block_end(tokens, o.end, stop.at),
+                    end: block_end(tokens, opened.end, stop.at),
                     head: tagged_head(tag),
                     head_level: level,
                     assigned: stop.assigned,
@@ -453,26 +459,32 @@ fn line_alone(kind: LineKind, level: u32, end: usize) -> Form
 
 /// A line that opens a block of code at its end.
 #[inline(always)]
-fn opens_code(tokens: &[CodeToken], o: Open, kind: LineKind, brace: usize, wrapped: bool) -> Form
-    requires here { brace < o.end }
-    requires low { o.level < 2 ^ 31 }
-    ensures same { result ≡ record { kind = kind; level = o.level; end = brace; next = Opens wrapped (block_at tokens.now o.end brace Code Plain o.level (o.level + 1)) } }
-    ensures stays { (at : ℕ) → at ≤ brace → (wrapped ≡ true → at < brace) → StaysIn at o result result.next }
+fn opens_code(
+    tokens: &[CodeToken],
+    opened: Open,
+    kind: LineKind,
+    brace: usize,
+    wrapped: bool,
+) -> Form
+    requires here { brace < opened.end }
+    requires low { opened.level < 2 ^ 31 }
+    ensures same { result ≡ record { kind = kind; level = opened.level; end = brace; next = Opens wrapped (block_at tokens.now opened.end brace Code Plain opened.level (opened.level + 1)) } }
+    ensures stays { (at : ℕ) → at ≤ brace → (wrapped ≡ true → at < brace) → StaysIn at opened result result.next }
 {
     Form {
         kind,
-        level: o.level,
+        level: opened.level,
         end: brace,
         next: Next::Opens(
             wrapped,
             block_at(
                 tokens,
-                o.end,
+                opened.end,
                 brace,
                 Context::Code,
                 Head::Plain,
-                o.level,
-                o.level + 1,
+                opened.level,
+                opened.level + 1,
             ),
         ),
     }
@@ -480,26 +492,26 @@ fn opens_code(tokens: &[CodeToken], o: Open, kind: LineKind, brace: usize, wrapp
 
 /// The head of an extern block, whose brace stands two places behind.
 #[inline(always)]
-fn extern_form(braces: &Braces, tokens: &[CodeToken], o: Open, at: usize) -> Form
-    requires here { at + 2 < o.end }
-    requires low { o.level < 2 ^ 31 }
-    ensures same { result ≡ record { kind = ExternHead; level = o.level; end = at + 2; next = Opens braces.now.after_extern (block_at tokens.now o.end (at + 2) File Plain o.level o.level) } }
-    ensures stays { StaysIn at o result result.next }
+fn extern_form(braces: &Braces, tokens: &[CodeToken], opened: Open, at: usize) -> Form
+    requires here { at + 2 < opened.end }
+    requires low { opened.level < 2 ^ 31 }
+    ensures same { result ≡ record { kind = ExternHead; level = opened.level; end = at + 2; next = Opens braces.now.after_extern (block_at tokens.now opened.end (at + 2) File Plain opened.level opened.level) } }
+    ensures stays { StaysIn at opened result result.next }
 {
     Form {
         kind: LineKind::ExternHead,
-        level: o.level,
+        level: opened.level,
         end: at + 2,
         next: Next::Opens(
             braces.after_extern,
             block_at(
                 tokens,
-                o.end,
+                opened.end,
                 at + 2,
                 Context::File,
                 Head::Plain,
-                o.level,
-                o.level,
+                opened.level,
+                opened.level,
             ),
         ),
     }
@@ -507,86 +519,102 @@ fn extern_form(braces: &Braces, tokens: &[CodeToken], o: Open, at: usize) -> For
 
 /// The cases behind labels and control statements.
 #[inline(always)]
-fn unlabelled(braces: &Braces, tokens: &[CodeToken], o: Open, at: usize) -> Form
-    requires here { at < o.end }
-    requires list { o.end ≤ length tokens.now }
+fn unlabelled(braces: &Braces, tokens: &[CodeToken], opened: Open, at: usize) -> Form
+    requires here { at < opened.end }
+    requires list { opened.end ≤ length tokens.now }
     requires small { length tokens.now < 2 ^ 30 }
-    requires low { o.level ≤ 2 * at }
-    ensures same { result ≡ unlabelled braces.now tokens.now o at }
-    ensures stays { StaysIn at o result result.next }
+    requires low { opened.level ≤ 2 * at }
+    ensures same { result ≡ unlabelled braces.now tokens.now opened at }
+    ensures stays { StaysIn at opened result result.next }
     ensures level { result.level ≤ 2 * at }
 {
     let c = class_at(tokens, at);
-    let g = after_group(tokens, o.end, at + 1);
-    if o.context.is_code() && c.is_plain() && at + 1 < g && seen(tokens, o.end, g).is_open_brace() {
-        return opens_code(tokens, o, LineKind::Control, g, braces.after_control);
+    let g = after_group(tokens, opened.end, at + 1);
+    if opened.context.is_code()
+        && c.is_plain()
+        && at + 1 < g
+        && seen(tokens, opened.end, g).is_open_brace()
+    {
+        return opens_code(tokens, opened, LineKind::Control, g, braces.after_control);
     }
     if c.is_open_brace() {
-        return opens_code(tokens, o, LineKind::Brace, at, false);
+        return opens_code(tokens, opened, LineKind::Brace, at, false);
     }
     if c.is_extern()
-        && seen(tokens, o.end, at + 1).is_text()
-        && seen(tokens, o.end, at + 2).is_open_brace()
+        && seen(tokens, opened.end, at + 1).is_text()
+        && seen(tokens, opened.end, at + 2).is_open_brace()
     {
-        return extern_form(braces, tokens, o, at);
+        return extern_form(braces, tokens, opened, at);
     }
-    let m = macro_end(tokens, o.end, at);
+    let m = macro_end(tokens, opened.end, at);
     if at < m {
-        return line_alone(LineKind::MacroLine, o.level, m);
+        return line_alone(LineKind::MacroLine, opened.level, m);
     }
-    other_form(braces, tokens, o, false, o.level, at, false)
+    other_form(braces, tokens, opened, false, opened.level, at, false)
 }
 
 /// The cases, the first that fits.
 #[inline(always)]
-pub fn statement(braces: &Braces, tokens: &[CodeToken], colons: &[u32], o: Open, at: usize) -> Form
+pub fn statement(
+    braces: &Braces,
+    tokens: &[CodeToken],
+    colons: &[u32],
+    opened: Open,
+    at: usize,
+) -> Form
     requires colons { AreCaseColons colons.now tokens.now }
-    requires here { at < o.end }
-    requires list { o.end ≤ length tokens.now }
+    requires here { at < opened.end }
+    requires list { opened.end ≤ length tokens.now }
     requires small { length tokens.now < 2 ^ 30 }
-    requires low { o.level ≤ 2 * at }
-    requires case_low { o.case_level ≤ 2 * at }
-    ensures same { result ≡ statement braces.now tokens.now o at }
-    ensures stays { StaysIn at o result result.next }
+    requires low { opened.level ≤ 2 * at }
+    requires case_low { opened.case_level ≤ 2 * at }
+    ensures same { result ≡ statement braces.now tokens.now opened at }
+    ensures stays { StaysIn at opened result result.next }
     ensures level { result.level ≤ 2 * at }
 {
     let c = class_at(tokens, at);
-    if o.context.is_enumerators() {
+    if opened.context.is_enumerators() {
         return line_alone(
             LineKind::Enumerator,
-            o.level,
-            scans::enumerator_end(tokens, o.end, at),
+            opened.level,
+            scans::enumerator_end(tokens, opened.end, at),
         );
     }
     if c.is_close_brace() && has_no_partner(tokens, at) {
-        return line_alone(LineKind::Close, o.level, at + 1);
+        return line_alone(LineKind::Close, opened.level, at + 1);
     }
-    if let Some(f) = label(braces, tokens, colons, o, at) {
+    if let Some(f) = label(braces, tokens, colons, opened, at) {
         return f;
     }
     if c.is_control() {
-        return control_form(braces, tokens, o, false, o.level, at);
+        return control_form(braces, tokens, opened, false, opened.level, at);
     }
-    unlabelled(braces, tokens, o, at)
+    unlabelled(braces, tokens, opened, at)
 }
 
 /// The line of a block's closing brace.
 #[inline(always)]
-pub fn close_form(braces: &Braces, tokens: &[CodeToken], o: Open, b: Open, at: usize) -> Form
-    requires here { at < o.end }
-    requires list { o.end ≤ length tokens.now }
+pub fn close_form(
+    braces: &Braces,
+    tokens: &[CodeToken],
+    opened: Open,
+    around: Open,
+    at: usize,
+) -> Form
+    requires here { at < opened.end }
+    requires list { opened.end ≤ length tokens.now }
     requires small { length tokens.now < 2 ^ 30 }
-    requires low { b.head_level ≤ 2 * at }
-    ensures same { result ≡ close_form braces.now tokens.now o b at }
-    ensures stays { StaysIn at o result result.next }
+    requires low { around.head_level ≤ 2 * at }
+    ensures same { result ≡ close_form braces.now tokens.now opened around at }
+    ensures stays { StaysIn at opened result result.next }
     ensures level { result.level ≤ 2 * at }
 {
-    let level = b.head_level;
-    if b.head.is_tagged() {
-        return other_form(braces, tokens, o, true, level, at, b.assigned);
+    let level = around.head_level;
+    if around.head.is_tagged() {
+        return other_form(braces, tokens, opened, true, level, at, around.assigned);
     }
-    let t = tail_end(tokens, o.end, at + 1);
-    if b.head.is_do() && at + 1 < t {
+    let t = tail_end(tokens, opened.end, at + 1);
+    if around.head.is_do() && at + 1 < t {
         if braces.before_while {
             return Form {
                 kind: LineKind::Close,
@@ -597,10 +625,10 @@ pub fn close_form(braces: &Braces, tokens: &[CodeToken], o: Open, b: Open, at: u
         }
         return line_alone(LineKind::Close, level, t);
     }
-    if seen(tokens, o.end, at + 1).is_semicolon() {
+    if seen(tokens, opened.end, at + 1).is_semicolon() {
         return line_alone(LineKind::Close, level, at + 2);
     }
-    if b.head.is_if() && seen(tokens, o.end, at + 1).is_else() {
+    if around.head.is_if() && seen(tokens, opened.end, at + 1).is_else() {
         if braces.before_else {
             return Form {
                 kind: LineKind::Close,
@@ -609,7 +637,7 @@ pub fn close_form(braces: &Braces, tokens: &[CodeToken], o: Open, b: Open, at: u
                 next: Next::Goes(Start::Fresh),
             };
         }
-        return control_form(braces, tokens, o, true, level, at);
+        return control_form(braces, tokens, opened, true, level, at);
     }
     line_alone(LineKind::Close, level, at + 1)
 }
@@ -620,30 +648,30 @@ pub fn form_of(
     braces: &Braces,
     tokens: &[CodeToken],
     colons: &[u32],
-    o: Open,
+    opened: Open,
     start: Start,
     at: usize,
 ) -> Form
     requires colons { AreCaseColons colons.now tokens.now }
-    requires here { at < o.end }
-    requires list { o.end ≤ length tokens.now }
+    requires here { at < opened.end }
+    requires list { opened.end ≤ length tokens.now }
     requires small { length tokens.now < 2 ^ 30 }
-    requires low { o.level ≤ 2 * at }
-    requires case_low { o.case_level ≤ 2 * at }
+    requires low { opened.level ≤ 2 * at }
+    requires case_low { opened.case_level ≤ 2 * at }
     requires start_low { IsLow at start }
-    ensures same { result ≡ form_of braces.now tokens.now o start at }
-    ensures stays { StaysIn at o result result.next }
+    ensures same { result ≡ form_of braces.now tokens.now opened start at }
+    ensures stays { StaysIn at opened result result.next }
     ensures level { result.level ≤ 2 * at }
 {
     match start {
         Start::Fresh => {}
         Start::Tail => {
-            let t = tail_end(tokens, o.end, at);
+            let t = tail_end(tokens, opened.end, at);
             if at < t {
-                return line_alone(LineKind::Control, o.level, t);
+                return line_alone(LineKind::Control, opened.level, t);
             }
         }
-        Start::Closing(b) => return close_form(braces, tokens, o, b, at),
+        Start::Closing(b) => return close_form(braces, tokens, opened, b, at),
     }
-    statement(braces, tokens, colons, o, at)
+    statement(braces, tokens, colons, opened, at)
 }

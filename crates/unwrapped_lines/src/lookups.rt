@@ -7,51 +7,51 @@ use crate::token::CodeToken;
 use token_classes::TokenClass;
 
 #[inline(always)]
-pub fn class_at(tokens: &[CodeToken], i: usize) -> TokenClass
-    ensures { result ≡ class_at tokens.now i }
+pub fn class_at(tokens: &[CodeToken], place: usize) -> TokenClass
+    ensures { result ≡ class_at tokens.now place }
 {
-    match tokens.get(i) {
+    match tokens.get(place) {
         Some(t) => t.class,
         None => TokenClass::Nothing,
     }
 }
 
 #[inline(always)]
-pub fn began_at(tokens: &[CodeToken], i: usize) -> bool
-    ensures { result ≡ began_at tokens.now i }
+pub fn began_at(tokens: &[CodeToken], place: usize) -> bool
+    ensures { result ≡ began_at tokens.now place }
 {
-    match tokens.get(i) {
+    match tokens.get(place) {
         Some(t) => t.began,
         None => false,
     }
 }
 
 #[inline(always)]
-pub fn touched_at(tokens: &[CodeToken], i: usize) -> bool
-    ensures { result ≡ touched_at tokens.now i }
+pub fn touched_at(tokens: &[CodeToken], place: usize) -> bool
+    ensures { result ≡ touched_at tokens.now place }
 {
-    match tokens.get(i) {
+    match tokens.get(place) {
         Some(t) => t.touched,
         None => false,
     }
 }
 
 #[inline(always)]
-pub fn has_no_partner(tokens: &[CodeToken], i: usize) -> bool
-    ensures { result ≡ has_no_partner tokens.now i }
+pub fn has_no_partner(tokens: &[CodeToken], place: usize) -> bool
+    ensures { result ≡ has_no_partner tokens.now place }
 {
-    match tokens.get(i) {
+    match tokens.get(place) {
         Some(t) => t.partner.place().is_none(),
         None => true,
     }
 }
 
 #[inline(always)]
-pub fn seen(tokens: &[CodeToken], end: usize, i: usize) -> TokenClass
-    ensures { result ≡ seen tokens.now end i }
+pub fn seen(tokens: &[CodeToken], end: usize, place: usize) -> TokenClass
+    ensures { result ≡ seen tokens.now end place }
 {
-    if i < end {
-        class_at(tokens, i)
+    if place < end {
+        class_at(tokens, place)
     } else {
         TokenClass::Nothing
     }
@@ -59,15 +59,15 @@ pub fn seen(tokens: &[CodeToken], end: usize, i: usize) -> TokenClass
 
 /// The partner of the opener at a place, in the list that ends at `end`.
 #[inline(always)]
-pub fn partner_in(tokens: &[CodeToken], end: usize, i: usize) -> Option<usize>
-    ensures same { result ≡ partner_in tokens.now end i }
-    ensures inside { IfSome result (λ p. (i < p) × (p < end)) }
+pub fn partner_in(tokens: &[CodeToken], end: usize, opener: usize) -> Option<usize>
+    ensures same { result ≡ partner_in tokens.now end opener }
+    ensures inside { IfSome result (λ p. (opener < p) × (p < end)) }
 {
-    match tokens.get(i) {
+    match tokens.get(opener) {
         Some(t) => match t.partner.place() {
             Some(place) => {
                 let p = place as usize;
-                if i < p && p < end { Some(p) } else { None }
+                if opener < p && p < end { Some(p) } else { None }
             }
             None => None,
         },
@@ -76,67 +76,67 @@ pub fn partner_in(tokens: &[CodeToken], end: usize, i: usize) -> Option<usize>
 }
 
 #[inline(always)]
-pub fn after_group(tokens: &[CodeToken], end: usize, i: usize) -> usize
-    ensures same { result ≡ after_group tokens.now end i }
-    ensures least { i ≤ result }
-    ensures most { i < result → result ≤ end }
+pub fn after_group(tokens: &[CodeToken], end: usize, place: usize) -> usize
+    ensures same { result ≡ after_group tokens.now end place }
+    ensures least { place ≤ result }
+    ensures most { place < result → result ≤ end }
 {
-    if seen(tokens, end, i).is_open_round() {
-        match partner_in(tokens, end, i) {
+    if seen(tokens, end, place).is_open_round() {
+        match partner_in(tokens, end, place) {
             Some(p) => p + 1,
-            None => i,
+            None => place,
         }
     } else {
-        i
+        place
     }
 }
 
 #[inline(always)]
-pub fn step_over(tokens: &[CodeToken], end: usize, i: usize) -> usize
-    requires here { i < end }
+pub fn step_over(tokens: &[CodeToken], end: usize, place: usize) -> usize
+    requires here { place < end }
     requires list { end ≤ length tokens.now }
-    ensures same { result ≡ step_over tokens.now end i }
-    ensures least { i < result }
+    ensures same { result ≡ step_over tokens.now end place }
+    ensures least { place < result }
     ensures most { result ≤ end }
 {
-    if class_at(tokens, i).is_opener() {
-        match partner_in(tokens, end, i) {
+    if class_at(tokens, place).is_opener() {
+        match partner_in(tokens, end, place) {
             Some(p) => p + 1,
             None => end,
         }
     } else {
-        i + 1
+        place + 1
     }
 }
 
 #[inline(always)]
-pub fn block_end(tokens: &[CodeToken], end: usize, i: usize) -> usize
-    requires { i < end }
-    ensures same { result ≡ block_end tokens.now end i }
-    ensures least { i < result }
+pub fn block_end(tokens: &[CodeToken], end: usize, place: usize) -> usize
+    requires { place < end }
+    ensures same { result ≡ block_end tokens.now end place }
+    ensures least { place < result }
     ensures most { result ≤ end }
 {
-    match partner_in(tokens, end, i) {
+    match partner_in(tokens, end, place) {
         Some(p) => p,
         None => end,
     }
 }
 
 #[inline(always)]
-pub fn class_before(tokens: &[CodeToken], i: usize) -> TokenClass
-    ensures { result ≡ class_before tokens.now i }
+pub fn class_before(tokens: &[CodeToken], place: usize) -> TokenClass
+    ensures { result ≡ class_before tokens.now place }
 {
-    if i > 0 {
-        class_at(tokens, i - 1)
+    if place > 0 {
+        class_at(tokens, place - 1)
     } else {
         TokenClass::Nothing
     }
 }
 
 #[inline(always)]
-pub fn opens_list(tokens: &[CodeToken], assigned: bool, i: usize) -> bool
-    ensures { result ≡ opens_list tokens.now assigned i }
+pub fn opens_list(tokens: &[CodeToken], assigned: bool, place: usize) -> bool
+    ensures { result ≡ opens_list tokens.now assigned place }
 {
-    let before = class_before(tokens, i);
+    let before = class_before(tokens, place);
     before.is_before_list() || (before.is_close_round() && assigned)
 }

@@ -30,28 +30,28 @@ pub fn enumerator_end(tokens: &[CodeToken], end: usize, at: usize) -> usize
     end
 }
 
-fn opens_block(tokens: &[CodeToken], assigned: bool, i: usize) -> bool
-    ensures { result ≡ opens_block tokens.now assigned i }
+fn opens_block(tokens: &[CodeToken], assigned: bool, place: usize) -> bool
+    ensures { result ≡ opens_block tokens.now assigned place }
 {
-    class_at(tokens, i).is_open_brace() && !opens_list(tokens, assigned, i)
+    class_at(tokens, place).is_open_brace() && !opens_list(tokens, assigned, place)
 }
 
-fn assigns(tokens: &[CodeToken], assigned: bool, i: usize) -> bool
-    ensures { result ≡ assigns tokens.now assigned i }
+fn assigns(tokens: &[CodeToken], assigned: bool, place: usize) -> bool
+    ensures { result ≡ assigns tokens.now assigned place }
 {
-    assigned || class_at(tokens, i).is_assigning()
+    assigned || class_at(tokens, place).is_assigning()
 }
 
-pub fn is_member_word(c: TokenClass) -> bool
-    ensures { result ≡ is_member_word c }
+pub fn is_member_word(class: TokenClass) -> bool
+    ensures { result ≡ is_member_word class }
 {
-    c.is_struct() || c.is_union()
+    class.is_struct() || class.is_union()
 }
 
-fn enum_or(c: TokenClass, found: TokenClass) -> TokenClass
-    ensures { result ≡ enum_or c found }
+fn enum_or(class: TokenClass, found: TokenClass) -> TokenClass
+    ensures { result ≡ enum_or class found }
 {
-    if c.is_enum() { c } else { found }
+    if class.is_enum() { class } else { found }
 }
 
 /// Where a statement that is no other case ends.
@@ -95,13 +95,13 @@ pub fn statement_stop(tokens: &[CodeToken], end: usize, from: usize, assigned: b
 }
 
 /// The opener of the group that ends before a place and stands after a call word, otherwise 0.
-fn call_opener(tokens: &[CodeToken], first: usize, i: usize) -> usize
-    requires { 0 < i }
-    ensures same { result ≡ call_opener tokens.now first i }
-    ensures most { 0 < result → result < i }
+fn call_opener(tokens: &[CodeToken], first: usize, place: usize) -> usize
+    requires { 0 < place }
+    ensures same { result ≡ call_opener tokens.now first place }
+    ensures most { 0 < result → result < place }
 {
-    if class_at(tokens, i - 1).is_close_round() {
-        let o = behind(tokens, first, i - 1);
+    if class_at(tokens, place - 1).is_close_round() {
+        let o = behind(tokens, first, place - 1);
         if o > 0 && class_at(tokens, o - 1).is_call_word() {
             o
         } else {
@@ -113,15 +113,15 @@ fn call_opener(tokens: &[CodeToken], first: usize, i: usize) -> usize
 }
 
 /// The partner of a place, if it stands before it and after `first`, otherwise 0.
-fn behind(tokens: &[CodeToken], first: usize, i: usize) -> usize
-    ensures same { result ≡ behind first i (partner_of (slice_get tokens.now i)) }
-    ensures most { 0 < result → result < i }
+fn behind(tokens: &[CodeToken], first: usize, at: usize) -> usize
+    ensures same { result ≡ behind first at (partner_of (slice_get tokens.now at)) }
+    ensures most { 0 < result → result < at }
 {
-    match tokens.get(i) {
+    match tokens.get(at) {
         Some(t) => match t.partner.place() {
             Some(place) => {
                 let p = place as usize;
-                if first < p && p < i { p } else { 0 }
+                if first < p && p < at { p } else { 0 }
             }
             None => 0,
         },

@@ -28,18 +28,18 @@ pub struct Place {
 }
 
 /// Whether an `else` goes on with the statement of a header.
-fn answers_else(tokens: &[CodeToken], o: Open, at: usize) -> bool
-    ensures { result ≡ answers_else tokens.now o at }
+fn answers_else(tokens: &[CodeToken], opened: Open, at: usize) -> bool
+    ensures { result ≡ answers_else tokens.now opened at }
 {
-    o.head.is_if() && seen(tokens, o.end, at).is_else()
+    opened.head.is_if() && seen(tokens, opened.end, at).is_else()
 }
 
 /// Whether the tail of a `do` goes on with the statement of a header.
-fn answers_tail(tokens: &[CodeToken], o: Open, at: usize) -> bool
+fn answers_tail(tokens: &[CodeToken], opened: Open, at: usize) -> bool
     requires { at < 2 ^ 33 }
-    ensures { result ≡ answers_tail tokens.now o at }
+    ensures { result ≡ answers_tail tokens.now opened at }
 {
-    o.head.is_do() && at < tail_end(tokens, o.end, at)
+    opened.head.is_do() && at < tail_end(tokens, opened.end, at)
 }
 
 /// Ends the headers that waited for the statement that has ended.
@@ -85,29 +85,35 @@ fn leave(stack: &mut Vec<Open, &Bump>) -> Option<Open>
 
 /// The level of an own comment before a line.
 #[inline(always)]
-fn comment_level(o: Open, start: Start, f: Form) -> u32
-    ensures { result ≡ comment_level o start f }
+fn comment_level(opened: Open, start: Start, form: Form) -> u32
+    ensures { result ≡ comment_level opened start form }
 {
     match start {
-        Start::Fresh => { if f.kind.is_label() { f.level } else { o.level } }
-        Start::Tail => o.level,
+        Start::Fresh => {
+            if form.kind.is_label() {
+                form.level
+            } else {
+                opened.level
+            }
+        }
+        Start::Tail => opened.level,
         Start::Closing(b) => b.level,
     }
 }
 
 /// The line at a place.
 #[inline(always)]
-fn line_of(o: Open, start: Start, at: usize, f: Form) -> Line
+fn line_of(opened: Open, start: Start, at: usize, form: Form) -> Line
     requires begins { at < 2 ^ 32 }
-    requires ends { f.end < 2 ^ 32 }
-    ensures { result ≡ line_of o start at f }
+    requires ends { form.end < 2 ^ 32 }
+    ensures { result ≡ line_of opened start at form }
 {
     Line {
         first: at as u32,
-        end: f.end as u32,
-        level: f.level,
-        kind: f.kind,
-        list_level: comment_level(o, start, f),
+        end: form.end as u32,
+        level: form.level,
+        kind: form.kind,
+        list_level: comment_level(opened, start, form),
     }
 }
 
@@ -115,32 +121,32 @@ fn line_of(o: Open, start: Start, at: usize, f: Form) -> Line
 #[inline(always)]
 fn push_head(
     out: &mut Vec<Line, &Bump>,
-    o: Open,
+    opened: Open,
     start: Start,
     at: usize,
-    f: Form,
+    form: Form,
     wrapped: bool,
 ) -> Result<(), NoMemory>
     requires begins { at < 2 ^ 32 }
-    requires ends { f.end + 1 < 2 ^ 32 }
-    ensures { IfOk result (λ u. out.new.items ≡ out.old.items ++ head_lines o start at f wrapped) }
+    requires ends { form.end + 1 < 2 ^ 32 }
+    ensures { IfOk result (λ u. out.new.items ≡ out.old.items ++ head_lines opened start at form wrapped) }
 {
     if wrapped {
-        out.push(line_of(o, start, at, f))?;
+        out.push(line_of(opened, start, at, form))?;
         out.push(Line {
-            first: f.end as u32,
-            end: f.end as u32 + 1,
-            level: f.level,
+            first: form.end as u32,
+            end: form.end as u32 + 1,
+            level: form.level,
             kind: LineKind::Brace,
-            list_level: o.level,
+            list_level: opened.level,
         })?;
     } else {
         out.push(Line {
             first: at as u32,
-            end: f.end as u32 + 1,
-            level: f.level,
-            kind: f.kind,
-            list_level: comment_level(o, start, f),
+            end: form.end as u32 + 1,
+            level: form.level,
+            kind: form.kind,
+            list_level: comment_level(opened, start, form),
         })?;
     }
     Ok(())
@@ -148,16 +154,16 @@ fn push_head(
 
 /// The statement that a header waits for.
 #[inline(always)]
-pub(crate) fn body_of(o: Open, head: Head, level: u32) -> Open
+pub(crate) fn body_of(opened: Open, head: Head, level: u32) -> Open
     requires { level < 2 ^ 31 }
-    ensures { result ≡ body_of o head level }
+    ensures { result ≡ body_of opened head level }
 {
     Open {
         block: false,
-        context: o.context,
+        context: opened.context,
         level: level + 1,
         case_level: level + 1,
-        end: o.end,
+        end: opened.end,
         head,
         head_level: level,
         assigned: false,
@@ -187,19 +193,19 @@ fn leave_list(
     tokens: &[CodeToken],
     out: &[Line],
     stack: &mut Vec<Open, &Bump>,
-    o: Open,
+    opened: Open,
     place: Place,
 ) -> Place
-    requires stands { Stands braces.now tokens.now out.now (o ∷ reverse stack.old.items) place.start place.at }
-    requires ended { o.end ≤ place.at }
+    requires stands { Stands braces.now tokens.now out.now (opened ∷ reverse stack.old.items) place.start place.at }
+    requires ended { opened.end ≤ place.at }
     ensures stands { Stands braces.now tokens.now out.now (reverse stack.new.items) result.start result.at }
     ensures fewer { length stack.new.items ≤ length stack.old.items }
     ensures stays { result.at ≡ place.at }
 {
-    if o.block {
+    if opened.block {
         return Place {
-            start: Start::Closing(o),
-            at: o.end,
+            start: Start::Closing(opened),
+            at: opened.end,
         };
     }
     match leave(stack) {
@@ -218,48 +224,54 @@ fn take_line(
     tokens: &[CodeToken],
     out: &mut Vec<Line, &Bump>,
     stack: &mut Vec<Open, &Bump>,
-    o: Open,
+    opened: Open,
     place: Place,
-    f: Form,
+    formed: Form,
 ) -> Result<Place, NoMemory>
     requires small { length tokens.now < 2 ^ 30 }
-    requires stands { Stands braces.now tokens.now out.old.items (o ∷ reverse stack.old.items) place.start place.at }
-    requires here { place.at < o.end }
-    requires list { o.end ≤ length tokens.now }
-    requires form { form_of braces.now tokens.now o place.start place.at ≡ f }
-    requires stays { StaysIn place.at o f f.next }
-    requires level { f.level ≤ 2 * place.at }
+    requires stands { Stands braces.now tokens.now out.old.items (opened ∷ reverse stack.old.items) place.start place.at }
+    requires here { place.at < opened.end }
+    requires list { opened.end ≤ length tokens.now }
+    requires form { form_of braces.now tokens.now opened place.start place.at ≡ formed }
+    requires stays { StaysIn place.at opened formed formed.next }
+    requires level { formed.level ≤ 2 * place.at }
     ensures stands { IfOk result (λ p. Stands braces.now tokens.now out.new.items (reverse stack.new.items) p.start p.at) }
     ensures up { IfOk result (λ p. (place.at < p.at) × (length stack.new.items ≤ length stack.old.items + 2)) }
 {
-    match f.next {
+    match formed.next {
         Next::Ends => {
-            out.push(line_of(o, place.start, place.at, f))?;
-            stack.push(o)?;
-            let start = settle(tokens, stack, f.end)?;
-            Ok(Place { start, at: f.end })
+            out.push(line_of(opened, place.start, place.at, formed))?;
+            stack.push(opened)?;
+            let start = settle(tokens, stack, formed.end)?;
+            Ok(Place {
+                start,
+                at: formed.end,
+            })
         }
         Next::Goes(start) => {
-            out.push(line_of(o, place.start, place.at, f))?;
-            stack.push(o)?;
-            Ok(Place { start, at: f.end })
+            out.push(line_of(opened, place.start, place.at, formed))?;
+            stack.push(opened)?;
+            Ok(Place {
+                start,
+                at: formed.end,
+            })
         }
         Next::Waits(head) => {
-            out.push(line_of(o, place.start, place.at, f))?;
-            stack.push(o)?;
-            stack.push(body_of(o, head, f.level))?;
+            out.push(line_of(opened, place.start, place.at, formed))?;
+            stack.push(opened)?;
+            stack.push(body_of(opened, head, formed.level))?;
             Ok(Place {
                 start: Start::Fresh,
-                at: f.end,
+                at: formed.end,
             })
         }
         Next::Opens(wrapped, b) => {
-            push_head(out, o, place.start, place.at, f, wrapped)?;
-            stack.push(o)?;
+            push_head(out, opened, place.start, place.at, formed, wrapped)?;
+            stack.push(opened)?;
             stack.push(b)?;
             Ok(Place {
                 start: Start::Fresh,
-                at: f.end + 1,
+                at: formed.end + 1,
             })
         }
     }
@@ -298,19 +310,19 @@ fn turn(
     colons: &[u32],
     out: &mut Vec<Line, &Bump>,
     stack: &mut Vec<Open, &Bump>,
-    o: Open,
+    opened: Open,
     place: Place,
 ) -> Result<Place, NoMemory>
     requires colons { AreCaseColons colons.now tokens.now }
     requires small { length tokens.now < 2 ^ 30 }
-    requires stands { Stands braces.now tokens.now out.old.items (o ∷ reverse stack.old.items) place.start place.at }
+    requires stands { Stands braces.now tokens.now out.old.items (opened ∷ reverse stack.old.items) place.start place.at }
     ensures stands { IfOk result (λ p. Stands braces.now tokens.now out.new.items (reverse stack.new.items) p.start p.at) }
     ensures up { IfOk result (λ p. 2 * (length tokens.now - p.at) + length stack.new.items < 2 * (length tokens.now - place.at) + length stack.old.items + 1) }
 {
-    if place.at < o.end {
-        let f = form_of(braces, tokens, colons, o, place.start, place.at);
-        take_line(braces, tokens, out, stack, o, place, f)
+    if place.at < opened.end {
+        let f = form_of(braces, tokens, colons, opened, place.start, place.at);
+        take_line(braces, tokens, out, stack, opened, place, f)
     } else {
-        Ok(leave_list(braces, tokens, out, stack, o, place))
+        Ok(leave_list(braces, tokens, out, stack, opened, place))
     }
 }

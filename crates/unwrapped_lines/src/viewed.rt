@@ -94,13 +94,13 @@ fn partner_number(
     classes: &[TokenClass],
     numbers: &[u32],
     partners: &[Partner],
-    k: usize,
+    index: usize,
 ) -> Partner
     requires few { length classes.now ≤ LIMIT }
     requires numbers { numbers.now ≡ numbers_of classes.now }
-    ensures { result ≡ partner_number (numbers_of classes.now) (slice_get partners.now k) }
+    ensures { result ≡ partner_number (numbers_of classes.now) (slice_get partners.now index) }
 {
-    match partners.get(k) {
+    match partners.get(index) {
         Some(partner) => match partner.place() {
             Some(place) => number_at(classes, numbers, place),
             None => Partner::none(),

@@ -186,16 +186,16 @@ fn write_spliced<K: Sink>(
 pub fn write_gap<K: Sink>(
     style: &Style,
     crlf: bool,
-    d: Decision,
+    decision: Decision,
     old: &[u8],
     sink: &mut K,
 ) -> Result<(), Failed>
     requires { 1 ≤ style.now.tab_width }
-    ensures ok { OnOk result (Appends (K.taken sink.old) (K.taken sink.new) (gap_text style.now crlf d old.now)) }
-    ensures part { AppendsPart (K.taken sink.old) (K.taken sink.new) (gap_text style.now crlf d old.now) }
+    ensures ok { OnOk result (Appends (K.taken sink.old) (K.taken sink.new) (gap_text style.now crlf decision old.now)) }
+    ensures part { AppendsPart (K.taken sink.old) (K.taken sink.new) (gap_text style.now crlf decision old.now) }
     ensures counts { Counts (K.faults sink.old) (K.faults sink.new) result }
 {
-    match d {
+    match decision {
         Decision::Old => write_all(sink, old),
         Decision::Spaces(count) => write_blanks(count, sink),
         Decision::Lines {

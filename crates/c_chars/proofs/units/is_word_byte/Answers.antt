@@ -5,4 +5,4 @@ use Rattle.c_chars.proofs.units.is_word_byte.Goals as goal
 
 pub returns : goal.returns
 unfolding is_word_byte
-returns c = c.told.ensures ∙ word_told c.args.b (omega (arith, c.ranges.b.fits))
+returns c = c.told.ensures ∙ word_told c.args.byte (omega (arith, c.ranges.byte.fits))

@@ -3,4 +3,4 @@ use Rattle.c_lexer.proofs.Passing.{word_is}
 use Rattle.c_lexer.proofs.class.is_word.Goals as goal
 
 pub returns : goal.returns
-returns c = c.is_word_byte.ensures ∙ word_is c.args.b
+returns c = c.is_word_byte.ensures ∙ word_is c.args.byte

@@ -5,7 +5,7 @@ use Rattle.c_lexer.proofs.front.behind.Goals as goal
 
 pub loop-preserved : goal.loop-preserved
 loop-preserved c =
-    let left : c.args.n - c.loop.counter ≡ 1 + (c.args.n - (c.loop.counter + 1)) = omega arith in (
+    let left : c.args.count - c.loop.counter ≡ 1 + (c.args.count - (c.loop.counter + 1)) = omega arith in (
       omega arith,
-      sym (ap (λ n. behind c.loop.rest n) left ∙ behind_next c.loop.rest c.next.new.self c.in-Some.field-0 (c.args.n - (c.loop.counter + 1)) c.in-Some.ensures.some.0 c.in-Some.ensures.some.1 c.next.ensures.dialect) ∙ c.loop.invariant.1,
+      sym (ap (λ n. behind c.loop.rest n) left ∙ behind_next c.loop.rest c.next.new.self c.in-Some.field-0 (c.args.count - (c.loop.counter + 1)) c.in-Some.ensures.some.0 c.in-Some.ensures.some.1 c.next.ensures.dialect) ∙ c.loop.invariant.1,
     )

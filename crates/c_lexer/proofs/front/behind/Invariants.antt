@@ -3,4 +3,4 @@ use Rattle.c_chars.specs.Coming.{behind}
 use Rattle.c_lexer.proofs.front.behind.Given as goal
 
 abbrev pub invariant-loop : goal.invariant-loop
-invariant-loop l = (l.counter ≤ l.n) × (behind l.rest (l.n - l.counter) ≡ behind l.text l.n)
+invariant-loop l = (l.counter ≤ l.count) × (behind l.rest (l.count - l.counter) ≡ behind l.text l.count)

@@ -6,8 +6,8 @@ abbrev pub invariant-loop-high : goal.invariant-loop-high
 invariant-loop-high l = record {
   within : l.high ≤ length l.segments;
   some : l.low < l.high;
-  low : (get_or l.segments l.low no_segment).before ≤ l.k;
-  high : (l.high ≡ length l.segments) ⊎ (l.k < (get_or l.segments l.high no_segment).before);
+  low : (get_or l.segments l.low no_segment).before ≤ l.place;
+  high : (l.high ≡ length l.segments) ⊎ (l.place < (get_or l.segments l.high no_segment).before);
 }
 
 abbrev pub decreases-loop-high : goal.decreases-loop-high

@@ -5,4 +5,4 @@ use Rattle.touching.proofs.near.some_begins.Given as goal
 
 abbrev pub invariant-loop-word : goal.invariant-loop-word
 invariant-loop-word l =
-    list_any (is_front (l.l ∷ l.r ∷ [])) (drop l.word-index (map (λ p. p.now) l.table)) ≡ list_any (is_front (l.l ∷ l.r ∷ [])) (map (λ p. p.now) l.table)
+    list_any (is_front (l.left ∷ l.right ∷ [])) (drop l.word-index (map (λ p. p.now) l.table)) ≡ list_any (is_front (l.left ∷ l.right ∷ [])) (map (λ p. p.now) l.table)

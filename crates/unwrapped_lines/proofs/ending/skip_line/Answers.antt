@@ -4,7 +4,7 @@ use Rattle.unwrapped_lines.proofs.EndLemmas.{ends_skip, goes_skip, waits_skip, p
 use Rattle.unwrapped_lines.proofs.ending.skip_line.Goals as goal
 
 pub settle-requires : goal.settle-requires
-settle-requires c = let q : c.args.f.end ≤ c.args.o.end = ends_low c.args.place.at c.args.o c.args.f _ c.in-Ends.is c.requires.stays in let e = c.requires.leads.open_lists.0 in omega arith
+settle-requires c = let q : c.args.formed.end ≤ c.args.opened.end = ends_low c.args.place.at c.args.opened c.args.formed _ c.in-Ends.is c.requires.stays in let e = c.requires.leads.open_lists.0 in omega arith
 
 pub returns-in_ok-start-in-Ends-clause-leads : goal.returns-in_ok-start-in-Ends-clause-leads
 returns-in_ok-start-in-Ends-clause-leads c =
@@ -23,9 +23,9 @@ returns-in_ok-push-in-Waits-2-clause-leads c =
 pub returns-in_ok-push-in-Opens-clause-leads : goal.returns-in_ok-push-in-Opens-clause-leads
 returns-in_ok-push-in-Opens-clause-leads c =
     past_skip _ _ _ _ _ _ _ _ _ _ c.requires.leads c.requires.here c.requires.form c.in-Opens.is c.requires.stays c.requires.level
-    c.if-b-o.true c.in_ok-push-in-Opens.ensures.items
+    c.if-b-opened.true c.in_ok-push-in-Opens.ensures.items
 
 pub returns-in_ok-push-in-Opens-2-clause-leads : goal.returns-in_ok-push-in-Opens-2-clause-leads
 returns-in_ok-push-in-Opens-2-clause-leads c =
     into_skip _ _ _ _ c.args.stack.now.items _ _ _ _ _ _ c.requires.leads c.requires.here c.requires.form c.in-Opens.is c.requires.stays c.requires.level
-    c.if-b-o.false c.clear.ensures.items c.in_ok-push-in-Opens-2.ensures.items
+    c.if-b-opened.false c.clear.ensures.items c.in_ok-push-in-Opens-2.ensures.items

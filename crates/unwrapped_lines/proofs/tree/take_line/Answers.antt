@@ -3,10 +3,10 @@ use Rattle.unwrapped_lines.proofs.TurnLemmas.{ends_turn, goes_turn, waits_turn, 
 use Rattle.unwrapped_lines.proofs.tree.take_line.Goals as goal
 
 pub settle-requires : goal.settle-requires
-settle-requires c = let q : c.args.f.end ≤ c.args.o.end = ends_low c.args.place.at c.args.o c.args.f _ c.in-Ends.is c.requires.stays in omega arith
+settle-requires c = let q : c.args.formed.end ≤ c.args.opened.end = ends_low c.args.place.at c.args.opened c.args.formed _ c.in-Ends.is c.requires.stays in omega arith
 
 pub push_head-requires : goal.push_head-requires
-push_head-requires c = let q : c.args.f.end ≤ c.args.o.end = ends_low c.args.place.at c.args.o c.args.f _ c.in-Opens.is c.requires.stays in omega arith
+push_head-requires c = let q : c.args.formed.end ≤ c.args.opened.end = ends_low c.args.place.at c.args.opened c.args.formed _ c.in-Opens.is c.requires.stays in omega arith
 
 pub returns-in_ok-start-in-Ends-clause-stands : goal.returns-in_ok-start-in-Ends-clause-stands
 returns-in_ok-start-in-Ends-clause-stands c =

@@ -7,5 +7,5 @@ form_of-f-requires-clause-list c = top_within _ _ _ _ _ _ _ c.requires.stands
 pub take_line-requires-clause-list : goal.take_line-requires-clause-list
 take_line-requires-clause-list c = top_within _ _ _ _ _ _ _ c.requires.stands
 
-pub returns-then-place-o-clause-up : goal.returns-then-place-o-clause-up
-returns-then-place-o-clause-up c = turned c.take_line.result _ _ _ _ _ c.if-place-o.true (top_within _ _ _ _ _ _ _ c.requires.stands) c.take_line.ensures.up
+pub returns-then-place-opened-clause-up : goal.returns-then-place-opened-clause-up
+returns-then-place-opened-clause-up c = turned c.take_line.result _ _ _ _ _ c.if-place-opened.true (top_within _ _ _ _ _ _ _ c.requires.stands) c.take_line.ensures.up

@@ -7,7 +7,7 @@ use Rattle.token_arena.proofs.view.View.at_near.Goals.{then-not-has_place, else-
 pub returns : goal.returns
 returns c =
     let segments = c.self.inside.segments.now in
-    let k = c.args.k in
+    let k = c.args.place in
     let number = c.if-not-has_place.number in
     let Within : ℕ → Type 0 = λ n. n < length segments in
     let Has : ℕ → Type 0 = λ n. HasPlace segments k n in
