@@ -170,35 +170,38 @@ fn next_first(lines: &[Line], total: usize, begun: usize) -> usize
 /// How a walk over the parts of a view stands: at a place, behind what is marked.
 #[derive(Clone, Copy)]
 struct Walk {
-    k: usize,
+    index: usize,
     marks: Marks,
 }
 
 /// Passes tokens inside a line, as most are. What is told of the places behind them is all that is told.
 #[inline(always)]
 fn pass_tokens(lines: &[Line], total: usize, end_level: u32, parts: &[Part], from: Walk) -> Walk
-    requires most { from.k ≤ length parts.now }
+    requires most { from.index ≤ length parts.now }
     requires few { length parts.now < 2 ^ 32 }
-    requires seen { from.marks.seen ≤ from.k }
-    ensures same { begins_from (record { lines = lines.now; total = total; end_level = end_level }) (drop result.k parts.now) result.k result.marks
-        ≡ begins_from (record { lines = lines.now; total = total; end_level = end_level }) (drop from.k parts.now) from.k from.marks }
-    ensures most { result.k ≤ length parts.now }
-    ensures on { from.k ≤ result.k }
-    ensures seen { result.marks.seen ≤ result.k }
+    requires seen { from.marks.seen ≤ from.index }
+    ensures same { begins_from (record { lines = lines.now; total = total; end_level = end_level }) (drop result.index parts.now) result.index result.marks
+        ≡ begins_from (record { lines = lines.now; total = total; end_level = end_level }) (drop from.index parts.now) from.index from.marks }
+    ensures most { result.index ≤ length parts.now }
+    ensures on { from.index ≤ result.index }
+    ensures seen { result.marks.seen ≤ result.index }
     ensures begun { result.marks.begun ≡ from.marks.begun }
 {
     let next = next_first(lines, total, from.marks.begun);
     let begun = from.marks.begun;
-    let Walk { mut k, mut marks } = from;
-    while k < parts.len() && marks.seen < next && parts[k] == Part::Token {
+    let Walk {
+        mut index,
+        mut marks,
+    } = from;
+    while index < parts.len() && marks.seen < next && parts[index] == Part::Token {
         marks = Marks {
             seen: marks.seen + 1,
             begun,
             run: Run::Apart,
         };
-        k += 1;
+        index += 1;
     }
-    Walk { k, marks }
+    Walk { index, marks }
 }
 
 /// The line whose first token stands at a place, as nearly every line begins: no inner comments before it have begun it.
@@ -232,36 +235,36 @@ pub fn begins<'r>(
     ensures { IfOk result (λ r. r.items ≡ begins_from (record { lines = lines.now; total = total; end_level = end_level }) parts.now 0 no_marks) }
 {
     let mut out = Vec::with_capacity(run, lines.len())?;
-    let mut m = Marks {
+    let mut marks = Marks {
         seen: 0,
         begun: 0,
         run: Run::Apart,
     };
-    let mut k = 0;
-    while k < parts.len() {
-        let behind = pass_tokens(lines, total, end_level, parts, Walk { k, marks: m });
-        k = behind.k;
-        m = behind.marks;
-        if k < parts.len() {
-            let part = parts[k];
-            if let Some(line) = starting(lines, total, end_level, part, m) {
+    let mut index = 0;
+    while index < parts.len() {
+        let behind = pass_tokens(lines, total, end_level, parts, Walk { index, marks });
+        index = behind.index;
+        marks = behind.marks;
+        if index < parts.len() {
+            let part = parts[index];
+            if let Some(line) = starting(lines, total, end_level, part, marks) {
                 out.push(Begin {
-                    first: k as u32,
+                    first: index as u32,
                     level: line.level,
                     kind: line.kind,
                 })?;
-                m = Marks {
-                    seen: m.seen + 1,
-                    begun: m.begun + 1,
+                marks = Marks {
+                    seen: marks.seen + 1,
+                    begun: marks.begun + 1,
                     run: Run::Apart,
                 };
             } else {
-                if let Some(b) = new_begin(lines, total, end_level, parts, k, part, m) {
+                if let Some(b) = new_begin(lines, total, end_level, parts, index, part, marks) {
                     out.push(b)?;
                 }
-                m = next_marks(lines, total, end_level, parts, k, part, m);
+                marks = next_marks(lines, total, end_level, parts, index, part, marks);
             }
-            k += 1;
+            index += 1;
         }
     }
     Ok(out)

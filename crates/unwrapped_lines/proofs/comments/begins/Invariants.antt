@@ -2,14 +2,14 @@ use Rattle.std.proofs.Common.{◌≡◌, ◌≤◌, ◌-◌, ◌++◌, length, d
 use Rattle.unwrapped_lines.specs.Comments.{begins_from, no_marks}
 use Rattle.unwrapped_lines.proofs.comments.begins.Given as goal
 
-abbrev pub invariant-loop-k : goal.invariant-loop-k
-invariant-loop-k l = record {
-  same : l.out.items ++ begins_from (record { lines = l.lines; total = l.total; end_level = l.end_level }) (drop l.k l.parts) l.k l.m
+abbrev pub invariant-loop-index : goal.invariant-loop-index
+invariant-loop-index l = record {
+  same : l.out.items ++ begins_from (record { lines = l.lines; total = l.total; end_level = l.end_level }) (drop l.index l.parts) l.index l.marks
       ≡ begins_from (record { lines = l.lines; total = l.total; end_level = l.end_level }) l.parts 0 no_marks;
-  most : l.k ≤ length l.parts;
-  seen : l.m.seen ≤ l.k;
-  begun : l.m.begun ≤ l.k;
+  most : l.index ≤ length l.parts;
+  seen : l.marks.seen ≤ l.index;
+  begun : l.marks.begun ≤ l.index;
 }
 
-abbrev pub decreases-loop-k : goal.decreases-loop-k
-decreases-loop-k l = length l.parts - l.k
+abbrev pub decreases-loop-index : goal.decreases-loop-index
+decreases-loop-index l = length l.parts - l.index
