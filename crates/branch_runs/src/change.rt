@@ -31,7 +31,8 @@ fn no_changes<'a>(count: u32, bump: &'a Bump) -> Result<&'a mut [Change], NoMemo
     Ok(into_bump_slice_mut(changes))
 }
 
-// Makes the change of a run begin at this item or before it, and hold the items up to an end, where there is such a run.
+// Makes the change of a run begin at this item or before it, and hold the items up to an end, where there is such a
+// run.
 fn widen(changes: &mut [Change], run: u32, first: u32, end: u32)
     ensures { changes.new ≡ widened changes.old run first end }
 {
