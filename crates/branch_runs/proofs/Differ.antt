@@ -1,15 +1,18 @@
 -- How the view of a run differs from that of the run before it.
-use Rattle.std.proofs.Common.{◌≡◌, ◌∙◌, ℕ, ◌+◌, ◌-◌, ◌<◌, ◌≤◌, ◌⊎◌, inl, inr, Bool, true, false, List, [], ◌∷◌, get_or, length, refl, sym, subst, arith}
-use Rattle.std.specs.Prelude.{min, max, nat_lt, if◌then◌else◌}
+use Rattle.std.proofs.Common.{◌≡◌, ◌≢◌, ◌∙◌, ℕ, ◌+◌, ◌-◌, ◌<◌, ◌≤◌, ◌⊎◌, inl, inr, Bool, true, false, List, [], ◌∷◌, map, get_or, length, drop, refl, sym, ap, subst, arith}
+use Rattle.std.specs.Prelude.{min, max, nat_lt}
 use Rattle.std.specs.List.{range_with_len, Contains}
 use Rattle.std.proofs.lemmas.Bool.{cases_eq, true≢false}
-use Rattle.std.proofs.lemmas.List.{get_or-set_same, get_or-set_other, length-set, set_past}
+use Rattle.std.proofs.lemmas.List.{drop_all, get_or-set_same, get_or-set_other, length-set, set_past}
+use Rattle.token_arena.specs.Segments.{AscendFrom}
 use Rattle.branch_runs.specs.declared.change.Change.{Change}
 use Rattle.branch_runs.specs.declared.seen.SeenText.{SeenText}
 use Rattle.branch_runs.specs.Tree.{Group}
 use Rattle.branch_runs.specs.Runs.{need, view_of, ids_of}
 use Rattle.branch_runs.specs.Seen.{seen_texts, is_seen, taken}
-use Rattle.branch_runs.specs.Anew.{items_between, IsChange, no_change, widened, noted_one, noted, Notes, AreNoted}
+use Rattle.branch_runs.specs.Inside.{text_bounds}
+use Rattle.branch_runs.specs.Anew.{items_between, HasAlone, IsChange, no_change, widened, noted_one, noted, Notes, AreNoted, IsNarrow, AreNarrow}
+use Rattle.branch_runs.proofs.Alone.{Turns, alike_or_turns, take_by, has_by, by_has, begins_alone, ends_alone, alone_items}
 use Rattle.branch_runs.proofs.Cover.{AnyHas}
 use Rattle.branch_runs.proofs.Items.{AnyHas-items, items-AnyHas}
 use Rattle.branch_runs.proofs.Taken.{cases_lt, seen_is, unseen_is, view_taken}
@@ -89,34 +92,19 @@ pub all_noted : (changes : List Change) (texts : List SeenText) → AreNoted (no
 all_noted changes [] = tt
 all_noted changes (seen ∷ texts) = (still (noted_one changes seen) texts seen (one_notes changes seen), all_noted (noted_one changes seen) texts)
 
+-- where all texts are noted, the changes are those of all
+pub none_left : (changes first : List Change) (texts : List SeenText) (at : ℕ) → length texts ≤ at → noted changes (drop at texts) ≡ noted first texts
+    → changes ≡ noted first texts
+none_left changes first texts at after left = subst (λ xs. noted changes xs ≡ noted first texts) (drop_all at texts after) left
+
 -- What the changes say of the views.
 
-abbrev take_by : Bool → SeenText → List (ℕ × ℕ) → List (ℕ × ℕ)
-take_by c seen xs = if c then (seen.first, seen.end) ∷ xs else xs
-
--- the run sees the text where the run before it does, or its change begins no later
-alike : (changes : List Change) (seen : SeenText) (r : ℕ) → Notes changes seen → 0 < r → r < length changes
-    → (is_seen seen r ≡ is_seen seen (r - 1)) ⊎ ((get_or changes r no_change).first ≤ seen.first)
-alike changes seen r notes some within = elim (cases_lt r seen.from) [
-  | inl a ↦ inl (unseen_is seen r (inl a) ∙ sym (unseen_is seen (r - 1) (inl (omega (arith, a)))))
-  | inr from ↦ elim (cases_lt r seen.till) [
-    | inl before ↦ elim (cases_lt (r - 1) seen.from) [
-      | inl a ↦
-          let is : seen.from ≡ r = omega (arith, a, from, some) in
-          inr (subst (λ k. (get_or changes k no_change).first ≤ seen.first) is (notes.begins (omega (arith, from, before)) (omega (arith, is, within))))
-      | inr a ↦ inl (seen_is seen r from before ∙ sym (seen_is seen (r - 1) a (omega (arith, before))))
-    ]
-    | inr behind ↦ elim (cases_lt (r - 1) seen.till) [
-      | inl a ↦ elim (cases_lt (r - 1) seen.from) [
-        | inl b ↦ inl (unseen_is seen r (inr behind) ∙ sym (unseen_is seen (r - 1) (inl b)))
-        | inr b ↦
-            let is : seen.till ≡ r = omega (arith, a, behind, some) in
-            inr (subst (λ k. (get_or changes k no_change).first ≤ seen.first) is (notes.ends (omega (arith, a, b)) (omega (arith, is, within))))
-      ]
-      | inr a ↦ inl (unseen_is seen r (inr behind) ∙ sym (unseen_is seen (r - 1) (inr a)))
-    ]
-  ]
-]
+-- the change of a run begins no later than a text that turns
+pub turn_low : (changes : List Change) (seen : SeenText) (r : ℕ) → Notes changes seen → Turns seen r → r < length changes → (get_or changes r no_change).first ≤ seen.first
+turn_low changes seen r notes (inl t) within =
+    subst (λ k. (get_or changes k no_change).first ≤ seen.first) (sym t.0) (notes.begins (omega (arith, t.0, t.1)) (omega (arith, t.0, within)))
+turn_low changes seen r notes (inr t) within =
+    subst (λ k. (get_or changes k no_change).first ≤ seen.first) (sym t.0) (notes.ends (omega (arith, t.0, t.1)) (omega (arith, t.0, within)))
 
 same_front : (c : Bool) (seen : SeenText) (first : ℕ) (xs ys : List (ℕ × ℕ)) → items_between 0 first (ids_of xs) ≡ items_between 0 first (ids_of ys)
     → items_between 0 first (ids_of (take_by c seen xs)) ≡ items_between 0 first (ids_of (take_by c seen ys))
@@ -138,19 +126,12 @@ before changes [] r are some within = refl
 before changes (seen ∷ texts) r are some within =
     let first = (get_or changes r no_change).first in
     let more = before changes texts r are.1 some within in
-    elim (alike changes seen r are.0 some within) [
+    elim (alike_or_turns seen r some) [
       | inl is ↦ rw is (same_front (is_seen seen (r - 1)) seen first (taken texts r) (taken texts (r - 1)) more)
-      | inr late ↦ no_front (is_seen seen r) seen first (taken texts r) late ∙ (more ∙ sym (no_front (is_seen seen (r - 1)) seen first (taken texts (r - 1)) late))
+      | inr t ↦
+          let late = turn_low changes seen r are.0 t within in
+          no_front (is_seen seen r) seen first (taken texts r) late ∙ (more ∙ sym (no_front (is_seen seen (r - 1)) seen first (taken texts (r - 1)) late))
     ]
-
-has_by : (c : Bool) (seen : SeenText) (xs : List (ℕ × ℕ)) (id : ℕ) → AnyHas (take_by c seen xs) id → ((c ≡ true) × (seen.first ≤ id) × (id < seen.end)) ⊎ AnyHas xs id
-has_by false seen xs id h = inr h
-has_by true seen xs id (inl h) = inl (refl, h.0, h.1)
-has_by true seen xs id (inr h) = inr h
-
-by_has : (c : Bool) (seen : SeenText) (xs : List (ℕ × ℕ)) (id : ℕ) → AnyHas xs id → AnyHas (take_by c seen xs) id
-by_has false seen xs id h = h
-by_has true seen xs id h = inr h
 
 seen_range : (seen : SeenText) (r : ℕ) → is_seen seen r ≡ true → (seen.from ≤ r) × (r < seen.till)
 seen_range seen r is = elim (cases_lt r seen.from) [
@@ -178,15 +159,76 @@ behind changes (seen ∷ texts) r id are some within late h =
           ]
     ]
 
-pub is_change : (group : Group) (changes : List Change) (texts : List SeenText) (r : ℕ) → texts ≡ seen_texts group 0 (need group) → AreNoted changes texts
-    → 0 < r → r < need group → length changes ≡ need group → IsChange group r (get_or changes r no_change)
-is_change group changes texts r are noted some within count =
+change_is : (change : Change) → change.first ≡ 4294967295 → change.end ≡ 0 → change ≡ no_change
+change_is change first end =
+    let one : change ≡ record { first = 4294967295; end = change.end } = subst (λ n. change ≡ record { first = n; end = change.end }) first refl in
+    subst (λ n. change ≡ record { first = 4294967295; end = n }) end one
+
+none_alone : (view other : List ℕ) (id : ℕ) → view ≡ other → HasAlone view other id → ⊥
+none_alone view other id is h = h.1 (subst (λ ids. Contains ids id) is h.0)
+
+-- what the kept change says, by what both runs see
+record Told (view other : List ℕ) (change : Change) : Type 0 where
+  pub first : ((view ≡ other) × (change.first ≡ 4294967295)) ⊎ (HasAlone view other change.first ⊎ HasAlone other view change.first)
+  pub end : (change.end ≡ 0) ⊎ HasAlone view other (change.end - 1)
+
+told : (texts : List SeenText) (r : ℕ) (change : Change) → AscendFrom 0 (map text_bounds texts) → IsNarrow texts r change
+    → Told (ids_of (taken texts r)) (ids_of (taken texts (r - 1))) change
+told texts r change up narrow = record {
+  first = elim narrow.first [
+    | inl same ↦ inl (ap ids_of same.0, same.1)
+    | inr turns ↦ inr (elim turns [
+      | inl h ↦ inl (alone_items texts r (r - 1) change.first (begins_alone texts 0 r (r - 1) change.first up h))
+      | inr h ↦ inr (alone_items texts (r - 1) r change.first (begins_alone texts 0 (r - 1) r change.first up h))
+    ])
+  ];
+  end = elim narrow.end [
+    | inl none ↦ inl none
+    | inr h ↦ inr (alone_items texts r (r - 1) (change.end - 1) (ends_alone texts 0 r (r - 1) change.end up h))
+  ];
+}
+
+told_same : (view other : List ℕ) (change : Change) → Told view other change → view ≡ other → change ≡ no_change
+told_same view other change h is =
+    change_is change
+    (elim h.first [
+      | inl same ↦ same.1
+      | inr turns ↦ absurd (elim turns [
+        | inl a ↦ none_alone view other change.first is a
+        | inr a ↦ none_alone other view change.first (sym is) a
+      ])
+    ])
+    (elim h.end [
+      | inl none ↦ none
+      | inr a ↦ absurd (none_alone view other (change.end - 1) is a)
+    ])
+
+told_first : (view other : List ℕ) (change : Change) → Told view other change → view ≢ other → HasAlone view other change.first ⊎ HasAlone other view change.first
+told_first view other change h differ = elim h.first [
+  | inl same ↦ absurd (differ same.0)
+  | inr turns ↦ turns
+]
+
+told_last : (view other : List ℕ) (change : Change) → Told view other change → 0 < change.end → HasAlone view other (change.end - 1)
+told_last view other change h some = elim h.end [
+  | inl none ↦ absurd (omega (arith, none, some))
+  | inr a ↦ a
+]
+
+pub is_change : (group : Group) (changes : List Change) (texts : List SeenText) (r : ℕ) → texts ≡ seen_texts group 0 (need group) → AscendFrom 0 (map text_bounds texts)
+    → AreNoted changes texts → AreNarrow changes texts → 0 < r → r < need group → length changes ≡ need group → IsChange group r (get_or changes r no_change)
+is_change group changes texts r are up noted narrow some within count =
+    let change = get_or changes r no_change in
     let now : view_of group r ≡ ids_of (taken texts r) = rw are (view_taken group r within) in
     let old : view_of group (r - 1) ≡ ids_of (taken texts (r - 1)) = rw are (view_taken group (r - 1) (omega (arith, within))) in
     let below : r < length changes = omega (arith, within, count) in
+    let is : Told (view_of group r) (view_of group (r - 1)) change = rw (now, old) (told texts r change up (narrow r some below)) in
     record {
       before = rw (now, old) (before changes texts r noted some below);
+      first = told_first (view_of group r) (view_of group (r - 1)) change is;
       behind = λ id late h.
           subst (λ ids. Contains ids id) (sym old)
           (AnyHas-items (taken texts (r - 1)) id (behind changes texts r id noted some below late (items-AnyHas (taken texts r) id (subst (λ ids. Contains ids id) now h))));
+      last = told_last (view_of group r) (view_of group (r - 1)) change is;
+      same = told_same (view_of group r) (view_of group (r - 1)) change is;
     }

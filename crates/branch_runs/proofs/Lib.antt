@@ -16,6 +16,8 @@ pub mod OfTexts
 pub mod Taken
 pub mod Left
 pub mod Between
+pub mod Alone
 pub mod Differ
+pub mod Narrow
 pub mod Inside
 pub mod Ascending

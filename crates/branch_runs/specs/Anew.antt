@@ -1,26 +1,36 @@
 -- How the view of a run differs from that of the run before it.
-use Rattle.std.specs.Prelude.{◌≡◌, ◌<◌, ◌≤◌, ℕ, ◌-◌, nat_le, nat_lt, min, max, ◌&&◌, List, [], ◌∷◌, if◌then◌else◌, slice_index_or, slice_set, length, ⊤}
+use Rattle.std.specs.Prelude.{◌≡◌, ◌≢◌, ◌<◌, ◌≤◌, ◌⊎◌, ℕ, ◌-◌, nat_le, nat_lt, min, max, true, false, ◌&&◌, List, [], ◌∷◌, if◌then◌else◌, slice_index_or, slice_set, length, ⊤}
 use Rattle.std.specs.List.{Contains}
 use Rattle.branch_runs.specs.declared.change.Change.{Change}
 use Rattle.branch_runs.specs.declared.seen.SeenText.{SeenText}
 use Rattle.branch_runs.specs.Tree.{Group}
 use Rattle.branch_runs.specs.Runs.{view_of}
+use Rattle.branch_runs.specs.Seen.{is_seen, taken}
 
 -- the items from one to before another
 abbrev pub items_between : ℕ → ℕ → List ℕ → List ℕ
 items_between first end [] = []
 items_between first end (id ∷ ids) = if nat_le first id && nat_lt id end then id ∷ items_between first end ids else items_between first end ids
 
--- how the view of a run differs from that of the run before it
-pub record IsChange (group : Group) (r : ℕ) (change : Change) : Type 0 where
-  pub before : items_between 0 change.first (view_of group r) ≡ items_between 0 change.first (view_of group (r - 1))
-  pub behind : (id : ℕ) → change.end ≤ id → Contains (view_of group r) id → Contains (view_of group (r - 1)) id
+-- the first view has the item, and the second doesn't
+abbrev pub HasAlone : List ℕ → List ℕ → ℕ → Type 0
+HasAlone view other id = Contains view id × (Contains other id → ⊥)
 
--- What the code keeps.
-
--- what a run has with which no text begins or ends
+-- what is told of a run that sees the same as the run before it
 abbrev pub no_change : Change
 no_change = record { first = 4294967295; end = 0 }
+
+-- How the view of a run differs from that of the run before it: from the first item that one of both sees alone, up to behind the last
+-- one that the later run sees alone, if there is one.
+pub record IsChange (group : Group) (r : ℕ) (change : Change) : Type 0 where
+  pub before : items_between 0 change.first (view_of group r) ≡ items_between 0 change.first (view_of group (r - 1))
+  pub first : view_of group r ≢ view_of group (r - 1)
+      → HasAlone (view_of group r) (view_of group (r - 1)) change.first ⊎ HasAlone (view_of group (r - 1)) (view_of group r) change.first
+  pub behind : (id : ℕ) → change.end ≤ id → Contains (view_of group r) id → Contains (view_of group (r - 1)) id
+  pub last : 0 < change.end → HasAlone (view_of group r) (view_of group (r - 1)) (change.end - 1)
+  pub same : view_of group r ≡ view_of group (r - 1) → change ≡ no_change
+
+-- What the code keeps.
 
 -- the changes with that of a run made wider
 abbrev pub widened : List Change → ℕ → ℕ → ℕ → List Change
@@ -45,3 +55,25 @@ pub record Notes (changes : List Change) (seen : SeenText) : Type 0 where
 abbrev pub AreNoted : List Change → List SeenText → Type 0
 AreNoted changes [] = ⊤
 AreNoted changes (seen ∷ texts) = Notes changes seen × AreNoted changes texts
+
+-- one of these texts, which one run sees and another doesn't, begins with this item
+abbrev pub BeginsAlone : List SeenText → ℕ → ℕ → ℕ → Type 0
+BeginsAlone [] one other first = ⊥
+BeginsAlone (seen ∷ texts) one other first =
+    ((is_seen seen one ≡ true) × (is_seen seen other ≡ false) × (seen.first ≡ first)) ⊎ BeginsAlone texts one other first
+
+-- one of these texts, which one run sees and another doesn't, ends before this item
+abbrev pub EndsAlone : List SeenText → ℕ → ℕ → ℕ → Type 0
+EndsAlone [] one other end = ⊥
+EndsAlone (seen ∷ texts) one other end =
+    ((is_seen seen one ≡ true) × (is_seen seen other ≡ false) × (seen.end ≡ end)) ⊎ EndsAlone texts one other end
+
+-- The change of a run begins and ends with texts that the run or the one before it sees alone.
+pub record IsNarrow (texts : List SeenText) (r : ℕ) (change : Change) : Type 0 where
+  pub first : ((taken texts r ≡ taken texts (r - 1)) × (change.first ≡ 4294967295))
+      ⊎ (BeginsAlone texts r (r - 1) change.first ⊎ BeginsAlone texts (r - 1) r change.first)
+  pub end : (change.end ≡ 0) ⊎ EndsAlone texts r (r - 1) change.end
+
+-- So is that of each run but the first.
+abbrev pub AreNarrow : List Change → List SeenText → Type 0
+AreNarrow changes texts = (r : ℕ) → 0 < r → r < length changes → IsNarrow texts r (slice_index_or changes r no_change)

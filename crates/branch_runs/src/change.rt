@@ -1,7 +1,7 @@
 //! How the views of runs differ.
 
-ghost use Rattle.std.specs.Prelude.{◌≡◌, length, IfOk, replicate};
-ghost use Rattle.branch_runs.specs.Anew.{no_change, widened, AreNoted};
+ghost use Rattle.std.specs.Prelude.{◌≡◌, ◌<◌, ◌^◌, length, IfOk, replicate};
+ghost use Rattle.branch_runs.specs.Anew.{no_change, widened, noted_one, AreNoted, AreNarrow};
 
 use crate::NoMemory;
 use crate::seen::SeenText;
@@ -11,9 +11,9 @@ use bumpalo::collections::into_bump_slice_mut;
 /// How the view of a run differs from that of the run before it.
 #[derive(Clone, Copy, Debug, PartialEq, Eq)]
 pub struct Change {
-    /// No item before this one is seen by one of both runs alone.
+    /// The first item that one of both runs sees alone: `u32::MAX` where they see the same.
     pub first: u32,
-    /// No item from this one on is seen by the later run alone: 0 where it sees nothing that the run before it
+    /// The item behind the last one that the later run sees alone: 0 where it sees nothing that the run before it
     /// doesn't see.
     pub end: u32,
 }
@@ -46,6 +46,17 @@ fn widen(changes: &mut [Change], run: u32, first: u32, end: u32)
     }
 }
 
+// Makes the changes of the runs that a text begins and ends with hold it. Its first item is known to fit its type.
+fn note(changes: &mut [Change], text: SeenText)
+    ensures noted { changes.new ≡ noted_one changes.old text }
+    ensures fits { text.first < 2 ^ 32 }
+{
+    if text.from < text.till {
+        widen(changes, text.from, text.first, text.end);
+        widen(changes, text.till, text.first, 0);
+    }
+}
+
 /// How the view of each of so many runs differs from that of the run before it, by the texts that they see.
 pub(crate) fn changes_of<'a>(
     texts: &[SeenText],
@@ -54,13 +65,11 @@ pub(crate) fn changes_of<'a>(
 ) -> Result<&'a [Change], NoMemory>
     ensures count { IfOk result (λ changes. length changes.now ≡ runs) }
     ensures noted { IfOk result (λ changes. AreNoted changes.now texts.now) }
+    ensures narrow { IfOk result (λ changes. AreNarrow changes.now texts.now) }
 {
     let changes = no_changes(runs, bump)?;
     for text in texts {
-        if text.from < text.till {
-            widen(changes, text.from, text.first, text.end);
-            widen(changes, text.till, text.first, 0);
-        }
+        note(changes, *text);
     }
     Ok(changes)
 }

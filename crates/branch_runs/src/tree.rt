@@ -48,13 +48,13 @@ impl<'a> Model for CondTree<'a> {
     ghost use Rattle.token_arena.specs.Segments.{AscendFrom};
     ghost use Rattle.branch_runs.specs.Inside.{text_bounds};
     ghost use Rattle.branch_runs.specs.Seen.{seen_texts};
-    ghost use Rattle.branch_runs.specs.Anew.{AreNoted};
+    ghost use Rattle.branch_runs.specs.Anew.{AreNoted, AreNarrow};
 
     ghost Value = { List Mark };
 
     ghost view = { λ t. map node_mark t.nodes.now };
 
-    ghost invariant = { λ t. record { fit : FitNodes (map node_mark t.nodes.now) 0 t.nodes.now; need_is : t.count ≡ need (read (map node_mark t.nodes.now)); small : length t.nodes.now ≤ LIMIT; cut : IsCutFrom 0 (map node_mark t.nodes.now); flags : t.dead.now ≡ flags_in [] (map node_mark t.nodes.now); texts : t.texts ≡ seen_texts (read (map node_mark t.nodes.now)) 0 t.count; ascend : AscendFrom 0 (map text_bounds t.texts); each_run : length t.changes.now ≡ t.count; changes : AreNoted t.changes.now t.texts } };
+    ghost invariant = { λ t. record { fit : FitNodes (map node_mark t.nodes.now) 0 t.nodes.now; need_is : t.count ≡ need (read (map node_mark t.nodes.now)); small : length t.nodes.now ≤ LIMIT; cut : IsCutFrom 0 (map node_mark t.nodes.now); flags : t.dead.now ≡ flags_in [] (map node_mark t.nodes.now); texts : t.texts ≡ seen_texts (read (map node_mark t.nodes.now)) 0 t.count; ascend : AscendFrom 0 (map text_bounds t.texts); each_run : length t.changes.now ≡ t.count; changes : AreNoted t.changes.now t.texts; narrow : AreNarrow t.changes.now t.texts } };
 }
 
 impl<'a> CondTree<'a> {

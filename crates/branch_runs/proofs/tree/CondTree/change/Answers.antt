@@ -17,4 +17,4 @@ returns c =
     let texts : i.texts ≡ seen_texts group 0 (need group) = subst (λ n. i.texts ≡ seen_texts group 0 n) c.self.invariant.need_is c.self.invariant.texts in
     let within : c.args.r < length i.changes.now = rw count below in
     let d = get_or_default i.changes.now c.args.r no_change (record { first = 0; end = 0 }) within in
-    rw (← c.self.view_is) (subst (λ x. IsChange group c.args.r x) d (is_change group i.changes.now i.texts c.args.r texts c.self.invariant.changes c.requires.later below count))
+    rw (← c.self.view_is) (subst (λ x. IsChange group c.args.r x) d (is_change group i.changes.now i.texts c.args.r texts c.self.invariant.ascend c.self.invariant.changes c.self.invariant.narrow c.requires.later below count))

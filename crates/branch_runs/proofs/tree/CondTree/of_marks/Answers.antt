@@ -20,6 +20,7 @@ invariant_of-result c =
       ascend = rw c.in_ok-texts-2.ensures c.in_ok-texts.ensures.ascend;
       each_run = c.in_ok-changes.ensures.count;
       changes = rw c.in_ok-texts-2.ensures c.in_ok-changes.ensures.noted;
+      narrow = rw c.in_ok-texts-2.ensures c.in_ok-changes.ensures.narrow;
     }
 
 pub returns-clause-end : goal.returns-clause-end
