@@ -11,13 +11,13 @@ use Rattle.branch_runs.specs.Tree.{Group, nothing}
 use Rattle.branch_runs.specs.Reading.{Around, branches_of, outside, rest_with, rest_of}
 use Rattle.branch_runs.specs.Runs.{need, needs}
 use Rattle.branch_runs.specs.Links.{level_of, below, links_after, total_of, total, node_mark}
-use Rattle.branch_runs.specs.Fits.{rest_at, IsBranch, BeginsBranch, FitsLevel, FitLevels, FitsNode, FitNodes, LevelsFrom}
+use Rattle.branch_runs.specs.Fits.{rest_at, FitsLevel, FitLevels, FitsNode, FitNodes, LevelsFrom}
 
 pub top_fits : (marks : List Mark) (count : ℕ) (levels : List Level) (around : Around) → drop count marks ≡ [] → FitLevels marks levels around
     → FitsLevel marks (level_of count levels) around × FitLevels marks (below levels) (outside around)
 top_fits marks count [] [] end fits =
     let rest : rest_at marks count ≡ (nothing, []) = ap rest_of end in (
-      record { leads = record { later_is = refl; next_is = rest; past_is = rest; branch_is = λ h. absurd (omega arith) }; need_is = refl },
+      record { leads = record { later_is = refl; next_is = rest }; need_is = refl },
       tt,
     )
 top_fits marks count (level ∷ levels) (a ∷ around) end fits = fits
@@ -29,20 +29,19 @@ Linked marks links rest = (links.0 ≡ need rest.0) × FitLevels marks links.1 r
 
 pub linked : (marks : List Mark) (count at n f e : ℕ) (kind : MarkKind) (g : Group) (around : Around) (levels : List Level)
     → drop count marks ≡ [] → n ≡ need g → FitLevels marks levels around
-    → rest_at marks (at + 1) ≡ (g, around) → rest_at marks at ≡ rest_with kind f e g around
-    → (IsBranch kind → BeginsBranch (drop at marks))
+    → rest_at marks at ≡ rest_with kind f e g around
     → Linked marks (links_after count at kind n levels) (rest_with kind f e g around)
-linked marks count at n f e Text g around levels end is fits after now first = (is, fits)
-linked marks count at n f e Flat g around levels end is fits after now first = (is, fits)
-linked marks count at n f e IfZero g around levels end is fits after now first =
+linked marks count at n f e Text g around levels end is fits now = (is, fits)
+linked marks count at n f e Flat g around levels end is fits now = (is, fits)
+linked marks count at n f e IfZero g around levels end is fits now =
     let top = top_fits marks count levels around end fits in
     (ap (λ a. max a (level_of count levels).need) top.0.leads.later_is ∙ ap (λ b. max (needs (branches_of around)) b) top.0.need_is, top.1)
-linked marks count at n f e Opens g around levels end is fits after now first =
+linked marks count at n f e Opens g around levels end is fits now =
     let top = top_fits marks count levels around end fits in (
       rw (is, top.0.leads.later_is, top.0.need_is) refl,
       top.1,
     )
-linked marks count at n f e Branch g around levels end is fits after now first =
+linked marks count at n f e Branch g around levels end is fits now =
     let top = top_fits marks count levels around end fits in (
       refl,
       (
@@ -50,15 +49,13 @@ linked marks count at n f e Branch g around levels end is fits after now first =
           leads = record {
             later_is = rw (is, top.0.leads.later_is) refl;
             next_is = now;
-            past_is = top.0.leads.past_is;
-            branch_is = λ h. first tt;
           };
           need_is = top.0.need_is;
         },
         top.1,
       ),
     )
-linked marks count at n f e LastBranch g around levels end is fits after now first =
+linked marks count at n f e LastBranch g around levels end is fits now =
     let top = top_fits marks count levels around end fits in (
       refl,
       (
@@ -66,19 +63,17 @@ linked marks count at n f e LastBranch g around levels end is fits after now fir
           leads = record {
             later_is = rw (is, top.0.leads.later_is) refl;
             next_is = now;
-            past_is = top.0.leads.past_is;
-            branch_is = λ h. first tt;
           };
           need_is = top.0.need_is;
         },
         top.1,
       ),
     )
-linked marks count at n f e Ends g around levels end is fits after now first = (
+linked marks count at n f e Ends g around levels end is fits now = (
   refl,
   (
     record {
-      leads = record { later_is = refl; next_is = now; past_is = after; branch_is = λ h. absurd (omega arith) };
+      leads = record { later_is = refl; next_is = now };
       need_is = is;
     },
     fits,
@@ -100,20 +95,17 @@ total_after count at n Branch levels = omega (arith, total_split count levels)
 total_after count at n LastBranch levels = omega (arith, total_split count levels)
 total_after count at n Ends levels = omega arith
 
-begins : (marks : List Mark) (m : Mark) (rest : List Mark) → marks ≡ m ∷ rest → IsBranch m.kind → BeginsBranch marks
-begins marks m rest h is = rw h is
-
-top_from : (count at : ℕ) (levels : List Level) → at < count → LevelsFrom (at + 1) levels → (at < (level_of count levels).next) × (at < (level_of count levels).past)
-top_from count at [] within from = (within, within)
-top_from count at (level ∷ levels) within from = (omega (arith, from.0), omega (arith, from.1))
+top_from : (count at : ℕ) (levels : List Level) → at < count → LevelsFrom (at + 1) levels → at < (level_of count levels).next
+top_from count at [] within from = within
+top_from count at (level ∷ levels) within from = omega (arith, from.0)
 
 from_more : (at : ℕ) (levels : List Level) → LevelsFrom (at + 1) levels → LevelsFrom at levels
 from_more at [] from = tt
-from_more at (level ∷ levels) from = (omega (arith, from.0), omega (arith, from.1), from_more at levels from.2)
+from_more at (level ∷ levels) from = (omega (arith, from.0), from_more at levels from.1)
 
 from_below : (at : ℕ) (levels : List Level) → LevelsFrom at levels → LevelsFrom at (below levels)
 from_below at [] from = tt
-from_below at (level ∷ levels) from = from.2
+from_below at (level ∷ levels) from = from.1
 
 from_after : (count at n : ℕ) (kind : MarkKind) (levels : List Level) → at < count → LevelsFrom (at + 1) levels
     → LevelsFrom at (links_after count at kind n levels).1
@@ -121,9 +113,9 @@ from_after count at n Text levels within from = from_more at levels from
 from_after count at n Flat levels within from = from_more at levels from
 from_after count at n IfZero levels within from = from_below at levels (from_more at levels from)
 from_after count at n Opens levels within from = from_below at levels (from_more at levels from)
-from_after count at n Branch levels within from = (omega arith, omega (arith, (top_from count at levels within from).1), from_below at levels (from_more at levels from))
-from_after count at n LastBranch levels within from = (omega arith, omega (arith, (top_from count at levels within from).1), from_below at levels (from_more at levels from))
-from_after count at n Ends levels within from = (omega arith, omega arith, from_more at levels from)
+from_after count at n Branch levels within from = (omega arith, from_below at levels (from_more at levels from))
+from_after count at n LastBranch levels within from = (omega arith, from_below at levels (from_more at levels from))
+from_after count at n Ends levels within from = (omega arith, from_more at levels from)
 
 -- one section more, from the end
 pub node_fits : (marks : List Mark) (count at n : ℕ) (levels : List Level) (m : Mark)
@@ -131,19 +123,18 @@ pub node_fits : (marks : List Mark) (count at n : ℕ) (levels : List Level) (m 
     → n ≡ need (rest_at marks (at + 1)).0 → FitLevels marks levels (rest_at marks (at + 1)).1
     → at < count → LevelsFrom (at + 1) levels
     → Linked marks (links_after count at m.kind n levels) (rest_at marks at)
-    × FitsNode marks at (record { first = m.first; end = m.end; kind = m.kind; need = n; later = (level_of count levels).later; next = (level_of count levels).next; past = (level_of count levels).past })
+    × FitsNode marks at (record { first = m.first; end = m.end; kind = m.kind; need = n; later = (level_of count levels).later; next = (level_of count levels).next })
 node_fits marks count at n levels m end here is fits within from =
     let rest = rest_at marks (at + 1) in
     let now : rest_at marks at ≡ rest_with m.kind m.first m.end rest.0 rest.1 = ap rest_of here in
     let all : Linked marks (links_after count at m.kind n levels) (rest_with m.kind m.first m.end rest.0 rest.1) =
-    linked marks count at n m.first m.end m.kind rest.0 rest.1 levels end is fits refl now (begins (drop at marks) m (drop (at + 1) marks) here) in (
+    linked marks count at n m.first m.end m.kind rest.0 rest.1 levels end is fits now in (
       rw now all,
       record {
         here = here;
         need_is = is;
         leads = (top_fits marks count levels rest.1 end fits).0.leads;
-        next_after = (top_from count at levels within from).0;
-        past_after = (top_from count at levels within from).1;
+        next_after = top_from count at levels within from;
       },
     )
 
@@ -157,7 +148,7 @@ pub record Right (marks : List Mark) (at : ℕ) (nodes : List Node) (n : ℕ) (l
 
 right-one : (marks : List Mark) (p n : ℕ) (nodes : List Node) (levels : List Level) (m d : Mark) → p < length marks → m ≡ get_or marks p d
     → Right marks (p + 1) nodes n levels
-    → Right marks p (record { first = m.first; end = m.end; kind = m.kind; need = n; later = (level_of (length marks) levels).later; next = (level_of (length marks) levels).next; past = (level_of (length marks) levels).past } ∷ nodes) (links_after (length marks) p m.kind n levels).0 (links_after (length marks) p m.kind n levels).1
+    → Right marks p (record { first = m.first; end = m.end; kind = m.kind; need = n; later = (level_of (length marks) levels).later; next = (level_of (length marks) levels).next } ∷ nodes) (links_after (length marks) p m.kind n levels).0 (links_after (length marks) p m.kind n levels).1
 right-one marks p n nodes levels m d within is right =
     let here : drop p marks ≡ m ∷ drop (p + 1) marks = rw is (drop_more marks p d within) in
     let fits = node_fits marks (length marks) p n levels m (drop-length marks) here right.need_is right.levels_fit within right.from in
@@ -172,14 +163,14 @@ right-one marks p n nodes levels m d within is right =
 pub turn : (marks : List Mark) (at n more : ℕ) (nodes new : List Node) (levels after : List Level) (level : Level) (d : Mark)
     → 0 < at → at ≤ length marks → Right marks at nodes n levels
     → level ≡ level_of (length marks) levels
-    → new ≡ record { first = (get_or marks (at - 1) d).first; end = (get_or marks (at - 1) d).end; kind = (get_or marks (at - 1) d).kind; need = n; later = level.later; next = level.next; past = level.past } ∷ nodes
+    → new ≡ record { first = (get_or marks (at - 1) d).first; end = (get_or marks (at - 1) d).end; kind = (get_or marks (at - 1) d).kind; need = n; later = level.later; next = level.next } ∷ nodes
     → (more, after) ≡ links_after (length marks) (at - 1) (get_or marks (at - 1) d).kind n levels
     → Right marks (at - 1) new more after
 turn marks at n more nodes new levels after level d some within right top pushed linked =
     let e : at ≡ at - 1 + 1 = omega arith in
     let before : Right marks (at - 1 + 1) nodes n levels = subst (λ k. Right marks k nodes n levels) e right in
     let one = right-one marks (at - 1) n nodes levels (get_or marks (at - 1) d) d (omega arith) refl before in
-    rw (pushed, top) (subst (λ (x : ℕ × List Level). Right marks (at - 1) (record { first = (get_or marks (at - 1) d).first; end = (get_or marks (at - 1) d).end; kind = (get_or marks (at - 1) d).kind; need = n; later = (level_of (length marks) levels).later; next = (level_of (length marks) levels).next; past = (level_of (length marks) levels).past } ∷ nodes) x.0 x.1) (sym linked) one)
+    rw (pushed, top) (subst (λ (x : ℕ × List Level). Right marks (at - 1) (record { first = (get_or marks (at - 1) d).first; end = (get_or marks (at - 1) d).end; kind = (get_or marks (at - 1) d).kind; need = n; later = (level_of (length marks) levels).later; next = (level_of (length marks) levels).next } ∷ nodes) x.0 x.1) (sym linked) one)
 
 pub small_turn : (marks : List Mark) (at n more p : ℕ) (kind : MarkKind) (levels after : List Level) → 0 < at
     → total n levels + 2 * at ≤ 2 * length marks + 1 → (more, after) ≡ links_after (length marks) p kind n levels

@@ -6,7 +6,7 @@ use Rattle.branch_runs.specs.declared.mark.Mark.{Mark}
 use Rattle.branch_runs.specs.declared.node.Level.{Level}
 use Rattle.branch_runs.specs.declared.node.Node.{Node}
 use Rattle.branch_runs.specs.Tree.{Group, nothing}
-use Rattle.branch_runs.specs.Reading.{Around, branches_of, group_of, outside, rest_of}
+use Rattle.branch_runs.specs.Reading.{Around, branches_of, group_of, rest_of}
 use Rattle.branch_runs.specs.Runs.{need, needs}
 use Rattle.branch_runs.specs.Links.{node_mark}
 
@@ -24,22 +24,15 @@ IsBranch Opens = ⊥
 IsBranch Ends = ⊥
 IsBranch Flat = ⊥
 
--- the first of these sections begins a branch
-abbrev pub BeginsBranch : List Mark → Type 0
-BeginsBranch [] = ⊥
-BeginsBranch (m ∷ marks) = IsBranch m.kind
-
--- What is kept of the innermost conditional: how many runs the branches that follow in it need, which section begins the next one or ends it,
--- and where the text goes on behind it.
-pub record Leads (marks : List Mark) (later next past : ℕ) (around : Around) : Type 0 where
+-- What is kept of the innermost conditional: how many runs the branches that follow in it need, and which section begins the next one or
+-- ends it.
+pub record Leads (marks : List Mark) (later next : ℕ) (around : Around) : Type 0 where
   pub later_is : later ≡ needs (branches_of around)
   pub next_is : rest_at marks next ≡ (nothing, around)
-  pub past_is : rest_at marks past ≡ (group_of around, outside around)
-  pub branch_is : 0 < later → BeginsBranch (drop next marks)
 
 -- The level says what is read of the innermost conditional.
 pub record FitsLevel (marks : List Mark) (level : Level) (around : Around) : Type 0 where
-  pub leads : Leads marks level.later level.next level.past around
+  pub leads : Leads marks level.later level.next around
   pub need_is : level.need ≡ need (group_of around)
 
 -- Each level says what is read of its conditional.
@@ -53,9 +46,8 @@ FitLevels marks (level ∷ levels) [] = ⊥
 pub record FitsNode (marks : List Mark) (at : ℕ) (node : Node) : Type 0 where
   pub here : drop at marks ≡ node_mark node ∷ drop (at + 1) marks
   pub need_is : node.need ≡ need (rest_at marks (at + 1)).0
-  pub leads : Leads marks node.later node.next node.past (rest_at marks (at + 1)).1
+  pub leads : Leads marks node.later node.next (rest_at marks (at + 1)).1
   pub next_after : at < node.next
-  pub past_after : at < node.past
 
 -- These are the nodes of the sections from this number on.
 abbrev pub FitNodes : List Mark → ℕ → List Node → Type 0
@@ -65,8 +57,8 @@ FitNodes marks at (node ∷ nodes) = FitsNode marks at node × FitNodes marks (a
 -- What the levels name stands at this section or behind it.
 abbrev pub LevelsFrom : ℕ → List Level → Type 0
 LevelsFrom at [] = ⊤
-LevelsFrom at (level ∷ levels) = (at ≤ level.next) × (at ≤ level.past) × LevelsFrom at levels
+LevelsFrom at (level ∷ levels) = (at ≤ level.next) × LevelsFrom at levels
 
 -- what a list of nodes has past its end
 abbrev pub no_node : Node
-no_node = record { first = 0; end = 0; kind = Text; need = 0; later = 0; next = 0; past = 0 }
+no_node = record { first = 0; end = 0; kind = Text; need = 0; later = 0; next = 0 }

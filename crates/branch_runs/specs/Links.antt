@@ -8,7 +8,7 @@ use Rattle.branch_runs.specs.declared.node.Node.{Node}
 
 -- the innermost level; one without an end ends at the end of the text
 abbrev pub level_of : ℕ → List Level → Level
-level_of count [] = record { later = 0; need = 1; next = count; past = count }
+level_of count [] = record { later = 0; need = 1; next = count }
 level_of count (level ∷ levels) = level
 
 -- the levels around it
@@ -22,9 +22,9 @@ links_after count at Text need levels = (need, levels)
 links_after count at Flat need levels = (need, levels)
 links_after count at IfZero need levels = (max (level_of count levels).later (level_of count levels).need, below levels)
 links_after count at Opens need levels = (max (need + (level_of count levels).later) (level_of count levels).need, below levels)
-links_after count at Branch need levels = (1, record { later = need + (level_of count levels).later; need = (level_of count levels).need; next = at; past = (level_of count levels).past } ∷ below levels)
-links_after count at LastBranch need levels = (1, record { later = need + (level_of count levels).later; need = (level_of count levels).need; next = at; past = (level_of count levels).past } ∷ below levels)
-links_after count at Ends need levels = (1, record { later = 0; need = need; next = at; past = at + 1 } ∷ levels)
+links_after count at Branch need levels = (1, record { later = need + (level_of count levels).later; need = (level_of count levels).need; next = at } ∷ below levels)
+links_after count at LastBranch need levels = (1, record { later = need + (level_of count levels).later; need = (level_of count levels).need; next = at } ∷ below levels)
+links_after count at Ends need levels = (1, record { later = 0; need = need; next = at } ∷ levels)
 
 -- all runs that the levels count
 abbrev pub total_of : List Level → ℕ

@@ -35,7 +35,6 @@ pub(crate) fn nodes_of<'a>(marks: &[Mark], bump: &'a Bump) -> Result<(&'a [Node]
             need,
             later: level.later,
             next: level.next,
-            past: level.past,
         })?;
         need = link(count, at, mark.kind, need, &mut levels)?;
     }

@@ -21,8 +21,6 @@ pub(crate) struct Node {
     pub later: u32,
     /// The next branch of its conditional, or the end.
     pub next: u32,
-    /// Where the text goes on behind its conditional.
-    pub past: u32,
 }
 
 /// A conditional that is open for a reading from the end.
@@ -34,8 +32,6 @@ pub(crate) struct Level {
     pub need: u32,
     /// Its branch that was read last, or its end.
     pub next: u32,
-    /// Where the text goes on behind it.
-    pub past: u32,
 }
 
 // What a conditional without an end has, which ends at the end of the text.
@@ -46,7 +42,6 @@ fn unended(count: u32) -> Level
         later: 0,
         need: 1,
         next: count,
-        past: count,
     }
 }
 
@@ -100,7 +95,6 @@ pub(crate) fn link(
                 later: need + top.later,
                 need: top.need,
                 next: at,
-                past: top.past,
             })?;
             Ok(1)
         }
@@ -109,7 +103,6 @@ pub(crate) fn link(
                 later: 0,
                 need,
                 next: at,
-                past: at + 1,
             })?;
             Ok(1)
         }
