@@ -1,6 +1,6 @@
 -- The items between two of a view are those of its texts.
-use Rattle.std.proofs.Common.{◌≡◌, ◌∙◌, ℕ, zero, suc, ◌+◌, ◌-◌, inl, inr, Bool, true, false, List, [], ◌∷◌, ◌++◌, refl, sym, arith}
-use Rattle.std.specs.Prelude.{min, max, nat_le, nat_lt, ◌&&◌, if◌then◌else◌}
+use Rattle.std.proofs.Common.{◌≡◌, ◌∙◌, ℕ, zero, suc, ◌+◌, ◌-◌, ◌<◌, inl, inr, Bool, true, false, List, [], ◌∷◌, ◌++◌, refl, sym, arith}
+use Rattle.std.specs.Prelude.{min, max, nat_le, nat_lt, ◌&&◌, if◌then◌else◌, All}
 use Rattle.std.specs.List.{range_with_len}
 use Rattle.branch_runs.specs.Anew.{items_between}
 use Rattle.branch_runs.proofs.Taken.{cases_lt}
@@ -42,3 +42,11 @@ row_between first end a (suc n) = elim (cases_lt a first) [
         (sym (row_none (max first (a + 1)) (min end (a + 1 + n) - max first (a + 1)) (omega (arith, behind))) ∙ row_none (max first a) (min end (a + suc n) - max first a) (omega (arith, behind)))
   ]
 ]
+
+-- all items lie before an end that is behind them all
+pub between_all : (end : ℕ) (ids : List ℕ) → All (λ id. id < end) ids → items_between 0 end ids ≡ ids
+between_all end [] all = refl
+between_all end (id ∷ ids) all =
+    let below : id < end = all 0 0 (omega arith) in
+    let is : (nat_le 0 id && nat_lt id end) ≡ true = grind (arith, below) in
+    rw (is, between_all end ids (λ k d h. all (suc k) d (omega (arith, h)))) refl

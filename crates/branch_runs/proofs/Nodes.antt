@@ -1,5 +1,5 @@
 -- The nodes say what is read from their sections.
-use Rattle.std.proofs.Common.{◌≡◌, ◌∙◌, ℕ, zero, suc, ◌+◌, ◌<◌, ◌⊎◌, inl, inr, true, false, List, [], ◌∷◌, ◌++◌, map, get_or, length, refl, sym, ap, subst, arith, append_assoc}
+use Rattle.std.proofs.Common.{◌≡◌, ◌∙◌, ℕ, zero, suc, ◌+◌, ◌-◌, ◌<◌, ◌⊎◌, inl, inr, true, false, List, [], ◌∷◌, ◌++◌, map, get_or, length, refl, sym, ap, subst, arith, append_assoc}
 use Rattle.branch_runs.specs.declared.mark.MarkKind.{MarkKind}
 use Rattle.branch_runs.specs.declared.mark.MarkKind.TheVariants.{Text, IfZero, Opens, Branch, LastBranch, Ends, Flat}
 use Rattle.branch_runs.specs.declared.mark.Mark.{Mark}
@@ -8,6 +8,8 @@ use Rattle.std.proofs.lemmas.List.{map-append}
 use Rattle.branch_runs.specs.Tree.{Group, Branches, nothing, none, branch}
 use Rattle.branch_runs.specs.Reading.{Around, branches_of, group_of, outside, rest_with, rest_of}
 use Rattle.branch_runs.specs.Runs.{needs, has_live}
+use Rattle.branch_runs.specs.Links.{node_mark}
+use Rattle.branch_runs.specs.Cut.{end_of}
 use Rattle.branch_runs.specs.Fits.{rest_at, IsBranch, FitsNode, FitNodes}
 use Rattle.token_arena.specs.declared.view.Stretch.{Stretch}
 use Rattle.token_arena.specs.Segments.{bounds_of}
@@ -52,3 +54,11 @@ pub pushed-stretch : (stretches new : List Stretch) (stretch : Stretch) (xs ys :
     → map bounds_of new ++ ys ≡ map bounds_of stretches ++ xs
 pushed-stretch stretches new stretch xs ys is left =
     rw (is, left, map-append bounds_of stretches (stretch ∷ [])) (append_assoc (map bounds_of stretches) (bounds_of stretch ∷ []) ys)
+
+-- the last section ends where all end
+pub last_end : (nodes : List Node) (at : ℕ) (d : Node) → 0 < length nodes → (get_or nodes (length nodes - 1) d).end ≡ end_of at (map node_mark nodes)
+last_end [] at d some = absurd (omega (arith, some))
+last_end (node ∷ []) at d some = refl
+last_end (node ∷ next ∷ nodes) at d some =
+    let e : length (node ∷ next ∷ nodes) - 1 ≡ suc (length (next ∷ nodes) - 1) = omega arith in
+    rw e (last_end (next ∷ nodes) node.end d (omega arith))

@@ -1,7 +1,8 @@
 //! Sections with what a run needs to know of them.
 
-ghost use Rattle.std.specs.Prelude.{◌≡◌, ◌<◌, ◌≤◌, ◌+◌, ◌^◌, ℕ, List, [], ◌∷◌, length, IfOk, MatchOption};
-ghost use Rattle.branch_runs.specs.Links.{links_after, level_of, below, total};
+ghost use Rattle.std.specs.Prelude.{◌≡◌, ◌<◌, ◌≤◌, ◌+◌, ◌^◌, ℕ, List, [], ◌∷◌, map, length, IfOk, MatchOption};
+ghost use Rattle.branch_runs.specs.Cut.{end_of};
+ghost use Rattle.branch_runs.specs.Links.{links_after, level_of, below, total, node_mark};
 
 use crate::stack::Stack;
 use crate::{MarkKind, NoMemory};
@@ -32,6 +33,16 @@ pub(crate) struct Level {
     pub need: u32,
     /// Its branch that was read last, or its end.
     pub next: u32,
+}
+
+/// The item behind the last of these sections.
+pub(crate) fn end_of(nodes: &[Node]) -> u32
+    ensures { result ≡ end_of 0 (map node_mark nodes.now) }
+{
+    match nodes.last() {
+        Some(node) => node.end,
+        None => 0,
+    }
 }
 
 // What a conditional without an end has, which ends at the end of the text.

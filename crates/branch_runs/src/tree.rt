@@ -16,10 +16,10 @@ use crate::change::{Change, changes_of};
 use crate::effect::effects;
 use crate::link::nodes_of;
 use crate::mark::marks_of;
-use crate::node::Node;
+use crate::node::{Node, end_of};
 use crate::seen::seen_texts;
 use crate::visible::Visible;
-use crate::window::{stretches_between, stretches_of};
+use crate::window::stretches_between;
 use crate::{Mark, NoMemory};
 use bumpalo::Bump;
 use std::marker::Model;
@@ -119,9 +119,7 @@ impl<'a> CondTree<'a> {
         ensures increase { IfOk result (λ view. Increase view) }
         ensures within { IfOk result (λ view. All (λ id. id < end_of 0 self.now) view) }
     {
-        let stretches = stretches_of(&self.texts, r, run)?;
-        let view = View::of_stretches(stretches, run)?;
-        Ok(view)
+        self.view_between(r, 0, end_of(self.nodes), run)
     }
 
     /// The items from one to before another that a run sees. It looks at no text before the first that it gives

@@ -59,24 +59,3 @@ pub(crate) fn stretches_between<'r>(
     }
     Ok(into_bump_slice(stretches))
 }
-
-/// All that run r sees.
-pub(crate) fn stretches_of<'r>(
-    texts: &Visible<'_>,
-    r: u32,
-    run: &'r Bump,
-) -> Result<&'r [Stretch], NoMemory>
-    ensures { IfOk result (λ stretches. map bounds_of stretches.now ≡ taken texts.now r) }
-{
-    let mut stretches = Vec::new(run);
-    let mut at = 0;
-    while let Some(place) = texts.next(at, r) {
-        let text = texts.text(place);
-        stretches.push(Stretch {
-            first: text.first,
-            end: text.end,
-        })?;
-        at = place + 1;
-    }
-    Ok(into_bump_slice(stretches))
-}

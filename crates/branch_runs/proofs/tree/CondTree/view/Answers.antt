@@ -1,30 +1,18 @@
-use Rattle.std.proofs.Common.{◌≡◌, map, refl}
+use Rattle.std.proofs.Common.{◌≡◌, List, map, ap, subst}
+use Rattle.std.specs.Prelude.{IfOk}
+use Rattle.branch_runs.specs.declared.mark.Mark.{Mark}
 use Rattle.branch_runs.specs.Links.{node_mark}
 use Rattle.branch_runs.specs.Reading.{read}
-use Rattle.branch_runs.specs.Runs.{texts}
-use Rattle.branch_runs.specs.Seen.{taken}
-use Rattle.branch_runs.proofs.Order.{texts_ascend}
+use Rattle.branch_runs.specs.Runs.{view_of}
+use Rattle.branch_runs.specs.Anew.{items_between}
 use Rattle.branch_runs.proofs.Within.{view_within}
-use Rattle.branch_runs.proofs.Taken.{are_texts}
+use Rattle.branch_runs.proofs.Between.{between_all}
 use Rattle.branch_runs.proofs.tree.CondTree.view.Goals as goal
-
-pub of_stretches-requires : goal.of_stretches-requires
-of_stretches-requires c =
-    let i = c.self.inside in
-    let marks = map node_mark i.nodes.now in
-    let are : taken i.texts c.args.r ≡ texts (read marks) c.args.r = are_texts (read marks) i.count c.args.r i.texts c.self.invariant.texts c.self.invariant.need_is (rw c.self.view_is c.requires) in
-    rw (c.in_ok-stretches.ensures, are) (texts_ascend marks c.args.r c.self.invariant.cut)
 
 pub returns-clause-view : goal.returns-clause-view
 returns-clause-view c =
-    let i = c.self.inside in
-    let marks = map node_mark i.nodes.now in
-    let are : taken i.texts c.args.r ≡ texts (read marks) c.args.r = are_texts (read marks) i.count c.args.r i.texts c.self.invariant.texts c.self.invariant.need_is (rw c.self.view_is c.requires) in
-    rw (c.in_ok-view.ensures.items, c.in_ok-stretches.ensures, are, ← c.self.view_is) refl
-
-pub returns-clause-within : goal.returns-clause-within
-returns-clause-within c =
-    let i = c.self.inside in
-    let marks = map node_mark i.nodes.now in
-    let are : taken i.texts c.args.r ≡ texts (read marks) c.args.r = are_texts (read marks) i.count c.args.r i.texts c.self.invariant.texts c.self.invariant.need_is (rw c.self.view_is c.requires) in
-    rw (c.in_ok-view.ensures.items, c.in_ok-stretches.ensures, are, ← c.self.view_is) (view_within marks c.args.r c.self.invariant.cut)
+    let marks = map node_mark c.self.inside.nodes.now in
+    let view = view_of (read marks) c.args.r in
+    let all : items_between 0 c.end_of.result view ≡ view = rw c.end_of.ensures (between_all _ view (view_within marks c.args.r c.self.invariant.cut)) in
+    let is : view ≡ view_of (read c.args.self.now) c.args.r = ap (λ (marks : List Mark). view_of (read marks) c.args.r) c.self.view_is in
+    subst (λ xs. IfOk c.view_between.result (λ v. v ≡ xs)) (subst (λ xs. items_between 0 c.end_of.result xs ≡ xs) is all) c.view_between.ensures.view
