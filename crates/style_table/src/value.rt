@@ -1,21 +1,22 @@
 //! The values of a style's keys: how each is written, and how it is read back.
 
-ghost use Rattle.std.specs.Prelude.{◌≡◌, ◌≤◌, length, if◌then◌else◌, Some, None, IfOk};
+ghost use Rattle.std.specs.Prelude.{◌≡◌, ◌≤◌, length, map, if◌then◌else◌, Some, None, Ok, Err, IfOk, MatchResult};
 ghost use Rattle.style_table.specs.Keys.{shown, with_value, number_in, are_digits};
 ghost use Rattle.std.specs.Str.Parse.{digits_value};
-ghost use Rattle.style_table.specs.Words.{bool_word};
+ghost use Rattle.style_table.specs.Words.{bool_word, value_in};
 ghost use Rattle.style_table.specs.Range.{IsInRange};
 ghost use Rattle.style_table.specs.Values.{text_of, IsShort};
 
 use crate::key::Key;
-use crate::style::{
-    AlignAfterOpenBracket, AlignEscapedNewlines, AlignTrailingCommentsKind,
-    AllowShortBlocksOnASingleLine, AllowShortFunctionsOnASingleLine,
-    AllowShortIfStatementsOnASingleLine, BraceWrappingAfterControlStatement,
-    BreakBeforeBinaryOperators, BreakBeforeBraces, IndentPPDirectives, LineEnding,
-    PointerAlignment, SpaceBeforeParens, Style, UseTab,
+use crate::style::Style;
+use crate::words::{
+    ALIGN_AFTER_OPEN_BRACKET_WORDS, ALIGN_ESCAPED_NEWLINES_WORDS,
+    ALIGN_TRAILING_COMMENTS_KIND_WORDS, ALLOW_SHORT_BLOCKS_ON_A_SINGLE_LINE_WORDS,
+    ALLOW_SHORT_FUNCTIONS_ON_A_SINGLE_LINE_WORDS, ALLOW_SHORT_IF_STATEMENTS_ON_A_SINGLE_LINE_WORDS,
+    BOOL_WORDS, BRACE_WRAPPING_AFTER_CONTROL_STATEMENT_WORDS, BREAK_BEFORE_BINARY_OPERATORS_WORDS,
+    BREAK_BEFORE_BRACES_WORDS, INDENT_PP_DIRECTIVES_WORDS, LINE_ENDING_WORDS,
+    POINTER_ALIGNMENT_WORDS, SPACE_BEFORE_PARENS_WORDS, USE_TAB_WORDS, bool_word, value_in,
 };
-use crate::words::{bool_from_word, bool_word};
 use thiserror::Error;
 
 /// What a break or a column past the limit costs at most.
@@ -67,6 +68,22 @@ fn digits_in(text: &[u8]) -> Option<u32>
         number = number * 10 + digit;
     }
     Some(number)
+}
+
+/// Sets a number to the one that a text writes, where it is within these bounds.
+fn set_number(field: &mut u32, least: u32, most: u32, text: &[u8]) -> Result<(), ValueFault>
+    ensures { MatchResult result (λ _. number_in least most text.now ≡ Ok field.new) (λ fault. number_in least most text.now ≡ Err fault) }
+{
+    *field = number_in(text, least, most)?;
+    Ok(())
+}
+
+/// Sets a value to the one in the first row with this word.
+fn set_word<V: Copy>(field: &mut V, rows: &[(&str, V)], text: &[u8]) -> Result<(), ValueFault>
+    ensures { let read = value_in (map (λ row. (row.0.now, row.1)) rows.now) text.now in MatchResult result (λ _. read ≡ Ok field.new) (λ fault. read ≡ Err fault) }
+{
+    *field = value_in(rows, text)?;
+    Ok(())
 }
 
 /// The value of a key that is true or false.
@@ -153,105 +170,213 @@ impl Style {
         }
     }
 
+    /// Sets a key to a value, as a configuration writes it.
+    fn set(&mut self, key: Key, text: &[u8]) -> Result<(), ValueFault>
+        ensures { MatchResult result (λ _. with_value self.old key text.now ≡ Ok self.new) (λ fault. with_value self.old key text.now ≡ Err fault) }
+    {
+        match key {
+            Key::ColumnLimit => set_number(&mut self.column_limit, 0, 1000, text),
+            Key::IndentWidth => set_number(&mut self.indent_width, 0, 16, text),
+            Key::ContinuationIndentWidth => set_number(
+                &mut self.continuation_indent_width,
+                0,
+                16,
+                text,
+            ),
+            Key::TabWidth => set_number(&mut self.tab_width, 1, 16, text),
+            Key::UseTab => set_word(&mut self.use_tab, USE_TAB_WORDS, text),
+            Key::BreakBeforeBraces => set_word(
+                &mut self.break_before_braces,
+                BREAK_BEFORE_BRACES_WORDS,
+                text,
+            ),
+            Key::BraceWrappingAfterCaseLabel => set_word(
+                &mut self.brace_wrapping_after_case_label,
+                BOOL_WORDS,
+                text,
+            ),
+            Key::BraceWrappingAfterEnum => set_word(
+                &mut self.brace_wrapping_after_enum,
+                BOOL_WORDS,
+                text,
+            ),
+            Key::BraceWrappingAfterExternBlock => set_word(
+                &mut self.brace_wrapping_after_extern_block,
+                BOOL_WORDS,
+                text,
+            ),
+            Key::BraceWrappingAfterFunction => set_word(
+                &mut self.brace_wrapping_after_function,
+                BOOL_WORDS,
+                text,
+            ),
+            Key::BraceWrappingAfterStruct => set_word(
+                &mut self.brace_wrapping_after_struct,
+                BOOL_WORDS,
+                text,
+            ),
+            Key::BraceWrappingAfterUnion => set_word(
+                &mut self.brace_wrapping_after_union,
+                BOOL_WORDS,
+                text,
+            ),
+            Key::BraceWrappingBeforeElse => set_word(
+                &mut self.brace_wrapping_before_else,
+                BOOL_WORDS,
+                text,
+            ),
+            Key::BraceWrappingBeforeWhile => set_word(
+                &mut self.brace_wrapping_before_while,
+                BOOL_WORDS,
+                text,
+            ),
+            Key::BraceWrappingAfterControlStatement => set_word(
+                &mut self.brace_wrapping_after_control_statement,
+                BRACE_WRAPPING_AFTER_CONTROL_STATEMENT_WORDS,
+                text,
+            ),
+            Key::PointerAlignment => set_word(
+                &mut self.pointer_alignment,
+                POINTER_ALIGNMENT_WORDS,
+                text,
+            ),
+            Key::SpaceBeforeParens => set_word(
+                &mut self.space_before_parens,
+                SPACE_BEFORE_PARENS_WORDS,
+                text,
+            ),
+            Key::AlignAfterOpenBracket => set_word(
+                &mut self.align_after_open_bracket,
+                ALIGN_AFTER_OPEN_BRACKET_WORDS,
+                text,
+            ),
+            Key::BinPackArguments => set_word(&mut self.bin_pack_arguments, BOOL_WORDS, text),
+            Key::BinPackParameters => set_word(&mut self.bin_pack_parameters, BOOL_WORDS, text),
+            Key::BreakBeforeBinaryOperators => set_word(
+                &mut self.break_before_binary_operators,
+                BREAK_BEFORE_BINARY_OPERATORS_WORDS,
+                text,
+            ),
+            Key::BreakBeforeTernaryOperators => set_word(
+                &mut self.break_before_ternary_operators,
+                BOOL_WORDS,
+                text,
+            ),
+            Key::MaxEmptyLinesToKeep => set_number(&mut self.max_empty_lines_to_keep, 0, 100, text),
+            Key::KeepEmptyLinesAtTheStartOfBlocks => set_word(
+                &mut self.keep_empty_lines_at_the_start_of_blocks,
+                BOOL_WORDS,
+                text,
+            ),
+            Key::IndentCaseLabels => set_word(&mut self.indent_case_labels, BOOL_WORDS, text),
+            Key::IndentGotoLabels => set_word(&mut self.indent_goto_labels, BOOL_WORDS, text),
+            Key::IndentPPDirectives => set_word(
+                &mut self.indent_pp_directives,
+                INDENT_PP_DIRECTIVES_WORDS,
+                text,
+            ),
+            Key::AllowShortFunctionsOnASingleLine => set_word(
+                &mut self.allow_short_functions_on_a_single_line,
+                ALLOW_SHORT_FUNCTIONS_ON_A_SINGLE_LINE_WORDS,
+                text,
+            ),
+            Key::AllowShortIfStatementsOnASingleLine => set_word(
+                &mut self.allow_short_if_statements_on_a_single_line,
+                ALLOW_SHORT_IF_STATEMENTS_ON_A_SINGLE_LINE_WORDS,
+                text,
+            ),
+            Key::AllowShortLoopsOnASingleLine => set_word(
+                &mut self.allow_short_loops_on_a_single_line,
+                BOOL_WORDS,
+                text,
+            ),
+            Key::AllowShortBlocksOnASingleLine => set_word(
+                &mut self.allow_short_blocks_on_a_single_line,
+                ALLOW_SHORT_BLOCKS_ON_A_SINGLE_LINE_WORDS,
+                text,
+            ),
+            Key::AllowShortCaseLabelsOnASingleLine => set_word(
+                &mut self.allow_short_case_labels_on_a_single_line,
+                BOOL_WORDS,
+                text,
+            ),
+            Key::AllowShortEnumsOnASingleLine => set_word(
+                &mut self.allow_short_enums_on_a_single_line,
+                BOOL_WORDS,
+                text,
+            ),
+            Key::SpacesBeforeTrailingComments => set_number(
+                &mut self.spaces_before_trailing_comments,
+                0,
+                16,
+                text,
+            ),
+            Key::SpaceAfterCStyleCast => set_word(
+                &mut self.space_after_c_style_cast,
+                BOOL_WORDS,
+                text,
+            ),
+            Key::Cpp11BracedListStyle => set_word(
+                &mut self.cpp11_braced_list_style,
+                BOOL_WORDS,
+                text,
+            ),
+            Key::AlignEscapedNewlines => set_word(
+                &mut self.align_escaped_newlines,
+                ALIGN_ESCAPED_NEWLINES_WORDS,
+                text,
+            ),
+            Key::AlignTrailingCommentsKind => set_word(
+                &mut self.align_trailing_comments_kind,
+                ALIGN_TRAILING_COMMENTS_KIND_WORDS,
+                text,
+            ),
+            Key::LineEnding => set_word(&mut self.line_ending, LINE_ENDING_WORDS, text),
+            Key::InsertNewlineAtEOF => set_word(&mut self.insert_newline_at_eof, BOOL_WORDS, text),
+            Key::SkipMacroDefinitionBody => set_word(
+                &mut self.skip_macro_definition_body,
+                BOOL_WORDS,
+                text,
+            ),
+            Key::PenaltyBreakAssignment => set_number(
+                &mut self.penalty_break_assignment,
+                0,
+                MOST_PENALTY,
+                text,
+            ),
+            Key::PenaltyBreakBeforeFirstCallParameter => set_number(
+                &mut self.penalty_break_before_first_call_parameter,
+                0,
+                MOST_PENALTY,
+                text,
+            ),
+            Key::PenaltyBreakOpenParenthesis => set_number(
+                &mut self.penalty_break_open_parenthesis,
+                0,
+                MOST_PENALTY,
+                text,
+            ),
+            Key::PenaltyExcessCharacter => set_number(
+                &mut self.penalty_excess_character,
+                0,
+                MOST_PENALTY,
+                text,
+            ),
+            Key::PenaltyReturnTypeOnItsOwnLine => set_number(
+                &mut self.penalty_return_type_on_its_own_line,
+                0,
+                MOST_PENALTY,
+                text,
+            ),
+        }
+    }
+
     /// The style with another value of a key, as a configuration writes it.
     pub fn with_value(mut self, key: Key, text: &[u8]) -> Result<Style, ValueFault>
         ensures value { result ≡ with_value self key text.now }
         ensures range { IsInRange self → IfOk result (λ style. IsInRange style) }
     {
-        match key {
-            Key::ColumnLimit => self.column_limit = number_in(text, 0, 1000)?,
-            Key::IndentWidth => self.indent_width = number_in(text, 0, 16)?,
-            Key::ContinuationIndentWidth => self.continuation_indent_width = number_in(
-                text, 0, 16,
-            )?,
-            Key::TabWidth => self.tab_width = number_in(text, 1, 16)?,
-            Key::UseTab => self.use_tab = UseTab::from_word(text)?,
-            Key::BreakBeforeBraces => self.break_before_braces = BreakBeforeBraces::from_word(
-                text,
-            )?,
-            Key::BraceWrappingAfterCaseLabel => self.brace_wrapping_after_case_label =
-                bool_from_word(text)?,
-            Key::BraceWrappingAfterEnum => self.brace_wrapping_after_enum = bool_from_word(text)?,
-            Key::BraceWrappingAfterExternBlock => self.brace_wrapping_after_extern_block =
-                bool_from_word(text)?,
-            Key::BraceWrappingAfterFunction => self.brace_wrapping_after_function = bool_from_word(
-                text,
-            )?,
-            Key::BraceWrappingAfterStruct => self.brace_wrapping_after_struct = bool_from_word(
-                text,
-            )?,
-            Key::BraceWrappingAfterUnion => self.brace_wrapping_after_union = bool_from_word(text)?,
-            Key::BraceWrappingBeforeElse => self.brace_wrapping_before_else = bool_from_word(text)?,
-            Key::BraceWrappingBeforeWhile => self.brace_wrapping_before_while = bool_from_word(
-                text,
-            )?,
-            Key::BraceWrappingAfterControlStatement => self.brace_wrapping_after_control_statement =
-                BraceWrappingAfterControlStatement::from_word(text)?,
-            Key::PointerAlignment => self.pointer_alignment = PointerAlignment::from_word(text)?,
-            Key::SpaceBeforeParens => self.space_before_parens = SpaceBeforeParens::from_word(
-                text,
-            )?,
-            Key::AlignAfterOpenBracket => self.align_after_open_bracket =
-                AlignAfterOpenBracket::from_word(text)?,
-            Key::BinPackArguments => self.bin_pack_arguments = bool_from_word(text)?,
-            Key::BinPackParameters => self.bin_pack_parameters = bool_from_word(text)?,
-            Key::BreakBeforeBinaryOperators => self.break_before_binary_operators =
-                BreakBeforeBinaryOperators::from_word(text)?,
-            Key::BreakBeforeTernaryOperators => self.break_before_ternary_operators =
-                bool_from_word(text)?,
-            Key::MaxEmptyLinesToKeep => self.max_empty_lines_to_keep = number_in(text, 0, 100)?,
-            Key::KeepEmptyLinesAtTheStartOfBlocks => self.keep_empty_lines_at_the_start_of_blocks =
-                bool_from_word(text)?,
-            Key::IndentCaseLabels => self.indent_case_labels = bool_from_word(text)?,
-            Key::IndentGotoLabels => self.indent_goto_labels = bool_from_word(text)?,
-            Key::IndentPPDirectives => self.indent_pp_directives = IndentPPDirectives::from_word(
-                text,
-            )?,
-            Key::AllowShortFunctionsOnASingleLine => self.allow_short_functions_on_a_single_line =
-                AllowShortFunctionsOnASingleLine::from_word(text)?,
-            Key::AllowShortIfStatementsOnASingleLine =>
-                self.allow_short_if_statements_on_a_single_line =
-                    AllowShortIfStatementsOnASingleLine::from_word(text)?,
-            Key::AllowShortLoopsOnASingleLine => self.allow_short_loops_on_a_single_line =
-                bool_from_word(text)?,
-            Key::AllowShortBlocksOnASingleLine => self.allow_short_blocks_on_a_single_line =
-                AllowShortBlocksOnASingleLine::from_word(text)?,
-            Key::AllowShortCaseLabelsOnASingleLine =>
-                self.allow_short_case_labels_on_a_single_line = bool_from_word(text)?,
-            Key::AllowShortEnumsOnASingleLine => self.allow_short_enums_on_a_single_line =
-                bool_from_word(text)?,
-            Key::SpacesBeforeTrailingComments => self.spaces_before_trailing_comments = number_in(
-                text, 0, 16,
-            )?,
-            Key::SpaceAfterCStyleCast => self.space_after_c_style_cast = bool_from_word(text)?,
-            Key::Cpp11BracedListStyle => self.cpp11_braced_list_style = bool_from_word(text)?,
-            Key::AlignEscapedNewlines => self.align_escaped_newlines =
-                AlignEscapedNewlines::from_word(text)?,
-            Key::AlignTrailingCommentsKind => self.align_trailing_comments_kind =
-                AlignTrailingCommentsKind::from_word(text)?,
-            Key::LineEnding => self.line_ending = LineEnding::from_word(text)?,
-            Key::InsertNewlineAtEOF => self.insert_newline_at_eof = bool_from_word(text)?,
-            Key::SkipMacroDefinitionBody => self.skip_macro_definition_body = bool_from_word(text)?,
-            Key::PenaltyBreakAssignment => self.penalty_break_assignment = number_in(
-                text,
-                0,
-                MOST_PENALTY,
-            )?,
-            Key::PenaltyBreakBeforeFirstCallParameter =>
-                self.penalty_break_before_first_call_parameter = number_in(text, 0, MOST_PENALTY)?,
-            Key::PenaltyBreakOpenParenthesis => self.penalty_break_open_parenthesis = number_in(
-                text,
-                0,
-                MOST_PENALTY,
-            )?,
-            Key::PenaltyExcessCharacter => self.penalty_excess_character = number_in(
-                text,
-                0,
-                MOST_PENALTY,
-            )?,
-            Key::PenaltyReturnTypeOnItsOwnLine => self.penalty_return_type_on_its_own_line =
-                number_in(text, 0, MOST_PENALTY)?,
-        }
+        self.set(key, text)?;
         Ok(self)
     }
 }

@@ -1,10 +1,10 @@
 //! The words that a configuration writes for the values of its keys.
 //!
-//! `word` is how a value is written, and `from_word` tells which value a word stands for, `BadValue` where it
-//! is none of the key's words. The words of older configurations stand last in each table.
+//! `word` is how a value is written, and a table has each word that is read. The words of older configurations stand
+//! last in it.
 
 ghost use Rattle.std.specs.Prelude.{◌≡◌, ◌≤◌, length, map};
-ghost use Rattle.style_table.specs.Words.{value_in, bool_word, bool_words, use_tab_word, use_tab_words, break_before_braces_word, break_before_braces_words, brace_wrapping_after_control_statement_word, brace_wrapping_after_control_statement_words, pointer_alignment_word, pointer_alignment_words, space_before_parens_word, space_before_parens_words, align_after_open_bracket_word, align_after_open_bracket_words, break_before_binary_operators_word, break_before_binary_operators_words, indent_pp_directives_word, indent_pp_directives_words, allow_short_functions_on_a_single_line_word, allow_short_functions_on_a_single_line_words, allow_short_if_statements_on_a_single_line_word, allow_short_if_statements_on_a_single_line_words, allow_short_blocks_on_a_single_line_word, allow_short_blocks_on_a_single_line_words, align_escaped_newlines_word, align_escaped_newlines_words, align_trailing_comments_kind_word, align_trailing_comments_kind_words, line_ending_word, line_ending_words};
+ghost use Rattle.style_table.specs.Words.{value_in, bool_word, bool_words, use_tab_word, break_before_braces_word, brace_wrapping_after_control_statement_word, pointer_alignment_word, space_before_parens_word, align_after_open_bracket_word, break_before_binary_operators_word, indent_pp_directives_word, allow_short_functions_on_a_single_line_word, allow_short_if_statements_on_a_single_line_word, allow_short_blocks_on_a_single_line_word, align_escaped_newlines_word, align_trailing_comments_kind_word, line_ending_word};
 
 use crate::style::{
     AlignAfterOpenBracket, AlignEscapedNewlines, AlignTrailingCommentsKind,
@@ -16,16 +16,19 @@ use crate::style::{
 use crate::value::ValueFault;
 
 /// The value in the first row with this word.
-fn value_in<V: Copy>(rows: &[(&[u8], V)], text: &[u8]) -> Result<V, ValueFault>
+pub(crate) fn value_in<V: Copy>(rows: &[(&str, V)], text: &[u8]) -> Result<V, ValueFault>
     ensures { result ≡ value_in (map (λ row. (row.0.now, row.1)) rows.now) text.now }
 {
     for (word, value) in rows {
-        if text == *word {
+        if text == word.as_bytes() {
             return Ok(*value);
         }
     }
     Err(ValueFault::BadValue)
 }
+
+/// The words for true and false.
+pub(crate) const BOOL_WORDS: &[(&str, bool)] = &[("true", true), ("false", false)];
 
 /// How a key that is true or false is written.
 pub fn bool_word(value: bool) -> &'static str
@@ -39,9 +42,22 @@ pub fn bool_word(value: bool) -> &'static str
 pub fn bool_from_word(text: &[u8]) -> Result<bool, ValueFault>
     ensures { result ≡ value_in bool_words text.now }
 {
-    let rows: [(&[u8], bool); 2] = [(b"true", true), (b"false", false)];
-    value_in(&rows, text)
+    value_in(BOOL_WORDS, text)
 }
+
+/// The words for a value of `UseTab`.
+pub(crate) const USE_TAB_WORDS: &[(&str, UseTab)] = &[
+    ("Never", UseTab::Never),
+    ("ForIndentation", UseTab::ForIndentation),
+    (
+        "ForContinuationAndIndentation",
+        UseTab::ForContinuationAndIndentation,
+    ),
+    ("AlignWithSpaces", UseTab::AlignWithSpaces),
+    ("Always", UseTab::Always),
+    ("true", UseTab::Always),
+    ("false", UseTab::Never),
+];
 
 impl UseTab {
     /// The word that a configuration writes for it.
@@ -57,26 +73,18 @@ impl UseTab {
             UseTab::Always => "Always",
         }
     }
-
-    /// The value that a word stands for.
-    pub fn from_word(text: &[u8]) -> Result<UseTab, ValueFault>
-        ensures { result ≡ value_in use_tab_words text.now }
-    {
-        let rows: [(&[u8], UseTab); 7] = [
-            (b"Never", UseTab::Never),
-            (b"ForIndentation", UseTab::ForIndentation),
-            (
-                b"ForContinuationAndIndentation",
-                UseTab::ForContinuationAndIndentation,
-            ),
-            (b"AlignWithSpaces", UseTab::AlignWithSpaces),
-            (b"Always", UseTab::Always),
-            (b"true", UseTab::Always),
-            (b"false", UseTab::Never),
-        ];
-        value_in(&rows, text)
-    }
 }
+
+/// The words for a value of `BreakBeforeBraces`.
+pub(crate) const BREAK_BEFORE_BRACES_WORDS: &[(&str, BreakBeforeBraces)] = &[
+    ("Attach", BreakBeforeBraces::Attach),
+    ("Linux", BreakBeforeBraces::Linux),
+    ("Mozilla", BreakBeforeBraces::Mozilla),
+    ("Stroustrup", BreakBeforeBraces::Stroustrup),
+    ("Allman", BreakBeforeBraces::Allman),
+    ("WebKit", BreakBeforeBraces::WebKit),
+    ("Custom", BreakBeforeBraces::Custom),
+];
 
 impl BreakBeforeBraces {
     /// The word that a configuration writes for it.
@@ -94,23 +102,18 @@ impl BreakBeforeBraces {
             BreakBeforeBraces::Custom => "Custom",
         }
     }
-
-    /// The value that a word stands for.
-    pub fn from_word(text: &[u8]) -> Result<BreakBeforeBraces, ValueFault>
-        ensures { result ≡ value_in break_before_braces_words text.now }
-    {
-        let rows: [(&[u8], BreakBeforeBraces); 7] = [
-            (b"Attach", BreakBeforeBraces::Attach),
-            (b"Linux", BreakBeforeBraces::Linux),
-            (b"Mozilla", BreakBeforeBraces::Mozilla),
-            (b"Stroustrup", BreakBeforeBraces::Stroustrup),
-            (b"Allman", BreakBeforeBraces::Allman),
-            (b"WebKit", BreakBeforeBraces::WebKit),
-            (b"Custom", BreakBeforeBraces::Custom),
-        ];
-        value_in(&rows, text)
-    }
 }
+
+/// The words for a value of `BraceWrappingAfterControlStatement`.
+pub(crate) const BRACE_WRAPPING_AFTER_CONTROL_STATEMENT_WORDS: &[(
+    &str,
+    BraceWrappingAfterControlStatement,
+)] = &[
+    ("Never", BraceWrappingAfterControlStatement::Never),
+    ("Always", BraceWrappingAfterControlStatement::Always),
+    ("true", BraceWrappingAfterControlStatement::Always),
+    ("false", BraceWrappingAfterControlStatement::Never),
+];
 
 impl BraceWrappingAfterControlStatement {
     /// The word that a configuration writes for it.
@@ -123,20 +126,14 @@ impl BraceWrappingAfterControlStatement {
             BraceWrappingAfterControlStatement::Always => "Always",
         }
     }
-
-    /// The value that a word stands for.
-    pub fn from_word(text: &[u8]) -> Result<BraceWrappingAfterControlStatement, ValueFault>
-        ensures { result ≡ value_in brace_wrapping_after_control_statement_words text.now }
-    {
-        let rows: [(&[u8], BraceWrappingAfterControlStatement); 4] = [
-            (b"Never", BraceWrappingAfterControlStatement::Never),
-            (b"Always", BraceWrappingAfterControlStatement::Always),
-            (b"true", BraceWrappingAfterControlStatement::Always),
-            (b"false", BraceWrappingAfterControlStatement::Never),
-        ];
-        value_in(&rows, text)
-    }
 }
+
+/// The words for a value of `PointerAlignment`.
+pub(crate) const POINTER_ALIGNMENT_WORDS: &[(&str, PointerAlignment)] = &[
+    ("Right", PointerAlignment::Right),
+    ("Left", PointerAlignment::Left),
+    ("Middle", PointerAlignment::Middle),
+];
 
 impl PointerAlignment {
     /// The word that a configuration writes for it.
@@ -150,19 +147,22 @@ impl PointerAlignment {
             PointerAlignment::Middle => "Middle",
         }
     }
-
-    /// The value that a word stands for.
-    pub fn from_word(text: &[u8]) -> Result<PointerAlignment, ValueFault>
-        ensures { result ≡ value_in pointer_alignment_words text.now }
-    {
-        let rows: [(&[u8], PointerAlignment); 3] = [
-            (b"Right", PointerAlignment::Right),
-            (b"Left", PointerAlignment::Left),
-            (b"Middle", PointerAlignment::Middle),
-        ];
-        value_in(&rows, text)
-    }
 }
+
+/// The words for a value of `SpaceBeforeParens`.
+pub(crate) const SPACE_BEFORE_PARENS_WORDS: &[(&str, SpaceBeforeParens)] = &[
+    ("ControlStatements", SpaceBeforeParens::ControlStatements),
+    ("Never", SpaceBeforeParens::Never),
+    ("Always", SpaceBeforeParens::Always),
+    (
+        "ControlStatementsExceptForEachMacros",
+        SpaceBeforeParens::ControlStatements,
+    ),
+    (
+        "ControlStatementsExceptControlMacros",
+        SpaceBeforeParens::ControlStatements,
+    ),
+];
 
 impl SpaceBeforeParens {
     /// The word that a configuration writes for it.
@@ -176,27 +176,16 @@ impl SpaceBeforeParens {
             SpaceBeforeParens::Always => "Always",
         }
     }
-
-    /// The value that a word stands for.
-    pub fn from_word(text: &[u8]) -> Result<SpaceBeforeParens, ValueFault>
-        ensures { result ≡ value_in space_before_parens_words text.now }
-    {
-        let rows: [(&[u8], SpaceBeforeParens); 5] = [
-            (b"ControlStatements", SpaceBeforeParens::ControlStatements),
-            (b"Never", SpaceBeforeParens::Never),
-            (b"Always", SpaceBeforeParens::Always),
-            (
-                b"ControlStatementsExceptForEachMacros",
-                SpaceBeforeParens::ControlStatements,
-            ),
-            (
-                b"ControlStatementsExceptControlMacros",
-                SpaceBeforeParens::ControlStatements,
-            ),
-        ];
-        value_in(&rows, text)
-    }
 }
+
+/// The words for a value of `AlignAfterOpenBracket`.
+pub(crate) const ALIGN_AFTER_OPEN_BRACKET_WORDS: &[(&str, AlignAfterOpenBracket)] = &[
+    ("Align", AlignAfterOpenBracket::Align),
+    ("DontAlign", AlignAfterOpenBracket::DontAlign),
+    ("AlwaysBreak", AlignAfterOpenBracket::AlwaysBreak),
+    ("true", AlignAfterOpenBracket::Align),
+    ("false", AlignAfterOpenBracket::DontAlign),
+];
 
 impl AlignAfterOpenBracket {
     /// The word that a configuration writes for it.
@@ -210,21 +199,16 @@ impl AlignAfterOpenBracket {
             AlignAfterOpenBracket::AlwaysBreak => "AlwaysBreak",
         }
     }
-
-    /// The value that a word stands for.
-    pub fn from_word(text: &[u8]) -> Result<AlignAfterOpenBracket, ValueFault>
-        ensures { result ≡ value_in align_after_open_bracket_words text.now }
-    {
-        let rows: [(&[u8], AlignAfterOpenBracket); 5] = [
-            (b"Align", AlignAfterOpenBracket::Align),
-            (b"DontAlign", AlignAfterOpenBracket::DontAlign),
-            (b"AlwaysBreak", AlignAfterOpenBracket::AlwaysBreak),
-            (b"true", AlignAfterOpenBracket::Align),
-            (b"false", AlignAfterOpenBracket::DontAlign),
-        ];
-        value_in(&rows, text)
-    }
 }
+
+/// The words for a value of `BreakBeforeBinaryOperators`.
+pub(crate) const BREAK_BEFORE_BINARY_OPERATORS_WORDS: &[(&str, BreakBeforeBinaryOperators)] = &[
+    ("None", BreakBeforeBinaryOperators::None),
+    ("NonAssignment", BreakBeforeBinaryOperators::NonAssignment),
+    ("All", BreakBeforeBinaryOperators::All),
+    ("true", BreakBeforeBinaryOperators::All),
+    ("false", BreakBeforeBinaryOperators::None),
+];
 
 impl BreakBeforeBinaryOperators {
     /// The word that a configuration writes for it.
@@ -238,21 +222,14 @@ impl BreakBeforeBinaryOperators {
             BreakBeforeBinaryOperators::All => "All",
         }
     }
-
-    /// The value that a word stands for.
-    pub fn from_word(text: &[u8]) -> Result<BreakBeforeBinaryOperators, ValueFault>
-        ensures { result ≡ value_in break_before_binary_operators_words text.now }
-    {
-        let rows: [(&[u8], BreakBeforeBinaryOperators); 5] = [
-            (b"None", BreakBeforeBinaryOperators::None),
-            (b"NonAssignment", BreakBeforeBinaryOperators::NonAssignment),
-            (b"All", BreakBeforeBinaryOperators::All),
-            (b"true", BreakBeforeBinaryOperators::All),
-            (b"false", BreakBeforeBinaryOperators::None),
-        ];
-        value_in(&rows, text)
-    }
 }
+
+/// The words for a value of `IndentPPDirectives`.
+pub(crate) const INDENT_PP_DIRECTIVES_WORDS: &[(&str, IndentPPDirectives)] = &[
+    ("None", IndentPPDirectives::None),
+    ("AfterHash", IndentPPDirectives::AfterHash),
+    ("BeforeHash", IndentPPDirectives::BeforeHash),
+];
 
 impl IndentPPDirectives {
     /// The word that a configuration writes for it.
@@ -266,19 +243,21 @@ impl IndentPPDirectives {
             IndentPPDirectives::BeforeHash => "BeforeHash",
         }
     }
-
-    /// The value that a word stands for.
-    pub fn from_word(text: &[u8]) -> Result<IndentPPDirectives, ValueFault>
-        ensures { result ≡ value_in indent_pp_directives_words text.now }
-    {
-        let rows: [(&[u8], IndentPPDirectives); 3] = [
-            (b"None", IndentPPDirectives::None),
-            (b"AfterHash", IndentPPDirectives::AfterHash),
-            (b"BeforeHash", IndentPPDirectives::BeforeHash),
-        ];
-        value_in(&rows, text)
-    }
 }
+
+/// The words for a value of `AllowShortFunctionsOnASingleLine`.
+pub(crate) const ALLOW_SHORT_FUNCTIONS_ON_A_SINGLE_LINE_WORDS: &[(
+    &str,
+    AllowShortFunctionsOnASingleLine,
+)] = &[
+    ("All", AllowShortFunctionsOnASingleLine::All),
+    ("None", AllowShortFunctionsOnASingleLine::None),
+    ("InlineOnly", AllowShortFunctionsOnASingleLine::InlineOnly),
+    ("Empty", AllowShortFunctionsOnASingleLine::Empty),
+    ("Inline", AllowShortFunctionsOnASingleLine::Inline),
+    ("true", AllowShortFunctionsOnASingleLine::All),
+    ("false", AllowShortFunctionsOnASingleLine::None),
+];
 
 impl AllowShortFunctionsOnASingleLine {
     /// The word that a configuration writes for it.
@@ -294,23 +273,29 @@ impl AllowShortFunctionsOnASingleLine {
             AllowShortFunctionsOnASingleLine::Inline => "Inline",
         }
     }
-
-    /// The value that a word stands for.
-    pub fn from_word(text: &[u8]) -> Result<AllowShortFunctionsOnASingleLine, ValueFault>
-        ensures { result ≡ value_in allow_short_functions_on_a_single_line_words text.now }
-    {
-        let rows: [(&[u8], AllowShortFunctionsOnASingleLine); 7] = [
-            (b"All", AllowShortFunctionsOnASingleLine::All),
-            (b"None", AllowShortFunctionsOnASingleLine::None),
-            (b"InlineOnly", AllowShortFunctionsOnASingleLine::InlineOnly),
-            (b"Empty", AllowShortFunctionsOnASingleLine::Empty),
-            (b"Inline", AllowShortFunctionsOnASingleLine::Inline),
-            (b"true", AllowShortFunctionsOnASingleLine::All),
-            (b"false", AllowShortFunctionsOnASingleLine::None),
-        ];
-        value_in(&rows, text)
-    }
 }
+
+/// The words for a value of `AllowShortIfStatementsOnASingleLine`.
+pub(crate) const ALLOW_SHORT_IF_STATEMENTS_ON_A_SINGLE_LINE_WORDS: &[(
+    &str,
+    AllowShortIfStatementsOnASingleLine,
+)] = &[
+    ("Never", AllowShortIfStatementsOnASingleLine::Never),
+    (
+        "WithoutElse",
+        AllowShortIfStatementsOnASingleLine::WithoutElse,
+    ),
+    (
+        "OnlyFirstIf",
+        AllowShortIfStatementsOnASingleLine::OnlyFirstIf,
+    ),
+    (
+        "AllIfsAndElse",
+        AllowShortIfStatementsOnASingleLine::AllIfsAndElse,
+    ),
+    ("true", AllowShortIfStatementsOnASingleLine::WithoutElse),
+    ("false", AllowShortIfStatementsOnASingleLine::Never),
+];
 
 impl AllowShortIfStatementsOnASingleLine {
     /// The word that a configuration writes for it.
@@ -325,31 +310,19 @@ impl AllowShortIfStatementsOnASingleLine {
             AllowShortIfStatementsOnASingleLine::AllIfsAndElse => "AllIfsAndElse",
         }
     }
-
-    /// The value that a word stands for.
-    pub fn from_word(text: &[u8]) -> Result<AllowShortIfStatementsOnASingleLine, ValueFault>
-        ensures { result ≡ value_in allow_short_if_statements_on_a_single_line_words text.now }
-    {
-        let rows: [(&[u8], AllowShortIfStatementsOnASingleLine); 6] = [
-            (b"Never", AllowShortIfStatementsOnASingleLine::Never),
-            (
-                b"WithoutElse",
-                AllowShortIfStatementsOnASingleLine::WithoutElse,
-            ),
-            (
-                b"OnlyFirstIf",
-                AllowShortIfStatementsOnASingleLine::OnlyFirstIf,
-            ),
-            (
-                b"AllIfsAndElse",
-                AllowShortIfStatementsOnASingleLine::AllIfsAndElse,
-            ),
-            (b"true", AllowShortIfStatementsOnASingleLine::WithoutElse),
-            (b"false", AllowShortIfStatementsOnASingleLine::Never),
-        ];
-        value_in(&rows, text)
-    }
 }
+
+/// The words for a value of `AllowShortBlocksOnASingleLine`.
+pub(crate) const ALLOW_SHORT_BLOCKS_ON_A_SINGLE_LINE_WORDS: &[(
+    &str,
+    AllowShortBlocksOnASingleLine,
+)] = &[
+    ("Never", AllowShortBlocksOnASingleLine::Never),
+    ("Empty", AllowShortBlocksOnASingleLine::Empty),
+    ("Always", AllowShortBlocksOnASingleLine::Always),
+    ("true", AllowShortBlocksOnASingleLine::Always),
+    ("false", AllowShortBlocksOnASingleLine::Never),
+];
 
 impl AllowShortBlocksOnASingleLine {
     /// The word that a configuration writes for it.
@@ -363,21 +336,14 @@ impl AllowShortBlocksOnASingleLine {
             AllowShortBlocksOnASingleLine::Always => "Always",
         }
     }
-
-    /// The value that a word stands for.
-    pub fn from_word(text: &[u8]) -> Result<AllowShortBlocksOnASingleLine, ValueFault>
-        ensures { result ≡ value_in allow_short_blocks_on_a_single_line_words text.now }
-    {
-        let rows: [(&[u8], AllowShortBlocksOnASingleLine); 5] = [
-            (b"Never", AllowShortBlocksOnASingleLine::Never),
-            (b"Empty", AllowShortBlocksOnASingleLine::Empty),
-            (b"Always", AllowShortBlocksOnASingleLine::Always),
-            (b"true", AllowShortBlocksOnASingleLine::Always),
-            (b"false", AllowShortBlocksOnASingleLine::Never),
-        ];
-        value_in(&rows, text)
-    }
 }
+
+/// The words for a value of `AlignEscapedNewlines`.
+pub(crate) const ALIGN_ESCAPED_NEWLINES_WORDS: &[(&str, AlignEscapedNewlines)] = &[
+    ("Right", AlignEscapedNewlines::Right),
+    ("Left", AlignEscapedNewlines::Left),
+    ("DontAlign", AlignEscapedNewlines::DontAlign),
+];
 
 impl AlignEscapedNewlines {
     /// The word that a configuration writes for it.
@@ -391,19 +357,13 @@ impl AlignEscapedNewlines {
             AlignEscapedNewlines::DontAlign => "DontAlign",
         }
     }
-
-    /// The value that a word stands for.
-    pub fn from_word(text: &[u8]) -> Result<AlignEscapedNewlines, ValueFault>
-        ensures { result ≡ value_in align_escaped_newlines_words text.now }
-    {
-        let rows: [(&[u8], AlignEscapedNewlines); 3] = [
-            (b"Right", AlignEscapedNewlines::Right),
-            (b"Left", AlignEscapedNewlines::Left),
-            (b"DontAlign", AlignEscapedNewlines::DontAlign),
-        ];
-        value_in(&rows, text)
-    }
 }
+
+/// The words for a value of `AlignTrailingCommentsKind`.
+pub(crate) const ALIGN_TRAILING_COMMENTS_KIND_WORDS: &[(&str, AlignTrailingCommentsKind)] = &[
+    ("Always", AlignTrailingCommentsKind::Always),
+    ("Never", AlignTrailingCommentsKind::Never),
+];
 
 impl AlignTrailingCommentsKind {
     /// The word that a configuration writes for it.
@@ -416,18 +376,15 @@ impl AlignTrailingCommentsKind {
             AlignTrailingCommentsKind::Never => "Never",
         }
     }
-
-    /// The value that a word stands for.
-    pub fn from_word(text: &[u8]) -> Result<AlignTrailingCommentsKind, ValueFault>
-        ensures { result ≡ value_in align_trailing_comments_kind_words text.now }
-    {
-        let rows: [(&[u8], AlignTrailingCommentsKind); 2] = [
-            (b"Always", AlignTrailingCommentsKind::Always),
-            (b"Never", AlignTrailingCommentsKind::Never),
-        ];
-        value_in(&rows, text)
-    }
 }
+
+/// The words for a value of `LineEnding`.
+pub(crate) const LINE_ENDING_WORDS: &[(&str, LineEnding)] = &[
+    ("DeriveLF", LineEnding::DeriveLF),
+    ("DeriveCRLF", LineEnding::DeriveCRLF),
+    ("LF", LineEnding::LF),
+    ("CRLF", LineEnding::CRLF),
+];
 
 impl LineEnding {
     /// The word that a configuration writes for it.
@@ -441,18 +398,5 @@ impl LineEnding {
             LineEnding::LF => "LF",
             LineEnding::CRLF => "CRLF",
         }
-    }
-
-    /// The value that a word stands for.
-    pub fn from_word(text: &[u8]) -> Result<LineEnding, ValueFault>
-        ensures { result ≡ value_in line_ending_words text.now }
-    {
-        let rows: [(&[u8], LineEnding); 4] = [
-            (b"DeriveLF", LineEnding::DeriveLF),
-            (b"DeriveCRLF", LineEnding::DeriveCRLF),
-            (b"LF", LineEnding::LF),
-            (b"CRLF", LineEnding::CRLF),
-        ];
-        value_in(&rows, text)
     }
 }
