@@ -150,6 +150,57 @@ pub const KEYS: [Key; 46] = [
     Key::PenaltyReturnTypeOnItsOwnLine,
 ];
 
+/// How each key is spelled, in the order of `Key`: the key that it stands under, empty where it stands under none, and its
+/// own part.
+const SPELLINGS: &[(&str, &str)] = &[
+    ("", "ColumnLimit"),
+    ("", "IndentWidth"),
+    ("", "ContinuationIndentWidth"),
+    ("", "TabWidth"),
+    ("", "UseTab"),
+    ("", "BreakBeforeBraces"),
+    ("BraceWrapping", "AfterCaseLabel"),
+    ("BraceWrapping", "AfterEnum"),
+    ("BraceWrapping", "AfterExternBlock"),
+    ("BraceWrapping", "AfterFunction"),
+    ("BraceWrapping", "AfterStruct"),
+    ("BraceWrapping", "AfterUnion"),
+    ("BraceWrapping", "BeforeElse"),
+    ("BraceWrapping", "BeforeWhile"),
+    ("BraceWrapping", "AfterControlStatement"),
+    ("", "PointerAlignment"),
+    ("", "SpaceBeforeParens"),
+    ("", "AlignAfterOpenBracket"),
+    ("", "BinPackArguments"),
+    ("", "BinPackParameters"),
+    ("", "BreakBeforeBinaryOperators"),
+    ("", "BreakBeforeTernaryOperators"),
+    ("", "MaxEmptyLinesToKeep"),
+    ("", "KeepEmptyLinesAtTheStartOfBlocks"),
+    ("", "IndentCaseLabels"),
+    ("", "IndentGotoLabels"),
+    ("", "IndentPPDirectives"),
+    ("", "AllowShortFunctionsOnASingleLine"),
+    ("", "AllowShortIfStatementsOnASingleLine"),
+    ("", "AllowShortLoopsOnASingleLine"),
+    ("", "AllowShortBlocksOnASingleLine"),
+    ("", "AllowShortCaseLabelsOnASingleLine"),
+    ("", "AllowShortEnumsOnASingleLine"),
+    ("", "SpacesBeforeTrailingComments"),
+    ("", "SpaceAfterCStyleCast"),
+    ("", "Cpp11BracedListStyle"),
+    ("", "AlignEscapedNewlines"),
+    ("AlignTrailingComments", "Kind"),
+    ("", "LineEnding"),
+    ("", "InsertNewlineAtEOF"),
+    ("", "SkipMacroDefinitionBody"),
+    ("", "PenaltyBreakAssignment"),
+    ("", "PenaltyBreakBeforeFirstCallParameter"),
+    ("", "PenaltyBreakOpenParenthesis"),
+    ("", "PenaltyExcessCharacter"),
+    ("", "PenaltyReturnTypeOnItsOwnLine"),
+];
+
 /// The keys whose own part has this many bytes, at most 16.
 fn short_keys(len: usize) -> &'static [Key]
     requires { len ≤ 16 }
@@ -276,19 +327,7 @@ impl Key {
         ensures text { result.now ≡ outer_of self }
         ensures short { length result.now ≤ 40 }
     {
-        match self {
-            Key::BraceWrappingAfterCaseLabel
-            | Key::BraceWrappingAfterEnum
-            | Key::BraceWrappingAfterExternBlock
-            | Key::BraceWrappingAfterFunction
-            | Key::BraceWrappingAfterStruct
-            | Key::BraceWrappingAfterUnion
-            | Key::BraceWrappingBeforeElse
-            | Key::BraceWrappingBeforeWhile
-            | Key::BraceWrappingAfterControlStatement => "BraceWrapping",
-            Key::AlignTrailingCommentsKind => "AlignTrailingComments",
-            _ => "",
-        }
+        SPELLINGS[self as usize].0
     }
 
     /// How it is spelled, the key that it stands under aside.
@@ -296,54 +335,7 @@ impl Key {
         ensures text { result.now ≡ label_of self }
         ensures short { length result.now ≤ 40 }
     {
-        match self {
-            Key::ColumnLimit => "ColumnLimit",
-            Key::IndentWidth => "IndentWidth",
-            Key::ContinuationIndentWidth => "ContinuationIndentWidth",
-            Key::TabWidth => "TabWidth",
-            Key::UseTab => "UseTab",
-            Key::BreakBeforeBraces => "BreakBeforeBraces",
-            Key::BraceWrappingAfterCaseLabel => "AfterCaseLabel",
-            Key::BraceWrappingAfterEnum => "AfterEnum",
-            Key::BraceWrappingAfterExternBlock => "AfterExternBlock",
-            Key::BraceWrappingAfterFunction => "AfterFunction",
-            Key::BraceWrappingAfterStruct => "AfterStruct",
-            Key::BraceWrappingAfterUnion => "AfterUnion",
-            Key::BraceWrappingBeforeElse => "BeforeElse",
-            Key::BraceWrappingBeforeWhile => "BeforeWhile",
-            Key::BraceWrappingAfterControlStatement => "AfterControlStatement",
-            Key::PointerAlignment => "PointerAlignment",
-            Key::SpaceBeforeParens => "SpaceBeforeParens",
-            Key::AlignAfterOpenBracket => "AlignAfterOpenBracket",
-            Key::BinPackArguments => "BinPackArguments",
-            Key::BinPackParameters => "BinPackParameters",
-            Key::BreakBeforeBinaryOperators => "BreakBeforeBinaryOperators",
-            Key::BreakBeforeTernaryOperators => "BreakBeforeTernaryOperators",
-            Key::MaxEmptyLinesToKeep => "MaxEmptyLinesToKeep",
-            Key::KeepEmptyLinesAtTheStartOfBlocks => "KeepEmptyLinesAtTheStartOfBlocks",
-            Key::IndentCaseLabels => "IndentCaseLabels",
-            Key::IndentGotoLabels => "IndentGotoLabels",
-            Key::IndentPPDirectives => "IndentPPDirectives",
-            Key::AllowShortFunctionsOnASingleLine => "AllowShortFunctionsOnASingleLine",
-            Key::AllowShortIfStatementsOnASingleLine => "AllowShortIfStatementsOnASingleLine",
-            Key::AllowShortLoopsOnASingleLine => "AllowShortLoopsOnASingleLine",
-            Key::AllowShortBlocksOnASingleLine => "AllowShortBlocksOnASingleLine",
-            Key::AllowShortCaseLabelsOnASingleLine => "AllowShortCaseLabelsOnASingleLine",
-            Key::AllowShortEnumsOnASingleLine => "AllowShortEnumsOnASingleLine",
-            Key::SpacesBeforeTrailingComments => "SpacesBeforeTrailingComments",
-            Key::SpaceAfterCStyleCast => "SpaceAfterCStyleCast",
-            Key::Cpp11BracedListStyle => "Cpp11BracedListStyle",
-            Key::AlignEscapedNewlines => "AlignEscapedNewlines",
-            Key::AlignTrailingCommentsKind => "Kind",
-            Key::LineEnding => "LineEnding",
-            Key::InsertNewlineAtEOF => "InsertNewlineAtEOF",
-            Key::SkipMacroDefinitionBody => "SkipMacroDefinitionBody",
-            Key::PenaltyBreakAssignment => "PenaltyBreakAssignment",
-            Key::PenaltyBreakBeforeFirstCallParameter => "PenaltyBreakBeforeFirstCallParameter",
-            Key::PenaltyBreakOpenParenthesis => "PenaltyBreakOpenParenthesis",
-            Key::PenaltyExcessCharacter => "PenaltyExcessCharacter",
-            Key::PenaltyReturnTypeOnItsOwnLine => "PenaltyReturnTypeOnItsOwnLine",
-        }
+        SPELLINGS[self as usize].1
     }
 
     /// Whether it is the first of the keys under its outer key.
