@@ -1,7 +1,7 @@
 //! The named styles.
 
 ghost use Rattle.std.specs.Prelude.{◌≡◌, IfSome};
-ghost use Rattle.style_table.specs.Named.{is_spelled, named_style, column, style_of, named};
+ghost use Rattle.style_table.specs.Named.{is_spelled, named_style, style_of, named};
 ghost use Rattle.style_table.specs.Range.{IsInRange};
 
 use crate::style::{
@@ -21,6 +21,119 @@ enum NamedStyle {
     Mozilla,
     Microsoft,
 }
+
+/// The style named LLVM.
+const LLVM: Style = Style {
+    column_limit: 80,
+    indent_width: 2,
+    continuation_indent_width: 4,
+    tab_width: 8,
+    use_tab: UseTab::Never,
+    break_before_braces: BreakBeforeBraces::Attach,
+    brace_wrapping_after_case_label: false,
+    brace_wrapping_after_enum: false,
+    brace_wrapping_after_extern_block: false,
+    brace_wrapping_after_function: false,
+    brace_wrapping_after_struct: false,
+    brace_wrapping_after_union: false,
+    brace_wrapping_before_else: false,
+    brace_wrapping_before_while: false,
+    brace_wrapping_after_control_statement: BraceWrappingAfterControlStatement::Never,
+    pointer_alignment: PointerAlignment::Right,
+    space_before_parens: SpaceBeforeParens::ControlStatements,
+    align_after_open_bracket: AlignAfterOpenBracket::Align,
+    bin_pack_arguments: true,
+    bin_pack_parameters: true,
+    break_before_binary_operators: BreakBeforeBinaryOperators::None,
+    break_before_ternary_operators: true,
+    max_empty_lines_to_keep: 1,
+    keep_empty_lines_at_the_start_of_blocks: true,
+    indent_case_labels: false,
+    indent_goto_labels: true,
+    indent_pp_directives: IndentPPDirectives::None,
+    allow_short_functions_on_a_single_line: AllowShortFunctionsOnASingleLine::All,
+    allow_short_if_statements_on_a_single_line: AllowShortIfStatementsOnASingleLine::Never,
+    allow_short_loops_on_a_single_line: false,
+    allow_short_blocks_on_a_single_line: AllowShortBlocksOnASingleLine::Never,
+    allow_short_case_labels_on_a_single_line: false,
+    allow_short_enums_on_a_single_line: true,
+    spaces_before_trailing_comments: 1,
+    space_after_c_style_cast: false,
+    cpp11_braced_list_style: true,
+    align_escaped_newlines: AlignEscapedNewlines::Right,
+    align_trailing_comments_kind: AlignTrailingCommentsKind::Always,
+    line_ending: LineEnding::DeriveLF,
+    insert_newline_at_eof: false,
+    skip_macro_definition_body: false,
+    penalty_break_assignment: 2,
+    penalty_break_before_first_call_parameter: 19,
+    penalty_break_open_parenthesis: 0,
+    penalty_excess_character: 1000000,
+    penalty_return_type_on_its_own_line: 60,
+};
+
+/// The style named Google.
+const GOOGLE: Style = Style {
+    pointer_alignment: PointerAlignment::Left,
+    keep_empty_lines_at_the_start_of_blocks: false,
+    indent_case_labels: true,
+    allow_short_if_statements_on_a_single_line: AllowShortIfStatementsOnASingleLine::WithoutElse,
+    allow_short_loops_on_a_single_line: true,
+    spaces_before_trailing_comments: 2,
+    align_escaped_newlines: AlignEscapedNewlines::Left,
+    penalty_break_before_first_call_parameter: 1,
+    penalty_return_type_on_its_own_line: 200,
+    ..LLVM
+};
+
+/// The style named WebKit.
+const WEB_KIT: Style = Style {
+    column_limit: 0,
+    indent_width: 4,
+    break_before_braces: BreakBeforeBraces::WebKit,
+    pointer_alignment: PointerAlignment::Left,
+    align_after_open_bracket: AlignAfterOpenBracket::DontAlign,
+    break_before_binary_operators: BreakBeforeBinaryOperators::All,
+    allow_short_blocks_on_a_single_line: AllowShortBlocksOnASingleLine::Empty,
+    cpp11_braced_list_style: false,
+    align_trailing_comments_kind: AlignTrailingCommentsKind::Never,
+    ..LLVM
+};
+
+/// The style named Mozilla.
+const MOZILLA: Style = Style {
+    continuation_indent_width: 2,
+    break_before_braces: BreakBeforeBraces::Mozilla,
+    pointer_alignment: PointerAlignment::Left,
+    bin_pack_arguments: false,
+    bin_pack_parameters: false,
+    indent_case_labels: true,
+    allow_short_functions_on_a_single_line: AllowShortFunctionsOnASingleLine::Inline,
+    cpp11_braced_list_style: false,
+    penalty_return_type_on_its_own_line: 200,
+    ..LLVM
+};
+
+/// The style named Microsoft.
+const MICROSOFT: Style = Style {
+    column_limit: 120,
+    indent_width: 4,
+    tab_width: 4,
+    break_before_braces: BreakBeforeBraces::Custom,
+    brace_wrapping_after_enum: true,
+    brace_wrapping_after_extern_block: true,
+    brace_wrapping_after_function: true,
+    brace_wrapping_after_struct: true,
+    brace_wrapping_before_else: true,
+    brace_wrapping_after_control_statement: BraceWrappingAfterControlStatement::Always,
+    allow_short_functions_on_a_single_line: AllowShortFunctionsOnASingleLine::None,
+    allow_short_enums_on_a_single_line: false,
+    penalty_return_type_on_its_own_line: 1000,
+    ..LLVM
+};
+
+/// The styles that have names, in the order of `NamedStyle`.
+const STYLES: &[Style] = &[LLVM, GOOGLE, WEB_KIT, MOZILLA, MICROSOFT];
 
 /// Whether a name is this one, in letters of either case.
 fn is_spelled(word: &str, name: &str) -> bool
@@ -49,132 +162,11 @@ impl NamedStyle {
         }
     }
 
-    /// One of the five columns of the table.
-    fn column<V: Copy>(self, llvm: V, google: V, web_kit: V, mozilla: V, microsoft: V) -> V
-        ensures { result ≡ column self llvm google web_kit mozilla microsoft }
-    {
-        match self {
-            NamedStyle::Llvm => llvm,
-            NamedStyle::Google => google,
-            NamedStyle::WebKit => web_kit,
-            NamedStyle::Mozilla => mozilla,
-            NamedStyle::Microsoft => microsoft,
-        }
-    }
-
-    /// The table, a key a line: its values in LLVM, Google, WebKit, Mozilla and Microsoft, or one value for
-    /// all of them.
+    /// The style that has the name.
     fn style(self) -> Style
         ensures { result ≡ style_of self }
     {
-        Style {
-            column_limit: self.column(80, 80, 0, 80, 120),
-            indent_width: self.column(2, 2, 4, 2, 4),
-            continuation_indent_width: self.column(4, 4, 4, 2, 4),
-            tab_width: self.column(8, 8, 8, 8, 4),
-            use_tab: UseTab::Never,
-            break_before_braces: self.column(
-                BreakBeforeBraces::Attach,
-                BreakBeforeBraces::Attach,
-                BreakBeforeBraces::WebKit,
-                BreakBeforeBraces::Mozilla,
-                BreakBeforeBraces::Custom,
-            ),
-            brace_wrapping_after_case_label: false,
-            brace_wrapping_after_enum: self.column(false, false, false, false, true),
-            brace_wrapping_after_extern_block: self.column(false, false, false, false, true),
-            brace_wrapping_after_function: self.column(false, false, false, false, true),
-            brace_wrapping_after_struct: self.column(false, false, false, false, true),
-            brace_wrapping_after_union: false,
-            brace_wrapping_before_else: self.column(false, false, false, false, true),
-            brace_wrapping_before_while: false,
-            brace_wrapping_after_control_statement: self.column(
-                BraceWrappingAfterControlStatement::Never,
-                BraceWrappingAfterControlStatement::Never,
-                BraceWrappingAfterControlStatement::Never,
-                BraceWrappingAfterControlStatement::Never,
-                BraceWrappingAfterControlStatement::Always,
-            ),
-            pointer_alignment: self.column(
-                PointerAlignment::Right,
-                PointerAlignment::Left,
-                PointerAlignment::Left,
-                PointerAlignment::Left,
-                PointerAlignment::Right,
-            ),
-            space_before_parens: SpaceBeforeParens::ControlStatements,
-            align_after_open_bracket: self.column(
-                AlignAfterOpenBracket::Align,
-                AlignAfterOpenBracket::Align,
-                AlignAfterOpenBracket::DontAlign,
-                AlignAfterOpenBracket::Align,
-                AlignAfterOpenBracket::Align,
-            ),
-            bin_pack_arguments: self.column(true, true, true, false, true),
-            bin_pack_parameters: self.column(true, true, true, false, true),
-            break_before_binary_operators: self.column(
-                BreakBeforeBinaryOperators::None,
-                BreakBeforeBinaryOperators::None,
-                BreakBeforeBinaryOperators::All,
-                BreakBeforeBinaryOperators::None,
-                BreakBeforeBinaryOperators::None,
-            ),
-            break_before_ternary_operators: true,
-            max_empty_lines_to_keep: 1,
-            keep_empty_lines_at_the_start_of_blocks: self.column(true, false, true, true, true),
-            indent_case_labels: self.column(false, true, false, true, false),
-            indent_goto_labels: true,
-            indent_pp_directives: IndentPPDirectives::None,
-            allow_short_functions_on_a_single_line: self.column(
-                AllowShortFunctionsOnASingleLine::All,
-                AllowShortFunctionsOnASingleLine::All,
-                AllowShortFunctionsOnASingleLine::All,
-                AllowShortFunctionsOnASingleLine::Inline,
-                AllowShortFunctionsOnASingleLine::None,
-            ),
-            allow_short_if_statements_on_a_single_line: self.column(
-                AllowShortIfStatementsOnASingleLine::Never,
-                AllowShortIfStatementsOnASingleLine::WithoutElse,
-                AllowShortIfStatementsOnASingleLine::Never,
-                AllowShortIfStatementsOnASingleLine::Never,
-                AllowShortIfStatementsOnASingleLine::Never,
-            ),
-            allow_short_loops_on_a_single_line: self.column(false, true, false, false, false),
-            allow_short_blocks_on_a_single_line: self.column(
-                AllowShortBlocksOnASingleLine::Never,
-                AllowShortBlocksOnASingleLine::Never,
-                AllowShortBlocksOnASingleLine::Empty,
-                AllowShortBlocksOnASingleLine::Never,
-                AllowShortBlocksOnASingleLine::Never,
-            ),
-            allow_short_case_labels_on_a_single_line: false,
-            allow_short_enums_on_a_single_line: self.column(true, true, true, true, false),
-            spaces_before_trailing_comments: self.column(1, 2, 1, 1, 1),
-            space_after_c_style_cast: false,
-            cpp11_braced_list_style: self.column(true, true, false, false, true),
-            align_escaped_newlines: self.column(
-                AlignEscapedNewlines::Right,
-                AlignEscapedNewlines::Left,
-                AlignEscapedNewlines::Right,
-                AlignEscapedNewlines::Right,
-                AlignEscapedNewlines::Right,
-            ),
-            align_trailing_comments_kind: self.column(
-                AlignTrailingCommentsKind::Always,
-                AlignTrailingCommentsKind::Always,
-                AlignTrailingCommentsKind::Never,
-                AlignTrailingCommentsKind::Always,
-                AlignTrailingCommentsKind::Always,
-            ),
-            line_ending: LineEnding::DeriveLF,
-            insert_newline_at_eof: false,
-            skip_macro_definition_body: false,
-            penalty_break_assignment: 2,
-            penalty_break_before_first_call_parameter: self.column(19, 1, 19, 19, 19),
-            penalty_break_open_parenthesis: 0,
-            penalty_excess_character: 1000000,
-            penalty_return_type_on_its_own_line: self.column(60, 200, 60, 200, 1000),
-        }
+        STYLES[self as usize]
     }
 }
 

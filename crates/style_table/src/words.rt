@@ -1,7 +1,7 @@
 //! The words that a configuration writes for the values of its keys.
 //!
-//! `word` is how a value is written, and a table has each word that is read. The words of older configurations stand
-//! last in it.
+//! A table has each word that is read, and what it stands for. First stand the words that are written, in the order of
+//! their values, and last those of older configurations.
 
 ghost use Rattle.std.specs.Prelude.{◌≡◌, ◌≤◌, length, map};
 ghost use Rattle.style_table.specs.Words.{value_in, bool_word, bool_words, use_tab_word, break_before_braces_word, brace_wrapping_after_control_statement_word, pointer_alignment_word, space_before_parens_word, align_after_open_bracket_word, break_before_binary_operators_word, indent_pp_directives_word, allow_short_functions_on_a_single_line_word, allow_short_if_statements_on_a_single_line_word, allow_short_blocks_on_a_single_line_word, align_escaped_newlines_word, align_trailing_comments_kind_word, line_ending_word};
@@ -14,6 +14,9 @@ use crate::style::{
     PointerAlignment, SpaceBeforeParens, UseTab,
 };
 use crate::value::ValueFault;
+
+/// Words, and what each stands for.
+type Words<V> = &'static [(&'static str, V)];
 
 /// The value in the first row with this word.
 pub(crate) fn value_in<V: Copy>(rows: &[(&str, V)], text: &[u8]) -> Result<V, ValueFault>
@@ -28,7 +31,7 @@ pub(crate) fn value_in<V: Copy>(rows: &[(&str, V)], text: &[u8]) -> Result<V, Va
 }
 
 /// The words for true and false.
-pub(crate) const BOOL_WORDS: &[(&str, bool)] = &[("true", true), ("false", false)];
+pub(crate) const BOOL_WORDS: Words<bool> = &[("true", true), ("false", false)];
 
 /// How a key that is true or false is written.
 pub fn bool_word(value: bool) -> &'static str
@@ -45,8 +48,8 @@ pub fn bool_from_word(text: &[u8]) -> Result<bool, ValueFault>
     value_in(BOOL_WORDS, text)
 }
 
-/// The words for a value of `UseTab`.
-pub(crate) const USE_TAB_WORDS: &[(&str, UseTab)] = &[
+/// The words of `UseTab`.
+pub(crate) const USE_TAB_WORDS: Words<UseTab> = &[
     ("Never", UseTab::Never),
     ("ForIndentation", UseTab::ForIndentation),
     (
@@ -65,18 +68,12 @@ impl UseTab {
         ensures word { result.now ≡ use_tab_word self }
         ensures short { length result.now ≤ 40 }
     {
-        match self {
-            UseTab::Never => "Never",
-            UseTab::ForIndentation => "ForIndentation",
-            UseTab::ForContinuationAndIndentation => "ForContinuationAndIndentation",
-            UseTab::AlignWithSpaces => "AlignWithSpaces",
-            UseTab::Always => "Always",
-        }
+        USE_TAB_WORDS[self as usize].0
     }
 }
 
-/// The words for a value of `BreakBeforeBraces`.
-pub(crate) const BREAK_BEFORE_BRACES_WORDS: &[(&str, BreakBeforeBraces)] = &[
+/// The words of `BreakBeforeBraces`.
+pub(crate) const BREAK_BEFORE_BRACES_WORDS: Words<BreakBeforeBraces> = &[
     ("Attach", BreakBeforeBraces::Attach),
     ("Linux", BreakBeforeBraces::Linux),
     ("Mozilla", BreakBeforeBraces::Mozilla),
@@ -92,23 +89,14 @@ impl BreakBeforeBraces {
         ensures word { result.now ≡ break_before_braces_word self }
         ensures short { length result.now ≤ 40 }
     {
-        match self {
-            BreakBeforeBraces::Attach => "Attach",
-            BreakBeforeBraces::Linux => "Linux",
-            BreakBeforeBraces::Mozilla => "Mozilla",
-            BreakBeforeBraces::Stroustrup => "Stroustrup",
-            BreakBeforeBraces::Allman => "Allman",
-            BreakBeforeBraces::WebKit => "WebKit",
-            BreakBeforeBraces::Custom => "Custom",
-        }
+        BREAK_BEFORE_BRACES_WORDS[self as usize].0
     }
 }
 
-/// The words for a value of `BraceWrappingAfterControlStatement`.
-pub(crate) const BRACE_WRAPPING_AFTER_CONTROL_STATEMENT_WORDS: &[(
-    &str,
+/// The words of `BraceWrappingAfterControlStatement`.
+pub(crate) const BRACE_WRAPPING_AFTER_CONTROL_STATEMENT_WORDS: Words<
     BraceWrappingAfterControlStatement,
-)] = &[
+> = &[
     ("Never", BraceWrappingAfterControlStatement::Never),
     ("Always", BraceWrappingAfterControlStatement::Always),
     ("true", BraceWrappingAfterControlStatement::Always),
@@ -121,15 +109,12 @@ impl BraceWrappingAfterControlStatement {
         ensures word { result.now ≡ brace_wrapping_after_control_statement_word self }
         ensures short { length result.now ≤ 40 }
     {
-        match self {
-            BraceWrappingAfterControlStatement::Never => "Never",
-            BraceWrappingAfterControlStatement::Always => "Always",
-        }
+        BRACE_WRAPPING_AFTER_CONTROL_STATEMENT_WORDS[self as usize].0
     }
 }
 
-/// The words for a value of `PointerAlignment`.
-pub(crate) const POINTER_ALIGNMENT_WORDS: &[(&str, PointerAlignment)] = &[
+/// The words of `PointerAlignment`.
+pub(crate) const POINTER_ALIGNMENT_WORDS: Words<PointerAlignment> = &[
     ("Right", PointerAlignment::Right),
     ("Left", PointerAlignment::Left),
     ("Middle", PointerAlignment::Middle),
@@ -141,16 +126,12 @@ impl PointerAlignment {
         ensures word { result.now ≡ pointer_alignment_word self }
         ensures short { length result.now ≤ 40 }
     {
-        match self {
-            PointerAlignment::Right => "Right",
-            PointerAlignment::Left => "Left",
-            PointerAlignment::Middle => "Middle",
-        }
+        POINTER_ALIGNMENT_WORDS[self as usize].0
     }
 }
 
-/// The words for a value of `SpaceBeforeParens`.
-pub(crate) const SPACE_BEFORE_PARENS_WORDS: &[(&str, SpaceBeforeParens)] = &[
+/// The words of `SpaceBeforeParens`.
+pub(crate) const SPACE_BEFORE_PARENS_WORDS: Words<SpaceBeforeParens> = &[
     ("ControlStatements", SpaceBeforeParens::ControlStatements),
     ("Never", SpaceBeforeParens::Never),
     ("Always", SpaceBeforeParens::Always),
@@ -170,16 +151,12 @@ impl SpaceBeforeParens {
         ensures word { result.now ≡ space_before_parens_word self }
         ensures short { length result.now ≤ 40 }
     {
-        match self {
-            SpaceBeforeParens::ControlStatements => "ControlStatements",
-            SpaceBeforeParens::Never => "Never",
-            SpaceBeforeParens::Always => "Always",
-        }
+        SPACE_BEFORE_PARENS_WORDS[self as usize].0
     }
 }
 
-/// The words for a value of `AlignAfterOpenBracket`.
-pub(crate) const ALIGN_AFTER_OPEN_BRACKET_WORDS: &[(&str, AlignAfterOpenBracket)] = &[
+/// The words of `AlignAfterOpenBracket`.
+pub(crate) const ALIGN_AFTER_OPEN_BRACKET_WORDS: Words<AlignAfterOpenBracket> = &[
     ("Align", AlignAfterOpenBracket::Align),
     ("DontAlign", AlignAfterOpenBracket::DontAlign),
     ("AlwaysBreak", AlignAfterOpenBracket::AlwaysBreak),
@@ -193,16 +170,12 @@ impl AlignAfterOpenBracket {
         ensures word { result.now ≡ align_after_open_bracket_word self }
         ensures short { length result.now ≤ 40 }
     {
-        match self {
-            AlignAfterOpenBracket::Align => "Align",
-            AlignAfterOpenBracket::DontAlign => "DontAlign",
-            AlignAfterOpenBracket::AlwaysBreak => "AlwaysBreak",
-        }
+        ALIGN_AFTER_OPEN_BRACKET_WORDS[self as usize].0
     }
 }
 
-/// The words for a value of `BreakBeforeBinaryOperators`.
-pub(crate) const BREAK_BEFORE_BINARY_OPERATORS_WORDS: &[(&str, BreakBeforeBinaryOperators)] = &[
+/// The words of `BreakBeforeBinaryOperators`.
+pub(crate) const BREAK_BEFORE_BINARY_OPERATORS_WORDS: Words<BreakBeforeBinaryOperators> = &[
     ("None", BreakBeforeBinaryOperators::None),
     ("NonAssignment", BreakBeforeBinaryOperators::NonAssignment),
     ("All", BreakBeforeBinaryOperators::All),
@@ -216,16 +189,12 @@ impl BreakBeforeBinaryOperators {
         ensures word { result.now ≡ break_before_binary_operators_word self }
         ensures short { length result.now ≤ 40 }
     {
-        match self {
-            BreakBeforeBinaryOperators::None => "None",
-            BreakBeforeBinaryOperators::NonAssignment => "NonAssignment",
-            BreakBeforeBinaryOperators::All => "All",
-        }
+        BREAK_BEFORE_BINARY_OPERATORS_WORDS[self as usize].0
     }
 }
 
-/// The words for a value of `IndentPPDirectives`.
-pub(crate) const INDENT_PP_DIRECTIVES_WORDS: &[(&str, IndentPPDirectives)] = &[
+/// The words of `IndentPPDirectives`.
+pub(crate) const INDENT_PP_DIRECTIVES_WORDS: Words<IndentPPDirectives> = &[
     ("None", IndentPPDirectives::None),
     ("AfterHash", IndentPPDirectives::AfterHash),
     ("BeforeHash", IndentPPDirectives::BeforeHash),
@@ -237,19 +206,14 @@ impl IndentPPDirectives {
         ensures word { result.now ≡ indent_pp_directives_word self }
         ensures short { length result.now ≤ 40 }
     {
-        match self {
-            IndentPPDirectives::None => "None",
-            IndentPPDirectives::AfterHash => "AfterHash",
-            IndentPPDirectives::BeforeHash => "BeforeHash",
-        }
+        INDENT_PP_DIRECTIVES_WORDS[self as usize].0
     }
 }
 
-/// The words for a value of `AllowShortFunctionsOnASingleLine`.
-pub(crate) const ALLOW_SHORT_FUNCTIONS_ON_A_SINGLE_LINE_WORDS: &[(
-    &str,
+/// The words of `AllowShortFunctionsOnASingleLine`.
+pub(crate) const ALLOW_SHORT_FUNCTIONS_ON_A_SINGLE_LINE_WORDS: Words<
     AllowShortFunctionsOnASingleLine,
-)] = &[
+> = &[
     ("All", AllowShortFunctionsOnASingleLine::All),
     ("None", AllowShortFunctionsOnASingleLine::None),
     ("InlineOnly", AllowShortFunctionsOnASingleLine::InlineOnly),
@@ -265,21 +229,14 @@ impl AllowShortFunctionsOnASingleLine {
         ensures word { result.now ≡ allow_short_functions_on_a_single_line_word self }
         ensures short { length result.now ≤ 40 }
     {
-        match self {
-            AllowShortFunctionsOnASingleLine::All => "All",
-            AllowShortFunctionsOnASingleLine::None => "None",
-            AllowShortFunctionsOnASingleLine::InlineOnly => "InlineOnly",
-            AllowShortFunctionsOnASingleLine::Empty => "Empty",
-            AllowShortFunctionsOnASingleLine::Inline => "Inline",
-        }
+        ALLOW_SHORT_FUNCTIONS_ON_A_SINGLE_LINE_WORDS[self as usize].0
     }
 }
 
-/// The words for a value of `AllowShortIfStatementsOnASingleLine`.
-pub(crate) const ALLOW_SHORT_IF_STATEMENTS_ON_A_SINGLE_LINE_WORDS: &[(
-    &str,
+/// The words of `AllowShortIfStatementsOnASingleLine`.
+pub(crate) const ALLOW_SHORT_IF_STATEMENTS_ON_A_SINGLE_LINE_WORDS: Words<
     AllowShortIfStatementsOnASingleLine,
-)] = &[
+> = &[
     ("Never", AllowShortIfStatementsOnASingleLine::Never),
     (
         "WithoutElse",
@@ -303,26 +260,19 @@ impl AllowShortIfStatementsOnASingleLine {
         ensures word { result.now ≡ allow_short_if_statements_on_a_single_line_word self }
         ensures short { length result.now ≤ 40 }
     {
-        match self {
-            AllowShortIfStatementsOnASingleLine::Never => "Never",
-            AllowShortIfStatementsOnASingleLine::WithoutElse => "WithoutElse",
-            AllowShortIfStatementsOnASingleLine::OnlyFirstIf => "OnlyFirstIf",
-            AllowShortIfStatementsOnASingleLine::AllIfsAndElse => "AllIfsAndElse",
-        }
+        ALLOW_SHORT_IF_STATEMENTS_ON_A_SINGLE_LINE_WORDS[self as usize].0
     }
 }
 
-/// The words for a value of `AllowShortBlocksOnASingleLine`.
-pub(crate) const ALLOW_SHORT_BLOCKS_ON_A_SINGLE_LINE_WORDS: &[(
-    &str,
-    AllowShortBlocksOnASingleLine,
-)] = &[
-    ("Never", AllowShortBlocksOnASingleLine::Never),
-    ("Empty", AllowShortBlocksOnASingleLine::Empty),
-    ("Always", AllowShortBlocksOnASingleLine::Always),
-    ("true", AllowShortBlocksOnASingleLine::Always),
-    ("false", AllowShortBlocksOnASingleLine::Never),
-];
+/// The words of `AllowShortBlocksOnASingleLine`.
+pub(crate) const ALLOW_SHORT_BLOCKS_ON_A_SINGLE_LINE_WORDS: Words<AllowShortBlocksOnASingleLine> =
+    &[
+        ("Never", AllowShortBlocksOnASingleLine::Never),
+        ("Empty", AllowShortBlocksOnASingleLine::Empty),
+        ("Always", AllowShortBlocksOnASingleLine::Always),
+        ("true", AllowShortBlocksOnASingleLine::Always),
+        ("false", AllowShortBlocksOnASingleLine::Never),
+    ];
 
 impl AllowShortBlocksOnASingleLine {
     /// The word that a configuration writes for it.
@@ -330,16 +280,12 @@ impl AllowShortBlocksOnASingleLine {
         ensures word { result.now ≡ allow_short_blocks_on_a_single_line_word self }
         ensures short { length result.now ≤ 40 }
     {
-        match self {
-            AllowShortBlocksOnASingleLine::Never => "Never",
-            AllowShortBlocksOnASingleLine::Empty => "Empty",
-            AllowShortBlocksOnASingleLine::Always => "Always",
-        }
+        ALLOW_SHORT_BLOCKS_ON_A_SINGLE_LINE_WORDS[self as usize].0
     }
 }
 
-/// The words for a value of `AlignEscapedNewlines`.
-pub(crate) const ALIGN_ESCAPED_NEWLINES_WORDS: &[(&str, AlignEscapedNewlines)] = &[
+/// The words of `AlignEscapedNewlines`.
+pub(crate) const ALIGN_ESCAPED_NEWLINES_WORDS: Words<AlignEscapedNewlines> = &[
     ("Right", AlignEscapedNewlines::Right),
     ("Left", AlignEscapedNewlines::Left),
     ("DontAlign", AlignEscapedNewlines::DontAlign),
@@ -351,16 +297,12 @@ impl AlignEscapedNewlines {
         ensures word { result.now ≡ align_escaped_newlines_word self }
         ensures short { length result.now ≤ 40 }
     {
-        match self {
-            AlignEscapedNewlines::Right => "Right",
-            AlignEscapedNewlines::Left => "Left",
-            AlignEscapedNewlines::DontAlign => "DontAlign",
-        }
+        ALIGN_ESCAPED_NEWLINES_WORDS[self as usize].0
     }
 }
 
-/// The words for a value of `AlignTrailingCommentsKind`.
-pub(crate) const ALIGN_TRAILING_COMMENTS_KIND_WORDS: &[(&str, AlignTrailingCommentsKind)] = &[
+/// The words of `AlignTrailingCommentsKind`.
+pub(crate) const ALIGN_TRAILING_COMMENTS_KIND_WORDS: Words<AlignTrailingCommentsKind> = &[
     ("Always", AlignTrailingCommentsKind::Always),
     ("Never", AlignTrailingCommentsKind::Never),
 ];
@@ -371,15 +313,12 @@ impl AlignTrailingCommentsKind {
         ensures word { result.now ≡ align_trailing_comments_kind_word self }
         ensures short { length result.now ≤ 40 }
     {
-        match self {
-            AlignTrailingCommentsKind::Always => "Always",
-            AlignTrailingCommentsKind::Never => "Never",
-        }
+        ALIGN_TRAILING_COMMENTS_KIND_WORDS[self as usize].0
     }
 }
 
-/// The words for a value of `LineEnding`.
-pub(crate) const LINE_ENDING_WORDS: &[(&str, LineEnding)] = &[
+/// The words of `LineEnding`.
+pub(crate) const LINE_ENDING_WORDS: Words<LineEnding> = &[
     ("DeriveLF", LineEnding::DeriveLF),
     ("DeriveCRLF", LineEnding::DeriveCRLF),
     ("LF", LineEnding::LF),
@@ -392,11 +331,6 @@ impl LineEnding {
         ensures word { result.now ≡ line_ending_word self }
         ensures short { length result.now ≤ 40 }
     {
-        match self {
-            LineEnding::DeriveLF => "DeriveLF",
-            LineEnding::DeriveCRLF => "DeriveCRLF",
-            LineEnding::LF => "LF",
-            LineEnding::CRLF => "CRLF",
-        }
+        LINE_ENDING_WORDS[self as usize].0
     }
 }
