@@ -7,3 +7,4 @@ pub mod OnlyItems
 pub mod Ends
 pub mod Branches
 pub mod Kept
+pub mod Resolved

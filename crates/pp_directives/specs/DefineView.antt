@@ -1,8 +1,7 @@
--- What the values that a define directive and a condition are read with stand for in the model.
+-- What the values that a define directive is read with stand for in the model.
 use Rattle.std.specs.Prelude.{List, map, Option, option_map, Vec}
 use Rattle.std.specs.declared.alloc.Global.{Global}
 use Rattle.pp_model.specs.Define.{Params, Place, Before}
-use Rattle.pp_model.specs.Condition.{Held}
 use Rattle.pp_model.specs.Macro.{Part, Macro}
 use Rattle.pp_events.specs.View.{tok_shown, part_shown, macro_shown}
 use Rattle.pp_events.specs.declared.token.Part.{Part as PartValue}
@@ -10,7 +9,6 @@ use Rattle.pp_events.specs.declared.token.Macro.{Macro as MacroValue}
 use Rattle.pp_directives.specs.declared.parameters.Params.{Params as ParamsValue}
 use Rattle.pp_directives.specs.declared.parameters.Place.{Place as PlaceValue}
 use Rattle.pp_directives.specs.declared.bodies.Before.{Before as BeforeValue}
-use Rattle.pp_directives.specs.declared.resolve.Held.{Held as HeldValue}
 
 -- the parameters
 abbrev pub params_shown : ParamsValue → Params
@@ -29,13 +27,6 @@ before_shown BeforeValue.Nothing = Before.Nothing
 before_shown BeforeValue.Item = Before.Item
 before_shown BeforeValue.Paste = Before.Paste
 before_shown (BeforeValue.Hash glue white) = Before.Hash glue white
-
--- what is held back of a `defined`
-abbrev pub held_shown : HeldValue → Held
-held_shown HeldValue.Free = Held.Free
-held_shown (HeldValue.Asked d) = Held.Asked (tok_shown d)
-held_shown (HeldValue.Opened d o) = Held.Opened (tok_shown d) (tok_shown o)
-held_shown (HeldValue.Named d o x) = Held.Named (tok_shown d) (tok_shown o) (tok_shown x)
 
 -- the parts of a body, or none
 abbrev pub some_parts : Option (Vec PartValue Global) → Option (List Part)

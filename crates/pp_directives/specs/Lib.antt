@@ -6,3 +6,4 @@ pub mod Nesting
 pub mod WorldView
 pub mod LineNumber
 pub mod Operand
+pub mod Resolving

@@ -1,28 +1,26 @@
 //! The `defined` of a condition, answered by the table (C11 6.10.1p1).
 
-ghost use Rattle.std.specs.Prelude.{◌≡◌, ℕ, Bool, List, [], ◌∷◌, ◌++◌, map, IfOk, Option, option_map};
+ghost use Rattle.std.specs.Prelude.{◌≡◌, ℕ, ◌+◌, ◌≤◌, Bool, List, [], ◌∷◌, ◌++◌, length, map, IfOk, Option, option_map};
 ghost use Rattle.pp_model.specs.Token.{Tok as Token, Plain};
 ghost use Rattle.c_grammar.specs.declared.ItemKind.TheVariants.{Number};
-ghost use Rattle.pp_model.specs.Condition.{resolve, is_defined, answer, asks, held as held_back, Free, Asked, Opened, Named};
-ghost use Rattle.pp_model.specs.Macro.{Table};
+ghost use Rattle.pp_model.specs.Condition.{resolve, is_defined, answer, asks, Free};
 ghost use Rattle.pp_events.specs.View.{tok_shown, macro_shown};
-ghost use Rattle.pp_directives.specs.DefineView.{held_shown};
+ghost use Rattle.pp_directives.specs.Resolving.{held_of, acted, more_held};
 
 use crate::words::is_name;
 use pp_events::{ItemKind, Macro, PpToken, Tok, copy_bytes, is_spelled, look_up, spelling_of};
 use std::alloc::{AllocError, Global};
 use std::collections::VecDeque;
 
-/// What was read of a `defined X` or `defined(X)`, and is held back until it is whole.
-#[derive(Drop)]
-pub enum Held {
-    Free,
-    /// `defined`.
-    Asked(Tok),
-    /// `defined` and `(`.
-    Opened(Tok, Tok),
-    /// `defined`, `(` and the name.
-    Named(Tok, Tok, Tok),
+/// What a token does behind those that are held back: of a `defined X` or `defined(X)` that isn't whole.
+#[derive(Clone, Copy)]
+pub enum Act {
+    /// It is held back too.
+    Wait,
+    /// It makes them whole, and whether the table has the name answers them.
+    Answer(bool),
+    /// All of them come as they are written.
+    Release,
 }
 
 /// Whether the table has the token's name.
@@ -43,13 +41,12 @@ fn asks(token: &Tok) -> bool
 }
 
 /// A number in the place of a `defined`.
-fn number_tok(alloc: Global, token: Tok, text: &[u8]) -> Result<Tok, AllocError>
-    ensures { IfOk result (λ r. tok_shown r ≡ record { token = Plain text.now; kind = Number; hide = []; white = token.white; line = token.line }) }
+fn number_tok(alloc: Global, token: &Tok, text: &[u8]) -> Result<Tok, AllocError>
+    ensures { IfOk result (λ r. tok_shown r ≡ record { token = Plain text.now; kind = Number; hide = []; white = token.now.white; line = token.now.line }) }
 {
+    let text = copy_bytes(alloc, text)?;
     Ok(Tok {
-        token: PpToken::Plain {
-            text: copy_bytes(alloc, text)?,
-        },
+        token: PpToken::Plain { text },
         kind: ItemKind::Number,
         hide: Vec::new(alloc),
         white: token.white,
@@ -58,8 +55,8 @@ fn number_tok(alloc: Global, token: Tok, text: &[u8]) -> Result<Tok, AllocError>
 }
 
 /// 1 or 0 in the place of a `defined`.
-fn answer(alloc: Global, token: Tok, holds: bool) -> Result<Tok, AllocError>
-    ensures { IfOk result (λ r. tok_shown r ≡ answer (tok_shown token) holds) }
+fn answer(alloc: Global, token: &Tok, holds: bool) -> Result<Tok, AllocError>
+    ensures { IfOk result (λ r. tok_shown r ≡ answer (tok_shown token.now) holds) }
 {
     if holds {
         number_tok(alloc, token, b"1")
@@ -68,92 +65,44 @@ fn answer(alloc: Global, token: Tok, holds: bool) -> Result<Tok, AllocError>
     }
 }
 
-/// What is held back comes as it is written.
-fn release(out: &mut VecDeque<Tok>, held: Held) -> Result<(), AllocError>
-    ensures { IfOk result (λ _. map tok_shown out.new.items ≡ map tok_shown out.old.items ++ held_back (held_shown held)) }
+/// What a token does behind those that are held back.
+fn act_of(table: &[Macro], held: &[Tok], token: &Tok) -> Act
+    requires { length held.now ≤ 3 }
+    ensures acts { (ts : List Token) → resolve (map macro_shown table.now) (held_of (map tok_shown held.now)) (tok_shown token.now ∷ ts)
+        ≡ acted (map macro_shown table.now) result (map tok_shown held.now ++ tok_shown token.now ∷ []) ts }
+    ensures few { length held.now + more_held result ≤ 3 }
 {
     match held {
-        Held::Free => Ok(()),
-        Held::Asked(d) => {
-            out.push_back(d)?;
-            Ok(())
+        [] => {
+            if asks(token) {
+                Act::Wait
+            } else {
+                Act::Release
+            }
         }
-        Held::Opened(d, o) => {
-            out.push_back(d)?;
-            out.push_back(o)?;
-            Ok(())
+        [_] => {
+            if is_name(token) {
+                Act::Answer(is_defined(table, token))
+            } else if is_spelled(token, b"(") {
+                Act::Wait
+            } else {
+                Act::Release
+            }
         }
-        Held::Named(d, o, x) => {
-            out.push_back(d)?;
-            out.push_back(o)?;
-            out.push_back(x)?;
-            Ok(())
+        [_, _] => {
+            if is_name(token) {
+                Act::Wait
+            } else {
+                Act::Release
+            }
         }
-    }
-}
-
-/// Reads the token behind a `defined`.
-fn read_asked(
-    alloc: Global,
-    table: &[Macro],
-    out: &mut VecDeque<Tok>,
-    d: Tok,
-    token: Tok,
-) -> Result<Held, AllocError>
-    ensures { IfOk result (λ r. (ts : List Token) → map tok_shown out.new.items ++ resolve (map macro_shown table.now) (held_shown r) ts
-        ≡ map tok_shown out.old.items ++ resolve (map macro_shown table.now) (Asked (tok_shown d)) (tok_shown token ∷ ts)) }
-{
-    if is_name(&token) {
-        let made = answer(alloc, d, is_defined(table, &token))?;
-        out.push_back(made)?;
-        Ok(Held::Free)
-    } else if is_spelled(&token, b"(") {
-        Ok(Held::Opened(d, token))
-    } else {
-        out.push_back(d)?;
-        out.push_back(token)?;
-        Ok(Held::Free)
-    }
-}
-
-/// Reads the token behind a `defined` and a `(`.
-fn read_opened(out: &mut VecDeque<Tok>, d: Tok, o: Tok, token: Tok) -> Result<Held, AllocError>
-    ensures { IfOk result (λ r. (table : Table) (ts : List Token) → map tok_shown out.new.items ++ resolve table (held_shown r) ts
-        ≡ map tok_shown out.old.items ++ resolve table (Opened (tok_shown d) (tok_shown o)) (tok_shown token ∷ ts)) }
-{
-    if is_name(&token) {
-        Ok(Held::Named(d, o, token))
-    } else {
-        out.push_back(d)?;
-        out.push_back(o)?;
-        out.push_back(token)?;
-        Ok(Held::Free)
-    }
-}
-
-/// Reads the token behind a `defined`, a `(` and a name.
-fn read_named(
-    alloc: Global,
-    table: &[Macro],
-    out: &mut VecDeque<Tok>,
-    d: Tok,
-    o: Tok,
-    x: Tok,
-    token: Tok,
-) -> Result<Held, AllocError>
-    ensures { IfOk result (λ r. (ts : List Token) → map tok_shown out.new.items ++ resolve (map macro_shown table.now) (held_shown r) ts
-        ≡ map tok_shown out.old.items ++ resolve (map macro_shown table.now) (Named (tok_shown d) (tok_shown o) (tok_shown x)) (tok_shown token ∷ ts)) }
-{
-    if is_spelled(&token, b")") {
-        let made = answer(alloc, d, is_defined(table, &x))?;
-        out.push_back(made)?;
-        Ok(Held::Free)
-    } else {
-        out.push_back(d)?;
-        out.push_back(o)?;
-        out.push_back(x)?;
-        out.push_back(token)?;
-        Ok(Held::Free)
+        [_, _, name, ..] => {
+            if is_spelled(token, b")") {
+                Act::Answer(is_defined(table, name))
+            } else {
+                Act::Release
+            }
+        }
     }
 }
 
@@ -161,30 +110,34 @@ fn read_named(
 fn read_token(
     alloc: Global,
     table: &[Macro],
-    out: &mut VecDeque<Tok>,
-    held: Held,
+    out: &mut Vec<Tok>,
+    held: &mut Vec<Tok>,
     token: Tok,
-) -> Result<Held, AllocError>
-    ensures { IfOk result (λ r. (ts : List Token) → map tok_shown out.new.items ++ resolve (map macro_shown table.now) (held_shown r) ts
-        ≡ map tok_shown out.old.items ++ resolve (map macro_shown table.now) (held_shown held) (tok_shown token ∷ ts)) }
+) -> Result<(), AllocError>
+    requires { length held.old.items ≤ 3 }
+    ensures read { IfOk result (λ _. (ts : List Token) → map tok_shown out.new.items ++ resolve (map macro_shown table.now) (held_of (map tok_shown held.new.items)) ts
+        ≡ map tok_shown out.old.items ++ resolve (map macro_shown table.now) (held_of (map tok_shown held.old.items)) (tok_shown token ∷ ts)) }
+    ensures few { IfOk result (λ _. length held.new.items ≤ 3) }
 {
-    match held {
-        Held::Free => {
-            if asks(&token) {
-                Ok(Held::Asked(token))
-            } else {
-                out.push_back(token)?;
-                Ok(Held::Free)
-            }
+    let act = act_of(table, held.as_slice(), &token);
+    held.push(token)?;
+    match act {
+        Act::Wait => Ok(()),
+        Act::Answer(holds) => {
+            out.push(answer(alloc, &held[0], holds)?)?;
+            held.clear();
+            Ok(())
         }
-        Held::Asked(d) => read_asked(alloc, table, out, d, token),
-        Held::Opened(d, o) => read_opened(out, d, o, token),
-        Held::Named(d, o, x) => read_named(alloc, table, out, d, o, x, token),
+        Act::Release => {
+            out.append(held)?;
+            Ok(())
+        }
     }
 }
 
 /// A condition with each `defined` answered by the table; one that isn't whole stays as it is
 /// written.
+#[tactic(auto, using(crate::proofs::Resolved::held_back_at_end))]
 pub fn resolve(
     alloc: Global,
     table: &[Macro],
@@ -192,12 +145,12 @@ pub fn resolve(
 ) -> Result<VecDeque<Tok>, AllocError>
     ensures { IfOk result (λ r. map tok_shown r.items ≡ resolve (map macro_shown table.now) Free (map tok_shown tokens.items)) }
 {
-    let mut out = VecDeque::new(alloc);
+    let mut out = Vec::new(alloc);
+    let mut held = Vec::new(alloc);
     let mut rest = tokens;
-    let mut held = Held::Free;
     while let Some(t) = rest.pop_front() {
-        held = read_token(alloc, table, &mut out, held, t)?;
+        read_token(alloc, table, &mut out, &mut held, t)?;
     }
-    release(&mut out, held)?;
-    Ok(out)
+    out.append(&mut held)?;
+    Ok(VecDeque::from_vec(out))
 }
