@@ -48,7 +48,7 @@ no_paste_next [] n = refl
 no_paste_next (u ∷ us) n = absurd (omega arith)
 
 -- a macro by its parameters' names and its parts
-pub function_by : (name : Name) (p : Params) (names : List Name) (n : ℕ) (body : List Part) → names ≡ all_names p → n ≡ length p.names → Some body ≡ parts_of_body names true Nothing p.body → Some (with_body name true n p.variadic body) ≡ function_of name p
-function_by name p names n body e l h =
-    ap (λ k. Some (with_body name true k p.variadic body)) l
-    ∙ ap (option_map (with_body name true (length p.names) p.variadic)) (h ∙ ap (λ ns. parts_of_body ns true Nothing p.body) e)
+pub function_by : (name : Name) (p : Params) (names : List Name) (n : ℕ) → names ≡ all_names p → n ≡ length p.names → option_map (with_body name true n p.variadic) (parts_of_body names true Nothing p.body) ≡ function_of name p
+function_by name p names n e l =
+    ap (λ k. option_map (with_body name true k p.variadic) (parts_of_body names true Nothing p.body)) l
+    ∙ ap (λ ns. option_map (with_body name true (length p.names) p.variadic) (parts_of_body ns true Nothing p.body)) e

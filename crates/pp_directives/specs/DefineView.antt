@@ -1,18 +1,15 @@
 -- What the values that a define directive is read with stand for in the model.
-use Rattle.std.specs.Prelude.{List, map, Option, option_map, Vec}
+use Rattle.std.specs.Prelude.{Bool, List, [], ◌∷◌, ◌++◌, map, Option, Some, None, option_map, Vec}
 use Rattle.std.specs.declared.alloc.Global.{Global}
-use Rattle.pp_model.specs.Define.{Params, Place, Before}
+use Rattle.pp_model.specs.Define.{Params, Place, Before, params_of, is_after_dots}
+use Rattle.pp_model.specs.Token.{Tok, Name, text_of}
 use Rattle.pp_model.specs.Macro.{Part, Macro}
-use Rattle.pp_events.specs.View.{tok_shown, part_shown, macro_shown}
+use Rattle.pp_events.specs.View.{part_shown, macro_shown}
 use Rattle.pp_events.specs.declared.token.Part.{Part as PartValue}
 use Rattle.pp_events.specs.declared.token.Macro.{Macro as MacroValue}
-use Rattle.pp_directives.specs.declared.parameters.Params.{Params as ParamsValue}
+use Rattle.pp_directives.specs.declared.parameters.Listed.{Listed as ListedValue}
 use Rattle.pp_directives.specs.declared.parameters.Place.{Place as PlaceValue}
 use Rattle.pp_directives.specs.declared.bodies.Before.{Before as BeforeValue}
-
--- the parameters
-abbrev pub params_shown : ParamsValue → Params
-params_shown p = record { names = map (λ n. n.items) p.names.items; variadic = p.variadic; body = map tok_shown p.body.items }
 
 -- where a parameter list is read
 abbrev pub place_shown : PlaceValue → Place
@@ -20,6 +17,18 @@ place_shown PlaceValue.AfterOpen = Place.AfterOpen
 place_shown PlaceValue.AfterName = Place.AfterName
 place_shown PlaceValue.AfterComma = Place.AfterComma
 place_shown PlaceValue.AfterDots = Place.AfterDots
+
+-- the parameter list that ended in front of these tokens, or none
+abbrev pub params_read : Option Bool → List Name → List Tok → Option Params
+params_read None names rest = None
+params_read (Some variadic) names rest = Some record { names = names; variadic = variadic; body = rest }
+
+-- the parameter list from a token on, by what the token is
+abbrev pub listed_on : ListedValue → List Name → Place → Tok → List Tok → Option Params
+listed_on ListedValue.End names place t ts = Some record { names = names; variadic = is_after_dots place; body = ts }
+listed_on (ListedValue.Mark next) names place t ts = params_of names (place_shown next) ts
+listed_on ListedValue.Name names place t ts = params_of (names ++ text_of t.token ∷ []) Place.AfterName ts
+listed_on ListedValue.Malformed names place t ts = None
 
 -- what was read of a body last
 abbrev pub before_shown : BeforeValue → Before

@@ -1,71 +1,81 @@
 //! The macro of a define directive's operand.
 
 ghost use Rattle.std.specs.Prelude.{◌≡◌, ℕ, List, [], ◌∷◌, map, IfOk, Option, option_map};
-ghost use Rattle.pp_model.specs.Define.{define_of, object_of, after_paren, function_of};
+ghost use Rattle.pp_model.specs.Define.{define_of, after_paren, function_of, with_body, parts_of_body, Nothing};
 ghost use Rattle.pp_events.specs.View.{tok_shown};
-ghost use Rattle.pp_directives.specs.DefineView.{params_shown, some_macro};
+ghost use Rattle.pp_directives.specs.DefineView.{some_macro};
 
 use crate::bodies::parts_of_body;
-use crate::parameters::{Params, all_names, params_of};
-use crate::words::{is_kept_name, is_name};
+use crate::parameters::{add_variadic, read_params};
+use crate::words::may_be_defined;
 use pp_events::{Macro, Tok, copy_bytes, spelling_of};
 use std::alloc::{AllocError, Global};
 use std::collections::VecDeque;
 
-/// A function-like macro of these parameters.
-fn function_of(alloc: Global, name: Vec<u8>, p: Params) -> Result<Option<Macro>, AllocError>
-    ensures { IfOk result (λ r. some_macro r ≡ function_of name.items (params_shown p)) }
+/// What a macro is beside its name and its body.
+#[derive(Clone, Copy)]
+pub struct Form {
+    pub function_like: bool,
+    pub arity: usize,
+    pub variadic: bool,
+}
+
+/// The macro of this name, these names for its arguments and this body; none where the body is malformed.
+pub fn macro_of(
+    alloc: Global,
+    name: &[u8],
+    form: Form,
+    names: &[Vec<u8>],
+    body: VecDeque<Tok>,
+) -> Result<Option<Macro>, AllocError>
+    ensures { IfOk result (λ r. some_macro r ≡ option_map (with_body name.now form.function_like form.arity form.variadic) (parts_of_body (map (λ n. n.items) names.now) form.function_like Nothing (map tok_shown body.items))) }
 {
-    let arity = p.names.len();
-    let variadic = p.variadic;
-    let names = all_names(alloc, p.names.as_slice(), variadic)?;
-    match parts_of_body(alloc, names.as_slice(), true, p.body)? {
+    match parts_of_body(alloc, names, form.function_like, body)? {
         None => Ok(None),
         Some(body) => Ok(Some(Macro {
-            name,
-            function_like: true,
-            arity,
-            variadic,
+            name: copy_bytes(alloc, name)?,
+            function_like: form.function_like,
+            arity: form.arity,
+            variadic: form.variadic,
             body,
         })),
     }
+}
+
+/// A function-like macro of these parameters.
+fn function_of(
+    alloc: Global,
+    name: &[u8],
+    params: Vec<Vec<u8>>,
+    variadic: bool,
+    body: VecDeque<Tok>,
+) -> Result<Option<Macro>, AllocError>
+    ensures { IfOk result (λ r. some_macro r ≡ function_of name.now (record { names = map (λ n. n.items) params.items; variadic = variadic; body = map tok_shown body.items })) }
+{
+    let form = Form {
+        function_like: true,
+        arity: params.len(),
+        variadic,
+    };
+    let mut names = params;
+    add_variadic(alloc, &mut names, variadic)?;
+    macro_of(alloc, name, form, names.as_slice(), body)
 }
 
 /// What is read behind the name where `(` follows it directly.
 fn after_paren(
     alloc: Global,
-    name: Vec<u8>,
+    name: &[u8],
     tokens: VecDeque<Tok>,
 ) -> Result<Option<Macro>, AllocError>
-    ensures { IfOk result (λ r. some_macro r ≡ after_paren name.items (map tok_shown tokens.items)) }
+    ensures { IfOk result (λ r. some_macro r ≡ after_paren name.now (map tok_shown tokens.items)) }
 {
     let mut rest = tokens;
-    match rest.pop_front() {
+    let _ = rest.pop_front();
+    let mut params = Vec::new(alloc);
+    match read_params(alloc, &mut params, &mut rest)? {
         None => Ok(None),
-        Some(_) => match params_of(alloc, rest)? {
-            None => Ok(None),
-            Some(p) => function_of(alloc, name, p),
-        },
-    }
-}
-
-/// An object-like macro.
-fn object_of(
-    alloc: Global,
-    name: Vec<u8>,
-    tokens: VecDeque<Tok>,
-) -> Result<Option<Macro>, AllocError>
-    ensures { IfOk result (λ r. some_macro r ≡ object_of name.items (map tok_shown tokens.items)) }
-{
-    match parts_of_body(alloc, &[], false, tokens)? {
-        None => Ok(None),
-        Some(body) => Ok(Some(Macro {
-            name,
-            function_like: false,
-            arity: 0,
-            variadic: false,
-            body,
-        })),
+        Some(variadic) => function_of(alloc, name, params, variadic, rest),
     }
 }
 
@@ -81,15 +91,18 @@ pub fn define_of(
     match rest.pop_front() {
         None => Ok(None),
         Some(t) => {
-            if is_name(&t) && !is_kept_name(spelling_of(&t.token)) {
-                let name = copy_bytes(alloc, spelling_of(&t.token))?;
-                if function_like {
-                    after_paren(alloc, name, rest)
-                } else {
-                    object_of(alloc, name, rest)
-                }
-            } else {
+            let name = spelling_of(&t.token);
+            if !may_be_defined(&t) {
                 Ok(None)
+            } else if function_like {
+                after_paren(alloc, name, rest)
+            } else {
+                let form = Form {
+                    function_like: false,
+                    arity: 0,
+                    variadic: false,
+                };
+                macro_of(alloc, name, form, &[], rest)
             }
         }
     }

@@ -1,22 +1,15 @@
 //! The parameters of a macro.
 
-ghost use Rattle.std.specs.Prelude.{◌≡◌, ℕ, List, [], ◌∷◌, ◌++◌, map, IfOk, Option, option_map, bytes_eq};
+ghost use Rattle.std.specs.Prelude.{◌≡◌, ℕ, List, [], ◌∷◌, ◌++◌, map, IfOk, Option, bytes_eq};
 ghost use Rattle.pp_model.specs.Define.{params_of, all_names, may_name, may_end, may_go_on, is_after_dots, index_of, param_of, AfterOpen};
+ghost use Rattle.pp_model.specs.Token.{Tok as Token};
 ghost use Rattle.pp_events.specs.View.{tok_shown};
-ghost use Rattle.pp_directives.specs.DefineView.{params_shown, place_shown};
+ghost use Rattle.pp_directives.specs.DefineView.{place_shown, params_read, listed_on};
 
 use crate::words::{is_dots, is_name, is_new_parameter};
-use pp_events::{Tok, copy_bytes, copy_names, is_spelled, spelling_of};
+use pp_events::{Tok, copy_bytes, is_spelled, spelling_of};
 use std::alloc::{AllocError, Global};
 use std::collections::VecDeque;
-
-/// The parameters, whether `...` follows them, and what is behind the `)`.
-#[derive(Drop)]
-pub struct Params {
-    pub names: Vec<Vec<u8>>,
-    pub variadic: bool,
-    pub body: VecDeque<Tok>,
-}
 
 /// Where a parameter list is read.
 #[derive(Clone, Copy)]
@@ -77,51 +70,76 @@ impl Place {
     }
 }
 
-/// The parameter list behind its `(` (C11 6.10p1, 6.10.3p5 and p6), or none where it is malformed.
-pub fn params_of(alloc: Global, tokens: VecDeque<Tok>) -> Result<Option<Params>, AllocError>
-    ensures { IfOk result (λ r. option_map params_shown r ≡ params_of [] AfterOpen (map tok_shown tokens.items)) }
+/// What a token of a parameter list is.
+#[derive(Clone, Copy)]
+pub enum Listed {
+    /// The `)`.
+    End,
+    /// A comma or `...`, and what it is read behind then.
+    Mark(Place),
+    /// A parameter.
+    Name,
+    Malformed,
+}
+
+/// What a token of a parameter list is at this place, behind these names.
+fn what_is_listed(place: Place, names: &[Vec<u8>], token: &Tok) -> Listed
+    ensures { (ts : List Token) → params_of (map (λ n. n.items) names.now) (place_shown place) (tok_shown token.now ∷ ts)
+        ≡ listed_on result (map (λ n. n.items) names.now) (place_shown place) (tok_shown token.now) ts }
 {
-    let mut names: Vec<Vec<u8>> = Vec::new(alloc);
+    if is_spelled(token, b")") && place.may_end() {
+        Listed::End
+    } else if is_spelled(token, b",") && place.may_go_on() {
+        Listed::Mark(Place::AfterComma)
+    } else if is_dots(token) && place.may_name() {
+        Listed::Mark(Place::AfterDots)
+    } else if is_name(token)
+        && place.may_name()
+        && is_new_parameter(names, spelling_of(&token.token))
+    {
+        Listed::Name
+    } else {
+        Listed::Malformed
+    }
+}
+
+/// Reads the parameter list behind its `(`, up to its `)` (C11 6.10p1, 6.10.3p5 and p6): whether it ends
+/// in `...`, or none where it is malformed.
+pub fn read_params(
+    alloc: Global,
+    names: &mut Vec<Vec<u8>>,
+    rest: &mut VecDeque<Tok>,
+) -> Result<Option<bool>, AllocError>
+    ensures { IfOk result (λ r. params_read r (map (λ n. n.items) names.new.items) (map tok_shown rest.new.items)
+        ≡ params_of (map (λ n. n.items) names.old.items) AfterOpen (map tok_shown rest.old.items)) }
+{
     let mut place = Place::AfterOpen;
-    let mut rest = tokens;
     while let Some(t) = rest.pop_front() {
-        if is_spelled(&t, b")") && place.may_end() {
-            return Ok(Some(Params {
-                names,
-                variadic: place.is_after_dots(),
-                body: rest,
-            }));
-        } else if is_spelled(&t, b",") && place.may_go_on() {
-            place = Place::AfterComma;
-        } else if is_dots(&t) && place.may_name() {
-            place = Place::AfterDots;
-        } else if is_name(&t)
-            && place.may_name()
-            && is_new_parameter(names.as_slice(), spelling_of(&t.token))
-        {
-            names.push(copy_bytes(alloc, spelling_of(&t.token))?)?;
-            place = Place::AfterName;
-        } else {
-            return Ok(None);
+        match what_is_listed(place, names.as_slice(), &t) {
+            Listed::End => return Ok(Some(place.is_after_dots())),
+            Listed::Mark(next) => place = next,
+            Listed::Name => {
+                names.push(copy_bytes(alloc, spelling_of(&t.token))?)?;
+                place = Place::AfterName;
+            }
+            Listed::Malformed => return Ok(None),
         }
     }
     Ok(None)
 }
 
-/// The names that stand for arguments in the body, `__VA_ARGS__` among them in a variadic macro
-/// (6.10.3.1p2).
-pub fn all_names(
+/// With `__VA_ARGS__` in a variadic macro: the names that stand for arguments in the body (6.10.3.1p2).
+pub fn add_variadic(
     alloc: Global,
-    names: &[Vec<u8>],
+    names: &mut Vec<Vec<u8>>,
     variadic: bool,
-) -> Result<Vec<Vec<u8>>, AllocError>
-    ensures { IfOk result (λ r. map (λ n. n.items) r.items ≡ all_names (record { names = map (λ n. n.items) names.now; variadic = variadic; body = [] })) }
+) -> Result<(), AllocError>
+    ensures { IfOk result (λ _. (body : List Token) → map (λ n. n.items) names.new.items ≡ all_names (record { names = map (λ n. n.items) names.old.items; variadic = variadic; body = body })) }
 {
-    let mut all = copy_names(alloc, names)?;
     if variadic {
-        all.push(copy_bytes(alloc, b"__VA_ARGS__")?)?;
+        names.push(copy_bytes(alloc, b"__VA_ARGS__")?)?;
     }
-    Ok(all)
+    Ok(())
 }
 
 /// Where a name stands among these.

@@ -6,11 +6,11 @@ ghost use Rattle.pp_events.specs.View.{shown, tok_shown, macro_shown};
 ghost use Rattle.pp_directives.specs.SettingView.{body_token_shown, definition_shown};
 ghost use Rattle.pp_directives.specs.DefineView.{some_macro};
 
-use crate::bodies::parts_of_body;
-use crate::parameters::all_names;
+use crate::define::{Form, macro_of};
+use crate::parameters::add_variadic;
 use crate::settings::{BodyToken, MacroDefinition};
 use crate::words::is_kept_name;
-use pp_events::{ItemKind, Macro, PpToken, Spellings, Tok, contains_name, copy_bytes, copy_token};
+use pp_events::{ItemKind, Macro, PpToken, Spellings, Tok, contains_name, copy_names, copy_token};
 use std::alloc::{AllocError, Global};
 use std::collections::VecDeque;
 
@@ -92,11 +92,12 @@ fn is_allowed(d: &MacroDefinition) -> bool
 fn parameters(alloc: Global, d: &MacroDefinition) -> Result<Vec<Vec<u8>>, AllocError>
     ensures { IfOk result (λ r. map (λ n. n.items) r.items ≡ parameters (definition_shown d.now)) }
 {
+    let mut names = Vec::new(alloc);
     if d.function_like {
-        all_names(alloc, d.params.as_slice(), d.variadic)
-    } else {
-        Ok(Vec::new(alloc))
+        names = copy_names(alloc, d.params.as_slice())?;
+        add_variadic(alloc, &mut names, d.variadic)?;
     }
+    Ok(names)
 }
 
 /// The macro of a definition that is allowed.
@@ -108,18 +109,14 @@ fn allowed_macro<R: Spellings>(
     requires { is_allowed (definition_shown d.now) ≡ true }
     ensures { IfOk result (λ r. some_macro r ≡ macro_by (R.kinds reader.now) (definition_shown d.now)) }
 {
+    let form = Form {
+        function_like: d.function_like,
+        arity: d.params.len(),
+        variadic: d.function_like && d.variadic,
+    };
     let names = parameters(alloc, d)?;
     let body = toks_by(alloc, reader, d.body.as_slice())?;
-    match parts_of_body(alloc, names.as_slice(), d.function_like, body)? {
-        None => Ok(None),
-        Some(body) => Ok(Some(Macro {
-            name: copy_bytes(alloc, d.name.as_slice())?,
-            function_like: d.function_like,
-            arity: d.params.len(),
-            variadic: d.function_like && d.variadic,
-            body,
-        })),
-    }
+    macro_of(alloc, d.name.as_slice(), form, names.as_slice(), body)
 }
 
 /// The macro of a definition; none where 6.10.3 doesn't allow it.

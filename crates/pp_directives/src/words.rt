@@ -1,11 +1,11 @@
 //! Tests of single tokens.
 
-ghost use Rattle.std.specs.Prelude.{◌≡◌, ℕ, List, [], ◌∷◌, map, not, codes};
-ghost use Rattle.pp_model.specs.Token.{is_in};
+ghost use Rattle.std.specs.Prelude.{◌≡◌, ℕ, List, [], ◌∷◌, map, not, ◌&&◌, codes};
+ghost use Rattle.pp_model.specs.Token.{is_in, text_of};
 ghost use Rattle.pp_model.specs.Define.{is_hash, is_paste, is_dots, is_name, is_kept_name};
-ghost use Rattle.pp_events.specs.View.{tok_shown};
+ghost use Rattle.pp_events.specs.View.{shown, tok_shown};
 
-use pp_events::{Tok, contains_name, is_identifier_kind, is_spelled};
+use pp_events::{Tok, contains_name, is_identifier_kind, is_spelled, spelling_of};
 
 /// Whether the token is an identifier.
 pub fn is_name(token: &Tok) -> bool
@@ -42,6 +42,13 @@ pub fn is_kept_name(name: &[u8]) -> bool
     name == b"defined".as_slice()
         || name == b"__LINE__".as_slice()
         || name == b"__VA_ARGS__".as_slice()
+}
+
+/// Whether the token is a name that a macro may have.
+pub fn may_be_defined(token: &Tok) -> bool
+    ensures { result ≡ (is_name (tok_shown token.now) && not (is_kept_name (text_of (shown token.now.token)))) }
+{
+    is_name(token) && !is_kept_name(spelling_of(&token.token))
 }
 
 /// Whether a name may be the next parameter: it is another one than these, and not `__VA_ARGS__`.
