@@ -8,3 +8,4 @@ pub mod Ends
 pub mod Branches
 pub mod Kept
 pub mod Resolved
+pub mod Fronts

@@ -5,7 +5,7 @@ ghost use Rattle.pp_model.specs.Condition.{is_active};
 ghost use Rattle.pp_model.specs.Expand.{expand};
 ghost use Rattle.pp_model.specs.Define.{define_of};
 ghost use Rattle.pp_model.specs.Preprocess.{World as Worlds, emit, ErrorEvent, WarningEvent, PragmaEvent, EmbedEvent, Malformed, defined_as, undef, without, line_read, embed_read, embedded, flush, spelled};
-ghost use Rattle.pp_events.specs.View.{shown, tok_shown, macro_shown};
+ghost use Rattle.pp_events.specs.View.{tok_shown, macro_shown};
 ghost use Rattle.pp_directives.specs.DefineView.{some_macro};
 ghost use Rattle.pp_directives.specs.WorldView.{world_shown, conds_shown, acted_on, goes_on};
 
@@ -14,8 +14,8 @@ use crate::events::Event;
 use crate::lines::jump_of;
 use crate::operands::names_header;
 use crate::state::{World, spelled};
-use crate::words::{is_kept_name, is_name};
-use pp_events::{Macro, PpToken, Spellings, Tok, copy_token, expand, spelling_of};
+use crate::words::front_name;
+use pp_events::{Macro, Spellings, Tok};
 use std::alloc::{AllocError, Global};
 use std::collections::VecDeque;
 
@@ -24,17 +24,6 @@ fn without(table: &mut Vec<Macro>, name: &[u8])
     ensures { map macro_shown table.new.items ≡ without name.now (map macro_shown table.old.items) }
 {
     table.retain(|m| m.name.as_slice() != name);
-}
-
-/// Copies of the tokens alone.
-fn spelled_copies(alloc: Global, tokens: &[Tok]) -> Result<Vec<PpToken>, AllocError>
-    ensures { IfOk result (λ r. map shown r.items ≡ spelled (map tok_shown tokens.now)) }
-{
-    let mut out = Vec::new(alloc);
-    for t in tokens {
-        out.push(copy_token(alloc, &t.token)?)?;
-    }
-    Ok(out)
 }
 
 impl World {
@@ -73,17 +62,11 @@ impl World {
     pub fn undef(&mut self, alloc: Global, tokens: VecDeque<Tok>) -> Result<(), AllocError>
         ensures { IfOk result (λ _. world_shown self.new ≡ undef (map tok_shown tokens.items) (world_shown self.old)) }
     {
-        let mut tokens = tokens;
-        match tokens.pop_front() {
+        match front_name(&tokens) {
             None => self.malformed(alloc),
-            Some(t) => {
-                let name = spelling_of(&t.token);
-                if is_name(&t) && !is_kept_name(name) {
-                    without(&mut self.table, name);
-                    Ok(())
-                } else {
-                    self.malformed(alloc)
-                }
+            Some(name) => {
+                without(&mut self.table, name);
+                Ok(())
             }
         }
     }
@@ -97,13 +80,11 @@ impl World {
     ) -> Result<(), AllocError>
         ensures { IfOk result (λ _. world_shown self.new ≡ line_read (world_shown self.old) (expand (R.kinds reader.now) (world_shown self.old).table (world_shown self.old).turns (map tok_shown tokens.items))) }
     {
-        match expand(alloc, reader, self.table.as_slice(), self.turns, tokens)? {
-            None => self.spend(alloc),
-            Some((made, left)) => {
-                self.turns = left;
-                self.emit(Event::Line(spelled_copies(alloc, made.as_slice())?))?;
+        match self.expanded(alloc, reader, tokens)? {
+            None => Ok(()),
+            Some(made) => {
                 self.jump = jump_of(made.as_slice());
-                Ok(())
+                self.emit(Event::Line(spelled(alloc, VecDeque::from_vec(made))?))
             }
         }
     }
@@ -148,12 +129,9 @@ impl World {
         if names_header(&tokens) {
             self.emit(Event::Embed(spelled(alloc, tokens)?))
         } else {
-            match expand(alloc, reader, self.table.as_slice(), self.turns, tokens)? {
-                None => self.spend(alloc),
-                Some((made, left)) => {
-                    self.turns = left;
-                    self.emit(Event::Embed(spelled_copies(alloc, made.as_slice())?))
-                }
+            match self.expanded(alloc, reader, tokens)? {
+                None => Ok(()),
+                Some(made) => self.emit(Event::Embed(spelled(alloc, VecDeque::from_vec(made))?)),
             }
         }
     }

@@ -1,50 +1,29 @@
 //! What the directives of conditionals do (C11 6.10.1).
 
-ghost use Rattle.std.specs.Prelude.{◌≡◌, ℕ, Bool, true, false, not, List, [], ◌∷◌, ◌++◌, map, drop, IfOk, Option, Some, None, option_map};
+ghost use Rattle.std.specs.Prelude.{◌≡◌, ℕ, Bool, true, false, not, List, [], ◌∷◌, ◌++◌, map, drop, IfOk, IfSome, Option, Some, None, option_map};
 ghost use Rattle.pp_model.specs.Token.{PpToken as Token};
-ghost use Rattle.pp_model.specs.Condition.{Free, resolve, is_active};
-ghost use Rattle.pp_model.specs.Expand.{expand};
+ghost use Rattle.pp_model.specs.Condition.{Cond as Conds, is_active};
 ghost use Rattle.pp_model.specs.Setting.{holds_in};
 ghost use Rattle.pp_model.specs.Preprocess.{World as Worlds, test, asked, begin_if, if_active, branch, entered, otherwise, endif, blame, left, with_conds, left_open, emit, finish};
-ghost use Rattle.pp_events.specs.View.{tok_shown, macro_shown};
+ghost use Rattle.pp_events.specs.View.{tok_shown};
 ghost use Rattle.pp_directives.specs.CondView.{cond_shown};
 ghost use Rattle.pp_directives.specs.SettingView.{condition_shown};
-ghost use Rattle.pp_directives.specs.WorldView.{world_shown, conds_shown, event_shown, answered, goes_with};
+ghost use Rattle.pp_directives.specs.WorldView.{world_shown, conds_shown, event_shown, goes_with, asked_next};
 
 use crate::cond::Cond;
 use crate::conditionals::Conditionals;
 use crate::events::Event;
 use crate::keys::holds_in;
-use crate::resolve::{is_defined, resolve};
+use crate::resolve::{front_defined, resolve};
 use crate::settings::Condition;
 use crate::state::World;
-use crate::words::is_name;
-use pp_events::{Macro, Spellings, Tok, expand};
+use pp_events::{Spellings, Tok};
 use std::alloc::{AllocError, Global};
 use std::collections::VecDeque;
 
-/// What a condition holds once it is expanded, and the turns that are left; none where they don't
-/// suffice. `defined` is answered first, then the rest is expanded, and the setting answers.
-fn answer_of<R: Spellings>(
-    alloc: Global,
-    reader: &R,
-    conditions: &[Condition],
-    table: &[Macro],
-    turns: u64,
-    tokens: VecDeque<Tok>,
-) -> Result<Option<(bool, u64)>, AllocError>
-    ensures { IfOk result (λ r. r ≡ answered (holds_in (map condition_shown conditions.now)) (expand (R.kinds reader.now) (map macro_shown table.now) turns (resolve (map macro_shown table.now) Free (map tok_shown tokens.items)))) }
-{
-    let resolved = resolve(alloc, table, tokens)?;
-    match expand(alloc, reader, table, turns, resolved)? {
-        None => Ok(None),
-        Some((made, left)) => Ok(Some((holds_in(conditions, made.as_slice()), left))),
-    }
-}
-
 impl World {
     /// Whether a condition holds (6.10.1p1 to p4); none where the turns don't suffice, and then it is over.
-    #[tactic(auto, using(crate::proofs::Answered::tested_by_answer, crate::proofs::Answered::tested_by_none))]
+    #[tactic(auto, using(crate::proofs::Answered::tested_by_tokens, crate::proofs::Answered::tested_by_none))]
     fn test<R: Spellings>(
         &mut self,
         alloc: Global,
@@ -55,50 +34,31 @@ impl World {
         ensures shown { IfOk result (λ r. (go : Bool → Worlds → Worlds) → test (R.kinds reader.now) (holds_in (map condition_shown conditions.now)) go (map tok_shown tokens.items) (world_shown self.old) ≡ goes_with r go (world_shown self.new)) }
         ensures conds { self.new.conds ≡ self.old.conds }
     {
-        match answer_of(
-            alloc,
-            reader,
-            conditions,
-            self.table.as_slice(),
-            self.turns,
-            tokens,
-        )? {
-            None => {
-                self.spend(alloc)?;
-                Ok(None)
-            }
-            Some((holds, left)) => {
-                self.turns = left;
-                Ok(Some(holds))
-            }
+        let resolved = resolve(alloc, self.table.as_slice(), tokens)?;
+        match self.expanded(alloc, reader, resolved)? {
+            None => Ok(None),
+            Some(made) => Ok(Some(holds_in(conditions, made.as_slice()))),
         }
     }
 
     /// Whether a name is defined, or isn't where `sense` is false (6.10.1p5): without a name it is
     /// malformed, and false.
+    #[tactic(auto, using(crate::proofs::Answered::asked_of_name, crate::proofs::Answered::asked_of_none))]
     fn asked(
         &mut self,
         alloc: Global,
         sense: bool,
-        tokens: VecDeque<Tok>,
+        tokens: &VecDeque<Tok>,
     ) -> Result<bool, AllocError>
-        ensures shown { IfOk result (λ r. (go : Bool → Worlds → Worlds) → asked sense go (map tok_shown tokens.items) (world_shown self.old) ≡ go r (world_shown self.new)) }
+        ensures shown { IfOk result (λ r. (go : Bool → Worlds → Worlds) → asked sense go (map tok_shown tokens.now.items) (world_shown self.old) ≡ go r (world_shown self.new)) }
         ensures conds { self.new.conds ≡ self.old.conds }
     {
-        let mut tokens = tokens;
-        match tokens.pop_front() {
+        match front_defined(self.table.as_slice(), tokens) {
             None => {
                 self.malformed(alloc)?;
                 Ok(false)
             }
-            Some(t) => {
-                if is_name(&t) {
-                    Ok(sense == is_defined(self.table.as_slice(), &t))
-                } else {
-                    self.malformed(alloc)?;
-                    Ok(false)
-                }
-            }
+            Some(defined) => Ok(sense == defined),
         }
     }
 
@@ -136,7 +96,7 @@ impl World {
         ensures { IfOk result (λ _. world_shown self.new ≡ if_active (asked sense begin_if (map tok_shown tokens.items)) (world_shown self.old)) }
     {
         if self.conds.is_active() {
-            let holds = self.asked(alloc, sense, tokens)?;
+            let holds = self.asked(alloc, sense, &tokens)?;
             self.conds.begin(holds)
         } else {
             self.conds.skip()
@@ -184,8 +144,35 @@ impl World {
         })
     }
 
-    /// An `#elif` (6.10.1p6): its condition is asked where no group before it was taken.
+    /// The conditional whose next group asks a condition, since no group before it was taken (6.10.1p6);
+    /// none where the next group asks nothing, which is then begun.
     #[tactic(auto, using(crate::proofs::Branches::had_else_branch, crate::proofs::Branches::asking_branch))]
+    fn next_asked(&mut self, alloc: Global) -> Result<Option<Cond>, AllocError>
+        ensures shown { IfOk result (λ r. (go : Conds → List Conds → Worlds → Worlds) → branch go (conds_shown self.old.conds) (world_shown self.old) ≡ asked_next r go (drop 1 (conds_shown self.old.conds)) (world_shown self.new)) }
+        ensures same { IfOk result (λ r. IfSome r (λ c. world_shown self.new ≡ world_shown self.old)) }
+        ensures innermost { IfOk result (λ r. IfSome r (λ c. conds_shown self.old.conds ≡ cond_shown c ∷ drop 1 (conds_shown self.old.conds))) }
+        ensures open { IfOk result (λ r. IfSome r (λ c. c.taken ≡ false)) }
+    {
+        match self.conds.innermost() {
+            None => {
+                self.malformed(alloc)?;
+                Ok(None)
+            }
+            Some(c) => {
+                if c.had_else {
+                    self.blame(alloc, c.skipped)?;
+                    Ok(None)
+                } else if c.taken {
+                    self.leave(c)?;
+                    Ok(None)
+                } else {
+                    Ok(Some(c))
+                }
+            }
+        }
+    }
+
+    /// An `#elif`.
     pub fn elif<R: Spellings>(
         &mut self,
         alloc: Global,
@@ -195,29 +182,15 @@ impl World {
     ) -> Result<(), AllocError>
         ensures { IfOk result (λ _. world_shown self.new ≡ branch (λ c cs. test (R.kinds reader.now) (holds_in (map condition_shown conditions.now)) (entered c cs) (map tok_shown tokens.items)) (conds_shown self.old.conds) (world_shown self.old)) }
     {
-        match self.conds.innermost() {
-            None => self.malformed(alloc),
-            Some(c) => {
-                if c.had_else {
-                    self.blame(alloc, c.skipped)?;
-                    Ok(())
-                } else if c.taken {
-                    self.leave(c)
-                } else {
-                    match self.test(alloc, reader, conditions, tokens)? {
-                        None => Ok(()),
-                        Some(holds) => {
-                            self.enter(c, holds)?;
-                            Ok(())
-                        }
-                    }
-                }
+        if let Some(c) = self.next_asked(alloc)? {
+            if let Some(holds) = self.test(alloc, reader, conditions, tokens)? {
+                self.enter(c, holds)?;
             }
         }
+        Ok(())
     }
 
     /// An `#elifdef`, or an `#elifndef` where `sense` is false.
-    #[tactic(auto, using(crate::proofs::Branches::had_else_branch))]
     pub fn elifdef(
         &mut self,
         alloc: Global,
@@ -226,20 +199,11 @@ impl World {
     ) -> Result<(), AllocError>
         ensures { IfOk result (λ _. world_shown self.new ≡ branch (λ c cs. asked sense (entered c cs) (map tok_shown tokens.items)) (conds_shown self.old.conds) (world_shown self.old)) }
     {
-        match self.conds.innermost() {
-            None => self.malformed(alloc),
-            Some(innermost) => {
-                if innermost.had_else {
-                    self.blame(alloc, innermost.skipped)?;
-                    Ok(())
-                } else if innermost.taken {
-                    self.leave(innermost)
-                } else {
-                    let holds = self.asked(alloc, sense, tokens)?;
-                    self.enter(innermost, holds)
-                }
-            }
+        if let Some(c) = self.next_asked(alloc)? {
+            let holds = self.asked(alloc, sense, &tokens)?;
+            self.enter(c, holds)?;
         }
+        Ok(())
     }
 
     /// The last group of a conditional, taken where none before it was.

@@ -105,6 +105,7 @@ fn what_is_listed(place: Place, names: &[Vec<u8>], token: &Tok) -> Listed
 
 /// Reads the parameter list behind its `(`, up to its `)` (C11 6.10p1, 6.10.3p5 and p6): whether it ends
 /// in `...`, or none where it is malformed.
+#[tactic(auto, using(crate::proofs::Fronts::front_first, crate::proofs::Fronts::no_front))]
 pub fn read_params(
     alloc: Global,
     names: &mut Vec<Vec<u8>>,
@@ -114,9 +115,12 @@ pub fn read_params(
         ≡ params_of (map (λ n. n.items) names.old.items) AfterOpen (map tok_shown rest.old.items)) }
 {
     let mut place = Place::AfterOpen;
-    while let Some(t) = rest.pop_front() {
-        match what_is_listed(place, names.as_slice(), &t) {
-            Listed::End => return Ok(Some(place.is_after_dots())),
+    while let Some(t) = rest.front() {
+        match what_is_listed(place, names.as_slice(), t) {
+            Listed::End => {
+                let _ = rest.pop_front();
+                return Ok(Some(place.is_after_dots()));
+            }
             Listed::Mark(next) => place = next,
             Listed::Name => {
                 names.push(copy_bytes(alloc, spelling_of(&t.token))?)?;
@@ -124,6 +128,7 @@ pub fn read_params(
             }
             Listed::Malformed => return Ok(None),
         }
+        let _ = rest.pop_front();
     }
     Ok(None)
 }

@@ -5,6 +5,7 @@ ghost use Rattle.pp_model.specs.Token.{Tok as Token, Plain};
 ghost use Rattle.c_grammar.specs.declared.ItemKind.TheVariants.{Number};
 ghost use Rattle.pp_model.specs.Condition.{resolve, is_defined, answer, asks, Free};
 ghost use Rattle.pp_events.specs.View.{tok_shown, macro_shown};
+ghost use Rattle.pp_directives.specs.WorldView.{front_defined};
 ghost use Rattle.pp_directives.specs.Resolving.{held_of, acted, more_held};
 
 use crate::words::is_name;
@@ -30,6 +31,23 @@ pub fn is_defined(table: &[Macro], token: &Tok) -> bool
     match look_up(table, spelling_of(&token.token)) {
         Some(_) => true,
         None => false,
+    }
+}
+
+/// Whether the table has the name in front; none where there is no name.
+#[tactic(auto, using(crate::proofs::Fronts::front_first, crate::proofs::Fronts::no_front))]
+pub fn front_defined(table: &[Macro], tokens: &VecDeque<Tok>) -> Option<bool>
+    ensures { result ≡ front_defined (map macro_shown table.now) (map tok_shown tokens.now.items) }
+{
+    match tokens.front() {
+        None => None,
+        Some(t) => {
+            if is_name(t) {
+                Some(is_defined(table, t))
+            } else {
+                None
+            }
+        }
     }
 }
 

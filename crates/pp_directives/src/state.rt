@@ -3,7 +3,8 @@
 ghost use Rattle.std.specs.Prelude.{◌≡◌, ℕ, true, false, List, [], ◌∷◌, ◌++◌, map, IfOk, Option, Some, None, option_map};
 ghost use Rattle.pp_model.specs.Preprocess.{World, emit, malformed, spend, flush, spelled, token_events, with_pending, with_turns, starting};
 ghost use Rattle.pp_events.specs.View.{shown, tok_shown, macro_shown};
-ghost use Rattle.pp_directives.specs.WorldView.{event_shown, world_shown};
+ghost use Rattle.pp_directives.specs.WorldView.{event_shown, world_shown, expansion_of, behind_expansion};
+ghost use Rattle.pp_model.specs.Expand.{expand};
 
 use crate::conditionals::Conditionals;
 use crate::events::Event;
@@ -104,18 +105,38 @@ impl World {
         Ok(())
     }
 
+    /// Tokens, expanded; none where the turns don't suffice, and then it is over.
+    pub fn expanded<R: Spellings>(
+        &mut self,
+        alloc: Global,
+        reader: &R,
+        tokens: VecDeque<Tok>,
+    ) -> Result<Option<Vec<Tok>>, AllocError>
+        ensures expansion { IfOk result (λ r. expansion_of r self.new.turns ≡ expand (R.kinds reader.now) (world_shown self.old).table (world_shown self.old).turns (map tok_shown tokens.items)) }
+        ensures shown { IfOk result (λ r. world_shown self.new ≡ behind_expansion r self.new.turns (world_shown self.old)) }
+        ensures conds { self.new.conds ≡ self.old.conds }
+    {
+        match expand(alloc, reader, self.table.as_slice(), self.turns, tokens)? {
+            None => {
+                self.spend(alloc)?;
+                Ok(None)
+            }
+            Some((made, left)) => {
+                self.turns = left;
+                Ok(Some(made))
+            }
+        }
+    }
+
     /// Expands the text that waits into tokens.
     pub fn flush<R: Spellings>(&mut self, alloc: Global, reader: &R) -> Result<(), AllocError>
         ensures shown { IfOk result (λ _. world_shown self.new ≡ flush (R.kinds reader.now) (world_shown self.old)) }
         ensures conds { self.new.conds ≡ self.old.conds }
     {
         let pending = mem::replace(&mut self.pending, VecDeque::new(alloc));
-        match expand(alloc, reader, self.table.as_slice(), self.turns, pending)? {
-            None => self.spend(alloc),
-            Some((tokens, left)) => {
-                self.turns = left;
-                self.emit_tokens(tokens)
-            }
+        match self.expanded(alloc, reader, pending)? {
+            None => Ok(()),
+            Some(tokens) => self.emit_tokens(tokens),
         }
     }
 }

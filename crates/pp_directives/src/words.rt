@@ -1,11 +1,13 @@
 //! Tests of single tokens.
 
-ghost use Rattle.std.specs.Prelude.{◌≡◌, ℕ, List, [], ◌∷◌, map, not, ◌&&◌, codes};
+ghost use Rattle.std.specs.Prelude.{◌≡◌, ℕ, List, [], ◌∷◌, map, not, ◌&&◌, codes, Option, option_map};
 ghost use Rattle.pp_model.specs.Token.{is_in, text_of};
 ghost use Rattle.pp_model.specs.Define.{is_hash, is_paste, is_dots, is_name, is_kept_name};
 ghost use Rattle.pp_events.specs.View.{shown, tok_shown};
+ghost use Rattle.pp_directives.specs.WorldView.{front_name};
 
 use pp_events::{Tok, contains_name, is_identifier_kind, is_spelled, spelling_of};
+use std::collections::VecDeque;
 
 /// Whether the token is an identifier.
 pub fn is_name(token: &Tok) -> bool
@@ -49,6 +51,23 @@ pub fn may_be_defined(token: &Tok) -> bool
     ensures { result ≡ (is_name (tok_shown token.now) && not (is_kept_name (text_of (shown token.now.token)))) }
 {
     is_name(token) && !is_kept_name(spelling_of(&token.token))
+}
+
+/// The name in front, where a macro may have it.
+#[tactic(auto, using(crate::proofs::Fronts::front_first, crate::proofs::Fronts::no_front))]
+pub fn front_name(tokens: &VecDeque<Tok>) -> Option<&[u8]>
+    ensures { option_map (λ b. b.now) result ≡ front_name (map tok_shown tokens.now.items) }
+{
+    match tokens.front() {
+        None => None,
+        Some(t) => {
+            if may_be_defined(t) {
+                Some(spelling_of(&t.token))
+            } else {
+                None
+            }
+        }
+    }
 }
 
 /// Whether a name may be the next parameter: it is another one than these, and not `__VA_ARGS__`.
