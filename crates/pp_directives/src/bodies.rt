@@ -1,11 +1,11 @@
 //! The parts of a macro's body.
 
 ghost use Rattle.std.specs.Prelude.{◌≡◌, ℕ, Bool, false, List, [], ◌∷◌, ◌++◌, map, IfOk, Option, Some, option_map};
-ghost use Rattle.pp_model.specs.Define.{parts_of_body, paste_next, what_of, is_paste_before, is_item_before, ends_body, Nothing, Hash};
-ghost use Rattle.pp_model.specs.Token.{Tok as Token};
+ghost use Rattle.pp_model.specs.Define.{parts_of_body, paste_next, what_of, is_paste_before, is_item_before, ends_body, Nothing};
+ghost use Rattle.pp_model.specs.Token.{Tok as Token, Name};
 ghost use Rattle.pp_events.specs.View.{tok_shown, what_shown, part_shown};
 ghost use Rattle.pp_directives.specs.DefineView.{before_shown, some_parts};
-ghost use Rattle.pp_directives.specs.Body.{behind, goes_on, is_hash_before};
+ghost use Rattle.pp_directives.specs.Body.{behind, goes_on, is_hash_before, stood, next_parts};
 
 use crate::parameters::param_of;
 use crate::words::{is_hash, is_paste};
@@ -59,120 +59,127 @@ fn is_paste_next(rest: &VecDeque<Tok>) -> bool
     }
 }
 
-/// What a token of the body stands for: a parameter beside `##` takes its argument as written.
-fn what_of(beside: bool, token: Tok, parameter: Option<usize>) -> What
-    ensures { what_shown result ≡ what_of beside (tok_shown token) parameter }
+/// What comes in the place of a token of the body.
+#[derive(Clone, Copy)]
+pub enum Stand {
+    Itself,
+    Full(usize),
+    Written(usize),
+    Quoted(usize),
+}
+
+/// What a token of the body is.
+#[derive(Clone, Copy)]
+pub enum Next {
+    /// A `##` or a `#`.
+    Mark(Before),
+    /// A part.
+    Part { stand: Stand, white: bool, glue: bool },
+    Malformed,
+}
+
+/// What comes in the place of a token that is behind no `#`: a parameter beside `##` takes its argument as
+/// written.
+fn stand_of(beside: bool, parameter: Option<usize>) -> Stand
+    ensures { (t : Token) → stood result t ≡ what_of beside t parameter }
 {
     match parameter {
-        None => What::Word(token),
+        None => Stand::Itself,
         Some(i) => {
             if beside {
-                What::Written(i)
+                Stand::Written(i)
             } else {
-                What::Full(i)
+                Stand::Full(i)
             }
         }
     }
 }
 
-/// Reads a token behind a `#`, which has to be a parameter (C11 6.10.3.2p1).
-#[tactic(auto, using(crate::proofs::BodyParts::behind_part))]
-fn add_quoted(
-    parts: &mut Vec<Part>,
+/// What a token behind no `#` is.
+#[tactic(auto, using(crate::proofs::BodyParts::plain_body))]
+fn next_plain(
     names: &[Vec<u8>],
-    glue: bool,
-    white: bool,
+    function_like: bool,
+    before: Before,
     token: &Tok,
-) -> Result<Option<Before>, AllocError>
-    ensures { IfOk result (λ r. (fl : Bool) (ts : List Token) → behind (map part_shown parts.old.items) (parts_of_body (map (λ n. n.items) names.now) fl (Hash glue white) (tok_shown token.now ∷ ts))
-        ≡ goes_on r (λ b. behind (map part_shown parts.new.items) (parts_of_body (map (λ n. n.items) names.now) fl (before_shown b) ts))) }
+    paste_is_next: bool,
+) -> Next
+    requires { is_hash_before (before_shown before) ≡ false }
+    ensures { (ts : List Token) → paste_next ts ≡ paste_is_next → parts_of_body (map (λ n. n.items) names.now) function_like (before_shown before) (tok_shown token.now ∷ ts)
+        ≡ next_parts result (map (λ n. n.items) names.now) function_like (tok_shown token.now) ts }
 {
-    match param_of(names, token) {
-        None => Ok(None),
-        Some(i) => {
-            let what = What::Quoted(i);
+    let glue = before.is_paste();
+    if is_paste(token) {
+        if before.is_item() {
+            Next::Mark(Before::Paste)
+        } else {
+            Next::Malformed
+        }
+    } else if function_like && is_hash(token) {
+        let white = token.white;
+        Next::Mark(Before::Hash { glue, white })
+    } else {
+        let stand = stand_of(glue || paste_is_next, param_of(names, token));
+        let white = token.white;
+        Next::Part { stand, white, glue }
+    }
+}
+
+/// What a token is: behind a `#` it has to be a parameter (C11 6.10.3.2p1).
+fn next_of(
+    names: &[Vec<u8>],
+    function_like: bool,
+    before: Before,
+    token: &Tok,
+    paste_is_next: bool,
+) -> Next
+    ensures { (ts : List Token) → paste_next ts ≡ paste_is_next → parts_of_body (map (λ n. n.items) names.now) function_like (before_shown before) (tok_shown token.now ∷ ts)
+        ≡ next_parts result (map (λ n. n.items) names.now) function_like (tok_shown token.now) ts }
+{
+    match before {
+        Before::Hash { glue, white } => match param_of(names, token) {
+            None => Next::Malformed,
+            Some(i) => {
+                let stand = Stand::Quoted(i);
+                Next::Part { stand, white, glue }
+            }
+        },
+        Before::Nothing => next_plain(names, function_like, Before::Nothing, token, paste_is_next),
+        Before::Item => next_plain(names, function_like, Before::Item, token, paste_is_next),
+        Before::Paste => next_plain(names, function_like, Before::Paste, token, paste_is_next),
+    }
+}
+
+/// What a token of the body stands for.
+fn what_of(stand: Stand, token: Tok) -> What
+    ensures { what_shown result ≡ stood stand (tok_shown token) }
+{
+    match stand {
+        Stand::Itself => What::Word(token),
+        Stand::Full(i) => What::Full(i),
+        Stand::Written(i) => What::Written(i),
+        Stand::Quoted(i) => What::Quoted(i),
+    }
+}
+
+/// Adds what a token of a body is.
+#[tactic(auto, using(crate::proofs::BodyParts::behind_part))]
+fn add_token(
+    parts: &mut Vec<Part>,
+    next: Next,
+    token: Tok,
+) -> Result<Option<Before>, AllocError>
+    ensures { IfOk result (λ r. (names : List Name) (fl : Bool) (ts : List Token) → behind (map part_shown parts.old.items) (next_parts next names fl (tok_shown token) ts)
+        ≡ goes_on r (λ b. behind (map part_shown parts.new.items) (parts_of_body names fl (before_shown b) ts))) }
+{
+    match next {
+        Next::Malformed => Ok(None),
+        Next::Mark(before) => Ok(Some(before)),
+        Next::Part { stand, white, glue } => {
+            let what = what_of(stand, token);
             parts.push(Part { what, white, glue })?;
             Ok(Some(Before::Item))
         }
-    }
-}
-
-/// Reads a token that is behind no `#`.
-#[tactic(auto, using(crate::proofs::BodyParts::plain_body, crate::proofs::BodyParts::behind_part))]
-fn add_plain(
-    parts: &mut Vec<Part>,
-    names: &[Vec<u8>],
-    function_like: bool,
-    before: Before,
-    token: Tok,
-    paste_is_next: bool,
-) -> Result<Option<Before>, AllocError>
-    requires { is_hash_before (before_shown before) ≡ false }
-    ensures { IfOk result (λ r. (ts : List Token) → paste_next ts ≡ paste_is_next → behind (map part_shown parts.old.items) (parts_of_body (map (λ n. n.items) names.now) function_like (before_shown before) (tok_shown token ∷ ts))
-        ≡ goes_on r (λ b. behind (map part_shown parts.new.items) (parts_of_body (map (λ n. n.items) names.now) function_like (before_shown b) ts))) }
-{
-    if is_paste(&token) {
-        if before.is_item() {
-            Ok(Some(Before::Paste))
-        } else {
-            Ok(None)
-        }
-    } else if function_like && is_hash(&token) {
-        Ok(Some(Before::Hash {
-            glue: before.is_paste(),
-            white: token.white,
-        }))
-    } else {
-        let glue = before.is_paste();
-        let white = token.white;
-        let parameter = param_of(names, &token);
-        let what = what_of(glue || paste_is_next, token, parameter);
-        parts.push(Part { what, white, glue })?;
-        Ok(Some(Before::Item))
-    }
-}
-
-/// Reads a token of a body.
-fn add_token(
-    parts: &mut Vec<Part>,
-    names: &[Vec<u8>],
-    function_like: bool,
-    before: Before,
-    token: Tok,
-    paste_is_next: bool,
-) -> Result<Option<Before>, AllocError>
-    ensures { IfOk result (λ r. (ts : List Token) → paste_next ts ≡ paste_is_next → behind (map part_shown parts.old.items) (parts_of_body (map (λ n. n.items) names.now) function_like (before_shown before) (tok_shown token ∷ ts))
-        ≡ goes_on r (λ b. behind (map part_shown parts.new.items) (parts_of_body (map (λ n. n.items) names.now) function_like (before_shown b) ts))) }
-{
-    match before {
-        Before::Hash { glue, white } => {
-            let next = add_quoted(parts, names, glue, white, &token)?;
-            Ok(next)
-        }
-        Before::Nothing => add_plain(
-            parts,
-            names,
-            function_like,
-            Before::Nothing,
-            token,
-            paste_is_next,
-        ),
-        Before::Item => add_plain(
-            parts,
-            names,
-            function_like,
-            Before::Item,
-            token,
-            paste_is_next,
-        ),
-        Before::Paste => add_plain(
-            parts,
-            names,
-            function_like,
-            Before::Paste,
-            token,
-            paste_is_next,
-        ),
     }
 }
 
@@ -203,8 +210,8 @@ pub fn parts_of_body(
     let mut before = Before::Nothing;
     let mut rest = body;
     while let Some(t) = rest.pop_front() {
-        let paste_is_next = is_paste_next(&rest);
-        match add_token(&mut parts, names, function_like, before, t, paste_is_next)? {
+        let next = next_of(names, function_like, before, &t, is_paste_next(&rest));
+        match add_token(&mut parts, next, t)? {
             None => return Ok(None),
             Some(b) => before = b,
         }

@@ -4,7 +4,7 @@ ghost use Rattle.std.specs.Prelude.{◌≡◌, ℕ, Bool, true, false, not, List
 ghost use Rattle.pp_model.specs.Token.{PpToken as Token};
 ghost use Rattle.pp_model.specs.Condition.{Cond as Conds, is_active};
 ghost use Rattle.pp_model.specs.Setting.{holds_in};
-ghost use Rattle.pp_model.specs.Preprocess.{World as Worlds, test, asked, begin_if, if_active, branch, entered, otherwise, endif, blame, left, with_conds, left_open, emit, finish};
+ghost use Rattle.pp_model.specs.Preprocess.{World as Worlds, test, asked, begin_if, if_active, branch, entered, otherwise, endif, blame, left, with_conds, left_open, finish};
 ghost use Rattle.pp_events.specs.View.{tok_shown};
 ghost use Rattle.pp_directives.specs.CondView.{cond_shown};
 ghost use Rattle.pp_directives.specs.SettingView.{condition_shown};
@@ -206,19 +206,6 @@ impl World {
         Ok(())
     }
 
-    /// The last group of a conditional, taken where none before it was.
-    fn last(&mut self, c: Cond) -> Result<(), AllocError>
-        requires { conds_shown self.old.conds ≡ cond_shown c ∷ drop 1 (conds_shown self.old.conds) }
-        ensures { IfOk result (λ _. world_shown self.new ≡ with_conds (record { taken = true; active = not c.taken; had_else = true; skipped = c.skipped } ∷ drop 1 (conds_shown self.old.conds)) (world_shown self.old)) }
-    {
-        self.conds.replace(Cond {
-            taken: true,
-            active: !c.taken,
-            had_else: true,
-            skipped: c.skipped,
-        })
-    }
-
     /// An `#else`.
     #[tactic(auto, using(crate::proofs::Branches::had_else_last))]
     pub fn otherwise(&mut self, alloc: Global) -> Result<(), AllocError>
@@ -231,7 +218,12 @@ impl World {
                     self.blame(alloc, c.skipped)?;
                     Ok(())
                 } else {
-                    self.last(c)
+                    self.conds.replace(Cond {
+                        taken: true,
+                        active: !c.taken,
+                        had_else: true,
+                        skipped: c.skipped,
+                    })
                 }
             }
         }
@@ -249,14 +241,6 @@ impl World {
             }
         }
     }
-    /// A malformed for each conditional that is open, but for those in skipped groups.
-    fn leave_open(&mut self, alloc: Global) -> Result<(), AllocError>
-        ensures { IfOk result (λ _. world_shown self.new ≡ emit (left_open (conds_shown self.old.conds)) (world_shown self.old)) }
-    {
-        let mut made = open_events(alloc, &self.conds)?;
-        self.events.append(&mut made)?;
-        Ok(())
-    }
 
     /// The end of a text: the text that waits is expanded, and each conditional that is open is
     /// malformed.
@@ -267,21 +251,24 @@ impl World {
         if self.over {
             Ok(())
         } else {
-            self.leave_open(alloc)
+            blame_open(alloc, &self.conds, &mut self.events)
         }
     }
 }
 
-/// A malformed for each open conditional that isn't in a skipped group.
-fn open_events(alloc: Global, conds: &Conditionals) -> Result<Vec<Event>, AllocError>
-    ensures { IfOk result (λ r. map event_shown r.items ≡ left_open (conds_shown conds.now)) }
+/// A malformed more for each open conditional that isn't in a skipped group.
+fn blame_open(
+    alloc: Global,
+    conds: &Conditionals,
+    events: &mut Vec<Event>,
+) -> Result<(), AllocError>
+    ensures { IfOk result (λ _. map event_shown events.new.items ≡ map event_shown events.old.items ++ left_open (conds_shown conds.now)) }
 {
     let open = &conds.open;
-    let mut events = Vec::new(alloc);
     for i in 0..open.len() {
         if !open[i].skipped {
             events.push(Event::Malformed(Vec::new(alloc)))?;
         }
     }
-    Ok(events)
+    Ok(())
 }

@@ -6,7 +6,7 @@ ghost use Rattle.pp_model.specs.Token.{Tok as Token};
 ghost use Rattle.pp_events.specs.View.{tok_shown};
 ghost use Rattle.pp_directives.specs.DefineView.{place_shown, params_read, listed_on};
 
-use crate::words::{is_dots, is_name, is_new_parameter};
+use crate::words::{is_name, is_new_parameter};
 use pp_events::{Tok, copy_bytes, is_spelled, spelling_of};
 use std::alloc::{AllocError, Global};
 use std::collections::VecDeque;
@@ -91,7 +91,7 @@ fn what_is_listed(place: Place, names: &[Vec<u8>], token: &Tok) -> Listed
         Listed::End
     } else if is_spelled(token, b",") && place.may_go_on() {
         Listed::Mark(Place::AfterComma)
-    } else if is_dots(token) && place.may_name() {
+    } else if is_spelled(token, b"...") && place.may_name() {
         Listed::Mark(Place::AfterDots)
     } else if is_name(token)
         && place.may_name()

@@ -87,15 +87,6 @@ impl World {
         Ok(())
     }
 
-    /// An event for each token.
-    fn emit_tokens(&mut self, tokens: Vec<Tok>) -> Result<(), AllocError>
-        ensures shown { IfOk result (λ _. world_shown self.new ≡ emit (token_events (map tok_shown tokens.items)) (world_shown self.old)) }
-        ensures conds { self.new.conds ≡ self.old.conds }
-    {
-        let made = token_events(tokens, &mut self.events)?;
-        Ok(made)
-    }
-
     /// The text that waits, more of it.
     pub fn wait(&mut self, tokens: VecDeque<Tok>) -> Result<(), AllocError>
         ensures { IfOk result (λ _. world_shown self.new ≡ with_pending ((world_shown self.old).pending ++ map tok_shown tokens.items) (world_shown self.old)) }
@@ -136,7 +127,7 @@ impl World {
         let pending = mem::replace(&mut self.pending, VecDeque::new(alloc));
         match self.expanded(alloc, reader, pending)? {
             None => Ok(()),
-            Some(tokens) => self.emit_tokens(tokens),
+            Some(tokens) => token_events(tokens, &mut self.events),
         }
     }
 }

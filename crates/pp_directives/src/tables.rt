@@ -100,25 +100,6 @@ fn parameters(alloc: Global, d: &MacroDefinition) -> Result<Vec<Vec<u8>>, AllocE
     Ok(names)
 }
 
-/// The macro of a definition that is allowed.
-fn allowed_macro<R: Spellings>(
-    alloc: Global,
-    reader: &R,
-    d: &MacroDefinition,
-) -> Result<Option<Macro>, AllocError>
-    requires { is_allowed (definition_shown d.now) ≡ true }
-    ensures { IfOk result (λ r. some_macro r ≡ macro_by (R.kinds reader.now) (definition_shown d.now)) }
-{
-    let form = Form {
-        function_like: d.function_like,
-        arity: d.params.len(),
-        variadic: d.function_like && d.variadic,
-    };
-    let names = parameters(alloc, d)?;
-    let body = toks_by(alloc, reader, d.body.as_slice())?;
-    macro_of(alloc, d.name.as_slice(), form, names.as_slice(), body)
-}
-
 /// The macro of a definition; none where 6.10.3 doesn't allow it.
 fn macro_by<R: Spellings>(
     alloc: Global,
@@ -127,11 +108,17 @@ fn macro_by<R: Spellings>(
 ) -> Result<Option<Macro>, AllocError>
     ensures { IfOk result (λ r. some_macro r ≡ macro_by (R.kinds reader.now) (definition_shown d.now)) }
 {
-    if is_allowed(d) {
-        allowed_macro(alloc, reader, d)
-    } else {
-        Ok(None)
+    if !is_allowed(d) {
+        return Ok(None);
     }
+    let form = Form {
+        function_like: d.function_like,
+        arity: d.params.len(),
+        variadic: d.function_like && d.variadic,
+    };
+    let names = parameters(alloc, d)?;
+    let body = toks_by(alloc, reader, d.body.as_slice())?;
+    macro_of(alloc, d.name.as_slice(), form, names.as_slice(), body)
 }
 
 /// The table at the start.

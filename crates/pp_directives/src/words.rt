@@ -2,7 +2,7 @@
 
 ghost use Rattle.std.specs.Prelude.{◌≡◌, ℕ, List, [], ◌∷◌, map, not, ◌&&◌, codes, Option, option_map};
 ghost use Rattle.pp_model.specs.Token.{is_in, text_of};
-ghost use Rattle.pp_model.specs.Define.{is_hash, is_paste, is_dots, is_name, is_kept_name};
+ghost use Rattle.pp_model.specs.Define.{is_hash, is_paste, is_name, is_kept_name};
 ghost use Rattle.pp_events.specs.View.{shown, tok_shown};
 ghost use Rattle.pp_directives.specs.WorldView.{front_name};
 
@@ -28,13 +28,6 @@ pub fn is_paste(token: &Tok) -> bool
     ensures { result ≡ is_paste (tok_shown token.now) }
 {
     is_spelled(token, b"##") || is_spelled(token, b"%:%:")
-}
-
-/// Whether the token is `...`.
-pub fn is_dots(token: &Tok) -> bool
-    ensures { result ≡ is_dots (tok_shown token.now) }
-{
-    is_spelled(token, b"...")
 }
 
 /// Whether a name is never defined nor undefined (C11 6.10.8p4, 6.10.3p5).

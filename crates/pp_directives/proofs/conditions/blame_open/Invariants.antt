@@ -2,8 +2,8 @@ use Rattle.std.proofs.Common.{◌≡◌, ◌++◌, map, drop}
 use Rattle.pp_model.specs.Preprocess.{left_open}
 use Rattle.pp_directives.specs.CondView.{cond_shown}
 use Rattle.pp_directives.specs.WorldView.{event_shown}
-use Rattle.pp_directives.proofs.conditions.open_events.Given as goal
+use Rattle.pp_directives.proofs.conditions.blame_open.Given as goal
 
 abbrev pub invariant-loop-i : goal.invariant-loop-i
 invariant-loop-i l =
-    map event_shown l.events.items ++ left_open (map cond_shown (drop l.i l.open.items)) ≡ left_open (map cond_shown l.open.items)
+    map event_shown l.events.items ++ left_open (map cond_shown (drop l.i l.open.items)) ≡ map event_shown l.fn.events.items ++ left_open (map cond_shown l.open.items)
