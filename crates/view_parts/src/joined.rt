@@ -1,6 +1,6 @@
 //! Parts that follow one another in a row, which are noted as one.
 
-ghost use Rattle.std.specs.Prelude.{◌≡◌, ◌<◌, ◌≤◌, ◌-◌, ℕ, length, get_or, slice_range, IfSome};
+ghost use Rattle.std.specs.Prelude.{◌≡◌, ◌<◌, ◌≤◌, ◌-◌, ℕ, length, get_or, slice_range, IfSome, IsSome};
 ghost use Rattle.std.specs.Option.{ForNone, ForSome};
 ghost use Rattle.view_parts.specs.declared.known.KnownEnd.TheVariants.{Unknown};
 ghost use Rattle.view_parts.specs.Known.{AreKnown, HasNotedRow, after_joined, behind_row, item_of_row, joined, row_of};
@@ -86,7 +86,7 @@ pub fn behind_row(known: &[KnownEnd], id: TokenId) -> TokenId
 }
 
 /// Where a part of a view ends that begins at a place with this item, or parts that follow one another, which are noted
-/// in a row, where the view has that row.
+/// in a row, where the view has that row. The row always tells so.
 #[inline(always)]
 pub fn known_parts_end(
     arena: &TokenArena<'_, '_>,
@@ -106,6 +106,7 @@ pub fn known_parts_end(
     ensures told { IfSome result (λ parts. ForSome parts.told (λ told. TellParts arena.now (slice_range view.now first told) (parts.end - first))) }
     ensures later { IfSome result (λ parts. ForSome parts.told (λ told. parts.end < told)) }
     ensures below { IfSome result (λ parts. ForSome parts.told (λ told. told ≤ length view.now)) }
+    ensures always { IfSome result (λ parts. IsSome parts.told) }
     ensures whole { IfSome result (λ parts. ForNone parts.told (parts.end ≡ length view.now)) }
 {
     let Some(row) = noted(known, id).row() else {
