@@ -9,7 +9,7 @@ use bumpalo::Bump;
 use bumpalo::collections::into_bump_slice;
 use line_tokens::TokenId;
 use replacements::{Decided, Decision, Plan, Slot};
-use run_layout::{Report, Tally, lay_out_lines};
+use run_layout::{Report, Tally, ViewLayout, lay_out_lines};
 use std::alloc::{AllocError, Global};
 use std::process::Abort;
 use style_table::Style;
@@ -237,22 +237,17 @@ fn lay_out<'r>(
     let view = view_of(rt, arena, case.directive, run);
     let told = read_view(rt, &style, arena, &view, run);
     holds(rt, "few lines", told.lines.len() < 1_000);
-    let mut tally = Tally::new(run);
-    lay_out_lines(
+    let layout = ViewLayout {
         alloc,
-        &style,
-        u64::from(case.budget),
+        style: &style,
+        budget: u64::from(case.budget),
         arena,
-        &view,
-        told.classes,
-        told.tokens,
-        5,
-        told.lines,
-        plan,
-        &mut tally,
-        run,
-    )
-    .expect(rt, "a layout");
+        view: &view,
+        classes: told.classes,
+        tokens: told.tokens,
+    };
+    let mut tally = Tally::new(run);
+    lay_out_lines(&layout, 5, told.lines, plan, &mut tally, run).expect(rt, "a layout");
     (tally.searched, tally.cost, into_bump_slice(tally.reports))
 }
 

@@ -14,16 +14,15 @@ ghost use Rattle.run_layout.specs.Broken.{decision_by, empty_inside, first_made,
 
 use crate::first::decide_first;
 use crate::row::token_at;
+use crate::view_layout::ViewLayout;
 use break_search::starts;
 use bumpalo::Bump;
 use bumpalo::collections::into_bump_slice;
 use layout_tables::{empty_lines, spaces_before, start_column};
 use line_tokens::{Fixed, LineTok, NoMemory, ULine};
 use replacements::{Decision, Plan};
-use std::alloc::Global;
 use style_table::Style;
-use token_arena::{TokenArena, View};
-use token_classes::TokenClass;
+use token_arena::TokenArena;
 
 /// The empty lines before a further row of a line: only behind a directive are there any.
 fn empty_inside(style: &Style, line: &ULine, token: &LineTok) -> u32
@@ -177,11 +176,7 @@ pub(crate) fn fixed_of<'r>(
 
 /// Decides the open gaps of a line, by admissible choices.
 pub(crate) fn write_broken(
-    alloc: Global,
-    style: &Style,
-    arena: &TokenArena<'_, '_>,
-    view: &View<'_>,
-    classes: &[TokenClass],
+    layout: &ViewLayout<'_>,
     line: &ULine,
     tokens: &[LineTok],
     fixed: &[Option<Fixed>],
@@ -189,38 +184,24 @@ pub(crate) fn write_broken(
     plan: &mut Plan<'_>,
     run: &Bump,
 ) -> Result<(), NoMemory>
-    requires range { IsInRange style.now }
+    requires range { IsInRange layout.now.style.now }
     requires some { 0 < length tokens.now }
     requires short { length tokens.now < 4294967296 }
     requires even { length fixed.now ≡ length tokens.now }
-    requires admissible { IsAdmissible (line_of style.now (start_column style.now line.now) tokens.now fixed.now) breaks.now }
+    requires admissible { IsAdmissible (line_of layout.now.style.now (start_column layout.now.style.now line.now) tokens.now fixed.now) breaks.now }
     requires inside { All (λ token. token.id.0 < length plan.old) tokens.now }
-    requires classes { classes.now ≡ classes_of arena.now view.now }
-    requires place { line.now.first < length view.now }
-    requires items { AreWithin arena.now view.now }
-    requires first { (token : LineTok) → slice_get tokens.now 0 ≡ Some token → get_or view.now line.now.first 0 ≡ token.id.0 }
-    requires whole { length plan.old ≡ length arena.now.tokens + 1 }
-    ensures plan { OnOk result (plan.new ≡ decided_all plan.old (first_made style.now arena.now view.now line.now ∷ inside_made line.now (map number tokens.now) (line_of style.now (start_column style.now line.now) tokens.now fixed.now) (first_layout (line_of style.now (start_column style.now line.now) tokens.now fixed.now)) breaks.now)) }
+    requires classes { layout.now.classes.now ≡ classes_of layout.now.arena.now layout.now.view.now }
+    requires place { line.now.first < length layout.now.view.now }
+    requires items { AreWithin layout.now.arena.now layout.now.view.now }
+    requires first { (token : LineTok) → slice_get tokens.now 0 ≡ Some token → get_or layout.now.view.now line.now.first 0 ≡ token.id.0 }
+    requires whole { length plan.old ≡ length layout.now.arena.now.tokens + 1 }
+    ensures plan { OnOk result (plan.new ≡ decided_all plan.old (first_made layout.now.style.now layout.now.arena.now layout.now.view.now line.now ∷ inside_made line.now (map number tokens.now) (line_of layout.now.style.now (start_column layout.now.style.now line.now) tokens.now fixed.now) (first_layout (line_of layout.now.style.now (start_column layout.now.style.now line.now) tokens.now fixed.now)) breaks.now)) }
     ensures len { OnOk result (length plan.new ≡ length plan.old) }
 {
-    let starts = starts(
-        alloc,
-        style,
-        tokens,
-        start_column(style, line),
-        fixed,
-        breaks,
-        run,
-    )?;
-    decide_first(
-        style,
-        arena,
-        view,
-        classes,
-        line,
-        token_at(tokens, 0).id.0,
-        plan,
-    );
+    let style = layout.style;
+    let column = start_column(style, line);
+    let starts = starts(layout.alloc, style, tokens, column, fixed, breaks, run)?;
+    decide_first(layout, line, token_at(tokens, 0).id.0, plan);
     write_breaks(style, line, tokens, fixed, breaks, starts, plan);
     Ok(())
 }

@@ -8,11 +8,12 @@ ghost use Rattle.run_layout.specs.Broken.{first_slot};
 
 use crate::columns::start_behind;
 use crate::item::item;
+use crate::view_layout::ViewLayout;
 use layout_tables::{empty_lines, start_column};
 use line_tokens::{LineTok, Role, TokenId, ULine};
 use replacements::{Decision, Plan};
 use style_table::Style;
-use token_arena::{TokenArena, View};
+use token_arena::TokenArena;
 use token_classes::TokenClass;
 
 /// An item as the rule on empty lines sees it.
@@ -93,47 +94,34 @@ fn first_of_line(
 }
 
 /// What stands before the first item of a line.
-fn first_decision(
-    style: &Style,
-    arena: &TokenArena<'_, '_>,
-    view: &View<'_>,
-    classes: &[TokenClass],
-    line: &ULine,
-    id: u32,
-) -> Decision
-    requires classes { classes.now ≡ classes_of arena.now view.now }
-    requires place { line.now.first < length view.now }
-    requires items { AreWithin arena.now view.now }
-    requires id { get_or view.now line.now.first 0 ≡ id }
-    ensures { result ≡ first_decision style.now arena.now line.now (item_before view.now line.now.first) id }
+fn first_decision(layout: &ViewLayout<'_>, line: &ULine, id: u32) -> Decision
+    requires classes { layout.now.classes.now ≡ classes_of layout.now.arena.now layout.now.view.now }
+    requires place { line.now.first < length layout.now.view.now }
+    requires items { AreWithin layout.now.arena.now layout.now.view.now }
+    requires id { get_or layout.now.view.now line.now.first 0 ≡ id }
+    ensures { result ≡ first_decision layout.now.style.now layout.now.arena.now line.now (item_before layout.now.view.now line.now.first) id }
 {
+    let classes = layout.classes;
     let count = classes.len();
     let k = line.first;
     prove!((k as usize) < count);
     let opened = opens_before(classes, k);
-    first_of_line(style, arena, line, opened, classes[k as usize], id)
+    let class = classes[k as usize];
+    first_of_line(layout.style, layout.arena, line, opened, class, id)
 }
 
 /// Decides the gap before the first item of a line, where it is open.
-pub(crate) fn decide_first(
-    style: &Style,
-    arena: &TokenArena<'_, '_>,
-    view: &View<'_>,
-    classes: &[TokenClass],
-    line: &ULine,
-    id: u32,
-    plan: &mut Plan<'_>,
-)
-    requires classes { classes.now ≡ classes_of arena.now view.now }
-    requires place { line.now.first < length view.now }
-    requires items { AreWithin arena.now view.now }
-    requires id { get_or view.now line.now.first 0 ≡ id }
-    requires whole { length plan.old ≡ length arena.now.tokens + 1 }
-    ensures plan { plan.new ≡ decided plan.old id (first_slot style.now arena.now view.now line.now) }
+pub(crate) fn decide_first(layout: &ViewLayout<'_>, line: &ULine, id: u32, plan: &mut Plan<'_>)
+    requires classes { layout.now.classes.now ≡ classes_of layout.now.arena.now layout.now.view.now }
+    requires place { line.now.first < length layout.now.view.now }
+    requires items { AreWithin layout.now.arena.now layout.now.view.now }
+    requires id { get_or layout.now.view.now line.now.first 0 ≡ id }
+    requires whole { length plan.old ≡ length layout.now.arena.now.tokens + 1 }
+    ensures plan { plan.new ≡ decided plan.old id (first_slot layout.now.style.now layout.now.arena.now layout.now.view.now line.now) }
     ensures len { length plan.new ≡ length plan.old }
 {
-    let items = arena.len();
+    let items = layout.arena.len();
     prove!(id < items);
-    let decision = first_decision(style, arena, view, classes, line, id);
+    let decision = first_decision(layout, line, id);
     let _ = plan.decide(id, decision, start_behind(0, decision));
 }

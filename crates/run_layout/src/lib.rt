@@ -19,6 +19,7 @@ mod reported;
 mod row;
 mod stretches;
 mod view;
+mod view_layout;
 
 pub use columns::column_behind;
 pub use decided::is_row_decided;
@@ -32,3 +33,4 @@ pub use lines::lay_out_lines;
 pub use report::{Counts, Report, Tally};
 pub use reported::column_through;
 pub use view::lay_out_view;
+pub use view_layout::ViewLayout;

@@ -1,13 +1,13 @@
 //! The lines of a run.
 
-ghost use Rattle.std.specs.Prelude.{◌≡◌, ◌+◌, ◌*◌, ◌^◌, ◌<◌, ◌≤◌, All, IfOk, IsTrue, OnOk, Some, length, map, get_or, slice_get};
+ghost use Rattle.std.specs.Prelude.{◌≡◌, ◌+◌, ◌*◌, ◌^◌, ◌<◌, ◌≤◌, All, IfOk, IsTrue, OnOk, length};
 ghost use Rattle.std.specs.Bool.{OnFalse, OnTrue};
 ghost use Rattle.style_table.specs.Range.{IsInRange};
 ghost use Rattle.token_classes.specs.Viewed.{AreWithin, classes_of};
 ghost use Rattle.annotator.specs.Tokens.{TellItems};
 ghost use Rattle.line_state.specs.Line.{gaps};
 ghost use Rattle.run_layout.specs.Tells.{StandForItems};
-ghost use Rattle.replacements.specs.Decisions.{decided_all, slot_of};
+ghost use Rattle.replacements.specs.Decisions.{decided_all};
 ghost use Rattle.run_layout.specs.Counted.{IsCounted};
 ghost use Rattle.run_layout.specs.Broken.{broken_line, broken_made, of_line};
 ghost use Rattle.run_layout.specs.InputColumns.{input_before};
@@ -24,15 +24,12 @@ use crate::laid::Laid;
 use crate::report::{Tally, note_line};
 use crate::reported::{InputCursor, report_line};
 use crate::row::{end_of, first_start, is_row, token_at, write_row};
+use crate::view_layout::ViewLayout;
 use break_search::{Outcome, least_breaks, search};
 use bumpalo::Bump;
 use layout_tables::start_column;
 use line_tokens::{LineTok, NoMemory, ULine};
 use replacements::Plan;
-use std::alloc::Global;
-use style_table::Style;
-use token_arena::{TokenArena, View};
-use token_classes::TokenClass;
 
 /// The tokens of a line, among those of a view.
 #[inline(always)]
@@ -59,32 +56,25 @@ fn are_open_inside(plan: &Plan<'_>, tokens: &[LineTok]) -> bool
 }
 
 /// Lays out a line whose inner gaps are open, if it stays on one row. Otherwise nothing is decided. It takes no memory.
-fn lay_out_row(
-    style: &Style,
-    budget: u64,
-    arena: &TokenArena<'_, '_>,
-    view: &View<'_>,
-    classes: &[TokenClass],
-    toks: &[LineTok],
-    line: &ULine,
-    plan: &mut Plan<'_>,
-) -> bool
-    requires range { IsInRange style.now }
-    requires budget { budget ≤ 16000000 }
-    requires within { AreWithin arena.now view.now }
-    requires classes { classes.now ≡ classes_of arena.now view.now }
-    requires tell { StandForItems arena.now view.now toks.now }
+fn lay_out_row(layout: &ViewLayout<'_>, line: &ULine, plan: &mut Plan<'_>) -> bool
+    requires range { IsInRange layout.now.style.now }
+    requires budget { layout.now.budget ≤ 16000000 }
+    requires within { AreWithin layout.now.arena.now layout.now.view.now }
+    requires classes { layout.now.classes.now ≡ classes_of layout.now.arena.now layout.now.view.now }
+    requires tell { StandForItems layout.now.arena.now layout.now.view.now layout.now.tokens.now }
     requires some { line.now.first ≤ line.now.last }
-    requires places { line.now.last < length view.now }
-    requires whole { length plan.old ≡ length arena.now.tokens + 1 }
-    ensures row { OnTrue result (IsRow (broken_line style.now arena.now view.now toks.now plan.old line.now) budget) }
-    ensures limit { OnTrue result (0 < style.now.column_limit) }
-    ensures plan { OnTrue result (plan.new ≡ decided_all plan.old (broken_made style.now arena.now view.now toks.now plan.old line.now (stays (gaps (broken_line style.now arena.now view.now toks.now plan.old line.now))))) }
+    requires places { line.now.last < length layout.now.view.now }
+    requires whole { length plan.old ≡ length layout.now.arena.now.tokens + 1 }
+    ensures row { OnTrue result (IsRow (broken_line layout.now.style.now layout.now.arena.now layout.now.view.now layout.now.tokens.now plan.old line.now) layout.now.budget) }
+    ensures limit { OnTrue result (0 < layout.now.style.now.column_limit) }
+    ensures plan { OnTrue result (plan.new ≡ decided_all plan.old (broken_made layout.now.style.now layout.now.arena.now layout.now.view.now layout.now.tokens.now plan.old line.now (stays (gaps (broken_line layout.now.style.now layout.now.arena.now layout.now.view.now layout.now.tokens.now plan.old line.now))))) }
     ensures same { OnFalse result (plan.new ≡ plan.old) }
     ensures len { length plan.new ≡ length plan.old }
 {
+    let style = layout.style;
+    let arena = layout.arena;
     let items = arena.len();
-    let tokens = tokens_of_line(toks, line);
+    let tokens = tokens_of_line(layout.tokens, line);
     if style.column_limit == 0 || !are_open_inside(plan, tokens) {
         return false;
     }
@@ -93,66 +83,59 @@ fn lay_out_row(
     prove!(id < items);
     let first = plan.fixed_of(arena, id);
     let column = start_column(style, line);
-    if !is_row(style, tokens, column, first, budget) {
+    if !is_row(style, tokens, column, first, layout.budget) {
         return false;
     }
     let behind = end_of(token, first_start(column, first));
-    decide_first(style, arena, view, classes, line, id, plan);
+    decide_first(layout, line, id, plan);
     write_row(style, tokens, behind, plan);
     true
 }
 
 /// Lays out a line that has an open gap and doesn't stay on one row.
 fn lay_out_searched(
-    alloc: Global,
-    style: &Style,
-    budget: u64,
-    arena: &TokenArena<'_, '_>,
-    view: &View<'_>,
-    classes: &[TokenClass],
-    toks: &[LineTok],
+    layout: &ViewLayout<'_>,
     line: &ULine,
     cursor: &mut InputCursor,
     plan: &mut Plan<'_>,
     run: &Bump,
 ) -> Result<Laid, NoMemory>
-    requires range { IsInRange style.now }
-    requires budget { budget ≤ 16000000 }
-    requires within { AreWithin arena.now view.now }
-    requires classes { classes.now ≡ classes_of arena.now view.now }
-    requires tell { StandForItems arena.now view.now toks.now }
+    requires range { IsInRange layout.now.style.now }
+    requires budget { layout.now.budget ≤ 16000000 }
+    requires within { AreWithin layout.now.arena.now layout.now.view.now }
+    requires classes { layout.now.classes.now ≡ classes_of layout.now.arena.now layout.now.view.now }
+    requires tell { StandForItems layout.now.arena.now layout.now.view.now layout.now.tokens.now }
     requires some { line.now.first ≤ line.now.last }
-    requires places { line.now.last < length view.now }
-    requires whole { length plan.old ≡ length arena.now.tokens + 1 }
-    requires opens { IsOpen plan.old view.now line.now }
+    requires places { line.now.last < length layout.now.view.now }
+    requires whole { length plan.old ≡ length layout.now.arena.now.tokens + 1 }
+    requires opens { IsOpen plan.old layout.now.view.now line.now }
     requires before { cursor.old.place ≤ line.now.first }
-    requires column { cursor.old.column ≡ input_before style.now arena.now view.now cursor.old.place }
-    ensures laid { IfOk result (IsLaid style.now budget arena.now view.now toks.now plan.old line.now plan.new) }
+    requires column { cursor.old.column ≡ input_before layout.now.style.now layout.now.arena.now layout.now.view.now cursor.old.place }
+    ensures laid { IfOk result (IsLaid layout.now.style.now layout.now.budget layout.now.arena.now layout.now.view.now layout.now.tokens.now plan.old line.now plan.new) }
     ensures len { OnOk result (length plan.new ≡ length plan.old) }
     ensures before { OnOk result (cursor.new.place ≤ line.now.last + 1) }
-    ensures column { OnOk result (cursor.new.column ≡ input_before style.now arena.now view.now cursor.new.place) }
+    ensures column { OnOk result (cursor.new.column ≡ input_before layout.now.style.now layout.now.arena.now layout.now.view.now cursor.new.place) }
 {
-    let count = view.len();
+    let alloc = layout.alloc;
+    let style = layout.style;
+    let budget = layout.budget;
+    let count = layout.view.len();
     prove!(line.last < count);
-    let tokens = tokens_of_line(toks, line);
-    let fixed = fixed_of(arena, tokens, plan, run)?;
+    let tokens = tokens_of_line(layout.tokens, line);
+    let fixed = fixed_of(layout.arena, tokens, plan, run)?;
     let column = start_column(style, line);
     if style.column_limit == 0 {
         let breaks = least_breaks(alloc, style, tokens, column, fixed, run)?;
-        write_broken(
-            alloc, style, arena, view, classes, line, tokens, fixed, breaks, plan, run,
-        )?;
+        write_broken(layout, line, tokens, fixed, breaks, plan, run)?;
         return Ok(Laid::Unsearched);
     }
     match search(alloc, style, tokens, column, fixed, budget, run)? {
         Outcome::Found { breaks, cost } => {
-            write_broken(
-                alloc, style, arena, view, classes, line, tokens, fixed, breaks, plan, run,
-            )?;
+            write_broken(layout, line, tokens, fixed, breaks, plan, run)?;
             Ok(Laid::Least { cost })
         }
         Outcome::OverBudget { cells } => {
-            report_line(style, arena, view, classes, line, cursor, plan);
+            report_line(layout, line, cursor, plan);
             Ok(Laid::Over { cells })
         }
     }
@@ -161,104 +144,86 @@ fn lay_out_searched(
 /// Whether each gap of a line is decided. Before the first item of most lines it isn't, and no other gap is looked at.
 #[inline(always)]
 fn is_line_decided(
-    arena: &TokenArena<'_, '_>,
-    view: &View<'_>,
-    toks: &[LineTok],
+    layout: &ViewLayout<'_>,
     line: &ULine,
     plan: &Plan<'_>,
     segment: &mut usize,
 ) -> bool
-    requires items { AreWithin arena.now view.now }
-    requires tell { StandForItems arena.now view.now toks.now }
+    requires items { AreWithin layout.now.arena.now layout.now.view.now }
+    requires tell { StandForItems layout.now.arena.now layout.now.view.now layout.now.tokens.now }
     requires some { line.now.first ≤ line.now.last }
-    requires places { line.now.last < length view.now }
-    requires whole { length plan.now ≡ length arena.now.tokens + 1 }
-    ensures yes { OnTrue result (AreDecided plan.now view.now line.now) }
-    ensures no { OnFalse result (IsOpen plan.now view.now line.now) }
+    requires places { line.now.last < length layout.now.view.now }
+    requires whole { length plan.now ≡ length layout.now.arena.now.tokens + 1 }
+    ensures yes { OnTrue result (AreDecided plan.now layout.now.view.now line.now) }
+    ensures no { OnFalse result (IsOpen plan.now layout.now.view.now line.now) }
 {
-    if plan
-        .slot(token_at(toks, line.first as usize).id.0)
-        .is_none()
-    {
+    let first = token_at(layout.tokens, line.first as usize);
+    if plan.slot(first.id.0).is_none() {
         return false;
     }
-    is_decided(arena, view, line, plan, segment)
+    is_decided(layout.arena, layout.view, line, plan, segment)
 }
 
 /// Lays out a line: decides its open gaps, and tells what came of it. `segment` is the number of the view's segment that
 /// was looked into last.
 fn lay_out_line(
-    alloc: Global,
-    style: &Style,
-    budget: u64,
-    arena: &TokenArena<'_, '_>,
-    view: &View<'_>,
-    classes: &[TokenClass],
-    toks: &[LineTok],
+    layout: &ViewLayout<'_>,
     line: &ULine,
     segment: &mut usize,
     cursor: &mut InputCursor,
     plan: &mut Plan<'_>,
     run: &Bump,
 ) -> Result<Laid, NoMemory>
-    requires range { IsInRange style.now }
-    requires budget { budget ≤ 16000000 }
-    requires within { AreWithin arena.now view.now }
-    requires classes { classes.now ≡ classes_of arena.now view.now }
-    requires tell { StandForItems arena.now view.now toks.now }
+    requires range { IsInRange layout.now.style.now }
+    requires budget { layout.now.budget ≤ 16000000 }
+    requires within { AreWithin layout.now.arena.now layout.now.view.now }
+    requires classes { layout.now.classes.now ≡ classes_of layout.now.arena.now layout.now.view.now }
+    requires tell { StandForItems layout.now.arena.now layout.now.view.now layout.now.tokens.now }
     requires some { line.now.first ≤ line.now.last }
-    requires places { line.now.last < length view.now }
-    requires whole { length plan.old ≡ length arena.now.tokens + 1 }
+    requires places { line.now.last < length layout.now.view.now }
+    requires whole { length plan.old ≡ length layout.now.arena.now.tokens + 1 }
     requires before { cursor.old.place ≤ line.now.first }
-    requires column { cursor.old.column ≡ input_before style.now arena.now view.now cursor.old.place }
-    ensures laid { IfOk result (IsLaid style.now budget arena.now view.now toks.now plan.old line.now plan.new) }
+    requires column { cursor.old.column ≡ input_before layout.now.style.now layout.now.arena.now layout.now.view.now cursor.old.place }
+    ensures laid { IfOk result (IsLaid layout.now.style.now layout.now.budget layout.now.arena.now layout.now.view.now layout.now.tokens.now plan.old line.now plan.new) }
     ensures len { OnOk result (length plan.new ≡ length plan.old) }
     ensures before { OnOk result (cursor.new.place ≤ line.now.last + 1) }
-    ensures column { OnOk result (cursor.new.column ≡ input_before style.now arena.now view.now cursor.new.place) }
+    ensures column { OnOk result (cursor.new.column ≡ input_before layout.now.style.now layout.now.arena.now layout.now.view.now cursor.new.place) }
 {
-    if is_line_decided(arena, view, toks, line, plan, segment) {
+    if is_line_decided(layout, line, plan, segment) {
         return Ok(Laid::Unsearched);
     }
-    if lay_out_row(style, budget, arena, view, classes, toks, line, plan) {
+    if lay_out_row(layout, line, plan) {
         return Ok(Laid::Least { cost: 0 });
     }
-    lay_out_searched(
-        alloc, style, budget, arena, view, classes, toks, line, cursor, plan, run,
-    )
+    lay_out_searched(layout, line, cursor, plan, run)
 }
 
 /// Lays out the lines of a run: decides the gap before each item of a view, which these lines cut, where it is open. What
-/// came of them is noted. `classes` and `toks` are those of the view's places.
+/// came of them is noted.
 pub fn lay_out_lines(
-    alloc: Global,
-    style: &Style,
-    budget: u64,
-    arena: &TokenArena<'_, '_>,
-    view: &View<'_>,
-    classes: &[TokenClass],
-    toks: &[LineTok],
+    layout: &ViewLayout<'_>,
     number: u32,
     lines: &[ULine],
     plan: &mut Plan<'_>,
     tally: &mut Tally<'_>,
     run: &Bump,
 ) -> Result<(), NoMemory>
-    requires range { IsInRange style.now }
-    requires budget { budget ≤ 16000000 }
-    requires within { AreWithin arena.now view.now }
-    requires classes { classes.now ≡ classes_of arena.now view.now }
-    requires count { length toks.now ≡ length view.now }
-    requires tell { TellItems arena.now view.now toks.now }
-    requires cut { CutPlaces 0 (length view.now) lines.now }
-    requires whole { length plan.old ≡ length arena.now.tokens + 1 }
+    requires range { IsInRange layout.now.style.now }
+    requires budget { layout.now.budget ≤ 16000000 }
+    requires within { AreWithin layout.now.arena.now layout.now.view.now }
+    requires classes { layout.now.classes.now ≡ classes_of layout.now.arena.now layout.now.view.now }
+    requires count { length layout.now.tokens.now ≡ length layout.now.view.now }
+    requires tell { TellItems layout.now.arena.now layout.now.view.now layout.now.tokens.now }
+    requires cut { CutPlaces 0 (length layout.now.view.now) lines.now }
+    requires whole { length plan.old ≡ length layout.now.arena.now.tokens + 1 }
     requires room { tally.old.searched + length lines.now < 2 ^ 60 }
     requires cheap { tally.old.cost ≤ tally.old.searched * 18446744073709551615 }
-    requires counted { IsCounted arena.now tally.old.lines }
-    ensures laid { OnOk result (IsRunLaid style.now budget arena.now view.now toks.now number plan.old lines.now plan.new tally.old tally.new) }
+    requires counted { IsCounted layout.now.arena.now tally.old.lines }
+    ensures laid { OnOk result (IsRunLaid layout.now.style.now layout.now.budget layout.now.arena.now layout.now.view.now layout.now.tokens.now number plan.old lines.now plan.new tally.old tally.new) }
     ensures len { OnOk result (length plan.new ≡ length plan.old) }
     ensures room { OnOk result (tally.new.searched ≤ tally.old.searched + length lines.now) }
     ensures cheap { OnOk result (tally.new.cost ≤ tally.new.searched * 18446744073709551615) }
-    ensures counted { OnOk result (IsCounted arena.now tally.new.lines) }
+    ensures counted { OnOk result (IsCounted layout.now.arena.now tally.new.lines) }
 {
     let mut segment = 0;
     let mut cursor = InputCursor {
@@ -266,22 +231,9 @@ pub fn lay_out_lines(
         column: 0,
     };
     for line in lines {
-        let laid = lay_out_line(
-            alloc,
-            style,
-            budget,
-            arena,
-            view,
-            classes,
-            toks,
-            line,
-            &mut segment,
-            &mut cursor,
-            plan,
-            run,
-        )?;
-        let id = token_at(toks, line.first as usize).id.0;
-        note_line(arena, number, id, laid, tally)?;
+        let laid = lay_out_line(layout, line, &mut segment, &mut cursor, plan, run)?;
+        let id = token_at(layout.tokens, line.first as usize).id.0;
+        note_line(layout.arena, number, id, laid, tally)?;
     }
     Ok(())
 }

@@ -1,6 +1,6 @@
 //! Lines that are reported.
 
-ghost use Rattle.std.specs.Prelude.{◌≡◌, ◌∷◌, ◌+◌, ◌<◌, ◌≤◌, ◌^◌, length, get_or};
+ghost use Rattle.std.specs.Prelude.{◌≡◌, ◌∷◌, ◌+◌, ◌<◌, ◌≤◌, ◌^◌, length};
 ghost use Rattle.token_classes.specs.Viewed.{AreWithin, classes_of};
 ghost use Rattle.replacements.specs.Decisions.{decided_all};
 ghost use Rattle.run_layout.specs.Broken.{first_made};
@@ -9,11 +9,11 @@ ghost use Rattle.run_layout.specs.Outcomes.{reported_made};
 
 use crate::columns::column_behind;
 use crate::first::decide_first;
+use crate::view_layout::ViewLayout;
 use line_tokens::ULine;
 use replacements::{Decision, Plan};
 use style_table::Style;
 use token_arena::{TokenArena, View};
-use token_classes::TokenClass;
 
 /// Up to where the columns of the input are told. They are told only where a line is reported, each once in a run.
 #[derive(Clone, Copy)]
@@ -86,38 +86,30 @@ fn move_to(
 
 /// Decides the first gap of a line as ever, and keeps the bytes of its other gaps, where they are open.
 pub(crate) fn report_line(
-    style: &Style,
-    arena: &TokenArena<'_, '_>,
-    view: &View<'_>,
-    classes: &[TokenClass],
+    layout: &ViewLayout<'_>,
     line: &ULine,
     cursor: &mut InputCursor,
     plan: &mut Plan<'_>,
 )
-    requires tab { 1 ≤ style.now.tab_width }
-    requires items { AreWithin arena.now view.now }
-    requires classes { classes.now ≡ classes_of arena.now view.now }
+    requires tab { 1 ≤ layout.now.style.now.tab_width }
+    requires items { AreWithin layout.now.arena.now layout.now.view.now }
+    requires classes { layout.now.classes.now ≡ classes_of layout.now.arena.now layout.now.view.now }
     requires some { line.now.first ≤ line.now.last }
-    requires places { line.now.last < length view.now }
-    requires whole { length plan.old ≡ length arena.now.tokens + 1 }
+    requires places { line.now.last < length layout.now.view.now }
+    requires whole { length plan.old ≡ length layout.now.arena.now.tokens + 1 }
     requires before { cursor.old.place ≤ line.now.first }
-    requires column { cursor.old.column ≡ input_before style.now arena.now view.now cursor.old.place }
-    ensures plan { plan.new ≡ decided_all plan.old (first_made style.now arena.now view.now line.now ∷ reported_made style.now arena.now view.now line.now) }
+    requires column { cursor.old.column ≡ input_before layout.now.style.now layout.now.arena.now layout.now.view.now cursor.old.place }
+    ensures plan { plan.new ≡ decided_all plan.old (first_made layout.now.style.now layout.now.arena.now layout.now.view.now line.now ∷ reported_made layout.now.style.now layout.now.arena.now layout.now.view.now line.now) }
     ensures len { length plan.new ≡ length plan.old }
     ensures place { cursor.new.place ≡ line.now.last + 1 }
-    ensures column { cursor.new.column ≡ input_before style.now arena.now view.now (line.now.last + 1) }
+    ensures column { cursor.new.column ≡ input_before layout.now.style.now layout.now.arena.now layout.now.view.now (line.now.last + 1) }
 {
+    let style = layout.style;
+    let arena = layout.arena;
+    let view = layout.view;
     let count = view.len();
     prove!(line.last < count);
-    decide_first(
-        style,
-        arena,
-        view,
-        classes,
-        line,
-        view.at(line.first).0,
-        plan,
-    );
+    decide_first(layout, line, view.at(line.first).0, plan);
     move_to(style, arena, view, line.first + 1, cursor);
     for k in line.first + 1..line.last + 1 {
         let id = view.at(k).0;

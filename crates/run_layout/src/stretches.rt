@@ -1,6 +1,6 @@
 //! Items of a view that follow one another in the text.
 
-ghost use Rattle.std.specs.Prelude.{◌≡◌, ◌<◌, ◌≤◌, ◌+◌, ◌-◌, IfSome, length};
+ghost use Rattle.std.specs.Prelude.{◌<◌, ◌≤◌, ◌+◌, ◌-◌, IfSome, length};
 ghost use Rattle.token_classes.specs.Viewed.{AreWithin};
 ghost use Rattle.token_arena.specs.Segments.{AreSegments};
 ghost use Rattle.run_layout.specs.Stretches.{AreFrom, IsRest};

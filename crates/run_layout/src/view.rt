@@ -11,54 +11,45 @@ ghost use Rattle.run_layout.specs.View.{IsViewLaid};
 use crate::broken::fixed_of;
 use crate::lines::lay_out_lines;
 use crate::report::Tally;
+use crate::view_layout::ViewLayout;
 use bumpalo::Bump;
 use comment_rows::place_comments;
 use line_joiner::join_of_classes;
-use line_tokens::{LineTok, NoMemory, ULine};
+use line_tokens::{NoMemory, ULine};
 use replacements::Plan;
-use std::alloc::Global;
-use style_table::Style;
-use token_arena::{TokenArena, View};
-use token_classes::TokenClass;
 
 /// Lays out a view: joins its short lines, and decides the gap before each of its items where it is open, that before
-/// trailing comments last. What came of the lines is noted. `lines` are the view's unwrapped lines, `classes` and `toks` those of its places.
+/// trailing comments last. What came of the lines is noted. `lines` are the view's unwrapped lines.
 pub fn lay_out_view(
-    alloc: Global,
-    style: &Style,
-    budget: u64,
-    arena: &TokenArena<'_, '_>,
-    view: &View<'_>,
-    classes: &[TokenClass],
-    toks: &[LineTok],
+    layout: &ViewLayout<'_>,
     number: u32,
     lines: &[ULine],
     plan: &mut Plan<'_>,
     tally: &mut Tally<'_>,
     run: &Bump,
 ) -> Result<(), NoMemory>
-    requires range { IsInRange style.now }
-    requires budget { budget ≤ 16000000 }
-    requires within { AreWithin arena.now view.now }
-    requires classes { classes.now ≡ classes_of arena.now view.now }
-    requires count { length toks.now ≡ length view.now }
-    requires tell { TellItems arena.now view.now toks.now }
-    requires cut { CutPlaces 0 (length view.now) lines.now }
-    requires whole { length plan.old ≡ length arena.now.tokens + 1 }
-    requires room { tally.old.searched + length view.now < 2 ^ 60 }
+    requires range { IsInRange layout.now.style.now }
+    requires budget { layout.now.budget ≤ 16000000 }
+    requires within { AreWithin layout.now.arena.now layout.now.view.now }
+    requires classes { layout.now.classes.now ≡ classes_of layout.now.arena.now layout.now.view.now }
+    requires count { length layout.now.tokens.now ≡ length layout.now.view.now }
+    requires tell { TellItems layout.now.arena.now layout.now.view.now layout.now.tokens.now }
+    requires cut { CutPlaces 0 (length layout.now.view.now) lines.now }
+    requires whole { length plan.old ≡ length layout.now.arena.now.tokens + 1 }
+    requires room { tally.old.searched + length layout.now.view.now < 2 ^ 60 }
     requires cheap { tally.old.cost ≤ tally.old.searched * 18446744073709551615 }
-    requires counted { IsCounted arena.now tally.old.lines }
-    ensures laid { OnOk result (IsViewLaid style.now budget arena.now view.now toks.now number plan.old lines.now plan.new tally.old tally.new) }
+    requires counted { IsCounted layout.now.arena.now tally.old.lines }
+    ensures laid { OnOk result (IsViewLaid layout.now.style.now layout.now.budget layout.now.arena.now layout.now.view.now layout.now.tokens.now number plan.old lines.now plan.new tally.old tally.new) }
     ensures len { OnOk result (length plan.new ≡ length plan.old) }
-    ensures room { OnOk result (tally.new.searched ≤ tally.old.searched + length view.now) }
+    ensures room { OnOk result (tally.new.searched ≤ tally.old.searched + length layout.now.view.now) }
     ensures cheap { OnOk result (tally.new.cost ≤ tally.new.searched * 18446744073709551615) }
-    ensures counted { OnOk result (IsCounted arena.now tally.new.lines) }
+    ensures counted { OnOk result (IsCounted layout.now.arena.now tally.new.lines) }
 {
-    let fixed = fixed_of(arena, toks, plan, run)?;
-    let rows = join_of_classes(style, classes, lines, toks, fixed, run)?;
-    lay_out_lines(
-        alloc, style, budget, arena, view, classes, toks, number, rows, plan, tally, run,
-    )?;
-    place_comments(style, toks, plan, run)?;
+    let style = layout.style;
+    let tokens = layout.tokens;
+    let fixed = fixed_of(layout.arena, tokens, plan, run)?;
+    let rows = join_of_classes(style, layout.classes, lines, tokens, fixed, run)?;
+    lay_out_lines(layout, number, rows, plan, tally, run)?;
+    place_comments(style, tokens, plan, run)?;
     Ok(())
 }

@@ -7,20 +7,20 @@ use Rattle.run_layout.proofs.lines.lay_out_lines.Goals as goal
 
 pub lay_out_line-requires-clause-places : goal.lay_out_line-requires-clause-places
 lay_out_line-requires-clause-places c =
-    (next_needs c.args.style.now c.args.arena.now c.args.view.now c.loop-line.cursor.place c.loop-line.cursor.column c.args.lines.now c.loop-line.line-index _ c.loop-line-test.true c.loop-line.invariant.ahead).within
+    (next_needs c.args.layout.now.style.now c.args.layout.now.arena.now c.args.layout.now.view.now c.loop-line.cursor.place c.loop-line.cursor.column c.args.lines.now c.loop-line.line-index _ c.loop-line-test.true c.loop-line.invariant.ahead).within
 
 pub lay_out_line-requires-clause-tell : goal.lay_out_line-requires-clause-tell
-lay_out_line-requires-clause-tell c = stand_for_items c.args.arena.now c.args.view.now c.args.toks.now c.requires.count c.requires.tell
+lay_out_line-requires-clause-tell c = stand_for_items c.args.layout.now.arena.now c.args.layout.now.view.now c.args.layout.now.tokens.now c.requires.count c.requires.tell
 
 pub token_at-requires : goal.token_at-requires
 token_at-requires c =
-    first_among c.args.style.now c.args.arena.now c.args.view.now c.args.toks.now c.loop-line.cursor.place c.loop-line.cursor.column c.args.lines.now c.loop-line.line-index _ c.requires.count c.loop-line-test.true c.loop-line.invariant.ahead
+    first_among c.args.layout.now.style.now c.args.layout.now.arena.now c.args.layout.now.view.now c.args.layout.now.tokens.now c.loop-line.cursor.place c.loop-line.cursor.column c.args.lines.now c.loop-line.line-index _ c.requires.count c.loop-line-test.true c.loop-line.invariant.ahead
 
 pub note_line-requires-clause-within : goal.note_line-requires-clause-within
 note_line-requires-clause-within c =
-    let within = first_within c.args.style.now c.args.arena.now c.args.view.now c.loop-line.cursor.place c.loop-line.cursor.column c.args.lines.now c.loop-line.line-index _ c.loop-line-test.true c.loop-line.invariant.ahead in
-    first_there c.args.style.now c.args.arena.now c.args.view.now c.loop-line.cursor.place c.loop-line.cursor.column c.args.lines.now c.loop-line.line-index _ c.token_at.result.now.id.0 c.loop-line-test.true c.loop-line.invariant.ahead
-    c.requires.within (first_told c.args.arena.now c.args.view.now c.args.toks.now _ c.token_at.result.now (stand_for_items c.args.arena.now c.args.view.now c.args.toks.now c.requires.count c.requires.tell) within c.token_at.ensures)
+    let within = first_within c.args.layout.now.style.now c.args.layout.now.arena.now c.args.layout.now.view.now c.loop-line.cursor.place c.loop-line.cursor.column c.args.lines.now c.loop-line.line-index _ c.loop-line-test.true c.loop-line.invariant.ahead in
+    first_there c.args.layout.now.style.now c.args.layout.now.arena.now c.args.layout.now.view.now c.loop-line.cursor.place c.loop-line.cursor.column c.args.lines.now c.loop-line.line-index _ c.token_at.result.now.id.0 c.loop-line-test.true c.loop-line.invariant.ahead
+    c.requires.within (first_told c.args.layout.now.arena.now c.args.layout.now.view.now c.args.layout.now.tokens.now _ c.token_at.result.now (stand_for_items c.args.layout.now.arena.now c.args.layout.now.view.now c.args.layout.now.tokens.now c.requires.count c.requires.tell) within c.token_at.ensures)
 
 pub loop-line-preserved : goal.loop-line-preserved
 loop-line-preserved c =
@@ -28,21 +28,21 @@ loop-line-preserved c =
     let i = c.loop-line.line-index in
     let made = c.in_ok-laid.ensures in
     let told = c.in_ok-note_line.ensures in
-    let within = first_within c.args.style.now c.args.arena.now c.args.view.now c.loop-line.cursor.place c.loop-line.cursor.column c.args.lines.now i _ c.loop-line-test.true v.ahead in
+    let within = first_within c.args.layout.now.style.now c.args.layout.now.arena.now c.args.layout.now.view.now c.loop-line.cursor.place c.loop-line.cursor.column c.args.lines.now i _ c.loop-line-test.true v.ahead in
     record {
       len = made.len ∙ v.len;
-      ahead = ahead_more c.args.style.now c.args.arena.now c.args.view.now c.loop-line.cursor.place c.loop-line.cursor.column c.lay_out_line.new.cursor.place c.lay_out_line.new.cursor.column c.args.lines.now i _ c.loop-line-test.true v.ahead
+      ahead = ahead_more c.args.layout.now.style.now c.args.layout.now.arena.now c.args.layout.now.view.now c.loop-line.cursor.place c.loop-line.cursor.column c.lay_out_line.new.cursor.place c.lay_out_line.new.cursor.column c.args.lines.now i _ c.loop-line-test.true v.ahead
           made.before made.column;
       room = omega (arith, told.room, v.room);
       cheap = told.cheap;
       counted = told.counted;
-      on = line_done c.args.style.now c.args.budget c.args.arena.now c.args.view.now c.args.toks.now c.args.number c.args.plan.now c.args.lines.now c.args.tally.now c.loop-line.tally c.note_line.new.tally c.loop-line.plan c.lay_out_line.new.plan i _
-          (item_at c.args.arena.now c.token_at.result.now.id.0).line c.in_ok-laid.laid c.loop-line-test.true v.on made.laid
-          (ap (λ x. (item_at c.args.arena.now x).line) (first_told c.args.arena.now c.args.view.now c.args.toks.now _ c.token_at.result.now (stand_for_items c.args.arena.now c.args.view.now c.args.toks.now c.requires.count c.requires.tell) within c.token_at.ensures))
+      on = line_done c.args.layout.now.style.now c.args.layout.now.budget c.args.layout.now.arena.now c.args.layout.now.view.now c.args.layout.now.tokens.now c.args.number c.args.plan.now c.args.lines.now c.args.tally.now c.loop-line.tally c.note_line.new.tally c.loop-line.plan c.lay_out_line.new.plan i _
+          (item_at c.args.layout.now.arena.now c.token_at.result.now.id.0).line c.in_ok-laid.laid c.loop-line-test.true v.on made.laid
+          (ap (λ x. (item_at c.args.layout.now.arena.now x).line) (first_told c.args.layout.now.arena.now c.args.layout.now.view.now c.args.layout.now.tokens.now _ c.token_at.result.now (stand_for_items c.args.layout.now.arena.now c.args.layout.now.view.now c.args.layout.now.tokens.now c.requires.count c.requires.tell) within c.token_at.ensures))
           told.reports told.searched told.cost;
     }
 
 pub returns-clause-laid : goal.returns-clause-laid
 returns-clause-laid c =
-    lines_end c.args.style.now c.args.budget c.args.arena.now c.args.view.now c.args.toks.now c.args.number c.args.plan.now c.args.lines.now _ c.args.tally.now c.loop-line.tally c.loop-line.plan
+    lines_end c.args.layout.now.style.now c.args.layout.now.budget c.args.layout.now.arena.now c.args.layout.now.view.now c.args.layout.now.tokens.now c.args.number c.args.plan.now c.args.lines.now _ c.args.tally.now c.loop-line.tally c.loop-line.plan
     (drop_of_length-le c.args.lines.now c.loop-line-test.false) c.loop-line.invariant.on

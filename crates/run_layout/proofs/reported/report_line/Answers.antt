@@ -1,12 +1,18 @@
-use Rattle.std.proofs.Common.{◌≡◌, ◌∙◌, ◌+◌, ◌-◌, suc, ap, arith}
+use Rattle.std.proofs.Common.{◌≡◌, ◌∙◌, ◌<◌, ◌+◌, ◌-◌, suc, get_or, length, ap, arith}
 use Rattle.run_layout.proofs.Reporting.{passed, old_more}
 use Rattle.run_layout.proofs.reported.report_line.Goals as goal
 
+pub decide-requires : goal.decide-requires
+decide-requires c =
+    let layout = c.args.layout.now in
+    let within : get_or layout.view.now c.loop-k.k 0 < length layout.arena.now.tokens = c.requires.items c.loop-k.k 0 (omega (arith, c.loop-k-test.true, c.requires.places)) in
+    omega (arith, within, c.at-id.ensures 0, c.loop-k.invariant.len, c.requires.whole)
+
 pub loop-k-preserved : goal.loop-k-preserved
 loop-k-preserved c =
-    let style = c.args.style.now in
-    let arena = c.args.arena.now in
-    let ids = c.args.view.now in
+    let style = c.args.layout.now.style.now in
+    let arena = c.args.layout.now.arena.now in
+    let ids = c.args.layout.now.view.now in
     let last = c.args.line.now.last in
     let k = c.loop-k.k in
     let v = c.loop-k.invariant in

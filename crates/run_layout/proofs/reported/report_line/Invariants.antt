@@ -7,7 +7,7 @@ use Rattle.run_layout.proofs.reported.report_line.Given as goal
 abbrev pub invariant-loop-k : goal.invariant-loop-k
 invariant-loop-k l = record {
   place : l.cursor.place ≡ l.k;
-  column : l.cursor.column ≡ input_before l.style l.arena l.view l.k;
+  column : l.cursor.column ≡ input_before l.layout.style.now l.layout.arena.now l.layout.view.now l.k;
   len : length l.plan ≡ length l.initial.plan;
-  rest : decided_all l.plan (old_from l.style l.arena l.view l.cursor.column l.k (l.line.last + 1 - l.k)) ≡ decided_all l.initial.plan (reported_made l.style l.arena l.view l.line);
+  rest : decided_all l.plan (old_from l.layout.style.now l.layout.arena.now l.layout.view.now l.cursor.column l.k (l.line.last + 1 - l.k)) ≡ decided_all l.initial.plan (reported_made l.layout.style.now l.layout.arena.now l.layout.view.now l.line);
 }

@@ -9,7 +9,7 @@ use Rattle.run_layout.proofs.view.lay_out_view.Goals as goal
 
 pub fixed_of-requires-clause-within : goal.fixed_of-requires-clause-within
 fixed_of-requires-clause-within c = λ k d below.
-    let within = told_within c.args.arena.now c.args.view.now c.args.toks.now c.requires.tell c.requires.count c.requires.within k d below in
+    let within = told_within c.args.layout.now.arena.now c.args.layout.now.view.now c.args.layout.now.tokens.now c.requires.tell c.requires.count c.requires.within k d below in
     omega (arith, within, c.requires.whole)
 
 pub join_of_classes-requires-clause-same : goal.join_of_classes-requires-clause-same
@@ -22,18 +22,18 @@ pub lay_out_lines-requires-clause-cut : goal.lay_out_lines-requires-clause-cut
 lay_out_lines-requires-clause-cut c = subst (λ n. CutPlaces 0 n c.in_ok-rows.rows.now) c.requires.count c.in_ok-rows.ensures.cut
 
 pub lay_out_lines-requires-clause-room : goal.lay_out_lines-requires-clause-room
-lay_out_lines-requires-clause-room c = omega (arith, cut_count 0 (length c.args.toks.now) c.in_ok-rows.rows.now c.in_ok-rows.ensures.cut, c.requires.count, c.requires.room)
+lay_out_lines-requires-clause-room c = omega (arith, cut_count 0 (length c.args.layout.now.tokens.now) c.in_ok-rows.rows.now c.in_ok-rows.ensures.cut, c.requires.count, c.requires.room)
 
 pub place_comments-requires-clause-within : goal.place_comments-requires-clause-within
 place_comments-requires-clause-within c = λ k d below.
-    let within = told_within c.args.arena.now c.args.view.now c.args.toks.now c.requires.tell c.requires.count c.requires.within k d below in
+    let within = told_within c.args.layout.now.arena.now c.args.layout.now.view.now c.args.layout.now.tokens.now c.requires.tell c.requires.count c.requires.within k d below in
     omega (arith, within, c.requires.whole, c.in_ok-lay_out_lines.ensures.len)
 
 pub returns-clause-laid : goal.returns-clause-laid
 returns-clause-laid c =
-    view_laid c.args.style.now c.args.budget c.args.arena.now c.args.view.now c.args.toks.now c.args.number c.args.plan.now c.args.lines.now c.in_ok-rows.rows.now c.args.classes.now c.in_ok-fixed.fixed.now c.lay_out_lines.new.plan c.place_comments.new.plan
-    c.args.tally.now c.lay_out_lines.new.tally (stand_for_items c.args.arena.now c.args.view.now c.args.toks.now c.requires.count c.requires.tell) c.requires.classes c.in_ok-fixed.ensures c.in_ok-rows.ensures.lines
+    view_laid c.args.layout.now.style.now c.args.layout.now.budget c.args.layout.now.arena.now c.args.layout.now.view.now c.args.layout.now.tokens.now c.args.number c.args.plan.now c.args.lines.now c.in_ok-rows.rows.now c.args.layout.now.classes.now c.in_ok-fixed.fixed.now c.lay_out_lines.new.plan c.place_comments.new.plan
+    c.args.tally.now c.lay_out_lines.new.tally (stand_for_items c.args.layout.now.arena.now c.args.layout.now.view.now c.args.layout.now.tokens.now c.requires.count c.requires.tell) c.requires.classes c.in_ok-fixed.ensures c.in_ok-rows.ensures.lines
     c.in_ok-lay_out_lines.ensures.laid c.in_ok-place_comments.ensures.plan
 
 pub returns-clause-room : goal.returns-clause-room
-returns-clause-room c = omega (arith, c.in_ok-lay_out_lines.ensures.room, cut_count 0 (length c.args.toks.now) c.in_ok-rows.rows.now c.in_ok-rows.ensures.cut, c.requires.count)
+returns-clause-room c = omega (arith, c.in_ok-lay_out_lines.ensures.room, cut_count 0 (length c.args.layout.now.tokens.now) c.in_ok-rows.rows.now c.in_ok-rows.ensures.cut, c.requires.count)
