@@ -33,6 +33,18 @@ def bare(text):
     return WHITE.sub(b"", text)
 
 
+def has_other_word_characters(spelling):
+    """Whether the compilers take a character into a word that Unicode's XID leaves out (Annex D of C11)."""
+    return any(ord(it) > 127 and not ("a" + it).isidentifier() for it in spelling.decode("utf-8", "ignore"))
+
+
+def may_turn_its_line_ends(text, once):
+    """Whether a splice with its line end went, and the output has more line ends of the other kind ("Line ends")."""
+    ends = [(it.count(b"\r\n"), it.count(b"\n") - it.count(b"\r\n")) for it in (text, once)]
+    turned = [(two > one, one > two) for two, one in ends]
+    return turned[0] != turned[1] and len(SPLICED.findall(text)) > len(SPLICED.findall(once))
+
+
 def is_read_otherwise(text):
     """Whether the compilers read it otherwise than C11, whatever its tokens are."""
     return bool(OTHERWISE.search(text))
@@ -92,6 +104,8 @@ class Tokens:
                 self.add_comment(None, raw, line, column)
             # An empty character constant is no item of C11, and the compilers go on behind it.
             self.is_read_otherwise |= is_quote and spelling.endswith(b"''") or spelling in EMPTY
+        elif kind in (b"raw_identifier", b"numeric_constant"):
+            self.is_read_otherwise |= has_other_word_characters(spelling)
         if not spelling:
             self.is_begun |= b"StartOfLine" in flags
         else:
