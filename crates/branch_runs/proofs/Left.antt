@@ -172,5 +172,5 @@ leaves_out nodes at from till slots new node fits is none_before none_now h =
     let here : (x : Around) × (rest_at marks at ≡ (nothing, x)) = out_of marks at node fits is in
     rw (end, none_before, none_now) (from_here here.1 (subst (λ xs. Room (rest_at marks at) from till xs) none_before h) (λ k. record { left = refl; room = k.0; small = k.1; fits = tt }))
 
-pub pushed : (texts new : List SeenText) (seen : SeenText) (xs ys : List SeenText) → new ≡ texts ++ seen ∷ [] → xs ≡ seen ∷ ys → new ++ ys ≡ texts ++ xs
-pushed texts new seen xs ys is has = rw (is, has) (append_assoc texts (seen ∷ []) ys)
+pub pushed : (texts new here xs ys : List SeenText) → new ≡ texts ++ here → here ++ ys ≡ xs → new ++ ys ≡ texts ++ xs
+pushed texts new here xs ys is has = rw (is, ← has) (append_assoc texts here ys)

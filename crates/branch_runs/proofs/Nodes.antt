@@ -4,6 +4,8 @@ use Rattle.branch_runs.specs.declared.mark.MarkKind.{MarkKind}
 use Rattle.branch_runs.specs.declared.mark.MarkKind.TheVariants.{Text, IfZero, Opens, Branch, LastBranch, Ends, Flat}
 use Rattle.branch_runs.specs.declared.mark.Mark.{Mark}
 use Rattle.branch_runs.specs.declared.node.Node.{Node}
+use Rattle.branch_runs.specs.declared.seen.SeenText.{SeenText}
+use Rattle.branch_runs.specs.Seen.{if_text}
 use Rattle.std.proofs.lemmas.List.{map-append}
 use Rattle.branch_runs.specs.Tree.{Group, Branches, nothing, none, branch}
 use Rattle.branch_runs.specs.Reading.{Around, branches_of, group_of, outside, rest_with, rest_of}
@@ -49,6 +51,16 @@ rest_here marks at node k fits is = ap rest_of fits.here ∙ ap (λ k. rest_with
 pub is_branch : (k : MarkKind) → (k ≡ Branch) ⊎ (k ≡ LastBranch) → IsBranch k
 is_branch k (inl e) = subst IsBranch (sym e) tt
 is_branch k (inr e) = subst IsBranch (sym e) tt
+
+-- what begins a branch is no text
+pub branch_no_text : (k : MarkKind) (seen : SeenText) → IsBranch k → if_text k seen ≡ []
+branch_no_text Branch seen h = refl
+branch_no_text LastBranch seen h = refl
+branch_no_text Text seen h = absurd h
+branch_no_text Flat seen h = absurd h
+branch_no_text IfZero seen h = absurd h
+branch_no_text Opens seen h = absurd h
+branch_no_text Ends seen h = absurd h
 
 pub pushed-stretch : (stretches new : List Stretch) (stretch : Stretch) (xs ys : List (ℕ × ℕ)) → new ≡ stretches ++ stretch ∷ [] → xs ≡ bounds_of stretch ∷ ys
     → map bounds_of new ++ ys ≡ map bounds_of stretches ++ xs

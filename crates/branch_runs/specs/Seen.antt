@@ -1,5 +1,8 @@
 -- The texts of a group, with the runs that see them.
 use Rattle.std.specs.Prelude.{◌<◌, ◌≤◌, ℕ, ◌+◌, ◌^◌, nat_le, nat_lt, min, Bool, true, false, ◌&&◌, List, [], ◌∷◌, ◌++◌, if◌then◌else◌, ⊤}
+use Rattle.branch_runs.specs.declared.mark.MarkKind.{MarkKind}
+use Rattle.branch_runs.specs.declared.mark.MarkKind.TheVariants.{Text}
+use Rattle.branch_runs.specs.declared.node.Node.{Node}
 use Rattle.branch_runs.specs.declared.seen.SeenText.{SeenText}
 use Rattle.branch_runs.specs.declared.seen.OpenSlot.{OpenSlot}
 use Rattle.branch_runs.specs.declared.seen.Place.{Place}
@@ -33,6 +36,15 @@ taken [] r = []
 taken (seen ∷ texts) r = if is_seen seen r then (seen.first, seen.end) ∷ taken texts r else taken texts r
 
 -- What the code keeps.
+
+-- a section of this kind for the texts of a pass: it is one, or nothing
+abbrev pub if_text : MarkKind → SeenText → List SeenText
+if_text Text seen = seen ∷ []
+if_text kind seen = []
+
+-- what the section at a place adds to the texts
+abbrev pub text_of : Node → Place → List SeenText
+text_of node place = if_text node.kind (record { first = node.first; end = node.end; from = place.from; till = place.till })
 
 -- the texts that are left behind the innermost group, where the conditionals around it have these slots
 abbrev pub seen_around : Around → List OpenSlot → List SeenText

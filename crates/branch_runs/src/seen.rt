@@ -1,16 +1,15 @@
 //! The runs that see each text.
 
-ghost use Rattle.std.specs.Prelude.{◌≡◌, ◌≢◌, ◌<◌, ◌≤◌, ◌+◌, ◌^◌, map, length, IfOk, slice_index_or};
+ghost use Rattle.std.specs.Prelude.{◌≡◌, ◌<◌, ◌≤◌, ◌+◌, ◌++◌, ◌^◌, map, length, IfOk, slice_index_or};
 ghost use Rattle.c_chars.specs.declared.TheConstants.{LIMIT};
 ghost use Rattle.token_arena.specs.Segments.{AscendFrom};
-ghost use Rattle.branch_runs.specs.declared.mark.MarkKind.TheVariants as MarkKind;
 ghost use Rattle.branch_runs.specs.Links.{node_mark};
 ghost use Rattle.branch_runs.specs.Reading.{read};
 ghost use Rattle.branch_runs.specs.Runs.{need};
 ghost use Rattle.branch_runs.specs.Cut.{IsCutFrom};
 ghost use Rattle.branch_runs.specs.Fits.{FitNodes, rest_at, no_node};
 ghost use Rattle.branch_runs.specs.Inside.{text_bounds};
-ghost use Rattle.branch_runs.specs.Seen.{seen_texts, seen_left, FitPlace, till_of};
+ghost use Rattle.branch_runs.specs.Seen.{seen_texts, seen_left, text_of, FitPlace, till_of};
 
 use crate::node::Node;
 use crate::stack::Stack;
@@ -62,14 +61,29 @@ fn till_of(node: &Node, from: u32, till: u32) -> u32
     }
 }
 
-// Where a pass goes on behind a directive.
+// Adds a section to the texts where it is one.
+fn push_text(texts: &mut Vec<SeenText, &Bump>, node: Node, place: Place) -> Result<(), NoMemory>
+    ensures { IfOk result (λ _. texts.new.items ≡ texts.old.items ++ text_of node place) }
+{
+    if let MarkKind::Text = node.kind {
+        texts.push(SeenText {
+            first: node.first,
+            end: node.end,
+            from: place.from,
+            till: place.till,
+        })?;
+    }
+    Ok(())
+}
+
+// Where a pass goes on behind a section.
 fn step(nodes: &[Node], place: Place, slots: &mut Stack<'_, OpenSlot>) -> Result<Place, NoMemory>
     requires fit { FitNodes (map node_mark nodes.now) 0 nodes.now }
     requires small { length nodes.now ≤ LIMIT }
     requires within { place.at < length nodes.now }
     requires runs { FitPlace (rest_at (map node_mark nodes.now) place.at) place slots.old }
-    requires directive { (slice_index_or nodes.now place.at no_node).kind ≢ MarkKind.Text }
-    ensures left { IfOk result (λ p. seen_left (rest_at (map node_mark nodes.now) p.at) p.from p.till slots.new
+    ensures left { IfOk result (λ p. text_of (slice_index_or nodes.now place.at no_node) place
+        ++ seen_left (rest_at (map node_mark nodes.now) p.at) p.from p.till slots.new
         ≡ seen_left (rest_at (map node_mark nodes.now) place.at) place.from place.till slots.old) }
     ensures runs { IfOk result (λ p. FitPlace (rest_at (map node_mark nodes.now) p.at) p slots.new) }
     ensures after { IfOk result (λ p. place.at < p.at) }
@@ -158,18 +172,8 @@ pub(crate) fn seen_texts<'a>(
         till: runs,
     };
     while (place.at as usize) < nodes.len() {
-        let node = nodes[place.at as usize];
-        if let MarkKind::Text = node.kind {
-            texts.push(SeenText {
-                first: node.first,
-                end: node.end,
-                from: place.from,
-                till: place.till,
-            })?;
-            place.at += 1;
-        } else {
-            place = step(nodes, place, &mut slots)?;
-        }
+        push_text(&mut texts, nodes[place.at as usize], place)?;
+        place = step(nodes, place, &mut slots)?;
     }
     Ok(into_bump_slice(texts))
 }

@@ -3,23 +3,17 @@ use Rattle.std.proofs.lemmas.List.{append-nil}
 use Rattle.branch_runs.specs.Links.{node_mark}
 use Rattle.branch_runs.specs.Fits.{no_node}
 use Rattle.branch_runs.specs.Reading.{read}
-use Rattle.branch_runs.specs.Seen.{seen_texts}
-use Rattle.branch_runs.proofs.Nodes.{fits_at}
-use Rattle.branch_runs.proofs.Left.{left_text, room_text, none_left, pushed}
+use Rattle.branch_runs.specs.Seen.{seen_texts, text_of}
+use Rattle.branch_runs.proofs.Left.{none_left, pushed}
 use Rattle.branch_runs.proofs.Ascending.{seen_ascend}
 use Rattle.branch_runs.proofs.seen.seen_texts.Goals as goal
 
-pub loop-place-preserved-in-Text : goal.loop-place-preserved-in-Text
-loop-place-preserved-in-Text c =
-    let marks = map node_mark c.args.nodes.now in
-    let p = c.loop-place.place in
-    let node = get_or c.args.nodes.now p.at no_node in
-    let fits = fits_at marks p.at c.args.nodes.now no_node c.requires.fit c.loop-place-test.true in
-    record {
-      left = pushed c.loop-place.texts.items c.push.new.self.items (record { first = node.first; end = node.end; from = p.from; till = p.till }) _ _ c.in_ok-push.ensures.items
-          (left_text marks p.at p.from p.till c.loop-place.slots node fits c.in-Text.is) ∙ c.loop-place.invariant.left;
-      fits = room_text marks p.at p.from p.till c.loop-place.slots node fits c.in-Text.is c.loop-place.invariant.fits;
-    }
+pub loop-place-preserved : goal.loop-place-preserved
+loop-place-preserved c = record {
+  left = pushed c.loop-place.texts.items c.push_text.new.texts.items (text_of (get_or c.args.nodes.now c.loop-place.place.at no_node) c.loop-place.place) _ _
+      c.in_ok-push_text.ensures c.in_ok-place.ensures.left ∙ c.loop-place.invariant.left;
+  fits = c.in_ok-place.ensures.runs;
+}
 
 pub returns-clause-texts : goal.returns-clause-texts
 returns-clause-texts c =

@@ -1,29 +1,37 @@
-use Rattle.std.proofs.Common.{arith, ◌≡◌, ◌≢◌, ◌+◌, ◌<◌, ◌⊎◌, subst, inl, inr, ℕ, List, ◌∷◌, map, length, get_or}
+use Rattle.std.proofs.Common.{arith, ◌≡◌, ◌+◌, ◌++◌, ◌<◌, ◌⊎◌, sym, subst, inl, inr, ℕ, List, ◌∷◌, map, length, get_or}
 use Rattle.branch_runs.specs.declared.mark.MarkKind.TheVariants.{Text, Flat, Branch, LastBranch, Ends}
 use Rattle.branch_runs.specs.declared.node.Node.{Node}
 use Rattle.branch_runs.specs.declared.seen.OpenSlot.{OpenSlot}
+use Rattle.branch_runs.specs.declared.seen.Place.{Place}
 use Rattle.branch_runs.specs.Links.{node_mark}
 use Rattle.branch_runs.specs.Fits.{FitsNode, FitNodes, rest_at, no_node}
-use Rattle.branch_runs.specs.Seen.{till_of}
-use Rattle.branch_runs.proofs.Nodes.{fits_at, is_branch}
-use Rattle.branch_runs.proofs.Left.{Leaves, Room, leaves_opens, leaves_off, leaves_branch, leaves_ends, leaves_flat, leaves_out}
+use Rattle.branch_runs.specs.Seen.{seen_left, text_of, till_of}
+use Rattle.branch_runs.proofs.Nodes.{fits_at, is_branch, branch_no_text}
+use Rattle.branch_runs.proofs.Left.{Leaves, Room, leaves_opens, leaves_off, leaves_branch, leaves_ends, leaves_flat, leaves_out, left_text, room_text}
 use Rattle.branch_runs.proofs.seen.step.Goals as goal
 
 here : (nodes : List Node) (at : ℕ) → FitNodes (map node_mark nodes) 0 nodes → at < length nodes → FitsNode (map node_mark nodes) at (get_or nodes at no_node)
 here nodes at fit within = fits_at (map node_mark nodes) at nodes no_node fit within
 
--- no directive is a text
-flat : (nodes : List Node) (at from till : ℕ) (slots : List OpenSlot) → FitNodes (map node_mark nodes) 0 nodes → at < length nodes
-    → ((get_or nodes at no_node).kind ≡ Text) ⊎ ((get_or nodes at no_node).kind ≡ Flat) → (get_or nodes at no_node).kind ≢ Text → Room (rest_at (map node_mark nodes) at) from till slots
-    → Leaves (rest_at (map node_mark nodes) at) (rest_at (map node_mark nodes) (at + 1)) from till from till slots slots
-flat nodes at from till slots fit within (inl is) other h = absurd (other is)
-flat nodes at from till slots fit within (inr is) other h = leaves_flat (map node_mark nodes) at from till slots (get_or nodes at no_node) (here nodes at fit within) is h
+-- a text, or a directive that does nothing to the conditionals
+flat_left : (nodes : List Node) (place : Place) (slots : List OpenSlot) → FitNodes (map node_mark nodes) 0 nodes → place.at < length nodes
+    → ((get_or nodes place.at no_node).kind ≡ Text) ⊎ ((get_or nodes place.at no_node).kind ≡ Flat) → Room (rest_at (map node_mark nodes) place.at) place.from place.till slots
+    → text_of (get_or nodes place.at no_node) place ++ seen_left (rest_at (map node_mark nodes) (place.at + 1)) place.from place.till slots
+    ≡ seen_left (rest_at (map node_mark nodes) place.at) place.from place.till slots
+flat_left nodes place slots fit within (inl is) h = rw is (sym (left_text (map node_mark nodes) place.at place.from place.till slots (get_or nodes place.at no_node) (here nodes place.at fit within) is))
+flat_left nodes place slots fit within (inr is) h = rw is (leaves_flat (map node_mark nodes) place.at place.from place.till slots (get_or nodes place.at no_node) (here nodes place.at fit within) is h).left
+
+flat_room : (nodes : List Node) (at from till : ℕ) (slots : List OpenSlot) → FitNodes (map node_mark nodes) 0 nodes → at < length nodes
+    → ((get_or nodes at no_node).kind ≡ Text) ⊎ ((get_or nodes at no_node).kind ≡ Flat) → Room (rest_at (map node_mark nodes) at) from till slots
+    → Room (rest_at (map node_mark nodes) (at + 1)) from till slots
+flat_room nodes at from till slots fit within (inl is) h = room_text (map node_mark nodes) at from till slots (get_or nodes at no_node) (here nodes at fit within) is h
+flat_room nodes at from till slots fit within (inr is) h = let p = leaves_flat (map node_mark nodes) at from till slots (get_or nodes at no_node) (here nodes at fit within) is h in (p.room, p.small, p.fits)
 
 pub returns-in-Text-clause-left : goal.returns-in-Text-clause-left
-returns-in-Text-clause-left c = (flat c.args.nodes.now c.args.place.at c.args.place.from c.args.place.till c.args.slots.now c.requires.fit c.requires.within c.in-Text.is c.requires.directive c.requires.runs).left
+returns-in-Text-clause-left c = flat_left c.args.nodes.now c.args.place c.args.slots.now c.requires.fit c.requires.within c.in-Text.is c.requires.runs
 
 pub returns-in-Text-clause-runs : goal.returns-in-Text-clause-runs
-returns-in-Text-clause-runs c = let p = flat c.args.nodes.now c.args.place.at c.args.place.from c.args.place.till c.args.slots.now c.requires.fit c.requires.within c.in-Text.is c.requires.directive c.requires.runs in (p.room, p.small, p.fits)
+returns-in-Text-clause-runs c = flat_room c.args.nodes.now c.args.place.at c.args.place.from c.args.place.till c.args.slots.now c.requires.fit c.requires.within c.in-Text.is c.requires.runs
 
 pub overflow_add-next : goal.overflow_add-next
 overflow_add-next c = let p = leaves_opens (map node_mark c.args.nodes.now) c.args.place.at c.args.place.from c.args.place.till c.args.slots.now _ (here c.args.nodes.now c.args.place.at c.requires.fit c.requires.within) c.in-Opens.is c.requires.runs in omega (arith, p.fits.0, p.fits.2)
@@ -32,13 +40,13 @@ pub till_of-requires : goal.till_of-requires
 till_of-requires c = let p = leaves_opens (map node_mark c.args.nodes.now) c.args.place.at c.args.place.from c.args.place.till c.args.slots.now _ (here c.args.nodes.now c.args.place.at c.requires.fit c.requires.within) c.in-Opens.is c.requires.runs in omega (arith, p.fits.0, p.fits.2)
 
 pub returns-in_ok-push-in-Opens-clause-left : goal.returns-in_ok-push-in-Opens-clause-left
-returns-in_ok-push-in-Opens-clause-left c = rw (c.in_ok-push-in-Opens.ensures.ok, c.till_of.ensures) (leaves_opens (map node_mark c.args.nodes.now) c.args.place.at c.args.place.from c.args.place.till c.args.slots.now _ (here c.args.nodes.now c.args.place.at c.requires.fit c.requires.within) c.in-Opens.is c.requires.runs).left
+returns-in_ok-push-in-Opens-clause-left c = rw (c.in-Opens.is, c.in_ok-push-in-Opens.ensures.ok, c.till_of.ensures) (leaves_opens (map node_mark c.args.nodes.now) c.args.place.at c.args.place.from c.args.place.till c.args.slots.now _ (here c.args.nodes.now c.args.place.at c.requires.fit c.requires.within) c.in-Opens.is c.requires.runs).left
 
 pub returns-in_ok-push-in-Opens-clause-runs : goal.returns-in_ok-push-in-Opens-clause-runs
 returns-in_ok-push-in-Opens-clause-runs c = let p = leaves_opens (map node_mark c.args.nodes.now) c.args.place.at c.args.place.from c.args.place.till c.args.slots.now _ (here c.args.nodes.now c.args.place.at c.requires.fit c.requires.within) c.in-Opens.is c.requires.runs in rw (c.in_ok-push-in-Opens.ensures.ok, c.till_of.ensures) (p.room, p.small, p.fits)
 
 pub returns-in_ok-push-in-IfZero-clause-left : goal.returns-in_ok-push-in-IfZero-clause-left
-returns-in_ok-push-in-IfZero-clause-left c = rw c.in_ok-push-in-IfZero.ensures.ok (leaves_off (map node_mark c.args.nodes.now) c.args.place.at c.args.place.from c.args.place.till c.args.slots.now _ (here c.args.nodes.now c.args.place.at c.requires.fit c.requires.within) c.in-IfZero.is c.requires.runs).left
+returns-in_ok-push-in-IfZero-clause-left c = rw (c.in-IfZero.is, c.in_ok-push-in-IfZero.ensures.ok) (leaves_off (map node_mark c.args.nodes.now) c.args.place.at c.args.place.from c.args.place.till c.args.slots.now _ (here c.args.nodes.now c.args.place.at c.requires.fit c.requires.within) c.in-IfZero.is c.requires.runs).left
 
 pub returns-in_ok-push-in-IfZero-clause-runs : goal.returns-in_ok-push-in-IfZero-clause-runs
 returns-in_ok-push-in-IfZero-clause-runs c = let p = leaves_off (map node_mark c.args.nodes.now) c.args.place.at c.args.place.from c.args.place.till c.args.slots.now _ (here c.args.nodes.now c.args.place.at c.requires.fit c.requires.within) c.in-IfZero.is c.requires.runs in rw c.in_ok-push-in-IfZero.ensures.ok (p.room, p.small, p.fits)
@@ -61,13 +69,13 @@ pub till_of-requires-in-Some : goal.till_of-requires-in-Some
 till_of-requires-in-Some c = let p = on_branch c.args.nodes.now c.args.place.at c.args.place.from c.args.place.till c.args.slots.now c.in-Some.slot c.pop.new.self (here c.args.nodes.now c.args.place.at c.requires.fit c.requires.within) c.in-Branch.is c.in-Some.ensures c.requires.runs in omega (arith, p.fits.0, p.fits.2)
 
 pub returns-in_ok-push-in-Some-clause-left : goal.returns-in_ok-push-in-Some-clause-left
-returns-in_ok-push-in-Some-clause-left c = rw (c.in_ok-push-in-Some.ensures.ok, c.till_of-in-Some.ensures) (on_branch c.args.nodes.now c.args.place.at c.args.place.from c.args.place.till c.args.slots.now c.in-Some.slot c.pop.new.self (here c.args.nodes.now c.args.place.at c.requires.fit c.requires.within) c.in-Branch.is c.in-Some.ensures c.requires.runs).left
+returns-in_ok-push-in-Some-clause-left c = rw (branch_no_text _ _ (is_branch _ c.in-Branch.is), c.in_ok-push-in-Some.ensures.ok, c.till_of-in-Some.ensures) (on_branch c.args.nodes.now c.args.place.at c.args.place.from c.args.place.till c.args.slots.now c.in-Some.slot c.pop.new.self (here c.args.nodes.now c.args.place.at c.requires.fit c.requires.within) c.in-Branch.is c.in-Some.ensures c.requires.runs).left
 
 pub returns-in_ok-push-in-Some-clause-runs : goal.returns-in_ok-push-in-Some-clause-runs
 returns-in_ok-push-in-Some-clause-runs c = let p = on_branch c.args.nodes.now c.args.place.at c.args.place.from c.args.place.till c.args.slots.now c.in-Some.slot c.pop.new.self (here c.args.nodes.now c.args.place.at c.requires.fit c.requires.within) c.in-Branch.is c.in-Some.ensures c.requires.runs in rw (c.in_ok-push-in-Some.ensures.ok, c.till_of-in-Some.ensures) (p.room, p.small, p.fits)
 
 pub returns-in-None-clause-left : goal.returns-in-None-clause-left
-returns-in-None-clause-left c = (leaves_out c.args.nodes.now c.args.place.at c.args.place.from c.args.place.till c.args.slots.now c.pop.new.self _ (here c.args.nodes.now c.args.place.at c.requires.fit c.requires.within) (inl (is_branch _ c.in-Branch.is)) c.in-None.ensures.0 c.in-None.ensures.1 c.requires.runs).left
+returns-in-None-clause-left c = rw (branch_no_text _ _ (is_branch _ c.in-Branch.is)) (leaves_out c.args.nodes.now c.args.place.at c.args.place.from c.args.place.till c.args.slots.now c.pop.new.self _ (here c.args.nodes.now c.args.place.at c.requires.fit c.requires.within) (inl (is_branch _ c.in-Branch.is)) c.in-None.ensures.0 c.in-None.ensures.1 c.requires.runs).left
 
 pub returns-in-None-clause-runs : goal.returns-in-None-clause-runs
 returns-in-None-clause-runs c = let p = leaves_out c.args.nodes.now c.args.place.at c.args.place.from c.args.place.till c.args.slots.now c.pop.new.self _ (here c.args.nodes.now c.args.place.at c.requires.fit c.requires.within) (inl (is_branch _ c.in-Branch.is)) c.in-None.ensures.0 c.in-None.ensures.1 c.requires.runs in (p.room, p.small, p.fits)
@@ -80,13 +88,13 @@ on_end nodes at from till old slot slots fits is top h =
     rw top (leaves_ends (map node_mark nodes) at from till slot slots (get_or nodes at no_node) fits is (subst (λ xs. Room (rest_at (map node_mark nodes) at) from till xs) top h))
 
 pub returns-in-Some-pop-clause-left : goal.returns-in-Some-pop-clause-left
-returns-in-Some-pop-clause-left c = (on_end c.args.nodes.now c.args.place.at c.args.place.from c.args.place.till c.args.slots.now c.in-Some-pop.slot c.pop-in-Ends.new.self (here c.args.nodes.now c.args.place.at c.requires.fit c.requires.within) c.in-Ends.is c.in-Some-pop.ensures c.requires.runs).left
+returns-in-Some-pop-clause-left c = rw c.in-Ends.is (on_end c.args.nodes.now c.args.place.at c.args.place.from c.args.place.till c.args.slots.now c.in-Some-pop.slot c.pop-in-Ends.new.self (here c.args.nodes.now c.args.place.at c.requires.fit c.requires.within) c.in-Ends.is c.in-Some-pop.ensures c.requires.runs).left
 
 pub returns-in-Some-pop-clause-runs : goal.returns-in-Some-pop-clause-runs
 returns-in-Some-pop-clause-runs c = let p = on_end c.args.nodes.now c.args.place.at c.args.place.from c.args.place.till c.args.slots.now c.in-Some-pop.slot c.pop-in-Ends.new.self (here c.args.nodes.now c.args.place.at c.requires.fit c.requires.within) c.in-Ends.is c.in-Some-pop.ensures c.requires.runs in (p.room, p.small, p.fits)
 
 pub returns-in-None-pop-clause-left : goal.returns-in-None-pop-clause-left
-returns-in-None-pop-clause-left c = (leaves_out c.args.nodes.now c.args.place.at c.args.place.from c.args.place.till c.args.slots.now c.pop-in-Ends.new.self _ (here c.args.nodes.now c.args.place.at c.requires.fit c.requires.within) (inr c.in-Ends.is) c.in-None-pop.ensures.0 c.in-None-pop.ensures.1 c.requires.runs).left
+returns-in-None-pop-clause-left c = rw c.in-Ends.is (leaves_out c.args.nodes.now c.args.place.at c.args.place.from c.args.place.till c.args.slots.now c.pop-in-Ends.new.self _ (here c.args.nodes.now c.args.place.at c.requires.fit c.requires.within) (inr c.in-Ends.is) c.in-None-pop.ensures.0 c.in-None-pop.ensures.1 c.requires.runs).left
 
 pub returns-in-None-pop-clause-runs : goal.returns-in-None-pop-clause-runs
 returns-in-None-pop-clause-runs c = let p = leaves_out c.args.nodes.now c.args.place.at c.args.place.from c.args.place.till c.args.slots.now c.pop-in-Ends.new.self _ (here c.args.nodes.now c.args.place.at c.requires.fit c.requires.within) (inr c.in-Ends.is) c.in-None-pop.ensures.0 c.in-None-pop.ensures.1 c.requires.runs in (p.room, p.small, p.fits)
