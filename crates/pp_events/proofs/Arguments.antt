@@ -1,5 +1,5 @@
 -- Arguments by their number, and the parts of a string.
-use Rattle.std.proofs.Common.{◌≡◌, ℕ, zero, suc, ◌-◌, ◌<◌, false, List, [], ◌∷◌, ◌++◌, map, refl, ap, arith}
+use Rattle.std.proofs.Common.{◌≡◌, ℕ, zero, suc, ◌+◌, ◌-◌, ◌<◌, false, List, [], ◌∷◌, ◌++◌, length, map, get_or, drop, refl, ap, sym, ◌∙◌, arith, drop-cons}
 use Rattle.pp_model.specs.Token.{part, one_more, Tok}
 use Rattle.pp_model.specs.Replace.{argument, spaced, parts_of, joined_tokens}
 use Rattle.pp_events.specs.View.{shown, tok_shown, spaceds_of, spaced_pairs, trimmed, tokens_of as shown_list}
@@ -24,3 +24,10 @@ parts_of_shown (t ∷ ts) = ap (part false (shown t.token)) (spaced_shown ts)
 pub joined_shown : (xs ys : List TokenValue) → shown_list (map shown (xs ++ ys)) ≡ joined_tokens (shown_list (map shown xs)) (shown_list (map shown ys))
 joined_shown [] ys = refl
 joined_shown (x ∷ xs) ys = ap (one_more (shown x)) (joined_shown xs ys)
+
+pub token_at : (ts : List TokValue) (i : ℕ) (t : TokValue) → i < length ts → t ≡ get_or ts i t → map tok_shown (drop i ts) ≡ tok_shown t ∷ map tok_shown (drop (i + 1) ts)
+token_at ts i t h e =
+    let next : suc i ≡ i + 1 = omega arith in
+    ap (map tok_shown) (drop-cons ts i t h)
+    ∙ ap (λ u. tok_shown u ∷ map tok_shown (drop (suc i) ts)) (sym e)
+    ∙ ap (λ k. tok_shown t ∷ map tok_shown (drop k ts)) next

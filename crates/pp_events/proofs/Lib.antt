@@ -1,3 +1,4 @@
 pub mod Runs
 pub mod Arguments
 pub mod Compared
+pub mod Pastes

@@ -1,2 +1,4 @@
 pub mod View
 pub mod MachineView
+pub mod Collected
+pub mod Pasted

@@ -1,12 +1,14 @@
 //! The collection of a call's arguments.
 
-ghost use Rattle.std.specs.Prelude.{◌≡◌, ◌<◌, ◌≤◌, [], map, length, drop, IfOk, IfSome};
-ghost use Rattle.pp_model.specs.Token.{text_of, is_text};
+ghost use Rattle.std.specs.Prelude.{◌≡◌, ℕ, suc, ◌<◌, ◌≤◌, ◌^◌, true, List, [], ◌∷◌, map, length, drop, IfOk, IfSome};
+ghost use Rattle.pp_model.specs.Token.{Tok as Token, text_of, is_text};
 ghost use Rattle.c_grammar.specs.Touch.{is_identifier};
-ghost use Rattle.pp_model.specs.Call.{collect};
-ghost use Rattle.pp_events.specs.View.{shown, tok_shown, actuals_shown, some_actuals};
+ghost use Rattle.pp_model.specs.Call.{collect, may_part, one_less};
+ghost use Rattle.pp_events.specs.View.{shown, tok_shown, toks_shown, actuals_shown, some_actuals};
+ghost use Rattle.pp_events.specs.Collected.{collect_on, depth_behind, collected};
+ghost use Rattle.pp_events.specs.declared.call.Mark.{Mark as MarkValue};
 
-use crate::copy::{copy_names, copy_tok};
+use crate::copy::{add_tok, copy_names};
 use crate::token::{Actuals, PpToken, Tok};
 use c_grammar::ItemKind;
 use std::alloc::{AllocError, Global};
@@ -43,8 +45,86 @@ pub fn is_identifier_kind(kind: ItemKind) -> bool
     }
 }
 
+/// What a token is while the arguments of a call are read.
+#[derive(Clone, Copy)]
+pub enum Mark {
+    /// The `)` of the call.
+    End,
+    /// A comma that parts two arguments.
+    Comma,
+    /// A token of an argument, behind which so many brackets are open.
+    Within(usize),
+}
+
+/// What a token is, where so many brackets are open and so many commas still part arguments.
+fn mark_of(token: &Tok, depth: usize, limit: Option<usize>) -> Mark
+    requires { suc depth < 2 ^ 64 }
+    ensures marks { (arg : List Token) (args : List (List Token)) (ts : List Token) → collect limit depth arg args (tok_shown token.now ∷ ts) ≡ collect_on result limit depth arg args (tok_shown token.now) ts }
+    ensures bound { depth_behind result ≤ suc depth }
+    ensures limit { result ≡ MarkValue.Comma → may_part limit ≡ true }
+{
+    if is_spelled(token, b"(") {
+        Mark::Within(depth + 1)
+    } else if is_spelled(token, b")") {
+        if depth == 0 {
+            Mark::End
+        } else {
+            Mark::Within(depth - 1)
+        }
+    } else if is_spelled(token, b",") && depth == 0 && limit != Some(0) {
+        Mark::Comma
+    } else {
+        Mark::Within(depth)
+    }
+}
+
+/// One comma less.
+fn one_less(limit: Option<usize>) -> Option<usize>
+    requires { may_part limit ≡ true }
+    ensures { result ≡ one_less limit }
+{
+    match limit {
+        None => None,
+        Some(n) => Some(n - 1),
+    }
+}
+
 /// Reads the arguments of a call, which these tokens begin with, from its `(` up to its `)`, at most
-/// `limit` commas parting them.
+/// `limit` commas parting them: where the `)` stands.
+fn read_args(
+    alloc: Global,
+    limit: Option<usize>,
+    rest: &VecDeque<Tok>,
+    args: &mut Vec<Vec<Tok>>,
+) -> Result<Option<usize>, AllocError>
+    ensures read { IfOk result (λ r. collected r (map toks_shown args.new.items) rest.now.items ≡ collect limit 0 [] (map toks_shown args.old.items) (map tok_shown (drop 1 rest.now.items))) }
+    ensures bound { IfOk result (λ r. IfSome r (λ i. i < length rest.now.items)) }
+{
+    let mut limit = limit;
+    let mut depth: usize = 0;
+    let mut arg: Vec<Tok> = Vec::new(alloc);
+    for i in 1..rest.len() {
+        let t = &rest[i];
+        match mark_of(t, depth, limit) {
+            Mark::End => {
+                args.push(arg)?;
+                return Ok(Some(i));
+            }
+            Mark::Comma => {
+                args.push(arg)?;
+                arg = Vec::new(alloc);
+                limit = one_less(limit);
+            }
+            Mark::Within(inner) => {
+                add_tok(alloc, &mut arg, t)?;
+                depth = inner;
+            }
+        }
+    }
+    Ok(None)
+}
+
+/// The arguments of a call, which these tokens begin with.
 pub fn collect_actuals(
     alloc: Global,
     limit: Option<usize>,
@@ -53,34 +133,13 @@ pub fn collect_actuals(
     ensures read { IfOk result (λ r. some_actuals rest.now.items r ≡ collect limit 0 [] [] (map tok_shown (drop 1 rest.now.items))) }
     ensures taken { IfOk result (λ r. IfSome r (λ a. a.taken ≤ length rest.now.items)) }
 {
-    let mut limit = limit;
-    let mut depth: usize = 0;
-    let mut arg: Vec<Tok> = Vec::new(alloc);
-    let mut args: Vec<Vec<Tok>> = Vec::new(alloc);
-    for i in 1..rest.len() {
-        let t = &rest[i];
-        if is_spelled(t, b"(") {
-            depth += 1;
-            arg.push(copy_tok(alloc, t)?)?;
-        } else if is_spelled(t, b")") {
-            if depth == 0 {
-                args.push(arg)?;
-                let close = copy_names(alloc, t.hide.as_slice())?;
-                let taken = i + 1;
-                return Ok(Some(Actuals { args, close, taken }));
-            }
-            depth -= 1;
-            arg.push(copy_tok(alloc, t)?)?;
-        } else if is_spelled(t, b",") && depth == 0 && limit != Some(0) {
-            args.push(arg)?;
-            arg = Vec::new(alloc);
-            limit = match limit {
-                None => None,
-                Some(n) => Some(n - 1),
-            };
-        } else {
-            arg.push(copy_tok(alloc, t)?)?;
+    let mut args = Vec::new(alloc);
+    match read_args(alloc, limit, rest, &mut args)? {
+        None => Ok(None),
+        Some(i) => {
+            let close = copy_names(alloc, rest[i].hide.as_slice())?;
+            let taken = i + 1;
+            Ok(Some(Actuals { args, close, taken }))
         }
     }
-    Ok(None)
 }

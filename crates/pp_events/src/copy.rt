@@ -1,7 +1,7 @@
 //! Copies.
 
-ghost use Rattle.std.specs.Prelude.{◌≡◌, ℕ, List, [], ◌∷◌, map, IfOk};
-ghost use Rattle.pp_events.specs.View.{shown, shown_tokens, shown_spaceds, tok_shown, toks_shown};
+ghost use Rattle.std.specs.Prelude.{◌≡◌, ℕ, List, [], ◌∷◌, ◌++◌, map, IfOk};
+ghost use Rattle.pp_events.specs.View.{shown, shown_tokens, shown_spaced, shown_spaceds, tokens_of, spaceds_of, tok_shown, toks_shown};
 
 use crate::token::{PpToken, PpTokens, Spaced, SpacedList, Tok};
 use std::alloc::{AllocError, Global};
@@ -14,6 +14,27 @@ pub fn copy_bytes(alloc: Global, text: &[u8]) -> Result<Vec<u8>, AllocError>
     let mut items = Vec::new(alloc);
     items.extend_from_slice(text)?;
     Ok(items)
+}
+
+/// A list of tokens.
+pub fn as_tokens(items: Vec<PpToken>) -> PpTokens
+    ensures { shown_tokens result ≡ tokens_of (map shown items.items) }
+{
+    PpTokens { items }
+}
+
+/// A token with its white space.
+pub fn spaced(token: PpToken, white: bool) -> Spaced
+    ensures { shown_spaced result ≡ (white, shown token) }
+{
+    Spaced { token, white }
+}
+
+/// A list of parts.
+pub fn as_parts(items: Vec<Spaced>) -> SpacedList
+    ensures { shown_spaceds result ≡ spaceds_of (map shown_spaced items.items) }
+{
+    SpacedList { items }
 }
 
 /// A copy of a token.
@@ -47,7 +68,7 @@ pub fn copy_tokens(alloc: Global, ts: &PpTokens) -> Result<PpTokens, AllocError>
     for t in &ts.items {
         items.push(copy_token(alloc, t)?)?;
     }
-    Ok(PpTokens { items })
+    Ok(as_tokens(items))
 }
 
 /// A copy of a string's parts.
@@ -58,12 +79,32 @@ pub fn copy_parts(alloc: Global, ps: &SpacedList) -> Result<SpacedList, AllocErr
     let mut items = Vec::new(alloc);
     for p in &ps.items {
         let token = copy_token(alloc, &p.token)?;
-        items.push(Spaced {
-            token,
-            white: p.white,
-        })?;
+        items.push(spaced(token, p.white))?;
     }
-    Ok(SpacedList { items })
+    Ok(as_parts(items))
+}
+
+/// A copy of a name behind others.
+pub fn add_name(alloc: Global, names: &mut Vec<Vec<u8>>, name: &[u8]) -> Result<(), AllocError>
+    ensures { IfOk result (λ _. map (λ n. n.items) names.new.items ≡ map (λ n. n.items) names.old.items ++ name.now ∷ []) }
+{
+    let copy = copy_bytes(alloc, name)?;
+    names.push(copy)?;
+    Ok(())
+}
+
+/// Copies of names behind others.
+pub fn add_names(
+    alloc: Global,
+    out: &mut Vec<Vec<u8>>,
+    names: &[Vec<u8>],
+) -> Result<(), AllocError>
+    ensures { IfOk result (λ _. map (λ n. n.items) out.new.items ≡ map (λ n. n.items) out.old.items ++ map (λ n. n.items) names.now) }
+{
+    for n in names {
+        add_name(alloc, out, n.as_slice())?;
+    }
+    Ok(())
 }
 
 /// A copy of a list of names.
@@ -71,9 +112,7 @@ pub fn copy_names(alloc: Global, names: &[Vec<u8>]) -> Result<Vec<Vec<u8>>, Allo
     ensures { IfOk result (λ r. map (λ n. n.items) r.items ≡ map (λ n. n.items) names.now) }
 {
     let mut out = Vec::new(alloc);
-    for n in names {
-        out.push(copy_bytes(alloc, n.as_slice())?)?;
-    }
+    add_names(alloc, &mut out, names)?;
     Ok(out)
 }
 
@@ -92,13 +131,22 @@ pub fn copy_tok(alloc: Global, t: &Tok) -> Result<Tok, AllocError>
     })
 }
 
+/// A copy of a token behind others.
+pub fn add_tok(alloc: Global, toks: &mut Vec<Tok>, t: &Tok) -> Result<(), AllocError>
+    ensures { IfOk result (λ _. toks_shown toks.new ≡ toks_shown toks.old ++ tok_shown t.now ∷ []) }
+{
+    let copy = copy_tok(alloc, t)?;
+    toks.push(copy)?;
+    Ok(())
+}
+
 /// A copy of some tokens.
 pub fn copy_toks(alloc: Global, ts: &[Tok]) -> Result<Vec<Tok>, AllocError>
     ensures { IfOk result (λ r. toks_shown r ≡ map tok_shown ts.now) }
 {
     let mut out = Vec::new(alloc);
     for t in ts {
-        out.push(copy_tok(alloc, t)?)?;
+        add_tok(alloc, &mut out, t)?;
     }
     Ok(out)
 }

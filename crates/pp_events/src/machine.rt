@@ -11,7 +11,7 @@ ghost use Rattle.pp_events.specs.MachineView.{call_shown, calls_shown, state_sho
 
 use crate::Spellings;
 use crate::call::{collect_actuals, is_identifier_kind, is_spelled};
-use crate::copy::{copy_args, copy_bytes};
+use crate::copy::{add_name, add_names, copy_args};
 use crate::replace::{common_names, contains_name, replacement_of};
 use crate::state::{Begun, Call, State};
 use crate::token::{Actuals, Macro, Part, PpToken, Tok};
@@ -80,10 +80,8 @@ fn with_name(alloc: Global, name: &[u8], names: &[Vec<u8>]) -> Result<Vec<Vec<u8
     ensures { IfOk result (λ r. map (λ n. n.items) r.items ≡ name.now ∷ map (λ n. n.items) names.now) }
 {
     let mut out = Vec::new(alloc);
-    out.push(copy_bytes(alloc, name)?)?;
-    for n in names {
-        out.push(copy_bytes(alloc, n.as_slice())?)?;
-    }
+    add_name(alloc, &mut out, name)?;
+    add_names(alloc, &mut out, names)?;
     Ok(out)
 }
 

@@ -1,12 +1,15 @@
 //! What a macro's body becomes.
 
-ghost use Rattle.std.specs.Prelude.{◌≡◌, ℕ, List, [], ◌∷◌, ◌++◌, map, IfOk, Option, option_map, flat_map, Bool};
-ghost use Rattle.pp_model.specs.Token.{Tok, common, is_in};
-ghost use Rattle.pp_model.specs.Replace.{Piece, pieces, pieces_of, tokens_of, argument, parts_of, quoted, paste, paste_all, paste_from, join, kept, hidden, joined, lined, placed, free, two, pasted, joined_tokens, replacement};
+ghost use Rattle.std.specs.Prelude.{◌≡◌, ℕ, List, [], ◌∷◌, ◌++◌, map, IfOk, Option, option_map, flat_map, false};
+ghost use Rattle.pp_model.specs.Token.{Tok as Token, common, is_in};
+ghost use Rattle.pp_model.specs.Replace.{Piece, pieces, pieces_of, tokens_of, argument, parts_of, quoted, paste, paste_all, paste_from, join, kept, hidden, joined, lined, placed, free, two, pasted, joined_tokens, made, replacement};
+ghost use Rattle.pp_events.specs.Pasted.{item_shown, item_read};
 ghost use Rattle.pp_events.specs.View.{shown, shown_tokens, shown_spaceds, tok_shown, toks_shown, part_shown, piece_shown, shown_spaced, spaceds_of, spaced_pairs, trimmed, what_shown, tokens_of as shown_list};
 
 use crate::Spellings;
-use crate::copy::{copy_bytes, copy_names, copy_tok, copy_token, copy_toks};
+use crate::copy::{
+    add_name, as_parts, as_tokens, copy_bytes, copy_names, copy_tok, copy_token, copy_toks, spaced,
+};
 use crate::token::{Part, Piece, PpToken, PpTokens, Spaced, SpacedList, Tok, What};
 use c_grammar::ItemKind;
 use std::alloc::{AllocError, Global};
@@ -31,7 +34,7 @@ pub fn common_names(alloc: Global, a: &[Vec<u8>], b: &[Vec<u8>]) -> Result<Vec<V
     let mut out = Vec::new(alloc);
     for n in a {
         if contains_name(b, n.as_slice()) {
-            out.push(copy_bytes(alloc, n.as_slice())?)?;
+            add_name(alloc, &mut out, n.as_slice())?;
         }
     }
     Ok(out)
@@ -79,31 +82,15 @@ fn pasted_items(alloc: Global, t: PpToken) -> Result<Vec<PpToken>, AllocError>
     }
 }
 
-/// One list behind another.
-fn joined_items(first: Vec<PpToken>, second: Vec<PpToken>) -> Result<Vec<PpToken>, AllocError>
-    ensures { IfOk result (λ r. r.items ≡ first.items ++ second.items) }
-{
-    let mut out = first;
-    let mut second = second;
-    out.append(&mut second)?;
-    Ok(out)
-}
-
-/// A list of tokens.
-fn as_tokens(items: Vec<PpToken>) -> PpTokens
-    ensures { shown_tokens result ≡ shown_list (map shown items.items) }
-{
-    PpTokens { items }
-}
-
 /// All that was pasted in two tokens.
 #[tactic(auto, using(crate::proofs::Arguments::joined_shown))]
 fn two_tokens(alloc: Global, a: PpToken, b: PpToken) -> Result<PpTokens, AllocError>
     ensures { IfOk result (λ r. shown_tokens r ≡ joined_tokens (pasted (shown a)) (pasted (shown b))) }
 {
-    let first = pasted_items(alloc, a)?;
-    let second = pasted_items(alloc, b)?;
-    Ok(as_tokens(joined_items(first, second)?))
+    let mut all = pasted_items(alloc, a)?;
+    let mut second = pasted_items(alloc, b)?;
+    all.append(&mut second)?;
+    Ok(as_tokens(all))
 }
 
 /// A paste that is no item.
@@ -114,8 +101,42 @@ fn pasted_token(alloc: Global, a: PpToken, b: PpToken) -> Result<PpToken, AllocE
     Ok(PpToken::Pasted { parts })
 }
 
+/// The item that two tokens spell together, and its kind, where they do.
+fn pasted_item<R: Spellings>(
+    alloc: Global,
+    reader: &R,
+    a: &PpToken,
+    b: &PpToken,
+) -> Result<Option<(Vec<u8>, ItemKind)>, AllocError>
+    ensures { IfOk result (λ r. item_shown r ≡ item_read (R.kinds reader.now) (joined (shown a.now) (shown b.now))) }
+{
+    match joined_text(alloc, a, b)? {
+        None => Ok(None),
+        Some(text) => match reader.kind_of(text.as_slice()) {
+            None => Ok(None),
+            Some(kind) => Ok(Some((text, kind))),
+        },
+    }
+}
+
+/// The token that `##` makes of two, and its kind.
+#[tactic(auto, using(crate::proofs::Pastes::pasted_as_item, crate::proofs::Pastes::pasted_as_none))]
+fn paste_of<R: Spellings>(
+    alloc: Global,
+    reader: &R,
+    a: PpToken,
+    b: PpToken,
+) -> Result<(PpToken, ItemKind), AllocError>
+    ensures { IfOk result (λ r. (s t : Token) → s.token ≡ shown a → t.token ≡ shown b → paste (R.kinds reader.now) s t ≡ made (shown r.0) r.1 s t) }
+{
+    match pasted_item(alloc, reader, &a, &b)? {
+        Some((text, kind)) => Ok((PpToken::Plain { text }, kind)),
+        None => Ok((pasted_token(alloc, a, b)?, ItemKind::Other)),
+    }
+}
+
 /// What `##` makes of two tokens.
-pub fn paste_tokens<R: Spellings>(
+fn paste_tokens<R: Spellings>(
     alloc: Global,
     reader: &R,
     a: Tok,
@@ -124,33 +145,14 @@ pub fn paste_tokens<R: Spellings>(
     ensures { IfOk result (λ r. tok_shown r ≡ paste (R.kinds reader.now) (tok_shown a) (tok_shown b)) }
 {
     let hide = common_names(alloc, a.hide.as_slice(), b.hide.as_slice())?;
-    let white = a.white;
-    let line = a.line;
-    match joined_text(alloc, &a.token, &b.token)? {
-        Some(text) => match reader.kind_of(text.as_slice()) {
-            Some(kind) => Ok(Tok {
-                token: PpToken::Plain { text },
-                kind,
-                hide,
-                white,
-                line,
-            }),
-            None => Ok(Tok {
-                token: pasted_token(alloc, a.token, b.token)?,
-                kind: ItemKind::Other,
-                hide,
-                white,
-                line,
-            }),
-        },
-        None => Ok(Tok {
-            token: pasted_token(alloc, a.token, b.token)?,
-            kind: ItemKind::Other,
-            hide,
-            white,
-            line,
-        }),
-    }
+    let (token, kind) = paste_of(alloc, reader, a.token, b.token)?;
+    Ok(Tok {
+        token,
+        kind,
+        hide,
+        white: a.white,
+        line: a.line,
+    })
 }
 
 /// The argument of a parameter, empty past the last.
@@ -175,19 +177,9 @@ fn quoted_items(alloc: Global, ts: &[Tok]) -> Result<Vec<Spaced>, AllocError>
     let mut items = Vec::new(alloc);
     for t in ts {
         let token = copy_token(alloc, &t.token)?;
-        items.push(Spaced {
-            token,
-            white: t.white,
-        })?;
+        items.push(spaced(token, t.white))?;
     }
     Ok(items)
-}
-
-/// A list of parts.
-fn as_parts(items: Vec<Spaced>) -> SpacedList
-    ensures { shown_spaceds result ≡ spaceds_of (map shown_spaced items.items) }
-{
-    SpacedList { items }
 }
 
 /// The parts, with no white space before the first.
@@ -322,18 +314,6 @@ fn add_free(out: &mut VecDeque<Piece>, toks: VecDeque<Tok>) -> Result<(), AllocE
     Ok(())
 }
 
-/// The first tokens first.
-fn in_order(alloc: Global, toks: Vec<Tok>) -> Result<VecDeque<Tok>, AllocError>
-    ensures { IfOk result (λ r. r.items ≡ toks.items) }
-{
-    let mut toks = toks;
-    let mut out = VecDeque::new(alloc);
-    while let Some(t) = toks.pop() {
-        out.push_front(t)?;
-    }
-    Ok(out)
-}
-
 /// The pieces of a body.
 fn body_pieces(
     alloc: Global,
@@ -347,8 +327,7 @@ fn body_pieces(
     let mut out = VecDeque::new(alloc);
     for p in body {
         let toks = tokens_of_part(alloc, line, written, full, &p.what)?;
-        let toks = in_order(alloc, toks)?;
-        add_pieces(&mut out, p.glue, p.white, toks)?;
+        add_pieces(&mut out, p.glue, p.white, VecDeque::from_vec(toks))?;
     }
     Ok(out)
 }
@@ -374,6 +353,19 @@ fn join_toks<R: Spellings>(
     }
 }
 
+/// A piece and the one that is pasted to it.
+fn glued<R: Spellings>(
+    alloc: Global,
+    reader: &R,
+    p: Piece,
+    q: Piece,
+) -> Result<Piece, AllocError>
+    ensures { IfOk result (λ r. piece_shown r ≡ record { tok = join (R.kinds reader.now) (piece_shown p).tok (piece_shown q).tok; glue = false }) }
+{
+    let tok = join_toks(alloc, reader, p.tok, q.tok)?;
+    Ok(Piece { tok, glue: false })
+}
+
 /// Pastes from left to right, from a first piece on.
 fn paste_rest<R: Spellings>(
     alloc: Global,
@@ -388,10 +380,7 @@ fn paste_rest<R: Spellings>(
     let mut rest = rest;
     while let Some(q) = rest.pop_front() {
         if q.glue {
-            p = Piece {
-                tok: join_toks(alloc, reader, p.tok, q.tok)?,
-                glue: false,
-            };
+            p = glued(alloc, reader, p, q)?;
         } else {
             out.push_back(p)?;
             p = q;
@@ -420,17 +409,11 @@ fn paste_pieces<R: Spellings>(
 fn hidden_tok(alloc: Global, hide: &[Vec<u8>], t: Tok) -> Result<Tok, AllocError>
     ensures { IfOk result (λ r. tok_shown r ≡ hidden (map (λ n. n.items) hide.now) (tok_shown t)) }
 {
+    let mut t = t;
     let mut names = copy_names(alloc, hide)?;
-    for n in &t.hide {
-        names.push(copy_bytes(alloc, n.as_slice())?)?;
-    }
-    Ok(Tok {
-        token: t.token,
-        kind: t.kind,
-        hide: names,
-        white: t.white,
-        line: t.line,
-    })
+    names.append(&mut t.hide)?;
+    t.hide = names;
+    Ok(t)
 }
 
 /// The tokens of pieces, without placemarkers, each with more names in its hide set.

@@ -1,5 +1,0 @@
-use Rattle.std.proofs.Common.{◌≡◌, map, take}
-use Rattle.pp_events.proofs.copy.copy_names.Given as goal
-
-abbrev pub invariant-loop-n : goal.invariant-loop-n
-invariant-loop-n l = map (λ n. n.items) l.out.items ≡ map (λ n. n.items) (take l.n-index l.names)
