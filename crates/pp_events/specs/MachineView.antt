@@ -2,6 +2,8 @@
 use Rattle.std.specs.Prelude.{ℕ, List, map, Option, Some, None, Vec}
 use Rattle.std.specs.declared.alloc.Global.{Global}
 use Rattle.std.specs.declared.collections.VecDeque.{VecDeque}
+use Rattle.pp_model.specs.Token.{Tok}
+use Rattle.pp_model.specs.Replace.{Reader, replacement}
 use Rattle.pp_model.specs.Call.{Begun}
 use Rattle.pp_model.specs.Expand.{Call, State, Expanded, Done, Spent}
 use Rattle.pp_events.specs.View.{tok_shown, toks_shown, macro_shown}
@@ -40,3 +42,7 @@ state_shown s = record { rest = map tok_shown s.rest.items; out = map tok_shown 
 abbrev pub expanded_shown : Option (Vec TokValue Global × ℕ) → Expanded
 expanded_shown None = Spent
 expanded_shown (Some p) = Done (map tok_shown p.0.items) p.1
+
+-- what a call becomes
+abbrev pub call_replacement : Reader → Call → List Tok
+call_replacement read c = replacement read c.line c.hide c.written c.full c.macro.body

@@ -1,13 +1,13 @@
 //! The expansion of a text, one step after another.
 
 ghost use Rattle.std.specs.Prelude.{◌≡◌, ℕ, ◌<◌, ◌≤◌, ◌^◌, List, [], ◌∷◌, ◌++◌, length, drop, map, IfOk, IfSome, IfNone, Option, Some, None, option_map, reverse};
-ghost use Rattle.pp_model.specs.Token.{Tok, text_of};
+ghost use Rattle.pp_model.specs.Token.{text_of, common};
 ghost use Rattle.pp_model.specs.Macro.{lookup};
 ghost use Rattle.pp_model.specs.Call.{begin, begin_macro, begin_call, with_actuals, named, fits, no_tokens};
 ghost use Rattle.pp_model.specs.Expand.{resume, run, expand, settle, is_line, step, close, expanded, is_over};
 ghost use Rattle.pp_model.specs.Replace.{replacement};
 ghost use Rattle.pp_events.specs.View.{shown, tok_shown, toks_shown, part_shown, macro_shown, actuals_shown};
-ghost use Rattle.pp_events.specs.MachineView.{call_shown, calls_shown, state_shown, begun_shown, expanded_shown};
+ghost use Rattle.pp_events.specs.MachineView.{call_replacement, call_shown, calls_shown, state_shown, begun_shown, expanded_shown};
 
 use crate::Spellings;
 use crate::call::{collect_actuals, is_identifier_kind, is_spelled};
@@ -95,6 +95,19 @@ fn pass(rest: &mut VecDeque<Tok>, count: usize)
     }
 }
 
+/// The names that hide what a call becomes.
+fn call_hide(
+    alloc: Global,
+    m: &Macro,
+    token: &Tok,
+    close: &[Vec<u8>],
+) -> Result<Vec<Vec<u8>>, AllocError>
+    ensures { IfOk result (λ r. map (λ n. n.items) r.items ≡ (macro_shown m.now).name ∷ common (tok_shown token.now).hide (map (λ n. n.items) close.now)) }
+{
+    let both = common_names(alloc, token.hide.as_slice(), close)?;
+    with_name(alloc, m.name.as_slice(), both.as_slice())
+}
+
 /// A call whose arguments were read, where their number is right; it takes what is left.
 fn with_arguments<'t>(
     alloc: Global,
@@ -109,8 +122,7 @@ fn with_arguments<'t>(
     ensures kept { IfOk result (λ r. IfNone r (rest.new.items ≡ rest.old.items)) }
 {
     if has_right_number(m, a.args.as_slice()) {
-        let both = common_names(alloc, token.hide.as_slice(), a.close.as_slice())?;
-        let hide = with_name(alloc, m.name.as_slice(), both.as_slice())?;
+        let hide = call_hide(alloc, m, token, a.close.as_slice())?;
         let waiting = copy_args(alloc, a.args.as_slice())?;
         pass(rest, a.taken);
         Ok(Some(Begun {
@@ -230,45 +242,47 @@ fn put_before(mut tokens: Vec<Tok>, rest: &mut VecDeque<Tok>) -> Result<(), Allo
     Ok(())
 }
 
+/// What a call becomes.
+fn replaced<'t, R: Spellings>(
+    alloc: Global,
+    reader: &R,
+    call: &Call<'t>,
+) -> Result<Vec<Tok>, AllocError>
+    ensures { IfOk result (λ r. map tok_shown r.items ≡ call_replacement (R.kinds reader.now) (call_shown call.now)) }
+{
+    replacement_of(
+        alloc,
+        reader,
+        call.line,
+        call.hide.as_slice(),
+        call.written.as_slice(),
+        call.full.as_slice(),
+        call.named.body.as_slice(),
+    )
+}
+
 /// Goes on with a call, whose next argument is read or whose replacement is.
 fn resume_call<'t, R: Spellings>(
     alloc: Global,
     reader: &R,
     mut call: Call<'t>,
-    mut calls: VecDeque<Call<'t>>,
-) -> Result<State<'t>, AllocError>
-    ensures { IfOk result (λ s. state_shown s ≡ resume (R.kinds reader.now) (call_shown call.entry) (calls_shown calls.entry) (map toks_shown call.entry.waiting.items)) }
+    state: &mut State<'t>,
+) -> Result<(), AllocError>
+    ensures { IfOk result (λ _. state_shown state.new ≡ resume (R.kinds reader.now) (call_shown call.entry) (calls_shown state.old.calls) (map toks_shown call.entry.waiting.items)) }
 {
     match call.waiting.pop_front() {
         None => {
-            let named = call.named;
-            let line = call.line;
-            let made = replacement_of(
-                alloc,
-                reader,
-                line,
-                call.hide.as_slice(),
-                call.written.as_slice(),
-                call.full.as_slice(),
-                named.body.as_slice(),
-            )?;
-            let mut rest = call.after;
-            put_before(made, &mut rest)?;
-            Ok(State {
-                rest,
-                out: call.before,
-                calls,
-            })
+            let made = replaced(alloc, reader, &call)?;
+            put_before(made, &mut call.after)?;
+            state.rest = call.after;
+            state.out = call.before;
+            Ok(())
         }
         Some(argument) => {
-            let mut rest = VecDeque::new(alloc);
-            put_before(argument, &mut rest)?;
-            calls.push_front(call)?;
-            Ok(State {
-                rest,
-                out: Vec::new(alloc),
-                calls,
-            })
+            state.rest = VecDeque::from_vec(argument);
+            state.out = Vec::new(alloc);
+            state.calls.push_front(call)?;
+            Ok(())
         }
     }
 }
@@ -292,18 +306,17 @@ fn with_expanded<'t>(mut call: Call<'t>, out: Vec<Tok>) -> Result<Call<'t>, Allo
 fn close_call<'t, R: Spellings>(
     alloc: Global,
     reader: &R,
-    rest: VecDeque<Tok>,
-    out: Vec<Tok>,
-    mut calls: VecDeque<Call<'t>>,
-) -> Result<State<'t>, AllocError>
-    requires { rest.items ≡ [] }
-    ensures { IfOk result (λ r. state_shown r ≡ close (R.kinds reader.now) (map tok_shown out.items) (calls_shown calls.entry)) }
+    state: &mut State<'t>,
+) -> Result<(), AllocError>
+    requires { state.old.rest.items ≡ [] }
+    ensures { IfOk result (λ _. state_shown state.new ≡ close (R.kinds reader.now) (map tok_shown state.old.out.items) (calls_shown state.old.calls)) }
 {
-    match calls.pop_front() {
-        None => Ok(State { rest, out, calls }),
+    match state.calls.pop_front() {
+        None => Ok(()),
         Some(call) => {
+            let out = mem::replace(&mut state.out, Vec::new(alloc));
             let call = with_expanded(call, out)?;
-            resume_call(alloc, reader, call, calls)
+            resume_call(alloc, reader, call, state)
         }
     }
 }
@@ -313,35 +326,29 @@ fn step_once<'t, R: Spellings>(
     alloc: Global,
     reader: &R,
     table: &'t [Macro],
-    state: State<'t>,
-) -> Result<State<'t>, AllocError>
-    ensures { IfOk result (λ r. state_shown r ≡ step (R.kinds reader.now) (map macro_shown table.now) (state_shown state.entry)) }
+    state: &mut State<'t>,
+) -> Result<(), AllocError>
+    ensures { IfOk result (λ _. state_shown state.new ≡ step (R.kinds reader.now) (map macro_shown table.now) (state_shown state.old)) }
 {
-    let State {
-        mut rest,
-        mut out,
-        calls,
-    } = state;
-    match rest.pop_front() {
-        None => close_call(alloc, reader, rest, out, calls),
-        Some(token) => match begin_at(alloc, table, &token, &mut rest)? {
+    match state.rest.pop_front() {
+        None => close_call(alloc, reader, state),
+        Some(token) => match begin_at(alloc, table, &token, &mut state.rest)? {
             None => {
-                out.push(settled(token))?;
-                Ok(State { rest, out, calls })
+                state.out.push(settled(token))?;
+                Ok(())
             }
             Some(begun) => {
-                let line = token.line;
                 let call = Call {
                     named: begun.named,
-                    line,
+                    line: token.line,
                     hide: begun.hide,
                     written: begun.args,
                     full: Vec::new(alloc),
                     waiting: begun.waiting,
-                    before: out,
+                    before: mem::replace(&mut state.out, Vec::new(alloc)),
                     after: begun.after,
                 };
-                resume_call(alloc, reader, call, calls)
+                resume_call(alloc, reader, call, state)
             }
         },
     }
@@ -368,7 +375,7 @@ fn run_all<'t, R: Spellings>(
             return Ok(None);
         }
         left -= 1;
-        state = step_once(alloc, reader, table, state)?;
+        step_once(alloc, reader, table, &mut state)?;
     }
 }
 
