@@ -25,3 +25,4 @@ pub mod Rewritten
 pub mod KeptBytes
 pub mod White
 pub mod Lines
+pub mod WordBytes

@@ -1,4 +1,5 @@
 pub mod Grammar
+pub mod Bytes
 pub mod Items
 pub mod Touch
 pub mod Text

@@ -30,6 +30,7 @@ pub enum ItemKind {
     LineComment,
 }
 
+pub mod bytes;
 mod laws;
 
 pub use laws::{

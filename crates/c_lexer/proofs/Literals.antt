@@ -17,7 +17,7 @@ use Rattle.c_grammar.proofs.Firsts.{begins, is_quote}
 use Rattle.c_grammar.proofs.Goes.{both_begin}
 use Rattle.c_grammar.proofs.Stops.{units_more}
 use Rattle.c_grammar.proofs.Singles.{is_word, word_single}
-use Rattle.c_lexer.specs.Class.{is_quote_mark}
+use Rattle.c_grammar.specs.Bytes.{is_quote_mark}
 use Rattle.c_lexer.specs.Unit.{IsLongestHeld}
 use Rattle.c_lexer.specs.Quote.{closes_quote}
 use Rattle.c_lexer.specs.Literal.{is_string_at, is_constant_at, is_literal, begins_literal}

@@ -13,7 +13,7 @@ use Rattle.c_grammar.proofs.Firsts.{is_mark}
 use Rattle.c_grammar.proofs.Goes.{no_punct_front}
 use Rattle.c_lexer.specs.Run.{IsCut, long, first_front, begins_number}
 use Rattle.c_lexer.specs.Cut.{IsCutOff}
-use Rattle.c_lexer.specs.Class.{begins_punctuator, is_quote_mark}
+use Rattle.c_grammar.specs.Bytes.{begins_punctuator, is_quote_mark}
 use Rattle.c_lexer.proofs.Puncts.{punct_cut}
 
 abbrev is_some : List ℕ → Bool

@@ -4,14 +4,14 @@ use Rattle.c_lexer.specs.Quote.{closes_quote, quote_len}
 use Rattle.c_lexer.specs.Header.{ends_name, name_len, begins_header, header_len}
 use Rattle.c_lexer.specs.Comment.{closes_block, block_len, line_len, over_white}
 use Rattle.std.specs.Prelude.{if◌then◌else◌, not, slice_get, Option, Some, None, MatchOption}
-use Rattle.std.proofs.lemmas.Bool.{both_ways, cases_Bool, eqb-true, eq-eqb, false_from_ne_true, ne_eqb, and_parts, not-false}
+use Rattle.std.proofs.lemmas.Bool.{cases_Bool, eqb-true, eq-eqb, ne_eqb, and_parts, not-false}
 use Rattle.std.proofs.lemmas.Bool.Decides.{nat_tests}
-use Rattle.c_grammar.specs.Grammar.{is_white, is_new_line, is_letter, is_digit}
+use Rattle.c_grammar.specs.Grammar.{is_white, is_new_line}
 use Rattle.c_grammar.specs.Touch.{starts}
-use Rattle.c_lexer.specs.Class.{is_quote_mark}
+use Rattle.c_grammar.specs.Bytes.{is_quote_mark}
 use Rattle.std.proofs.Common.{true, inl, inr, ◌≡◌, ◌≤◌, ◌==◌, ◌&&◌, Bool, false, ℕ, zero, suc, length, ◌+◌, ◌||◌, List, [], ◌∷◌, take, refl, sym, ◌∙◌, ap, arith}
 use Rattle.c_chars.specs.Coming.{Coming, ArePassed, behind, passed}
-use Rattle.c_chars.specs.Characters.{bytes_of, is_ink_byte, is_space_byte, is_text_byte, is_word_byte}
+use Rattle.c_chars.specs.Characters.{bytes_of, is_ink_byte, is_space_byte, is_text_byte}
 use Rattle.c_chars.specs.declared.Dialect.{Dialect}
 use Rattle.c_chars.specs.declared.LogicalChar.{LogicalChar}
 
@@ -163,21 +163,6 @@ line_next p x y c chars h = ap (λ s. has_line p (bytes_of s)) chars ∙ at c.by
 pub or_assoc : (a b c : Bool) → ((a || b) || c) ≡ (a || (b || c))
 or_assoc true b c = refl
 or_assoc false b c = refl
-
--- letters, digits, `_` and `$`
-pub word_byte : (b : ℕ) → is_word_byte b ≡ true → (is_letter b || is_digit b) ≡ true
-unfolding is_word_byte is_letter is_digit
-word_byte b h = grind (arith, nat_tests)
-
-byte_word : (b : ℕ) → (is_letter b || is_digit b) ≡ true → is_word_byte b ≡ true
-unfolding is_word_byte is_letter is_digit
-byte_word b h = grind (arith, nat_tests)
-
-pub word_is : (b : ℕ) → is_word_byte b ≡ (is_letter b || is_digit b)
-word_is b = elim (cases_Bool (is_word_byte b)) [
-  | inl y ↦ y ∙ sym (word_byte b y)
-  | inr n ↦ n ∙ sym (false_from_ne_true (is_letter b || is_digit b) (λ y. both_ways (is_word_byte b) n (byte_word b y)))
-]
 
 -- what passed is in front of the run
 pub passed_run : (p q : ℕ → Bool) (x y : Coming) → ((b : ℕ) → q b ≡ true → p b ≡ true) → ArePassed q x y → behind y (prefix_len p (bytes_of y.chars)) ≡ behind x (prefix_len p (bytes_of x.chars))

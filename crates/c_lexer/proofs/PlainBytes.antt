@@ -12,7 +12,8 @@ use Rattle.c_chars.specs.declared.Dialect.{Dialect}
 use Rattle.c_chars.specs.declared.Dialect.TheVariants.{C11, C23}
 use Rattle.c_chars.specs.declared.LogicalChar.{LogicalChar}
 use Rattle.c_grammar.specs.Grammar.{is_digit, is_letter}
-use Rattle.c_lexer.specs.Class.{begins_punctuator, is_lone_mark}
+use Rattle.c_grammar.specs.Bytes.{begins_punctuator}
+use Rattle.c_lexer.specs.Class.{is_lone_mark}
 use Rattle.c_lexer.specs.Reading.{ArePrintable, AreRaw}
 use Rattle.c_lexer.specs.Run.{is_pair_mark}
 use Rattle.c_lexer.proofs.Backslashes.{by_test}

@@ -10,16 +10,18 @@ use Rattle.c_chars.specs.Coming.{Coming, ArePassed, behind, passed}
 use Rattle.c_chars.specs.declared.Dialect.{Dialect}
 use Rattle.c_chars.specs.declared.Dialect.TheVariants.{C11, C23}
 use Rattle.c_chars.specs.declared.LogicalChar.{LogicalChar}
+use Rattle.c_grammar.proofs.WordBytes.{word_byte}
 use Rattle.c_grammar.specs.Grammar.{is_letter, is_digit, is_exponent, is_sign, is_number_unit}
 use Rattle.c_grammar.specs.Touch.{starts}
 use Rattle.c_grammar.specs.declared.ItemKind.TheVariants.{Number}
-use Rattle.c_lexer.specs.Class.{IsFirst, ends_number, is_beyond}
+use Rattle.c_grammar.specs.Bytes.{is_beyond}
+use Rattle.c_lexer.specs.Class.{IsFirst, ends_number}
 use Rattle.c_lexer.specs.Cut.{IsCutOff}
 use Rattle.c_lexer.specs.Reading.{IsBegun}
 use Rattle.c_lexer.specs.Run.{begins_number, head_len}
 use Rattle.c_lexer.specs.Unit.{IsRunOff, begins_pair, is_pair, is_single}
 use Rattle.c_lexer.proofs.FirstBytes.{starts_so}
-use Rattle.c_lexer.proofs.Passing.{first_is, word_byte}
+use Rattle.c_lexer.proofs.Passing.{first_is}
 use Rattle.c_lexer.proofs.Plains.{begun_first, next_bytes, one_behind}
 use Rattle.c_lexer.proofs.Units.{number_greedy, number_some}
 use Rattle.c_lexer.proofs.UnitsOff.{number_none, rare_none, run_at, run_off, single_off}

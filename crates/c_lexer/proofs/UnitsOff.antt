@@ -18,7 +18,7 @@ use Rattle.c_grammar.proofs.Firsts.{is_rare}
 use Rattle.c_grammar.proofs.Lists.{two_cuts}
 use Rattle.c_grammar.proofs.Wide.{wide_alone, wide_both}
 use Rattle.c_grammar.proofs.Singles.{is_word, word_single}
-use Rattle.c_lexer.specs.Class.{is_beyond}
+use Rattle.c_grammar.specs.Bytes.{is_beyond}
 use Rattle.c_lexer.specs.Unit.{BeginsUnit, IsLongestHeld, IsUnitOff, IsRunOff, is_rare_unit, any_char, only, is_single, is_pair, begins_pair, begins_hex, begins_name}
 use Rattle.c_lexer.proofs.CutOffs.{left_bytes, behind_again, two_first}
 use Rattle.c_lexer.proofs.Runs.{stops, passes}

@@ -16,7 +16,7 @@ use Rattle.c_grammar.specs.declared.ItemKind.TheVariants.{Identifier, Number, Ot
 use Rattle.c_grammar.proofs.Firsts.{is_mark, begins, not_start, punct_begins}
 use Rattle.c_grammar.proofs.Singles.{letter_single}
 use Rattle.c_grammar.proofs.Wide.{wide_alone}
-use Rattle.c_lexer.specs.Class.{is_quote_mark, begins_punctuator}
+use Rattle.c_grammar.specs.Bytes.{is_quote_mark, begins_punctuator}
 use Rattle.c_lexer.specs.Cut.{IsCutOff}
 use Rattle.c_lexer.specs.Literal.{begins_literal}
 use Rattle.c_lexer.specs.Run.{begins_number, head_len}

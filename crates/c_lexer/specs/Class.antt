@@ -1,20 +1,9 @@
--- Classes of characters that tell which kind of item begins.
-use Rattle.std.specs.Prelude.{◌≡◌, ◌==◌, ◌||◌, not, ℕ, Bool, List, ◌∷◌, nat_le, codes}
+-- Classes of characters that tell where an item ends.
+use Rattle.std.specs.Prelude.{◌≡◌, ◌==◌, ◌||◌, not, ℕ, Bool, List, ◌∷◌, codes}
+use Rattle.c_grammar.specs.Bytes.{is_beyond, is_quote_mark}
 use Rattle.c_grammar.specs.Grammar.{is_of, is_letter, is_digit, is_sign}
 use Rattle.c_lexer.specs.Run.{goes_on_long}
 use Rattle.c_lexer.specs.Unit.{is_single}
-
--- an apostrophe or a quotation mark
-abbrev pub is_quote_mark : ℕ → Bool
-is_quote_mark c = is_of (codes "'\"") c
-
--- the first character of a punctuator
-unfoldable pub begins_punctuator : ℕ → Bool
-begins_punctuator c = is_of (codes "[](){}.-+&*~!/%<>=^|?:;,#") c
-
--- a backslash, or past ASCII
-unfoldable pub is_beyond : ℕ → Bool
-is_beyond c = (c == 92) || nat_le 128 c
 
 -- what ends a word that stands before it, which begins no literal
 abbrev pub ends_word : ℕ → Bool

@@ -5,8 +5,9 @@ ghost use Rattle.c_chars.specs.Characters.{bytes_of};
 ghost use Rattle.c_chars.specs.Coming.{behind};
 ghost use Rattle.c_lexer.specs.Comment.{closes_block, block_len, line_len};
 
-use crate::{class, line};
+use crate::line;
 use c_chars::Chars;
+use c_grammar::bytes;
 
 /// Whether this byte ends a block comment, behind a star or not.
 #[inline(always)]
@@ -69,7 +70,7 @@ pub(crate) fn behind_line<'s>(text: &Chars<'s>) -> Chars<'s>
     let mut kept = text.ahead();
     let mut last = b'/';
     while let Some(c) = line::next_of_line(&mut rest) {
-        if !class::is_white(c.byte) {
+        if !bytes::is_white(c.byte) {
             last = c.byte;
             pass_within_line(&mut rest, last);
             kept = rest.ahead();

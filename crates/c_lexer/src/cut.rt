@@ -10,7 +10,8 @@ ghost use Rattle.c_lexer.specs.Quote.{closes_quote};
 ghost use Rattle.c_grammar.specs.Items.{IsLongest};
 ghost use Rattle.c_grammar.specs.declared.ItemKind.TheVariants.{Identifier, Number, Punct, Other, CharConst, StringLit, StrayQuote, LineComment, BlockComment};
 ghost use Rattle.c_lexer.specs.Cut.{IsCutOff, IsStop};
-ghost use Rattle.c_lexer.specs.Class.{IsFirst, begins_punctuator, is_quote_mark};
+ghost use Rattle.c_grammar.specs.Bytes.{begins_punctuator, is_quote_mark};
+ghost use Rattle.c_lexer.specs.Class.{IsFirst};
 ghost use Rattle.c_lexer.specs.Reading.{ArePrintable, IsBegun};
 ghost use Rattle.c_lexer.specs.Run.{begins_number, head_len};
 ghost use Rattle.c_lexer.specs.Unit.{BeginsUnit, is_rare_unit};
@@ -19,7 +20,7 @@ ghost use Rattle.unicode_ident.specs.Ident.{is_xid_start};
 use crate::line::Begun;
 use crate::{class, comment, front, line, punctuator, quote, unit, utf8, word};
 use c_chars::{Chars, Dialect};
-use c_grammar::ItemKind;
+use c_grammar::{ItemKind, bytes};
 
 /// Why no item is cut off.
 #[derive(Clone, Copy)]
@@ -178,7 +179,7 @@ fn behind_plain_mark<'s>(dialect: Dialect, begun: &Begun<'s>) -> Option<Chars<'s
     if class::is_lone_mark(first) {
         return Some(left);
     }
-    if !class::begins_punctuator(first) {
+    if !bytes::begins_punctuator(first) {
         return None;
     }
     match left.peek_plain() {
@@ -218,13 +219,13 @@ pub(crate) fn cut_plain<'s>(dialect: Dialect, begun: &Begun<'s>) -> Option<(Item
     ensures off { IfSome result (λ r. IsCutOff begun.now.text r.1 r.0) }
     ensures plain { IfSome result (λ r. ArePrintable begun.now.first begun.now.behind r.1) }
 {
-    if class::is_letter(begun.first.byte) {
+    if bytes::is_letter(begun.first.byte) {
         return match word::behind_plain_word(begun) {
             Some(left) => Some((ItemKind::Identifier, left)),
             None => None,
         };
     }
-    if class::is_digit(begun.first.byte) {
+    if bytes::is_digit(begun.first.byte) {
         return match behind_plain_number(dialect, begun) {
             Some(left) => Some((ItemKind::Number, left)),
             None => None,
@@ -249,7 +250,7 @@ pub(crate) fn cut_item<'s>(
     requires begins { IsFalse (starts (λ c. is_white c || is_new_line c) (bytes_of text.now.chars)) }
     ensures { MatchResult result (λ r. IsCutOff text.now r.1 r.0) (λ stop. IsStop text.now stop) }
 {
-    if class::is_letter(first) {
+    if bytes::is_letter(first) {
         return Ok(word::cut_word(dialect, text));
     }
     if front::begins_number(text, first) {
@@ -264,10 +265,10 @@ pub(crate) fn cut_item<'s>(
     if front::begins_two(text, first, b'/', b'/') {
         return Ok((ItemKind::LineComment, cut_line(text)));
     }
-    if class::begins_punctuator(first) {
+    if bytes::begins_punctuator(first) {
         return Ok((ItemKind::Punct, cut_mark(dialect, text, first)));
     }
-    if class::is_quote_mark(first) {
+    if bytes::is_quote_mark(first) {
         return Ok(cut_quoted(text));
     }
     if unit::begins_rare_word(text) {

@@ -6,11 +6,13 @@ ghost use Rattle.c_chars.specs.Characters.{bytes_of};
 ghost use Rattle.c_chars.specs.Coming.{behind};
 ghost use Rattle.c_grammar.specs.Grammar.{is_digit};
 ghost use Rattle.c_grammar.specs.Touch.{starts};
-ghost use Rattle.c_lexer.specs.Class.{IsFirst, is_quote_mark, is_beyond};
+ghost use Rattle.c_grammar.specs.Bytes.{is_quote_mark, is_beyond};
+ghost use Rattle.c_lexer.specs.Class.{IsFirst};
 ghost use Rattle.c_lexer.specs.Run.{begins_number, first_front, may_be_long, goes_on_long};
 
-use crate::{class, punctuator};
+use crate::punctuator;
 use c_chars::Chars;
+use c_grammar::bytes;
 
 /// Whether the text begins with these bytes.
 #[inline(always)]
@@ -64,7 +66,7 @@ pub(crate) fn begins_digit(text: &Chars) -> bool
     ensures { result ≡ starts is_digit (bytes_of text.now.chars) }
 {
     match text.peek(0) {
-        Some(c) => class::is_digit(c.byte),
+        Some(c) => bytes::is_digit(c.byte),
         None => false,
     }
 }
@@ -75,7 +77,7 @@ fn has_second_digit(text: &Chars) -> bool
     ensures { result ≡ starts is_digit (drop 1 (bytes_of text.now.chars)) }
 {
     match text.peek(1) {
-        Some(c) => class::is_digit(c.byte),
+        Some(c) => bytes::is_digit(c.byte),
         None => false,
     }
 }
@@ -86,7 +88,7 @@ pub(crate) fn begins_number(text: &Chars, first: u8) -> bool
     requires { IsFirst first (bytes_of text.now.chars) }
     ensures { result ≡ begins_number (bytes_of text.now.chars) }
 {
-    class::is_digit(first) || (first == b'.' && has_second_digit(text))
+    bytes::is_digit(first) || (first == b'.' && has_second_digit(text))
 }
 
 /// Whether the text, which begins with this byte, begins with these two.
@@ -133,7 +135,7 @@ pub(crate) fn begins_quote(text: &Chars) -> bool
     ensures { result ≡ starts is_quote_mark (bytes_of text.now.chars) }
 {
     match text.peek(0) {
-        Some(c) => class::is_quote_mark(c.byte),
+        Some(c) => bytes::is_quote_mark(c.byte),
         None => false,
     }
 }
@@ -144,7 +146,7 @@ pub(crate) fn begins_beyond(text: &Chars) -> bool
     ensures { result ≡ starts is_beyond (bytes_of text.now.chars) }
 {
     match text.peek(0) {
-        Some(c) => class::is_beyond(c.byte),
+        Some(c) => bytes::is_beyond(c.byte),
         None => false,
     }
 }

@@ -9,8 +9,8 @@ ghost use Rattle.c_lexer.specs.Place.{IsSpanned};
 ghost use Rattle.c_lexer.specs.Reading.{IsBegun, IsGap, new_lines, bytes_in, first_gap};
 ghost use Rattle.c_grammar.specs.Touch.{starts};
 
-use crate::class;
 use c_chars::{Chars, LogicalChar};
+use c_grammar::bytes;
 
 /// The next character of the line; none at its end, which stays where it is.
 #[inline(always)]
@@ -21,7 +21,7 @@ pub(crate) fn next_of_line(chars: &mut Chars) -> Option<LogicalChar>
 {
     match chars.peek(0) {
         Some(c) => {
-            if class::is_new_line(c.byte) {
+            if bytes::is_new_line(c.byte) {
                 return None;
             }
             chars.next()
@@ -39,7 +39,7 @@ fn next_blank(chars: &mut Chars) -> Option<LogicalChar>
 {
     match chars.peek(0) {
         Some(c) => {
-            if !class::is_blank(c.byte) {
+            if !bytes::is_blank(c.byte) {
                 return None;
             }
             chars.next()
@@ -57,7 +57,7 @@ fn next_of_word(chars: &mut Chars) -> Option<LogicalChar>
 {
     match chars.peek(0) {
         Some(c) => {
-            if !class::is_word(c.byte) {
+            if !bytes::is_word(c.byte) {
                 return None;
             }
             chars.next()
@@ -70,7 +70,7 @@ fn next_of_word(chars: &mut Chars) -> Option<LogicalChar>
 fn lines_of(byte: u8) -> u32
     ensures { result ≡ if is_new_line byte then 1 else 0 }
 {
-    if class::is_new_line(byte) { 1 } else { 0 }
+    if bytes::is_new_line(byte) { 1 } else { 0 }
 }
 
 /// The gap that a text begins with, and what stands behind it.
@@ -132,7 +132,7 @@ pub(crate) fn begin_plain<'s>(text: &Chars<'s>) -> Option<Begun<'s>>
     let mut lines = 0;
     let mut bytes = 0;
     while let Some(first) = behind.next_plain() {
-        if !class::is_blank(first.byte) {
+        if !bytes::is_blank(first.byte) {
             return Some(Begun {
                 lines,
                 bytes,

@@ -6,8 +6,9 @@ ghost use Rattle.c_chars.specs.Coming.{behind};
 ghost use Rattle.c_lexer.specs.Quote.{closes_quote, quote_len};
 ghost use Rattle.c_lexer.specs.Header.{ends_name, name_len, begins_header, header_len};
 
-use crate::{class, line};
+use crate::line;
 use c_chars::Chars;
+use c_grammar::bytes;
 
 /// Whether the byte is this one, and no backslash takes its meaning.
 #[inline(always)]
@@ -24,7 +25,7 @@ fn pass_within_quote(chars: &mut Chars, quote: u8, escaped: bool)
     ensures rest { behind chars.new (quote_len quote escaped (bytes_of chars.new.chars)) ≡ behind chars.old (quote_len quote escaped (bytes_of chars.old.chars)) }
     ensures fewer { length chars.new.chars ≤ length chars.old.chars }
 {
-    if !escaped && class::is_quote_mark(quote) {
+    if !escaped && bytes::is_quote_mark(quote) {
         chars.pass_text();
     }
 }

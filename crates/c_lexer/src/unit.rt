@@ -10,6 +10,7 @@ ghost use Rattle.c_lexer.specs.Unit.{BeginsUnit, IsUnitOff, IsRunOff, is_rare_un
 
 use crate::{class, front, line, utf8};
 use c_chars::{Chars, Dialect};
+use c_grammar::bytes;
 
 /// Whether the text begins with so many hexadecimal digits.
 fn begins_hex(text: &Chars, count: usize) -> bool
@@ -19,7 +20,7 @@ fn begins_hex(text: &Chars, count: usize) -> bool
     for _ in 0..count {
         match rest.next() {
             Some(c) => {
-                if !class::is_hex(c.byte) {
+                if !bytes::is_hex(c.byte) {
                     return false;
                 }
             }

@@ -6,7 +6,7 @@ ghost use Rattle.c_chars.specs.Characters.{bytes_of};
 ghost use Rattle.c_grammar.specs.Grammar.{is_letter, is_letter_unit, is_word_unit, is_char_prefix, is_string_prefix};
 ghost use Rattle.c_grammar.specs.Touch.{starts};
 ghost use Rattle.c_grammar.specs.declared.ItemKind.TheVariants.{CharConst, Identifier, StringLit};
-ghost use Rattle.c_lexer.specs.Class.{is_quote_mark};
+ghost use Rattle.c_grammar.specs.Bytes.{is_quote_mark};
 ghost use Rattle.c_lexer.specs.Cut.{IsCutOff};
 ghost use Rattle.c_lexer.specs.Literal.{is_string_at, is_constant_at, is_literal, begins_literal};
 ghost use Rattle.c_lexer.specs.Reading.{ArePrintable, IsBegun};

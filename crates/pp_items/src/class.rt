@@ -1,62 +1,16 @@
 //! Classes of characters (C11 6.4), and spellings of one unit.
 
-ghost use Rattle.std.specs.Prelude.{◌≡◌, ◌==◌, ◌||◌, ◌&&◌, not, nat_le, codes, [], ◌∷◌};
+ghost use Rattle.std.specs.Prelude.{◌≡◌, ◌==◌, ◌||◌, ◌&&◌, not, [], ◌∷◌};
 ghost use Rattle.std.specs.List.{list_all};
 ghost use Rattle.unicode_ident.specs.Ident.{is_xid_start, is_xid_continue};
-ghost use Rattle.c_grammar.specs.Grammar.{is_white, is_new_line, is_digit, is_letter, is_hex, is_sign, is_exponent, is_of, is_wide, is_universal_name, is_letter_unit, is_word_unit, is_number_head, is_number_unit, is_quoted_unit, is_separated, is_one, is_two};
+ghost use Rattle.c_grammar.specs.Grammar.{is_new_line, is_digit, is_letter, is_hex, is_sign, is_exponent, is_wide, is_universal_name, is_letter_unit, is_word_unit, is_number_head, is_number_unit, is_quoted_unit, is_separated, is_one, is_two};
 
-use c_lexer::{Dialect, only_char};
-
-#[tactic(auto, unfolding(c_grammar::specs::Grammar::is_white))]
-pub(crate) fn is_white(b: u8) -> bool
-    ensures { result ≡ is_white b }
-{
-    matches!(b, 9 | 11 | 12 | 13 | b' ')
-}
-
-#[tactic(auto, unfolding(c_grammar::specs::Grammar::is_new_line))]
-pub(crate) fn is_new_line(b: u8) -> bool
-    ensures { result ≡ is_new_line b }
-{
-    b == b'\n'
-}
-
-#[tactic(auto, unfolding(c_grammar::specs::Grammar::is_digit))]
-pub(crate) fn is_digit(b: u8) -> bool
-    ensures { result ≡ is_digit b }
-{
-    b.is_ascii_digit()
-}
-
-/// A letter, `_` or `$`.
-#[tactic(auto, unfolding(c_grammar::specs::Grammar::is_letter))]
-pub(crate) fn is_letter(b: u8) -> bool
-    ensures { result ≡ is_letter b }
-{
-    b.is_ascii_alphabetic() || b == b'_' || b == b'$'
-}
-
-/// A hexadecimal digit.
-#[tactic(auto, unfolding(c_grammar::specs::Grammar::is_hex))]
-fn is_hex(b: u8) -> bool
-    ensures { result ≡ is_hex b }
-{
-    is_digit(b) || matches!(b, b'A'..=b'F' | b'a'..=b'f')
-}
-
-#[tactic(auto, unfolding(c_grammar::specs::Grammar::is_sign))]
-pub(crate) fn is_sign(b: u8) -> bool
-    ensures { result ≡ is_sign b }
-{
-    b == b'+' || b == b'-'
-}
-
-#[tactic(auto, unfolding(c_grammar::specs::Grammar::is_exponent))]
-pub(crate) fn is_exponent(b: u8) -> bool
-    ensures { result ≡ is_exponent b }
-{
-    matches!(b, b'e' | b'E' | b'p' | b'P')
-}
+use c_chars::Dialect;
+use c_grammar::bytes::{is_hex, is_separable};
+pub(crate) use c_grammar::bytes::{
+    is_digit, is_exponent, is_letter, is_new_line, is_sign, is_white,
+};
+use c_lexer::only_char;
 
 /// Hexadecimal digits.
 fn are_hex(bytes: &[u8]) -> bool
@@ -176,14 +130,6 @@ fn is_signed(unit: &[u8]) -> bool
         [b, c] => is_exponent(*b) && is_sign(*c),
         _ => false,
     }
-}
-
-/// What may stand behind a digit separator.
-#[tactic(auto, unfolding(c_grammar::specs::Grammar::is_digit))]
-fn is_separable(e: u8) -> bool
-    ensures { result ≡ (is_digit e || ((nat_le 65 e && nat_le e 90) || (nat_le 97 e && nat_le e 122) || e == 95)) }
-{
-    e.is_ascii_digit() || (e.is_ascii_alphabetic() || e == b'_')
 }
 
 /// A digit separator with what it separates (C23 6.4.4.1).

@@ -7,9 +7,9 @@ ghost use Rattle.c_grammar.specs.Touch.{is_front, is_identifier, is_number, is_o
 ghost use Rattle.touching.specs.Near.{is_plain, pair_goes_on, seconds, thirds};
 ghost use Rattle.touching.specs.Spelling.{spelling};
 
-use crate::touch::{GOING_ON, is_letter};
+use crate::touch::GOING_ON;
 use c_chars::Dialect;
-use c_grammar::ItemKind;
+use c_grammar::{ItemKind, bytes};
 
 /// A byte that is a character wherever it stands, and no `?`.
 #[inline(always)]
@@ -27,7 +27,7 @@ fn word_by_word(left: ItemKind, right: ItemKind, next: u8) -> bool
     matches!(left, ItemKind::Identifier | ItemKind::Number)
         && match right {
             ItemKind::Identifier | ItemKind::Number => true,
-            ItemKind::CharConst | ItemKind::StringLit => is_letter(next),
+            ItemKind::CharConst | ItemKind::StringLit => bytes::is_letter(next),
             _ => false,
         }
 }
@@ -37,7 +37,7 @@ fn word_by_word(left: ItemKind, right: ItemKind, next: u8) -> bool
 fn word_by_quote(left: ItemKind, right: u8) -> bool
     ensures { result ≡ (is_identifier left && is_of (codes "'\"") right) }
 {
-    matches!(left, ItemKind::Identifier) && (right == b'\'' || right == b'"')
+    matches!(left, ItemKind::Identifier) && bytes::is_quote_mark(right)
 }
 
 /// A number, and what may go on with it.
@@ -46,8 +46,7 @@ fn word_by_quote(left: ItemKind, right: u8) -> bool
 fn number_may_go_on(left: ItemKind, right: u8) -> bool
     ensures { result ≡ (is_number left && (is_of (codes ".'") right || is_sign right)) }
 {
-    matches!(left, ItemKind::Number)
-        && (right == b'.' || right == b'\'' || right == b'+' || right == b'-')
+    matches!(left, ItemKind::Number) && (right == b'.' || right == b'\'' || bytes::is_sign(right))
 }
 
 /// A point, and a number.

@@ -9,6 +9,7 @@ ghost use Rattle.std.specs.Option.{option_to_list};
 ghost use Rattle.touching.specs.Spelling.{spelling};
 
 use c_chars::{Chars, Dialect, LIMIT};
+use c_grammar::bytes;
 
 /// The first character; none where there is none.
 pub(crate) fn first_char(dialect: Dialect, raw: &[u8]) -> Option<u8>
@@ -92,13 +93,6 @@ pub(crate) fn begins(dialect: Dialect, raw: &[u8], right: Option<u8>, word: &[u8
     is_done(&chars, right)
 }
 
-#[tactic(auto, unfolding(c_grammar::specs::Grammar::is_exponent))]
-fn is_exponent(byte: u8) -> bool
-    ensures { result ≡ is_exponent byte }
-{
-    byte == b'e' || byte == b'E' || byte == b'p' || byte == b'P'
-}
-
 /// Whether the last character is one that a sign may follow in a number.
 pub(crate) fn ends_in_exponent(dialect: Dialect, raw: &[u8]) -> bool
     requires { length raw.now ≤ LIMIT }
@@ -107,7 +101,7 @@ pub(crate) fn ends_in_exponent(dialect: Dialect, raw: &[u8]) -> bool
     let mut chars = Chars::new(raw, dialect);
     let mut last = false;
     while let Some(c) = chars.next() {
-        last = is_exponent(c.byte);
+        last = bytes::is_exponent(c.byte);
     }
     last
 }

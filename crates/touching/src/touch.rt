@@ -10,7 +10,7 @@ ghost use Rattle.touching.specs.Spelling.{spelling};
 
 use crate::spelling::{begins, ends_in_exponent, first_char, is_spelled};
 use c_chars::{Dialect, LIMIT};
-use c_grammar::ItemKind;
+use c_grammar::{ItemKind, bytes};
 use c_lexer::Item;
 
 /// `::`, the two that begin a comment, and the punctuators of C11 6.4.6.
@@ -21,20 +21,13 @@ pub(crate) const GOING_ON: [&[u8]; 57] = [
     b">>=", b"&=", b"^=", b"|=", b",", b"#", b"##", b"<:", b":>", b"<%", b"%>", b"%:", b"%:%:",
 ];
 
-#[tactic(auto, unfolding(c_grammar::specs::Grammar::is_letter))]
-pub(crate) fn is_letter(byte: u8) -> bool
-    ensures { result ≡ is_letter byte }
-{
-    byte.is_ascii_alphabetic() || byte == b'_' || byte == b'$'
-}
-
 /// Whether a letter, `_` or `$` comes first.
 fn begins_letter(dialect: Dialect, raw: &[u8]) -> bool
     requires { length raw.now ≤ LIMIT }
     ensures { result ≡ starts is_letter (spelling dialect raw.now) }
 {
     match first_char(dialect, raw) {
-        Some(c) => is_letter(c),
+        Some(c) => bytes::is_letter(c),
         None => false,
     }
 }

@@ -1,5 +1,5 @@
 use Rattle.std.proofs.Common.{◌∙◌, sym}
-use Rattle.c_lexer.specs.Class.{is_beyond}
+use Rattle.c_grammar.specs.Bytes.{is_beyond}
 use Rattle.c_lexer.proofs.Passing.{first_is, first_none}
 use Rattle.c_lexer.proofs.front.begins_beyond.Goals as goal
 

@@ -1,5 +1,5 @@
 use Rattle.std.proofs.Common.{◌∙◌, sym}
-use Rattle.c_lexer.specs.Class.{is_quote_mark}
+use Rattle.c_grammar.specs.Bytes.{is_quote_mark}
 use Rattle.c_lexer.proofs.Passing.{first_is, first_none}
 use Rattle.c_lexer.proofs.front.begins_quote.Goals as goal
 

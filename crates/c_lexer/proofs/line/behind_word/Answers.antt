@@ -2,7 +2,8 @@ use Rattle.std.proofs.Common.{◌∙◌, ◌||◌, ap, sym}
 use Rattle.std.specs.List.{prefix_len}
 use Rattle.c_chars.specs.Coming.{behind}
 use Rattle.c_grammar.specs.Grammar.{is_letter, is_digit}
-use Rattle.c_lexer.proofs.Passing.{passed_run, prefix_next, word_byte}
+use Rattle.c_grammar.proofs.WordBytes.{word_byte}
+use Rattle.c_lexer.proofs.Passing.{passed_run, prefix_next}
 use Rattle.c_chars.specs.Characters.{bytes_of, is_word_byte}
 use Rattle.c_lexer.proofs.line.behind_word.Goals as goal
 

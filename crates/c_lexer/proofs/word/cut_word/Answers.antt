@@ -2,7 +2,7 @@ use Rattle.std.proofs.Common.{◌∙◌, sym}
 use Rattle.std.proofs.lemmas.Bool.{both_ways}
 use Rattle.c_chars.specs.Characters.{bytes_of}
 use Rattle.c_grammar.specs.Touch.{starts}
-use Rattle.c_lexer.specs.Class.{is_quote_mark}
+use Rattle.c_grammar.specs.Bytes.{is_quote_mark}
 use Rattle.c_lexer.proofs.WordsOff.{word_off}
 use Rattle.c_lexer.proofs.word.cut_word.Goals as goal
 
