@@ -26,3 +26,4 @@ pub mod KeptBytes
 pub mod White
 pub mod Lines
 pub mod WordBytes
+pub mod OneChar

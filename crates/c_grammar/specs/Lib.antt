@@ -1,5 +1,6 @@
 pub mod Grammar
 pub mod Bytes
+pub mod Utf8
 pub mod Items
 pub mod Touch
 pub mod Text

@@ -32,8 +32,10 @@ pub enum ItemKind {
 
 pub mod bytes;
 mod laws;
+mod utf8;
 
 pub use laws::{
     has_one_list, keeps_items, keeps_items_apart, keeps_items_over_fit_gaps, keeps_items_over_gaps,
     keeps_items_over_lines, kept_bytes_fit, rewrites_gaps, text_has_one_list, white_reads_so,
 };
+pub use utf8::{char_len, only_char};

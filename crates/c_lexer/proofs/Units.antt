@@ -1,8 +1,7 @@
 -- Units of words and numbers: which one begins a text, and how their runs are cut.
 use Rattle.std.proofs.Common.{◌≡◌, ◌≤◌, ◌==◌, ◌||◌, ◌&&◌, ℕ, ◌+◌, Bool, true, false, List, [], ◌∷◌, ◌++◌, length, length-append, refl, sym, ◌∙◌, ap, subst, arith, inl, inr, ◌⊎◌, append_assoc}
-use Rattle.std.specs.Prelude.{codes, IsTrue, nat_le}
+use Rattle.std.specs.Prelude.{codes, IsTrue}
 use Rattle.std.specs.List.{list_all}
-use Rattle.std.specs.Str.{is_utf8, chars}
 use Rattle.std.proofs.lemmas.Bool.{and_parts, or_cases, and_from, or_left, or_right, eqb-true, both_ways, false_from_ne_true}
 use Rattle.std.proofs.lemmas.Bool.Decides.{nat_tests}
 use Rattle.unicode_ident.specs.Ident.{is_xid_start, is_xid_continue}
@@ -13,10 +12,11 @@ use Rattle.c_grammar.specs.Grammar.{AreUnits, joined, is_one, is_two, is_letter,
 use Rattle.c_grammar.proofs.Lists.{two_cuts}
 use Rattle.c_grammar.proofs.Classes.{not_of}
 use Rattle.c_grammar.proofs.Firsts.{is_rare}
+use Rattle.c_grammar.proofs.OneChar.{one_weaken, wide_weaken}
 use Rattle.c_grammar.proofs.Wide.{is_high, high_first, wide_high, wide_alone}
 use Rattle.c_grammar.proofs.Goes.{one_short}
 use Rattle.c_grammar.proofs.Singles.{is_word}
-use Rattle.c_lexer.specs.Unit.{BeginsUnit, IsLongestHeld, is_rare_unit, any_char, only}
+use Rattle.c_lexer.specs.Unit.{BeginsUnit, IsLongestHeld, is_rare_unit}
 
 -- Runs of units
 
@@ -74,24 +74,6 @@ run_step p u run rest empty greedy first later = record {
             greedy v more w c h k (subst (λ z. p (z ∷ w) ≡ true) head (and_parts (p (b ∷ w)) (list_all p ws) a).0)
 
 -- Rare units: universal character names, and characters past ASCII
-
-one_weaken : (p q : ℕ → Bool) → ((c : ℕ) → p c ≡ true → q c ≡ true) → (cs : List ℕ) → is_one p cs ≡ true → is_one q cs ≡ true
-one_weaken p q f [] h = cc
-one_weaken p q f (c ∷ []) h = f c h
-one_weaken p q f (c ∷ e ∷ cs) h = cc
-
-pub wide_weaken : (p q : ℕ → Bool) → ((c : ℕ) → p c ≡ true → q c ≡ true) → (u : List ℕ) → is_wide p u ≡ true → is_wide q u ≡ true
-unfolding is_wide
-wide_weaken p q f u h =
-    let parts = and_parts (is_utf8 u) (is_one (λ c. nat_le 128 c && p c) (chars u)) h in
-    and_from (is_utf8 u) (is_one (λ c. nat_le 128 c && q c) (chars u)) parts.0
-    (one_weaken (λ c. nat_le 128 c && p c) (λ c. nat_le 128 c && q c) (λ c g. let both = and_parts (nat_le 128 c) (p c) g in and_from (nat_le 128 c) (q c) both.0 (f c both.1)) (chars u) parts.1)
-
-pub wide_any : (p : ℕ → Bool) (u : List ℕ) → is_wide p u ≡ true → is_wide any_char u ≡ true
-wide_any p u h = wide_weaken p any_char (λ c g. refl) u h
-
-pub wide_only : (q : ℕ → Bool) (c : ℕ) (u : List ℕ) → q c ≡ true → is_wide (only c) u ≡ true → is_wide q u ≡ true
-wide_only q c u h g = wide_weaken (only c) q (λ e i. subst (λ z. q z ≡ true) (sym (eqb-true e c i)) h) u g
 
 -- two characters and more, the first of which is a backslash or past ASCII
 pub record IsLongRare (u : List ℕ) : Type 0 where

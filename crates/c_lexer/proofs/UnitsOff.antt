@@ -19,11 +19,13 @@ use Rattle.c_grammar.proofs.Lists.{two_cuts}
 use Rattle.c_grammar.proofs.Wide.{wide_alone, wide_both}
 use Rattle.c_grammar.proofs.Singles.{is_word, word_single}
 use Rattle.c_grammar.specs.Bytes.{is_beyond}
-use Rattle.c_lexer.specs.Unit.{BeginsUnit, IsLongestHeld, IsUnitOff, IsRunOff, is_rare_unit, any_char, only, is_single, is_pair, begins_pair, begins_hex, begins_name}
+use Rattle.c_grammar.specs.Utf8.{any_char, only}
+use Rattle.c_lexer.specs.Unit.{BeginsUnit, IsLongestHeld, IsUnitOff, IsRunOff, is_rare_unit, is_single, is_pair, begins_pair, begins_hex, begins_name}
 use Rattle.c_lexer.proofs.CutOffs.{left_bytes, behind_again, two_first}
 use Rattle.c_lexer.proofs.Runs.{stops, passes}
 use Rattle.c_lexer.proofs.Stepping.{behind_chars}
-use Rattle.c_lexer.proofs.Units.{IsGreedy, NumberUnit, Single, Rare, Signed, Separated, run_none, run_step, word_greedy, word_some, word_is, word_longest, number_unit, rare_first, rare_long, rare_alone, rare_is_word, rare_longest_number, single_not_rare, exponent_not_rare, apostrophe_no_single, wide_any, wide_only}
+use Rattle.c_grammar.proofs.OneChar.{wide_any, wide_only}
+use Rattle.c_lexer.proofs.Units.{IsGreedy, NumberUnit, Single, Rare, Signed, Separated, run_none, run_step, word_greedy, word_some, word_is, word_longest, number_unit, rare_first, rare_long, rare_alone, rare_is_word, rare_longest_number, single_not_rare, exponent_not_rare, apostrophe_no_single}
 
 -- Hexadecimal digits and universal character names
 

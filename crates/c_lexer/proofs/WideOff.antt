@@ -1,56 +1,19 @@
--- A character past ASCII, read from its bytes.
-use Rattle.std.proofs.Common.{◌≡◌, ◌==◌, ◌&&◌, ◌<◌, ◌≤◌, ℕ, zero, suc, ◌+◌, ◌/◌, Bool, true, false, List, [], ◌∷◌, ◌++◌, length, length-append, length-take-le, take, drop, refl, sym, ◌∙◌, ap, subst, arith, inl, inr}
-use Rattle.std.specs.Prelude.{Option, Some, None, slice_get, MatchOption, IsTrue, IsFalse, nat_le, nat_lt}
+-- A character past ASCII, read from the characters of a text.
+use Rattle.std.proofs.Common.{◌≡◌, ◌<◌, ◌≤◌, ℕ, zero, suc, ◌+◌, ◌/◌, Bool, true, false, List, [], ◌∷◌, ◌++◌, length, length-append, length-take-le, take, drop, sym, ◌∙◌, ap, subst, arith, inl, inr}
+use Rattle.std.specs.Prelude.{Option, Some, None, slice_get, MatchOption, IsTrue, IsFalse, nat_lt}
 use Rattle.std.specs.Char.{encode_utf8}
-use Rattle.std.specs.Str.{is_utf8, IsUtf8, chars, continuation_len}
+use Rattle.std.specs.Str.{continuation_len}
 use Rattle.std.proofs.Math.Seq.{take-append_seam}
-use Rattle.std.proofs.lemmas.Bool.{and_from, leb-true, le-leb, eq-eqb, cases_lt, lt-ltb, le-ltb, both_ways, false_from_ne_true}
+use Rattle.std.proofs.lemmas.Bool.{leb-true, cases_lt, lt-ltb, le-ltb, both_ways}
 use Rattle.std.proofs.lemmas.Bool.Decides.{nat_tests}
 use Rattle.std.proofs.lemmas.List.{take-append-drop, length-map}
-use Rattle.std.proofs.lemmas.Str.{chars-nil, chars_past_char, is_utf8-from_IsUtf8}
 use Rattle.c_chars.specs.Characters.{bytes_of}
 use Rattle.c_chars.specs.Coming.{Coming, behind}
 use Rattle.c_chars.specs.declared.LogicalChar.{LogicalChar}
-use Rattle.c_grammar.specs.Grammar.{is_one, is_wide}
+use Rattle.c_grammar.specs.Grammar.{is_wide}
+use Rattle.c_grammar.specs.Utf8.{any_char, only}
 use Rattle.c_grammar.proofs.Wide.{wide_parts, wide_bytes, wide_high, wide_alone}
-use Rattle.c_lexer.specs.Unit.{BeginsUnit, IsUnitOff, any_char, only}
-
-pub not_utf8 : (bs : List ℕ) → (IsUtf8 bs → ⊥) → is_wide any_char bs ≡ false
-not_utf8 bs n = false_from_ne_true (is_wide any_char bs) (λ h. n (wide_parts any_char bs h).utf8)
-
--- the first character of such bytes
-first_char : (bs : List ℕ) → is_wide any_char bs ≡ true → (o : Option ℕ) → o ≡ slice_get (chars bs) 0 → MatchOption o ⊥ (λ c. (128 ≤ c) × (chars bs ≡ c ∷ []))
-first_char bs h None e = let w = wide_parts any_char bs h in let d = w.decoded in let n : None ≡ slice_get (w.code ∷ []) 0 = e ∙ ap (λ z. slice_get z 0) d in cc
-first_char bs h (Some c) e =
-    let w = wide_parts any_char bs h in
-    let n : Some c ≡ slice_get (w.code ∷ []) 0 = e ∙ ap (λ z. slice_get z 0) w.decoded in
-    let same : w.code ≡ c = cc in
-    (subst (λ z. 128 ≤ z) same (leb-true 128 w.code w.past), w.decoded ∙ ap (λ z. z ∷ []) same)
-
-pub no_first : (bs : List ℕ) → None ≡ slice_get (chars bs) 0 → is_wide any_char bs ≡ false
-no_first bs e = false_from_ne_true (is_wide any_char bs) (λ h. first_char bs h None e)
-
-pub low_first : (bs : List ℕ) (c : ℕ) → Some c ≡ slice_get (chars bs) 0 → c < 128 → is_wide any_char bs ≡ false
-low_first bs c e l = false_from_ne_true (is_wide any_char bs) (λ h. let past : 128 ≤ c = (first_char bs h (Some c) e).0 in omega (arith, past, l))
-
-pub more_than_one : (bs rest : List ℕ) (c e : ℕ) → IsUtf8 bs → bs ≡ encode_utf8 c ++ rest → Some c ≡ slice_get (chars bs) 0 → Some e ≡ slice_get (chars rest) 0 → is_wide any_char bs ≡ false
-more_than_one bs rest c e u w f s = false_from_ne_true (is_wide any_char bs) (λ h.
-    let one = (first_char bs h (Some c) f).1 in
-    let both : c ∷ chars rest ≡ c ∷ [] = sym (chars_past_char bs rest c u w) ∙ one in
-    let none : chars rest ≡ [] = cc in
-    let n : Some e ≡ slice_get [] 0 = s ∙ ap (λ z. slice_get z 0) none in
-    cc)
-
-empty : (s : List ℕ) → length s ≡ 0 → s ≡ []
-empty [] h = refl
-empty (c ∷ s) h = absurd (omega (arith, h))
-
-pub one_there : (bs rest : List ℕ) (c : ℕ) → IsUtf8 bs → bs ≡ encode_utf8 c ++ rest → length rest ≡ 0 → 128 ≤ c → is_wide (only c) bs ≡ true
-unfolding is_wide
-one_there bs rest c u w n past =
-    let decoded : chars bs ≡ c ∷ [] = chars_past_char bs rest c u w ∙ ap (λ z. c ∷ z) (ap chars (empty rest n) ∙ chars-nil) in
-    let passes : (nat_le 128 c && (c == c)) ≡ true = and_from (nat_le 128 c) (c == c) (le-leb 128 c past) (eq-eqb c c refl) in
-    and_from (is_utf8 bs) (is_one (λ z. nat_le 128 z && (z == c)) (chars bs)) (is_utf8-from_IsUtf8 bs u) (subst (λ z. is_one (λ k. nat_le 128 k && (k == c)) z ≡ true) (sym decoded) passes)
+use Rattle.c_lexer.specs.Unit.{BeginsUnit, IsUnitOff}
 
 -- how many bytes a character has whose first one is this
 abbrev pub IsOfLen : List ℕ → Type 0

@@ -13,14 +13,6 @@ pub record BeginsUnit (p : List ℕ → Bool) (s : List ℕ) : Type 0 where
   pub passes : IsTrue (p unit)
   pub whole : s ≡ unit ++ rest
 
--- any character passes
-abbrev pub any_char : ℕ → Bool
-any_char c = true
-
--- this character passes
-abbrev pub only : ℕ → ℕ → Bool
-only c e = e == c
-
 -- a universal character name, or a character past ASCII that passes
 unfoldable pub is_rare_unit : (ℕ → Bool) → List ℕ → Bool
 is_rare_unit p u = is_universal_name u || is_wide p u

@@ -26,4 +26,3 @@ pub use fault::LexFault;
 pub use item::{Item, Lexeme};
 pub use lexer::Lexer;
 pub use place::Standing;
-pub use utf8::{char_len, only_char};

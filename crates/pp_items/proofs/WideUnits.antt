@@ -3,8 +3,8 @@ use Rattle.std.proofs.Common.{◌≡◌, ◌∙◌, ℕ, Bool, true, false, List
 use Rattle.std.proofs.lemmas.Bool.{cases_Bool, both_ways, eqb-true, false_from_ne_true}
 use Rattle.c_grammar.specs.Grammar.{is_wide}
 use Rattle.c_grammar.proofs.Wide.{wide_both}
-use Rattle.c_lexer.specs.Unit.{any_char, only}
-use Rattle.c_lexer.proofs.Units.{wide_any, wide_only}
+use Rattle.c_grammar.specs.Utf8.{any_char, only}
+use Rattle.c_grammar.proofs.OneChar.{wide_any, wide_only}
 
 -- the character that is read decides
 pub wide_told : (q : ℕ → Bool) (c : ℕ) (u : List ℕ) → is_wide (only c) u ≡ true → q c ≡ is_wide q u

@@ -10,7 +10,7 @@ use c_grammar::bytes::{is_hex, is_separable};
 pub(crate) use c_grammar::bytes::{
     is_digit, is_exponent, is_letter, is_new_line, is_sign, is_white,
 };
-use c_lexer::only_char;
+use c_grammar::only_char;
 
 /// Hexadecimal digits.
 fn are_hex(bytes: &[u8]) -> bool

@@ -6,7 +6,8 @@ ghost use Rattle.c_grammar.specs.Grammar.{is_letter_unit, is_word_unit, is_numbe
 ghost use Rattle.pp_items.specs.Units.{passes, unit_len, word_len, name_len, begins_two, quoted_len, head_len};
 
 use crate::class;
-use c_lexer::{Dialect, char_len};
+use c_chars::Dialect;
+use c_grammar::char_len;
 
 /// Which units a sequence has.
 #[derive(Clone, Copy)]

@@ -1,8 +1,8 @@
 use Rattle.std.proofs.Common.{◌≡◌, ◌∙◌, sym, subst}
 use Rattle.std.specs.Prelude.{Some, None, slice_get}
 use Rattle.std.specs.Str.{chars}
-use Rattle.c_lexer.proofs.WideOff.{not_utf8, no_first, low_first, more_than_one, one_there}
-use Rattle.c_lexer.proofs.utf8.only_char.Goals as goal
+use Rattle.c_grammar.proofs.OneChar.{not_utf8, no_first, low_first, more_than_one, one_there}
+use Rattle.c_grammar.proofs.utf8.only_char.Goals as goal
 
 pub returns-in_default : goal.returns-in_default
 returns-in_default c = not_utf8 c.args.bytes.now c.in_default.ensures.cases.0
