@@ -7,7 +7,8 @@ use Rattle.branch_runs.specs.declared.seen.SeenText.{SeenText}
 use Rattle.branch_runs.specs.Runs.{ids_of}
 use Rattle.branch_runs.specs.Seen.{is_seen, taken}
 use Rattle.branch_runs.specs.Inside.{text_bounds}
-use Rattle.branch_runs.specs.Anew.{HasAlone, BeginsAlone, EndsAlone}
+use Rattle.branch_runs.specs.Anew.{HasAlone}
+use Rattle.branch_runs.specs.Noted.{BeginsAlone, EndsAlone}
 use Rattle.branch_runs.proofs.Cover.{AnyHas}
 use Rattle.branch_runs.proofs.Taken.{cases_lt, seen_is, unseen_is}
 use Rattle.branch_runs.proofs.Items.{AnyHas-items, items-AnyHas}

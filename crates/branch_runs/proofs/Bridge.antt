@@ -9,7 +9,8 @@ use Rattle.token_arena.specs.declared.directives.nesting.Nesting.TheVariants.{Op
 use Rattle.token_arena.specs.Nesting.{nesting_of}
 use Rattle.token_arena.specs.Sections as sections
 use Rattle.branch_runs.specs.declared.mark.MarkKind.TheVariants as kind
-use Rattle.branch_runs.specs.Marks.{mark_of, kind_by, IsWithin}
+use Rattle.branch_runs.specs.Marks.{mark_of, kind_by}
+use Rattle.branch_runs.specs.Operands.{IsWithin}
 use Rattle.branch_runs.specs.Zero.{is_if_zero}
 use Rattle.branch_runs.specs.Cut.{IsCutFrom, BeginsNoText, end_of}
 

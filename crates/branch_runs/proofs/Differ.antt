@@ -11,7 +11,8 @@ use Rattle.branch_runs.specs.Tree.{Group}
 use Rattle.branch_runs.specs.Runs.{need, view_of, ids_of}
 use Rattle.branch_runs.specs.Seen.{seen_texts, is_seen, taken}
 use Rattle.branch_runs.specs.Inside.{text_bounds}
-use Rattle.branch_runs.specs.Anew.{items_between, HasAlone, IsChange, no_change, widened, noted_one, noted, Notes, AreNoted, IsNarrow, AreNarrow}
+use Rattle.branch_runs.specs.Anew.{items_between, HasAlone, IsChange, no_change}
+use Rattle.branch_runs.specs.Noted.{widened, noted_one, noted, Notes, AreNoted, IsNarrow, AreNarrow}
 use Rattle.branch_runs.proofs.Alone.{Turns, alike_or_turns, take_by, has_by, by_has, begins_alone, ends_alone, alone_items}
 use Rattle.branch_runs.proofs.Cover.{AnyHas}
 use Rattle.branch_runs.proofs.Items.{AnyHas-items, items-AnyHas}

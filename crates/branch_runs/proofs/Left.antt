@@ -12,10 +12,10 @@ use Rattle.branch_runs.specs.Tree.{Group, Branches, nothing, conditional, none, 
 use Rattle.branch_runs.specs.Reading.{Around, branches_of, group_of, outside, rest_of}
 use Rattle.branch_runs.specs.Runs.{need, needs, has_live}
 use Rattle.branch_runs.specs.Links.{node_mark}
-use Rattle.branch_runs.specs.Fits.{rest_at, IsBranch, FitsNode}
+use Rattle.branch_runs.specs.Fits.{rest_at, FitsNode}
 use Rattle.branch_runs.specs.Seen.{seen_texts, seen_texts_in, seen_around, seen_left, FitSlots, till_of}
 use Rattle.branch_runs.proofs.Cover.{need_some, has_live-needs}
-use Rattle.branch_runs.proofs.Nodes.{rest_here, branch_rest, no_needs}
+use Rattle.branch_runs.proofs.Nodes.{rest_here, branch_rest, no_needs, IsBranch}
 
 -- What is left is the same after a step, and the runs still have room.
 pub record Leaves (before after : Group × Around) (from till first last : ℕ) (slots new : List OpenSlot) : Type 0 where

@@ -6,7 +6,8 @@ use Rattle.std.proofs.lemmas.List.{get_or-set_same, get_or-set_other, set_past}
 use Rattle.branch_runs.specs.declared.change.Change.{Change}
 use Rattle.branch_runs.specs.declared.seen.SeenText.{SeenText}
 use Rattle.branch_runs.specs.Seen.{taken}
-use Rattle.branch_runs.specs.Anew.{no_change, widened, noted_one, noted, AreNoted, BeginsAlone, EndsAlone, AreNarrow}
+use Rattle.branch_runs.specs.Anew.{no_change}
+use Rattle.branch_runs.specs.Noted.{widened, noted_one, noted, AreNoted, BeginsAlone, EndsAlone, AreNarrow}
 use Rattle.branch_runs.specs.Visible.{text_at}
 use Rattle.branch_runs.proofs.Taken.{cases_lt, seen_is, unseen_is}
 use Rattle.branch_runs.proofs.Alone.{Turns, alike_or_turns}

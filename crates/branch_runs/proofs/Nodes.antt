@@ -1,5 +1,6 @@
 -- The nodes say what is read from their sections.
 use Rattle.std.proofs.Common.{◌≡◌, ◌∙◌, ℕ, zero, suc, ◌+◌, ◌-◌, ◌<◌, ◌⊎◌, inl, inr, true, false, List, [], ◌∷◌, ◌++◌, map, get_or, length, refl, sym, ap, subst, arith, append_assoc}
+use Rattle.std.specs.Prelude.{⊤}
 use Rattle.branch_runs.specs.declared.mark.MarkKind.{MarkKind}
 use Rattle.branch_runs.specs.declared.mark.MarkKind.TheVariants.{Text, IfZero, Opens, Branch, LastBranch, Ends, Flat}
 use Rattle.branch_runs.specs.declared.mark.Mark.{Mark}
@@ -12,7 +13,7 @@ use Rattle.branch_runs.specs.Reading.{Around, branches_of, group_of, outside, re
 use Rattle.branch_runs.specs.Runs.{needs, has_live}
 use Rattle.branch_runs.specs.Links.{node_mark}
 use Rattle.branch_runs.specs.Cut.{end_of}
-use Rattle.branch_runs.specs.Fits.{rest_at, IsBranch, FitsNode, FitNodes}
+use Rattle.branch_runs.specs.Fits.{rest_at, FitsNode, FitNodes}
 use Rattle.token_arena.specs.declared.view.Stretch.{Stretch}
 use Rattle.token_arena.specs.Segments.{bounds_of}
 use Rattle.branch_runs.proofs.Cover.{need_some}
@@ -32,6 +33,16 @@ node_at marks at (suc p) (node ∷ nodes) d fit h =
 
 pub fits_at : (marks : List Mark) (p : ℕ) (nodes : List Node) (d : Node) → FitNodes marks 0 nodes → p < length nodes → FitsNode marks p (get_or nodes p d)
 fits_at marks p nodes d fit h = let e : 0 + p ≡ p = omega arith in subst (λ k. FitsNode marks k (get_or nodes p d)) e (node_at marks 0 p nodes d fit h)
+
+-- it begins a branch, the last one or another
+abbrev pub IsBranch : MarkKind → Type 0
+IsBranch Branch = ⊤
+IsBranch LastBranch = ⊤
+IsBranch Text = ⊥
+IsBranch IfZero = ⊥
+IsBranch Opens = ⊥
+IsBranch Ends = ⊥
+IsBranch Flat = ⊥
 
 pub branch_rest : (kind : MarkKind) (f e : ℕ) (g : Group) (a : Around) → IsBranch kind
     → rest_with kind f e g a ≡ (nothing, (branch true g (branches_of a), group_of a) ∷ outside a)

@@ -6,7 +6,8 @@ use Rattle.branch_runs.specs.declared.mark.MarkKind.TheVariants.{Text, Flat}
 use Rattle.branch_runs.specs.declared.mark.Mark.{Mark}
 use Rattle.branch_runs.specs.declared.mark.Open.{Open}
 use Rattle.branch_runs.specs.Reading.{open_after}
-use Rattle.branch_runs.specs.Dead.{has_item, has_zero, groups_around, is_dead_in, flags_in}
+use Rattle.branch_runs.specs.Dead.{has_item, has_zero, groups_around, is_dead_in}
+use Rattle.branch_runs.specs.Flags.{flags_in}
 use Rattle.branch_runs.specs.Laws.{kind_at, NoneBetween, NeverParted}
 use Rattle.branch_runs.specs.Cut.{IsCutFrom, BeginsNoText}
 use Rattle.branch_runs.proofs.Together.{AreTogether, keeps_together}

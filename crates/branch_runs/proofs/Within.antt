@@ -9,7 +9,8 @@ use Rattle.branch_runs.specs.declared.mark.Mark.{Mark}
 use Rattle.branch_runs.specs.declared.mark.Open.{Open}
 use Rattle.branch_runs.specs.Reading.{read, effects_in, kind_in, open_after}
 use Rattle.branch_runs.specs.Runs.{texts, view_of, ids_of}
-use Rattle.branch_runs.specs.Dead.{flags_in, has_zero, groups_around}
+use Rattle.branch_runs.specs.Dead.{has_zero, groups_around}
+use Rattle.branch_runs.specs.Flags.{flags_in}
 use Rattle.branch_runs.specs.Cut.{IsCutFrom, end_of}
 use Rattle.branch_runs.proofs.Cover.{AnyHas}
 use Rattle.branch_runs.proofs.Items.{items-AnyHas}

@@ -7,7 +7,8 @@ use Rattle.std.proofs.lemmas.Option.{slice_get_within, get_or_from_slice_get}
 use Rattle.c_chars.specs.declared.Dialect.{Dialect}
 use Rattle.c_grammar.specs.Fitting.{is_comment}
 use Rattle.token_arena.specs.Stored.{Stored}
-use Rattle.branch_runs.specs.Zero.{without_comments, IsFirst, is_zero, is_name_and_zero, tests_zero}
+use Rattle.branch_runs.specs.Zero.{without_comments, is_zero, is_name_and_zero, tests_zero}
+use Rattle.branch_runs.specs.Operands.{IsFirst}
 
 pub range_none : (tokens : List Stored) (at end : ℕ) → end ≤ at → slice_range tokens at end ≡ []
 range_none tokens at end h = let e : end - at ≡ 0 = omega arith in rw e refl

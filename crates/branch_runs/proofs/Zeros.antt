@@ -3,7 +3,8 @@ use Rattle.std.proofs.Common.{◌≡◌, ◌≤◌, Bool, true, false, List, [],
 use Rattle.std.specs.Prelude.{nat_lt, ◌&&◌}
 use Rattle.branch_runs.specs.declared.mark.Open.{Open}
 use Rattle.branch_runs.specs.declared.mark.Open.TheVariants.{Zero, Live, Last}
-use Rattle.branch_runs.specs.Dead.{has_zero, zeros, groups_around}
+use Rattle.branch_runs.specs.Dead.{has_zero, groups_around}
+use Rattle.branch_runs.specs.Flags.{zeros}
 use Rattle.branch_runs.specs.Reading.{open_after}
 use Rattle.branch_runs.specs.declared.mark.MarkKind.{MarkKind}
 use Rattle.branch_runs.specs.declared.mark.MarkKind.TheVariants.{Text, IfZero, Opens, Branch, LastBranch, Ends, Flat}

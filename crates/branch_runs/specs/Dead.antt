@@ -1,7 +1,7 @@
 -- The items in the groups of a literal `#if 0`.
-use Rattle.std.specs.Prelude.{◌≡◌, ℕ, ◌+◌, ◌-◌, Bool, true, false, nat_le, nat_lt, ◌&&◌, ◌++◌, replicate, List, [], ◌∷◌, if◌then◌else◌}
+use Rattle.std.specs.Prelude.{ℕ, Bool, true, false, nat_le, nat_lt, ◌&&◌, List, [], ◌∷◌, if◌then◌else◌}
 use Rattle.branch_runs.specs.declared.mark.MarkKind.{MarkKind}
-use Rattle.branch_runs.specs.declared.mark.MarkKind.TheVariants.{Branch, LastBranch, Ends, Flat}
+use Rattle.branch_runs.specs.declared.mark.MarkKind.TheVariants.{Branch, LastBranch, Ends}
 use Rattle.branch_runs.specs.declared.mark.Mark.{Mark}
 use Rattle.branch_runs.specs.declared.mark.Open.{Open}
 use Rattle.branch_runs.specs.declared.mark.Open.TheVariants.{Zero, Live, Last}
@@ -33,24 +33,3 @@ is_dead_in outer (mark ∷ marks) i = if has_item mark i then has_zero (groups_a
 -- the item stands in the group of a literal `#if 0`
 abbrev pub is_dead : List Mark → ℕ → Bool
 is_dead marks = is_dead_in [] (effects marks)
-
--- What the code keeps.
-
--- for each item of the sections, one behind another, whether it is dead
-abbrev pub flags_in : List Open → List Mark → List Bool
-flags_in outer [] = []
-flags_in outer (mark ∷ marks) = replicate (mark.end - mark.first) (has_zero (groups_around mark.kind outer)) ++ flags_in (open_after mark.kind outer) marks
-
--- how many of these conditionals are in the group of a literal `#if 0`
-abbrev pub zeros : List Open → ℕ
-zeros [] = 0
-zeros (Zero ∷ outer) = zeros outer + 1
-zeros (Live ∷ outer) = zeros outer
-zeros (Last ∷ outer) = zeros outer
-
--- A branch of this kind does what k says: nothing, or the innermost conditional is in this group from then on.
-abbrev pub IsBranchStep : MarkKind → Open → List Open → MarkKind → List Open → Type 0
-IsBranchStep kind group [] k new = (k ≡ Flat) × (new ≡ [])
-IsBranchStep kind group (Last ∷ outer) k new = (k ≡ Flat) × (new ≡ Last ∷ outer)
-IsBranchStep kind group (Live ∷ outer) k new = (k ≡ kind) × (new ≡ group ∷ outer)
-IsBranchStep kind group (Zero ∷ outer) k new = (k ≡ kind) × (new ≡ group ∷ outer)

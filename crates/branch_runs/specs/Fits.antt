@@ -1,7 +1,6 @@
 -- Nodes and levels that say what is read from the marks.
 use Rattle.std.specs.Prelude.{⊤, ◌≡◌, ℕ, ◌+◌, ◌<◌, ◌≤◌, List, [], ◌∷◌, drop}
-use Rattle.branch_runs.specs.declared.mark.MarkKind.{MarkKind}
-use Rattle.branch_runs.specs.declared.mark.MarkKind.TheVariants.{Text, IfZero, Opens, Branch, LastBranch, Ends, Flat}
+use Rattle.branch_runs.specs.declared.mark.MarkKind.TheVariants.{Text}
 use Rattle.branch_runs.specs.declared.mark.Mark.{Mark}
 use Rattle.branch_runs.specs.declared.node.Level.{Level}
 use Rattle.branch_runs.specs.declared.node.Node.{Node}
@@ -13,16 +12,6 @@ use Rattle.branch_runs.specs.Links.{node_mark}
 -- the rest of the innermost group and what follows around it, from the section with this number on
 abbrev pub rest_at : List Mark → ℕ → Group × Around
 rest_at marks at = rest_of (drop at marks)
-
--- it begins a branch, the last one or another
-abbrev pub IsBranch : MarkKind → Type 0
-IsBranch Branch = ⊤
-IsBranch LastBranch = ⊤
-IsBranch Text = ⊥
-IsBranch IfZero = ⊥
-IsBranch Opens = ⊥
-IsBranch Ends = ⊥
-IsBranch Flat = ⊥
 
 -- What is kept of the innermost conditional: how many runs the branches that follow in it need, and which section begins the next one or
 -- ends it.

@@ -1,5 +1,5 @@
 -- The sections of a text, as conditionals see them.
-use Rattle.std.specs.Prelude.{◌<◌, ◌≤◌, ℕ, Bool, true, false, List, map}
+use Rattle.std.specs.Prelude.{Bool, true, false, List, map}
 use Rattle.token_arena.specs.Gaps.{Contents}
 use Rattle.token_arena.specs.Nesting.{nesting_of}
 use Rattle.token_arena.specs.Sections.{sections_of}
@@ -29,8 +29,3 @@ mark_of arena (Dir directive) = record { first = directive.first; end = directiv
 -- the marks of a text's sections
 abbrev pub marks_of : Contents → List Mark
 marks_of arena = map (mark_of arena) (sections_of arena)
-
--- the items behind a directive's `#` are among this many items
-abbrev pub IsWithin : ℕ → Section → Type 0
-IsWithin len (Text first end) = first < end
-IsWithin len (Dir directive) = (directive.hash.0 < directive.end) × (directive.end ≤ len)

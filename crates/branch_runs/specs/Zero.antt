@@ -1,5 +1,5 @@
 -- The literal `#if 0` (C11 6.10.1): a condition whose operand, comments aside, is the one Number `0`.
-use Rattle.std.specs.Prelude.{◌≡◌, ◌≤◌, ◌<◌, ◌&&◌, ℕ, ◌+◌, Bool, true, false, List, [], ◌∷◌, codes, if◌then◌else◌}
+use Rattle.std.specs.Prelude.{◌&&◌, ◌+◌, Bool, true, false, List, [], ◌∷◌, codes, if◌then◌else◌}
 use Rattle.std.specs.List.{slice_range}
 use Rattle.c_chars.specs.declared.Dialect.{Dialect}
 use Rattle.c_grammar.specs.Grammar.{is_same}
@@ -16,12 +16,6 @@ use Rattle.token_arena.specs.declared.directives.DirectiveKind.TheVariants.{If}
 abbrev pub without_comments : List Stored → List Stored
 without_comments [] = []
 without_comments (token ∷ tokens) = if is_comment token.kind then without_comments tokens else token ∷ without_comments tokens
-
--- Of the items from a place on, up to an end, this one with this number is the first that is no comment.
-pub record IsFirst (tokens : List Stored) (from end at : ℕ) (token : Stored) : Type 0 where
-  pub after : from ≤ at
-  pub within : at < end
-  pub rest : without_comments (slice_range tokens from end) ≡ token ∷ without_comments (slice_range tokens (at + 1) end)
 
 -- it is the Number `0`, splices taken out
 abbrev pub is_zero : Dialect → Stored → Bool

@@ -1,7 +1,8 @@
 //! How the views of runs differ.
 
 ghost use Rattle.std.specs.Prelude.{◌≡◌, ◌<◌, ◌^◌, length, IfOk, replicate};
-ghost use Rattle.branch_runs.specs.Anew.{no_change, widened, noted_one, AreNoted, AreNarrow};
+ghost use Rattle.branch_runs.specs.Anew.{no_change};
+ghost use Rattle.branch_runs.specs.Noted.{widened, noted_one, AreNoted, AreNarrow};
 
 use crate::NoMemory;
 use crate::seen::SeenText;

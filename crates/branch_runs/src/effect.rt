@@ -2,7 +2,8 @@
 
 ghost use Rattle.std.specs.Prelude.{◌≡◌, ◌<◌, ◌≤◌, ◌+◌, ◌++◌, ◌^◌, [], length, replicate, IfOk};
 ghost use Rattle.branch_runs.specs.Reading.{effects, kind_in, open_after};
-ghost use Rattle.branch_runs.specs.Dead.{flags_in, groups_around, has_zero};
+ghost use Rattle.branch_runs.specs.Dead.{groups_around, has_zero};
+ghost use Rattle.branch_runs.specs.Flags.{flags_in};
 
 use crate::open_groups::OpenGroups;
 use crate::{Mark, MarkKind, NoMemory};

@@ -1,7 +1,8 @@
 //! The sections of a text, as conditionals see them.
 
 ghost use Rattle.std.specs.Prelude.{◌≡◌, ◌++◌, All, IfOk, length, map};
-ghost use Rattle.branch_runs.specs.Marks.{mark_of, kind_by, IsWithin};
+ghost use Rattle.branch_runs.specs.Marks.{mark_of, kind_by};
+ghost use Rattle.branch_runs.specs.Operands.{IsWithin};
 
 use crate::NoMemory;
 use crate::zero::is_if_zero;

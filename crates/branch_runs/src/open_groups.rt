@@ -2,7 +2,8 @@
 
 ghost use Rattle.std.specs.Prelude.{◌≡◌, ◌<◌, ◌≤◌, ◌+◌, ◌^◌, false, [], ◌∷◌, length, IfOk, MatchOption};
 ghost use Rattle.branch_runs.specs.Reading.{kind_in, open_after};
-ghost use Rattle.branch_runs.specs.Dead.{has_zero, IsBranchStep};
+ghost use Rattle.branch_runs.specs.Dead.{has_zero};
+ghost use Rattle.branch_runs.specs.Flags.{IsBranchStep};
 
 use crate::mark::Open;
 use crate::stack::Stack;
@@ -20,7 +21,7 @@ pub(crate) struct OpenGroups<'a> {
 impl<'a> Model for OpenGroups<'a> {
     ghost use Rattle.std.specs.Prelude.{List, ◌≡◌};
     ghost use Rattle.branch_runs.specs.declared.mark.Open.{Open};
-    ghost use Rattle.branch_runs.specs.Dead.{zeros};
+    ghost use Rattle.branch_runs.specs.Flags.{zeros};
 
     ghost Value = { List Open };
 

@@ -43,12 +43,12 @@ impl<'a> Model for CondTree<'a> {
     ghost use Rattle.branch_runs.specs.Links.{node_mark};
     ghost use Rattle.branch_runs.specs.Fits.{FitNodes};
     ghost use Rattle.branch_runs.specs.Cut.{IsCutFrom};
-    ghost use Rattle.branch_runs.specs.Dead.{flags_in};
+    ghost use Rattle.branch_runs.specs.Flags.{flags_in};
     ghost use Rattle.branch_runs.specs.Runs.{need};
     ghost use Rattle.token_arena.specs.Segments.{AscendFrom};
     ghost use Rattle.branch_runs.specs.Inside.{text_bounds};
     ghost use Rattle.branch_runs.specs.Seen.{seen_texts};
-    ghost use Rattle.branch_runs.specs.Anew.{AreNoted, AreNarrow};
+    ghost use Rattle.branch_runs.specs.Noted.{AreNoted, AreNarrow};
 
     ghost Value = { List Mark };
 

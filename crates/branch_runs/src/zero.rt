@@ -4,7 +4,8 @@ ghost use Rattle.std.specs.Prelude.{◌≡◌, ◌<◌, ◌≤◌, ◌+◌, [], 
 ghost use Rattle.std.specs.List.{slice_range};
 ghost use Rattle.c_grammar.specs.Fitting.{is_comment};
 ghost use Rattle.token_arena.specs.Entries.{told_by};
-ghost use Rattle.branch_runs.specs.Zero.{without_comments, IsFirst, is_zero, tests_zero, is_if_zero};
+ghost use Rattle.branch_runs.specs.Zero.{without_comments, is_zero, tests_zero, is_if_zero};
+ghost use Rattle.branch_runs.specs.Operands.{IsFirst};
 
 use line_tokens::{ItemKind, TokenId};
 use token_arena::{Dialect, Directive, DirectiveKind, Token, TokenArena, is_spelled};

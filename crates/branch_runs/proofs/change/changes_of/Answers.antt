@@ -1,6 +1,7 @@
 use Rattle.std.proofs.Common.{◌≤◌, sym, subst, length, replicate, arith}
 use Rattle.std.proofs.lemmas.Grind.{common_steps}
-use Rattle.branch_runs.specs.Anew.{no_change, AreNoted, AreNarrow}
+use Rattle.branch_runs.specs.Anew.{no_change}
+use Rattle.branch_runs.specs.Noted.{AreNoted, AreNarrow}
 use Rattle.branch_runs.proofs.Differ.{all_noted, none_left}
 use Rattle.branch_runs.proofs.Narrow.{all_narrow, small_more}
 use Rattle.branch_runs.proofs.change.changes_of.Goals as goal

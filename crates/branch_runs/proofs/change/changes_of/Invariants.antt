@@ -1,6 +1,7 @@
 use Rattle.std.proofs.Common.{◌≡◌, ◌<◌, ◌^◌, ℕ, length, drop, replicate}
 use Rattle.branch_runs.specs.Visible.{text_at}
-use Rattle.branch_runs.specs.Anew.{no_change, noted}
+use Rattle.branch_runs.specs.Anew.{no_change}
+use Rattle.branch_runs.specs.Noted.{noted}
 use Rattle.branch_runs.proofs.change.changes_of.Given as goal
 
 abbrev pub invariant-loop-text : goal.invariant-loop-text

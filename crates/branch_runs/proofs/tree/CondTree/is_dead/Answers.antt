@@ -1,5 +1,5 @@
 use Rattle.std.proofs.Common.{◌≡◌, ◌∙◌, ◌-◌, ◌+◌, ◌<◌, [], false, length, map, get_or, sym, ap, arith}
-use Rattle.branch_runs.specs.Dead.{flags_in}
+use Rattle.branch_runs.specs.Flags.{flags_in}
 use Rattle.branch_runs.specs.Links.{node_mark}
 use Rattle.branch_runs.specs.Cut.{end_of}
 use Rattle.branch_runs.proofs.Places.{flags_dead}
