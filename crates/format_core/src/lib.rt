@@ -7,15 +7,18 @@
 #![tactic(auto)]
 
 mod bounds;
+mod context;
 mod early_gaps;
 mod fault;
 mod formatted;
 mod kept;
+mod known_parts;
 mod laid_text;
 mod laws;
 mod line_ends;
 mod runs;
 
+pub use context::Context;
 pub use early_gaps::{decide_early, early_or_left, early_plans_are_sound, early_plans_keep};
 pub use fault::FormatFault;
 pub use formatted::{Formatted, Job, format};

@@ -8,11 +8,10 @@ ghost use Rattle.token_classes.specs.Viewed.{AreWithin, item_classes};
 ghost use Rattle.token_arena.specs.Sections.{sections_of, IsCut};
 ghost use Rattle.format_core.specs.Dead.{IsTreeOf};
 ghost use Rattle.branch_runs.specs.Anew.{items_between};
-ghost use Rattle.token_arena.specs.Gaps.{Contents};
 ghost use Rattle.run_layout.specs.declared.report.Tally.{Tally};
 ghost use Rattle.replacements.specs.declared.slot.Slot.{Slot};
 ghost use Rattle.run_layout.specs.Counted.{IsCounted};
-ghost use Rattle.view_parts.specs.Known.{AreKnown, AreSpans};
+ghost use Rattle.view_parts.specs.Known.{AreKnown};
 ghost use Rattle.view_parts.specs.Parts.{ArePartsUpTo};
 ghost use Rattle.format_core.specs.Runs.{AreDecided, AreRowsDecided, runs_of, seen_by};
 ghost use Rattle.std.specs.Prelude.{IsSome};
@@ -24,20 +23,21 @@ ghost use Rattle.format_core.specs.PartByPart.{GoesOnFrom};
 ghost use Rattle.format_core.specs.RunsTold.{AreItemsTold, AreRunsTold, AreSeenTold, IsPlanned};
 
 use crate::bounds::{KnownBound, last_bound};
+use crate::context::Context;
 use crate::decide_early;
 use crate::kept::keep_gaps;
+use crate::known_parts::KnownParts;
 use annotator::roles_of_classes;
 use branch_runs::{Change, CondTree};
 use bumpalo::Bump;
-use bumpalo::collections::into_bump_slice_mut;
 use line_tokens::{NoMemory, TokenId};
 use off_regions::Ranges;
 use replacements::Plan;
-use run_layout::{Tally, is_row_decided, lay_out_view};
+use run_layout::{Tally, ViewLayout, is_row_decided, lay_out_view};
 use std::alloc::Global;
 use style_table::Style;
 use token_arena::{Section, TokenArena, View};
-use token_classes::{TokenClass, bracket_facts, classes_among, item_classes};
+use token_classes::{bracket_facts, classes_among, item_classes};
 use unwrapped_lines::lines_of_classes;
 use view_parts::{
     KnownEnd, KnownSpans, PartsEnd, behind_row, join_rows, known_part_end, known_parts_end,
@@ -58,21 +58,6 @@ pub(crate) struct Planned<'a> {
     pub tally: Tally<'a>,
 }
 
-/// A text, and what its gaps are decided by.
-#[derive(Drop)]
-struct Context<'c, 'a, 's> {
-    /// What the memory of a run is taken from.
-    alloc: Global,
-    /// How it is formatted.
-    style: &'c Style,
-    /// How many cells the search of a line may have.
-    budget: u64,
-    /// Its items.
-    arena: &'c TokenArena<'a, 's>,
-    /// The classes of all items.
-    classes: &'c [TokenClass],
-}
-
 /// What is made of a text, run by run.
 #[derive(Drop)]
 struct Made<'a> {
@@ -84,7 +69,7 @@ struct Made<'a> {
 
 /// Decides the gaps of these items, where they are open: first those that stay as they are.
 fn lay_out_items(
-    context: &Context<'_, '_, '_>,
+    context: &Context<'_>,
     number: u32,
     view: &View<'_>,
     made: &mut Made<'_>,
@@ -113,21 +98,17 @@ fn lay_out_items(
     let facts = bracket_facts(classes, run)?;
     keep_gaps(style, arena, view, facts.kept, &mut made.plan);
     let lines = lines_of_classes(style, arena, view, classes, facts.partners, run)?;
-    let toks = roles_of_classes(arena, view, classes, facts.partners, lines, run)?;
-    lay_out_view(
-        context.alloc,
+    let tokens = roles_of_classes(arena, view, classes, facts.partners, lines, run)?;
+    let layout = ViewLayout {
+        alloc: context.alloc,
         style,
-        context.budget,
+        budget: context.budget,
         arena,
         view,
         classes,
-        toks,
-        number,
-        lines,
-        &mut made.plan,
-        &mut made.tally,
-        run,
-    )?;
+        tokens,
+    };
+    lay_out_view(&layout, number, lines, &mut made.plan, &mut made.tally, run)?;
     Ok(())
 }
 
@@ -177,45 +158,6 @@ fn is_decided_row(
     is_row_decided(plan, id.0, last.0 + 1)
 }
 
-/// Decides the gaps of a part of a view, from one place to before another, where they are open. A part of which all
-/// gaps are decided, as an earlier run left it, isn't looked at.
-fn lay_out_part(
-    context: &Context<'_, '_, '_>,
-    number: u32,
-    view: &View<'_>,
-    first: u32,
-    end: u32,
-    made: &mut Made<'_>,
-    segment: usize,
-    room: &Bump,
-) -> Result<(), NoMemory>
-    requires range { IsInRange context.now.style.now }
-    requires budget { context.now.budget ≤ 16000000 }
-    requires all { context.now.classes.now ≡ item_classes context.now.arena.now }
-    requires within { AreWithin context.now.arena.now view.now }
-    requires some { first < end }
-    requires inside { end ≤ length view.now }
-    requires whole { length made.old.plan ≡ length context.now.arena.now.tokens + 1 }
-    requires room { made.old.tally.searched + (end - first) < 2 ^ 60 }
-    requires cheap { made.old.tally.cost ≤ made.old.tally.searched * 18446744073709551615 }
-    requires counted { IsCounted context.now.arena.now made.old.tally.lines }
-    ensures told { OnOk result (AreItemsTold context.now.style.now context.now.budget context.now.arena.now number made.old.plan (slice_range view.now first end) made.new.plan made.old.tally made.new.tally) }
-    ensures len { OnOk result (length made.new.plan ≡ length made.old.plan) }
-    ensures room { OnOk result (made.new.tally.searched ≤ made.old.tally.searched + (end - first)) }
-    ensures cheap { OnOk result (made.new.tally.cost ≤ made.new.tally.searched * 18446744073709551615) }
-    ensures counted { OnOk result (IsCounted context.now.arena.now made.new.tally.lines) }
-{
-    let arena = context.arena;
-    if number > 0 && is_decided_row(arena, view, first, end, &made.plan, segment) {
-        return Ok(());
-    }
-    let part = view.part(first, end, room)?;
-    if are_decided(&part, &[], &made.plan) {
-        return Ok(());
-    }
-    lay_out_items(context, number, &part, made, room)
-}
-
 /// What a run sees of the items from one to before another.
 #[derive(Drop)]
 struct Window<'r> {
@@ -231,6 +173,46 @@ struct Window<'r> {
     new_end: u32,
     /// Whether another run follows, which may start where parts end.
     later: bool,
+}
+
+/// Decides the gaps of a part of a view, from one place to before another, where they are open. A part of which all
+/// gaps are decided, as an earlier run left it, isn't looked at.
+fn lay_out_part(
+    context: &Context<'_>,
+    window: &Window<'_>,
+    first: u32,
+    end: u32,
+    made: &mut Made<'_>,
+    segment: usize,
+    room: &Bump,
+) -> Result<(), NoMemory>
+    requires range { IsInRange context.now.style.now }
+    requires budget { context.now.budget ≤ 16000000 }
+    requires all { context.now.classes.now ≡ item_classes context.now.arena.now }
+    requires within { AreWithin context.now.arena.now window.now.view }
+    requires some { first < end }
+    requires inside { end ≤ length window.now.view }
+    requires whole { length made.old.plan ≡ length context.now.arena.now.tokens + 1 }
+    requires room { made.old.tally.searched + (end - first) < 2 ^ 60 }
+    requires cheap { made.old.tally.cost ≤ made.old.tally.searched * 18446744073709551615 }
+    requires counted { IsCounted context.now.arena.now made.old.tally.lines }
+    ensures told { OnOk result (AreItemsTold context.now.style.now context.now.budget context.now.arena.now window.now.number made.old.plan (slice_range window.now.view first end) made.new.plan made.old.tally made.new.tally) }
+    ensures len { OnOk result (length made.new.plan ≡ length made.old.plan) }
+    ensures room { OnOk result (made.new.tally.searched ≤ made.old.tally.searched + (end - first)) }
+    ensures cheap { OnOk result (made.new.tally.cost ≤ made.new.tally.searched * 18446744073709551615) }
+    ensures counted { OnOk result (IsCounted context.now.arena.now made.new.tally.lines) }
+{
+    let arena = context.arena;
+    let number = window.number;
+    let view = &window.view;
+    if number > 0 && is_decided_row(arena, view, first, end, &made.plan, segment) {
+        return Ok(());
+    }
+    let part = view.part(first, end, room)?;
+    if are_decided(&part, &[], &made.plan) {
+        return Ok(());
+    }
+    lay_out_items(context, number, &part, made, room)
 }
 
 /// A run, and what of it is looked at.
@@ -300,10 +282,6 @@ fn pass_row(
 {
     let first = way.first;
     let parts = known_parts_end(arena, view, first, id, known, &mut way.segment)?;
-    // Parts whose end isn't told may go on behind the view.
-    if parts.told.is_none() {
-        return None;
-    }
     way.row = join_rows(arena, known, way.row, id);
     way.first = parts.end;
     Some(parts)
@@ -311,13 +289,11 @@ fn pass_row(
 
 /// Decides the gaps of the next part of a window, where they are open, or passes over parts that are noted in a row.
 /// Where the window doesn't tell where the part ends, the result is none.
-fn lay_out_next<'k>(
-    context: &Context<'_, '_, '_>,
+fn lay_out_next(
+    context: &Context<'_>,
     window: &Window<'_>,
     id: TokenId,
-    known: &mut [KnownEnd],
-    spans: &mut KnownSpans<'k>,
-    keep: &'k Bump,
+    known: &mut KnownParts<'_>,
     made: &mut Made<'_>,
     way: &mut Way,
     room: &Bump,
@@ -330,8 +306,8 @@ fn lay_out_next<'k>(
     requires here { way.old.first < length window.now.view }
     requires item { (d : ℕ) → get_or window.now.view way.old.first d ≡ id.0 }
     requires room { made.old.tally.searched + (length window.now.view - way.old.first) < 2 ^ 60 }
-    requires state { AreInStep context.now.arena.now made.old known.old spans.old.spans.items }
-    ensures state { OnOk result (AreInStep context.now.arena.now made.new known.new spans.new.spans.items) }
+    requires state { AreInStep context.now.arena.now made.old known.old.ends.now known.old.spans.spans.items }
+    ensures state { OnOk result (AreInStep context.now.arena.now made.new known.new.ends.now known.new.spans.spans.items) }
     ensures on { OnOk result ((plan : List (Option Slot)) (before : Tally) → GoesOnFrom context.now.style.now context.now.budget context.now.arena.now window.now.number plan (seen_by context.now.arena.now window.now.number) before made.old.plan (place_before context.now.arena.now window.now.number window.now.first + way.old.first) made.old.tally → GoesOnFrom context.now.style.now context.now.budget context.now.arena.now window.now.number plan (seen_by context.now.arena.now window.now.number) before made.new.plan (place_before context.now.arena.now window.now.number window.now.first + way.new.first) made.new.tally) }
     ensures room { OnOk result (made.new.tally.searched ≤ made.old.tally.searched + (way.new.first - way.old.first)) }
     ensures inside { OnOk result (way.new.first ≤ length window.now.view) }
@@ -341,57 +317,69 @@ fn lay_out_next<'k>(
     ensures whole { IfOk result (λ found. IfSome found (λ parts. ForNone parts.told (parts.end ≡ length window.now.view))) }
     ensures none { IfOk result (λ found. ForNone found (window.now.end < length context.now.arena.now.tokens)) }
     ensures stays { IfOk result (λ found. ForNone found (way.new.first ≡ way.old.first)) }
+    ensures bounds { OnOk result (known.new.bounds.items ≡ known.old.bounds.items) }
     ensures same { OnOk result (way.new.told ≡ way.old.told) }
 {
     let first = way.first;
     let begun = way.segment;
     let arena = context.arena;
     let view = &window.view;
-    if let Some(parts) = pass_row(arena, view, id, known, way) {
+    if let Some(parts) = pass_row(arena, view, id, known.ends, way) {
         return Ok(Some(parts));
     }
     let classes = context.classes;
     let near = &mut way.segment;
-    let part = known_part_end(arena, view, classes, first, known, spans, keep, near, room)?;
+    let part = known_part_end(
+        arena,
+        view,
+        classes,
+        first,
+        known.ends,
+        &mut known.spans,
+        known.keep,
+        near,
+        room,
+    )?;
     if part.told.is_none() && window.end < arena.len() {
         return Ok(None);
     }
-    lay_out_part(
-        context,
-        window.number,
-        view,
-        first,
-        part.end,
-        made,
-        begun,
-        room,
-    )?;
-    way.row = join_rows(arena, known, way.row, id);
+    lay_out_part(context, window, first, part.end, made, begun, room)?;
+    way.row = join_rows(arena, known.ends, way.row, id);
     way.first = part.end;
     Ok(Some(part))
 }
 
-/// Notes where parts end that begin at this place, for a later run.
+/// Notes where parts end that begin at this place, if a later run follows.
 fn note_bound(
+    arena: &TokenArena<'_, '_>,
     window: &Window<'_>,
     first: u32,
     parts: PartsEnd,
     bounds: &mut Vec<KnownBound, &Bump>,
     way: &mut Way,
 ) -> Result<(), NoMemory>
-    requires later { ForSome parts.told (λ told. parts.end < told) }
-    requires below { ForSome parts.told (λ told. told ≤ length window.now.view) }
-    requires within { All (λ id. id < LIMIT) window.now.view }
+    requires within { AreWithin arena.now window.now.view }
+    requires window { IsWindow arena.now window.now.number window.now.view window.now.first window.now.end }
+    requires some { first < parts.end }
+    requires told { ForSome parts.told (λ told. AreToldIn arena.now window.now.view first parts.end told) }
+    requires whole { ForNone parts.told (parts.end ≡ length window.now.view) }
+    requires begin { IsTrue window.now.later → BeginTold arena.now (items_between 0 way.old.told (seen_by arena.now window.now.number)) (place_before arena.now window.now.number window.now.first + first) }
+    requires bounds { AreBounds arena.now (seen_by arena.now window.now.number) bounds.old.items way.old.told }
     ensures first { OnOk result (way.new.first ≡ way.old.first) }
-    ensures bounds { OnOk result ((arena : Contents) → IsWindow arena window.now.number window.now.view window.now.first window.now.end → ForSome parts.told (λ told. AreToldIn arena window.now.view first parts.end told) → first < parts.end → BeginTold arena (items_between 0 way.old.told (seen_by arena window.now.number)) (place_before arena window.now.number window.now.first + first) → AreBounds arena (seen_by arena window.now.number) bounds.old.items way.old.told → AreBounds arena (seen_by arena window.now.number) bounds.new.items way.new.told) }
-    ensures told { OnOk result ((arena : Contents) → IsWindow arena window.now.number window.now.view window.now.first window.now.end → ForSome parts.told (λ told. AreToldIn arena window.now.view first parts.end told) → first < parts.end → BeginTold arena (items_between 0 way.old.told (seen_by arena window.now.number)) (place_before arena window.now.number window.now.first + first) → ForNone parts.told (parts.end ≡ length window.now.view) → parts.end < length window.now.view → BeginTold arena (items_between 0 way.new.told (seen_by arena window.now.number)) (place_before arena window.now.number window.now.first + parts.end)) }
+    ensures begin { OnOk result (IsTrue window.now.later → parts.end < length window.now.view → BeginTold arena.now (items_between 0 way.new.told (seen_by arena.now window.now.number)) (place_before arena.now window.now.number window.now.first + parts.end)) }
+    ensures bounds { OnOk result (AreBounds arena.now (seen_by arena.now window.now.number) bounds.new.items way.new.told) }
 {
+    if !window.later {
+        return Ok(());
+    }
     let Some(told) = parts.told else {
         return Ok(());
     };
+    let items = arena.len();
     let mut near = way.segment;
     let item = window.view.at_near(parts.end, &mut near);
     let last = window.view.at_near(told - 1, &mut near);
+    prove!(last.0 < items);
     way.told = way.told.max(last.0 + 1);
     bounds.push(KnownBound {
         item: item.0,
@@ -400,16 +388,21 @@ fn note_bound(
     Ok(())
 }
 
+/// Empties the room of a part or a run for the next one.
+#[inline(always)]
+fn clear(room: &mut Bump, alloc: Global) {
+    if room.reset().is_err() {
+        *room = Bump::new(alloc);
+    }
+}
+
 /// Goes over a window from part to part, up to the first one that begins behind what is new. Where the window doesn't
 /// tell where a part ends, the result is the item with which it begins. What a part takes of memory serves the next one
 /// too.
-fn lay_out_window<'k>(
-    context: &Context<'_, '_, '_>,
+fn lay_out_window(
+    context: &Context<'_>,
     window: &Window<'_>,
-    known: &mut [KnownEnd],
-    spans: &mut KnownSpans<'k>,
-    keep: &'k Bump,
-    bounds: &mut Vec<KnownBound, &'k Bump>,
+    known: &mut KnownParts<'_>,
     made: &mut Made<'_>,
     way: &mut Way,
 ) -> Result<Option<TokenId>, NoMemory>
@@ -421,14 +414,14 @@ fn lay_out_window<'k>(
     requires new { window.now.new_end ≤ window.now.end }
     requires start { way.old.first ≡ 0 }
     requires room { made.old.tally.searched ≤ 2 ^ 59 + 33554432 }
-    requires state { AreInStep context.now.arena.now made.old known.old spans.old.spans.items }
+    requires state { AreInStep context.now.arena.now made.old known.old.ends.now known.old.spans.spans.items }
     requires begin { IsTrue window.now.later → BeginTold context.now.arena.now (items_between 0 way.old.told (seen_by context.now.arena.now window.now.number)) (place_before context.now.arena.now window.now.number window.now.first) }
-    requires bounds { AreBounds context.now.arena.now (seen_by context.now.arena.now window.now.number) bounds.old.items way.old.told }
-    ensures state { OnOk result (AreInStep context.now.arena.now made.new known.new spans.new.spans.items) }
+    requires bounds { AreBounds context.now.arena.now (seen_by context.now.arena.now window.now.number) known.old.bounds.items way.old.told }
+    ensures state { OnOk result (AreInStep context.now.arena.now made.new known.new.ends.now known.new.spans.spans.items) }
     ensures on { OnOk result ((plan : List (Option Slot)) (before : Tally) → GoesOnFrom context.now.style.now context.now.budget context.now.arena.now window.now.number plan (seen_by context.now.arena.now window.now.number) before made.old.plan (place_before context.now.arena.now window.now.number window.now.first) made.old.tally → GoesOnFrom context.now.style.now context.now.budget context.now.arena.now window.now.number plan (seen_by context.now.arena.now window.now.number) before made.new.plan (place_before context.now.arena.now window.now.number window.now.first + way.new.first) made.new.tally) }
     ensures room { OnOk result (made.new.tally.searched ≤ made.old.tally.searched + way.new.first) }
     ensures inside { OnOk result (way.new.first ≤ length window.now.view) }
-    ensures bounds { OnOk result (AreBounds context.now.arena.now (seen_by context.now.arena.now window.now.number) bounds.new.items way.new.told) }
+    ensures bounds { OnOk result (AreBounds context.now.arena.now (seen_by context.now.arena.now window.now.number) known.new.bounds.items way.new.told) }
     ensures begin { IfOk result (λ found. IfSome found (λ id. IsTrue window.now.later → BeginTold context.now.arena.now (items_between 0 way.new.told (seen_by context.now.arena.now window.now.number)) (place_before context.now.arena.now window.now.number window.now.first + way.new.first))) }
     ensures stopped { IfOk result (λ found. IfSome found (λ id. id.0 ≡ get_or window.now.view way.new.first 0)) }
     ensures here { IfOk result (λ found. IfSome found (λ id. way.new.first < length window.now.view)) }
@@ -446,16 +439,13 @@ fn lay_out_window<'k>(
         if id.0 >= window.new_end {
             return Ok(None);
         }
-        let found = lay_out_next(context, window, id, known, spans, keep, made, way, &room)?;
+        let found = lay_out_next(context, window, id, known, made, way, &room)?;
         let Some(parts) = found else {
             return Ok(Some(id));
         };
-        if window.later {
-            note_bound(window, first, parts, bounds, way)?;
-        }
-        if room.reset().is_err() {
-            room = Bump::new(context.alloc);
-        }
+        let bounds = &mut known.bounds;
+        note_bound(context.arena, window, first, parts, bounds, way)?;
+        clear(&mut room, context.alloc);
     }
     Ok(None)
 }
@@ -471,14 +461,11 @@ fn ahead_of(new_end: u32, told: u32, end: u32) -> u32 {
 /// behind what is new in it. So many items behind that are looked at first as `ahead` says; where they don't tell where
 /// a part ends, twice as many are. What is new in the next run is often in the same part, so that run looks first at as
 /// many as this one needed.
-fn lay_out_seen<'k>(
-    context: &Context<'_, '_, '_>,
+fn lay_out_seen(
+    context: &Context<'_>,
     tree: &CondTree<'_>,
     turn: &Turn,
-    known: &mut [KnownEnd],
-    spans: &mut KnownSpans<'k>,
-    keep: &'k Bump,
-    bounds: &mut Vec<KnownBound, &'k Bump>,
+    known: &mut KnownParts<'_>,
     made: &mut Made<'_>,
     ahead: &mut u32,
     run: &Bump,
@@ -489,16 +476,16 @@ fn lay_out_seen<'k>(
     requires tree { IsTreeOf context.now.arena.now tree.now }
     requires number { turn.now.number < runs_of context.now.arena.now }
     requires room { made.old.tally.searched ≤ 2 ^ 59 }
-    requires state { AreInStep context.now.arena.now made.old known.old spans.old.spans.items }
+    requires state { AreInStep context.now.arena.now made.old known.old.ends.now known.old.spans.spans.items }
     requires bound { IsBound context.now.arena.now (seen_by context.now.arena.now turn.now.number) turn.now.bound.item turn.now.bound.told }
-    requires bounds { AreBounds context.now.arena.now (seen_by context.now.arena.now turn.now.number) bounds.old.items turn.now.bound.told }
+    requires bounds { AreBounds context.now.arena.now (seen_by context.now.arena.now turn.now.number) known.old.bounds.items turn.now.bound.told }
     requires new { turn.now.new_end ≤ length context.now.arena.now.tokens }
     requires before { (id : ℕ) → id < turn.now.bound.item → Contains (seen_by context.now.arena.now turn.now.number) id → IsSome (slot_of made.old.plan id) }
     requires behind { (id : ℕ) → turn.now.new_end ≤ id → Contains (seen_by context.now.arena.now turn.now.number) id → IsSome (slot_of made.old.plan id) }
     ensures told { OnOk result (AreSeenTold context.now.style.now context.now.budget context.now.arena.now turn.now.number made.old.plan (seen_by context.now.arena.now turn.now.number) made.new.plan made.old.tally made.new.tally) }
     ensures room { OnOk result (made.new.tally.searched ≤ made.old.tally.searched + 33554432) }
-    ensures state { OnOk result (AreInStep context.now.arena.now made.new known.new spans.new.spans.items) }
-    ensures bounds { OnOk result ((told : ℕ) × AreBounds context.now.arena.now (seen_by context.now.arena.now turn.now.number) bounds.new.items told) }
+    ensures state { OnOk result (AreInStep context.now.arena.now made.new known.new.ends.now known.new.spans.spans.items) }
+    ensures bounds { OnOk result ((told : ℕ) × AreBounds context.now.arena.now (seen_by context.now.arena.now turn.now.number) known.new.bounds.items told) }
 {
     let items = context.arena.len();
     let mut first = turn.bound.item;
@@ -514,7 +501,7 @@ fn lay_out_seen<'k>(
             later: turn.later,
         };
         let mut way = Way::start(told);
-        let stopped = lay_out_window(context, &window, known, spans, keep, bounds, made, &mut way)?;
+        let stopped = lay_out_window(context, &window, known, made, &mut way)?;
         let Some(id) = stopped else {
             *ahead = ahead_of(turn.new_end, way.told, end);
             return Ok(());
@@ -541,8 +528,16 @@ fn least_noted(number: u32, runs: u32) -> Option<u32>
     }
 }
 
+/// From now on a part that stands in no row is noted where so many items or more tell its end, or none is.
+fn note_from(spans: &mut KnownSpans<'_>, least: Option<u32>)
+    ensures least { spans.new.least ≡ least }
+    ensures same { spans.new.spans.items ≡ spans.old.spans.items }
+{
+    spans.least = least;
+}
+
 /// How the view of a run differs from that of the run before it: all that the first run sees is new.
-fn change_of(context: &Context<'_, '_, '_>, tree: &CondTree<'_>, number: u32) -> Change
+fn change_of(context: &Context<'_>, tree: &CondTree<'_>, number: u32) -> Change
     requires tree { IsTreeOf context.now.arena.now tree.now }
     requires number { number < runs_of context.now.arena.now }
     ensures end { result.end ≤ length context.now.arena.now.tokens }
@@ -567,12 +562,10 @@ fn change_of(context: &Context<'_, '_, '_>, tree: &CondTree<'_>, number: u32) ->
 
 /// Decides the gaps of all items of texts, run by run. A run that sees nothing new is passed over. What a run takes of
 /// memory serves the next one too.
-fn lay_out_runs<'k>(
-    context: &Context<'_, '_, '_>,
+fn lay_out_runs(
+    context: &Context<'_>,
     tree: &CondTree<'_>,
-    known: &mut [KnownEnd],
-    spans: &mut KnownSpans<'k>,
-    keep: &'k Bump,
+    keep: &Bump,
     made: &mut Made<'_>,
 ) -> Result<(), NoMemory>
     requires range { IsInRange context.now.style.now }
@@ -583,44 +576,31 @@ fn lay_out_runs<'k>(
     requires none { made.old.tally.searched ≡ 0 }
     requires free { made.old.tally.cost ≡ 0 }
     requires counted { IsCounted context.now.arena.now made.old.tally.lines }
-    requires known { AreKnown context.now.arena.now known.old }
-    requires rows { AreRowsDecided made.old.plan known.old }
-    requires spans { AreSpans context.now.arena.now spans.old.spans.items }
     ensures told { OnOk result (AreRunsTold context.now.style.now context.now.budget context.now.arena.now made.old.plan 0 (runs_of context.now.arena.now) made.new.plan made.old.tally made.new.tally) }
     ensures len { OnOk result (length made.new.plan ≡ length made.old.plan) }
 {
-    let mut run = Bump::new(context.alloc);
-    let mut bounds = Vec::new(keep);
-    let mut ahead = LEAST_AHEAD;
     let count = tree.runs();
+    // Where there is one run, none follows to which parts are told.
+    let again = if count > 1 { context.classes.len() } else { 0 };
+    let mut known = KnownParts::none(again, keep)?;
+    let mut run = Bump::new(context.alloc);
+    let mut ahead = LEAST_AHEAD;
     for number in 0..count {
         let change = change_of(context, tree, number);
-        let bound = last_bound(&mut bounds, change.first);
+        let bound = last_bound(&mut known.bounds, change.first);
         if change.end == 0 {
             continue;
         }
-        spans.least = least_noted(number, count);
+        let least = least_noted(number, count);
+        note_from(&mut known.spans, least);
         let turn = Turn {
             number,
             bound,
             new_end: change.end,
-            later: spans.least.is_some(),
+            later: least.is_some(),
         };
-        lay_out_seen(
-            context,
-            tree,
-            &turn,
-            known,
-            spans,
-            keep,
-            &mut bounds,
-            made,
-            &mut ahead,
-            &run,
-        )?;
-        if run.reset().is_err() {
-            run = Bump::new(context.alloc);
-        }
+        lay_out_seen(context, tree, &turn, &mut known, made, &mut ahead, &run)?;
+        clear(&mut run, context.alloc);
     }
     Ok(())
 }
@@ -644,10 +624,6 @@ pub(crate) fn plan_of<'a>(
     ensures len { IfOk result (λ made. length made.plan ≡ length arena.now.tokens + 1) }
 {
     let tree = CondTree::build(arena, sections, bump)?;
-    let mut plan = Plan::make(arena, bump)?;
-    decide_early(
-        alloc, style, arena, sections, &tree, ranges, bump, &mut plan,
-    )?;
     let context = Context {
         alloc,
         style,
@@ -655,13 +631,12 @@ pub(crate) fn plan_of<'a>(
         arena,
         classes: item_classes(arena, bump)?,
     };
+    let mut plan = Plan::make(arena, bump)?;
+    decide_early(&context, sections, &tree, ranges, bump, &mut plan)?;
     let runs = tree.runs();
-    let again = if runs > 1 { context.classes.len() } else { 0 };
-    let known = into_bump_slice_mut(vec![in bump; KnownEnd::Unknown; again]?);
-    let mut spans = KnownSpans::none(again / 2, bump);
     let tally = Tally::new(bump);
     let mut made = Made { plan, tally };
-    lay_out_runs(&context, &tree, known, &mut spans, bump, &mut made)?;
+    lay_out_runs(&context, &tree, bump, &mut made)?;
     let Made { plan, tally } = made;
     Ok(Planned { plan, runs, tally })
 }

@@ -8,6 +8,7 @@ ghost use Rattle.style_table.specs.Range.{IsInRange};
 ghost use Rattle.format_core.specs.BeforeRuns.{early_decisions};
 ghost use Rattle.format_core.specs.Dead.{IsTreeOf};
 
+use crate::context::Context;
 use crate::early_gaps::keep::keep_gaps;
 use crate::early_gaps::last::last_decision;
 use branch_runs::CondTree;
@@ -16,35 +17,33 @@ use directive_layout::lay_all;
 use line_tokens::NoMemory;
 use off_regions::{Ranges, frozen};
 use replacements::Plan;
-use std::alloc::Global;
-use style_table::Style;
-use token_arena::{Section, TokenArena};
+use token_arena::Section;
 
 /// Decides all that no run decides, where it is open: the gaps that stay, those of directives, and the last gap. The
 /// sections are those of the text, and the tree is made of them. Gaps stay where formatting is off, where none of these
 /// ranges has the line, beside items in the group of a literal `#if 0`, and in rows behind a backslash, blanks and a
 /// new-line. Want of memory is the only error.
 pub fn decide_early(
-    alloc: Global,
-    style: &Style,
-    arena: &TokenArena<'_, '_>,
+    context: &Context<'_>,
     sections: &[Section],
     tree: &CondTree<'_>,
     ranges: Option<&Ranges>,
     bump: &Bump,
     plan: &mut Plan<'_>,
 ) -> Result<(), NoMemory>
-    requires range { IsInRange style.now }
-    requires fits { length arena.now.text ≤ LIMIT }
-    requires sections { sections.now ≡ sections_of arena.now }
-    requires tree { IsTreeOf arena.now tree.now }
-    requires whole { length plan.old ≡ length arena.now.tokens + 1 }
-    ensures plan { OnOk result (plan.new ≡ decided_all plan.old (early_decisions style.now arena.now (option_map (λ ranges. ranges.now) ranges.entry))) }
+    requires range { IsInRange context.now.style.now }
+    requires fits { length context.now.arena.now.text ≤ LIMIT }
+    requires sections { sections.now ≡ sections_of context.now.arena.now }
+    requires tree { IsTreeOf context.now.arena.now tree.now }
+    requires whole { length plan.old ≡ length context.now.arena.now.tokens + 1 }
+    ensures plan { OnOk result (plan.new ≡ decided_all plan.old (early_decisions context.now.style.now context.now.arena.now (option_map (λ ranges. ranges.now) ranges.entry))) }
     ensures len { OnOk result (length plan.new ≡ length plan.old) }
 {
+    let style = context.style;
+    let arena = context.arena;
     let marks = frozen(arena, ranges, bump)?;
     keep_gaps(style.tab_width, arena, tree, marks, plan);
-    lay_all(alloc, style, arena, sections, plan)?;
+    lay_all(context.alloc, style, arena, sections, plan)?;
     let last = last_decision(style, arena);
     let _ = plan.decide(arena.len(), last, 0);
     Ok(())

@@ -1,6 +1,6 @@
 //! The gaps that stay as they are.
 
-ghost use Rattle.std.specs.Prelude.{◌≡◌, ◌≤◌, ◌<◌, ◌+◌, ◌||◌, ℕ, Some, None, if◌then◌else◌, false, get_or, length};
+ghost use Rattle.std.specs.Prelude.{◌≡◌, ◌≤◌, ◌<◌, ◌+◌, ◌||◌, ℕ, Some, None, if◌then◌else◌, false, length};
 ghost use Rattle.c_chars.specs.declared.TheConstants.{LIMIT};
 ghost use Rattle.replacements.specs.Decisions.{decided_all};
 ghost use Rattle.run_layout.specs.InputColumns.{kept_slot};

@@ -30,7 +30,7 @@ returns-clause-told c =
     let classes = c.in_ok-classes.ensures.classes in
     let partners_is : partners ≡ partners_of (classes_of arena ids) = c.in_ok-facts.ensures.partners ∙ ap (λ (cs : List TokenClass). partners_of cs) classes in
     let lines_is : lines ≡ unwrapped_lines_of style arena ids (partners_of (classes_of arena ids)) = c.in_ok-lines.ensures.lines ∙ ap (λ (ps : List (Option ℕ)). unwrapped_lines_of style arena ids ps) partners_is in
-    items_from style c.args.context.now.budget arena c.args.number plan c.keep_gaps.new.plan ids c.in_ok-toks.toks.now lines c.lay_out_view.new.plan c.args.made.now.tally c.lay_out_view.new.tally
-    (c.in_ok-toks.ensures.roles ∙ (ap (λ (ps : List (Option ℕ)). roles_of arena ids ps lines) partners_is ∙ ap (λ (ls : List ULine). roles_of arena ids (partners_of (classes_of arena ids)) ls) lines_is))
+    items_from style c.args.context.now.budget arena c.args.number plan c.keep_gaps.new.plan ids c.in_ok-tokens.tokens.now lines c.lay_out_view.new.plan c.args.made.now.tally c.lay_out_view.new.tally
+    (c.in_ok-tokens.ensures.roles ∙ (ap (λ (ps : List (Option ℕ)). roles_of arena ids ps lines) partners_is ∙ ap (λ (ls : List ULine). roles_of arena ids (partners_of (classes_of arena ids)) ls) lines_is))
     (c.keep_gaps.ensures.plan ∙ ap (λ (marks : List Bool). decided_all plan (kept_decisions style arena 0 ids marks)) (c.in_ok-facts.ensures.kept ∙ ap (λ (cs : List TokenClass). kept_gaps_of cs) classes))
     lines_is c.in_ok-lay_out_view.ensures.laid

@@ -1,10 +1,12 @@
-use Rattle.std.proofs.Common.{◌≡◌, ◌∙◌, ◌+◌, ◌-◌, suc, List, length, ap, subst, arith}
+use Rattle.std.proofs.Common.{◌≡◌, ◌∙◌, ◌+◌, ◌-◌, suc, List, length, sym, ap, subst, arith}
 use Rattle.branch_runs.specs.declared.mark.Mark.{Mark}
 use Rattle.branch_runs.specs.Reading.{read}
 use Rattle.branch_runs.specs.Runs.{need}
+use Rattle.view_parts.specs.declared.known.KnownSpan.{KnownSpan}
 use Rattle.format_core.specs.Bounds.{AreBounds}
 use Rattle.format_core.specs.Runs.{runs_of, seen_by}
 use Rattle.format_core.specs.RunsTold.{AreRunsTold}
+use Rattle.format_core.specs.Windows.{AreInStep}
 use Rattle.format_core.specs.declared.bounds.KnownBound.{KnownBound}
 use Rattle.format_core.proofs.RunsTold.{runs_begin, run_done, runs_end}
 use Rattle.format_core.proofs.SeenBefore.{none_seen, run_seen, behind_change, before_change, nothing_new_told, run_bounds}
@@ -17,12 +19,12 @@ loop-number-init c = record {
     whole = c.requires.whole;
     cheap = omega (arith, c.requires.none, c.requires.free);
     counted = c.requires.counted;
-    known = c.requires.known;
-    rows = c.requires.rows;
-    spans = c.requires.spans;
+    known = c.in_ok-known.ensures.known c.args.context.now.arena.now;
+    rows = c.in_ok-known.ensures.rows c.args.made.now.plan;
+    spans = c.in_ok-known.ensures.spans c.args.context.now.arena.now;
   };
   bounds = λ later. absurd (omega (arith, later));
-  none = λ first. ap (λ (xs : List KnownBound). length xs) c.new-bounds.ensures.items;
+  none = λ first. ap (λ (xs : List KnownBound). length xs) c.in_ok-known.ensures.bounds;
   seen = none_seen c.args.context.now.arena.now c.args.made.now.plan;
   on = runs_begin c.args.context.now.style.now c.args.context.now.budget c.args.context.now.arena.now c.args.made.now.plan c.runs-count.result (c.runs-count.result - 0) c.args.made.now.tally (omega arith);
 }
@@ -38,7 +40,7 @@ loop-number-preserved-then-change-eq0 c =
     let here : number ≡ number + 1 - 1 = omega arith in
     let told = nothing_new_told c.args.context.now.style.now c.args.context.now.budget arena c.loop-number.made.plan number c.change_of-change.result.end c.loop-number.made.tally v.seen changed.all changed.behind c.if-change-eq0.true in
     let left =
-    run_bounds c.args.context.now.arena.now c.loop-number.number c.loop-number.bounds.items c.last_bound-bound.new.bounds.items c.change_of-change.result.first c.last_bound-bound.result.item c.last_bound-bound.result.told v.bounds v.none changed.before
+    run_bounds c.args.context.now.arena.now c.loop-number.number c.loop-number.known.bounds.items c.last_bound-bound.new.bounds.items c.change_of-change.result.first c.last_bound-bound.result.item c.last_bound-bound.result.told v.bounds v.none changed.before
     c.last_bound-bound.ensures.low (c.last_bound-bound.ensures.bounds c.args.context.now.arena.now) (c.last_bound-bound.ensures.last c.args.context.now.arena.now) in
     record {
       room = omega (arith, v.room);
@@ -49,12 +51,16 @@ loop-number-preserved-then-change-eq0 c =
       on = run_done c.args.context.now.style.now c.args.context.now.budget arena c.args.made.now.plan count c.args.made.now.tally c.loop-number.made.tally c.loop-number.made.tally c.loop-number.made.plan c.loop-number.made.plan number (count - (number + 1)) (count - number) more v.on told;
     }
 
+pub lay_out_seen-requires-clause-state : goal.lay_out_seen-requires-clause-state
+lay_out_seen-requires-clause-state c =
+    subst (λ (kept : List KnownSpan). AreInStep c.args.context.now.arena.now c.loop-number.made c.loop-number.known.ends.now kept) (sym c.note_from.ensures.same) c.loop-number.invariant.state
+
 pub lay_out_seen-requires-clause-bound : goal.lay_out_seen-requires-clause-bound
 lay_out_seen-requires-clause-bound c =
     let v = c.loop-number.invariant in
     let changed = c.change_of-change.ensures in
     let left =
-    run_bounds c.args.context.now.arena.now c.loop-number.number c.loop-number.bounds.items c.last_bound-bound.new.bounds.items c.change_of-change.result.first c.last_bound-bound.result.item c.last_bound-bound.result.told v.bounds v.none changed.before
+    run_bounds c.args.context.now.arena.now c.loop-number.number c.loop-number.known.bounds.items c.last_bound-bound.new.bounds.items c.change_of-change.result.first c.last_bound-bound.result.item c.last_bound-bound.result.told v.bounds v.none changed.before
     c.last_bound-bound.ensures.low (c.last_bound-bound.ensures.bounds c.args.context.now.arena.now) (c.last_bound-bound.ensures.last c.args.context.now.arena.now) in
     left.bound
 
@@ -63,7 +69,7 @@ lay_out_seen-requires-clause-bounds c =
     let v = c.loop-number.invariant in
     let changed = c.change_of-change.ensures in
     let left =
-    run_bounds c.args.context.now.arena.now c.loop-number.number c.loop-number.bounds.items c.last_bound-bound.new.bounds.items c.change_of-change.result.first c.last_bound-bound.result.item c.last_bound-bound.result.told v.bounds v.none changed.before
+    run_bounds c.args.context.now.arena.now c.loop-number.number c.loop-number.known.bounds.items c.last_bound-bound.new.bounds.items c.change_of-change.result.first c.last_bound-bound.result.item c.last_bound-bound.result.told v.bounds v.none changed.before
     c.last_bound-bound.ensures.low (c.last_bound-bound.ensures.bounds c.args.context.now.arena.now) (c.last_bound-bound.ensures.last c.args.context.now.arena.now) in
     left.bounds
 
@@ -72,7 +78,7 @@ lay_out_seen-requires-clause-before c =
     let v = c.loop-number.invariant in
     let changed = c.change_of-change.ensures in
     let left =
-    run_bounds c.args.context.now.arena.now c.loop-number.number c.loop-number.bounds.items c.last_bound-bound.new.bounds.items c.change_of-change.result.first c.last_bound-bound.result.item c.last_bound-bound.result.told v.bounds v.none changed.before
+    run_bounds c.args.context.now.arena.now c.loop-number.number c.loop-number.known.bounds.items c.last_bound-bound.new.bounds.items c.change_of-change.result.first c.last_bound-bound.result.item c.last_bound-bound.result.told v.bounds v.none changed.before
     c.last_bound-bound.ensures.low (c.last_bound-bound.ensures.bounds c.args.context.now.arena.now) (c.last_bound-bound.ensures.last c.args.context.now.arena.now) in
     λ id early sees.
     before_change c.args.context.now.arena.now c.loop-number.made.plan c.loop-number.number c.change_of-change.result.first v.seen changed.first changed.before id (omega (arith, early, left.bound.order, c.last_bound-bound.ensures.low)) sees
@@ -95,7 +101,7 @@ loop-number-preserved c =
     record {
       room = omega (arith, made.room, v.room);
       state = made.state;
-      bounds = λ later. (made.bounds.0, subst (λ r. AreBounds arena (seen_by arena r) c.lay_out_seen.new.bounds.items made.bounds.0) here made.bounds.1);
+      bounds = λ later. (made.bounds.0, subst (λ r. AreBounds arena (seen_by arena r) c.lay_out_seen.new.known.bounds.items made.bounds.0) here made.bounds.1);
       none = λ first. absurd (omega (arith, first));
       seen = run_seen c.args.context.now.style.now c.args.context.now.budget arena c.loop-number.made.plan c.lay_out_seen.new.made.plan number c.loop-number.made.tally c.lay_out_seen.new.made.tally v.state.whole v.seen made.told;
       on = run_done c.args.context.now.style.now c.args.context.now.budget arena c.args.made.now.plan count c.args.made.now.tally c.loop-number.made.tally c.lay_out_seen.new.made.tally c.loop-number.made.plan c.lay_out_seen.new.made.plan number (count - (number + 1)) (count - number) more v.on made.told;

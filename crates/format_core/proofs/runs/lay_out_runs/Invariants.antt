@@ -9,9 +9,9 @@ use Rattle.format_core.proofs.runs.lay_out_runs.Given as goal
 abbrev pub invariant-loop-number : goal.invariant-loop-number
 invariant-loop-number l = record {
   room : l.made.tally.searched ≤ l.number * 33554432;
-  state : AreInStep l.context.arena.now l.made l.known l.spans.spans.items;
-  bounds : 0 < l.number → (told : ℕ) × AreBounds l.context.arena.now (seen_by l.context.arena.now (l.number - 1)) l.bounds.items told;
-  none : l.number ≡ 0 → length l.bounds.items ≡ 0;
+  state : AreInStep l.context.arena.now l.made l.known.ends.now l.known.spans.spans.items;
+  bounds : 0 < l.number → (told : ℕ) × AreBounds l.context.arena.now (seen_by l.context.arena.now (l.number - 1)) l.known.bounds.items told;
+  none : l.number ≡ 0 → length l.known.bounds.items ≡ 0;
   seen : AreSeenDecided l.context.arena.now l.made.plan l.number;
   on : GoesOnRuns l.context.style.now l.context.budget l.context.arena.now l.initial.made.plan l.count l.initial.made.tally l.made.plan l.number (l.count - l.number) l.made.tally;
 }

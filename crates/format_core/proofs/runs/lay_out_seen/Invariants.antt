@@ -13,9 +13,9 @@ invariant-loop-window l = record {
   new : l.turn.new_end ≤ l.end;
   place : place_before l.context.arena.now l.turn.number l.first ≤ length (seen_by l.context.arena.now l.turn.number);
   room : l.made.tally.searched ≤ l.initial.made.tally.searched + place_before l.context.arena.now l.turn.number l.first;
-  state : AreInStep l.context.arena.now l.made l.known l.spans.spans.items;
+  state : AreInStep l.context.arena.now l.made l.known.ends.now l.known.spans.spans.items;
   begin : IsTrue l.turn.later → BeginTold l.context.arena.now (items_between 0 l.told (seen_by l.context.arena.now l.turn.number)) (place_before l.context.arena.now l.turn.number l.first);
-  bounds : AreBounds l.context.arena.now (seen_by l.context.arena.now l.turn.number) l.bounds.items l.told;
+  bounds : AreBounds l.context.arena.now (seen_by l.context.arena.now l.turn.number) l.known.bounds.items l.told;
   on : GoesOnFrom l.context.style.now l.context.budget l.context.arena.now l.turn.number l.initial.made.plan (seen_by l.context.arena.now l.turn.number) l.initial.made.tally l.made.plan (place_before l.context.arena.now l.turn.number l.first) l.made.tally;
 }
 

@@ -1,19 +1,16 @@
-use Rattle.std.proofs.Common.{◌≡◌, ◌∙◌, ◌+◌, ◌-◌, ◌<◌, ◌≤◌, Option, length, sym, ap, subst, arith}
+use Rattle.std.proofs.Common.{◌≡◌, ◌∙◌, ◌+◌, ◌-◌, ◌<◌, ◌≤◌, Option, length, sym, subst, arith}
 use Rattle.std.specs.Prelude.{IfSome}
-use Rattle.std.specs.Option.{ForNone, ForSome}
 use Rattle.branch_runs.specs.Anew.{items_between}
 use Rattle.token_classes.proofs.Lists.{few_below}
 use Rattle.view_parts.specs.declared.known.PartsEnd.{PartsEnd}
-use Rattle.format_core.specs.declared.runs.Way.{Way}
-use Rattle.format_core.specs.Bounds.{AreBounds, BeginTold}
+use Rattle.format_core.specs.Bounds.{BeginTold}
 use Rattle.format_core.specs.PartByPart.{GoesOnFrom}
 use Rattle.format_core.specs.Runs.{seen_by}
-use Rattle.format_core.specs.Windows.{AreToldIn, place_before}
+use Rattle.format_core.specs.Windows.{place_before}
 use Rattle.format_core.proofs.Between.{in_order}
 use Rattle.format_core.proofs.SeenInOrder.{seen_increases}
-use Rattle.format_core.proofs.WindowParts.{seen_item, behind_window, unlike}
+use Rattle.format_core.proofs.WindowParts.{seen_item, behind_window}
 use Rattle.format_core.proofs.runs.lay_out_window.Goals as goal
-use Rattle.format_core.proofs.runs.lay_out_window.Goals.{then-window+in_ok-note_bound, else-window}
 
 pub prove-unreachable-requires : goal.prove-unreachable-requires
 prove-unreachable-requires c =
@@ -35,6 +32,14 @@ returns-then-id-window-clause-done c = λ none k low high.
 pub returns-in_default-clause-on : goal.returns-in_default-clause-on
 returns-in_default-clause-on c = λ plan before from. c.in_ok-found.ensures.on plan before (c.loop-way.invariant.on plan before from)
 
+pub note_bound-requires-clause-begin : goal.note_bound-requires-clause-begin
+note_bound-requires-clause-begin c = λ later.
+    let arena = c.args.context.now.arena.now in
+    let window = c.args.window.now in
+    let first = c.loop-way.way.first in
+    let here : first < length window.view = omega (arith, c.loop-way-test.true, c.len-count.ensures.count) in
+    subst (λ k. BeginTold arena (items_between 0 k (seen_by arena window.number)) (place_before arena window.number window.first + first)) (sym c.in_ok-found.ensures.same) (c.loop-way.invariant.begin later here)
+
 pub loop-way-preserved : goal.loop-way-preserved
 loop-way-preserved c =
     let arena = c.args.context.now.arena.now in
@@ -45,95 +50,22 @@ loop-way-preserved c =
     let place = place_before arena window.number window.first in
     let v = c.loop-way.invariant in
     let next = c.in_ok-found.ensures in
+    let note = c.in_ok-note_bound.ensures in
     let parts = c.in-Some.parts in
-    let first = c.loop-way.way.first in
     let way = c.lay_out_next.new.way in
-    let here : first < length window.view = omega (arith, c.loop-way-test.true, c.len-count.ensures.count) in
+    let noted = c.note_bound.new.way in
+    let made = c.lay_out_next.new.made in
     let end : way.first ≡ parts.end = subst (λ (found : Option PartsEnd). IfSome found (λ parts. way.first ≡ parts.end)) c.in-Some.is next.end in
-    let some : first < parts.end = subst (λ (found : Option PartsEnd). IfSome found (λ parts. first < parts.end)) c.in-Some.is next.some in
-    let told : ForSome parts.told (λ told. AreToldIn arena window.view first parts.end told) =
-    subst (λ (found : Option PartsEnd). IfSome found (λ parts. ForSome parts.told (λ told. AreToldIn arena window.view first parts.end told))) c.in-Some.is next.told in
-    let whole : ForNone parts.told (parts.end ≡ length window.view) = subst (λ (found : Option PartsEnd). IfSome found (λ parts. ForNone parts.told (parts.end ≡ length window.view))) c.in-Some.is next.whole in
-    elim c.if-window.branch [
-      | then-window+in_ok-note_bound w ↦
-          let note = w.in_ok-note_bound.ensures in
-          let noted = w.note_bound.new.way in
-          let stays : c.if-window.way'.first ≡ way.first = ap (λ (way : Way). way.first) w.way'-is ∙ note.first in
-          let begun : BeginTold arena (items_between 0 way.told seen) (place + first) = subst (λ k. BeginTold arena (items_between 0 k seen) (place + first)) (sym next.same) (v.begin w.if-window.true here) in
-          let bounds : AreBounds arena seen c.loop-way.bounds.items way.told = subst (λ k. AreBounds arena seen c.loop-way.bounds.items k) (sym next.same) v.bounds in
-          record {
-            inside = omega (arith, stays, next.inside);
-            room = omega (arith, next.room, v.room, some, end, stays);
-            state = next.state;
-            begin = λ later short.
-                let front : BeginTold arena (items_between 0 noted.told seen) (place + parts.end) = note.told arena c.requires.window told some begun whole (omega (arith, short, stays, end)) in
-                subst (λ (way : Way). BeginTold arena (items_between 0 way.told seen) (place + way.first)) (sym w.way'-is) (subst (λ k. BeginTold arena (items_between 0 noted.told seen) (place + k)) (sym (note.first ∙ end)) front);
-            bounds = subst (λ (way : Way). AreBounds arena seen c.if-window.bounds.items way.told) (sym w.way'-is)
-                (subst (λ bounds. AreBounds arena seen bounds.items noted.told) (sym w.bounds-is) (note.bounds arena c.requires.window told some begun bounds));
-            on = λ plan before from. subst (λ k. GoesOnFrom style budget arena window.number plan seen before c.lay_out_next.new.made.plan (place + k) c.lay_out_next.new.made.tally) (sym stays) (next.on plan before (v.on plan before from));
-          }
-      | else-window w ↦
-          let stays : c.if-window.way'.first ≡ way.first = ap (λ (way : Way). way.first) w.way'-is in
-          let bounds : AreBounds arena seen c.loop-way.bounds.items way.told = subst (λ k. AreBounds arena seen c.loop-way.bounds.items k) (sym next.same) v.bounds in
-          record {
-            inside = omega (arith, stays, next.inside);
-            room = omega (arith, next.room, v.room, some, end, stays);
-            state = next.state;
-            begin = λ later short. absurd (unlike (sym w.if-window.false ∙ later));
-            bounds = subst (λ (way : Way). AreBounds arena seen c.if-window.bounds.items way.told) (sym w.way'-is) (subst (λ bounds. AreBounds arena seen bounds.items way.told) (sym w.bounds-is) bounds);
-            on = λ plan before from. subst (λ k. GoesOnFrom style budget arena window.number plan seen before c.lay_out_next.new.made.plan (place + k) c.lay_out_next.new.made.tally) (sym stays) (next.on plan before (v.on plan before from));
-          }
-    ]
-
-pub loop-way-preserved-then-is_err : goal.loop-way-preserved-then-is_err
-loop-way-preserved-then-is_err c =
-    let arena = c.args.context.now.arena.now in
-    let window = c.args.window.now in
-    let style = c.args.context.now.style.now in
-    let budget = c.args.context.now.budget in
-    let seen = seen_by arena window.number in
-    let place = place_before arena window.number window.first in
-    let v = c.loop-way.invariant in
-    let next = c.in_ok-found.ensures in
-    let parts = c.in-Some.parts in
-    let first = c.loop-way.way.first in
-    let way = c.lay_out_next.new.way in
-    let here : first < length window.view = omega (arith, c.loop-way-test.true, c.len-count.ensures.count) in
-    let end : way.first ≡ parts.end = subst (λ (found : Option PartsEnd). IfSome found (λ parts. way.first ≡ parts.end)) c.in-Some.is next.end in
-    let some : first < parts.end = subst (λ (found : Option PartsEnd). IfSome found (λ parts. first < parts.end)) c.in-Some.is next.some in
-    let told : ForSome parts.told (λ told. AreToldIn arena window.view first parts.end told) =
-    subst (λ (found : Option PartsEnd). IfSome found (λ parts. ForSome parts.told (λ told. AreToldIn arena window.view first parts.end told))) c.in-Some.is next.told in
-    let whole : ForNone parts.told (parts.end ≡ length window.view) = subst (λ (found : Option PartsEnd). IfSome found (λ parts. ForNone parts.told (parts.end ≡ length window.view))) c.in-Some.is next.whole in
-    elim c.if-window.branch [
-      | then-window+in_ok-note_bound w ↦
-          let note = w.in_ok-note_bound.ensures in
-          let noted = w.note_bound.new.way in
-          let stays : c.if-window.way'.first ≡ way.first = ap (λ (way : Way). way.first) w.way'-is ∙ note.first in
-          let begun : BeginTold arena (items_between 0 way.told seen) (place + first) = subst (λ k. BeginTold arena (items_between 0 k seen) (place + first)) (sym next.same) (v.begin w.if-window.true here) in
-          let bounds : AreBounds arena seen c.loop-way.bounds.items way.told = subst (λ k. AreBounds arena seen c.loop-way.bounds.items k) (sym next.same) v.bounds in
-          record {
-            inside = omega (arith, stays, next.inside);
-            room = omega (arith, next.room, v.room, some, end, stays);
-            state = next.state;
-            begin = λ later short.
-                let front : BeginTold arena (items_between 0 noted.told seen) (place + parts.end) = note.told arena c.requires.window told some begun whole (omega (arith, short, stays, end)) in
-                subst (λ (way : Way). BeginTold arena (items_between 0 way.told seen) (place + way.first)) (sym w.way'-is) (subst (λ k. BeginTold arena (items_between 0 noted.told seen) (place + k)) (sym (note.first ∙ end)) front);
-            bounds = subst (λ (way : Way). AreBounds arena seen c.if-window.bounds.items way.told) (sym w.way'-is)
-                (subst (λ bounds. AreBounds arena seen bounds.items noted.told) (sym w.bounds-is) (note.bounds arena c.requires.window told some begun bounds));
-            on = λ plan before from. subst (λ k. GoesOnFrom style budget arena window.number plan seen before c.lay_out_next.new.made.plan (place + k) c.lay_out_next.new.made.tally) (sym stays) (next.on plan before (v.on plan before from));
-          }
-      | else-window w ↦
-          let stays : c.if-window.way'.first ≡ way.first = ap (λ (way : Way). way.first) w.way'-is in
-          let bounds : AreBounds arena seen c.loop-way.bounds.items way.told = subst (λ k. AreBounds arena seen c.loop-way.bounds.items k) (sym next.same) v.bounds in
-          record {
-            inside = omega (arith, stays, next.inside);
-            room = omega (arith, next.room, v.room, some, end, stays);
-            state = next.state;
-            begin = λ later short. absurd (unlike (sym w.if-window.false ∙ later));
-            bounds = subst (λ (way : Way). AreBounds arena seen c.if-window.bounds.items way.told) (sym w.way'-is) (subst (λ bounds. AreBounds arena seen bounds.items way.told) (sym w.bounds-is) bounds);
-            on = λ plan before from. subst (λ k. GoesOnFrom style budget arena window.number plan seen before c.lay_out_next.new.made.plan (place + k) c.lay_out_next.new.made.tally) (sym stays) (next.on plan before (v.on plan before from));
-          }
-    ]
+    let some : c.loop-way.way.first < parts.end = subst (λ (found : Option PartsEnd). IfSome found (λ parts. c.loop-way.way.first < parts.end)) c.in-Some.is next.some in
+    record {
+      inside = omega (arith, note.first, next.inside);
+      room = omega (arith, next.room, v.room, some, end, note.first);
+      state = next.state;
+      begin = λ later short.
+          subst (λ k. BeginTold arena (items_between 0 noted.told seen) (place + k)) (sym (note.first ∙ end)) (note.begin later (omega (arith, short, note.first, end)));
+      bounds = note.bounds;
+      on = λ plan before from. subst (λ k. GoesOnFrom style budget arena window.number plan seen before made.plan (place + k) made.tally) (sym note.first) (next.on plan before (v.on plan before from));
+    }
 
 pub returns-clause-done : goal.returns-clause-done
 returns-clause-done c = λ none k low high.

@@ -13,9 +13,9 @@ abbrev pub invariant-loop-way : goal.invariant-loop-way
 invariant-loop-way l = record {
   inside : l.way.first ≤ length l.window.view;
   room : l.made.tally.searched ≤ l.initial.made.tally.searched + l.way.first;
-  state : AreInStep l.context.arena.now l.made l.known l.spans.spans.items;
+  state : AreInStep l.context.arena.now l.made l.known.ends.now l.known.spans.spans.items;
   begin : IsTrue l.window.later → l.way.first < length l.window.view → BeginTold l.context.arena.now (items_between 0 l.way.told (seen_by l.context.arena.now l.window.number)) (place_before l.context.arena.now l.window.number l.window.first + l.way.first);
-  bounds : AreBounds l.context.arena.now (seen_by l.context.arena.now l.window.number) l.bounds.items l.way.told;
+  bounds : AreBounds l.context.arena.now (seen_by l.context.arena.now l.window.number) l.known.bounds.items l.way.told;
   on : (plan : List (Option Slot)) (before : Tally)
       → GoesOnFrom l.context.style.now l.context.budget l.context.arena.now l.window.number plan (seen_by l.context.arena.now l.window.number) before l.initial.made.plan (place_before l.context.arena.now l.window.number l.window.first) l.initial.made.tally
       → GoesOnFrom l.context.style.now l.context.budget l.context.arena.now l.window.number plan (seen_by l.context.arena.now l.window.number) before l.made.plan (place_before l.context.arena.now l.window.number l.window.first + l.way.first) l.made.tally;

@@ -7,12 +7,12 @@ use Rattle.format_core.proofs.Tells.{early_made}
 use Rattle.format_core.proofs.early_gaps.early.decide_early.Goals as goal
 
 pub keep_gaps-requires-clause-marks : goal.keep_gaps-requires-clause-marks
-keep_gaps-requires-clause-marks c = ap (λ (marks : List Bool). length marks) c.in_ok-marks.ensures ∙ length-frozen_gaps c.args.arena.now _
+keep_gaps-requires-clause-marks c = ap (λ (marks : List Bool). length marks) c.in_ok-marks.ensures ∙ length-frozen_gaps c.args.context.now.arena.now _
 
 pub returns-clause-plan : goal.returns-clause-plan
 returns-clause-plan c =
-    let style = c.args.style.now in
-    let arena = c.args.arena.now in
+    let style = c.args.context.now.style.now in
+    let arena = c.args.context.now.arena.now in
     let laid : List (Option Slot) = c.lay_all.new.plan in
     let last : Slot = record { decision = c.last_decision-last.result; end = 0 } in
     early_made style arena _ c.in_ok-marks.marks.now last c.args.plan.now c.keep_gaps.new.plan laid c.decide.new.self c.in_ok-marks.ensures c.keep_gaps.ensures.plan c.in_ok-lay_all.ensures.plan
