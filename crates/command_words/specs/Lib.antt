@@ -4,3 +4,4 @@ pub mod Generate
 pub mod Lines
 pub mod Said
 pub mod Generated
+pub mod Kinds

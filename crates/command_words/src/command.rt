@@ -2,12 +2,39 @@
 //!
 //! An argument of `clap` has many fields, so each is made in a function of its own, whose clause is its rule.
 
-ghost use Rattle.std.specs.Prelude.{◌≡◌, false, IfOk};
+ghost use Rattle.std.specs.Prelude.{◌≡◌, false, IfOk, fold, map};
 ghost use Rattle.clap.specs.Words.{app_of, rule_of, with_rule};
 ghost use Rattle.command_words.specs.Command.{bare, command, flag_rule, letter_rule, names_rule, option_rule};
+ghost use Rattle.command_words.specs.Kinds.{kind_rule};
 
 use clap::{Arg, ArgAction, Command};
 use std::alloc::{AllocError, Global};
+
+/// A kind of word.
+#[derive(Clone, Copy)]
+enum WordKind {
+    /// An option with a value.
+    Value,
+    /// A flag.
+    Flag,
+    /// A flag that is written with this letter.
+    Letter(char),
+    /// Words that are no options, in any number.
+    Names,
+}
+
+/// The words that are built, by their names.
+const WORDS: &[(&str, WordKind)] = &[
+    ("style", WordKind::Value),
+    ("lines", WordKind::Value),
+    ("states", WordKind::Value),
+    ("in-place", WordKind::Letter('i')),
+    ("dry-run", WordKind::Flag),
+    ("Werror", WordKind::Flag),
+    ("dump-config", WordKind::Flag),
+    ("generate", WordKind::Value),
+    ("file", WordKind::Names),
+];
 
 /// An option with a value.
 fn option<'w>(alloc: Global, name: &'w str) -> Arg<'w>
@@ -61,28 +88,37 @@ fn bare_command<'w>(alloc: Global) -> Command<'w>
         .disable_version_flag(true)
 }
 
+/// The argument of a kind with this name.
+fn arg_of<'w>(alloc: Global, name: &'w str, kind: WordKind) -> Arg<'w>
+    ensures rule { rule_of result ≡ kind_rule name.entry.now kind }
+    ensures local { result.global ≡ false }
+{
+    match kind {
+        WordKind::Value => option(alloc, name),
+        WordKind::Flag => flag(alloc, name),
+        WordKind::Letter(by) => letter(alloc, name, by),
+        WordKind::Names => names(alloc, name),
+    }
+}
+
+/// The command with these words more.
+fn with_words<'w>(
+    alloc: Global,
+    command: Command<'w>,
+    words: &[(&'w str, WordKind)],
+) -> Result<Command<'w>, AllocError>
+    ensures { IfOk result (λ grown. app_of grown ≡ fold with_rule (app_of command.entry) (map (λ row. kind_rule row.0.now row.1) words.entry.now)) }
+{
+    let mut grown = command;
+    for (name, kind) in words {
+        grown = with_arg(grown, arg_of(alloc, name, *kind))?;
+    }
+    Ok(grown)
+}
+
 /// The command with all words that are built.
 pub fn make_command<'w>(alloc: Global) -> Result<Command<'w>, AllocError>
     ensures { IfOk result (λ made. app_of made ≡ command) }
 {
-    let bare = bare_command(alloc);
-    let style = option(alloc, "style");
-    let with_style = with_arg(bare, style)?;
-    let lines = option(alloc, "lines");
-    let with_lines = with_arg(with_style, lines)?;
-    let states = option(alloc, "states");
-    let with_states = with_arg(with_lines, states)?;
-    let in_place = letter(alloc, "in-place", 'i');
-    let with_in_place = with_arg(with_states, in_place)?;
-    let dry_run = flag(alloc, "dry-run");
-    let with_dry_run = with_arg(with_in_place, dry_run)?;
-    let werror = flag(alloc, "Werror");
-    let with_werror = with_arg(with_dry_run, werror)?;
-    let dump_config = flag(alloc, "dump-config");
-    let with_dump_config = with_arg(with_werror, dump_config)?;
-    let generate = option(alloc, "generate");
-    let with_generate = with_arg(with_dump_config, generate)?;
-    let file = names(alloc, "file");
-    let whole = with_arg(with_generate, file)?;
-    Ok(whole)
+    with_words(alloc, bare_command(alloc), WORDS)
 }
