@@ -6,3 +6,4 @@ pub mod Ends
 pub mod Runs
 pub mod Tables
 pub mod Moved
+pub mod Steps

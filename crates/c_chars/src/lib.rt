@@ -5,10 +5,12 @@
 #![tactic(auto)]
 
 mod alone;
+mod front;
 mod reader;
 mod units;
 
 pub use alone::next_character;
+pub use front::{begins_with, behind};
 pub use reader::Chars;
 pub use units::is_word_byte;
 

@@ -27,3 +27,4 @@ pub mod White
 pub mod Lines
 pub mod WordBytes
 pub mod OneChar
+pub mod Places

@@ -1,5 +1,5 @@
--- Classes of characters that tell what may begin.
-use Rattle.std.specs.Prelude.{◌==◌, ◌||◌, ℕ, Bool, nat_le, codes}
+-- Classes of characters that tell what may begin, and the first character.
+use Rattle.std.specs.Prelude.{◌≡◌, ◌==◌, ◌||◌, ℕ, Bool, List, ◌∷◌, nat_le, codes}
 use Rattle.c_grammar.specs.Grammar.{is_of}
 
 -- an apostrophe or a quotation mark
@@ -13,3 +13,8 @@ begins_punctuator c = is_of (codes "[](){}.-+&*~!/%<>=^|?:;,#") c
 -- a backslash, or past ASCII
 unfoldable pub is_beyond : ℕ → Bool
 is_beyond c = (c == 92) || nat_le 128 c
+
+-- the characters begin with this one
+pub record IsFirst (c : ℕ) (s : List ℕ) : Type 0 where
+  pub rest : List ℕ
+  pub whole : s ≡ c ∷ rest

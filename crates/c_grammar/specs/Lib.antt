@@ -3,6 +3,7 @@ pub mod Bytes
 pub mod Utf8
 pub mod Items
 pub mod Touch
+pub mod Place
 pub mod Text
 pub mod Twin
 pub mod Regapping

@@ -3,6 +3,9 @@
 //! Each kind of item has a definition of what spells it. The items of a text are, one after another,
 //! the longest prefix of what is left that spells one. The laws of this crate say that a text has one
 //! list of items, and which changes of white space leave it as it is.
+//!
+//! What follows from the definitions alone is told here to all who read characters: the classes of bytes
+//! ([`bytes`]), where an item stands behind another ([`place`]), and which character bytes are ([`only_char`]).
 #![tactic(auto)]
 
 /// What an item is (C11 6.4, with comments and with the quotes that nothing closes).
@@ -32,6 +35,7 @@ pub enum ItemKind {
 
 pub mod bytes;
 mod laws;
+pub mod place;
 mod utf8;
 
 pub use laws::{

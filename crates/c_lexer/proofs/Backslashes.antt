@@ -8,9 +8,9 @@ use Rattle.c_chars.specs.Coming.{Coming, AreBetween, passed, behind}
 use Rattle.c_chars.specs.declared.Dialect.{Dialect}
 use Rattle.c_chars.specs.declared.Dialect.TheVariants.{C11, C23}
 use Rattle.c_chars.specs.declared.LogicalChar.{LogicalChar}
-use Rattle.c_lexer.specs.Place.{IsSpanned}
-use Rattle.c_lexer.proofs.Passing.{behind_next}
-use Rattle.c_lexer.proofs.Stepping.{onwards, behind_chars}
+use Rattle.c_grammar.specs.Place.{IsSpanned}
+use Rattle.c_chars.proofs.Steps.{behind_next, onwards}
+use Rattle.c_lexer.proofs.Stepping.{behind_chars}
 use Rattle.c_lexer.specs.Reading.{AreSlashed, ends_backslash, ends_in_backslash}
 
 -- each of these characters is a raw byte, and they stand one behind another from this offset on

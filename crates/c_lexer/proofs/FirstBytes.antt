@@ -6,7 +6,7 @@ use Rattle.std.proofs.lemmas.Bool.{and_right, eq-eqb, ne_eqb, cases_Bool}
 use Rattle.c_chars.specs.Characters.{bytes_of}
 use Rattle.c_chars.specs.declared.LogicalChar.{LogicalChar}
 use Rattle.c_grammar.specs.Touch.{starts}
-use Rattle.c_lexer.specs.Class.{IsFirst}
+use Rattle.c_grammar.specs.Bytes.{IsFirst}
 use Rattle.c_lexer.specs.Run.{begins_long, may_be_long}
 
 pub first_there : (s : List LogicalChar) (c : LogicalChar) → slice_get s 0 ≡ Some c → IsFirst c.byte (bytes_of s)

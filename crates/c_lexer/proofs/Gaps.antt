@@ -10,7 +10,7 @@ use Rattle.c_chars.specs.declared.Dialect.{Dialect}
 use Rattle.c_chars.specs.declared.LogicalChar.{LogicalChar}
 use Rattle.c_grammar.specs.Grammar.{is_white, is_new_line}
 use Rattle.c_grammar.specs.Touch.{starts}
-use Rattle.c_lexer.specs.Place.{IsSpanned}
+use Rattle.c_grammar.specs.Place.{IsSpanned}
 use Rattle.c_lexer.specs.Reading.{IsGap, new_lines, bytes_in, first_gap}
 use Rattle.c_lexer.proofs.Passing.{prefix_done, prefix_next}
 use Rattle.c_lexer.proofs.Stepping.{bytes_take}

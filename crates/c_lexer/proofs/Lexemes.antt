@@ -20,7 +20,8 @@ use Rattle.c_lexer.specs.declared.item.Lexeme.{Lexeme}
 use Rattle.c_lexer.proofs.Gaps.{some_bytes}
 use Rattle.c_lexer.proofs.NextItems.{gap_of}
 use Rattle.c_lexer.proofs.Passing.{prefix_done}
-use Rattle.c_lexer.proofs.Stepping.{behind_chars, at_within, onwards}
+use Rattle.c_chars.proofs.Steps.{onwards}
+use Rattle.c_lexer.proofs.Stepping.{behind_chars, at_within}
 
 abbrev is_blank : ℕ → Bool
 is_blank c = is_white c || is_new_line c

@@ -18,7 +18,6 @@ pub mod CutOffs
 pub mod WordsOff
 pub mod MarksOff
 pub mod Literals
-pub mod Places
 pub mod Nexts
 pub mod NextItems
 pub mod Gaps

@@ -15,7 +15,7 @@ use Rattle.c_grammar.specs.declared.ItemKind.{ItemKind}
 use Rattle.c_lexer.specs.Cut.{IsStop}
 use Rattle.c_lexer.specs.Fault.{IsAt, IsFault, past_blank, fault_of}
 use Rattle.c_lexer.specs.Next.{IsCutNext}
-use Rattle.c_lexer.specs.Place.{IsSpanned, SpelledBy}
+use Rattle.c_grammar.specs.Place.{IsSpanned, SpelledBy}
 use Rattle.c_lexer.specs.Reading.{Reading, IsNextItem}
 use Rattle.c_lexer.specs.declared.cut.Stop.{Stop}
 use Rattle.c_lexer.specs.declared.cut.Stop.TheVariants.{Unterminated}

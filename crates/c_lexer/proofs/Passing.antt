@@ -10,14 +10,11 @@ use Rattle.c_grammar.specs.Grammar.{is_white, is_new_line}
 use Rattle.c_grammar.specs.Touch.{starts}
 use Rattle.c_grammar.specs.Bytes.{is_quote_mark}
 use Rattle.std.proofs.Common.{true, inl, inr, ◌≡◌, ◌≤◌, ◌==◌, ◌&&◌, Bool, false, ℕ, zero, suc, length, ◌+◌, ◌||◌, List, [], ◌∷◌, take, refl, sym, ◌∙◌, ap, arith}
+use Rattle.c_chars.proofs.Steps.{behind_next}
 use Rattle.c_chars.specs.Coming.{Coming, ArePassed, behind, passed}
 use Rattle.c_chars.specs.Characters.{bytes_of, is_ink_byte, is_space_byte, is_text_byte}
 use Rattle.c_chars.specs.declared.Dialect.{Dialect}
 use Rattle.c_chars.specs.declared.LogicalChar.{LogicalChar}
-
--- one character, and then n more
-pub behind_next : (x y : Coming) (c : LogicalChar) (n : ℕ) → x.chars ≡ c ∷ y.chars → y.at ≡ c.to → y.dialect ≡ x.dialect → behind x (1 + n) ≡ behind y n
-behind_next x y c n chars at dialect = let one : 1 + n ≡ suc n = omega arith in rw (one, chars, at, dialect) refl
 
 pub behind_none : (x : Coming) → behind x 0 ≡ x
 behind_none x = refl

@@ -14,8 +14,8 @@ use Rattle.c_grammar.proofs.WordBytes.{word_byte}
 use Rattle.c_grammar.specs.Grammar.{is_letter, is_digit, is_exponent, is_sign, is_number_unit}
 use Rattle.c_grammar.specs.Touch.{starts}
 use Rattle.c_grammar.specs.declared.ItemKind.TheVariants.{Number}
-use Rattle.c_grammar.specs.Bytes.{is_beyond}
-use Rattle.c_lexer.specs.Class.{IsFirst, ends_number}
+use Rattle.c_grammar.specs.Bytes.{is_beyond, IsFirst}
+use Rattle.c_lexer.specs.Class.{ends_number}
 use Rattle.c_lexer.specs.Cut.{IsCutOff}
 use Rattle.c_lexer.specs.Reading.{IsBegun}
 use Rattle.c_lexer.specs.Run.{begins_number, head_len}

@@ -1,6 +1,7 @@
 -- From the characters that a text begins with to an item of it, with its place and its bytes.
 use Rattle.std.proofs.Common.{◌≡◌, ◌||◌, Bool, true, ℕ, suc, zero, ◌-◌, ◌≤◌, ◌<◌, List, [], ◌∷◌, ◌++◌, length, take, drop, refl, sym, ◌∙◌, ap, subst, arith}
 use Rattle.std.proofs.lemmas.List.{take-append-drop}
+use Rattle.c_chars.proofs.Steps.{onwards}
 use Rattle.c_chars.specs.Coming.{AreBetween, passed}
 use Rattle.c_chars.specs.Characters.{bytes_of}
 use Rattle.c_chars.specs.declared.Dialect.{Dialect}
@@ -44,11 +45,6 @@ at_within at high (c ∷ s) b = let first : at ≤ c.from = b.0 in let some : c.
 -- where it stands behind n characters, not before its start and not behind the text's end
 pub behind_within : (d : Dialect) (at n high : ℕ) (s : List LogicalChar) → AreBetween at s high → (passed d at s n).at ≤ high
 behind_within d at n high s b = at_within (passed d at s n).at high (passed d at s n).chars (between_behind d at n high s b)
-
-pub onwards : (d : Dialect) (at n high : ℕ) (s : List LogicalChar) → AreBetween at s high → at ≤ (passed d at s n).at
-onwards d at zero high s b = omega arith
-onwards d at (suc n) high [] b = omega arith
-onwards d at (suc n) high (c ∷ s) b = let first : at ≤ c.from = b.0 in let some : c.from < c.to = b.1 in let rest = onwards d c.to n high s b.2 in omega arith
 
 pub starts_before : (d : Dialect) (at n high : ℕ) (c : LogicalChar) (s : List LogicalChar) → AreBetween at (c ∷ s) high → 0 < n → c.from ≤ (passed d at (c ∷ s) n).at
 starts_before d at zero high c s b some = absurd (omega arith)

@@ -1,5 +1,5 @@
 -- Classes of characters that tell where an item ends.
-use Rattle.std.specs.Prelude.{◌≡◌, ◌==◌, ◌||◌, not, ℕ, Bool, List, ◌∷◌, codes}
+use Rattle.std.specs.Prelude.{◌==◌, ◌||◌, not, ℕ, Bool, codes}
 use Rattle.c_grammar.specs.Bytes.{is_beyond, is_quote_mark}
 use Rattle.c_grammar.specs.Grammar.{is_of, is_letter, is_digit, is_sign}
 use Rattle.c_lexer.specs.Run.{goes_on_long}
@@ -20,8 +20,3 @@ is_lone_mark c = is_of (codes "[](){}~;,") c
 -- what ends a punctuator of one character that stands before it
 abbrev pub ends_mark : ℕ → Bool
 ends_mark c = not (goes_on_long c || (is_digit c || (c == 47 || c == 42)))
-
--- the characters begin with this one
-pub record IsFirst (c : ℕ) (s : List ℕ) : Type 0 where
-  pub rest : List ℕ
-  pub whole : s ≡ c ∷ rest

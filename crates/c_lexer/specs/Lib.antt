@@ -7,6 +7,5 @@ pub mod Class
 pub mod Cut
 pub mod Literal
 pub mod Unit
-pub mod Place
 pub mod Next
 pub mod Fault

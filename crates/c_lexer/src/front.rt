@@ -3,35 +3,15 @@
 ghost use Rattle.std.specs.Prelude.{◌≡◌, ◌∷◌, [], map, nat_eq, drop};
 ghost use Rattle.std.specs.List.{starts_with};
 ghost use Rattle.c_chars.specs.Characters.{bytes_of};
-ghost use Rattle.c_chars.specs.Coming.{behind};
 ghost use Rattle.c_grammar.specs.Grammar.{is_digit};
 ghost use Rattle.c_grammar.specs.Touch.{starts};
-ghost use Rattle.c_grammar.specs.Bytes.{is_quote_mark, is_beyond};
-ghost use Rattle.c_lexer.specs.Class.{IsFirst};
+ghost use Rattle.c_grammar.specs.Bytes.{is_quote_mark, is_beyond, IsFirst};
 ghost use Rattle.c_lexer.specs.Run.{begins_number, first_front, may_be_long, goes_on_long};
 
 use crate::punctuator;
 use c_chars::Chars;
+pub(crate) use c_chars::{begins_with, behind};
 use c_grammar::bytes;
-
-/// Whether the text begins with these bytes.
-#[inline(always)]
-pub(crate) fn begins_with(text: &Chars, front: &[u8]) -> bool
-    ensures { result ≡ starts_with nat_eq (bytes_of text.now.chars) front.now }
-{
-    let mut rest = text.ahead();
-    for b in front {
-        match rest.next() {
-            Some(c) => {
-                if c.byte != *b {
-                    return false;
-                }
-            }
-            None => return false,
-        }
-    }
-    true
-}
 
 /// The length of the first entry that begins the text, otherwise 1.
 pub(crate) fn first_front(table: &[&[u8]], text: &Chars) -> usize
@@ -43,21 +23,6 @@ pub(crate) fn first_front(table: &[&[u8]], text: &Chars) -> usize
         }
     }
     1
-}
-
-/// What stands behind so many of the next characters.
-#[inline(always)]
-pub(crate) fn behind<'s>(text: &Chars<'s>, count: usize) -> Chars<'s>
-    ensures { result ≡ behind text.now count }
-{
-    let mut rest = text.ahead();
-    for _ in 0..count {
-        match rest.next() {
-            Some(_) => {}
-            None => break,
-        }
-    }
-    rest
 }
 
 /// Whether a digit comes next.

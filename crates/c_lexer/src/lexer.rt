@@ -5,15 +5,15 @@ ghost use Rattle.std.specs.Int.{is_in_range};
 ghost use Rattle.std.specs.List.{list_all};
 ghost use Rattle.c_grammar.specs.Items.{is_gap, LineStart};
 ghost use Rattle.c_chars.specs.Characters.{logical, bytes_of};
-ghost use Rattle.c_lexer.specs.Place.{IsSpanned, place_of};
+ghost use Rattle.c_grammar.specs.Place.{IsSpanned, place_of};
 ghost use Rattle.c_lexer.specs.Reading.{IsNextItem, IsNextLexeme, AreSlashed, BeforeLeft, ends_backslash, ends_in_backslash};
 ghost use Rattle.c_lexer.specs.Fault.{IsFault};
 
 use crate::fault::{self, LexFault};
 use crate::item::{Item, Lexeme};
-use crate::place::{self, Standing};
 use crate::{line, next};
 use c_chars::{Chars, Dialect, LIMIT};
+use c_grammar::place::{self, Standing};
 use std::marker::Model;
 
 /// The bytes of the text between two offsets.
@@ -99,7 +99,7 @@ pub struct Lexer<'s> {
 
 impl<'s> Model for Lexer<'s> {
     ghost use Rattle.c_lexer.specs.Reading.{Reading, AreRaw, AreSlashed};
-    ghost use Rattle.c_lexer.specs.Place.{place_of};
+    ghost use Rattle.c_grammar.specs.Place.{place_of};
     ghost use Rattle.c_lexer.specs.Fault.{IsAt};
 
     ghost Value = { Reading };

@@ -13,7 +13,6 @@ mod item;
 mod lexer;
 mod line;
 mod next;
-mod place;
 mod punctuator;
 mod quote;
 mod unit;
@@ -22,7 +21,7 @@ mod word;
 
 pub use c_chars::{Dialect, LIMIT};
 pub use c_grammar::ItemKind;
+pub use c_grammar::place::Standing;
 pub use fault::LexFault;
 pub use item::{Item, Lexeme};
 pub use lexer::Lexer;
-pub use place::Standing;

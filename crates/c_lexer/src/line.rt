@@ -5,7 +5,7 @@ ghost use Rattle.std.specs.List.{prefix_len};
 ghost use Rattle.c_chars.specs.Coming.{behind};
 ghost use Rattle.c_chars.specs.Characters.{bytes_of};
 ghost use Rattle.c_grammar.specs.Grammar.{is_new_line, is_white, is_letter, is_digit};
-ghost use Rattle.c_lexer.specs.Place.{IsSpanned};
+ghost use Rattle.c_grammar.specs.Place.{IsSpanned};
 ghost use Rattle.c_lexer.specs.Reading.{IsBegun, IsGap, new_lines, bytes_in, first_gap};
 ghost use Rattle.c_grammar.specs.Touch.{starts};
 

@@ -6,18 +6,18 @@ ghost use Rattle.c_grammar.specs.Grammar.{is_white, is_new_line};
 ghost use Rattle.c_grammar.specs.Items.{AfterInclude, BeginsHeader};
 ghost use Rattle.c_grammar.specs.Touch.{starts};
 ghost use Rattle.c_grammar.specs.declared.ItemKind.TheVariants.{HeaderName};
-ghost use Rattle.c_lexer.specs.Class.{IsFirst};
+ghost use Rattle.c_grammar.specs.Bytes.{IsFirst};
 ghost use Rattle.c_lexer.specs.Cut.{IsCutOff, IsStop};
 ghost use Rattle.c_lexer.specs.Next.{IsCutNext};
-ghost use Rattle.c_lexer.specs.Place.{place_of};
+ghost use Rattle.c_grammar.specs.Place.{place_of};
 ghost use Rattle.c_lexer.specs.Reading.{ArePrintable, IsBegun};
 
 use crate::cut::{self, Stop};
 use crate::line::Begun;
-use crate::place::Standing;
 use crate::quote;
 use c_chars::{Chars, Dialect};
 use c_grammar::ItemKind;
+use c_grammar::place::Standing;
 
 /// What stands behind the header name that stands next; none where none does.
 fn cut_header<'s>(standing: Standing, text: &Chars<'s>) -> Option<Chars<'s>>

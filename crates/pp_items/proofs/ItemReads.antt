@@ -15,9 +15,9 @@ use Rattle.c_grammar.specs.Twin.{Part, part_of}
 use Rattle.c_grammar.specs.declared.ItemKind.{ItemKind}
 use Rattle.c_grammar.proofs.Unique.{spelled_begins}
 use Rattle.c_lexer.specs.Reading.{Reading, IsNextLexeme}
-use Rattle.c_lexer.specs.Place.{place_of}
+use Rattle.c_grammar.specs.Place.{place_of}
 use Rattle.c_lexer.specs.declared.item.Lexeme.{Lexeme}
-use Rattle.c_lexer.specs.declared.place.Standing.{Standing}
+use Rattle.c_grammar.specs.declared.place.Standing.{Standing}
 use Rattle.pp_model.specs.Finding.{is_comment}
 use Rattle.pp_model.specs.Stream.{Streamed, line_at, line_begun}
 use Rattle.pp_items.specs.View.{part_shown}

@@ -4,7 +4,7 @@ ghost use Rattle.std.specs.Prelude.{◌≡◌};
 ghost use Rattle.c_grammar.specs.Grammar.{is_same};
 ghost use Rattle.c_grammar.specs.Items.{is_hash};
 ghost use Rattle.c_grammar.specs.Touch.{is_punct};
-ghost use Rattle.c_lexer.specs.Place.{place_of};
+ghost use Rattle.c_grammar.specs.Place.{place_of};
 ghost use Rattle.pp_items.specs.View.{part_shown};
 ghost use Rattle.pp_items.specs.Walk.{part_here};
 

@@ -6,7 +6,7 @@ ghost use Rattle.c_chars.specs.Coming.{AreBetween};
 ghost use Rattle.c_grammar.specs.Text.{ReadItem};
 ghost use Rattle.c_chars.specs.declared.LogicalChar.{LogicalChar};
 ghost use Rattle.c_chars.specs.declared.TheConstants.{LIMIT};
-ghost use Rattle.c_lexer.specs.Place.{place_of};
+ghost use Rattle.c_grammar.specs.Place.{place_of};
 ghost use Rattle.pp_model.specs.Finding.{is_comment};
 ghost use Rattle.pp_items.specs.Walk.{before, past, first_line_end, IsNextOf, HasNext};
 ghost use Rattle.pp_items.specs.Reading.{IsReaderOf, IsRead};

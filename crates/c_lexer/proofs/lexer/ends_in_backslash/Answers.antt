@@ -1,5 +1,5 @@
 use Rattle.std.proofs.Common.{false, sym, take, subst, arith}
-use Rattle.c_lexer.specs.Place.{IsSpanned}
+use Rattle.c_grammar.specs.Place.{IsSpanned}
 use Rattle.c_lexer.specs.Reading.{ends_in_backslash}
 use Rattle.c_lexer.proofs.Backslashes.{IsWalked, walk_begun, walk_step, walk_done}
 use Rattle.c_lexer.proofs.Gaps.{one_on}

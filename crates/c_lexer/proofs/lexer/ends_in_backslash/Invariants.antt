@@ -1,6 +1,6 @@
 use Rattle.std.proofs.Common.{◌≡◌, ◌≤◌, ℕ, length, take}
 use Rattle.c_chars.specs.Coming.{behind}
-use Rattle.c_lexer.specs.Place.{IsSpanned}
+use Rattle.c_grammar.specs.Place.{IsSpanned}
 use Rattle.c_lexer.specs.Reading.{ends_in_backslash}
 use Rattle.c_lexer.proofs.Backslashes.{IsWalked}
 use Rattle.c_lexer.proofs.lexer.ends_in_backslash.Given as goal

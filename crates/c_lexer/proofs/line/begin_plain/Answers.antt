@@ -4,7 +4,7 @@ use Rattle.c_chars.specs.Characters.{bytes_of}
 use Rattle.c_chars.specs.Coming.{behind}
 use Rattle.c_grammar.specs.Grammar.{is_white, is_new_line}
 use Rattle.c_grammar.specs.Touch.{starts}
-use Rattle.c_lexer.specs.Place.{IsSpanned}
+use Rattle.c_grammar.specs.Place.{IsSpanned}
 use Rattle.c_lexer.specs.Reading.{new_lines, bytes_in, first_gap}
 use Rattle.c_lexer.proofs.Gaps.{at_most_one, bytes_step, gap_ended, lines_step, one_on}
 use Rattle.c_lexer.proofs.Passing.{prefix_next}

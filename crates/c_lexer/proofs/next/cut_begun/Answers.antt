@@ -1,5 +1,5 @@
 use Rattle.std.proofs.Common.{◌<◌, length, subst, sym, arith}
-use Rattle.c_lexer.specs.Place.{place_of}
+use Rattle.c_grammar.specs.Place.{place_of}
 use Rattle.c_lexer.proofs.Nexts.{next_of_cut}
 use Rattle.c_lexer.proofs.next.cut_begun.Goals as goal
 

@@ -1,4 +1,4 @@
-use Rattle.c_lexer.specs.Place.{place_of}
+use Rattle.c_grammar.specs.Place.{place_of}
 use Rattle.c_lexer.proofs.Nexts.{next_result}
 use Rattle.c_lexer.proofs.next.cut_next.Goals as goal
 

@@ -1,6 +1,6 @@
 use Rattle.std.proofs.Common.{◌∙◌, sym, ap, subst}
 use Rattle.c_grammar.specs.Text.{IsStep}
-use Rattle.c_lexer.specs.Place.{place_of}
+use Rattle.c_grammar.specs.Place.{place_of}
 use Rattle.pp_model.specs.Preprocess.{Lexed}
 use Rattle.pp_items.specs.Walk.{streamed_at}
 use Rattle.pp_items.specs.Reading.{IsReaderOf}

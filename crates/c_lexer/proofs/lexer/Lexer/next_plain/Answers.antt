@@ -2,7 +2,7 @@ use Rattle.std.proofs.Common.{◌==◌, ◌∙◌, ◌-◌, false, not, refl, sy
 use Rattle.std.specs.Prelude.{slice_get}
 use Rattle.std.specs.Int.{is_in_range}
 use Rattle.std.specs.List.{list_all}
-use Rattle.c_lexer.specs.Place.{place_of}
+use Rattle.c_grammar.specs.Place.{place_of}
 use Rattle.c_lexer.specs.Reading.{Reading, IsNextItem, IsNextLexeme}
 use Rattle.c_lexer.specs.declared.item.Lexeme.{Lexeme}
 use Rattle.c_lexer.proofs.Backslashes.{slashed_rest}

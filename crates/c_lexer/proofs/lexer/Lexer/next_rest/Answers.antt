@@ -3,7 +3,7 @@ use Rattle.std.specs.Prelude.{IsTrue}
 use Rattle.c_chars.specs.Characters.{bytes_of}
 use Rattle.c_grammar.specs.Items.{is_gap}
 use Rattle.c_lexer.specs.Fault.{IsFault}
-use Rattle.c_lexer.specs.Place.{place_of}
+use Rattle.c_grammar.specs.Place.{place_of}
 use Rattle.c_lexer.specs.Reading.{Reading, IsNextItem, IsNextLexeme}
 use Rattle.c_lexer.specs.declared.item.Lexeme.{Lexeme}
 use Rattle.c_lexer.proofs.Backslashes.{slashed_rest}

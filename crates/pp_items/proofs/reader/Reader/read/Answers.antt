@@ -2,7 +2,7 @@ use Rattle.std.proofs.Common.{◌≤◌, ◌∙◌, ◌+◌, ◌||◌, length, r
 use Rattle.std.specs.Option.{option_map_or}
 use Rattle.c_chars.specs.Characters.{bytes_of}
 use Rattle.pp_model.specs.Stream.{line_at}
-use Rattle.c_lexer.specs.Place.{place_of}
+use Rattle.c_grammar.specs.Place.{place_of}
 use Rattle.pp_items.specs.Walk.{before, past, part_here}
 use Rattle.pp_items.proofs.ItemReads.{next_start, next_line, unwrap_within, walked, still_between}
 use Rattle.pp_items.proofs.reader.Reader.read.Goals as goal

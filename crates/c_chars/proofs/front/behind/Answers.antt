@@ -1,7 +1,7 @@
 use Rattle.std.proofs.Common.{◌≡◌, ◌∙◌, ◌+◌, ◌-◌, sym, ap, arith}
 use Rattle.c_chars.specs.Coming.{behind}
-use Rattle.c_lexer.proofs.Passing.{behind_next}
-use Rattle.c_lexer.proofs.front.behind.Goals as goal
+use Rattle.c_chars.proofs.Steps.{behind_next}
+use Rattle.c_chars.proofs.front.behind.Goals as goal
 
 pub loop-preserved : goal.loop-preserved
 loop-preserved c =

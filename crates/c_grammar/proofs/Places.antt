@@ -13,10 +13,10 @@ use Rattle.c_grammar.specs.Touch.{starts}
 use Rattle.c_grammar.specs.declared.ItemKind.{ItemKind}
 use Rattle.c_grammar.specs.declared.ItemKind.TheVariants.{Identifier, Number, CharConst, StringLit, Punct, HeaderName, StrayQuote, Other, BlockComment, LineComment}
 use Rattle.c_grammar.proofs.Lists.{same_refl}
-use Rattle.c_lexer.specs.Class.{IsFirst}
-use Rattle.c_lexer.specs.Place.{IsSpanned, place_of, past_plain, past_mark, past_word}
-use Rattle.c_lexer.specs.declared.place.Standing.{Standing}
-use Rattle.c_lexer.proofs.Stepping.{onwards}
+use Rattle.c_grammar.specs.Bytes.{IsFirst}
+use Rattle.c_grammar.specs.Place.{IsSpanned, place_of, past_plain, past_mark, past_word}
+use Rattle.c_grammar.specs.declared.place.Standing.{Standing}
+use Rattle.c_chars.proofs.Steps.{onwards}
 
 -- behind fewer characters it stands elsewhere
 at_inject : (d : Dialect) (at n m high : ℕ) (s : List LogicalChar) → AreBetween at s high → n ≤ length s → m ≤ length s → (passed d at s n).at ≡ (passed d at s m).at → n ≡ m

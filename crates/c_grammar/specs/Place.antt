@@ -1,11 +1,11 @@
--- The place where an item stands, as the lexer keeps it.
+-- The place where an item stands, as who reads a text keeps it.
 use Rattle.std.specs.Prelude.{◌≡◌, ℕ, ◌≤◌, List, length, take, if◌then◌else◌}
 use Rattle.c_chars.specs.Characters.{bytes_of}
 use Rattle.c_chars.specs.Coming.{Coming, AreBetween, behind}
 use Rattle.c_chars.specs.declared.Dialect.{Dialect}
 use Rattle.c_grammar.specs.Items.{Place, LineStart, AfterHash, AfterInclude, AfterDefine, AfterMacroName, InDirective, InText, is_hash, past_name}
-use Rattle.c_lexer.specs.declared.place.Standing.{Standing}
-use Rattle.c_lexer.specs.declared.place.Standing.TheVariants.{FirstInLine, BehindHash, BehindInclude, BehindDefine, BehindMacroName, WithinDirective, WithinText}
+use Rattle.c_grammar.specs.declared.place.Standing.{Standing}
+use Rattle.c_grammar.specs.declared.place.Standing.TheVariants.{FirstInLine, BehindHash, BehindInclude, BehindDefine, BehindMacroName, WithinDirective, WithinText}
 
 -- the place that an item has that stands so
 abbrev pub place_of : Standing → Place

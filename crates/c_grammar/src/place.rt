@@ -8,12 +8,11 @@ ghost use Rattle.c_grammar.specs.Grammar.{is_same};
 ghost use Rattle.c_grammar.specs.Touch.{starts};
 ghost use Rattle.c_grammar.specs.Items.{LineStart, past_item, past_name, past_comment, is_hash, is_include};
 ghost use Rattle.c_grammar.specs.declared.ItemKind.TheVariants.{Identifier, Punct, Other, BlockComment};
-ghost use Rattle.c_lexer.specs.Class.{IsFirst};
-ghost use Rattle.c_lexer.specs.Place.{place_of, past_plain, past_mark, past_word, IsSpanned, SpelledBy};
+ghost use Rattle.c_grammar.specs.Bytes.{IsFirst};
+ghost use Rattle.c_grammar.specs.Place.{place_of, past_plain, past_mark, past_word, IsSpanned, SpelledBy};
 
-use crate::front;
+use crate::ItemKind;
 use c_chars::{Chars, Dialect};
-use c_grammar::ItemKind;
 
 /// Where an item stands.
 #[derive(Clone, Copy, Debug)]
@@ -52,7 +51,7 @@ fn spells(text: &Chars, left: &Chars, word: &[u8]) -> bool
     requires { IsSpanned text.now }
     ensures { SpelledBy text.now left.now (λ s. result ≡ is_same s word.now) }
 {
-    front::behind(text, word.len()).at() == left.at() && front::begins_with(text, word)
+    c_chars::behind(text, word.len()).at() == left.at() && c_chars::begins_with(text, word)
 }
 
 /// Whether they are `#` or its digraph.
@@ -158,7 +157,7 @@ fn past_word(dialect: Dialect, standing: Standing, text: &Chars, left: &Chars) -
 }
 
 /// Behind an item of this kind, whose characters are those of the text up to what is left of it.
-pub(crate) fn past_item(
+pub fn past_item(
     dialect: Dialect,
     standing: Standing,
     kind: ItemKind,
@@ -232,7 +231,7 @@ fn past_plain(dialect: Dialect, standing: Standing, kind: ItemKind, first: u8) -
 /// what is left of it. Where `again` is false they are not read again, and none is told where they would
 /// have to be.
 #[inline(always)]
-pub(crate) fn past_begun(
+pub fn past_begun(
     again: bool,
     dialect: Dialect,
     standing: Standing,

@@ -1,9 +1,9 @@
 use Rattle.std.proofs.Common.{refl, subst, sym}
 use Rattle.std.specs.Prelude.{Some}
 use Rattle.c_grammar.specs.declared.ItemKind.TheVariants.{Number}
-use Rattle.c_lexer.specs.Place.{place_of}
-use Rattle.c_lexer.proofs.Places.{IsToldPlace, told_mark, told_other, told_word}
-use Rattle.c_lexer.proofs.place.past_plain.Goals as goal
+use Rattle.c_grammar.specs.Place.{place_of}
+use Rattle.c_grammar.proofs.Places.{IsToldPlace, told_mark, told_other, told_word}
+use Rattle.c_grammar.proofs.place.past_plain.Goals as goal
 
 pub returns-in-Identifier : goal.returns-in-Identifier
 returns-in-Identifier c =

@@ -1,7 +1,7 @@
 use Rattle.std.proofs.Common.{◌∙◌, sym}
 use Rattle.std.proofs.lemmas.Bool.{ne_eqb}
-use Rattle.c_lexer.proofs.Places.{spelled_yes, spelled_no}
-use Rattle.c_lexer.proofs.place.spells.Goals as goal
+use Rattle.c_grammar.proofs.Places.{spelled_yes, spelled_no}
+use Rattle.c_grammar.proofs.place.spells.Goals as goal
 
 pub returns-then-at : goal.returns-then-at
 returns-then-at c = λ n i l.
