@@ -1,6 +1,7 @@
 pub mod Stretches
 pub mod Rows
 pub mod Tells
+pub mod Ready
 pub mod OpenGaps
 pub mod InputColumns
 pub mod Broken

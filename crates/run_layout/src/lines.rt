@@ -6,6 +6,7 @@ ghost use Rattle.style_table.specs.Range.{IsInRange};
 ghost use Rattle.token_classes.specs.Viewed.{AreWithin, classes_of};
 ghost use Rattle.annotator.specs.Tokens.{TellItems};
 ghost use Rattle.line_state.specs.Line.{gaps};
+ghost use Rattle.run_layout.specs.Ready.{IsReady};
 ghost use Rattle.run_layout.specs.Tells.{StandForItems};
 ghost use Rattle.replacements.specs.Decisions.{decided_all};
 ghost use Rattle.run_layout.specs.Counted.{IsCounted};
@@ -57,11 +58,7 @@ fn are_open_inside(plan: &Plan<'_>, tokens: &[LineTok]) -> bool
 
 /// Lays out a line whose inner gaps are open, if it stays on one row. Otherwise nothing is decided. It takes no memory.
 fn lay_out_row(layout: &ViewLayout<'_>, line: &ULine, plan: &mut Plan<'_>) -> bool
-    requires range { IsInRange layout.now.style.now }
-    requires budget { layout.now.budget ≤ 16000000 }
-    requires within { AreWithin layout.now.arena.now layout.now.view.now }
-    requires classes { layout.now.classes.now ≡ classes_of layout.now.arena.now layout.now.view.now }
-    requires tell { StandForItems layout.now.arena.now layout.now.view.now layout.now.tokens.now }
+    requires ready { IsReady layout.now }
     requires some { line.now.first ≤ line.now.last }
     requires places { line.now.last < length layout.now.view.now }
     requires whole { length plan.old ≡ length layout.now.arena.now.tokens + 1 }
@@ -100,11 +97,7 @@ fn lay_out_searched(
     plan: &mut Plan<'_>,
     run: &Bump,
 ) -> Result<Laid, NoMemory>
-    requires range { IsInRange layout.now.style.now }
-    requires budget { layout.now.budget ≤ 16000000 }
-    requires within { AreWithin layout.now.arena.now layout.now.view.now }
-    requires classes { layout.now.classes.now ≡ classes_of layout.now.arena.now layout.now.view.now }
-    requires tell { StandForItems layout.now.arena.now layout.now.view.now layout.now.tokens.now }
+    requires ready { IsReady layout.now }
     requires some { line.now.first ≤ line.now.last }
     requires places { line.now.last < length layout.now.view.now }
     requires whole { length plan.old ≡ length layout.now.arena.now.tokens + 1 }
@@ -174,11 +167,7 @@ fn lay_out_line(
     plan: &mut Plan<'_>,
     run: &Bump,
 ) -> Result<Laid, NoMemory>
-    requires range { IsInRange layout.now.style.now }
-    requires budget { layout.now.budget ≤ 16000000 }
-    requires within { AreWithin layout.now.arena.now layout.now.view.now }
-    requires classes { layout.now.classes.now ≡ classes_of layout.now.arena.now layout.now.view.now }
-    requires tell { StandForItems layout.now.arena.now layout.now.view.now layout.now.tokens.now }
+    requires ready { IsReady layout.now }
     requires some { line.now.first ≤ line.now.last }
     requires places { line.now.last < length layout.now.view.now }
     requires whole { length plan.old ≡ length layout.now.arena.now.tokens + 1 }

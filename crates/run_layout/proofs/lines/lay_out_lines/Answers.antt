@@ -9,8 +9,14 @@ pub lay_out_line-requires-clause-places : goal.lay_out_line-requires-clause-plac
 lay_out_line-requires-clause-places c =
     (next_needs c.args.layout.now.style.now c.args.layout.now.arena.now c.args.layout.now.view.now c.loop-line.cursor.place c.loop-line.cursor.column c.args.lines.now c.loop-line.line-index _ c.loop-line-test.true c.loop-line.invariant.ahead).within
 
-pub lay_out_line-requires-clause-tell : goal.lay_out_line-requires-clause-tell
-lay_out_line-requires-clause-tell c = stand_for_items c.args.layout.now.arena.now c.args.layout.now.view.now c.args.layout.now.tokens.now c.requires.count c.requires.tell
+pub lay_out_line-requires-clause-ready : goal.lay_out_line-requires-clause-ready
+lay_out_line-requires-clause-ready c = record {
+  range = c.requires.range;
+  budget = c.requires.budget;
+  within = c.requires.within;
+  classes = c.requires.classes;
+  tell = stand_for_items c.args.layout.now.arena.now c.args.layout.now.view.now c.args.layout.now.tokens.now c.requires.count c.requires.tell;
+}
 
 pub token_at-requires : goal.token_at-requires
 token_at-requires c =
