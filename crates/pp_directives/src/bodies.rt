@@ -74,7 +74,11 @@ pub enum Next {
     /// A `##` or a `#`.
     Mark(Before),
     /// A part.
-    Part { stand: Stand, white: bool, glue: bool },
+    Part {
+        stand: Stand,
+        white: bool,
+        glue: bool,
+    },
     Malformed,
 }
 
@@ -164,11 +168,7 @@ fn what_of(stand: Stand, token: Tok) -> What
 
 /// Adds what a token of a body is.
 #[tactic(auto, using(crate::proofs::BodyParts::behind_part))]
-fn add_token(
-    parts: &mut Vec<Part>,
-    next: Next,
-    token: Tok,
-) -> Result<Option<Before>, AllocError>
+fn add_token(parts: &mut Vec<Part>, next: Next, token: Tok) -> Result<Option<Before>, AllocError>
     ensures { IfOk result (λ r. (names : List Name) (fl : Bool) (ts : List Token) → behind (map part_shown parts.old.items) (next_parts next names fl (tok_shown token) ts)
         ≡ goes_on r (λ b. behind (map part_shown parts.new.items) (parts_of_body names fl (before_shown b) ts))) }
 {

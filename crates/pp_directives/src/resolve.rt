@@ -91,13 +91,7 @@ fn act_of(table: &[Macro], held: &[Tok], token: &Tok) -> Act
     ensures few { length held.now + more_held result ≤ 3 }
 {
     match held {
-        [] => {
-            if asks(token) {
-                Act::Wait
-            } else {
-                Act::Release
-            }
-        }
+        [] => { if asks(token) { Act::Wait } else { Act::Release } }
         [_] => {
             if is_name(token) {
                 Act::Answer(is_defined(table, token))

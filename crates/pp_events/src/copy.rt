@@ -94,11 +94,7 @@ pub fn add_name(alloc: Global, names: &mut Vec<Vec<u8>>, name: &[u8]) -> Result<
 }
 
 /// Copies of names behind others.
-pub fn add_names(
-    alloc: Global,
-    out: &mut Vec<Vec<u8>>,
-    names: &[Vec<u8>],
-) -> Result<(), AllocError>
+pub fn add_names(alloc: Global, out: &mut Vec<Vec<u8>>, names: &[Vec<u8>]) -> Result<(), AllocError>
     ensures { IfOk result (λ _. map (λ n. n.items) out.new.items ≡ map (λ n. n.items) out.old.items ++ map (λ n. n.items) names.now) }
 {
     for n in names {

@@ -136,12 +136,7 @@ fn paste_of<R: Spellings>(
 }
 
 /// What `##` makes of two tokens.
-fn paste_tokens<R: Spellings>(
-    alloc: Global,
-    reader: &R,
-    a: Tok,
-    b: Tok,
-) -> Result<Tok, AllocError>
+fn paste_tokens<R: Spellings>(alloc: Global, reader: &R, a: Tok, b: Tok) -> Result<Tok, AllocError>
     ensures { IfOk result (λ r. tok_shown r ≡ paste (R.kinds reader.now) (tok_shown a) (tok_shown b)) }
 {
     let hide = common_names(alloc, a.hide.as_slice(), b.hide.as_slice())?;
@@ -354,12 +349,7 @@ fn join_toks<R: Spellings>(
 }
 
 /// A piece and the one that is pasted to it.
-fn glued<R: Spellings>(
-    alloc: Global,
-    reader: &R,
-    p: Piece,
-    q: Piece,
-) -> Result<Piece, AllocError>
+fn glued<R: Spellings>(alloc: Global, reader: &R, p: Piece, q: Piece) -> Result<Piece, AllocError>
     ensures { IfOk result (λ r. piece_shown r ≡ record { tok = join (R.kinds reader.now) (piece_shown p).tok (piece_shown q).tok; glue = false }) }
 {
     let tok = join_toks(alloc, reader, p.tok, q.tok)?;

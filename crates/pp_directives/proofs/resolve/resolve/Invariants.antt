@@ -7,8 +7,8 @@ use Rattle.pp_directives.proofs.resolve.resolve.Given as goal
 abbrev pub invariant-loop-t : goal.invariant-loop-t
 invariant-loop-t l = record {
   same :
-    map tok_shown l.out.items ++ resolve (map macro_shown l.table) (held_of (map tok_shown l.held.items)) (map tok_shown l.rest.items)
-    ≡ resolve (map macro_shown l.table) Free (map tok_shown l.fn.tokens.items);
+      map tok_shown l.out.items ++ resolve (map macro_shown l.table) (held_of (map tok_shown l.held.items)) (map tok_shown l.rest.items)
+      ≡ resolve (map macro_shown l.table) Free (map tok_shown l.fn.tokens.items);
   few : length l.held.items ≤ 3;
 }
 

@@ -1,4 +1,4 @@
-use Rattle.std.proofs.Common.{◌≡◌, ◌<◌, ◌+◌, ◌≤◌, [], ◌∷◌, ◌++◌, length, map, drop, ap, sym, ◌∙◌, arith}
+use Rattle.std.proofs.Common.{◌≡◌, ◌<◌, ◌+◌, [], ◌∷◌, ◌++◌, length, map, drop, ap, sym, ◌∙◌, arith}
 use Rattle.std.proofs.lemmas.List.{map-append}
 use Rattle.std.proofs.lemmas.Grind.{common_steps}
 use Rattle.pp_model.specs.Call.{collect, one_less}
@@ -32,32 +32,32 @@ loop-i-preserved c =
     let within : c.loop-i.i < length c.args.rest.now.items = grind (arith, common_steps) in
     let split : map tok_shown (drop c.loop-i.i c.args.rest.now.items) ≡ tok_shown t ∷ after = token_at c.args.rest.now.items c.loop-i.i t within c.index-t.ensures in
     let before : collect c.loop-i.limit c.loop-i.depth arg args (tok_shown t ∷ after) ≡ collect c.args.limit 0 [] (map toks_shown c.args.args.now.items) (map tok_shown (drop 1 c.args.rest.now.items)) =
-      ap (collect c.loop-i.limit c.loop-i.depth arg args) (sym split) ∙ c.loop-i.invariant.same in
+    ap (collect c.loop-i.limit c.loop-i.depth arg args) (sym split) ∙ c.loop-i.invariant.same in
     elim c.match-mark_of.branch [
       | in-Comma+in_ok-push-in-Comma w ↦
-        let read : map toks_shown c.match-mark_of.args.items ≡ args ++ arg ∷ [] = ap (λ v. map toks_shown v.items) w.args-is ∙ ap (map toks_shown) w.in_ok-push-in-Comma.ensures.items ∙ map-append toks_shown c.loop-i.args.items (c.loop-i.arg ∷ []) in
-        let none : map tok_shown c.match-mark_of.arg.items ≡ [] = ap (λ v. map tok_shown v.items) w.arg-is ∙ ap (map tok_shown) w.new-arg-in-Comma.ensures.items in
-        let fewer : c.match-mark_of.limit ≡ one_less c.loop-i.limit = w.limit-is ∙ w.one_less-limit.ensures in
-        record {
-          same =
-            ap (λ l. collect l c.match-mark_of.depth (map tok_shown c.match-mark_of.arg.items) (map toks_shown c.match-mark_of.args.items) after) fewer
-            ∙ ap (λ d. collect (one_less c.loop-i.limit) d (map tok_shown c.match-mark_of.arg.items) (map toks_shown c.match-mark_of.args.items) after) w.depth-is
-            ∙ ap (λ xs. collect (one_less c.loop-i.limit) c.loop-i.depth xs (map toks_shown c.match-mark_of.args.items) after) none
-            ∙ ap (λ xs. collect (one_less c.loop-i.limit) c.loop-i.depth [] xs after) read
-            ∙ sym (w.in-Comma.ensures.marks arg args after)
-            ∙ before;
-          bound = omega (arith, w.depth-is, c.loop-i.invariant.bound);
-        }
+          let read : map toks_shown c.match-mark_of.args.items ≡ args ++ arg ∷ [] = ap (λ v. map toks_shown v.items) w.args-is ∙ ap (map toks_shown) w.in_ok-push-in-Comma.ensures.items ∙ map-append toks_shown c.loop-i.args.items (c.loop-i.arg ∷ []) in
+          let none : map tok_shown c.match-mark_of.arg.items ≡ [] = ap (λ v. map tok_shown v.items) w.arg-is ∙ ap (map tok_shown) w.new-arg-in-Comma.ensures.items in
+          let fewer : c.match-mark_of.limit ≡ one_less c.loop-i.limit = w.limit-is ∙ w.one_less-limit.ensures in
+          record {
+            same =
+                ap (λ l. collect l c.match-mark_of.depth (map tok_shown c.match-mark_of.arg.items) (map toks_shown c.match-mark_of.args.items) after) fewer
+                ∙ ap (λ d. collect (one_less c.loop-i.limit) d (map tok_shown c.match-mark_of.arg.items) (map toks_shown c.match-mark_of.args.items) after) w.depth-is
+                ∙ ap (λ xs. collect (one_less c.loop-i.limit) c.loop-i.depth xs (map toks_shown c.match-mark_of.args.items) after) none
+                ∙ ap (λ xs. collect (one_less c.loop-i.limit) c.loop-i.depth [] xs after) read
+                ∙ sym (w.in-Comma.ensures.marks arg args after)
+                ∙ before;
+            bound = omega (arith, w.depth-is, c.loop-i.invariant.bound);
+          }
       | in-Within+in_ok-add_tok-in-Within w ↦
-        let longer : map tok_shown c.match-mark_of.arg.items ≡ arg ++ tok_shown t ∷ [] = ap (λ v. map tok_shown v.items) w.arg-is ∙ w.in_ok-add_tok-in-Within.ensures in
-        record {
-          same =
-            ap (λ l. collect l c.match-mark_of.depth (map tok_shown c.match-mark_of.arg.items) (map toks_shown c.match-mark_of.args.items) after) w.limit-is
-            ∙ ap (λ d. collect c.loop-i.limit d (map tok_shown c.match-mark_of.arg.items) (map toks_shown c.match-mark_of.args.items) after) w.depth-is
-            ∙ ap (λ xs. collect c.loop-i.limit w.in-Within.inner xs (map toks_shown c.match-mark_of.args.items) after) longer
-            ∙ ap (λ v. collect c.loop-i.limit w.in-Within.inner (arg ++ tok_shown t ∷ []) (map toks_shown v.items) after) w.args-is
-            ∙ sym (w.in-Within.ensures.marks arg args after)
-            ∙ before;
-          bound = omega (arith, w.depth-is, w.in-Within.ensures.bound, c.loop-i.invariant.bound);
-        }
+          let longer : map tok_shown c.match-mark_of.arg.items ≡ arg ++ tok_shown t ∷ [] = ap (λ v. map tok_shown v.items) w.arg-is ∙ w.in_ok-add_tok-in-Within.ensures in
+          record {
+            same =
+                ap (λ l. collect l c.match-mark_of.depth (map tok_shown c.match-mark_of.arg.items) (map toks_shown c.match-mark_of.args.items) after) w.limit-is
+                ∙ ap (λ d. collect c.loop-i.limit d (map tok_shown c.match-mark_of.arg.items) (map toks_shown c.match-mark_of.args.items) after) w.depth-is
+                ∙ ap (λ xs. collect c.loop-i.limit w.in-Within.inner xs (map toks_shown c.match-mark_of.args.items) after) longer
+                ∙ ap (λ v. collect c.loop-i.limit w.in-Within.inner (arg ++ tok_shown t ∷ []) (map toks_shown v.items) after) w.args-is
+                ∙ sym (w.in-Within.ensures.marks arg args after)
+                ∙ before;
+            bound = omega (arith, w.depth-is, w.in-Within.ensures.bound, c.loop-i.invariant.bound);
+          }
     ]

@@ -7,7 +7,7 @@ abbrev pub invariant-loop-i : goal.invariant-loop-i
 invariant-loop-i l =
     record {
       same :
-        collect l.limit l.depth (map tok_shown l.arg.items) (map toks_shown l.args.items) (map tok_shown (drop l.i l.rest.items))
-        ≡ collect l.fn.limit 0 [] (map toks_shown l.fn.args.items) (map tok_shown (drop 1 l.rest.items));
+          collect l.limit l.depth (map tok_shown l.arg.items) (map toks_shown l.args.items) (map tok_shown (drop l.i l.rest.items))
+          ≡ collect l.fn.limit 0 [] (map toks_shown l.fn.args.items) (map tok_shown (drop 1 l.rest.items));
       bound : l.depth ≤ l.i;
     }

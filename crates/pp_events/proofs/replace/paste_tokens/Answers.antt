@@ -1,6 +1,5 @@
 use Rattle.std.proofs.Common.{◌≡◌, map, refl, ap, sym, ◌∙◌, rules}
-use Rattle.pp_model.specs.Token.{Tok, Name, common}
-use Rattle.pp_model.specs.Replace.{made}
+use Rattle.pp_model.specs.Token.{Tok, common}
 use Rattle.pp_events.specs.View.{shown, tok_shown}
 use Rattle.pp_events.proofs.replace.paste_tokens.Goals as goal
 
