@@ -1,10 +1,10 @@
 //! What the directives of conditionals do (C11 6.10.1).
 
-ghost use Rattle.std.specs.Prelude.{◌≡◌, ℕ, Bool, true, false, not, List, [], ◌∷◌, ◌++◌, map, drop, IfOk, IfSome, Option, Some, None, option_map};
+ghost use Rattle.std.specs.Prelude.{◌≡◌, ℕ, Bool, true, false, List, [], ◌∷◌, ◌++◌, map, drop, IfOk, IfSome, Option, Some, None, option_map};
 ghost use Rattle.pp_model.specs.Token.{PpToken as Token};
 ghost use Rattle.pp_model.specs.Condition.{Cond as Conds, is_active};
 ghost use Rattle.pp_model.specs.Setting.{holds_in};
-ghost use Rattle.pp_model.specs.Preprocess.{World as Worlds, test, asked, begin_if, if_active, branch, entered, otherwise, endif, blame, left, with_conds, left_open, finish};
+ghost use Rattle.pp_model.specs.Preprocess.{World as Worlds, test, asked, begin_if, if_active, branch, entered, otherwise, endif, blame, left, left_open, finish};
 ghost use Rattle.pp_events.specs.View.{tok_shown};
 ghost use Rattle.pp_directives.specs.CondView.{cond_shown};
 ghost use Rattle.pp_directives.specs.SettingView.{condition_shown};

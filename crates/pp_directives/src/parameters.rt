@@ -7,7 +7,7 @@ ghost use Rattle.pp_events.specs.View.{tok_shown};
 ghost use Rattle.pp_directives.specs.DefineView.{place_shown, params_read, listed_on};
 
 use crate::words::{is_name, is_new_parameter};
-use pp_events::{Tok, copy_bytes, is_spelled, spelling_of};
+use pp_events::{Tok, add_name, is_spelled, spelling_of};
 use std::alloc::{AllocError, Global};
 use std::collections::VecDeque;
 
@@ -123,7 +123,7 @@ pub fn read_params(
             }
             Listed::Mark(next) => place = next,
             Listed::Name => {
-                names.push(copy_bytes(alloc, spelling_of(&t.token))?)?;
+                add_name(alloc, names, spelling_of(&t.token))?;
                 place = Place::AfterName;
             }
             Listed::Malformed => return Ok(None),
@@ -142,7 +142,7 @@ pub fn add_variadic(
     ensures { IfOk result (λ _. (body : List Token) → map (λ n. n.items) names.new.items ≡ all_names (record { names = map (λ n. n.items) names.old.items; variadic = variadic; body = body })) }
 {
     if variadic {
-        names.push(copy_bytes(alloc, b"__VA_ARGS__")?)?;
+        add_name(alloc, names, b"__VA_ARGS__")?;
     }
     Ok(())
 }

@@ -1,10 +1,10 @@
 //! The collection of a call's arguments.
 
-ghost use Rattle.std.specs.Prelude.{◌≡◌, ℕ, suc, ◌<◌, ◌≤◌, ◌^◌, true, List, [], ◌∷◌, map, length, drop, IfOk, IfSome};
-ghost use Rattle.pp_model.specs.Token.{Tok as Token, text_of, is_text};
+ghost use Rattle.std.specs.Prelude.{◌≡◌, suc, ◌<◌, ◌≤◌, ◌^◌, true, List, [], ◌∷◌, map, length, drop, IfOk, IfSome};
+ghost use Rattle.pp_model.specs.Token.{Tok as Token, is_text};
 ghost use Rattle.c_grammar.specs.Touch.{is_identifier};
 ghost use Rattle.pp_model.specs.Call.{collect, may_part, one_less};
-ghost use Rattle.pp_events.specs.View.{shown, tok_shown, toks_shown, actuals_shown, some_actuals};
+ghost use Rattle.pp_events.specs.View.{tok_shown, toks_shown, some_actuals};
 ghost use Rattle.pp_events.specs.Collected.{collect_on, depth_behind, collected};
 ghost use Rattle.pp_events.specs.declared.call.Mark.{Mark as MarkValue};
 

@@ -17,7 +17,7 @@ mod token;
 
 pub use c_grammar::ItemKind;
 pub use call::{is_identifier_kind, is_spelled};
-pub use copy::{copy_bytes, copy_names, copy_tok, copy_token, copy_toks};
+pub use copy::{add_name, copy_bytes, copy_names, copy_tok, copy_token, copy_toks};
 pub use machine::{expand, look_up, spelling_of};
 pub use replace::contains_name;
 pub use same::is_same_token;
