@@ -1,7 +1,5 @@
 -- The token in front.
-use Rattle.std.proofs.Common.{◌≡◌, ◌<◌, Bool, true, false, List, [], ◌∷◌, length, map, drop, get_or, Some, None, refl, ap, sym, ◌∙◌, arith}
-use Rattle.pp_model.specs.Token.{Tok}
-use Rattle.pp_model.specs.Condition.{is_name}
+use Rattle.std.proofs.Common.{◌≡◌, ◌<◌, List, [], ◌∷◌, length, map, drop, get_or, refl, ap, sym, arith}
 use Rattle.pp_events.specs.View.{tok_shown}
 use Rattle.pp_events.specs.declared.token.Tok.{Tok as TokValue}
 

@@ -1,7 +1,7 @@
 -- What the values of a preprocessing stand for in the model.
 use Rattle.std.specs.Prelude.{ℕ, Bool, true, false, not, ◌&&◌, List, [], ◌∷◌, map, Option, Some, None, Vec}
 use Rattle.std.specs.declared.alloc.Global.{Global}
-use Rattle.pp_model.specs.Token.{PpToken, Tok as Token, Name, text_of}
+use Rattle.pp_model.specs.Token.{Tok as Token, Name, text_of}
 use Rattle.pp_model.specs.Macro.{Table}
 use Rattle.pp_model.specs.Define.{is_kept_name}
 use Rattle.pp_model.specs.Condition.{Cond, is_name, is_defined}
