@@ -4,7 +4,7 @@ ghost use Rattle.std.specs.Prelude.{◌≡◌, ℕ, Bool, true, false, List, [],
 ghost use Rattle.pp_model.specs.Token.{PpToken as Token};
 ghost use Rattle.pp_model.specs.Condition.{Cond as Conds, is_active};
 ghost use Rattle.pp_model.specs.Setting.{holds_in};
-ghost use Rattle.pp_model.specs.Preprocess.{World as Worlds, test, asked, begin_if, if_active, branch, entered, otherwise, endif, blame, left, left_open, finish};
+ghost use Rattle.pp_model.specs.Preprocess.{World as Worlds, test, asked, begin_if, if_active, branch, entered, otherwise, endif, blame, left_open, finish};
 ghost use Rattle.pp_events.specs.View.{tok_shown};
 ghost use Rattle.pp_directives.specs.CondView.{cond_shown};
 ghost use Rattle.pp_directives.specs.SettingView.{condition_shown};
@@ -130,23 +130,9 @@ impl World {
         })
     }
 
-    /// The next group of a conditional of which one was taken.
-    #[tactic(auto, using(crate::proofs::Nests::done_nests))]
-    fn leave(&mut self, c: Cond) -> Result<(), AllocError>
-        requires { conds_shown self.old.conds ≡ cond_shown c ∷ drop 1 (conds_shown self.old.conds) }
-        ensures { IfOk result (λ _. world_shown self.new ≡ left (cond_shown c) (drop 1 (conds_shown self.old.conds)) (world_shown self.old)) }
-    {
-        self.conds.replace(Cond {
-            taken: true,
-            active: false,
-            had_else: c.had_else,
-            skipped: c.skipped,
-        })
-    }
-
     /// The conditional whose next group asks a condition, since no group before it was taken (6.10.1p6);
     /// none where the next group asks nothing, which is then begun.
-    #[tactic(auto, using(crate::proofs::Branches::had_else_branch, crate::proofs::Branches::asking_branch))]
+    #[tactic(auto, using(crate::proofs::Branches::had_else_branch, crate::proofs::Branches::asking_branch, crate::proofs::Nests::done_nests))]
     fn next_asked(&mut self, alloc: Global) -> Result<Option<Cond>, AllocError>
         ensures shown { IfOk result (λ r. (go : Conds → List Conds → Worlds → Worlds) → branch go (conds_shown self.old.conds) (world_shown self.old) ≡ asked_next r go (drop 1 (conds_shown self.old.conds)) (world_shown self.new)) }
         ensures same { IfOk result (λ r. IfSome r (λ c. world_shown self.new ≡ world_shown self.old)) }
@@ -163,7 +149,12 @@ impl World {
                     self.blame(alloc, c.skipped)?;
                     Ok(None)
                 } else if c.taken {
-                    self.leave(c)?;
+                    self.conds.replace(Cond {
+                        taken: true,
+                        active: false,
+                        had_else: c.had_else,
+                        skipped: c.skipped,
+                    })?;
                     Ok(None)
                 } else {
                     Ok(Some(c))
