@@ -42,11 +42,11 @@ impl<'a, T: Drop> Stack<'a, T> {
     }
 
     /// Puts a value to the front.
-    pub fn push(&mut self, x: T) -> Result<(), NoMemory>
-        ensures ok { IfOk result (λ _. self.new ≡ x ∷ self.old) }
+    pub fn push(&mut self, entry: T) -> Result<(), NoMemory>
+        ensures ok { IfOk result (λ _. self.new ≡ entry ∷ self.old) }
         ensures err { OnErr result (self.new ≡ self.old) }
     {
-        self.items.push(x)?;
+        self.items.push(entry)?;
         Ok(())
     }
 

@@ -113,41 +113,41 @@ impl<'a> CondTree<'a> {
     }
 
     /// What a run sees.
-    pub fn view<'r>(&self, r: u32, run: &'r Bump) -> Result<View<'r>, NoMemory>
-        requires { r < need (read self.now) }
-        ensures view { IfOk result (λ view. view ≡ view_of (read self.now) r) }
+    pub fn view<'r>(&self, number: u32, run: &'r Bump) -> Result<View<'r>, NoMemory>
+        requires { number < need (read self.now) }
+        ensures view { IfOk result (λ view. view ≡ view_of (read self.now) number) }
         ensures increase { IfOk result (λ view. Increase view) }
         ensures within { IfOk result (λ view. All (λ id. id < end_of 0 self.now) view) }
     {
-        self.view_between(r, 0, end_of(self.nodes), run)
+        self.view_between(number, 0, end_of(self.nodes), run)
     }
 
     /// The items from one to before another that a run sees. It looks at no text before the first that it gives
     /// items of, but for those that it halves the texts at, and at few that the run doesn't see.
     pub fn view_between<'r>(
         &self,
-        r: u32,
+        number: u32,
         first: u32,
         end: u32,
         run: &'r Bump,
     ) -> Result<View<'r>, NoMemory>
-        requires { r < need (read self.now) }
-        ensures view { IfOk result (λ view. view ≡ items_between first end (view_of (read self.now) r)) }
+        requires { number < need (read self.now) }
+        ensures view { IfOk result (λ view. view ≡ items_between first end (view_of (read self.now) number)) }
         ensures increase { IfOk result (λ view. Increase view) }
         ensures within { IfOk result (λ view. All (λ id. id < end_of 0 self.now) view) }
     {
-        let stretches = stretches_between(&self.texts, r, first, end, run)?;
+        let stretches = stretches_between(&self.texts, number, first, end, run)?;
         let view = View::of_stretches(stretches, run)?;
         Ok(view)
     }
 
     /// How the view of a run differs from that of the run before it. It takes no memory, and no walk.
-    pub fn change(&self, r: u32) -> Change
-        requires later { 0 < r }
-        requires run { r < need (read self.now) }
-        ensures { IsChange (read self.now) r result }
+    pub fn change(&self, number: u32) -> Change
+        requires later { 0 < number }
+        requires run { number < need (read self.now) }
+        ensures { IsChange (read self.now) number result }
     {
-        self.changes[r as usize]
+        self.changes[number as usize]
     }
 
     /// Whether an item stands in the group of a literal `#if 0`. It takes no memory.

@@ -32,20 +32,20 @@ fn first_behind(texts: &Visible<'_>, item: u32) -> usize
     low
 }
 
-/// What run r sees from one item to before another.
+/// What a run sees from one item to before another.
 pub(crate) fn stretches_between<'r>(
     texts: &Visible<'_>,
-    r: u32,
+    number: u32,
     first: u32,
     end: u32,
     run: &'r Bump,
 ) -> Result<&'r [Stretch], NoMemory>
     requires { AscendFrom 0 (map text_bounds texts.now) }
-    ensures { IfOk result (λ stretches. map bounds_of stretches.now ≡ inside first end (taken texts.now r)) }
+    ensures { IfOk result (λ stretches. map bounds_of stretches.now ≡ inside first end (taken texts.now number)) }
 {
     let mut stretches = Vec::new(run);
     let mut at = first_behind(texts, first);
-    while let Some(place) = texts.next(at, r) {
+    while let Some(place) = texts.next(at, number) {
         let text = texts.text(place);
         let begins = first.max(text.first);
         if end <= begins {

@@ -83,12 +83,12 @@ impl Conditionals {
 
     /// Another state of the innermost.
     #[tactic(auto, using(crate::proofs::Nests::rest_nests))]
-    pub(crate) fn replace(&mut self, c: Cond) -> Result<(), AllocError>
-        requires { is_nested (cond_shown c ∷ drop 1 (conds_shown self.old)) ≡ true }
-        ensures { IfOk result (λ _. conds_shown self.new ≡ cond_shown c ∷ drop 1 (conds_shown self.old)) }
+    pub(crate) fn replace(&mut self, conditional: Cond) -> Result<(), AllocError>
+        requires { is_nested (cond_shown conditional ∷ drop 1 (conds_shown self.old)) ≡ true }
+        ensures { IfOk result (λ _. conds_shown self.new ≡ cond_shown conditional ∷ drop 1 (conds_shown self.old)) }
     {
         self.end();
-        self.open.push_front(c)?;
+        self.open.push_front(conditional)?;
         Ok(())
     }
 

@@ -117,16 +117,16 @@ impl World {
 
     /// The next group of a conditional of which none was taken, with this answer.
     #[tactic(auto, using(crate::proofs::Nests::entered_nests))]
-    fn enter(&mut self, c: Cond, holds: bool) -> Result<(), AllocError>
-        requires innermost { conds_shown self.old.conds ≡ cond_shown c ∷ drop 1 (conds_shown self.old.conds) }
-        requires open { c.taken ≡ false }
-        ensures { IfOk result (λ _. world_shown self.new ≡ entered (cond_shown c) (drop 1 (conds_shown self.old.conds)) holds (world_shown self.old)) }
+    fn enter(&mut self, conditional: Cond, holds: bool) -> Result<(), AllocError>
+        requires innermost { conds_shown self.old.conds ≡ cond_shown conditional ∷ drop 1 (conds_shown self.old.conds) }
+        requires open { conditional.taken ≡ false }
+        ensures { IfOk result (λ _. world_shown self.new ≡ entered (cond_shown conditional) (drop 1 (conds_shown self.old.conds)) holds (world_shown self.old)) }
     {
         self.conds.replace(Cond {
             taken: holds,
             active: holds,
             had_else: false,
-            skipped: c.skipped,
+            skipped: conditional.skipped,
         })
     }
 

@@ -30,16 +30,16 @@ fn kind_by<R: Spellings>(reader: &R, token: &PpToken) -> ItemKind
 }
 
 /// A body's token before any expansion.
-fn tok_by<R: Spellings>(alloc: Global, reader: &R, t: &BodyToken) -> Result<Tok, AllocError>
-    ensures { IfOk result (λ r. tok_shown r ≡ tok_by (R.kinds reader.now) (body_token_shown t.now)) }
+fn tok_by<R: Spellings>(alloc: Global, reader: &R, body: &BodyToken) -> Result<Tok, AllocError>
+    ensures { IfOk result (λ r. tok_shown r ≡ tok_by (R.kinds reader.now) (body_token_shown body.now)) }
 {
-    let token = copy_token(alloc, &t.token)?;
-    let kind = kind_by(reader, &t.token);
+    let token = copy_token(alloc, &body.token)?;
+    let kind = kind_by(reader, &body.token);
     Ok(Tok {
         token,
         kind,
         hide: Vec::new(alloc),
-        white: t.white,
+        white: body.white,
         line: 0,
     })
 }
@@ -82,20 +82,21 @@ fn are_parameters(names: &[Vec<u8>]) -> bool
 
 /// Whether the name may be defined, and the parameters may stand in a list (C11 6.10.3p5 and p6,
 /// 6.10.8p4).
-fn is_allowed(d: &MacroDefinition) -> bool
-    ensures { result ≡ is_allowed (definition_shown d.now) }
+fn is_allowed(definition: &MacroDefinition) -> bool
+    ensures { result ≡ is_allowed (definition_shown definition.now) }
 {
-    !is_kept_name(d.name.as_slice()) && (!d.function_like || are_parameters(d.params.as_slice()))
+    !is_kept_name(definition.name.as_slice())
+        && (!definition.function_like || are_parameters(definition.params.as_slice()))
 }
 
 /// The names that stand for arguments in the body.
-fn parameters(alloc: Global, d: &MacroDefinition) -> Result<Vec<Vec<u8>>, AllocError>
-    ensures { IfOk result (λ r. map (λ n. n.items) r.items ≡ parameters (definition_shown d.now)) }
+fn parameters(alloc: Global, definition: &MacroDefinition) -> Result<Vec<Vec<u8>>, AllocError>
+    ensures { IfOk result (λ r. map (λ n. n.items) r.items ≡ parameters (definition_shown definition.now)) }
 {
     let mut names = Vec::new(alloc);
-    if d.function_like {
-        names = copy_names(alloc, d.params.as_slice())?;
-        add_variadic(alloc, &mut names, d.variadic)?;
+    if definition.function_like {
+        names = copy_names(alloc, definition.params.as_slice())?;
+        add_variadic(alloc, &mut names, definition.variadic)?;
     }
     Ok(names)
 }
@@ -104,21 +105,27 @@ fn parameters(alloc: Global, d: &MacroDefinition) -> Result<Vec<Vec<u8>>, AllocE
 fn macro_by<R: Spellings>(
     alloc: Global,
     reader: &R,
-    d: &MacroDefinition,
+    definition: &MacroDefinition,
 ) -> Result<Option<Macro>, AllocError>
-    ensures { IfOk result (λ r. some_macro r ≡ macro_by (R.kinds reader.now) (definition_shown d.now)) }
+    ensures { IfOk result (λ r. some_macro r ≡ macro_by (R.kinds reader.now) (definition_shown definition.now)) }
 {
-    if !is_allowed(d) {
+    if !is_allowed(definition) {
         return Ok(None);
     }
     let form = Form {
-        function_like: d.function_like,
-        arity: d.params.len(),
-        variadic: d.function_like && d.variadic,
+        function_like: definition.function_like,
+        arity: definition.params.len(),
+        variadic: definition.function_like && definition.variadic,
     };
-    let names = parameters(alloc, d)?;
-    let body = toks_by(alloc, reader, d.body.as_slice())?;
-    macro_of(alloc, d.name.as_slice(), form, names.as_slice(), body)
+    let names = parameters(alloc, definition)?;
+    let body = toks_by(alloc, reader, definition.body.as_slice())?;
+    macro_of(
+        alloc,
+        definition.name.as_slice(),
+        form,
+        names.as_slice(),
+        body,
+    )
 }
 
 /// The table at the start.

@@ -39,10 +39,10 @@ pub fn as_parts(items: Vec<Spaced>) -> SpacedList
 
 /// A copy of a token.
 #[cycle(copying)]
-pub fn copy_token(alloc: Global, t: &PpToken) -> Result<PpToken, AllocError>
-    ensures { IfOk result (λ r. shown r ≡ shown t.now) }
+pub fn copy_token(alloc: Global, token: &PpToken) -> Result<PpToken, AllocError>
+    ensures { IfOk result (λ r. shown r ≡ shown token.now) }
 {
-    match t {
+    match token {
         PpToken::Plain { text } => {
             let copy = copy_bytes(alloc, text)?;
             Ok(PpToken::Plain { text: copy })
@@ -113,25 +113,25 @@ pub fn copy_names(alloc: Global, names: &[Vec<u8>]) -> Result<Vec<Vec<u8>>, Allo
 }
 
 /// A copy of a token in an expansion.
-pub fn copy_tok(alloc: Global, t: &Tok) -> Result<Tok, AllocError>
-    ensures { IfOk result (λ r. tok_shown r ≡ tok_shown t.now) }
+pub fn copy_tok(alloc: Global, tok: &Tok) -> Result<Tok, AllocError>
+    ensures { IfOk result (λ r. tok_shown r ≡ tok_shown tok.now) }
 {
-    let token = copy_token(alloc, &t.token)?;
-    let hide = copy_names(alloc, t.hide.as_slice())?;
+    let token = copy_token(alloc, &tok.token)?;
+    let hide = copy_names(alloc, tok.hide.as_slice())?;
     Ok(Tok {
         token,
-        kind: t.kind,
+        kind: tok.kind,
         hide,
-        white: t.white,
-        line: t.line,
+        white: tok.white,
+        line: tok.line,
     })
 }
 
 /// A copy of a token behind others.
-pub fn add_tok(alloc: Global, toks: &mut Vec<Tok>, t: &Tok) -> Result<(), AllocError>
-    ensures { IfOk result (λ _. toks_shown toks.new ≡ toks_shown toks.old ++ tok_shown t.now ∷ []) }
+pub fn add_tok(alloc: Global, toks: &mut Vec<Tok>, tok: &Tok) -> Result<(), AllocError>
+    ensures { IfOk result (λ _. toks_shown toks.new ≡ toks_shown toks.old ++ tok_shown tok.now ∷ []) }
 {
-    let copy = copy_tok(alloc, t)?;
+    let copy = copy_tok(alloc, tok)?;
     toks.push(copy)?;
     Ok(())
 }

@@ -64,14 +64,14 @@ fn is_one_empty(args: &[Vec<Tok>]) -> bool
 }
 
 /// Whether the number of arguments is right.
-fn has_right_number(m: &Macro, args: &[Vec<Tok>]) -> bool
-    ensures { result ≡ fits (macro_shown m.now) (map toks_shown args.now) }
+fn has_right_number(definition: &Macro, args: &[Vec<Tok>]) -> bool
+    ensures { result ≡ fits (macro_shown definition.now) (map toks_shown args.now) }
 {
     let n = args.len();
-    if m.variadic {
-        n > 0 && n - 1 == m.arity
+    if definition.variadic {
+        n > 0 && n - 1 == definition.arity
     } else {
-        n == m.arity || m.arity == 0 && is_one_empty(args)
+        n == definition.arity || definition.arity == 0 && is_one_empty(args)
     }
 }
 
@@ -98,37 +98,37 @@ fn pass(rest: &mut VecDeque<Tok>, count: usize)
 /// The names that hide what a call becomes.
 fn call_hide(
     alloc: Global,
-    m: &Macro,
+    definition: &Macro,
     token: &Tok,
     close: &[Vec<u8>],
 ) -> Result<Vec<Vec<u8>>, AllocError>
-    ensures { IfOk result (λ r. map (λ n. n.items) r.items ≡ (macro_shown m.now).name ∷ common (tok_shown token.now).hide (map (λ n. n.items) close.now)) }
+    ensures { IfOk result (λ r. map (λ n. n.items) r.items ≡ (macro_shown definition.now).name ∷ common (tok_shown token.now).hide (map (λ n. n.items) close.now)) }
 {
     let both = common_names(alloc, token.hide.as_slice(), close)?;
-    with_name(alloc, m.name.as_slice(), both.as_slice())
+    with_name(alloc, definition.name.as_slice(), both.as_slice())
 }
 
 /// A call whose arguments were read, where their number is right; it takes what is left.
 fn with_arguments<'t>(
     alloc: Global,
-    m: &'t Macro,
+    definition: &'t Macro,
     token: &Tok,
-    a: Actuals,
+    actuals: Actuals,
     rest: &mut VecDeque<Tok>,
 ) -> Result<Option<Begun<'t>>, AllocError>
-    requires { a.taken ≤ length rest.old.items }
-    ensures begun { IfOk result (λ r. option_map begun_shown r ≡ with_actuals (macro_shown m.now) (tok_shown token.now) (actuals_shown rest.old.items a)) }
+    requires { actuals.taken ≤ length rest.old.items }
+    ensures begun { IfOk result (λ r. option_map begun_shown r ≡ with_actuals (macro_shown definition.now) (tok_shown token.now) (actuals_shown rest.old.items actuals)) }
     ensures waiting { IfOk result (λ r. IfSome r (λ b. map toks_shown b.waiting.items ≡ map toks_shown b.args.items)) }
     ensures kept { IfOk result (λ r. IfNone r (rest.new.items ≡ rest.old.items)) }
 {
-    if has_right_number(m, a.args.as_slice()) {
-        let hide = call_hide(alloc, m, token, a.close.as_slice())?;
-        let waiting = copy_args(alloc, a.args.as_slice())?;
-        pass(rest, a.taken);
+    if has_right_number(definition, actuals.args.as_slice()) {
+        let hide = call_hide(alloc, definition, token, actuals.close.as_slice())?;
+        let waiting = copy_args(alloc, actuals.args.as_slice())?;
+        pass(rest, actuals.taken);
         Ok(Some(Begun {
-            named: m,
+            named: definition,
             hide,
-            args: a.args,
+            args: actuals.args,
             waiting,
             after: mem::replace(rest, VecDeque::new(alloc)),
         }))
@@ -140,11 +140,11 @@ fn with_arguments<'t>(
 /// A call of a function-like macro.
 fn begin_function<'t>(
     alloc: Global,
-    m: &'t Macro,
+    definition: &'t Macro,
     token: &Tok,
     rest: &mut VecDeque<Tok>,
 ) -> Result<Option<Begun<'t>>, AllocError>
-    ensures begun { IfOk result (λ r. option_map begun_shown r ≡ begin_call (macro_shown m.now) (tok_shown token.now) (map tok_shown rest.old.items)) }
+    ensures begun { IfOk result (λ r. option_map begun_shown r ≡ begin_call (macro_shown definition.now) (tok_shown token.now) (map tok_shown rest.old.items)) }
     ensures waiting { IfOk result (λ r. IfSome r (λ b. map toks_shown b.waiting.items ≡ map toks_shown b.args.items)) }
     ensures kept { IfOk result (λ r. IfNone r (rest.new.items ≡ rest.old.items)) }
 {
@@ -152,10 +152,14 @@ fn begin_function<'t>(
         None => Ok(None),
         Some(open) => {
             if is_spelled(open, b"(") {
-                let limit = if m.variadic { Some(m.arity) } else { None };
+                let limit = if definition.variadic {
+                    Some(definition.arity)
+                } else {
+                    None
+                };
                 match collect_actuals(alloc, limit, rest)? {
                     None => Ok(None),
-                    Some(a) => with_arguments(alloc, m, token, a, rest),
+                    Some(a) => with_arguments(alloc, definition, token, a, rest),
                 }
             } else {
                 Ok(None)
@@ -167,20 +171,20 @@ fn begin_function<'t>(
 /// The replacement that a name of a macro begins; it takes what is left.
 fn begin_named<'t>(
     alloc: Global,
-    m: &'t Macro,
+    definition: &'t Macro,
     token: &Tok,
     rest: &mut VecDeque<Tok>,
 ) -> Result<Option<Begun<'t>>, AllocError>
-    ensures begun { IfOk result (λ r. option_map begun_shown r ≡ begin_macro (tok_shown token.now) (map tok_shown rest.old.items) (macro_shown m.now)) }
+    ensures begun { IfOk result (λ r. option_map begun_shown r ≡ begin_macro (tok_shown token.now) (map tok_shown rest.old.items) (macro_shown definition.now)) }
     ensures waiting { IfOk result (λ r. IfSome r (λ b. map toks_shown b.waiting.items ≡ map toks_shown b.args.items)) }
     ensures kept { IfOk result (λ r. IfNone r (rest.new.items ≡ rest.old.items)) }
 {
-    if m.function_like {
-        begin_function(alloc, m, token, rest)
+    if definition.function_like {
+        begin_function(alloc, definition, token, rest)
     } else {
-        let hide = with_name(alloc, m.name.as_slice(), token.hide.as_slice())?;
+        let hide = with_name(alloc, definition.name.as_slice(), token.hide.as_slice())?;
         Ok(Some(Begun {
-            named: m,
+            named: definition,
             hide,
             args: Vec::new(alloc),
             waiting: VecDeque::new(alloc),

@@ -28,12 +28,16 @@ pub fn contains_name(names: &[Vec<u8>], name: &[u8]) -> bool
 }
 
 /// The names in both.
-pub fn common_names(alloc: Global, a: &[Vec<u8>], b: &[Vec<u8>]) -> Result<Vec<Vec<u8>>, AllocError>
-    ensures { IfOk result (λ r. map (λ n. n.items) r.items ≡ common (map (λ n. n.items) a.now) (map (λ n. n.items) b.now)) }
+pub fn common_names(
+    alloc: Global,
+    left: &[Vec<u8>],
+    right: &[Vec<u8>],
+) -> Result<Vec<Vec<u8>>, AllocError>
+    ensures { IfOk result (λ r. map (λ n. n.items) r.items ≡ common (map (λ n. n.items) left.now) (map (λ n. n.items) right.now)) }
 {
     let mut out = Vec::new(alloc);
-    for n in a {
-        if contains_name(b, n.as_slice()) {
+    for n in left {
+        if contains_name(right, n.as_slice()) {
             add_name(alloc, &mut out, n.as_slice())?;
         }
     }
@@ -41,11 +45,15 @@ pub fn common_names(alloc: Global, a: &[Vec<u8>], b: &[Vec<u8>]) -> Result<Vec<V
 }
 
 /// The spelling of two plain tokens beside each other.
-fn joined_text(alloc: Global, a: &PpToken, b: &PpToken) -> Result<Option<Vec<u8>>, AllocError>
-    ensures { IfOk result (λ r. option_map (λ v. v.items) r ≡ joined (shown a.now) (shown b.now)) }
+fn joined_text(
+    alloc: Global,
+    left: &PpToken,
+    right: &PpToken,
+) -> Result<Option<Vec<u8>>, AllocError>
+    ensures { IfOk result (λ r. option_map (λ v. v.items) r ≡ joined (shown left.now) (shown right.now)) }
 {
-    match a {
-        PpToken::Plain { text: s } => match b {
+    match left {
+        PpToken::Plain { text: s } => match right {
             PpToken::Plain { text: t } => {
                 let mut text = copy_bytes(alloc, s.as_slice())?;
                 text.extend_from_slice(t.as_slice())?;
@@ -62,19 +70,19 @@ fn joined_text(alloc: Global, a: &PpToken, b: &PpToken) -> Result<Option<Vec<u8>
 }
 
 /// One token in a list.
-fn one_in_list(alloc: Global, t: PpToken) -> Result<Vec<PpToken>, AllocError>
-    ensures { IfOk result (λ r. map shown r.items ≡ shown t ∷ []) }
+fn one_in_list(alloc: Global, token: PpToken) -> Result<Vec<PpToken>, AllocError>
+    ensures { IfOk result (λ r. map shown r.items ≡ shown token ∷ []) }
 {
     let mut items = Vec::new(alloc);
-    items.push(t)?;
+    items.push(token)?;
     Ok(items)
 }
 
 /// What was pasted in a token.
-fn pasted_items(alloc: Global, t: PpToken) -> Result<Vec<PpToken>, AllocError>
-    ensures { IfOk result (λ r. shown_list (map shown r.items) ≡ pasted (shown t)) }
+fn pasted_items(alloc: Global, token: PpToken) -> Result<Vec<PpToken>, AllocError>
+    ensures { IfOk result (λ r. shown_list (map shown r.items) ≡ pasted (shown token)) }
 {
-    match t {
+    match token {
         PpToken::Pasted { parts } => Ok(parts.items),
         PpToken::Plain { text } => one_in_list(alloc, PpToken::Plain { text }),
         PpToken::Line { number } => one_in_list(alloc, PpToken::Line { number }),
@@ -84,20 +92,20 @@ fn pasted_items(alloc: Global, t: PpToken) -> Result<Vec<PpToken>, AllocError>
 
 /// All that was pasted in two tokens.
 #[tactic(auto, using(crate::proofs::Arguments::joined_shown))]
-fn two_tokens(alloc: Global, a: PpToken, b: PpToken) -> Result<PpTokens, AllocError>
-    ensures { IfOk result (λ r. shown_tokens r ≡ joined_tokens (pasted (shown a)) (pasted (shown b))) }
+fn two_tokens(alloc: Global, left: PpToken, right: PpToken) -> Result<PpTokens, AllocError>
+    ensures { IfOk result (λ r. shown_tokens r ≡ joined_tokens (pasted (shown left)) (pasted (shown right))) }
 {
-    let mut all = pasted_items(alloc, a)?;
-    let mut second = pasted_items(alloc, b)?;
+    let mut all = pasted_items(alloc, left)?;
+    let mut second = pasted_items(alloc, right)?;
     all.append(&mut second)?;
     Ok(as_tokens(all))
 }
 
 /// A paste that is no item.
-fn pasted_token(alloc: Global, a: PpToken, b: PpToken) -> Result<PpToken, AllocError>
-    ensures { IfOk result (λ r. shown r ≡ two (shown a) (shown b)) }
+fn pasted_token(alloc: Global, left: PpToken, right: PpToken) -> Result<PpToken, AllocError>
+    ensures { IfOk result (λ r. shown r ≡ two (shown left) (shown right)) }
 {
-    let parts = two_tokens(alloc, a, b)?;
+    let parts = two_tokens(alloc, left, right)?;
     Ok(PpToken::Pasted { parts })
 }
 
@@ -105,12 +113,12 @@ fn pasted_token(alloc: Global, a: PpToken, b: PpToken) -> Result<PpToken, AllocE
 fn pasted_item<R: Spellings>(
     alloc: Global,
     reader: &R,
-    a: &PpToken,
-    b: &PpToken,
+    left: &PpToken,
+    right: &PpToken,
 ) -> Result<Option<(Vec<u8>, ItemKind)>, AllocError>
-    ensures { IfOk result (λ r. item_shown r ≡ item_read (R.kinds reader.now) (joined (shown a.now) (shown b.now))) }
+    ensures { IfOk result (λ r. item_shown r ≡ item_read (R.kinds reader.now) (joined (shown left.now) (shown right.now))) }
 {
-    match joined_text(alloc, a, b)? {
+    match joined_text(alloc, left, right)? {
         None => Ok(None),
         Some(text) => match reader.kind_of(text.as_slice()) {
             None => Ok(None),
@@ -124,38 +132,43 @@ fn pasted_item<R: Spellings>(
 fn paste_of<R: Spellings>(
     alloc: Global,
     reader: &R,
-    a: PpToken,
-    b: PpToken,
+    left: PpToken,
+    right: PpToken,
 ) -> Result<(PpToken, ItemKind), AllocError>
-    ensures { IfOk result (λ r. (s t : Token) → s.token ≡ shown a → t.token ≡ shown b → paste (R.kinds reader.now) s t ≡ made (shown r.0) r.1 s t) }
+    ensures { IfOk result (λ r. (s t : Token) → s.token ≡ shown left → t.token ≡ shown right → paste (R.kinds reader.now) s t ≡ made (shown r.0) r.1 s t) }
 {
-    match pasted_item(alloc, reader, &a, &b)? {
+    match pasted_item(alloc, reader, &left, &right)? {
         Some((text, kind)) => Ok((PpToken::Plain { text }, kind)),
-        None => Ok((pasted_token(alloc, a, b)?, ItemKind::Other)),
+        None => Ok((pasted_token(alloc, left, right)?, ItemKind::Other)),
     }
 }
 
 /// What `##` makes of two tokens.
-fn paste_tokens<R: Spellings>(alloc: Global, reader: &R, a: Tok, b: Tok) -> Result<Tok, AllocError>
-    ensures { IfOk result (λ r. tok_shown r ≡ paste (R.kinds reader.now) (tok_shown a) (tok_shown b)) }
+fn paste_tokens<R: Spellings>(
+    alloc: Global,
+    reader: &R,
+    left: Tok,
+    right: Tok,
+) -> Result<Tok, AllocError>
+    ensures { IfOk result (λ r. tok_shown r ≡ paste (R.kinds reader.now) (tok_shown left) (tok_shown right)) }
 {
-    let hide = common_names(alloc, a.hide.as_slice(), b.hide.as_slice())?;
-    let (token, kind) = paste_of(alloc, reader, a.token, b.token)?;
+    let hide = common_names(alloc, left.hide.as_slice(), right.hide.as_slice())?;
+    let (token, kind) = paste_of(alloc, reader, left.token, right.token)?;
     Ok(Tok {
         token,
         kind,
         hide,
-        white: a.white,
-        line: a.line,
+        white: left.white,
+        line: left.line,
     })
 }
 
 /// The argument of a parameter, empty past the last.
 #[tactic(auto, using(crate::proofs::Arguments::argument_next, crate::proofs::Arguments::argument_first))]
-fn argument_of(args: &[Vec<Tok>], i: usize) -> &[Tok]
-    ensures { map tok_shown result.now ≡ argument (map toks_shown args.now) i }
+fn argument_of(args: &[Vec<Tok>], index: usize) -> &[Tok]
+    ensures { map tok_shown result.now ≡ argument (map toks_shown args.now) index }
 {
-    let mut k = i;
+    let mut k = index;
     for a in args {
         if k == 0 {
             return a.as_slice();
@@ -212,23 +225,23 @@ fn quoted_tok(alloc: Global, line: u64, ts: &[Tok]) -> Result<Tok, AllocError>
 }
 
 /// One token.
-fn one_token(alloc: Global, t: Tok) -> Result<Vec<Tok>, AllocError>
-    ensures { IfOk result (λ r. map tok_shown r.items ≡ tok_shown t ∷ []) }
+fn one_token(alloc: Global, tok: Tok) -> Result<Vec<Tok>, AllocError>
+    ensures { IfOk result (λ r. map tok_shown r.items ≡ tok_shown tok ∷ []) }
 {
     let mut out = Vec::new(alloc);
-    out.push(t)?;
+    out.push(tok)?;
     Ok(out)
 }
 
 /// A token on another line.
-fn lined_tok(t: Tok, line: u64) -> Tok
-    ensures { tok_shown result ≡ lined line (tok_shown t) }
+fn lined_tok(tok: Tok, line: u64) -> Tok
+    ensures { tok_shown result ≡ lined line (tok_shown tok) }
 {
     Tok {
-        token: t.token,
-        kind: t.kind,
-        hide: t.hide,
-        white: t.white,
+        token: tok.token,
+        kind: tok.kind,
+        hide: tok.hide,
+        white: tok.white,
         line,
     }
 }
@@ -258,15 +271,15 @@ fn tokens_of_part(
 }
 
 /// A token with other white space before it.
-fn placed_tok(t: Tok, white: bool) -> Tok
-    ensures { tok_shown result ≡ placed white (tok_shown t) }
+fn placed_tok(tok: Tok, white: bool) -> Tok
+    ensures { tok_shown result ≡ placed white (tok_shown tok) }
 {
     Tok {
-        token: t.token,
-        kind: t.kind,
-        hide: t.hide,
+        token: tok.token,
+        kind: tok.kind,
+        hide: tok.hide,
         white,
-        line: t.line,
+        line: tok.line,
     }
 }
 
@@ -331,17 +344,17 @@ fn body_pieces(
 fn join_toks<R: Spellings>(
     alloc: Global,
     reader: &R,
-    a: Option<Tok>,
-    b: Option<Tok>,
+    left: Option<Tok>,
+    right: Option<Tok>,
 ) -> Result<Option<Tok>, AllocError>
-    ensures { IfOk result (λ r. option_map tok_shown r ≡ join (R.kinds reader.now) (option_map tok_shown a) (option_map tok_shown b)) }
+    ensures { IfOk result (λ r. option_map tok_shown r ≡ join (R.kinds reader.now) (option_map tok_shown left) (option_map tok_shown right)) }
 {
-    match a {
-        None => Ok(b),
-        Some(a) => match b {
-            None => Ok(Some(a)),
-            Some(b) => {
-                let made = paste_tokens(alloc, reader, a, b)?;
+    match left {
+        None => Ok(right),
+        Some(left) => match right {
+            None => Ok(Some(left)),
+            Some(right) => {
+                let made = paste_tokens(alloc, reader, left, right)?;
                 Ok(Some(made))
             }
         },
@@ -349,10 +362,15 @@ fn join_toks<R: Spellings>(
 }
 
 /// A piece and the one that is pasted to it.
-fn glued<R: Spellings>(alloc: Global, reader: &R, p: Piece, q: Piece) -> Result<Piece, AllocError>
-    ensures { IfOk result (λ r. piece_shown r ≡ record { tok = join (R.kinds reader.now) (piece_shown p).tok (piece_shown q).tok; glue = false }) }
+fn glued<R: Spellings>(
+    alloc: Global,
+    reader: &R,
+    left: Piece,
+    right: Piece,
+) -> Result<Piece, AllocError>
+    ensures { IfOk result (λ r. piece_shown r ≡ record { tok = join (R.kinds reader.now) (piece_shown left).tok (piece_shown right).tok; glue = false }) }
 {
-    let tok = join_toks(alloc, reader, p.tok, q.tok)?;
+    let tok = join_toks(alloc, reader, left.tok, right.tok)?;
     Ok(Piece { tok, glue: false })
 }
 
@@ -396,14 +414,14 @@ fn paste_pieces<R: Spellings>(
 }
 
 /// A token with more names in its hide set.
-fn hidden_tok(alloc: Global, hide: &[Vec<u8>], t: Tok) -> Result<Tok, AllocError>
-    ensures { IfOk result (λ r. tok_shown r ≡ hidden (map (λ n. n.items) hide.now) (tok_shown t)) }
+fn hidden_tok(alloc: Global, hide: &[Vec<u8>], tok: Tok) -> Result<Tok, AllocError>
+    ensures { IfOk result (λ r. tok_shown r ≡ hidden (map (λ n. n.items) hide.now) (tok_shown tok)) }
 {
-    let mut t = t;
+    let mut tok = tok;
     let mut names = copy_names(alloc, hide)?;
-    names.append(&mut t.hide)?;
-    t.hide = names;
-    Ok(t)
+    names.append(&mut tok.hide)?;
+    tok.hide = names;
+    Ok(tok)
 }
 
 /// The tokens of pieces, without placemarkers, each with more names in its hide set.

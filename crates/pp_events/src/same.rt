@@ -9,19 +9,19 @@ use crate::token::{PpToken, PpTokens, SpacedList};
 /// Whether two tokens are the same after Erase. It goes down into the tokens that a string or a
 /// paste was made of.
 #[cycle(comparing)]
-pub fn is_same_token(a: &PpToken, b: &PpToken) -> bool
-    ensures { result ≡ token_eq (erase (shown a.now)) (erase (shown b.now)) }
+pub fn is_same_token(left: &PpToken, right: &PpToken) -> bool
+    ensures { result ≡ token_eq (erase (shown left.now)) (erase (shown right.now)) }
 {
-    match a {
-        PpToken::Plain { text } => is_same_plain(text.as_slice(), b),
-        PpToken::Line { .. } => is_line(b),
-        PpToken::Str { parts } => match b {
+    match left {
+        PpToken::Plain { text } => is_same_plain(text.as_slice(), right),
+        PpToken::Line { .. } => is_line(right),
+        PpToken::Str { parts } => match right {
             PpToken::Str { parts: others } => are_same_parts(parts, others),
             PpToken::Plain { .. } => false,
             PpToken::Line { .. } => false,
             PpToken::Pasted { .. } => false,
         },
-        PpToken::Pasted { parts } => match b {
+        PpToken::Pasted { parts } => match right {
             PpToken::Pasted { parts: others } => are_same_tokens(parts, others),
             PpToken::Plain { .. } => false,
             PpToken::Line { .. } => false,
@@ -56,11 +56,11 @@ fn is_line(token: &PpToken) -> bool
 
 /// Whether two lists are the same after Erase.
 #[cycle(comparing)]
-fn are_same_tokens(a: &PpTokens, b: &PpTokens) -> bool
-    ensures { result ≡ tokens_eq (erase_tokens (shown_tokens a.now)) (erase_tokens (shown_tokens b.now)) }
+fn are_same_tokens(left: &PpTokens, right: &PpTokens) -> bool
+    ensures { result ≡ tokens_eq (erase_tokens (shown_tokens left.now)) (erase_tokens (shown_tokens right.now)) }
 {
-    let mut rest = b.items.as_slice();
-    for t in &a.items {
+    let mut rest = right.items.as_slice();
+    for t in &left.items {
         match rest {
             [] => return false,
             [first, others @ ..] => {
@@ -76,11 +76,11 @@ fn are_same_tokens(a: &PpTokens, b: &PpTokens) -> bool
 
 /// Whether the parts of two strings are the same after Erase.
 #[cycle(comparing)]
-fn are_same_parts(a: &SpacedList, b: &SpacedList) -> bool
-    ensures { result ≡ parts_eq (erase_parts (shown_spaceds a.now)) (erase_parts (shown_spaceds b.now)) }
+fn are_same_parts(left: &SpacedList, right: &SpacedList) -> bool
+    ensures { result ≡ parts_eq (erase_parts (shown_spaceds left.now)) (erase_parts (shown_spaceds right.now)) }
 {
-    let mut rest = b.items.as_slice();
-    for p in &a.items {
+    let mut rest = right.items.as_slice();
+    for p in &left.items {
         match rest {
             [] => return false,
             [first, others @ ..] => {

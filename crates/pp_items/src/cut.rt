@@ -98,15 +98,15 @@ impl Cutter {
     }
 
     /// Keeps an item, unless it is a comment.
-    fn keep(&mut self, s: Streamed) -> Result<(), AllocError>
-        ensures items { OnOk result (items_shown self.new.items ≡ add_item (items_shown self.old.items) (streamed_shown s)) }
+    fn keep(&mut self, streamed: Streamed) -> Result<(), AllocError>
+        ensures items { OnOk result (items_shown self.new.items ≡ add_item (items_shown self.old.items) (streamed_shown streamed)) }
         ensures done { self.new.done ≡ self.old.done }
         ensures within { self.new.within ≡ self.old.within }
         ensures dialect { self.new.dialect ≡ self.old.dialect }
     {
-        match s.item.kind {
+        match streamed.item.kind {
             ItemKind::BlockComment | ItemKind::LineComment => {}
-            _ => self.items.push(s.item)?,
+            _ => self.items.push(streamed.item)?,
         }
         Ok(())
     }
@@ -139,25 +139,25 @@ impl Cutter {
     }
 
     /// Takes the next item.
-    pub fn take(&mut self, s: Streamed) -> Result<(), AllocError>
-        ensures sections { OnOk result ((rest : List ReadStreamed) → sections_with self.new rest ≡ sections_with self.old (streamed_shown s ∷ rest)) }
+    pub fn take(&mut self, streamed: Streamed) -> Result<(), AllocError>
+        ensures sections { OnOk result ((rest : List ReadStreamed) → sections_with self.new rest ≡ sections_with self.old (streamed_shown streamed ∷ rest)) }
         ensures dialect { self.new.dialect ≡ self.old.dialect }
     {
-        match s.part {
+        match streamed.part {
             Part::BeginsDirective => self.end_section(
-                s.begun,
+                streamed.begun,
                 Within::Directive {
                     function_like: false,
                 },
             ),
             Part::OpensParameters => {
                 self.open_parameters();
-                self.keep(s)
+                self.keep(streamed)
             }
-            Part::OfDirective => self.keep(s),
+            Part::OfDirective => self.keep(streamed),
             Part::OfText => {
-                self.end_directive(s.begun)?;
-                self.keep(s)
+                self.end_directive(streamed.begun)?;
+                self.keep(streamed)
             }
         }
     }

@@ -131,10 +131,10 @@ fn is_open_body(text: &[u8], quote: u8) -> bool
 }
 
 /// An apostrophe or a quotation mark.
-fn is_quote_mark(b: u8) -> bool
-    ensures { result ≡ is_of (codes "'\"") b }
+fn is_quote_mark(byte: u8) -> bool
+    ensures { result ≡ is_of (codes "'\"") byte }
 {
-    matches!(b, b'\'' | b'"')
+    matches!(byte, b'\'' | b'"')
 }
 
 /// Whether it is a quote that isn't closed.
@@ -170,15 +170,15 @@ fn is_stray(text: &[u8]) -> bool
 
 /// Whether the character begins nothing else.
 #[tactic(auto, unfolding(c_grammar::specs::Grammar::is_other))]
-fn begins_nothing(dialect: Dialect, b: u8) -> bool
-    ensures { result ≡ is_other dialect b }
+fn begins_nothing(dialect: Dialect, byte: u8) -> bool
+    ensures { result ≡ is_other dialect byte }
 {
-    !(class::is_white(b)
-        || class::is_new_line(b)
-        || class::is_letter(b)
-        || class::is_digit(b)
-        || is_quote_mark(b)
-        || is_punctuator(dialect, &[b]))
+    !(class::is_white(byte)
+        || class::is_new_line(byte)
+        || class::is_letter(byte)
+        || class::is_digit(byte)
+        || is_quote_mark(byte)
+        || is_punctuator(dialect, &[byte]))
 }
 
 /// Whether it is a character that begins nothing else.

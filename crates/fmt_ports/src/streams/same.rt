@@ -69,17 +69,17 @@ impl<'s, O: Original> SameSink<'s, O> {
 }
 
 /// How many bytes at the front of two texts are the same, up to the first difference.
-fn common_len(a: &[u8], b: &[u8]) -> usize
-    ensures within { (result ≤ length a.now) × (result ≤ length b.now) }
-    ensures same { take result a.now ≡ take result b.now }
-    ensures differs { result < length a.now → result < length b.now → get_or a.now result 0 ≢ get_or b.now result 0 }
+fn common_len(left: &[u8], right: &[u8]) -> usize
+    ensures within { (result ≤ length left.now) × (result ≤ length right.now) }
+    ensures same { take result left.now ≡ take result right.now }
+    ensures differs { result < length left.now → result < length right.now → get_or left.now result 0 ≢ get_or right.now result 0 }
 {
-    if a.starts_with(b) {
-        return b.len();
+    if left.starts_with(right) {
+        return right.len();
     }
-    let most = a.len().min(b.len());
+    let most = left.len().min(right.len());
     for at in 0..most {
-        if a[at] != b[at] {
+        if left[at] != right[at] {
             return at;
         }
     }

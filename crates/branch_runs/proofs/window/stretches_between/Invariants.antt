@@ -7,7 +7,7 @@ use Rattle.branch_runs.proofs.window.stretches_between.Given as goal
 
 abbrev pub invariant-loop-place : goal.invariant-loop-place
 invariant-loop-place l = record {
-  left : map bounds_of l.stretches.items ++ inside l.first l.end (taken (drop l.at l.texts) l.r) ≡ inside l.first l.end (taken l.texts l.r);
+  left : map bounds_of l.stretches.items ++ inside l.first l.end (taken (drop l.at l.texts) l.number) ≡ inside l.first l.end (taken l.texts l.number);
   behind : (k : ℕ) → l.at ≤ k → k < length l.texts → l.first < (text_at l.texts k).end;
 }
 

@@ -3,4 +3,4 @@ use Rattle.pp_model.specs.Token.{common}
 use Rattle.pp_events.proofs.replace.common_names.Given as goal
 
 abbrev pub invariant-loop-n : goal.invariant-loop-n
-invariant-loop-n l = map (λ n. n.items) l.out.items ++ common (map (λ n. n.items) (drop l.n-index l.a)) (map (λ n. n.items) l.b) ≡ common (map (λ n. n.items) l.a) (map (λ n. n.items) l.b)
+invariant-loop-n l = map (λ n. n.items) l.out.items ++ common (map (λ n. n.items) (drop l.n-index l.left)) (map (λ n. n.items) l.right) ≡ common (map (λ n. n.items) l.left) (map (λ n. n.items) l.right)

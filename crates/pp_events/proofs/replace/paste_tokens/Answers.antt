@@ -5,6 +5,6 @@ use Rattle.pp_events.proofs.replace.paste_tokens.Goals as goal
 
 pub returns : goal.returns
 returns g c =
-    let hides : map (λ n. n.items) c.in_ok-hide.hide.items ≡ common (tok_shown c.args.a).hide (tok_shown c.args.b).hide = search rules in
-    ap (λ h. let t : Tok = record { token = shown c.in_ok-token.token; kind = c.in_ok-token.kind; hide = h; white = c.args.a.white; line = c.args.a.line } in t) hides
-    ∙ sym (c.in_ok-token.ensures (tok_shown c.args.a) (tok_shown c.args.b) refl refl)
+    let hides : map (λ n. n.items) c.in_ok-hide.hide.items ≡ common (tok_shown c.args.left).hide (tok_shown c.args.right).hide = search rules in
+    ap (λ h. let t : Tok = record { token = shown c.in_ok-token.token; kind = c.in_ok-token.kind; hide = h; white = c.args.left.white; line = c.args.left.line } in t) hides
+    ∙ sym (c.in_ok-token.ensures (tok_shown c.args.left) (tok_shown c.args.right) refl refl)

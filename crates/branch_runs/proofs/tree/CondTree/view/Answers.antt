@@ -12,7 +12,7 @@ use Rattle.branch_runs.proofs.tree.CondTree.view.Goals as goal
 pub returns-clause-view : goal.returns-clause-view
 returns-clause-view c =
     let marks = map node_mark c.self.inside.nodes.now in
-    let view = view_of (read marks) c.args.r in
-    let all : items_between 0 c.end_of.result view ≡ view = rw c.end_of.ensures (between_all _ view (view_within marks c.args.r c.self.invariant.cut)) in
-    let is : view ≡ view_of (read c.args.self.now) c.args.r = ap (λ (marks : List Mark). view_of (read marks) c.args.r) c.self.view_is in
+    let view = view_of (read marks) c.args.number in
+    let all : items_between 0 c.end_of.result view ≡ view = rw c.end_of.ensures (between_all _ view (view_within marks c.args.number c.self.invariant.cut)) in
+    let is : view ≡ view_of (read c.args.self.now) c.args.number = ap (λ (marks : List Mark). view_of (read marks) c.args.number) c.self.view_is in
     subst (λ xs. IfOk c.view_between.result (λ v. v ≡ xs)) (subst (λ xs. items_between 0 c.end_of.result xs ≡ xs) is all) c.view_between.ensures.view
