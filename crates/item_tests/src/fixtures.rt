@@ -34,9 +34,9 @@ pub fn tree<'a>(rt: &impl Abort, bump: &'a Bump, arena: &TokenArena<'_, '_>) -> 
 }
 
 /// What a run sees.
-pub fn view<'r>(rt: &impl Abort, run: &'r Bump, tree: &CondTree<'_>, r: u32) -> View<'r> {
-    assert!(rt; r < tree.runs());
-    tree.view(r, run).expect(rt, "a view")
+pub fn view<'r>(rt: &impl Abort, run: &'r Bump, tree: &CondTree<'_>, number: u32) -> View<'r> {
+    assert!(rt; number < tree.runs());
+    tree.view(number, run).expect(rt, "a view")
 }
 
 /// The item at a place of a view.

@@ -36,10 +36,10 @@ fn items_of(
     alloc: Global,
     arena: &TokenArena<'_, '_>,
     tree: &CondTree<'_>,
-    r: u32,
+    number: u32,
 ) -> String {
     let run = Bump::new(alloc);
-    let view = view(rt, &run, tree, r);
+    let view = view(rt, &run, tree, number);
     items_in(rt, alloc, arena, &view)
 }
 
@@ -269,9 +269,9 @@ fn tree_of<'a>(
 }
 
 /// How many places a run sees, and the first of them.
-fn places_of(rt: &impl Abort, alloc: Global, tree: &CondTree<'_>, r: u32) -> (u32, TokenId) {
+fn places_of(rt: &impl Abort, alloc: Global, tree: &CondTree<'_>, number: u32) -> (u32, TokenId) {
     let run = Bump::new(alloc);
-    let view = view(rt, &run, tree, r);
+    let view = view(rt, &run, tree, number);
     (view.len(), item_at(rt, &view, 0))
 }
 
