@@ -42,21 +42,6 @@ pub enum Value {
     Word(&'static str),
 }
 
-/// The number that a text writes, where it is within these bounds.
-fn number_in(text: &[u8], least: u32, most: u32) -> Result<u32, ValueFault>
-    ensures { result ≡ number_in least most text.now }
-{
-    if text.is_empty() || 9 < text.len() {
-        return Err(ValueFault::BadValue);
-    }
-    let number = digits_in(text).ok_or(ValueFault::BadValue)?;
-    if least <= number && number <= most {
-        Ok(number)
-    } else {
-        Err(ValueFault::OutOfRange)
-    }
-}
-
 /// The number that decimal digits write, if the text is digits alone.
 fn digits_in(text: &[u8]) -> Option<u32>
     requires { length text.now ≤ 9 }
@@ -74,7 +59,14 @@ fn digits_in(text: &[u8]) -> Option<u32>
 fn set_number(field: &mut u32, least: u32, most: u32, text: &[u8]) -> Result<(), ValueFault>
     ensures { MatchResult result (λ _. number_in least most text.now ≡ Ok field.new) (λ fault. number_in least most text.now ≡ Err fault) }
 {
-    *field = number_in(text, least, most)?;
+    if text.is_empty() || 9 < text.len() {
+        return Err(ValueFault::BadValue);
+    }
+    let number = digits_in(text).ok_or(ValueFault::BadValue)?;
+    if number < least || most < number {
+        return Err(ValueFault::OutOfRange);
+    }
+    *field = number;
     Ok(())
 }
 
