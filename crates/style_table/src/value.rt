@@ -3,7 +3,7 @@
 ghost use Rattle.std.specs.Prelude.{◌≡◌, ◌≤◌, length, map, if◌then◌else◌, Some, None, Ok, Err, IfOk, MatchResult};
 ghost use Rattle.style_table.specs.Keys.{shown, with_value, number_in, are_digits};
 ghost use Rattle.std.specs.Str.Parse.{digits_value};
-ghost use Rattle.style_table.specs.Words.{bool_word, value_in};
+ghost use Rattle.style_table.specs.Words.{bool_word, bool_words, value_in};
 ghost use Rattle.style_table.specs.Range.{IsInRange};
 ghost use Rattle.style_table.specs.Values.{text_of, IsShort};
 
@@ -76,6 +76,13 @@ fn set_word<V: Copy>(field: &mut V, rows: &[(&str, V)], text: &[u8]) -> Result<(
 {
     *field = value_in(rows, text)?;
     Ok(())
+}
+
+/// Sets a key that is true or false.
+fn set_switch(field: &mut bool, text: &[u8]) -> Result<(), ValueFault>
+    ensures { MatchResult result (λ _. value_in bool_words text.now ≡ Ok field.new) (λ fault. value_in bool_words text.now ≡ Err fault) }
+{
+    set_word(field, BOOL_WORDS, text)
 }
 
 /// The value of a key that is true or false.
@@ -182,44 +189,27 @@ impl Style {
                 BREAK_BEFORE_BRACES_WORDS,
                 text,
             ),
-            Key::BraceWrappingAfterCaseLabel => set_word(
+            Key::BraceWrappingAfterCaseLabel => set_switch(
                 &mut self.brace_wrapping_after_case_label,
-                BOOL_WORDS,
                 text,
             ),
-            Key::BraceWrappingAfterEnum => set_word(
-                &mut self.brace_wrapping_after_enum,
-                BOOL_WORDS,
-                text,
-            ),
-            Key::BraceWrappingAfterExternBlock => set_word(
+            Key::BraceWrappingAfterEnum => set_switch(&mut self.brace_wrapping_after_enum, text),
+            Key::BraceWrappingAfterExternBlock => set_switch(
                 &mut self.brace_wrapping_after_extern_block,
-                BOOL_WORDS,
                 text,
             ),
-            Key::BraceWrappingAfterFunction => set_word(
+            Key::BraceWrappingAfterFunction => set_switch(
                 &mut self.brace_wrapping_after_function,
-                BOOL_WORDS,
                 text,
             ),
-            Key::BraceWrappingAfterStruct => set_word(
+            Key::BraceWrappingAfterStruct => set_switch(
                 &mut self.brace_wrapping_after_struct,
-                BOOL_WORDS,
                 text,
             ),
-            Key::BraceWrappingAfterUnion => set_word(
-                &mut self.brace_wrapping_after_union,
-                BOOL_WORDS,
-                text,
-            ),
-            Key::BraceWrappingBeforeElse => set_word(
-                &mut self.brace_wrapping_before_else,
-                BOOL_WORDS,
-                text,
-            ),
-            Key::BraceWrappingBeforeWhile => set_word(
+            Key::BraceWrappingAfterUnion => set_switch(&mut self.brace_wrapping_after_union, text),
+            Key::BraceWrappingBeforeElse => set_switch(&mut self.brace_wrapping_before_else, text),
+            Key::BraceWrappingBeforeWhile => set_switch(
                 &mut self.brace_wrapping_before_while,
-                BOOL_WORDS,
                 text,
             ),
             Key::BraceWrappingAfterControlStatement => set_word(
@@ -242,26 +232,24 @@ impl Style {
                 ALIGN_AFTER_OPEN_BRACKET_WORDS,
                 text,
             ),
-            Key::BinPackArguments => set_word(&mut self.bin_pack_arguments, BOOL_WORDS, text),
-            Key::BinPackParameters => set_word(&mut self.bin_pack_parameters, BOOL_WORDS, text),
+            Key::BinPackArguments => set_switch(&mut self.bin_pack_arguments, text),
+            Key::BinPackParameters => set_switch(&mut self.bin_pack_parameters, text),
             Key::BreakBeforeBinaryOperators => set_word(
                 &mut self.break_before_binary_operators,
                 BREAK_BEFORE_BINARY_OPERATORS_WORDS,
                 text,
             ),
-            Key::BreakBeforeTernaryOperators => set_word(
+            Key::BreakBeforeTernaryOperators => set_switch(
                 &mut self.break_before_ternary_operators,
-                BOOL_WORDS,
                 text,
             ),
             Key::MaxEmptyLinesToKeep => set_number(&mut self.max_empty_lines_to_keep, 0, 100, text),
-            Key::KeepEmptyLinesAtTheStartOfBlocks => set_word(
+            Key::KeepEmptyLinesAtTheStartOfBlocks => set_switch(
                 &mut self.keep_empty_lines_at_the_start_of_blocks,
-                BOOL_WORDS,
                 text,
             ),
-            Key::IndentCaseLabels => set_word(&mut self.indent_case_labels, BOOL_WORDS, text),
-            Key::IndentGotoLabels => set_word(&mut self.indent_goto_labels, BOOL_WORDS, text),
+            Key::IndentCaseLabels => set_switch(&mut self.indent_case_labels, text),
+            Key::IndentGotoLabels => set_switch(&mut self.indent_goto_labels, text),
             Key::IndentPPDirectives => set_word(
                 &mut self.indent_pp_directives,
                 INDENT_PP_DIRECTIVES_WORDS,
@@ -277,9 +265,8 @@ impl Style {
                 ALLOW_SHORT_IF_STATEMENTS_ON_A_SINGLE_LINE_WORDS,
                 text,
             ),
-            Key::AllowShortLoopsOnASingleLine => set_word(
+            Key::AllowShortLoopsOnASingleLine => set_switch(
                 &mut self.allow_short_loops_on_a_single_line,
-                BOOL_WORDS,
                 text,
             ),
             Key::AllowShortBlocksOnASingleLine => set_word(
@@ -287,14 +274,12 @@ impl Style {
                 ALLOW_SHORT_BLOCKS_ON_A_SINGLE_LINE_WORDS,
                 text,
             ),
-            Key::AllowShortCaseLabelsOnASingleLine => set_word(
+            Key::AllowShortCaseLabelsOnASingleLine => set_switch(
                 &mut self.allow_short_case_labels_on_a_single_line,
-                BOOL_WORDS,
                 text,
             ),
-            Key::AllowShortEnumsOnASingleLine => set_word(
+            Key::AllowShortEnumsOnASingleLine => set_switch(
                 &mut self.allow_short_enums_on_a_single_line,
-                BOOL_WORDS,
                 text,
             ),
             Key::SpacesBeforeTrailingComments => set_number(
@@ -303,16 +288,8 @@ impl Style {
                 16,
                 text,
             ),
-            Key::SpaceAfterCStyleCast => set_word(
-                &mut self.space_after_c_style_cast,
-                BOOL_WORDS,
-                text,
-            ),
-            Key::Cpp11BracedListStyle => set_word(
-                &mut self.cpp11_braced_list_style,
-                BOOL_WORDS,
-                text,
-            ),
+            Key::SpaceAfterCStyleCast => set_switch(&mut self.space_after_c_style_cast, text),
+            Key::Cpp11BracedListStyle => set_switch(&mut self.cpp11_braced_list_style, text),
             Key::AlignEscapedNewlines => set_word(
                 &mut self.align_escaped_newlines,
                 ALIGN_ESCAPED_NEWLINES_WORDS,
@@ -324,12 +301,8 @@ impl Style {
                 text,
             ),
             Key::LineEnding => set_word(&mut self.line_ending, LINE_ENDING_WORDS, text),
-            Key::InsertNewlineAtEOF => set_word(&mut self.insert_newline_at_eof, BOOL_WORDS, text),
-            Key::SkipMacroDefinitionBody => set_word(
-                &mut self.skip_macro_definition_body,
-                BOOL_WORDS,
-                text,
-            ),
+            Key::InsertNewlineAtEOF => set_switch(&mut self.insert_newline_at_eof, text),
+            Key::SkipMacroDefinitionBody => set_switch(&mut self.skip_macro_definition_body, text),
             Key::PenaltyBreakAssignment => set_number(
                 &mut self.penalty_break_assignment,
                 0,
