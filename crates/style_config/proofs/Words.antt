@@ -3,7 +3,7 @@ use Rattle.std.proofs.Common.{◌≡◌, ◌+◌, ◌-◌, ◌==◌, ℕ, suc, B
 use Rattle.std.specs.Prelude.{slice_index}
 use Rattle.std.specs.List.{list_all, prefix_len, suffix_len}
 use Rattle.std.proofs.lemmas.List.Sums.{suffix_len_is}
-use Rattle.style_config.specs.Texts.{is_blank, is_key_byte, begins_with_hash, comment_start, without_comment, without_last_blanks, without_first_blanks, without_quotes, is_quoted, written_of, pair_with, Pair, is_pair, pair_from, pair_of}
+use Rattle.style_config.specs.Texts.{is_blank, is_key_byte, begins_with_hash, comment_start, without_comment, without_last_blanks, without_first_blanks, written_of, pair_with, Pair, is_pair, pair_from, pair_of}
 
 -- each byte may stand in a key
 abbrev pub AreKeyBytes : List ℕ → Type 0
