@@ -107,7 +107,8 @@ fn with_words<'w>(
     command: Command<'w>,
     words: &[(&'w str, WordKind)],
 ) -> Result<Command<'w>, AllocError>
-    ensures { IfOk result (λ grown. app_of grown ≡ fold with_rule (app_of command.entry) (map (λ row. kind_rule row.0.now row.1) words.entry.now)) }
+    ensures { let rules = map (λ row. kind_rule row.0.now row.1) words.entry.now in
+        IfOk result (λ grown. app_of grown ≡ fold with_rule (app_of command.entry) rules) }
 {
     let mut grown = command;
     for (name, kind) in words {

@@ -57,7 +57,8 @@ fn digits_in(text: &[u8]) -> Option<u32>
 
 /// Sets a number to the one that a text writes, where it is within these bounds.
 fn set_number(field: &mut u32, least: u32, most: u32, text: &[u8]) -> Result<(), ValueFault>
-    ensures { MatchResult result (λ _. number_in least most text.now ≡ Ok field.new) (λ fault. number_in least most text.now ≡ Err fault) }
+    ensures { let read = number_in least most text.now in
+        MatchResult result (λ _. read ≡ Ok field.new) (λ fault. read ≡ Err fault) }
 {
     if text.is_empty() || 9 < text.len() {
         return Err(ValueFault::BadValue);
@@ -72,7 +73,8 @@ fn set_number(field: &mut u32, least: u32, most: u32, text: &[u8]) -> Result<(),
 
 /// Sets a value to the one in the first row with this word.
 fn set_word<V: Copy>(field: &mut V, rows: &[(&str, V)], text: &[u8]) -> Result<(), ValueFault>
-    ensures { let read = value_in (map (λ row. (row.0.now, row.1)) rows.now) text.now in MatchResult result (λ _. read ≡ Ok field.new) (λ fault. read ≡ Err fault) }
+    ensures { let read = value_in (map (λ row. (row.0.now, row.1)) rows.now) text.now in
+        MatchResult result (λ _. read ≡ Ok field.new) (λ fault. read ≡ Err fault) }
 {
     *field = value_in(rows, text)?;
     Ok(())
@@ -80,7 +82,8 @@ fn set_word<V: Copy>(field: &mut V, rows: &[(&str, V)], text: &[u8]) -> Result<(
 
 /// Sets a key that is true or false.
 fn set_switch(field: &mut bool, text: &[u8]) -> Result<(), ValueFault>
-    ensures { MatchResult result (λ _. value_in bool_words text.now ≡ Ok field.new) (λ fault. value_in bool_words text.now ≡ Err fault) }
+    ensures { let read = value_in bool_words text.now in
+        MatchResult result (λ _. read ≡ Ok field.new) (λ fault. read ≡ Err fault) }
 {
     set_word(field, BOOL_WORDS, text)
 }
@@ -171,7 +174,8 @@ impl Style {
 
     /// Sets a key to a value, as a configuration writes it.
     fn set(&mut self, key: Key, text: &[u8]) -> Result<(), ValueFault>
-        ensures { MatchResult result (λ _. with_value self.old key text.now ≡ Ok self.new) (λ fault. with_value self.old key text.now ≡ Err fault) }
+        ensures { let read = with_value self.old key text.now in
+            MatchResult result (λ _. read ≡ Ok self.new) (λ fault. read ≡ Err fault) }
     {
         match key {
             Key::ColumnLimit => set_number(&mut self.column_limit, 0, 1000, text),
