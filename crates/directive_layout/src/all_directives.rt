@@ -11,4 +11,3 @@ mod roles;
 
 pub use all::lay_all;
 pub use laws::{all_directives_are_decided, all_directives_stay_sound};
-pub use line_tokens::NoMemory;

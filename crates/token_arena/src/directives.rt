@@ -10,11 +10,10 @@ mod names;
 mod nesting;
 mod spelling;
 
-pub use c_chars::Dialect;
 pub use cut::sections;
 pub use keeping::kept_after_name;
 pub use laws::sections_say_how_items_stand;
-pub use line_tokens::{NoMemory, TokenId};
+use line_tokens::TokenId;
 pub use nesting::{Nesting, nesting_of};
 pub use spelling::{begins_with, behind_word, is_spelled};
 
