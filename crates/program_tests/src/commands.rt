@@ -5,13 +5,11 @@ use crate::formatted_texts::{BRANCHES, DIRECTIVES, GAPS, ITEMS, JOINED, STATEMEN
 use crate::generated_inputs::GENERATED_INPUTS;
 use crate::trailing_comments::TRAILING_COMMENTS;
 use crate::whole_files::WHOLE_FILES;
-use c_chars::LIMIT;
 use fmt_ports::{MemFiles, MemSink, MemSource};
 use format_cli::format_command;
-use std::alloc::{AllocError, Global};
+use std::alloc::Global;
 use std::fmt::Debug;
 use std::process::Abort;
-use std::test::Fail;
 
 /// A file: its name and its bytes.
 pub type File = (&'static str, &'static [u8]);
@@ -557,6 +555,42 @@ const FAILING_PORTS: &[Row] = &[
         status: 3,
         ..QUIET
     },
+    Row {
+        name: "the first note fails, and it is a report",
+        words: &["--states", "1"],
+        input: b"call(aaaaaaaaaaaaaaaaaaaaaaaaaaaaaaaaaaaaaaaaaaaaaaaaaa, bbbbbbbbbbbbbbbbbbbbbbbbbbbbbbbbbbbb);\n",
+        failing_notes: &[1],
+        status: 5,
+        ..QUIET
+    },
+    Row {
+        name: "the second of two files can't be written back",
+        words: &["-i", "a.c", "b.c"],
+        files: &[("a.c", b"x=1;\n"), ("b.c", b"x=1;\n")],
+        failing_files: &[5],
+        status: 5,
+        notes: b"b.c: failed\n",
+        held: &[("a.c", b"x = 1;\n"), ("b.c", b"x=1;\n")],
+        ..QUIET
+    },
+    Row {
+        name: "a configuration that can't be looked for, and a file",
+        words: &["-i", "a.c"],
+        files: &[("a.c", b"x=1;\n")],
+        failing_files: &[1],
+        status: 5,
+        notes: b".clang-format: failed\n",
+        held: &[("a.c", b"x=1;\n")],
+        ..QUIET
+    },
+    Row {
+        name: "a file twice is written back once: the fourth call of files is the last",
+        words: &["-i", "a.c", "a.c"],
+        files: &[("a.c", b"x=1;\n")],
+        failing_files: &[5],
+        held: &[("a.c", b"x = 1;\n")],
+        ..QUIET
+    },
 ];
 
 /// The ends of a call.
@@ -568,38 +602,56 @@ pub struct Ends {
     pub files: MemFiles,
 }
 
-/// The words of a call.
-pub fn texts(alloc: Global, words: &[&str]) -> Result<Vec<String>, AllocError> {
-    let mut all = Vec::new(alloc);
-    for word in words {
-        all.push(String::from_str(alloc, word)?)?;
+/// The words of a row's call.
+fn words_of(rt: &impl Abort, alloc: Global, row: &Row) -> Vec<String> {
+    let mut words = Vec::new(alloc);
+    for word in row.words {
+        let word = String::from_str(alloc, word).expect(rt, row.name);
+        words.push(word).expect(rt, row.name);
     }
-    Ok(all)
+    words
 }
 
-fn files_of(alloc: Global, row: &Row) -> Result<MemFiles, AllocError> {
-    let mut files = MemFiles::new(alloc, row.failing_files.to_vec(alloc)?);
+/// The files of a row's call.
+fn files_of(rt: &impl Abort, alloc: Global, row: &Row) -> MemFiles {
+    let mut files = MemFiles::new(alloc, numbers(rt, alloc, row.failing_files));
     for (name, bytes) in row.files {
-        files.put(name, bytes)?;
+        files.put(name, bytes).expect(rt, row.name);
     }
-    Ok(files)
+    files
+}
+
+/// The numbers of the calls that fail.
+fn numbers(rt: &impl Abort, alloc: Global, failing: &[u64]) -> Vec<u64> {
+    failing.to_vec(alloc).expect(rt, "memory")
+}
+
+/// A source of these bytes.
+pub fn source_of(rt: &impl Abort, alloc: Global, input: &[u8], failing: &[u64]) -> MemSource {
+    let bytes = input.to_vec(alloc).expect(rt, "memory");
+    MemSource::new(bytes, numbers(rt, alloc, failing))
+}
+
+/// A sink.
+pub fn sink(rt: &impl Abort, alloc: Global, failing: &[u64]) -> MemSink {
+    MemSink::new(alloc, numbers(rt, alloc, failing))
 }
 
 /// The ends of a row's call, with this input.
-pub fn ends_of(alloc: Global, row: &Row, input: Vec<u8>) -> Result<Ends, AllocError> {
-    Ok(Ends {
-        source: MemSource::new(input, row.failing_reads.to_vec(alloc)?),
-        out: MemSink::new(alloc, row.failing_writes.to_vec(alloc)?),
-        notes: MemSink::new(alloc, row.failing_notes.to_vec(alloc)?),
-        files: files_of(alloc, row)?,
-    })
+pub fn ends_of(rt: &impl Abort, alloc: Global, row: &Row, input: &[u8]) -> Ends {
+    Ends {
+        source: source_of(rt, alloc, input, row.failing_reads),
+        out: sink(rt, alloc, row.failing_writes),
+        notes: sink(rt, alloc, row.failing_notes),
+        files: files_of(rt, alloc, row),
+    }
 }
 
-/// The status of a call.
-pub fn status_of(alloc: Global, words: &[String], ends: &mut Ends) -> u8 {
+/// The status of a row's call.
+pub fn status_of(rt: &impl Abort, alloc: Global, row: &Row, ends: &mut Ends) -> u8 {
     format_command(
         alloc,
-        words,
+        &words_of(rt, alloc, row),
         &mut ends.source,
         &mut ends.out,
         &mut ends.notes,
@@ -609,27 +661,24 @@ pub fn status_of(alloc: Global, words: &[String], ends: &mut Ends) -> u8 {
 
 /// What is found by the row of this name is what is wanted. One function compares all values, so that it is proved
 /// once.
-fn same<T: Copy + PartialEq + Debug>(rt: &impl Abort, what: &str, name: &str, found: T, want: T) {
-    assert_eq!(rt; found, want, "{what} of {name}");
+pub fn same<T: Copy + PartialEq + Debug>(rt: &impl Abort, name: &str, found: T, want: T) {
+    assert_eq!(rt; found, want, "{name}");
 }
 
-/// Sees that a call does what its row says.
-pub fn check(rt: &impl Abort, alloc: Global, row: &Row, input: Vec<u8>) -> Result<(), Fail> {
-    let words = texts(alloc, row.words)?;
-    let mut ends = ends_of(alloc, row, input)?;
-    let status = status_of(alloc, &words, &mut ends);
-    same(rt, "the status", row.name, status, row.status);
-    same(rt, "the output", row.name, ends.out.taken(), row.out);
-    same(rt, "the notes", row.name, ends.notes.taken(), row.notes);
+/// Sees that a call with this input ends as its row says: its status, its output, its notes and its files.
+pub fn check(rt: &impl Abort, alloc: Global, row: &Row, input: &[u8]) {
+    let mut ends = ends_of(rt, alloc, row, input);
+    let status = status_of(rt, alloc, row, &mut ends);
+    let found = (status, ends.out.taken(), ends.notes.taken());
+    same(rt, row.name, found, (row.status, row.out, row.notes));
     for (name, bytes) in row.held {
-        same(rt, name, row.name, ends.files.held(name), Some(*bytes));
+        let found = (*name, ends.files.held(name));
+        same(rt, row.name, found, (*name, Some(*bytes)));
     }
-    Ok(())
 }
 
 #[test]
-fn does_what_the_words_ask_for(rt: HostRuntime) -> Result<(), Fail> {
-    let alloc = rt.alloc();
+fn does_what_the_words_ask_for(rt: HostRuntime) {
     for rows in [
         WORDS_AND_STYLES,
         DUMPS,
@@ -641,96 +690,31 @@ fn does_what_the_words_ask_for(rt: HostRuntime) -> Result<(), Fail> {
         GENERATED_INPUTS,
     ] {
         for row in rows {
-            check(&rt, alloc, row, row.input.to_vec(alloc)?)?;
+            check(&rt, rt.alloc(), row, row.input);
         }
     }
-    Ok(())
 }
 
-/// Each text is laid out, and what is laid out stays.
-#[test]
-fn lays_out_texts(rt: HostRuntime) -> Result<(), Fail> {
-    let alloc = rt.alloc();
-    for rows in [
-        GAPS,
-        ITEMS,
-        DIRECTIVES,
-        STATEMENTS,
-        JOINED,
-        BRANCHES,
-        STYLES,
-        BROKEN_LINES,
-        TRAILING_COMMENTS,
-        WHOLE_FILES,
-    ] {
-        for row in rows {
-            check(&rt, alloc, row, row.input.to_vec(alloc)?)?;
-            check(&rt, alloc, row, row.out.to_vec(alloc)?)?;
-        }
+/// Sees that each text is laid out, and that what is laid out stays.
+fn check_layouts(rt: &impl Abort, alloc: Global, rows: &[Row]) {
+    for row in rows {
+        check(rt, alloc, row, row.input);
+        check(rt, alloc, row, row.out);
     }
-    Ok(())
 }
-
-/// A list of 4,096 numbers, with this white space behind its brace, before each twelfth number and before each other one.
-fn long_list(
-    alloc: Global,
-    first: &[u8],
-    twelfth: &[u8],
-    other: &[u8],
-) -> Result<Vec<u8>, AllocError> {
-    let mut text = Vec::new(alloc);
-    text.extend_from_slice(b"unsigned char t[] = {")?;
-    text.extend_from_slice(first)?;
-    text.extend_from_slice(b"0x00")?;
-    for number in 1..4_096_u32 {
-        text.push(b',')?;
-        text.extend_from_slice(if number % 12 == 0 { twelfth } else { other })?;
-        text.extend_from_slice(b"0x00")?;
-    }
-    text.extend_from_slice(b"};\n")?;
-    Ok(text)
-}
-
-/// A long list is broken behind its brace and then where a row is full, twelve numbers a row.
-#[test]
-fn breaks_a_long_list(rt: HostRuntime) -> Result<(), Fail> {
-    let alloc = rt.alloc();
-    let want = long_list(alloc, b"\n    ", b"\n    ", b" ")?;
-    for input in [long_list(alloc, b"", b"", b"")?, want.clone()?] {
-        let mut ends = ends_of(alloc, &QUIET, input)?;
-        let status = status_of(alloc, &[], &mut ends);
-        same(&rt, "the status", "a long list", status, 0);
-        assert!(rt; ends.out.taken() == want.as_slice());
-        same(&rt, "the notes", "a long list", ends.notes.taken().len(), 0);
-    }
-    Ok(())
-}
-
-/// Inputs of blanks, as many as the limit allows and one more.
-const BLANKS: &[(Row, usize)] = &[
-    (
-        Row {
-            name: "the longest input",
-            ..QUIET
-        },
-        LIMIT,
-    ),
-    (
-        Row {
-            name: "an input past the limit",
-            status: 4,
-            notes: b"<stdin>: more than 8388608 bytes\n",
-            ..QUIET
-        },
-        LIMIT + 1,
-    ),
-];
 
 #[test]
-fn takes_the_limit_and_no_more(rt: HostRuntime) -> Result<(), Fail> {
+fn lays_out_texts(rt: HostRuntime) {
+    let rt = &rt;
     let alloc = rt.alloc();
-    for (row, len) in BLANKS {
-        check(&rt, alloc, row, vec![in alloc; b' '; *len]?)?;
-    }
-    Ok(())
+    check_layouts(rt, alloc, GAPS);
+    check_layouts(rt, alloc, ITEMS);
+    check_layouts(rt, alloc, DIRECTIVES);
+    check_layouts(rt, alloc, STATEMENTS);
+    check_layouts(rt, alloc, JOINED);
+    check_layouts(rt, alloc, BRANCHES);
+    check_layouts(rt, alloc, STYLES);
+    check_layouts(rt, alloc, BROKEN_LINES);
+    check_layouts(rt, alloc, TRAILING_COMMENTS);
+    check_layouts(rt, alloc, WHOLE_FILES);
 }
