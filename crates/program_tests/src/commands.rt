@@ -613,7 +613,7 @@ fn words_of(rt: &impl Abort, alloc: Global, row: &Row) -> Vec<String> {
 }
 
 /// The files of a row's call.
-fn files_of(rt: &impl Abort, alloc: Global, row: &Row) -> MemFiles {
+pub fn files_of(rt: &impl Abort, alloc: Global, row: &Row) -> MemFiles {
     let mut files = MemFiles::new(alloc, numbers(rt, alloc, row.failing_files));
     for (name, bytes) in row.files {
         files.put(name, bytes).expect(rt, row.name);
@@ -695,26 +695,24 @@ fn does_what_the_words_ask_for(rt: HostRuntime) {
     }
 }
 
-/// Sees that each text is laid out, and that what is laid out stays.
-fn check_layouts(rt: &impl Abort, alloc: Global, rows: &[Row]) {
-    for row in rows {
-        check(rt, alloc, row, row.input);
-        check(rt, alloc, row, row.out);
-    }
-}
-
+/// Each text is laid out, and what is laid out stays.
 #[test]
 fn lays_out_texts(rt: HostRuntime) {
-    let rt = &rt;
-    let alloc = rt.alloc();
-    check_layouts(rt, alloc, GAPS);
-    check_layouts(rt, alloc, ITEMS);
-    check_layouts(rt, alloc, DIRECTIVES);
-    check_layouts(rt, alloc, STATEMENTS);
-    check_layouts(rt, alloc, JOINED);
-    check_layouts(rt, alloc, BRANCHES);
-    check_layouts(rt, alloc, STYLES);
-    check_layouts(rt, alloc, BROKEN_LINES);
-    check_layouts(rt, alloc, TRAILING_COMMENTS);
-    check_layouts(rt, alloc, WHOLE_FILES);
+    for rows in &[
+        GAPS,
+        ITEMS,
+        DIRECTIVES,
+        STATEMENTS,
+        JOINED,
+        BRANCHES,
+        STYLES,
+        BROKEN_LINES,
+        TRAILING_COMMENTS,
+        WHOLE_FILES,
+    ] {
+        for row in *rows {
+            check(&rt, rt.alloc(), row, row.input);
+            check(&rt, rt.alloc(), row, row.out);
+        }
+    }
 }

@@ -5,7 +5,7 @@
 //! - `formatted_texts`: the rows of texts and their layout.
 //! - `generated_inputs`: the rows of inputs that `--generate` makes.
 //! - `hostile_cases`: each front of a text, each byte, and ports that fail at each of their calls.
-//! - `long_texts`: the rows of long texts, and a text whose layout is far longer than the text.
+//! - `long_texts`: the rows of long texts.
 //! - `trailing_comments`: the rows of texts with trailing comments.
 //! - `whole_files`: the rows of whole files, with directives and what stays.
 #![tactic(auto)]

@@ -1,4 +1,4 @@
-//! The rows of long texts, which no failure prints, and a text whose layout is far longer than the text.
+//! The rows of long texts, which no failure prints.
 
 use crate::commands::{QUIET, Row, ends_of, same, status_of};
 use crate::whole_files::{DRIVER, DRIVER_LAID_OUT, DRIVER_STYLE};
@@ -9,11 +9,19 @@ use std::process::Abort;
 /// A text: its pieces in order, each so many times.
 type Pieces = &'static [(&'static [u8], usize)];
 
+/// What a long text gives.
+enum Output {
+    /// This text.
+    Text(Pieces),
+    /// So many bytes.
+    Bytes(usize),
+}
+
 /// A row, its input and its output.
 struct LongText {
     row: Row,
     input: Pieces,
-    out: Pieces,
+    out: Output,
 }
 
 /// 100,000 brackets that nothing closes.
@@ -53,7 +61,7 @@ const LONG_TEXTS: &[LongText] = &[
             ..QUIET
         },
         input: BRACKETS,
-        out: BRACKETS,
+        out: Output::Text(BRACKETS),
     },
     LongText {
         row: Row {
@@ -62,7 +70,7 @@ const LONG_TEXTS: &[LongText] = &[
             ..QUIET
         },
         input: BRACES,
-        out: &[(b"{\n", 99_999), (b"{", 1)],
+        out: Output::Text(&[(b"{\n", 99_999), (b"{", 1)]),
     },
     LongText {
         row: Row {
@@ -73,7 +81,7 @@ const LONG_TEXTS: &[LongText] = &[
             ..QUIET
         },
         input: BRACES,
-        out: &[],
+        out: Output::Text(&[]),
     },
     LongText {
         row: Row {
@@ -81,7 +89,7 @@ const LONG_TEXTS: &[LongText] = &[
             ..QUIET
         },
         input: CONDITIONALS,
-        out: CONDITIONALS,
+        out: Output::Text(CONDITIONALS),
     },
     LongText {
         row: Row {
@@ -91,7 +99,7 @@ const LONG_TEXTS: &[LongText] = &[
             ..QUIET
         },
         input: CONDITIONALS,
-        out: &[],
+        out: Output::Text(&[]),
     },
     LongText {
         row: Row {
@@ -100,7 +108,7 @@ const LONG_TEXTS: &[LongText] = &[
             ..QUIET
         },
         input: &[(DRIVER, 200)],
-        out: &[(DRIVER_LAID_OUT, 200)],
+        out: Output::Text(&[(DRIVER_LAID_OUT, 200)]),
     },
     LongText {
         row: Row {
@@ -108,7 +116,7 @@ const LONG_TEXTS: &[LongText] = &[
             ..QUIET
         },
         input: DENSE_LIST,
-        out: LIST_IN_ROWS,
+        out: Output::Text(LIST_IN_ROWS),
     },
     LongText {
         row: Row {
@@ -116,7 +124,7 @@ const LONG_TEXTS: &[LongText] = &[
             ..QUIET
         },
         input: LIST_IN_ROWS,
-        out: LIST_IN_ROWS,
+        out: Output::Text(LIST_IN_ROWS),
     },
     LongText {
         row: Row {
@@ -124,7 +132,7 @@ const LONG_TEXTS: &[LongText] = &[
             ..QUIET
         },
         input: &[(b" ", LIMIT)],
-        out: &[],
+        out: Output::Text(&[]),
     },
     LongText {
         row: Row {
@@ -134,7 +142,18 @@ const LONG_TEXTS: &[LongText] = &[
             ..QUIET
         },
         input: &[(b" ", LIMIT + 1)],
-        out: &[],
+        out: Output::Text(&[]),
+    },
+    // Each row begins 8 columns further right: 8 * (0 + .. + 1,999) blanks, 2,000 braces and as many line ends.
+    LongText {
+        row: Row {
+            name: "deep nesting, whose layout is far longer than the text",
+            words: &["--style", "file:wide"],
+            files: &[("wide", b"IndentWidth: 8\n")],
+            ..QUIET
+        },
+        input: &[(b"{", 2_000), (b"\n", 1)],
+        out: Output::Bytes(15_996_000),
     },
 ];
 
@@ -149,39 +168,26 @@ fn spelled(rt: &impl Abort, alloc: Global, pieces: &[(&[u8], usize)]) -> Vec<u8>
     bytes
 }
 
-fn check_long(rt: &impl Abort, alloc: Global, row: &Row, input: &[u8], out: &[u8]) {
-    let mut ends = ends_of(rt, alloc, row, input);
+fn is_output(rt: &impl Abort, alloc: Global, found: &[u8], out: &Output) -> bool {
+    match out {
+        Output::Text(pieces) => found == spelled(rt, alloc, pieces).as_slice(),
+        Output::Bytes(count) => found.len() == *count,
+    }
+}
+
+fn check_long(rt: &impl Abort, alloc: Global, long: &LongText) {
+    let row = &long.row;
+    let input = spelled(rt, alloc, long.input);
+    let mut ends = ends_of(rt, alloc, row, input.as_slice());
     let status = status_of(rt, alloc, row, &mut ends);
-    let found = (status, ends.out.taken() == out, ends.notes.taken());
+    let is_output = is_output(rt, alloc, ends.out.taken(), &long.out);
+    let found = (status, is_output, ends.notes.taken());
     same(rt, row.name, found, (row.status, true, row.notes));
 }
 
 #[test]
 fn takes_long_texts(rt: HostRuntime) {
-    let alloc = rt.alloc();
-    for LongText { row, input, out } in LONG_TEXTS {
-        let input = spelled(&rt, alloc, input);
-        let out = spelled(&rt, alloc, out);
-        check_long(&rt, alloc, row, input.as_slice(), out.as_slice());
+    for long in LONG_TEXTS {
+        check_long(&rt, rt.alloc(), long);
     }
-}
-
-/// Each block stands 8 columns further right than the one around it.
-const WIDE: Row = Row {
-    name: "deep nesting",
-    words: &["--style", "file:wide"],
-    files: &[("wide", b"IndentWidth: 8\n")],
-    ..QUIET
-};
-
-/// 2,000 open braces stand on lines of their own, the first at column 0 and each other one 8 columns further right:
-/// 8 * (0 + .. + 1,999) blanks, 2,000 braces and as many line ends.
-#[test]
-fn writes_deep_nesting(rt: HostRuntime) {
-    let alloc = rt.alloc();
-    let input = spelled(&rt, alloc, &[(b"{", 2_000), (b"\n", 1)]);
-    let mut ends = ends_of(&rt, alloc, &WIDE, input.as_slice());
-    let status = status_of(&rt, alloc, &WIDE, &mut ends);
-    let found = (status, ends.out.taken().len(), ends.notes.taken());
-    same(&rt, WIDE.name, found, (WIDE.status, 15_996_000, WIDE.notes));
 }
