@@ -662,7 +662,9 @@ pub fn status_of(rt: &impl Abort, alloc: Global, row: &Row, ends: &mut Ends) -> 
 /// What is found by the row of this name is what is wanted. One function compares all values, so that it is proved
 /// once.
 pub fn same<T: Copy + PartialEq + Debug>(rt: &impl Abort, name: &str, found: T, want: T) {
-    assert_eq!(rt; found, want, "{name}");
+    if found != want {
+        panic!(rt; "{name}: found {found:?}, want {want:?}");
+    }
 }
 
 /// Sees that a call with this input ends as its row says: its status, its output, its notes and its files.
@@ -679,7 +681,7 @@ pub fn check(rt: &impl Abort, alloc: Global, row: &Row, input: &[u8]) {
 
 #[test]
 fn does_what_the_words_ask_for(rt: HostRuntime) {
-    for rows in [
+    for rows in &[
         WORDS_AND_STYLES,
         DUMPS,
         INPUTS,
@@ -689,7 +691,7 @@ fn does_what_the_words_ask_for(rt: HostRuntime) {
         BUDGETS,
         GENERATED_INPUTS,
     ] {
-        for row in rows {
+        for row in *rows {
             check(&rt, rt.alloc(), row, row.input);
         }
     }

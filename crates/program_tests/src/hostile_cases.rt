@@ -164,13 +164,14 @@ fn is_past_last(rt: &impl Abort, alloc: Global, row: &Row, port: Port, number: u
 
 /// Sees that the first calls of a port that are made can fail, up to one that isn't made.
 fn check_faults(rt: &impl Abort, alloc: Global, row: &Row, port: Port) {
+    let mut is_told = false;
     for number in 1..1_000_u64 {
         if is_past_last(rt, alloc, row, port, number) {
-            same(rt, row.name, 1 < number, true);
-            return;
+            is_told = 1 < number;
+            break;
         }
     }
-    panic!(rt; "more calls than bytes: {}", row.name);
+    same(rt, row.name, is_told, true);
 }
 
 #[test]
