@@ -7,13 +7,13 @@ use Rattle.line_tokens.specs.declared.role.Role.{Role}
 use Rattle.line_tokens.specs.declared.role.Role.TheVariants.{CtrlOpen, CallOpen, CastOpen, DeclOpen, GroupOpen, ListOpen, BlockOpen}
 use Rattle.line_tokens.specs.Roles.{is_trailing, is_decl_name, is_ctrl_close}
 use Rattle.line_tokens.specs.Table.{first_row}
-use Rattle.token_arena.specs.Gaps.{Contents}
+use Rattle.token_arena.specs.Gaps.{Contents, item_began}
 use Rattle.token_classes.specs.declared.class.TokenClass.{TokenClass}
 use Rattle.token_classes.specs.declared.class.TokenClass.TheVariants.{Nothing, OpenRound, OpenBrace}
 use Rattle.token_classes.specs.Classes.{is_comment, is_close_round, is_before_list, is_opener, is_call_word, is_plain, is_text}
 use Rattle.token_classes.specs.Viewed.{item_class}
 use Rattle.unwrapped_lines.specs.declared.part.Part.TheVariants.{Own}
-use Rattle.unwrapped_lines.specs.Viewed.{item_began, part_of}
+use Rattle.unwrapped_lines.specs.Viewed.{part_of}
 use Rattle.annotator.specs.declared.left.Around.{Around}
 use Rattle.annotator.specs.declared.left.Left.{Left}
 use Rattle.annotator.specs.declared.left.Seen.{Seen}

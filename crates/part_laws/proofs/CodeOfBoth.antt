@@ -3,13 +3,13 @@ use Rattle.std.proofs.Common.{◌≡◌, ◌∙◌, ℕ, zero, suc, ◌+◌, ◌
 use Rattle.std.specs.Prelude.{slice_get, if◌then◌else◌, ⊤}
 use Rattle.std.proofs.lemmas.List.{map-append, length-map, get_or-append-add}
 use Rattle.std.proofs.Math.ListN.{get_or-append}
-use Rattle.token_arena.specs.Gaps.{Contents}
+use Rattle.token_arena.specs.Gaps.{Contents, item_began}
 use Rattle.token_classes.specs.declared.class.TokenClass.{TokenClass}
 use Rattle.token_classes.specs.declared.class.TokenClass.TheVariants.{Nothing}
 use Rattle.token_classes.specs.Classes.{is_colon, is_comment}
 use Rattle.token_classes.specs.Viewed.{item_class, classes_of}
 use Rattle.unwrapped_lines.specs.declared.token.CodeToken.{CodeToken}
-use Rattle.unwrapped_lines.specs.Viewed.{item_began, colon_touches, numbers_from, numbers_of, partner_number, token_at, code_places_from, code_tokens}
+use Rattle.unwrapped_lines.specs.Viewed.{colon_touches, numbers_from, numbers_of, partner_number, token_at, code_places_from, code_tokens}
 use Rattle.unwrapped_lines.proofs.NumberLemmas.{numbers_count}
 use Rattle.part_laws.specs.LinesCut.{partner_behind, partners_in}
 use Rattle.part_laws.proofs.CodeCut.{token_behind, code_of}

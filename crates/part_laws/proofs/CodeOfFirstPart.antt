@@ -1,19 +1,17 @@
 -- A first part ends behind a declaration of its tokens, and a word that began its line follows it.
-use Rattle.std.proofs.Common.{◌≡◌, ◌∙◌, inl, inr, ℕ, ◌+◌, ◌-◌, Bool, true, false, ◌&&◌, nat_lt, Option, Some, None, List, [], ◌∷◌, ◌++◌, length, map, get_or, append_assoc, refl, sym, ap, subst, arith, ◌⊎◌}
-use Rattle.std.specs.Prelude.{slice_get, if◌then◌else◌}
+use Rattle.std.proofs.Common.{◌≡◌, ◌∙◌, inl, inr, ℕ, ◌+◌, ◌-◌, Bool, true, false, ◌&&◌, nat_lt, List, [], ◌∷◌, ◌++◌, length, map, get_or, append_assoc, refl, sym, ap, subst, arith, ◌⊎◌}
+use Rattle.std.specs.Prelude.{if◌then◌else◌}
 use Rattle.std.proofs.lemmas.List.{length-append}
 use Rattle.std.proofs.lemmas.Bool.{lt-ltb}
 use Rattle.std.proofs.Math.Seq.{get_or-append_seam}
-use Rattle.token_arena.specs.Gaps.{Contents}
-use Rattle.token_arena.specs.Stored.{Stored}
+use Rattle.token_arena.specs.Gaps.{Contents, item_began}
 use Rattle.token_classes.specs.declared.class.TokenClass.{TokenClass}
 use Rattle.token_classes.specs.declared.class.TokenClass.TheVariants.{Nothing, CloseBrace, Semicolon as SemicolonClass, LineComment, BlockComment}
 use Rattle.token_classes.specs.Classes.{is_comment, is_word, is_before_list, is_close_round}
 use Rattle.token_classes.specs.Viewed.{item_class, classes_of}
-use Rattle.view_parts.specs.Walk.{began_of}
 use Rattle.unwrapped_lines.specs.declared.token.CodeToken.{CodeToken}
 use Rattle.unwrapped_lines.specs.Forms.{class_at, class_before}
-use Rattle.unwrapped_lines.specs.Viewed.{item_began, began_of_item, token_at, code_places_from}
+use Rattle.unwrapped_lines.specs.Viewed.{token_at, code_places_from}
 use Rattle.part_laws.specs.LinesCut.{partners_in, IsFirstPart}
 use Rattle.part_laws.proofs.CodeCut.{BeginsWord, IsCutBehind, code_of, ArePassed, ArePaired}
 use Rattle.part_laws.proofs.Counted.{count_of, counts_on, counts_one, counts_all, code_class, class_there}
@@ -66,10 +64,6 @@ cut_behind arena (id ∷ ids) closes =
 
 -- ## Before what follows
 
-same_began : (token : Option Stored) → began_of_item token ≡ began_of token
-same_began None = refl
-same_began (Some token) = refl
-
 both : (a b : Bool) → a ≡ true → b ≡ true → a && b ≡ true
 both true b one other = other
 both false b one other = one
@@ -102,8 +96,7 @@ begins_word arena all past (id ∷ rest) split so =
         let item : get_or all (length past) 0 ≡ id = ap (λ (ids : List ℕ). get_or ids (length past) 0) split ∙ get_or-append_seam past id rest 0 in
         let is : is_word (get_or (classes_of arena all) (length past) Nothing) ≡ true =
         ap is_word (class_there arena all past id rest split) ∙ word in
-        let began : item_began arena (get_or all (length past) 0) ≡ true = ap (λ k. item_began arena k) item
-        ∙ (same_began (slice_get arena.tokens id) ∙ so.0) in
+        let began : item_began arena (get_or all (length past) 0) ≡ true = ap (λ k. item_began arena k) item ∙ so.0 in
         subst at_comment (sym (word_is_no_comment (item_class arena id) word))
         (both (is_word (get_or (classes_of arena all) (length past) Nothing)) (item_began arena (get_or all (length past) 0)) is began)
 

@@ -2,7 +2,7 @@
 use Rattle.std.proofs.Common.{◌≡◌, ◌∙◌, ◌⊎◌, inl, inr, ℕ, ◌+◌, Bool, true, false, not, ◌&&◌, ◌||◌, Option, Some, None, List, [], ◌∷◌, ◌++◌, length, take, drop, refl, sym, ap, subst, arith}
 use Rattle.std.specs.Prelude.{if◌then◌else◌}
 use Rattle.std.proofs.Math.Seq.{take-append_seam, drop-append_seam}
-use Rattle.token_arena.specs.Gaps.{Contents}
+use Rattle.token_arena.specs.Gaps.{Contents, item_began}
 use Rattle.token_classes.specs.declared.class.TokenClass.{TokenClass}
 use Rattle.token_classes.specs.declared.class.TokenClass.TheVariants.{Nothing, OpenRound, CloseRound, OpenSquare, CloseSquare, OpenBrace, CloseBrace, Semicolon as SemicolonClass, LineComment, BlockComment}
 use Rattle.token_classes.specs.Classes.{is_comment, is_word, is_open_round, is_open_brace}
@@ -13,7 +13,7 @@ use Rattle.view_parts.specs.declared.walk.Before.{Before}
 use Rattle.view_parts.specs.declared.walk.Before.TheVariants.{Name, Parameters, Body, Between, Other}
 use Rattle.view_parts.specs.declared.walk.Reading.TheVariants.{Ends, Never, GoesOn}
 use Rattle.view_parts.specs.declared.walk.Walk.{Walk}
-use Rattle.view_parts.specs.Walk.{start, is_end, is_between, item_began, behind_group, behind, asked_behind, asked_at, ends_or, is_lost, outside, inside}
+use Rattle.view_parts.specs.Walk.{start, is_end, is_between, behind_group, behind, asked_behind, asked_at, ends_or, is_lost, outside, inside}
 use Rattle.view_parts.specs.Parts.{waiting_behind, is_open, next_end}
 use Rattle.view_parts.proofs.Walked.{by_reading}
 use Rattle.part_laws.specs.LinesCut.{IsFirstPart}

@@ -1,19 +1,17 @@
 -- What the items of a first part, and those behind it, are in the view of both: what they are by themselves.
-use Rattle.std.proofs.Common.{◌≡◌, ◌∙◌, ◌⊎◌, inl, inr, ℕ, suc, ◌+◌, ◌≤◌, Bool, true, false, not, ◌||◌, Option, Some, None, List, [], ◌∷◌, ◌++◌, length, get_or, refl, sym, ap, subst, arith}
-use Rattle.std.specs.Prelude.{if◌then◌else◌, slice_get, ⊤}
+use Rattle.std.proofs.Common.{◌≡◌, ◌∙◌, ◌⊎◌, inl, inr, ℕ, suc, ◌+◌, ◌≤◌, Bool, true, false, not, ◌||◌, List, [], ◌∷◌, ◌++◌, length, get_or, refl, sym, ap, subst, arith}
+use Rattle.std.specs.Prelude.{if◌then◌else◌, ⊤}
 use Rattle.std.proofs.lemmas.Bool.{cases_Bool}
 use Rattle.std.proofs.lemmas.List.{map-append, length-map, get_or-append-add}
 use Rattle.std.proofs.Math.ListN.{get_or-append}
-use Rattle.token_arena.specs.Gaps.{Contents}
-use Rattle.token_arena.specs.Stored.{Stored}
+use Rattle.token_arena.specs.Gaps.{Contents, item_began}
 use Rattle.token_classes.specs.declared.class.TokenClass.{TokenClass}
 use Rattle.token_classes.specs.declared.class.TokenClass.TheVariants.{Nothing, LineComment, BlockComment}
 use Rattle.token_classes.specs.Classes.{is_comment, is_line_comment, is_word}
 use Rattle.token_classes.specs.Viewed.{item_class, classes_of}
-use Rattle.view_parts.specs.Walk as walk
 use Rattle.unwrapped_lines.specs.declared.part.Part.{Part}
 use Rattle.unwrapped_lines.specs.declared.part.Part.TheVariants.{Token, Own, Trailing, Inner}
-use Rattle.unwrapped_lines.specs.Viewed.{began_of_item, item_began, line_ends_behind, part_of, parts_from, parts_of}
+use Rattle.unwrapped_lines.specs.Viewed.{line_ends_behind, part_of, parts_from, parts_of}
 use Rattle.part_laws.proofs.FirstPart.{closes_part, last_of, Follows}
 use Rattle.part_laws.proofs.Counted.{code_count}
 
@@ -22,7 +20,7 @@ use Rattle.part_laws.proofs.Counted.{code_count}
 -- the comments before the first of these items that is none began their lines
 abbrev pub CommentsBegin : Contents → List ℕ → Type 0
 CommentsBegin arena [] = ⊤
-CommentsBegin arena (id ∷ ids) = is_comment (item_class arena id) ≡ true → (walk.item_began arena id ≡ true) × CommentsBegin arena ids
+CommentsBegin arena (id ∷ ids) = is_comment (item_class arena id) ≡ true → (item_began arena id ≡ true) × CommentsBegin arena ids
 
 word_or_comment : (class : TokenClass) → is_word class ≡ true → is_comment class ≡ true → ⊥
 word_or_comment LineComment word comment = cc
@@ -140,15 +138,10 @@ parts_behind arena early ids k started (class ∷ classes) =
     (ap (λ (j : ℕ). parts_from arena (early ++ ids) j next classes) on ∙ parts_behind arena early ids (k + 1) next classes)
 
 -- comments that began their lines are on lines of their own, whatever stands before them
-same_began : (found : Option Stored) → walk.began_of found ≡ began_of_item found
-same_began None = refl
-same_began (Some token) = refl
-
-own_either : (arena : Contents) (id : ℕ) (class : TokenClass) → is_comment class ≡ true → walk.item_began arena id ≡ true
+own_either : (arena : Contents) (id : ℕ) (class : TokenClass) → is_comment class ≡ true → item_began arena id ≡ true
     → part_of arena id true class ≡ part_of arena id false class
 own_either arena id class comment began =
-    let item : item_began arena id ≡ true = sym (same_began (slice_get arena.tokens id)) ∙ began in
-    rw (comment, item) refl
+    rw (comment, began) refl
 
 started_step : (arena : Contents) (ids rest : List ℕ) (k id : ℕ) → ((j : ℕ) → get_or ids (k + j) 0 ≡ get_or (id ∷ rest) j 0) → CommentsBegin arena (id ∷ rest)
     → (((j : ℕ) → get_or ids (k + 1 + j) 0 ≡ get_or rest j 0) → CommentsBegin arena rest
@@ -172,7 +165,7 @@ started_step arena ids rest k id same begin on = by (cases_Bool (is_comment clas
         → parts_from arena ids k true (class ∷ classes_of arena rest) ≡ parts_from arena ids k false (class ∷ classes_of arena rest)
     by (inl comment) =
         let began = begin comment in
-        let item : walk.item_began arena (get_or ids k 0) ≡ true = ap (walk.item_began arena) here ∙ began.0 in
+        let item : item_began arena (get_or ids k 0) ≡ true = ap (item_began arena) here ∙ began.0 in
         ap (λ (p : Part). p ∷ parts_from arena ids (k + 1) true (classes_of arena rest)) (own_either arena (get_or ids k 0) class comment item)
         ∙ (ap (λ (ps : List Part). part_of arena (get_or ids k 0) false class ∷ ps) (on later began.1)
         ∙ ap (λ (b : Bool). part_of arena (get_or ids k 0) false class ∷ parts_from arena ids (k + 1) (not b) (classes_of arena rest)) (sym comment))

@@ -1,6 +1,6 @@
 -- The roles of a view are those of its parts.
 use Rattle.std.proofs.Common.{◌≡◌, ◌∙◌, ◌==◌, ℕ, zero, suc, ◌+◌, ◌-◌, ◌<◌, ◌≤◌, Bool, true, false, not, ◌&&◌, ◌||◌, nat_lt, Option, Some, None, List, [], ◌∷◌, ◌++◌, length, get_or, take, drop, refl, sym, ap, subst, arith, inl, inr, ◌⊎◌}
-use Rattle.std.specs.Prelude.{if◌then◌else◌, slice_range, slice_get}
+use Rattle.std.specs.Prelude.{if◌then◌else◌, slice_range}
 use Rattle.std.proofs.lemmas.Bool.{and_from, le-ltb, lt-ltb, ltb-false}
 use Rattle.std.proofs.lemmas.List.Elements.{All-drop}
 use Rattle.std.proofs.lemmas.List.{append-nil, drop_all, drop-drop, get_or-append-add, get_or-drop, length-append, length-drop, length-map, take_all}
@@ -10,15 +10,13 @@ use Rattle.line_tokens.specs.declared.LineTok.{LineTok}
 use Rattle.line_tokens.specs.declared.line.ULine.{ULine}
 use Rattle.line_tokens.specs.Lines.{CutPlaces}
 use Rattle.style_table.specs.declared.style.Style.{Style}
-use Rattle.token_arena.specs.Gaps.{Contents}
-use Rattle.token_arena.specs.Stored.{Stored}
+use Rattle.token_arena.specs.Gaps.{Contents, item_began}
 use Rattle.token_classes.specs.declared.class.TokenClass.{TokenClass}
 use Rattle.token_classes.specs.declared.class.TokenClass.TheVariants.{Nothing, LineComment, BlockComment}
 use Rattle.token_classes.specs.Classes.{is_comment, is_word}
 use Rattle.token_classes.specs.Viewed.{AreWithin, item_class, classes_of}
-use Rattle.view_parts.specs.Walk.{start, began_of}
+use Rattle.view_parts.specs.Walk.{start}
 use Rattle.view_parts.specs.Parts.{next_end, or_all, part_len, ends_from}
-use Rattle.unwrapped_lines.specs.Viewed.{began_of_item, item_began}
 use Rattle.unwrapped_lines.proofs.Started.{lines_cut_views}
 use Rattle.annotator.specs.declared.mark.Mark.{Mark}
 use Rattle.annotator.specs.Tokens.{stands_apart, roles_of, toks_from}
@@ -41,10 +39,6 @@ use Rattle.part_laws.proofs.TellsParts.{sights_of, tells_parts}
 abbrev run_of : Style → Contents → List ℕ → ItemRun
 run_of style arena ids = record { ids = ids; partners = partners_in arena ids; lines = lines_in style arena ids }
 
-same_began : (item : Option Stored) → began_of item ≡ began_of_item item
-same_began None = refl
-same_began (Some token) = refl
-
 word_is_no_comment : (class : TokenClass) → is_word class ≡ true → is_comment class ≡ false
 word_is_no_comment LineComment word = cc
 word_is_no_comment BlockComment word = cc
@@ -60,7 +54,7 @@ begins_one arena id ids began (inr comment) =
 begins_so : (arena : Contents) (ids : List ℕ) → Follows arena ids → comments_begin arena ids ≡ true
 begins_so arena [] follows = absurd follows
 begins_so arena (id ∷ ids) follows =
-    begins_one arena id ids (sym (same_began (slice_get arena.tokens id)) ∙ follows.0) (elim follows.1 [
+    begins_one arena id ids follows.0 (elim follows.1 [
       | inl word ↦ inl word
       | inr comment ↦ inr (comment.0, begins_so arena ids comment.1)
     ])

@@ -3,12 +3,11 @@ use Rattle.std.specs.Prelude.{◌≡◌, ℕ, Bool, true, false, ◌&&◌, ◌||
 use Rattle.line_tokens.specs.declared.LineTok.{LineTok}
 use Rattle.line_tokens.specs.declared.line.ULine.{ULine}
 use Rattle.line_tokens.specs.Lines.{CutPlaces}
-use Rattle.token_arena.specs.Gaps.{Contents}
+use Rattle.token_arena.specs.Gaps.{Contents, item_began}
 use Rattle.token_classes.specs.declared.class.TokenClass.{TokenClass}
 use Rattle.token_classes.specs.declared.class.TokenClass.TheVariants.{Nothing}
 use Rattle.token_classes.specs.Classes.{is_comment, is_close_round, is_before_list}
 use Rattle.token_classes.specs.Viewed.{AreWithin, item_class, classes_of}
-use Rattle.unwrapped_lines.specs.Viewed.{item_began}
 use Rattle.annotator.specs.Held.{is_inner}
 use Rattle.annotator.specs.Tokens.{stands_apart, roles_of}
 use Rattle.part_laws.specs.LinesCut.{partner_behind, line_behind}

@@ -1,5 +1,5 @@
 -- The bytes between the items that are kept of a text.
-use Rattle.std.specs.Prelude.{◌≡◌, ◌≤◌, ◌<◌, ◌+◌, ◌-◌, ℕ, List, zero, suc, [], ◌∷◌, ◌++◌, length, take, drop}
+use Rattle.std.specs.Prelude.{◌≡◌, ◌≤◌, ◌<◌, ◌+◌, ◌-◌, ℕ, Bool, false, Option, None, Some, slice_get, List, zero, suc, [], ◌∷◌, ◌++◌, length, take, drop}
 use Rattle.c_chars.specs.Characters.{mark_len}
 use Rattle.c_chars.specs.declared.Dialect.{Dialect}
 use Rattle.token_arena.specs.Stored.{Stored}
@@ -9,6 +9,14 @@ pub record Contents : Type 0 where
   pub text : List ℕ
   pub dialect : Dialect
   pub tokens : List Stored
+
+abbrev pub began_of_item : Option Stored → Bool
+began_of_item None = false
+began_of_item (Some token) = token.gap.began
+
+-- the item with this number began its line
+abbrev pub item_began : Contents → ℕ → Bool
+item_began arena id = began_of_item (slice_get arena.tokens id)
 
 -- the offset behind an item
 abbrev pub behind : Stored → ℕ

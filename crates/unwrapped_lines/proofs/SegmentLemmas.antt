@@ -8,12 +8,12 @@ use Rattle.token_classes.proofs.ItemClasses.{viewed_fits}
 use Rattle.token_classes.specs.Classes.{is_comment}
 use Rattle.token_classes.specs.declared.class.TokenClass.{TokenClass}
 use Rattle.unwrapped_lines.specs.declared.token.CodeToken.{CodeToken}
-use Rattle.token_arena.specs.Gaps.{Contents}
+use Rattle.token_arena.specs.Gaps.{Contents, item_began}
 use Rattle.std.proofs.lemmas.List.{get_or_default}
 use Rattle.std.specs.Prelude.{slice_get, Option, ◌&&◌}
 use Rattle.token_classes.specs.Classes.{is_colon}
 use Rattle.token_classes.specs.declared.class.TokenClass.TheVariants.{Nothing}
-use Rattle.unwrapped_lines.specs.Viewed.{segment_stop, code_places_from, AreTokensBefore, token_at, code_tokens, partner_number, numbers_of, item_began, colon_touches}
+use Rattle.unwrapped_lines.specs.Viewed.{segment_stop, code_places_from, AreTokensBefore, token_at, code_tokens, partner_number, numbers_of, colon_touches}
 
 -- how many places stand before the segment with a number, where so many stand before the first
 abbrev pub places_before : ℕ → List Segment → ℕ → ℕ

@@ -1,7 +1,7 @@
 -- A view as a list of tokens and comments.
 use Rattle.std.specs.Prelude.{◌≡◌, ◌≤◌, ◌-◌, ◌++◌, drop, ◌&&◌, ◌||◌, not, ℕ, ◌+◌, nat_le, Bool, false, Option, Some, None, List, [], ◌∷◌, length, map, get_or, slice_get, if◌then◌else◌}
 use Rattle.token_arena.specs.declared.view.Segment.{Segment}
-use Rattle.token_arena.specs.Gaps.{Contents}
+use Rattle.token_arena.specs.Gaps.{Contents, item_began}
 use Rattle.token_arena.specs.Stored.{Stored}
 use Rattle.token_classes.specs.declared.class.TokenClass.{TokenClass}
 use Rattle.token_classes.specs.declared.class.TokenClass.TheVariants.{Nothing}
@@ -13,17 +13,9 @@ use Rattle.unwrapped_lines.specs.declared.part.Part.TheVariants.{Token, Own, Tra
 
 -- ## The gaps of the file
 
-abbrev pub began_of_item : Option Stored → Bool
-began_of_item None = false
-began_of_item (Some token) = token.gap.began
-
 abbrev pub empty_of_item : Option Stored → Bool
 empty_of_item None = false
 empty_of_item (Some token) = token.gap.empty
-
--- the item with this number began its line
-abbrev pub item_began : Contents → ℕ → Bool
-item_began arena id = began_of_item (slice_get arena.tokens id)
 
 -- a new-line or the end of the file comes behind the item with this number
 abbrev pub line_ends_behind : Contents → ℕ → Bool

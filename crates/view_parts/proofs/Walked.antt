@@ -4,7 +4,7 @@ use Rattle.std.specs.Prelude.{⊤, if◌then◌else◌, slice_range}
 use Rattle.std.proofs.lemmas.Bool.Decides.{nat_tests}
 use Rattle.std.proofs.lemmas.List.{take_more, take-append-drop, get_or-drop, length-drop, length-reverse}
 use Rattle.std.proofs.Math.ListN.{drop_of_length-le}
-use Rattle.token_arena.specs.Gaps.{Contents}
+use Rattle.token_arena.specs.Gaps.{Contents, item_began}
 use Rattle.token_classes.specs.declared.class.TokenClass.{TokenClass}
 use Rattle.token_classes.specs.Classes.{is_comment, is_word, is_bracket}
 use Rattle.token_classes.proofs.ItemClasses.{class_at}
@@ -16,7 +16,7 @@ use Rattle.token_classes.specs.Partners.{Matching, StandBefore, TakesStep}
 use Rattle.view_parts.specs.declared.walk.Reading.{Reading}
 use Rattle.view_parts.specs.declared.walk.Reading.TheVariants.{Ends, Never, GoesOn}
 use Rattle.view_parts.specs.declared.walk.Walk.{Walk}
-use Rattle.view_parts.specs.Walk.{start, reading, is_end, item_began, asked_behind, asked_at, ends_or, is_lost, outside, inside, is_body}
+use Rattle.view_parts.specs.Walk.{start, reading, is_end, asked_behind, asked_at, ends_or, is_lost, outside, inside, is_body}
 use Rattle.view_parts.specs.Parts.{waiting_behind, is_open, next_end, or_all, part_len, EndsBehind}
 
 -- what comes of a list of items whose first is read so

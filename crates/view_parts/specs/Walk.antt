@@ -1,7 +1,6 @@
 -- The way along the items of a part: outside brackets, and through the groups between them.
-use Rattle.std.specs.Prelude.{ℕ, ◌+◌, Bool, true, false, ◌&&◌, ◌||◌, not, if◌then◌else◌, Option, Some, None, slice_get}
-use Rattle.token_arena.specs.Gaps.{Contents}
-use Rattle.token_arena.specs.Stored.{Stored}
+use Rattle.std.specs.Prelude.{ℕ, ◌+◌, Bool, true, false, ◌&&◌, ◌||◌, not, if◌then◌else◌, Option, Some, None}
+use Rattle.token_arena.specs.Gaps.{Contents, item_began}
 use Rattle.token_classes.specs.declared.class.TokenClass.{TokenClass}
 use Rattle.token_classes.specs.Classes.{is_opener, is_open_round, is_open_brace, is_semicolon, is_plain, is_assigning, is_control, is_case, is_default, is_comment, is_word}
 use Rattle.view_parts.specs.declared.walk.Before.{Before}
@@ -9,14 +8,6 @@ use Rattle.view_parts.specs.declared.walk.Before.TheVariants.{Name, Parameters, 
 use Rattle.view_parts.specs.declared.walk.Reading.{Reading}
 use Rattle.view_parts.specs.declared.walk.Reading.TheVariants.{Ends, Never, GoesOn}
 use Rattle.view_parts.specs.declared.walk.Walk.{Walk}
-
-abbrev pub began_of : Option Stored → Bool
-began_of None = false
-began_of (Some token) = token.gap.began
-
--- the item with this number began its line
-abbrev pub item_began : Contents → ℕ → Bool
-item_began arena id = began_of (slice_get arena.tokens id)
 
 -- behind a group with this opener: directly behind a name a `(` opens what may be the parameters of a function, and directly behind those a `{` its body; where an `=` or `return` stands before, it opens a list
 abbrev pub behind_group : Walk → TokenClass → Before

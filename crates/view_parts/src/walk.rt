@@ -1,7 +1,8 @@
 //! The way along the items of a part.
 
 ghost use Rattle.std.specs.Prelude.{◌≡◌, ◌<◌, length};
-ghost use Rattle.view_parts.specs.Walk.{behind_group, behind, is_end, is_between, is_lost, asked_at, is_commented, item_began, inside, outside, reading, start};
+ghost use Rattle.view_parts.specs.Walk.{behind_group, behind, is_end, is_between, is_lost, asked_at, is_commented, inside, outside, reading, start};
+ghost use Rattle.token_arena.specs.Gaps.{item_began};
 
 use line_tokens::TokenId;
 use token_arena::TokenArena;

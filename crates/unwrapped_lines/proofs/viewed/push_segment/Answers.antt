@@ -1,7 +1,8 @@
 use Rattle.std.proofs.Common.{◌≡◌, ◌∙◌, ◌<◌, ◌+◌, ◌++◌, List, [], ◌∷◌, Bool, true, false, ap, length, map, get_or, arith, subst, sym}
 use Rattle.std.specs.Prelude.{vec_capacity}
 use Rattle.token_arena.specs.Segments.{ids_of, segment_bounds, no_segment}
-use Rattle.unwrapped_lines.specs.Viewed.{AreTokensBefore, segment_stop, token_at, item_began}
+use Rattle.unwrapped_lines.specs.Viewed.{AreTokensBefore, segment_stop, token_at}
+use Rattle.token_arena.specs.Gaps.{item_began}
 use Rattle.unwrapped_lines.proofs.SegmentLemmas.{at_item, stop_most, in_order, comment_before, token_before, token_same}
 use Rattle.token_classes.specs.Classes.{is_comment}
 use Rattle.token_classes.specs.declared.class.TokenClass.TheVariants.{If}
