@@ -22,7 +22,9 @@ use Rattle.run_layout.proofs.Views.{lines_cut}
 use Rattle.run_layout.proofs.WaitingComments.{nothing_waits}
 use Rattle.run_layout.proofs.Walked.{cut_within}
 use Rattle.format_core.specs.Plans.{AfterParts, AfterSeen, AfterRuns}
-use Rattle.format_core.specs.Runs.{AreDecided, seen_by, lines_of_items, after_kept, toks_of_items}
+use Rattle.format_core.specs.Runs.{AreDecided, seen_by, after_kept}
+use Rattle.annotator.specs.Tokens.{toks_of_items}
+use Rattle.unwrapped_lines.specs.Lines.{lines_of_items}
 use Rattle.format_core.specs.RunsTold.{AreItemsTold, ArePartsTold, AreSeenTold, AreRunsTold}
 use Rattle.format_core.specs.PartByPart.{GoesOnParts}
 use Rattle.format_core.proofs.NothingNew.{kept_nothing}

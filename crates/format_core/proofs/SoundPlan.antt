@@ -44,7 +44,9 @@ use Rattle.format_core.proofs.Tells.{early_keeps, length-early}
 use Rattle.format_core.specs.KeptGaps.{input_column, kept_decisions}
 use Rattle.format_core.specs.Laws.{PlannedTextsAreTwins, EarlyDecisionsStay, KeptGapsStay, EveryGapIsDecided}
 use Rattle.format_core.specs.Plans.{AfterItems, AfterParts, AfterSeen, AfterRuns, IsPlanOf}
-use Rattle.format_core.specs.Runs.{runs_of, seen_by, lines_of_items, toks_of_items, after_kept}
+use Rattle.format_core.specs.Runs.{runs_of, seen_by, after_kept}
+use Rattle.annotator.specs.Tokens.{toks_of_items}
+use Rattle.unwrapped_lines.specs.Lines.{lines_of_items}
 use Rattle.format_core.proofs.Parts.{part_within, part_item, part_length, before_or_behind}
 use Rattle.format_core.proofs.Seen.{here_or_later, length-kept, seen_within}
 use Rattle.format_core.proofs.OfTexts.{views_are_of_texts, text_mark}

@@ -8,7 +8,9 @@ use Rattle.run_layout.specs.Outcomes.{LaidLine}
 use Rattle.run_layout.specs.View.{AfterView}
 use Rattle.format_core.specs.BeforeRuns.{early_plan}
 use Rattle.view_parts.specs.Parts.{part_ends}
-use Rattle.format_core.specs.Runs.{runs_of, seen_by, lines_of_items, toks_of_items, after_kept}
+use Rattle.format_core.specs.Runs.{runs_of, seen_by, after_kept}
+use Rattle.annotator.specs.Tokens.{toks_of_items}
+use Rattle.unwrapped_lines.specs.Lines.{lines_of_items}
 
 -- Behind a part of these items stands this plan, and this came of its lines: first what stays as it is between them is decided, then they are laid out.
 abbrev pub AfterItems : Style → ℕ → Contents → ℕ → List (Option Slot) → List ℕ → List (Option Slot) → List LaidLine → Type 0

@@ -6,12 +6,7 @@ use Rattle.branch_runs.specs.Marks.{marks_of}
 use Rattle.branch_runs.specs.Reading.{tree_of}
 use Rattle.branch_runs.specs.Runs.{need, view_of}
 use Rattle.token_classes.specs.Kept.{kept_gaps_of}
-use Rattle.token_classes.specs.Partners.{partners_of}
 use Rattle.token_classes.specs.Viewed.{classes_of}
-use Rattle.line_tokens.specs.declared.LineTok.{LineTok}
-use Rattle.annotator.specs.Tokens.{roles_of}
-use Rattle.line_tokens.specs.declared.line.ULine.{ULine}
-use Rattle.unwrapped_lines.specs.Lines.{unwrapped_lines_of}
 use Rattle.replacements.specs.Decisions.{slot_of, decided_all}
 use Rattle.replacements.specs.declared.slot.Slot.{Slot}
 use Rattle.run_layout.specs.OpenGaps.{IsRowDecided}
@@ -28,14 +23,6 @@ runs_of arena = need (tree_of (marks_of arena))
 -- the items that a run sees
 abbrev pub seen_by : Contents → ℕ → List ℕ
 seen_by arena run = view_of (tree_of (marks_of arena)) run
-
--- the unwrapped lines of these items
-abbrev pub lines_of_items : Style → Contents → List ℕ → List ULine
-lines_of_items style arena ids = unwrapped_lines_of style arena ids (partners_of (classes_of arena ids))
-
--- what these items do in their lines
-abbrev pub toks_of_items : Style → Contents → List ℕ → List LineTok
-toks_of_items style arena ids = roles_of arena ids (partners_of (classes_of arena ids)) (lines_of_items style arena ids)
 
 -- the plan after what stays as it is between these items is decided
 abbrev pub after_kept : Style → Contents → List (Option Slot) → List ℕ → List (Option Slot)

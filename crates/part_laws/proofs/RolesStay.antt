@@ -19,16 +19,17 @@ use Rattle.view_parts.specs.Walk.{start}
 use Rattle.view_parts.specs.Parts.{next_end, or_all, part_len, ends_from}
 use Rattle.unwrapped_lines.proofs.Started.{lines_cut_views}
 use Rattle.annotator.specs.declared.mark.Mark.{Mark}
-use Rattle.annotator.specs.Tokens.{stands_apart, roles_of, toks_from}
+use Rattle.annotator.specs.Tokens.{stands_apart, roles_of, toks_from, toks_of_items}
 use Rattle.annotator.specs.View.{marks_of}
 use Rattle.annotator.proofs.Told.{as_many_toks}
-use Rattle.part_laws.specs.LinesCut.{IsFirstPart, partners_in, lines_in}
+use Rattle.part_laws.specs.LinesCut.{IsFirstPart, partners_in}
+use Rattle.unwrapped_lines.specs.Lines.{lines_of_items}
 use Rattle.part_laws.proofs.FirstPart.{closes_part, last_of, Follows, IsEnded, first_part, has_first}
 use Rattle.part_laws.proofs.LinesStay.{lines_stay}
 use Rattle.part_laws.proofs.Matchings.{partners_count}
 use Rattle.part_laws.proofs.PartnersStay.{partners_stay}
 use Rattle.part_laws.specs.RolesCut.{ItemRun, joined, last_code, comments_begin, with_first_apart, IsCut}
-use Rattle.part_laws.specs.Parts.{toks_of_items, toks_of_parts, RolesStay}
+use Rattle.part_laws.specs.Parts.{toks_of_parts, RolesStay}
 use Rattle.part_laws.proofs.Before.{marks_before}
 use Rattle.part_laws.proofs.LastToken.{code_is_last, opens_no_list, is_no_round, marks_end}
 use Rattle.part_laws.proofs.Toks.{ends_so}
@@ -37,7 +38,7 @@ use Rattle.part_laws.proofs.TellsParts.{sights_of, tells_parts}
 -- ## A first part may be cut off
 
 abbrev run_of : Style → Contents → List ℕ → ItemRun
-run_of style arena ids = record { ids = ids; partners = partners_in arena ids; lines = lines_in style arena ids }
+run_of style arena ids = record { ids = ids; partners = partners_in arena ids; lines = lines_of_items style arena ids }
 
 word_is_no_comment : (class : TokenClass) → is_word class ≡ true → is_comment class ≡ false
 word_is_no_comment LineComment word = cc
@@ -87,8 +88,8 @@ is_cut style arena earlier later within ended =
       later_lines = lines_cut_views style arena later (partners_in arena later);
       opens_list = opens_no_list (last_code Nothing (classes_of arena earlier)) code;
       closes = is_no_round (last_code Nothing (classes_of arena earlier)) code;
-      inner = ends_so arena earlier 0 false (marks_of (sights_of arena (run_of style arena earlier)) (lines_in style arena earlier))
-          ∙ marks_end false (sights_of arena (run_of style arena earlier)) [] Nothing (lines_in style arena earlier) 0 (subst (λ (n : ℕ). CutPlaces 0 n (lines_in style arena earlier)) (sym as_many) lines) (some_classes arena earlier ended.ends) ended.ends;
+      inner = ends_so arena earlier 0 false (marks_of (sights_of arena (run_of style arena earlier)) (lines_of_items style arena earlier))
+          ∙ marks_end false (sights_of arena (run_of style arena earlier)) [] Nothing (lines_of_items style arena earlier) 0 (subst (λ (n : ℕ). CutPlaces 0 n (lines_of_items style arena earlier)) (sym as_many) lines) (some_classes arena earlier ended.ends) ended.ends;
       comments = begins_so arena later ended.follows;
     }
 
@@ -98,7 +99,7 @@ toks_of_both : (style : Style) (arena : Contents) (earlier later : List ℕ) →
     → toks_of_items style arena (earlier ++ later) ≡ toks_of_items style arena earlier ++ with_first_apart (stands_apart (earlier ++ later) (length earlier)) (toks_of_items style arena later)
 toks_of_both style arena earlier later is =
     let ids : List ℕ = earlier ++ later in
-    ap (λ (partners : List (Option ℕ)). roles_of arena ids partners (lines_in style arena ids)) (partners_stay arena earlier later is)
+    ap (λ (partners : List (Option ℕ)). roles_of arena ids partners (lines_of_items style arena ids)) (partners_stay arena earlier later is)
     ∙ (ap (λ (lines : List ULine). roles_of arena ids (joined (run_of style arena earlier) (run_of style arena later)).partners lines) (lines_stay style arena earlier later is)
     ∙ tells_parts arena (run_of style arena earlier) (run_of style arena later) (is_cut style arena earlier later is.within (first_part arena earlier later is)))
 
@@ -108,7 +109,7 @@ toks_count style arena ids =
     let run : ItemRun = run_of style arena ids in
     let as_many : length (classes_of arena ids) ≡ length ids = length-map ids (item_class arena) in
     let partners : length (partners_in arena ids) ≡ length ids = partners_count (classes_of arena ids) ∙ as_many in
-    let marks : List Mark = marks_of (sights_of arena (run_of style arena ids)) (lines_in style arena ids) in
+    let marks : List Mark = marks_of (sights_of arena (run_of style arena ids)) (lines_of_items style arena ids) in
     as_many_toks arena ids marks (toks_of_items style arena ids) refl
     ∙ (marks_before (sights_of arena run) [] [] [] [] Nothing run.lines [] partners as_many (lines_cut_views style arena ids run.partners)).1
 
@@ -218,5 +219,5 @@ first_of_all arena ids (mark ∷ marks) = refl
 
 pub roles_stay : RolesStay
 roles_stay style arena ids within =
-    first_of_all arena ids (marks_of (sights_of arena (run_of style arena ids)) (lines_in style arena ids))
+    first_of_all arena ids (marks_of (sights_of arena (run_of style arena ids)) (lines_of_items style arena ids))
     ∙ rest_of_parts (length ids) style arena ids 0 within (omega arith) (omega arith)

@@ -7,7 +7,7 @@ use Rattle.token_classes.specs.Viewed.{AreWithin, classes_of}
 use Rattle.token_classes.specs.Partners.{partners_of}
 use Rattle.view_parts.specs.Walk.{start}
 use Rattle.view_parts.specs.Parts.{next_end}
-use Rattle.unwrapped_lines.specs.Lines.{unwrapped_lines_of}
+use Rattle.unwrapped_lines.specs.Lines.{lines_of_items}
 
 -- the first part of these items ends where the later ones begin
 pub record IsFirstPart (arena : Contents) (earlier later : List ℕ) : Type 0 where
@@ -22,12 +22,9 @@ partner_behind count (Some place) = Some (count + place)
 abbrev pub line_behind : ℕ → ULine → ULine
 line_behind count line = record { first = count + line.first; last = count + line.last; level = line.level; kind = line.kind }
 
--- the partners of the brackets among these items, and their unwrapped lines
+-- the partners of the brackets among these items
 abbrev pub partners_in : Contents → List ℕ → List (Option ℕ)
 partners_in arena ids = partners_of (classes_of arena ids)
-
-abbrev pub lines_in : Style → Contents → List ℕ → List ULine
-lines_in style arena ids = unwrapped_lines_of style arena ids (partners_in arena ids)
 
 -- No bracket of a part has its partner in another part.
 abbrev pub PartnersStay : Type 0
@@ -37,4 +34,4 @@ PartnersStay = (arena : Contents) (earlier later : List ℕ) → IsFirstPart are
 -- The lines of a view are those of its first part by itself, and then those of what follows by itself.
 abbrev pub LinesStay : Type 0
 LinesStay = (style : Style) (arena : Contents) (earlier later : List ℕ) → IsFirstPart arena earlier later
-    → lines_in style arena (earlier ++ later) ≡ lines_in style arena earlier ++ map (line_behind (length earlier)) (lines_in style arena later)
+    → lines_of_items style arena (earlier ++ later) ≡ lines_of_items style arena earlier ++ map (line_behind (length earlier)) (lines_of_items style arena later)

@@ -5,13 +5,8 @@ use Rattle.style_table.specs.declared.style.Style.{Style}
 use Rattle.token_arena.specs.Gaps.{Contents}
 use Rattle.token_classes.specs.Viewed.{AreWithin}
 use Rattle.view_parts.specs.Parts.{part_ends}
-use Rattle.annotator.specs.Tokens.{stands_apart, roles_of}
-use Rattle.part_laws.specs.LinesCut.{partners_in, lines_in}
+use Rattle.annotator.specs.Tokens.{stands_apart, toks_of_items}
 use Rattle.part_laws.specs.RolesCut.{with_first_apart}
-
--- what these items do in their lines
-abbrev pub toks_of_items : Style → Contents → List ℕ → List LineTok
-toks_of_items style arena ids = roles_of arena ids (partners_in arena ids) (lines_in style arena ids)
 
 -- the tokens of the parts of a view that end at these places, the first of which begins at this one: those of each by itself, but that its first tells whether a directive stands before it in the view
 abbrev pub toks_of_parts : Style → Contents → List ℕ → ℕ → List ℕ → List LineTok

@@ -2,6 +2,7 @@
 use Rattle.std.specs.Prelude.{ℕ, ◌-◌, Option, List, [], ◌∷◌, length}
 use Rattle.style_table.specs.declared.style.Style.{Style}
 use Rattle.token_arena.specs.Gaps.{Contents}
+use Rattle.token_classes.specs.Partners.{partners_of}
 use Rattle.token_classes.specs.Viewed.{classes_of}
 use Rattle.unwrapped_lines.specs.declared.line.Line.{Line}
 use Rattle.line_tokens.specs.declared.line.ULine.{ULine}
@@ -31,6 +32,10 @@ tree_of style arena ids partners =
 abbrev pub unwrapped_lines_of : Style → Contents → List ℕ → List (Option ℕ) → List ULine
 unwrapped_lines_of style arena ids partners =
     lines_between (length ids) (begins_from (tree_of style arena ids partners) (parts_of arena ids (classes_of arena ids)) 0 no_marks)
+
+-- the unwrapped lines of these items
+abbrev pub lines_of_items : Style → Contents → List ℕ → List ULine
+lines_of_items style arena ids = unwrapped_lines_of style arena ids (partners_of (classes_of arena ids))
 
 -- the line of a view without comments whose tokens this line has
 abbrev pub view_line : Line → ULine
