@@ -9,7 +9,8 @@ use Rattle.line_tokens.specs.Columns.{end_of}
 use Rattle.replacements.specs.declared.slot.Slot.{Slot}
 use Rattle.replacements.specs.Decisions.{slot_of}
 use Rattle.comment_rows.specs.declared.comments.Comment.{Comment}
-use Rattle.comment_rows.specs.Comments.{column_behind, comment_at, comment_of, comments_behind, first_start, no_token, start_by}
+use Rattle.comment_rows.specs.Comments.{column_behind, comment_at, comment_of, comments_behind, first_start, start_by}
+use Rattle.line_tokens.specs.Tokens.{no_token}
 use Rattle.comment_rows.proofs.CommentLists.{comments_more, drop_here}
 
 module _ (style : Style) (plan : List (Option Slot)) (tokens : List LineTok) where

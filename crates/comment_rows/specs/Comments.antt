@@ -2,8 +2,7 @@
 use Rattle.std.specs.Prelude.{◌==◌, ℕ, zero, suc, get_or, ◌+◌, ◌-◌, Bool, false, Option, Some, None, is_some, List, [], ◌∷◌, ◌++◌, map, if◌then◌else◌}
 use Rattle.line_tokens.specs.Roles.{is_trailing}
 use Rattle.line_tokens.specs.declared.LineTok.{LineTok}
-use Rattle.line_tokens.specs.declared.role.Role.TheVariants.{Word}
-use Rattle.c_grammar.specs.declared.ItemKind.TheVariants.{Other}
+use Rattle.line_tokens.specs.Tokens.{no_token}
 use Rattle.style_table.specs.declared.style.Style.{Style}
 use Rattle.layout_tables.specs.Spaces.{spaces_before}
 use Rattle.line_tokens.specs.Columns.{columns, end_of}
@@ -38,24 +37,6 @@ start_by style left column token (Some slot) = slot.end
 abbrev pub first_start : Option Slot → ℕ
 first_start None = 0
 first_start (Some slot) = slot.end
-
--- a token that stands for none
-abbrev pub no_token : LineTok
-no_token = record {
-  id = record { 0 = 0 };
-  role = Word;
-  power = 0;
-  depth = 0;
-  trailing_list = false;
-  held = false;
-  touch = false;
-  directive = false;
-  gap = record { lines = 0; empty = false; white = false; splice = false; began = false };
-  kind = Other;
-  rows = 0;
-  first_width = 0;
-  last_width = 0;
-}
 
 -- the column behind the token at a place of a view
 abbrev pub column_behind : Style → List (Option Slot) → List LineTok → ℕ → ℕ

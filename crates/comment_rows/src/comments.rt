@@ -6,7 +6,8 @@ ghost use Rattle.style_table.specs.Range.{IsInRange};
 ghost use Rattle.line_tokens.specs.declared.LineTok.{LineTok};
 ghost use Rattle.line_tokens.specs.Roles.{is_trailing};
 ghost use Rattle.replacements.specs.Decisions.{decided, decided_all, slot_of};
-ghost use Rattle.comment_rows.specs.Comments.{column_behind, comment_at, comment_of, comments_in, comments_made, no_token, placed, placed_slot, row_of};
+ghost use Rattle.comment_rows.specs.Comments.{column_behind, comment_at, comment_of, comments_in, comments_made, placed, placed_slot, row_of};
+ghost use Rattle.line_tokens.specs.Tokens.{no_token};
 
 use crate::rows::{end_of, first_start, is_next, start_by};
 use crate::{TrailRow, align};

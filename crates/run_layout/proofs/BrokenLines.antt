@@ -29,7 +29,8 @@ use Rattle.replacements.specs.declared.slot.Slot.{Slot}
 use Rattle.replacements.specs.declared.stance.Stance.TheVariants.{OfText}
 use Rattle.replacements.specs.Places.{place_in}
 use Rattle.replacements.specs.Sound.{MayJoin, MayStandBetween, MayStand}
-use Rattle.run_layout.specs.Rows.{no_item, item_at, no_tok}
+use Rattle.run_layout.specs.Rows.{no_item, item_at}
+use Rattle.line_tokens.specs.Tokens.{no_token}
 use Rattle.run_layout.specs.Tells.{MayTouch, StandsForItem, StandForItems}
 use Rattle.run_layout.specs.Broken.{of_line, broken_line, empty_inside, waits, inside_decision, inside_slot, made_if_open, made_at, inside_made}
 use Rattle.run_layout.specs.Laws.{AreOfTexts}
@@ -166,14 +167,14 @@ length_of_line {A} line xs within = length-take-le (line.last + 1 - line.first) 
 
 -- the tokens on the sides of a gap inside a line are those of the view
 pub gap_tokens : (style : Style) (arena : Contents) (ids : List ℕ) (toks : List LineTok) (plan : List (Option Slot)) (line : ULine) (i : ℕ) (gap : Gap) → line.last < length toks → IsGap (broken_line style arena ids toks plan line) i gap
-    → (get_or toks (line.first + i - 1) no_tok ≡ gap.left) × (get_or toks (line.first + i) no_tok ≡ gap.right)
+    → (get_or toks (line.first + i - 1) no_token ≡ gap.left) × (get_or toks (line.first + i) no_token ≡ gap.right)
 gap_tokens style arena ids toks plan line i gap within g =
     let count : length (of_line line toks) ≡ line.last + 1 - line.first = length_of_line line toks within in
     let below : i < line.last + 1 - line.first = omega (arith, g.within, count) in
     let some : 0 < i = g.inside in
     let here : line.first + i - 1 ≡ line.first + (i - 1) = omega (arith, some) in (
-      ap (λ x. get_or toks x no_tok) here ∙ (sym (get_or_of_line line toks (i - 1) no_tok (omega (arith, below))) ∙ get_or_from_slice_get (of_line line toks) (i - 1) gap.left no_tok g.left),
-      sym (get_or_of_line line toks i no_tok below) ∙ get_or_from_slice_get (of_line line toks) i gap.right no_tok g.right,
+      ap (λ x. get_or toks x no_token) here ∙ (sym (get_or_of_line line toks (i - 1) no_token (omega (arith, below))) ∙ get_or_from_slice_get (of_line line toks) (i - 1) gap.left no_token g.left),
+      sym (get_or_of_line line toks i no_token below) ∙ get_or_from_slice_get (of_line line toks) i gap.right no_token g.right,
     )
 
 -- the tokens of a line tell what is known of its gaps
@@ -187,9 +188,9 @@ gaps_tell style arena ids toks plan line items texts tell within i gap g =
     let k : ℕ = line.first + (i - 1) in
     let left_id : get_or (of_line line ids) (i - 1) 0 ≡ get_or ids k 0 = get_or_of_line line ids (i - 1) 0 (omega (arith, below)) in
     let id : get_or (of_line line ids) i 0 ≡ get_or ids (suc k) 0 = get_or_of_line line ids i 0 below ∙ ap (λ x. get_or ids x 0) (sym here) in
-    let left_tok : get_or toks k no_tok ≡ gap.left = sym (get_or_of_line line toks (i - 1) no_tok (omega (arith, below))) ∙ get_or_from_slice_get (of_line line toks) (i - 1) gap.left no_tok g.left in
-    let tok : get_or toks (suc k) no_tok ≡ gap.right =
-    ap (λ x. get_or toks x no_tok) here ∙ (sym (get_or_of_line line toks i no_tok below) ∙ get_or_from_slice_get (of_line line toks) i gap.right no_tok g.right) in
+    let left_tok : get_or toks k no_token ≡ gap.left = sym (get_or_of_line line toks (i - 1) no_token (omega (arith, below))) ∙ get_or_from_slice_get (of_line line toks) (i - 1) gap.left no_token g.left in
+    let tok : get_or toks (suc k) no_token ≡ gap.right =
+    ap (λ x. get_or toks x no_token) here ∙ (sym (get_or_of_line line toks i no_token below) ∙ get_or_from_slice_get (of_line line toks) i gap.right no_token g.right) in
     let small : suc k < length ids = omega (arith, within, below, some) in
     let small_left : k < length ids = omega (arith, small) in
     subst (λ x. TellsGap arena x (get_or (of_line line ids) i 0) gap) (sym left_id) (subst (λ x. TellsGap arena (get_or ids k 0) x gap) (sym id) (record {

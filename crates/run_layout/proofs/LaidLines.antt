@@ -25,7 +25,7 @@ use Rattle.replacements.specs.Sound.{IsSound}
 use Rattle.replacements.proofs.Firsts.{stay}
 use Rattle.run_layout.specs.Tells.{StandForItems}
 use Rattle.run_layout.specs.Rows as rows
-use Rattle.run_layout.specs.Rows.{no_tok}
+use Rattle.line_tokens.specs.Tokens.{no_token}
 use Rattle.run_layout.specs.InputColumns.{input_before, input_behind, old_from}
 use Rattle.run_layout.specs.Broken.{of_line, broken_line, first_made, broken_made, waits, inside_slot, made_if_open, made_at, inside_made}
 use Rattle.run_layout.specs.Outcomes.{LineOutcome, Kept, Only, Least, Over, LaidLine, ComesOf, reported_made, outcome_made, AfterLines}
@@ -179,7 +179,7 @@ old_made style arena ids column k (suc count) place low high = elim (here_or_lat
 
 -- the gap before the item at a place of the view waits
 abbrev pub WaitsInView : List LineTok → ℕ → Type 0
-WaitsInView toks k = (0 < k) × IsWaiting (get_or toks (k - 1) no_tok) (get_or toks k no_tok)
+WaitsInView toks k = (0 < k) × IsWaiting (get_or toks (k - 1) no_token) (get_or toks k no_token)
 
 waits_there : (style : Style) (arena : Contents) (ids : List ℕ) (toks : List LineTok) (plan : List (Option Slot)) (line : ULine) (i k : ℕ) → line.last < length toks → line.first + i ≡ k
     → WaitsAt (broken_line style arena ids toks plan line) i → WaitsInView toks k
@@ -187,7 +187,7 @@ waits_there style arena ids toks plan line i k within here w =
     let sides = gap_tokens style arena ids toks plan line i w.gap within w.is in
     let some : 0 < line.first + i = omega (arith, w.is.inside) in
     subst (λ x. WaitsInView toks x) here
-    (some, subst (λ (t : LineTok). IsWaiting t (get_or toks (line.first + i) no_tok)) (sym sides.0) (subst (λ (t : LineTok). IsWaiting w.gap.left t) (sym sides.1) w.waiting))
+    (some, subst (λ (t : LineTok). IsWaiting t (get_or toks (line.first + i) no_token)) (sym sides.0) (subst (λ (t : LineTok). IsWaiting w.gap.left t) (sym sides.1) w.waiting))
 
 -- admissible choices for all gaps inside a line decide them, but for those that wait
 broken_decide : (style : Style) (arena : Contents) (ids : List ℕ) (toks : List LineTok) (plan : List (Option Slot)) (line : ULine) (t : Layout) (breaks : List Bool) (cost k : ℕ)

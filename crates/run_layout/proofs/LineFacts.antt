@@ -16,7 +16,7 @@ use Rattle.layout_tables.specs.Indents.{start_column}
 use Rattle.replacements.specs.declared.slot.Slot.{Slot}
 use Rattle.replacements.specs.Breaks.{fixed_by}
 use Rattle.replacements.specs.Decisions.{slot_of}
-use Rattle.run_layout.specs.Rows.{no_tok}
+use Rattle.line_tokens.specs.Tokens.{no_token}
 use Rattle.run_layout.specs.Tells.{StandForItems}
 use Rattle.run_layout.specs.Broken.{number, fixed_of_token, of_line, broken_line, inside_made}
 use Rattle.run_layout.specs.OneRow.{AreOpenInside, IsRow, IsRowLine, row_made, stays}
@@ -25,7 +25,7 @@ use Rattle.run_layout.proofs.RowSteps.{row_begins}
 
 -- ## Numbers
 
-same_numbers : (ids : List ℕ) (toks : List LineTok) → length toks ≡ length ids → ((k : ℕ) → k < length ids → (get_or toks k no_tok).id.0 ≡ get_or ids k 0) → map number toks ≡ ids
+same_numbers : (ids : List ℕ) (toks : List LineTok) → length toks ≡ length ids → ((k : ℕ) → k < length ids → (get_or toks k no_token).id.0 ≡ get_or ids k 0) → map number toks ≡ ids
 same_numbers [] [] many same = refl
 same_numbers [] (t ∷ toks) many same = absurd (omega (arith, many))
 same_numbers (id ∷ ids) [] many same = absurd (omega (arith, many))

@@ -25,7 +25,7 @@ use Rattle.break_search.specs.Thrift.{IsStraight}
 use Rattle.line_tokens.specs.declared.line.ULine.{ULine}
 use Rattle.replacements.specs.declared.gap_text.Decision.TheVariants.{Spaces}
 use Rattle.replacements.specs.declared.slot.Slot.{Slot}
-use Rattle.run_layout.specs.Rows.{no_tok}
+use Rattle.line_tokens.specs.Tokens.{no_token}
 use Rattle.run_layout.specs.Broken.{made_at, inside_made}
 use Rattle.run_layout.specs.OneRow.{stays, IsOpenInside, stay_start, open_behind, Fits, IsOneRow, IsRow, row_made}
 
@@ -267,8 +267,8 @@ pub row_is_made : (line : ULine) (items : List ℕ) (l : Line) (s t : Layout) (c
 row_is_made line items l s t cost zero left inside numbers leads some all at = sym (ap (λ (xs : List LineTok). row_made l.style s.column left xs) (drop_of_length-le l.tokens (omega (arith, all))))
 row_is_made line items l s t cost (suc m) left inside numbers leads some all at =
     let style : Style = l.style in
-    let right : LineTok = get_or l.tokens s.index no_tok in
-    let r : slice_get l.tokens s.index ≡ Some right = slice_get-get_or l.tokens s.index no_tok (omega (arith, all)) in
+    let right : LineTok = get_or l.tokens s.index no_token in
+    let r : slice_get l.tokens s.index ≡ Some right = slice_get-get_or l.tokens s.index no_token (omega (arith, all)) in
     let gap : Gap = record { left = left; right = right; fixed = None; first = false } in
     let here : gap_at l s.index ≡ Some gap = gap_inside l s.index left right None some at r (inside s.index some) in
     let next : Layout = layout_after style s gap false in
@@ -279,7 +279,7 @@ row_is_made line items l s t cost (suc m) left inside numbers leads some all at 
     let rest : inside_made line items l next (stays m) ≡ row_made style next.column right (drop next.index l.tokens) =
     row_is_made line items l next t leads.2 m right inside numbers (subst (λ (x : Layout). Leads (Step l) x (stays m) t leads.2) lay leads.4) (omega arith) (omega (arith, all)) (ap (λ i. slice_get l.tokens i) one ∙ r) in
     let tokens : drop s.index l.tokens ≡ right ∷ drop (s.index + 1) l.tokens =
-    drop-cons l.tokens s.index no_tok (omega (arith, all)) ∙ ap (λ j. right ∷ drop j l.tokens) (add-one s.index) in
+    drop-cons l.tokens s.index no_token (omega (arith, all)) ∙ ap (λ j. right ∷ drop j l.tokens) (add-one s.index) in
     let slot : Slot = record { decision = Spaces (spaces_before style left right); end = stay_start style s.column left right } in
     ap (λ (o : Option Gap). made_at style line items s false (λ x. inside_made line items l x (stays m)) o) here
     ∙ (ap (λ x. if is_trailing right.role then inside_made line items l next (stays m) else (x, slot) ∷ inside_made line items l next (stays m)) (numbers s.index right r)

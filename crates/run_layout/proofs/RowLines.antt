@@ -14,7 +14,7 @@ use Rattle.line_tokens.specs.declared.line.ULine.{ULine}
 use Rattle.layout_tables.specs.Indents.{start_column}
 use Rattle.replacements.specs.declared.slot.Slot.{Slot}
 use Rattle.replacements.specs.Decisions.{decided, decided_all}
-use Rattle.run_layout.specs.Rows.{no_tok}
+use Rattle.line_tokens.specs.Tokens.{no_token}
 use Rattle.run_layout.specs.Tells.{StandForItems}
 use Rattle.run_layout.specs.Broken.{fixed_of_token, of_line, broken_line, broken_made, first_slot, inside_made}
 use Rattle.run_layout.specs.OneRow.{AreOpenInside, IsRow, IsRowLine, row_made, stays}
@@ -28,7 +28,7 @@ tokens_within arena ids toks tokens line count items tell within whole is = subs
     let size : length (of_line line toks) ≡ line.last + 1 - line.first = length_of_line line toks (omega (arith, within, tell.as_many)) in
     let inside : k < line.last + 1 - line.first = omega (arith, below, size) in
     let place : line.first + k < length ids = omega (arith, inside, within) in
-    let at : get_or (of_line line toks) k d ≡ get_or toks (line.first + k) no_tok = get_or_default (of_line line toks) k d no_tok below ∙ get_or_of_line line toks k no_tok inside in
+    let at : get_or (of_line line toks) k d ≡ get_or toks (line.first + k) no_token = get_or_default (of_line line toks) k d no_token below ∙ get_or_of_line line toks k no_token inside in
     let number : (get_or (of_line line toks) k d).id.0 ≡ get_or ids (line.first + k) 0 = ap (λ (t : LineTok). t.id.0) at ∙ (tell.items (line.first + k) place).number in
     let small : get_or ids (line.first + k) 0 < length arena.tokens = items (line.first + k) 0 place in
     omega (arith, number, small, whole))
@@ -60,7 +60,7 @@ module _ (style : Style) (arena : Contents) (ids : List ℕ) (toks : List LineTo
 
   -- and its decisions are those of its least breaking
   pub row_plan : (start behind : ℕ) (after final : List (Option Slot)) → 0 < length tokens → get_or ids line.first 0 ≡ token.id.0 → IsRow (broken_line style arena ids toks plan line) budget → start ≡ stored_or first column → behind ≡ end_of token start
-      → after ≡ decided plan token.id.0 (first_slot style arena ids line) → final ≡ decided_all after (row_made style behind (get_or tokens 0 no_tok) (drop 1 tokens))
+      → after ≡ decided plan token.id.0 (first_slot style arena ids line) → final ≡ decided_all after (row_made style behind (get_or tokens 0 no_token) (drop 1 tokens))
       → final ≡ decided_all plan (broken_made style arena ids toks plan line (stays (gaps (broken_line style arena ids toks plan line))))
   row_plan start behind after final some number row starts ends made written =
       let l = broken_line style arena ids toks plan line in
@@ -68,7 +68,7 @@ module _ (style : Style) (arena : Contents) (ids : List ℕ) (toks : List LineTo
       let start_is : start ≡ stored_or (fixed_of_token arena plan token) (start_column style line) = starts ∙ (ap (λ (o : Option Fixed). stored_or o column) first_is ∙ ap (λ x. stored_or (fixed_of_token arena plan token) x) column_is) in
       let same : inner ≡ row_made style behind token (drop 1 (of_line line toks)) =
       row_decides style arena ids toks plan line budget start behind token tell (subst (λ (xs : List LineTok). 0 < length xs) are some) at_line inside_line row start_is ends in
-      let mine : row_made style behind (get_or tokens 0 no_tok) (drop 1 tokens) ≡ inner =
-      ap (λ (t : LineTok). row_made style behind t (drop 1 tokens)) (get_or_from_slice_get tokens 0 token no_tok at) ∙ (ap (λ (xs : List LineTok). row_made style behind token (drop 1 xs)) are ∙ sym same) in
+      let mine : row_made style behind (get_or tokens 0 no_token) (drop 1 tokens) ≡ inner =
+      ap (λ (t : LineTok). row_made style behind t (drop 1 tokens)) (get_or_from_slice_get tokens 0 token no_token at) ∙ (ap (λ (xs : List LineTok). row_made style behind token (drop 1 xs)) are ∙ sym same) in
       written ∙ (ap (λ (m : List (ℕ × Slot)). decided_all after m) mine
       ∙ (ap (λ (p : List (Option Slot)). decided_all p inner) made ∙ ap (λ x. decided_all (decided plan x (first_slot style arena ids line)) inner) (sym number)))

@@ -13,7 +13,7 @@ use Rattle.line_tokens.specs.Lines.{CutPlaces}
 use Rattle.replacements.specs.declared.slot.Slot.{Slot}
 use Rattle.replacements.specs.Decisions.{decided_all}
 use Rattle.run_layout.specs.InputColumns.{input_before}
-use Rattle.run_layout.specs.Rows.{no_tok}
+use Rattle.line_tokens.specs.Tokens.{no_token}
 use Rattle.run_layout.specs.Tells.{StandForItems}
 use Rattle.run_layout.proofs.Walked.{cut_before}
 use Rattle.run_layout.specs.Outcomes.{LineOutcome, Kept, Only, Least, Over, LaidLine, AfterLines, outcome_made, row_of}
@@ -186,7 +186,7 @@ first_there style arena ids place column lines i d id within a items at =
 -- its token tells its number
 pub first_told : (arena : Contents) (ids : List ℕ) (toks : List LineTok) (k : ℕ) (token : LineTok) → StandForItems arena ids toks → k < length ids → slice_get toks k ≡ Some token → token.id.0 ≡ get_or ids k 0
 first_told arena ids toks k token tell within at =
-    let is : get_or toks k no_tok ≡ token = get_or_from_slice_get toks k token no_tok at in
+    let is : get_or toks k no_token ≡ token = get_or_from_slice_get toks k token no_token at in
     ap (λ (t : LineTok). t.id.0) (sym is) ∙ (tell.items k within).number
 
 -- there are no more lines than places

@@ -7,7 +7,8 @@ use Rattle.std.proofs.lemmas.Option.{slice_get-get_or}
 use Rattle.line_tokens.specs.declared.LineTok.{LineTok}
 use Rattle.token_arena.specs.Gaps.{Contents}
 use Rattle.annotator.specs.Tokens.{TellItems, TellsItem, touches, stands_apart}
-use Rattle.run_layout.specs.Rows.{item_at, no_tok}
+use Rattle.run_layout.specs.Rows.{item_at}
+use Rattle.line_tokens.specs.Tokens.{no_token}
 use Rattle.run_layout.specs.Tells.{MayTouch, StandsForItem, StandForItems}
 
 one_less : (k : ℕ) → suc k - 1 ≡ k
@@ -26,15 +27,15 @@ neighbours true false is apart = cc
 neighbours false same is apart = cc
 
 module _ (arena : Contents) (ids : List ℕ) (toks : List LineTok) (many : length toks ≡ length ids) (tell : TellItems arena ids toks) where
-  told_at : (k : ℕ) → k < length ids → TellsItem arena ids k (get_or toks k no_tok)
-  told_at k within = tell k (get_or toks k no_tok) (slice_get-get_or toks k no_tok (omega (arith, many, within)))
+  told_at : (k : ℕ) → k < length ids → TellsItem arena ids k (get_or toks k no_token)
+  told_at k within = tell k (get_or toks k no_token) (slice_get-get_or toks k no_token (omega (arith, many, within)))
 
-  item_told : (k : ℕ) → k < length ids → StandsForItem arena (get_or ids k 0) (get_or toks k no_tok)
+  item_told : (k : ℕ) → k < length ids → StandsForItem arena (get_or ids k 0) (get_or toks k no_token)
   item_told k within =
       let told = told_at k within in
-      record { number = told.id; kind = told.kind; gap = told.gap; touch = λ says some. may_touch_there arena (get_or ids k 0) (get_or toks k no_tok).touch told.touch says some }
+      record { number = told.id; kind = told.kind; gap = told.gap; touch = λ says some. may_touch_there arena (get_or ids k 0) (get_or toks k no_token).touch told.touch says some }
 
-  next_told : (k : ℕ) → suc k < length ids → IsFalse (get_or toks (suc k) no_tok).directive → get_or ids (suc k) 0 ≡ get_or ids k 0 + 1
+  next_told : (k : ℕ) → suc k < length ids → IsFalse (get_or toks (suc k) no_token).directive → get_or ids (suc k) 0 ≡ get_or ids k 0 + 1
   next_told k within none =
       let apart : stands_apart ids (suc k) ≡ false = sym (told_at (suc k) within).directive ∙ none in
       eqb-true (get_or ids (suc k) 0) (get_or ids (suc k - 1) 0 + 1) (neighbours (nat_lt 0 (suc k)) (get_or ids (suc k) 0 == get_or ids (suc k - 1) 0 + 1) (some_before k) apart)

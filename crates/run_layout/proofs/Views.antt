@@ -18,7 +18,7 @@ use Rattle.replacements.specs.Decisions.{slot_of, decided_all}
 use Rattle.replacements.specs.Sound.{IsSound}
 use Rattle.replacements.proofs.Firsts.{stay}
 use Rattle.comment_rows.specs.Comments.{comments_made}
-use Rattle.run_layout.specs.Rows.{no_tok}
+use Rattle.line_tokens.specs.Tokens.{no_token}
 use Rattle.run_layout.specs.Broken.{fixed_of_token}
 use Rattle.run_layout.specs.Outcomes.{LaidLine, AfterLines}
 use Rattle.run_layout.specs.RunsLaid.{IsRunLaid}
@@ -64,7 +64,7 @@ pub views_decide : ViewsDecide
 views_decide style budget arena ids toks run plan lines final done small tell cut after = λ k d below.
     let laid : List (Option Slot) = after.0 in
     let within : All (λ id. id < length laid) ids = λ j e low. (let was = small j e low in omega (arith, was, same_length style budget arena ids toks run plan lines done laid after.1)) in
-    let numbers : (j : ℕ) → j < length ids → (get_or toks j no_tok).id.0 ≡ get_or ids j 0 = λ j low. (tell.items j low).number in
+    let numbers : (j : ℕ) → j < length ids → (get_or toks j no_token).id.0 ≡ get_or ids j 0 = λ j low. (tell.items j low).number in
     let is : IsDecided (decided_all laid (comments_made style toks laid)) (get_or ids k 0) =
     comments_decide style arena ids toks laid tell.as_many numbers within (laid_out style budget arena ids toks run plan lines done laid after.1 tell.as_many cut) k below in
     subst (λ id. IsSome (slot_of final id)) (sym (get_or_default ids k d 0 below)) (subst (λ (p : List (Option Slot)). IsSome (slot_of p (get_or ids k 0))) (sym after.2)

@@ -24,7 +24,8 @@ use Rattle.comment_rows.specs.declared.place.TrailRow.{TrailRow}
 use Rattle.comment_rows.specs.declared.comments.Comment.{Comment}
 use Rattle.comment_rows.specs.Comments.{comment_at, comment_of, comments_behind, comments_in, comments_made, first_start, placed, placed_slot, row_of, start_by}
 use Rattle.comment_rows.proofs.CommentLists.{length-aligned, none_made}
-use Rattle.run_layout.specs.Rows.{item_at, no_tok}
+use Rattle.run_layout.specs.Rows.{item_at}
+use Rattle.line_tokens.specs.Tokens.{no_token}
 use Rattle.run_layout.specs.Tells.{StandForItems}
 use Rattle.run_layout.specs.Laws.{AreOfTexts, IsWaiting}
 use Rattle.run_layout.proofs.Stands.{stance, all_sound}
@@ -33,7 +34,7 @@ use Rattle.run_layout.proofs.MadeFor.{IsMadeFor, IsDecided, open_or_decided, mad
 
 -- behind the lines of a run the gap of each item of the view is decided, or waits before a trailing comment
 abbrev pub AreLaidOut : List ℕ → List LineTok → List (Option Slot) → Type 0
-AreLaidOut ids toks plan = (k : ℕ) → k < length ids → get_or ids k 0 < length plan → IsSome (slot_of plan (get_or ids k 0)) ⊎ ((0 < k) × IsWaiting (get_or toks (k - 1) no_tok) (get_or toks k no_tok))
+AreLaidOut ids toks plan = (k : ℕ) → k < length ids → get_or ids k 0 < length plan → IsSome (slot_of plan (get_or ids k 0)) ⊎ ((0 < k) × IsWaiting (get_or toks (k - 1) no_token) (get_or toks k no_token))
 
 -- ## Each decision may stand
 
@@ -81,10 +82,10 @@ joins_with style arena before id count gap tells next takes some =
 
 -- a gap of a view that waits may be such blanks
 may_move : (style : Style) (arena : Contents) (ids : List ℕ) (toks : List LineTok) (plan : List (Option Slot)) → AreWithin arena ids → AreOfTexts arena ids → StandForItems arena ids toks → AreLaidOut ids toks plan
-    → (k : ℕ) → suc k < length toks → MayMove style arena plan (get_or toks k no_tok) (get_or toks (suc k) no_tok)
+    → (k : ℕ) → suc k < length toks → MayMove style arena plan (get_or toks k no_token) (get_or toks (suc k) no_token)
 may_move style arena ids toks plan items texts tell laid k below small open_gap count some =
-    let left : LineTok = get_or toks k no_tok in
-    let token : LineTok = get_or toks (suc k) no_tok in
+    let left : LineTok = get_or toks k no_token in
+    let token : LineTok = get_or toks (suc k) no_token in
     let before : ℕ = get_or ids k 0 in
     let id : ℕ = get_or ids (suc k) 0 in
     let within : suc k < length ids = omega (arith, below, tell.as_many) in
@@ -93,7 +94,7 @@ may_move style arena ids toks plan items texts tell laid k below small open_gap 
     elim (laid (suc k) within (omega (arith, small, here.number))) [
       | inl decided ↦ absurd (none_some (slot_of plan id) (sym (ap (λ x. slot_of plan x) here.number) ∙ open_gap) decided)
       | inr waits ↦
-          let waiting : IsWaiting left token = subst (λ x. IsWaiting (get_or toks x no_tok) token) (one_less k) waits.1 in
+          let waiting : IsWaiting left token = subst (λ x. IsWaiting (get_or toks x no_token) token) (one_less k) waits.1 in
           let parts = or_parts token.directive (ends_its_row left.kind) waiting.joins in
           let next : id ≡ before + 1 = tell.next k within parts.0 in
           let gap : Gap = record { left = left; right = token; fixed = None; first = false } in
@@ -132,7 +133,7 @@ stands_at style arena plan left column token tokens later rows may stand = by_ro
     by_role true (row ∷ rest) = by_open row rest (slot_of plan token.id.0) refl
 
 stand_behind : (style : Style) (arena : Contents) (plan : List (Option Slot)) (left : LineTok) (column : ℕ) (tokens : List LineTok) (rows : List TrailRow)
-    → ((k : ℕ) → suc k < length (left ∷ tokens) → MayMove style arena plan (get_or (left ∷ tokens) k no_tok) (get_or (left ∷ tokens) (suc k) no_tok))
+    → ((k : ℕ) → suc k < length (left ∷ tokens) → MayMove style arena plan (get_or (left ∷ tokens) k no_token) (get_or (left ∷ tokens) (suc k) no_token))
     → StandWithin arena (length plan) (placed (comments_behind style plan left column tokens) rows)
 stand_behind style arena plan left column [] rows may = tt
 stand_behind style arena plan left column (token ∷ tokens) rows may =
@@ -140,7 +141,7 @@ stand_behind style arena plan left column (token ∷ tokens) rows may =
     stands_at style arena plan left column token tokens (comments_behind style plan token behind tokens) rows (may 0 (omega arith))
     (λ rest. stand_behind style arena plan token behind tokens rest (λ k below. may (suc k) (omega (arith, below))))
 
-comments_stand : (style : Style) (arena : Contents) (plan : List (Option Slot)) (toks : List LineTok) → ((k : ℕ) → suc k < length toks → MayMove style arena plan (get_or toks k no_tok) (get_or toks (suc k) no_tok))
+comments_stand : (style : Style) (arena : Contents) (plan : List (Option Slot)) (toks : List LineTok) → ((k : ℕ) → suc k < length toks → MayMove style arena plan (get_or toks k no_token) (get_or toks (suc k) no_token))
     → StandWithin arena (length plan) (comments_made style toks plan)
 comments_stand style arena plan [] may = tt
 comments_stand style arena plan (first ∷ tokens) may =
@@ -186,20 +187,20 @@ made_later style plan left column token tokens later rows id same made = by_role
     by_role true (row ∷ rest) many = by_flag (is_some (slot_of plan token.id.0)) row rest (made rest (omega (arith, many)))
 
 made_behind : (style : Style) (plan : List (Option Slot)) (left : LineTok) (column : ℕ) (tokens : List LineTok) (rows : List TrailRow) (k : ℕ) → k < length tokens
-    → is_trailing (get_or tokens k no_tok).role ≡ true → slot_of plan (get_or tokens k no_tok).id.0 ≡ None → length rows ≡ length (comments_behind style plan left column tokens)
-    → IsMadeFor (get_or tokens k no_tok).id.0 (placed (comments_behind style plan left column tokens) rows)
+    → is_trailing (get_or tokens k no_token).role ≡ true → slot_of plan (get_or tokens k no_token).id.0 ≡ None → length rows ≡ length (comments_behind style plan left column tokens)
+    → IsMadeFor (get_or tokens k no_token).id.0 (placed (comments_behind style plan left column tokens) rows)
 made_behind style plan left column [] rows k below trails open_gap same = absurd (omega (arith, below))
 made_behind style plan left column (token ∷ tokens) rows zero below trails open_gap same =
     let behind : ℕ = end_of token (start_by style left column token (slot_of plan token.id.0)) in
     made_here style plan left column token tokens (comments_behind style plan token behind tokens) rows trails open_gap same
 made_behind style plan left column (token ∷ tokens) rows (suc k) below trails open_gap same =
     let behind : ℕ = end_of token (start_by style left column token (slot_of plan token.id.0)) in
-    made_later style plan left column token tokens (comments_behind style plan token behind tokens) rows (get_or tokens k no_tok).id.0 same
+    made_later style plan left column token tokens (comments_behind style plan token behind tokens) rows (get_or tokens k no_token).id.0 same
     (λ rest many. made_behind style plan token behind tokens rest k (omega (arith, below)) trails open_gap many)
 
 -- a decision is made for each open trailing comment behind the first token of a view
-made_for : (style : Style) (plan : List (Option Slot)) (toks : List LineTok) (k : ℕ) → suc k < length toks → is_trailing (get_or toks (suc k) no_tok).role ≡ true → slot_of plan (get_or toks (suc k) no_tok).id.0 ≡ None
-    → IsMadeFor (get_or toks (suc k) no_tok).id.0 (comments_made style toks plan)
+made_for : (style : Style) (plan : List (Option Slot)) (toks : List LineTok) (k : ℕ) → suc k < length toks → is_trailing (get_or toks (suc k) no_token).role ≡ true → slot_of plan (get_or toks (suc k) no_token).id.0 ≡ None
+    → IsMadeFor (get_or toks (suc k) no_token).id.0 (comments_made style toks plan)
 made_for style plan [] k below trails open_gap = absurd (omega (arith, below))
 made_for style plan (first ∷ tokens) k below trails open_gap =
     let comments : List Comment = comments_in style plan (first ∷ tokens) in
@@ -213,7 +214,7 @@ some_is plan id some = elim (open_or_decided (slot_of plan id)) [
 ]
 
 -- behind the decisions for its comments each gap of a view that is laid out is decided
-pub comments_decide : (style : Style) (arena : Contents) (ids : List ℕ) (toks : List LineTok) (plan : List (Option Slot)) → length toks ≡ length ids → ((k : ℕ) → k < length ids → (get_or toks k no_tok).id.0 ≡ get_or ids k 0) → All (λ id. id < length plan) ids
+pub comments_decide : (style : Style) (arena : Contents) (ids : List ℕ) (toks : List LineTok) (plan : List (Option Slot)) → length toks ≡ length ids → ((k : ℕ) → k < length ids → (get_or toks k no_token).id.0 ≡ get_or ids k 0) → All (λ id. id < length plan) ids
     → AreLaidOut ids toks plan → (k : ℕ) → k < length ids → IsDecided (decided_all plan (comments_made style toks plan)) (get_or ids k 0)
 comments_decide style arena ids toks plan many numbers small laid zero below = elim (laid zero below (small zero 0 below)) [
   | inl some ↦ stays_decided plan (comments_made style toks plan) (get_or ids zero 0) (some_is plan (get_or ids zero 0) some)
@@ -224,7 +225,7 @@ comments_decide style arena ids toks plan many numbers small laid (suc k) below 
   | inl open_gap ↦ elim (laid (suc k) below (small (suc k) 0 below)) [
     | inl some ↦ absurd (none_some (slot_of plan (get_or ids (suc k) 0)) open_gap some)
     | inr waits ↦
-        let number : (get_or toks (suc k) no_tok).id.0 ≡ get_or ids (suc k) 0 = numbers (suc k) below in
+        let number : (get_or toks (suc k) no_token).id.0 ≡ get_or ids (suc k) 0 = numbers (suc k) below in
         made_decided plan (comments_made style toks plan) (get_or ids (suc k) 0) (small (suc k) 0 below)
         (subst (λ x. IsMadeFor x (comments_made style toks plan)) number
         (made_for style plan toks k (omega (arith, below, many)) waits.1.trails (ap (λ x. slot_of plan x) number ∙ open_gap)))
@@ -236,5 +237,5 @@ pub nothing_waits : (style : Style) (arena : Contents) (ids : List ℕ) (toks : 
     → plan ≡ decided_all plan (comments_made style toks plan)
 nothing_waits style arena ids toks plan tell some = sym (ap (λ (made : List (ℕ × Slot)). decided_all plan made) (none_made style plan toks (λ k d below trails.
     let within : k < length ids = omega (arith, below, tell.as_many) in
-    let same : (get_or toks k d).id.0 ≡ get_or ids k 0 = ap (λ (t : LineTok). t.id.0) (get_or_default toks k d no_tok below) ∙ (tell.items k within).number in
+    let same : (get_or toks k d).id.0 ≡ get_or ids k 0 = ap (λ (t : LineTok). t.id.0) (get_or_default toks k d no_token below) ∙ (tell.items k within).number in
     subst (λ x. IsSome (slot_of plan x)) (sym same) (some k within))))

@@ -18,7 +18,7 @@ use Rattle.line_state.specs.Layout.{Layout}
 use Rattle.line_state.specs.Line.{Line, Step}
 use Rattle.replacements.specs.Decisions.{slot_of}
 use Rattle.run_layout.specs.Outcomes.{AfterLines, LaidLine}
-use Rattle.run_layout.specs.Rows.{no_tok}
+use Rattle.line_tokens.specs.Tokens.{no_token}
 use Rattle.run_layout.specs.Tells.{StandForItems}
 
 -- the items with these numbers stand in texts, not in directives
@@ -48,7 +48,7 @@ abbrev pub LinesDecide : Type 0
 LinesDecide =
     (style : Style) (budget : ℕ) (arena : Contents) (ids : List ℕ) (toks : List LineTok) (run : ℕ) (plan : List (Option Slot)) (lines : List ULine) (final : List (Option Slot)) (done : List LaidLine) →
     length toks ≡ length ids → CutPlaces 0 (length ids) lines → AfterLines style budget arena ids toks run plan lines final done → (k : ℕ) → k < length ids → get_or ids k 0 < length plan →
-    IsSome (slot_of final (get_or ids k 0)) ⊎ ((0 < k) × IsWaiting (get_or toks (k - 1) no_tok) (get_or toks k no_tok))
+    IsSome (slot_of final (get_or ids k 0)) ⊎ ((0 < k) × IsWaiting (get_or toks (k - 1) no_token) (get_or toks k no_token))
 
 -- Without a limit of columns a line has one admissible breaking.
 abbrev pub OneBreakingIsAdmissible : Type 0

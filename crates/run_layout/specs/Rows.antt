@@ -91,24 +91,6 @@ first_of_line style arena line opened class id =
 abbrev pub first_decision : Style → Contents → ULine → Option ℕ → ℕ → Decision
 first_decision style arena line before id = first_of_line style arena line (is_behind_brace arena before) (item_class arena id) id
 
--- what a list of tokens has past its end
-abbrev pub no_tok : LineTok
-no_tok = record {
-  id = record { 0 = 0 };
-  role = Word;
-  power = 0;
-  depth = 0;
-  trailing_list = false;
-  held = false;
-  touch = false;
-  directive = false;
-  gap = record { lines = 0; empty = false; white = false; splice = false; began = false };
-  kind = Other;
-  rows = 0;
-  first_width = 0;
-  last_width = 0;
-}
-
 -- ## Columns
 
 -- the column at which an item starts behind a decision, where what stands before the gap ends at this column

@@ -6,7 +6,8 @@ use Rattle.touching.specs.Spelling.{spelling}
 use Rattle.line_tokens.specs.declared.LineTok.{LineTok}
 use Rattle.token_arena.specs.Stored.{Stored}
 use Rattle.token_arena.specs.Gaps.{Contents}
-use Rattle.run_layout.specs.Rows.{item_at, no_tok}
+use Rattle.run_layout.specs.Rows.{item_at}
+use Rattle.line_tokens.specs.Tokens.{no_token}
 
 -- the two items may stand side by side
 abbrev pub MayTouch : Dialect → Stored → Stored → Type 0
@@ -22,5 +23,5 @@ pub record StandsForItem (arena : Contents) (id : ℕ) (tok : LineTok) : Type 0 
 -- There is a token for each item, and one of which no directive is told comes next in the text behind the item before it.
 pub record StandForItems (arena : Contents) (ids : List ℕ) (toks : List LineTok) : Type 0 where
   pub as_many : length toks ≡ length ids
-  pub items : (k : ℕ) → k < length ids → StandsForItem arena (get_or ids k 0) (get_or toks k no_tok)
-  pub next : (k : ℕ) → suc k < length ids → IsFalse (get_or toks (suc k) no_tok).directive → get_or ids (suc k) 0 ≡ get_or ids k 0 + 1
+  pub items : (k : ℕ) → k < length ids → StandsForItem arena (get_or ids k 0) (get_or toks k no_token)
+  pub next : (k : ℕ) → suc k < length ids → IsFalse (get_or toks (suc k) no_token).directive → get_or ids (suc k) 0 ≡ get_or ids k 0 + 1

@@ -6,7 +6,7 @@ ghost use Rattle.style_table.specs.Range.{IsInRange};
 ghost use Rattle.line_state.specs.Brackets.{opens_frame};
 ghost use Rattle.line_tokens.specs.Columns.{end_of, stored_or};
 ghost use Rattle.line_state.specs.Line.{Line};
-ghost use Rattle.run_layout.specs.Rows.{no_tok};
+ghost use Rattle.line_tokens.specs.Tokens.{no_token};
 ghost use Rattle.replacements.specs.declared.gap_text.Decision.TheVariants.{Spaces};
 ghost use Rattle.replacements.specs.Decisions.{decided, decided_all};
 ghost use Rattle.run_layout.specs.OneRow.{Fits, IsRow, IsRowLine, most_behind, open_behind, row_made};
@@ -237,7 +237,7 @@ pub(crate) fn write_row(style: &Style, tokens: &[LineTok], column: u32, plan: &m
     requires range { IsInRange style.now }
     requires some { 0 < length tokens.now }
     requires within { All (λ token. token.id.0 < length plan.old) tokens.now }
-    ensures plan { plan.new ≡ decided_all plan.old (row_made style.now column (get_or tokens.now 0 no_tok) (drop 1 tokens.now)) }
+    ensures plan { plan.new ≡ decided_all plan.old (row_made style.now column (get_or tokens.now 0 no_token) (drop 1 tokens.now)) }
     ensures len { length plan.new ≡ length plan.old }
 {
     let mut left = token_at(tokens, 0);

@@ -1,5 +1,6 @@
 use Rattle.std.proofs.Common.{◌≡◌, ◌≤◌, ◌<◌, ◌-◌, ◌++◌, drop, get_or}
-use Rattle.comment_rows.specs.Comments.{column_behind, comments_behind, comments_in, no_token}
+use Rattle.comment_rows.specs.Comments.{column_behind, comments_behind, comments_in}
+use Rattle.line_tokens.specs.Tokens.{no_token}
 use Rattle.comment_rows.proofs.comments.comments_in.Given as goal
 
 abbrev pub invariant-loop-at : goal.invariant-loop-at

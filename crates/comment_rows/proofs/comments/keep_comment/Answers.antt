@@ -1,5 +1,6 @@
 use Rattle.std.proofs.Common.{◌∙◌, ◌+◌, ◌-◌, drop, get_or, sym}
-use Rattle.comment_rows.specs.Comments.{column_behind, no_token}
+use Rattle.comment_rows.specs.Comments.{column_behind}
+use Rattle.line_tokens.specs.Tokens.{no_token}
 use Rattle.comment_rows.proofs.BehindTokens.{none_kept}
 use Rattle.comment_rows.proofs.comments.keep_comment.Goals as goal
 

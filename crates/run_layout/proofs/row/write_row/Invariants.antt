@@ -1,6 +1,6 @@
 use Rattle.std.proofs.Common.{◌≡◌, ◌≤◌, ◌-◌, length, drop, get_or, slice_get}
 use Rattle.std.specs.Prelude.{Some}
-use Rattle.run_layout.specs.Rows.{no_tok}
+use Rattle.line_tokens.specs.Tokens.{no_token}
 use Rattle.replacements.specs.Decisions.{decided_all}
 use Rattle.run_layout.specs.OneRow.{row_made}
 use Rattle.run_layout.proofs.row.write_row.Given as goal
@@ -10,5 +10,5 @@ invariant-loop-at l = record {
   from : 1 ≤ l.at;
   left : slice_get l.tokens (l.at - 1) ≡ Some l.left;
   len : length l.plan ≡ length l.initial.plan;
-  rest : decided_all l.plan (row_made l.style l.column l.left (drop l.at l.tokens)) ≡ decided_all l.initial.plan (row_made l.style l.fn.column (get_or l.tokens 0 no_tok) (drop 1 l.tokens));
+  rest : decided_all l.plan (row_made l.style l.column l.left (drop l.at l.tokens)) ≡ decided_all l.initial.plan (row_made l.style l.fn.column (get_or l.tokens 0 no_token) (drop 1 l.tokens));
 }
