@@ -4,7 +4,8 @@ use Rattle.std.specs.List.{list_any}
 use Rattle.std.proofs.lemmas.Bool.{false≢true}
 use Rattle.token_arena.specs.Gaps.{Contents, gap_of}
 use Rattle.run_layout.specs.InputColumns.{column_past, column_through}
-use Rattle.run_layout.specs.Rows.{item_at, column_behind}
+use Rattle.run_layout.specs.Rows.{column_behind}
+use Rattle.annotator.specs.Tokens.{item_at}
 use Rattle.format_core.specs.Columns.{column_at}
 
 -- a line end, or another byte before one

@@ -29,7 +29,7 @@ use Rattle.run_layout.specs.Laws.{AreOfTexts}
 use Rattle.run_layout.specs.Outcomes.{LaidLine}
 use Rattle.run_layout.proofs.Views.{views_stay_sound, views_keep, views_decide, view_length}
 use Rattle.run_layout.proofs.MadeFor.{IsDecided, is_some-decided, decided-is_some}
-use Rattle.run_layout.specs.Rows.{item_at, column_behind}
+use Rattle.run_layout.specs.Rows.{column_behind}
 use Rattle.run_layout.proofs.Stands.{MadeStand, all_sound, old_stands}
 use Rattle.run_layout.proofs.Telling.{stand_for_items}
 use Rattle.run_layout.specs.Tells.{StandForItems}
@@ -45,7 +45,7 @@ use Rattle.format_core.specs.KeptGaps.{input_column, kept_decisions}
 use Rattle.format_core.specs.Laws.{PlannedTextsAreTwins, EarlyDecisionsStay, KeptGapsStay, EveryGapIsDecided}
 use Rattle.format_core.specs.Plans.{AfterItems, AfterParts, AfterSeen, AfterRuns, IsPlanOf}
 use Rattle.format_core.specs.Runs.{runs_of, seen_by, after_kept}
-use Rattle.annotator.specs.Tokens.{toks_of_items}
+use Rattle.annotator.specs.Tokens.{toks_of_items, item_at}
 use Rattle.unwrapped_lines.specs.Lines.{lines_of_items}
 use Rattle.format_core.proofs.Parts.{part_within, part_item, part_length, before_or_behind}
 use Rattle.format_core.proofs.Seen.{here_or_later, length-kept, seen_within}

@@ -1,6 +1,5 @@
 -- What stands before the items of a line that isn't searched for breaks: docs/PROFILE.md, "Layout of lines".
-use Rattle.std.specs.Prelude.{◌==◌, ◌&&◌, not, min, ℕ, zero, suc, ◌+◌, Bool, false, Option, Some, None, List, [], get_or, if◌then◌else◌}
-use Rattle.c_grammar.specs.declared.ItemKind.TheVariants.{Other}
+use Rattle.std.specs.Prelude.{◌==◌, ◌&&◌, not, min, ℕ, zero, suc, ◌+◌, Bool, false, Option, Some, None, List, get_or, if◌then◌else◌}
 use Rattle.style_table.specs.declared.style.Style.{Style}
 use Rattle.line_tokens.specs.declared.LineTok.{LineTok}
 use Rattle.line_tokens.specs.declared.role.Role.{Role}
@@ -12,29 +11,12 @@ use Rattle.token_classes.specs.declared.class.TokenClass.TheVariants.{Nothing}
 use Rattle.token_classes.specs.Classes.{is_open_brace, is_close_brace}
 use Rattle.token_classes.specs.Viewed.{item_class}
 use Rattle.line_tokens.specs.declared.line.ULine.{ULine}
+use Rattle.annotator.specs.Tokens.{item_at}
 use Rattle.layout_tables.specs.Indents.{most_column, start_column, empty_lines}
 use Rattle.replacements.specs.declared.gap_text.Decision.{Decision}
 use Rattle.replacements.specs.declared.gap_text.Decision.TheVariants.{Old, Spaces, Lines, Splice}
 
 -- ## Items
-
--- what a list of items has past its end
-abbrev pub no_item : Stored
-no_item = record {
-  kind = Other;
-  start = 0;
-  raw = [];
-  line = 0;
-  rows = 0;
-  first_width = 0;
-  last_width = 0;
-  back = false;
-  gap = record { lines = 0; empty = false; white = false; splice = false; began = false };
-}
-
--- the item with this number
-abbrev pub item_at : Contents → ℕ → Stored
-item_at arena id = get_or arena.tokens id no_item
 
 -- the item before a place of a view
 abbrev pub item_before : List ℕ → ℕ → Option ℕ

@@ -1,7 +1,8 @@
 //! Columns of rows.
 
 ghost use Rattle.std.specs.Prelude.{◌≡◌, ◌<◌, length};
-ghost use Rattle.run_layout.specs.Rows.{item_at, start_behind, column_behind};
+ghost use Rattle.run_layout.specs.Rows.{start_behind, column_behind};
+ghost use Rattle.annotator.specs.Tokens.{item_at};
 
 use replacements::Decision;
 use token_arena::{TokenArena, TokenId};
