@@ -1,4 +1,4 @@
-//! Tests of the layers from the characters of a text to its runs, each by its public calls alone.
+//! Tests of the layers from the characters of a text to its runs, lines and roles, each by its public calls alone.
 //!
 //! They stand above the libraries, so that a library is proved once. A case has what no contract says: that a
 //! contract means what the C standard and docs/PROFILE.md do, and that calls succeed with ample memory.
@@ -11,8 +11,11 @@
 //! - `arena`: what the store keeps of a text, and which texts it refuses (`token_arena`).
 //! - `sections`: texts and directives, the gaps that directives keep, and spellings (`token_arena`).
 //! - `runs`: what each run sees, which items are dead, and long texts (`branch_runs`).
+//! - `parts`: parts of a view (`view_parts`).
+//! - `text_lines`: the lines of whole texts (`unwrapped_lines`).
+//! - `token_roles`: the roles of whole texts (`annotator`).
 //!
-//! `fixtures` makes what they stand on, and `comparing` compares.
+//! `fixtures` makes what they stand on, `line_fixtures` what the lower layers tell of a text, and `comparing` compares.
 #![tactic(auto)]
 
 #[cfg(test)]
@@ -26,9 +29,17 @@ mod fixtures;
 #[cfg(test)]
 mod items;
 #[cfg(test)]
+mod line_fixtures;
+#[cfg(test)]
+mod parts;
+#[cfg(test)]
 mod runs;
 #[cfg(test)]
 mod sections;
+#[cfg(test)]
+mod text_lines;
+#[cfg(test)]
+mod token_roles;
 #[cfg(test)]
 mod touching_items;
 #[cfg(test)]

@@ -1,4 +1,5 @@
-//! Named styles, items, views and plans of texts, what the lower layers tell of a view, and what is written of a plan.
+//! Named styles, long texts, items, views and plans of texts, what the lower layers tell of a view, and what is written
+//! of a plan.
 
 ghost use Rattle.std.specs.Prelude.{◌≡◌, ◌+◌, ◌<◌, length, IfOk};
 ghost use Rattle.annotator.specs.Tokens.{TellItems};
@@ -24,6 +25,19 @@ pub fn style(rt: &impl Abort, name: &str) -> Style
     ensures { IsInRange result }
 {
     Style::named(name).expect(rt, "a style")
+}
+
+/// A text that begins so, goes on with so many times a piece, and ends so.
+pub fn repeated(
+    rt: &impl Abort,
+    alloc: Global,
+    head: &str,
+    piece: &str,
+    count: usize,
+    tail: &str,
+) -> String {
+    let middle = piece.repeat(alloc, count).expect(rt, head);
+    [head, middle.as_str(), tail].concat(alloc).expect(rt, head)
 }
 
 /// The items of a text.

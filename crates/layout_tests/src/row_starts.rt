@@ -1,7 +1,8 @@
 //! Rows of lines under the named styles, as `docs/PROFILE.md` says under "Rows of lines".
 
 use crate::comparing::same;
-use crate::fixtures::{style, token};
+use crate::fixtures::style;
+use crate::token_fixtures::token;
 use layout_tables::{empty_lines, start_column};
 use line_tokens::{LineKind, LineTok, Role, TokenId, ULine};
 use std::process::Abort;

@@ -1,7 +1,8 @@
 //! Blanks between two tokens of a row, as `docs/PROFILE.md` says under "Spaces without a break".
 
 use crate::comparing::same;
-use crate::fixtures::{style, token};
+use crate::fixtures::style;
+use crate::token_fixtures::token;
 use layout_tables::spaces_before;
 use line_tokens::Role;
 

@@ -3,7 +3,7 @@
 ghost use Rattle.token_classes.specs.Viewed.{AreWithin};
 
 use crate::comparing::same;
-use crate::fixtures::items_from;
+use crate::line_fixtures::items_from;
 use bumpalo::Bump;
 use bumpalo::collections::into_bump_slice;
 use std::process::Abort;

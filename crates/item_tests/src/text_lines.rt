@@ -1,7 +1,7 @@
 //! The lines of whole texts, as `docs/PROFILE.md` says under "Statements and lines".
 
 use crate::comparing::same;
-use crate::fixtures::{Told, read_text, repeated};
+use crate::line_fixtures::{Told, read_text, repeated};
 use bumpalo::Bump;
 use line_tokens::LineKind::{
     Brace, CaseLabel, Close, Comment, Control, EnumHead, Enumerator, ExternHead, FuncHead,

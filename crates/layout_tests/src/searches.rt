@@ -4,7 +4,8 @@ ghost use Rattle.std.specs.Prelude.{◌≡◌, ◌<◌, ◌≤◌, length};
 ghost use Rattle.style_table.specs.Range.{IsInRange};
 
 use crate::comparing::{holds, same};
-use crate::fixtures::{count_of, step_by, style, token};
+use crate::fixtures::{count_of, style};
+use crate::token_fixtures::{step_by, token};
 use break_search::{Outcome, search};
 use bumpalo::Bump;
 use bumpalo::collections::into_bump_slice;

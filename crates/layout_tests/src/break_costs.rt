@@ -1,7 +1,8 @@
 //! Where rows may end and what that costs, as `docs/PROFILE.md` says under "Breaks".
 
 use crate::comparing::same;
-use crate::fixtures::{style, token};
+use crate::fixtures::style;
+use crate::token_fixtures::token;
 use layout_tables::{GapRule, gap_rule};
 use line_tokens::Role;
 

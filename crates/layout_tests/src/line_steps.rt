@@ -1,7 +1,8 @@
 //! A worked line, token by token.
 
 use crate::comparing::same;
-use crate::fixtures::{step_by, style, token};
+use crate::fixtures::style;
+use crate::token_fixtures::{step_by, token};
 use line_state::{cells, start};
 use line_tokens::Role;
 

@@ -1,7 +1,7 @@
 //! The roles of whole texts, as `docs/PROFILE.md` says under "Roles".
 
 use crate::comparing::same;
-use crate::fixtures::{items_from, read_text};
+use crate::line_fixtures::{items_from, read_text};
 use annotator::roles;
 use bumpalo::Bump;
 use line_tokens::Role::{

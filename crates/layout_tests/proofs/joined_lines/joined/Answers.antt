@@ -2,7 +2,7 @@ use Rattle.std.proofs.Common.{◌≡◌, length}
 use Rattle.std.proofs.lemmas.Result.{IfOk-at_ok}
 use Rattle.annotator.specs.Tokens.{TellItems}
 use Rattle.line_joiner.proofs.Agree.{told_within}
-use Rattle.placement_tests.proofs.joined_lines.joined.Goals as goal
+use Rattle.layout_tests.proofs.joined_lines.joined.Goals as goal
 
 pub join-requires-clause-within : goal.join-requires-clause-within
 join-requires-clause-within g c =

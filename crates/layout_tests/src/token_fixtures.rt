@@ -1,4 +1,4 @@
-//! Named styles, tokens by their roles, and steps from one token to the next.
+//! Tokens by their roles, and steps from one token to the next.
 
 ghost use Rattle.style_table.specs.Range.{IsInRange};
 
@@ -7,13 +7,6 @@ use line_state::{State, allowed, step};
 use line_tokens::{Fixed, GapFacts, ItemKind, LineTok, Role, TokenId};
 use std::process::Abort;
 use style_table::Style;
-
-/// The style of this name.
-pub fn style(rt: &impl Abort, name: &str) -> Style
-    ensures { IsInRange result }
-{
-    Style::named(name).expect(rt, "a style")
-}
 
 /// A token of this role, depth and width, behind a blank. An operator binds as `||` does.
 pub fn token(role: Role, depth: u32, width: u32) -> LineTok {
@@ -59,15 +52,4 @@ pub fn step_by(
     holds(rt, "few tokens", state.index < 4_294_967_295);
     holds(rt, "a cost of these tokens", state.cost <= most);
     Some(step(style, state, left, right, fixed, brk).expect(rt, "a state"))
-}
-
-/// How many of these hold.
-pub fn count_of(flags: &[bool]) -> u32 {
-    let mut count: u32 = 0;
-    for flag in flags {
-        if *flag {
-            count = count.saturating_add(1);
-        }
-    }
-    count
 }

@@ -1,6 +1,6 @@
 use Rattle.std.proofs.Common.{◌≡◌, ◌<◌, ◌≤◌, ℕ, zero, suc, [], ◌∷◌, get_or, length, arith}
 use Rattle.std.proofs.lemmas.Result.{IfOk-at_ok}
-use Rattle.placement_tests.proofs.joined_lines.has_rows_around.Goals as goal
+use Rattle.layout_tests.proofs.joined_lines.has_rows_around.Goals as goal
 
 within : (n : ℕ) → 7 ≤ n → (k d : ℕ) → k < 3 → get_or (0 ∷ 1 ∷ 6 ∷ []) k d < n
 within n h zero d few = omega arith
