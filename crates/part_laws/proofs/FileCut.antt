@@ -3,7 +3,6 @@ use Rattle.std.proofs.Common.{◌≡◌, ◌∙◌, ℕ, zero, suc, ◌+◌, ◌
 use Rattle.std.specs.Prelude.{slice_get}
 use Rattle.std.proofs.lemmas.Bool.{and_parts, lt-ltb}
 use Rattle.token_classes.specs.Classes.{is_word, is_open_round, is_close_round}
-use Rattle.view_parts.specs.declared.walk.Before.TheVariants.{Between}
 use Rattle.unwrapped_lines.specs.declared.token.CodeToken.{CodeToken}
 use Rattle.unwrapped_lines.specs.declared.line.Line.{Line}
 use Rattle.unwrapped_lines.specs.declared.braces.Braces.{Braces}
@@ -15,6 +14,7 @@ use Rattle.unwrapped_lines.specs.declared.form.Next.TheVariants.{Ends, Goes, Wai
 use Rattle.unwrapped_lines.specs.Forms.{class_of, class_at, partner_of, partner_in, within, form_of}
 use Rattle.unwrapped_lines.specs.Tree.{lines_from, end_level_from, line_of, head_lines, lines_of, end_level}
 use Rattle.unwrapped_lines.proofs.StackLemmas.{from_end}
+use Rattle.part_laws.specs.Declarations.{Between}
 use Rattle.part_laws.proofs.CodeCut.{ArePaired, BeginsWord, file_up_to, ArePassed}
 use Rattle.part_laws.proofs.WaySteps.{EndsBeforeWord, way_longer}
 use Rattle.part_laws.proofs.FormsAlike.{Stand, Leaves, fresh_at, form_alike}

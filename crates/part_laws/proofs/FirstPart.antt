@@ -1,4 +1,4 @@
--- What a first part is: its brackets are closed, its last token is a `;` or a `}`, and comments and a word that began their lines follow it.
+-- What a first part is, up to the first end of declarations: its brackets are closed, its last token is a `;` or a `}`, and comments and a word that began their lines follow it.
 use Rattle.std.proofs.Common.{◌≡◌, ◌∙◌, ◌⊎◌, inl, inr, ℕ, ◌+◌, Bool, true, false, not, ◌&&◌, ◌||◌, Option, Some, None, List, [], ◌∷◌, ◌++◌, length, take, drop, refl, sym, ap, subst, arith}
 use Rattle.std.specs.Prelude.{if◌then◌else◌}
 use Rattle.std.proofs.Math.Seq.{take-append_seam, drop-append_seam}
@@ -9,14 +9,17 @@ use Rattle.token_classes.specs.Classes.{is_comment, is_word, is_open_round, is_o
 use Rattle.token_classes.specs.Viewed.{item_class, classes_of}
 use Rattle.token_classes.specs.declared.pairing.Opener.{Opener}
 use Rattle.token_classes.specs.Partners.{Matching, Nearest, is_brace, is_round, is_square, nearest_brace, topmost, closed}
-use Rattle.view_parts.specs.declared.walk.Before.{Before}
-use Rattle.view_parts.specs.declared.walk.Before.TheVariants.{Name, Parameters, Body, Between, Other}
-use Rattle.view_parts.specs.declared.walk.Reading.TheVariants.{Ends, Never, GoesOn}
-use Rattle.view_parts.specs.declared.walk.Walk.{Walk}
-use Rattle.view_parts.specs.Walk.{start, is_end, is_between, behind_group, behind, asked_behind, asked_at, ends_or, is_lost, outside, inside}
-use Rattle.view_parts.specs.Parts.{waiting_behind, is_open, next_end}
-use Rattle.view_parts.proofs.Walked.{by_reading}
+use Rattle.part_laws.specs.Declarations.{Before, Name, Parameters, Body, Between, Other, Reading, Ends, Never, GoesOn, Walk, start, is_end, is_between, behind_group, behind, asked_behind, asked_at, ends_or, is_lost, outside, inside, waiting_behind, is_open, next_end}
 use Rattle.part_laws.specs.LinesCut.{IsFirstPart}
+
+-- what comes of a list of items whose first is read so
+abbrev pub by_reading : Contents → List Opener → List ℕ → Reading → Option ℕ
+by_reading arena waiting ids read =
+    elim read [
+      | Ends count ↦ Some count
+      | Never ↦ None
+      | GoesOn next ↦ next_end arena next waiting ids
+    ]
 
 -- the openers that wait behind these tokens, the first of which stands at this place
 abbrev pub waiting_from : ℕ → List Opener → List TokenClass → List Opener

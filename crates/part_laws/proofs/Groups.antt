@@ -9,12 +9,9 @@ use Rattle.token_classes.specs.Classes.{is_comment}
 use Rattle.token_classes.specs.Viewed.{item_class, classes_of}
 use Rattle.token_classes.specs.declared.pairing.Opener.{Opener}
 use Rattle.token_classes.specs.Partners.{Matching, Nearest, is_brace, is_round, is_square, nearest_brace, topmost, closed, bracket_step, paired, TakesStep, matching_from}
-use Rattle.view_parts.specs.declared.walk.Walk.{Walk}
-use Rattle.view_parts.specs.Walk.{inside, reading}
-use Rattle.view_parts.specs.Parts.{waiting_behind, is_open, next_end}
-use Rattle.view_parts.proofs.Walked.{by_reading, waits}
-use Rattle.part_laws.proofs.WalkAgrees.{matching}
-use Rattle.part_laws.proofs.FirstPart.{IsUnasked, IsSound, inside_sound, ended}
+use Rattle.part_laws.specs.Declarations.{Walk, inside, reading, waiting_behind, is_open, next_end}
+use Rattle.part_laws.proofs.WalkAgrees.{matching, waits}
+use Rattle.part_laws.proofs.FirstPart.{by_reading, IsUnasked, IsSound, inside_sound, ended}
 use Rattle.part_laws.proofs.Choices.{either}
 use Rattle.part_laws.proofs.Places.{set_other, set_same}
 

@@ -7,7 +7,7 @@ use Rattle.token_classes.specs.declared.class.TokenClass.TheVariants.{OpenRound,
 use Rattle.token_classes.specs.declared.pairing.Opener.{Opener}
 use Rattle.token_classes.specs.Partners.{Matching, Nearest, is_brace, is_round, is_square, nearest_brace, topmost, closed, bracket_step, matching_from, partners_of, StandBefore, opened}
 use Rattle.token_classes.proofs.BracketLemmas.{more, Low, nearest_low, topmost_low}
-use Rattle.view_parts.specs.Parts.{waiting_behind}
+use Rattle.part_laws.specs.Declarations.{waiting_behind}
 use Rattle.part_laws.specs.LinesCut.{partner_behind}
 use Rattle.part_laws.proofs.FirstPart.{waiting_from}
 

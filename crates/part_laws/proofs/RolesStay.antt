@@ -1,4 +1,4 @@
--- The roles of a view are those of its parts.
+-- The roles of a view are those of what stands between the ends of its declarations, its parts.
 use Rattle.std.proofs.Common.{◌≡◌, ◌∙◌, ◌==◌, ℕ, zero, suc, ◌+◌, ◌-◌, ◌<◌, ◌≤◌, Bool, true, false, not, ◌&&◌, ◌||◌, nat_lt, Option, Some, None, List, [], ◌∷◌, ◌++◌, length, get_or, take, drop, refl, sym, ap, subst, arith, inl, inr, ◌⊎◌}
 use Rattle.std.specs.Prelude.{if◌then◌else◌, slice_range}
 use Rattle.std.proofs.lemmas.Bool.{and_from, le-ltb, lt-ltb, ltb-false}
@@ -15,13 +15,12 @@ use Rattle.token_classes.specs.declared.class.TokenClass.{TokenClass}
 use Rattle.token_classes.specs.declared.class.TokenClass.TheVariants.{Nothing, LineComment, BlockComment}
 use Rattle.token_classes.specs.Classes.{is_comment, is_word}
 use Rattle.token_classes.specs.Viewed.{AreWithin, item_class, classes_of}
-use Rattle.view_parts.specs.Walk.{start}
-use Rattle.view_parts.specs.Parts.{next_end, or_all, part_len, ends_from}
 use Rattle.unwrapped_lines.proofs.Started.{lines_cut_views}
 use Rattle.annotator.specs.declared.mark.Mark.{Mark}
 use Rattle.annotator.specs.Tokens.{stands_apart, roles_of, toks_from, toks_of_items}
 use Rattle.annotator.specs.View.{marks_of}
 use Rattle.annotator.proofs.Told.{as_many_toks}
+use Rattle.part_laws.specs.Declarations.{start, next_end, or_all, first_len, ends_from}
 use Rattle.part_laws.specs.LinesCut.{IsFirstPart, partners_in}
 use Rattle.unwrapped_lines.specs.Lines.{lines_of_items}
 use Rattle.part_laws.proofs.FirstPart.{closes_part, last_of, Follows, IsEnded, first_part, has_first}
@@ -168,7 +167,7 @@ none_left : (n : ℕ) (arena : Contents) (ids : List ℕ) (first : ℕ) → leng
 none_left zero arena ids first past = refl
 none_left (suc n) arena ids first past =
     let none : nat_lt first (length ids) ≡ false = le-ltb first (length ids) past in
-    ap (λ (b : Bool). if b then (first + part_len arena (drop first ids)) ∷ ends_from n arena ids (first + part_len arena (drop first ids)) else []) none
+    ap (λ (b : Bool). if b then (first + first_len arena (drop first ids)) ∷ ends_from n arena ids (first + first_len arena (drop first ids)) else []) none
 
 -- no token stands there
 nothing_left : (style : Style) (arena : Contents) (ids : List ℕ) (first : ℕ) (apart : Bool) → length ids ≤ first → with_first_apart apart (toks_of_items style arena (drop first ids)) ≡ []
@@ -208,7 +207,7 @@ rest_of_parts (suc n) style arena ids first within inside enough =
         (on (first + count) (omega (arith, few.0)) (omega (arith, few.1, length-drop first ids, inside)))
 
     by_here : (here : Bool) → nat_lt first (length ids) ≡ here → ((end : ℕ) → first < end → end ≤ length ids → IsTold style arena ids end (ends_from n arena ids end))
-        → IsTold style arena ids first (if here then (first + part_len arena (drop first ids)) ∷ ends_from n arena ids (first + part_len arena (drop first ids)) else [])
+        → IsTold style arena ids first (if here then (first + first_len arena (drop first ids)) ∷ ends_from n arena ids (first + first_len arena (drop first ids)) else [])
     by_here true is on = by_end (next_end arena start [] (drop first ids)) refl on
     by_here false is on = nothing_left style arena ids first (stands_apart ids first) (ltb-false first (length ids) is)
 

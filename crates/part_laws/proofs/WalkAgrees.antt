@@ -5,11 +5,8 @@ use Rattle.token_classes.specs.declared.class.TokenClass.{TokenClass}
 use Rattle.token_classes.specs.declared.class.TokenClass.TheVariants.{OpenRound, OpenSquare, OpenBrace, LineComment, BlockComment}
 use Rattle.token_classes.specs.Classes.{is_opener, is_open_brace, is_semicolon, is_plain, is_assigning, is_comment}
 use Rattle.token_classes.specs.declared.pairing.Opener.{Opener}
-use Rattle.token_classes.specs.Partners.{Matching, bracket_step}
-use Rattle.view_parts.specs.declared.walk.Before.{Before}
-use Rattle.view_parts.specs.declared.walk.Before.TheVariants.{Name, Parameters, Semicolon, Body, Between, Other}
-use Rattle.view_parts.specs.declared.walk.Walk.{Walk}
-use Rattle.view_parts.specs.Walk.{behind_group, behind, is_end, is_between}
+use Rattle.token_classes.specs.Partners.{Matching, TakesStep, bracket_step}
+use Rattle.part_laws.specs.Declarations.{Before, Name, Parameters, Semicolon, Body, Between, Other, Walk, behind_group, behind, is_end, is_between, waiting_behind}
 use Rattle.part_laws.proofs.CodeCut.{behind_opener, behind_code, assigned_behind}
 use Rattle.part_laws.proofs.Choices.{never}
 
@@ -106,6 +103,10 @@ comment_assigns_nothing assigned _ comment = absurd (never comment)
 -- these openers wait, and these partners were found
 abbrev pub matching : List Opener → List (Option ℕ) → Matching
 matching waiting partners = record { open_brackets = waiting; partners = partners }
+
+pub waits : (class : TokenClass) (place : ℕ) (old new : List Opener) (taken : Option ℕ) → TakesStep class place old taken new
+    → new ≡ waiting_behind class place old
+waits class place old new taken step = ap (λ (m : Matching). m.open_brackets) (step [])
 
 pub opener_waits : (class : TokenClass) (place : ℕ) (partners : List (Option ℕ)) → is_opener class ≡ true
     → bracket_step class place (matching [] partners) ≡ matching (record { place = place; kind = class } ∷ []) partners

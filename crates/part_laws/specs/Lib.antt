@@ -1,3 +1,4 @@
+pub mod Declarations
 pub mod LinesCut
 pub mod RolesCut
 pub mod Parts

@@ -1,5 +1,7 @@
-//! Lines and roles are told part by part: what a part's are depends on its own items alone.
+//! Lines and roles of declarations depend on their own items alone.
 //!
+//! A part of a view is, in this crate, what stands between two places behind declarations of the file, where the next
+//! one begins on a line of its own (`specs/Declarations.antt`): whole declarations, whose bodies are never cut.
 //! [`partners_stay`] and [`lines_stay`] carry the laws of partners of brackets and of lines, [`tells_parts`] and
 //! [`roles_stay`] those of roles.
 #![tactic(auto)]

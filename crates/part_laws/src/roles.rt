@@ -1,8 +1,8 @@
-//! The roles of a view are those of its parts.
+//! The roles of a view that is cut behind declarations are those of its parts.
 //!
-//! [`tells_parts`] carries the law of a cut: what is told of a part by itself is told of it in the view. [`roles_stay`]
-//! carries that of all parts of a view: such cuts are where they end. They stand on the contracts of functions that do
-//! nothing.
+//! [`tells_parts`] carries the law of a cut: what is told of either side by itself is told of it in the view.
+//! [`roles_stay`] carries that of all that stands between the ends of declarations: such cuts are there. They stand on
+//! the contracts of functions that do nothing.
 
 ghost use Rattle.part_laws.specs.RolesCut.{TellsParts};
 ghost use Rattle.part_laws.specs.Parts.{RolesStay};
@@ -13,8 +13,9 @@ pub fn tells_parts()
     ensures { TellsParts }
 {}
 
-/// The tokens of a view are those of each of its parts by itself, one part behind another, but that the view tells
-/// whether a directive stands before a part.
+/// The tokens of a view are those of what stands between the ends of its declarations, each by itself, one behind
+/// another, but that the view tells whether a directive stands before it. Such an end is one behind which the next
+/// declaration begins on a line of its own.
 pub fn roles_stay()
     ensures { RolesStay }
 {}
