@@ -172,3 +172,22 @@ in_order low (id ∷ ids) zero (suc k) increase order below = (let least = at_le
     at_least low (id ∷ ids) (suc k) increase below = (let rest = at_least (id + 1) ids k increase.1 (omega (arith, below)) in omega (arith, rest, increase.0))
 in_order low (id ∷ ids) (suc j) zero increase order below = absurd (omega (arith, order))
 in_order low (id ∷ ids) (suc j) (suc k) increase order below = in_order (id + 1) ids j k increase.1 (omega (arith, order)) (omega (arith, below))
+
+-- ## They increase too
+
+pub looser : (low lower : ℕ) (ids : List ℕ) → lower ≤ low → IncreaseFrom low ids → IncreaseFrom lower ids
+looser low lower [] order increase = tt
+looser low lower (id ∷ ids) order increase = (omega (arith, order, increase.0), increase.1)
+
+pub between_increases : (low first end : ℕ) (ids : List ℕ) → IncreaseFrom low ids → IncreaseFrom low (items_between first end ids)
+between_increases low first end [] increase = tt
+between_increases low first end (id ∷ ids) increase =
+    let rest = between_increases (id + 1) first end ids increase.1 in
+    let later = looser (id + 1) low (items_between first end ids) (omega (arith, increase.0)) rest in
+    elim (before_or_behind id first) [
+      | inl before ↦ subst (λ (xs : List ℕ). IncreaseFrom low xs) (sym (between_before first end id ids before)) later
+      | inr low_is ↦ elim (before_or_behind id end) [
+        | inl inside ↦ subst (λ (xs : List ℕ). IncreaseFrom low xs) (sym (between_in first end id ids low_is inside)) (increase.0, rest)
+        | inr past ↦ subst (λ (xs : List ℕ). IncreaseFrom low xs) (sym (between_behind first end id ids past)) later
+      ]
+    ]

@@ -1,147 +1,134 @@
 -- Where parts of a view end, as its first items tell.
-use Rattle.std.proofs.Common.{◌≡◌, ◌∙◌, ◌⊎◌, inl, inr, ℕ, zero, suc, ◌+◌, ◌-◌, ◌<◌, ◌≤◌, Bool, Option, Some, None, List, [], ◌∷◌, ◌++◌, length, length-append, append_assoc, get_or, take, drop, refl, sym, ap, subst, arith}
-use Rattle.std.specs.Prelude.{if◌then◌else◌}
+use Rattle.std.proofs.Common.{◌≡◌, ◌∙◌, ◌⊎◌, inl, inr, ℕ, zero, suc, ◌+◌, ◌-◌, ◌<◌, ◌≤◌, Option, Some, None, List, [], ◌∷◌, ◌++◌, length, length-append, append_assoc, get_or, take, drop, refl, sym, ap, subst, arith}
 use Rattle.std.proofs.Math.Seq.{take-append_seam}
-use Rattle.std.proofs.lemmas.Bool.{lt-ltb}
 use Rattle.std.proofs.lemmas.List.{append-nil, length-drop, length-take, get_or-append-add, get_or_append_left, get_or-take}
 use Rattle.token_arena.specs.Gaps.{Contents}
 use Rattle.token_classes.specs.Viewed.{item_class}
 use Rattle.token_arena.specs.Ids.{Increase, IncreaseFrom}
 use Rattle.token_classes.specs.declared.pairing.Opener.{Opener}
 use Rattle.branch_runs.specs.Anew.{items_between}
-use Rattle.view_parts.specs.declared.walk.Reading.{Reading}
-use Rattle.view_parts.specs.declared.walk.Reading.TheVariants.{Ends, Never, GoesOn}
+use Rattle.view_parts.specs.declared.walk.BodyPlace.{BodyPlace}
+use Rattle.view_parts.specs.declared.walk.Ended.{Ended}
 use Rattle.view_parts.specs.declared.walk.Walk.{Walk}
 use Rattle.view_parts.specs.Walk.{start, reading}
-use Rattle.view_parts.specs.Parts.{waiting_behind, is_open, next_end, or_all, part_len, ends_from, part_ends, FollowUpTo, ArePartsUpTo}
+use Rattle.view_parts.specs.Parts.{PartStop, around_of, count_or, end_of_part, waiting_at, waiting_behind, next_end, part_len, stop_from, FollowUpTo, ArePartsUpTo}
+use Rattle.view_parts.specs.Reading.{Reading, Ends, Never, GoesOn}
 use Rattle.view_parts.specs.Told.{TellParts}
+use Rattle.view_parts.proofs.InOrder.{len_fits}
 use Rattle.view_parts.proofs.Walked.{by_reading}
-use Rattle.view_parts.proofs.InOrder.{AreEnds, ends_cut}
 use Rattle.format_core.specs.declared.bounds.KnownBound.{KnownBound}
 use Rattle.format_core.specs.Bounds.{BeginTold, IsBound, AreBounds, no_bound}
 use Rattle.format_core.proofs.Between.{items_from, view_cut, front_cut, front_agrees, first_between, in_order, between_in, none_between, none_first}
 use Rattle.format_core.proofs.RowsPassed.{follow_order}
 
-pub nothing_told : (arena : Contents) → BeginTold arena [] 0
-nothing_told arena rest = record { ends = []; follow = refl }
+-- where a part of a view ends so
+abbrev pub stop_at : ℕ → Option BodyPlace → PartStop
+stop_at end inside = record { end = end; inside = inside }
+
+pub nothing_told : (arena : Contents) → BeginTold arena [] 0 None
+nothing_told arena rest = record { stops = []; follow = refl }
 
 -- before the first item no part ends
-pub starts_bound : (arena : Contents) (view : List ℕ) → IsBound arena view 0 0
+pub starts_bound : (arena : Contents) (view : List ℕ) → IsBound arena view 0 0 None
 starts_bound arena view = record {
   order = omega arith;
-  begin = subst (λ (xs : List ℕ). BeginTold arena xs (length xs)) (sym (none_first view)) (nothing_told arena);
+  begin = subst (λ (xs : List ℕ). BeginTold arena xs (length xs) None) (sym (none_first view)) (nothing_told arena);
 }
 
 -- it is so in a view that has the same items before those
-pub bound_stays : (arena : Contents) (view next : List ℕ) (item told first : ℕ) → told ≤ first → items_between 0 first next ≡ items_between 0 first view → IsBound arena view item told → IsBound arena next item told
-bound_stays arena view next item told first low same bound =
+pub bound_stays : (arena : Contents) (view next : List ℕ) (item told : ℕ) (inside : Option BodyPlace) (first : ℕ) → told ≤ first → items_between 0 first next ≡ items_between 0 first view → IsBound arena view item told inside
+    → IsBound arena next item told inside
+bound_stays arena view next item told inside first low same bound =
     let is : items_between 0 told view ≡ items_between 0 told next = sym (front_agrees told first next view low same) in
     let at : items_between 0 item view ≡ items_between 0 item next = front_agrees item told view next bound.order is in
-    record { order = bound.order; begin = subst (λ (xs : List ℕ). BeginTold arena xs (length (items_between 0 item next))) is (subst (λ (xs : List ℕ). BeginTold arena (items_between 0 told view) (length xs)) at bound.begin) }
+    record {
+      order = bound.order;
+      begin = subst (λ (xs : List ℕ). BeginTold arena xs (length (items_between 0 item next)) inside) is (subst (λ (xs : List ℕ). BeginTold arena (items_between 0 told view) (length xs) inside) at bound.begin);
+    }
 
 -- what the first items tell is so in the view
-pub parts_of_told : (arena : Contents) (view : List ℕ) (told last : ℕ) → Increase view → BeginTold arena (items_between 0 told view) last → ArePartsUpTo arena view 0 last
-parts_of_told arena view told last increase begin = subst (λ (xs : List ℕ). ArePartsUpTo arena xs 0 last) (sym (view_cut told view increase)) (begin (items_from told view))
+pub parts_of_told : (arena : Contents) (view : List ℕ) (told last : ℕ) (inside : Option BodyPlace) → Increase view → BeginTold arena (items_between 0 told view) last inside → ArePartsUpTo arena view None 0 (stop_at last inside)
+parts_of_told arena view told last inside increase begin = subst (λ (xs : List ℕ). ArePartsUpTo arena xs None 0 (stop_at last inside)) (sym (view_cut told view increase)) (begin (items_from told view))
 
 -- ## Parts behind parts
 
-follow_both : (arena : Contents) (view : List ℕ) (first middle last : ℕ) (ends later : List ℕ) → FollowUpTo arena view first middle ends → FollowUpTo arena view middle last later → FollowUpTo arena view first last (ends ++ later)
-follow_both arena view first middle last [] later follow behind = subst (λ k. FollowUpTo arena view k last later) (sym follow) behind
-follow_both arena view first middle last (end ∷ ends) later follow behind = (follow.0, follow.1, follow.2, follow_both arena view end middle last ends later follow.3 behind)
+follow_both : (arena : Contents) (view : List ℕ) (begins : Option BodyPlace) (first : ℕ) (middle last : PartStop) (stops later : List PartStop) → FollowUpTo arena view begins first middle stops
+    → FollowUpTo arena view middle.inside middle.end last later → FollowUpTo arena view begins first last (stops ++ later)
+follow_both arena view begins first middle last [] later follow behind = subst (λ (s : PartStop). FollowUpTo arena view s.inside s.end last later) (sym follow) behind
+follow_both arena view begins first middle last (stop ∷ stops) later follow behind = (follow.0, follow.1, follow.2, follow_both arena view stop.inside stop.end middle last stops later follow.3 behind)
 
-pub parts_joined : (arena : Contents) (view : List ℕ) (first middle last : ℕ) → ArePartsUpTo arena view first middle → ArePartsUpTo arena view middle last → ArePartsUpTo arena view first last
-parts_joined arena view first middle last parts later = record { ends = parts.ends ++ later.ends; follow = follow_both arena view first middle last parts.ends later.ends parts.follow later.follow }
-
-ends_upto : (first count : ℕ) (ends : List ℕ) → AreEnds first count ends → first ≤ count
-ends_upto first count [] cut = omega (arith, cut)
-ends_upto first count (end ∷ ends) cut = (let upto = ends_upto end count ends cut.1 in omega (arith, cut.0, upto))
-
-len_fits : (arena : Contents) (ids : List ℕ) → 0 < length ids → (0 < part_len arena ids) × (part_len arena ids ≤ length ids)
-len_fits arena [] some = absurd (omega (arith, some))
-len_fits arena (id ∷ ids) some = (omega (arith, all.0), omega (arith, upto))
-  where
-    count : ℕ
-    count = length (id ∷ ids)
-
-    first : ℕ
-    first = 0 + part_len arena (id ∷ ids)
-
-    later : List ℕ
-    later = ends_from (length ids) arena (id ∷ ids) first
-
-    is : part_ends arena (id ∷ ids) ≡ first ∷ later
-    is = ap (λ (b : Bool). if b then first ∷ later else []) (lt-ltb 0 count some)
-
-    all : AreEnds 0 count (first ∷ later)
-    all = subst (λ (ends : List ℕ). AreEnds 0 count ends) is (ends_cut arena (id ∷ ids))
-
-    upto : first ≤ count
-    upto = ends_upto first count later all.1
+pub parts_joined : (arena : Contents) (view : List ℕ) (begins : Option BodyPlace) (first : ℕ) (middle last : PartStop) → ArePartsUpTo arena view begins first middle → ArePartsUpTo arena view middle.inside middle.end last
+    → ArePartsUpTo arena view begins first last
+parts_joined arena view begins first middle last parts later =
+    record { stops = parts.stops ++ later.stops; follow = follow_both arena view begins first middle last parts.stops later.stops parts.follow later.follow }
 
 -- from any place parts go on up to the end of the view
-pub parts_to_end : (arena : Contents) (view : List ℕ) (first : ℕ) → first ≤ length view → ArePartsUpTo arena view first (length view)
-parts_to_end arena view first inside = by_left (length view - first) first inside (omega arith)
+pub parts_to_end : (arena : Contents) (view : List ℕ) (begins : Option BodyPlace) (first : ℕ) → first ≤ length view → (inside : Option BodyPlace) × ArePartsUpTo arena view begins first (stop_at (length view) inside)
+parts_to_end arena view begins first inside = by_left (length view - first) begins first inside (omega arith)
   where
     here_or_end : (first : ℕ) → first ≤ length view → (first < length view) ⊎ (first ≡ length view)
     here_or_end first inside = grind (arith, inside)
 
-    by_left : (left first : ℕ) → first ≤ length view → length view - first ≤ left → ArePartsUpTo arena view first (length view)
-    by_left zero first inside few = record { ends = []; follow = omega (arith, inside, few) }
-    by_left (suc left) first inside few =
+    at_end : (begins : Option BodyPlace) (first : ℕ) → first ≡ length view → (inside : Option BodyPlace) × ArePartsUpTo arena view begins first (stop_at (length view) inside)
+    at_end begins first at = (begins, record { stops = []; follow = ap (λ n. stop_at n begins) at })
+
+    by_left : (left : ℕ) (begins : Option BodyPlace) (first : ℕ) → first ≤ length view → length view - first ≤ left → (inside : Option BodyPlace) × ArePartsUpTo arena view begins first (stop_at (length view) inside)
+    by_left zero begins first inside few = at_end begins first (omega (arith, inside, few))
+    by_left (suc left) begins first inside few =
         elim (here_or_end first inside) [
           | inl here ↦
-              let fit = len_fits arena (drop first view) (omega (arith, here, length-drop first view)) in
+              let fit = len_fits arena begins (drop first view) (omega (arith, here, length-drop first view)) in
               let some = fit.0 in
               let most = fit.1 in
-              let end = first + part_len arena (drop first view) in
-              let rest = by_left left end (omega (arith, most, here, length-drop first view)) (omega (arith, few, some)) in
-              record { ends = end ∷ rest.ends; follow = (here, omega (arith, some), refl, rest.follow) }
-          | inr at ↦ record { ends = []; follow = at }
+              let stop = stop_from arena view begins first in
+              let rest = by_left left stop.inside stop.end (omega (arith, most, here, length-drop first view)) (omega (arith, few, some)) in
+              (rest.0, record { stops = stop ∷ rest.1.stops; follow = (here, omega (arith, some), refl, rest.1.follow) })
+          | inr at ↦ at_end begins first at
         ]
 
 -- ## One part
 
-next_later : (arena : Contents) (ids rest : List ℕ) (walk : Walk) (waiting : List Opener) (count : ℕ) → next_end arena walk waiting ids ≡ Some count → next_end arena walk waiting (ids ++ rest) ≡ Some count
-next_later arena [] rest walk waiting count is = absurd (none is)
+next_later : (arena : Contents) (ids rest : List ℕ) (walk : Walk) (waiting : List Opener) (ended : Ended) → next_end arena walk waiting ids ≡ Some ended → next_end arena walk waiting (ids ++ rest) ≡ Some ended
+next_later arena [] rest walk waiting ended is = absurd (none is)
   where
-    none : None ≡ Some count → ⊥
+    none : None ≡ Some ended → ⊥
     none e = cc
-next_later arena (id ∷ ids) rest walk waiting count is =
-    by_reads (reading arena walk (is_open waiting) id (item_class arena id)) (λ next. next_later arena ids rest next (waiting_behind (item_class arena id) walk.place waiting) count) is
+next_later arena (id ∷ ids) rest walk waiting ended is =
+    by_reads (reading arena walk (around_of walk.head waiting) id (item_class arena id)) (λ next. next_later arena ids rest next (waiting_behind (item_class arena id) walk.place waiting) ended) is
   where
-    by_reads : (read : Reading) → ((next : Walk) → next_end arena next (waiting_behind (item_class arena id) walk.place waiting) ids ≡ Some count → next_end arena next (waiting_behind (item_class arena id) walk.place waiting) (ids ++ rest) ≡ Some count)
-        → by_reading arena (waiting_behind (item_class arena id) walk.place waiting) ids read ≡ Some count → by_reading arena (waiting_behind (item_class arena id) walk.place waiting) (ids ++ rest) read ≡ Some count
+    by_reads : (read : Reading) → ((next : Walk) → next_end arena next (waiting_behind (item_class arena id) walk.place waiting) ids ≡ Some ended → next_end arena next (waiting_behind (item_class arena id) walk.place waiting) (ids ++ rest) ≡ Some ended)
+        → by_reading arena (waiting_behind (item_class arena id) walk.place waiting) ids read ≡ Some ended → by_reading arena (waiting_behind (item_class arena id) walk.place waiting) (ids ++ rest) read ≡ Some ended
     by_reads (Ends n) on e = e
     by_reads Never on e = absurd (none e)
       where
-        none : None ≡ Some count → ⊥
+        none : None ≡ Some ended → ⊥
         none e = cc
     by_reads (GoesOn next) on e = on next e
 
--- a part whose end is told is as long, whatever follows what tells it
-pub tell_one : (arena : Contents) (told a b : List ℕ) (count : ℕ) → TellParts arena told count → 0 < count → count < length told → part_len arena (told ++ a) ≡ count → part_len arena (told ++ b) ≡ count
-tell_one arena told a b count tell some few is = by_end (next_end arena start [] told) refl
+-- a part whose end is told ends so, whatever follows what tells it
+pub tell_one : (arena : Contents) (begins : Option BodyPlace) (told : List ℕ) (count : ℕ) (inside : Option BodyPlace) → TellParts arena begins told count inside → 0 < count → count < length told
+    → (ended : Ended) × ((rest : List ℕ) → end_of_part arena begins (told ++ rest) ≡ Some ended)
+tell_one arena begins told count inside tell some few = by_end (end_of_part arena begins told) refl
   where
-    none_told : next_end arena start [] told ≡ None → (ends : List ℕ) → FollowUpTo arena (told ++ []) 0 (0 + count) ends → ⊥
-    none_told e [] follow = omega (arith, follow, some)
-    none_told e (end ∷ ends) follow =
-        let upto = follow_order arena (told ++ []) end (0 + count) ends follow.3 in
-        let whole : part_len arena (told ++ []) ≡ length told = ap (λ (xs : List ℕ). part_len arena xs) (append-nil told) ∙ ap (λ (o : Option ℕ). or_all o (length told)) e in
-        omega (arith, upto, follow.2, whole, few)
+    none_told : end_of_part arena begins told ≡ None → (stops : List PartStop) → FollowUpTo arena (told ++ []) begins 0 (stop_at (0 + count) inside) stops → ⊥
+    none_told e [] follow = (let at : 0 ≡ 0 + count = ap (λ (s : PartStop). s.end) follow in omega (arith, at, some))
+    none_told e (stop ∷ stops) follow =
+        let upto = follow_order arena (told ++ []) stop.inside stop.end (stop_at (0 + count) inside) stops follow.3 in
+        let at : stop.end ≡ 0 + part_len arena begins (told ++ []) = ap (λ (s : PartStop). s.end) follow.2 in
+        let whole : part_len arena begins (told ++ []) ≡ length told = ap (λ (xs : List ℕ). part_len arena begins xs) (append-nil told) ∙ ap (λ (o : Option Ended). count_or o (length told)) e in
+        omega (arith, upto, at, whole, few)
 
-    by_end : (end : Option ℕ) → next_end arena start [] told ≡ end → part_len arena (told ++ b) ≡ count
-    by_end None e = absurd (none_told e (tell [] []).ends (tell [] []).follow)
-    by_end (Some n) e =
-        let here : part_len arena (told ++ a) ≡ n = ap (λ (o : Option ℕ). or_all o (length (told ++ a))) (next_later arena told a start [] n e) in
-        let there : part_len arena (told ++ b) ≡ n = ap (λ (o : Option ℕ). or_all o (length (told ++ b))) (next_later arena told b start [] n e) in
-        there ∙ (sym here ∙ is)
+    by_end : (end : Option Ended) → end_of_part arena begins told ≡ end → (ended : Ended) × ((rest : List ℕ) → end_of_part arena begins (told ++ rest) ≡ Some ended)
+    by_end None e = absurd (none_told e (tell [] []).stops (tell [] []).follow)
+    by_end (Some ended) e = (ended, λ rest. next_later arena told rest (start begins) (waiting_at begins) ended e)
 
 -- ## What is told further
 
 -- behind the first items of a view, which tell where parts end, others tell where more do
-pub told_further : (arena : Contents) (before told behind : List ℕ) (was now count : ℕ) → Increase (before ++ (told ++ behind)) → 0 < length told → was ≤ now → get_or told (length told - 1) 0 < now
-    → BeginTold arena (items_between 0 was (before ++ (told ++ behind))) (length before) → TellParts arena told count → BeginTold arena (items_between 0 now (before ++ (told ++ behind))) (length before + count)
-told_further arena before told behind was now count increase some later last begin tell rest =
+pub told_further : (arena : Contents) (before told behind : List ℕ) (begins inside : Option BodyPlace) (was now count : ℕ) → Increase (before ++ (told ++ behind)) → 0 < length told → was ≤ now → get_or told (length told - 1) 0 < now
+    → BeginTold arena (items_between 0 was (before ++ (told ++ behind))) (length before) begins → TellParts arena begins told count inside
+    → BeginTold arena (items_between 0 now (before ++ (told ++ behind))) (length before + count) inside
+told_further arena before told behind begins inside was now count increase some later last begin tell rest =
     let view = before ++ (told ++ behind) in
     let both = before ++ told in
     let n = length both in
@@ -159,11 +146,13 @@ told_further arena before told behind was now count increase some later last beg
     let more = items_between 0 now (drop n view) in
     let whole : items_between 0 now view ++ rest ≡ before ++ (told ++ (more ++ rest)) =
     ap (λ (xs : List ℕ). xs ++ rest) (cut ∙ ap (λ (xs : List ℕ). xs ++ more) front) ∙ (append_assoc both more rest ∙ append_assoc before told (more ++ rest)) in
-    let second : ArePartsUpTo arena (items_between 0 now view ++ rest) (length before) (length before + count) = subst (λ (xs : List ℕ). ArePartsUpTo arena xs (length before) (length before + count)) (sym whole) (tell before (more ++ rest)) in
+    let second : ArePartsUpTo arena (items_between 0 now view ++ rest) begins (length before) (stop_at (length before + count) inside) =
+    subst (λ (xs : List ℕ). ArePartsUpTo arena xs begins (length before) (stop_at (length before + count) inside)) (sym whole) (tell before (more ++ rest)) in
     let early : items_between 0 now view ++ rest ≡ items_between 0 was view ++ (items_between was now view ++ rest) =
     ap (λ (xs : List ℕ). xs ++ rest) (front_cut 0 was now view increase later) ∙ append_assoc (items_between 0 was view) (items_between was now view) rest in
-    let first : ArePartsUpTo arena (items_between 0 now view ++ rest) 0 (length before) = subst (λ (xs : List ℕ). ArePartsUpTo arena xs 0 (length before)) (sym early) (begin (items_between was now view ++ rest)) in
-    parts_joined arena (items_between 0 now view ++ rest) 0 (length before) (length before + count) first second
+    let first : ArePartsUpTo arena (items_between 0 now view ++ rest) None 0 (stop_at (length before) begins) =
+    subst (λ (xs : List ℕ). ArePartsUpTo arena xs None 0 (stop_at (length before) begins)) (sym early) (begin (items_between was now view ++ rest)) in
+    parts_joined arena (items_between 0 now view ++ rest) None 0 (stop_at (length before) begins) (stop_at (length before + count) inside) first second
 
 -- so many items stand before the one at a place
 pub place_of : (low : ℕ) (ids : List ℕ) (place : ℕ) → IncreaseFrom low ids → place < length ids → length (items_between 0 (get_or ids place 0) ids) ≡ place
@@ -185,7 +174,7 @@ place_of low (id ∷ ids) (suc place) increase below =
 pub bounds_left : (arena : Contents) (view : List ℕ) (bounds : List KnownBound) (told n : ℕ) → n ≤ length bounds → AreBounds arena view bounds told
     → AreBounds arena view (take n bounds) (get_or bounds (n - 1) no_bound).told
 bounds_left arena view bounds told n few are = record {
-  each = λ k below. (let short = fits k below in subst (λ (b : KnownBound). IsBound arena view b.item b.told) (sym (get_or-take n bounds k no_bound short)) (are.each k (omega (arith, short, few))));
+  each = λ k below. (let short = fits k below in subst (λ (b : KnownBound). IsBound arena view b.item b.told b.inside) (sym (get_or-take n bounds k no_bound short)) (are.each k (omega (arith, short, few))));
   order = λ j k order below.
       let short = fits k below in
       let a = ap (λ (b : KnownBound). b.told) (get_or-take n bounds j no_bound (omega (arith, order, short))) in
@@ -205,7 +194,7 @@ bounds_left arena view bounds told n few are = record {
 -- they are bounds of a view that has the same items before one that tells none of them
 pub bounds_stay : (arena : Contents) (view next : List ℕ) (bounds : List KnownBound) (told first : ℕ) → told ≤ first → items_between 0 first next ≡ items_between 0 first view → AreBounds arena view bounds told → AreBounds arena next bounds told
 bounds_stay arena view next bounds told first low same are = record {
-  each = λ k below. (let most = are.most k below in bound_stays arena view next (get_or bounds k no_bound).item (get_or bounds k no_bound).told first (omega (arith, most, low)) same (are.each k below));
+  each = λ k below. (let most = are.most k below in bound_stays arena view next (get_or bounds k no_bound).item (get_or bounds k no_bound).told (get_or bounds k no_bound).inside first (omega (arith, most, low)) same (are.each k below));
   order = are.order;
   most = are.most;
 }
@@ -214,12 +203,12 @@ in_or_last : (k n : ℕ) → k < n + 1 → (k < n) ⊎ (k ≡ n)
 in_or_last k n below = grind (arith, below)
 
 -- and one more
-pub bound_noted : (arena : Contents) (view : List ℕ) (bounds : List KnownBound) (told : ℕ) (bound : KnownBound) → told ≤ bound.told → IsBound arena view bound.item bound.told → AreBounds arena view bounds told
+pub bound_noted : (arena : Contents) (view : List ℕ) (bounds : List KnownBound) (told : ℕ) (bound : KnownBound) → told ≤ bound.told → IsBound arena view bound.item bound.told bound.inside → AreBounds arena view bounds told
     → AreBounds arena view (bounds ++ (bound ∷ [])) bound.told
 bound_noted arena view bounds told bound later is are = record {
   each = λ k below. elim (in_or_last k (length bounds) (short k below)) [
-    | inl inside ↦ subst (λ (b : KnownBound). IsBound arena view b.item b.told) (sym (early k inside)) (are.each k inside)
-    | inr last ↦ subst (λ (b : KnownBound). IsBound arena view b.item b.told) (sym (late k last)) is
+    | inl inside ↦ subst (λ (b : KnownBound). IsBound arena view b.item b.told b.inside) (sym (early k inside)) (are.each k inside)
+    | inr last ↦ subst (λ (b : KnownBound). IsBound arena view b.item b.told b.inside) (sym (late k last)) is
   ];
   order = λ j k order below. elim (in_or_last k (length bounds) (short k below)) [
     | inl inside ↦

@@ -1,13 +1,16 @@
 -- A run from a bound on, up to behind what is new in it.
-use Rattle.std.proofs.Common.{ℕ, ◌<◌, ◌≤◌, Option, List, length, get_or, refl, arith}
-use Rattle.std.specs.Prelude.{IsSome}
+use Rattle.std.proofs.Common.{◌∙◌, ℕ, ◌+◌, ◌<◌, ◌≤◌, Option, None, List, length, drop, get_or, refl, sym, subst, arith}
+use Rattle.std.specs.Prelude.{All, IsSome}
+use Rattle.std.specs.Option.{ForSome}
 use Rattle.std.specs.List.{Contains}
-use Rattle.std.proofs.lemmas.List.{get_or_default}
+use Rattle.std.proofs.lemmas.List.{get_or-drop, get_or_default, length-drop}
 use Rattle.style_table.specs.declared.style.Style.{Style}
 use Rattle.token_arena.specs.Gaps.{Contents}
 use Rattle.token_arena.specs.Ids.{Increase}
 use Rattle.branch_runs.specs.Anew.{items_between}
-use Rattle.view_parts.specs.Parts.{part_ends}
+use Rattle.view_parts.specs.declared.walk.BodyPlace.{BodyPlace}
+use Rattle.view_parts.specs.Parts.{StandsBefore, items_before, part_ends, part_inside, part_len}
+use Rattle.view_parts.proofs.InBodies.{stands_before}
 use Rattle.replacements.specs.declared.slot.Slot.{Slot}
 use Rattle.replacements.specs.Decisions.{slot_of}
 use Rattle.run_layout.specs.declared.report.Tally.{Tally}
@@ -16,9 +19,11 @@ use Rattle.format_core.specs.Bounds.{BeginTold}
 use Rattle.format_core.specs.PartByPart.{GoesOnFrom}
 use Rattle.format_core.specs.RunsTold.{AreSeenTold}
 use Rattle.format_core.proofs.Between.{between_has}
-use Rattle.format_core.proofs.FirstParts.{parts_of_told, parts_to_end}
+use Rattle.format_core.proofs.FirstParts.{parts_of_told, parts_to_end, stop_at}
+use Rattle.format_core.proofs.Parts.{all_decided_of}
 use Rattle.format_core.proofs.PartsTold.{from_begin, from_end}
-use Rattle.format_core.proofs.RowsPassed.{AreDecidedUpTo, from_parts}
+use Rattle.format_core.proofs.PlacesStand.{IsPlaced, next_has, placed_behind, placed_decided, placed_outside, rest_increases, stands_in_rest}
+use Rattle.format_core.proofs.RowsPassed.{AreDecidedUpTo, TellDecided, from_outside, from_parts}
 use Rattle.format_core.proofs.RunsTold.{all_seen}
 use Rattle.format_core.proofs.Stretches.{front_short, front_item}
 
@@ -38,24 +43,58 @@ front_decided plan ids end increase all = λ k low high.
     all (get_or ids k 0) (omega (arith, is, has)) (k, below, get_or_default ids k (get_or ids k 0) 0 below)
 
 -- the parts before a bound tell nothing, where all before it is decided
-pub from_bound : (style : Style) (budget : ℕ) (arena : Contents) (run : ℕ) (plan : List (Option Slot)) (ids : List ℕ) (tally : Tally) (item told : ℕ) → Increase ids
-    → BeginTold arena (items_between 0 told ids) (length (items_between 0 item ids)) → AreDecidedBefore plan ids item
-    → GoesOnFrom style budget arena run plan ids tally plan (length (items_between 0 item ids)) tally
-from_bound style budget arena run plan ids tally item told increase begin all =
+pub from_bound : (style : Style) (budget : ℕ) (arena : Contents) (run : ℕ) (plan : List (Option Slot)) (ids : List ℕ) (tally : Tally) (item told : ℕ) (inside : Option BodyPlace) → Increase ids
+    → BeginTold arena (items_between 0 told ids) (length (items_between 0 item ids)) inside → AreDecidedBefore plan ids item
+    → GoesOnFrom style budget arena run plan ids tally plan inside (length (items_between 0 item ids)) tally
+from_bound style budget arena run plan ids tally item told inside increase begin all =
     let place = length (items_between 0 item ids) in
-    let parts = parts_of_told arena ids told place increase begin in
-    from_parts style budget arena run plan ids tally tally plan 0 place parts.ends (front_decided plan ids item increase all) parts.follow (from_begin style budget arena run plan ids tally)
+    let parts = parts_of_told arena ids told place inside increase begin in
+    from_outside style budget arena run plan ids tally tally plan 0 (stop_at place inside) increase parts (front_decided plan ids item increase all) (from_begin style budget arena run plan ids tally)
+
+-- what stands for the place where it is stands before it
+pub bound_placed : (arena : Contents) (ids : List ℕ) (item told : ℕ) (inside : Option BodyPlace) → Increase ids → BeginTold arena (items_between 0 told ids) (length (items_between 0 item ids)) inside
+    → IsPlaced ids 0 inside (length (items_between 0 item ids))
+bound_placed arena ids item told inside increase begin =
+    let place = length (items_between 0 item ids) in
+    let parts = parts_of_told arena ids told place inside increase begin in
+    placed_behind arena ids 0 None 0 (stop_at place inside) parts.stops increase parts.follow (placed_outside ids 0)
+
+-- so it is decided
+pub bound_decided : (arena : Contents) (plan : List (Option Slot)) (ids : List ℕ) (item told : ℕ) (inside : Option BodyPlace) → Increase ids → BeginTold arena (items_between 0 told ids) (length (items_between 0 item ids)) inside
+    → AreDecidedBefore plan ids item → All (λ id. IsSome (slot_of plan id)) (items_before inside)
+bound_decided arena plan ids item told inside increase begin all =
+    placed_decided plan ids 0 inside (length (items_between 0 item ids)) increase (bound_placed arena ids item told inside increase begin) (front_decided plan ids item increase all)
 
 -- the parts behind what is new tell nothing
-pub behind_new : (style : Style) (budget : ℕ) (arena : Contents) (run : ℕ) (plan : List (Option Slot)) (ids : List ℕ) (before now : Tally) (here : List (Option Slot)) (first new : ℕ) → first ≤ length ids
-    → ((k : ℕ) → first ≤ k → k < length ids → new ≤ get_or ids k 0) → AreDecidedFrom plan ids new → GoesOnFrom style budget arena run plan ids before here first now
-    → AreSeenTold style budget arena run plan ids here before now
-behind_new style budget arena run plan ids before now here first new inside behind all on =
-    let some : AreDecidedUpTo here ids first (length ids) =
-    λ k low high.
-    let id = get_or ids k 0 in
-    let was = decided-is_some plan id (all id (behind k low high) (k, high, get_or_default ids k id 0 high)) in
-    is_some-decided here id (was.0, on.stays id was.0 was.1) in
-    let parts = parts_to_end arena ids first inside in
-    let last = from_parts style budget arena run plan ids before now here first (length ids) parts.ends some parts.follow on in
-    all_seen style budget arena run plan ids ids (part_ends arena ids) here before now refl refl (from_end style budget arena run plan ids before now here (length ids) (omega arith) last)
+pub behind_new : (style : Style) (budget : ℕ) (arena : Contents) (run : ℕ) (plan : List (Option Slot)) (ids : List ℕ) (before now : Tally) (here : List (Option Slot)) (begins : Option BodyPlace) (first new : ℕ) → first ≤ length ids
+    → ((k : ℕ) → first ≤ k → k < length ids → new ≤ get_or ids k 0) → AreDecidedFrom plan ids new → All (λ id. IsSome (slot_of here id)) (items_before begins)
+    → ForSome begins (λ place. StandsBefore place (get_or ids first 0)) → Increase ids → GoesOnFrom style budget arena run plan ids before here begins first now → AreSeenTold style budget arena run plan ids here before now
+behind_new style budget arena run plan ids before now here begins first new inside behind all place stands increase on =
+    let parts = parts_to_end arena ids begins first inside in
+    let last = from_parts style budget arena run plan ids before now here begins first (stop_at (length ids) parts.0) parts.1.stops Q tell (omega arith, place, stands) some parts.1.follow on in
+    all_seen style budget arena run plan ids ids (part_ends arena ids) here before now refl refl (from_end style budget arena run plan ids before now here parts.0 (length ids) (omega arith) last)
+  where
+    some : AreDecidedUpTo here ids first (length ids)
+    some k low high =
+        let id = get_or ids k 0 in
+        let was = decided-is_some plan id (all id (behind k low high) (k, high, get_or_default ids k id 0 high)) in
+        is_some-decided here id (was.0, on.stays id was.0 was.1)
+
+    Q : Option BodyPlace → ℕ → Type 0
+    Q begins at = (first ≤ at) × All (λ id. IsSome (slot_of here id)) (items_before begins) × ForSome begins (λ place. StandsBefore place (get_or ids at 0))
+
+    rest : (at : ℕ) → first ≤ at → All (λ id. IsSome (slot_of here id)) (drop at ids)
+    rest at low = λ k d below.
+        let far : at + k < length ids = omega (arith, below, length-drop at ids) in
+        subst (λ id. IsSome (slot_of here id)) (get_or_default ids (at + k) 0 d far ∙ sym (get_or-drop at ids k d)) (some (at + k) (omega (arith, low)) far)
+
+    tell : TellDecided arena here ids (length ids) Q
+    tell = record {
+      tells = λ begins at upto q. all_decided_of here (items_before begins) q.1;
+      next = λ begins at q.
+          let later = stands_before arena begins (drop at ids) 0 (rest_increases 0 at ids increase) (stands_in_rest ids begins at q.2) in (
+            omega (arith, q.0),
+            next_has (λ id. IsSome (slot_of here id)) arena ids begins (part_inside arena begins (drop at ids)) at increase q.2 q.1 (rest at q.0) refl,
+            λ place is. subst (λ id. StandsBefore place id) (get_or-drop at ids (part_len arena begins (drop at ids)) 0) (later place is),
+          );
+    }

@@ -2,6 +2,7 @@ pub mod LineCounts
 pub mod Opens
 pub mod Parts
 pub mod PartsTold
+pub mod PlacesStand
 pub mod RowsPassed
 pub mod Planned
 pub mod OfTexts
@@ -11,6 +12,7 @@ pub mod SeenInOrder
 pub mod SoundPlan
 pub mod NothingNew
 pub mod RowsDecided
+pub mod RunsFew
 pub mod RunsTold
 pub mod Told
 pub mod RowsStay

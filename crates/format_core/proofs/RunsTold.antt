@@ -1,17 +1,20 @@
 -- Runs, one after another, with what is told of their lines.
-use Rattle.std.proofs.Common.{◌≡◌, ◌∙◌, ℕ, suc, ◌+◌, ◌<◌, Option, List, [], ◌∷◌, ◌++◌, length, append_assoc, refl, sym, ap, arith, subst}
-use Rattle.std.specs.Prelude.{slice_range}
+use Rattle.std.proofs.Common.{◌≡◌, ◌∙◌, ℕ, suc, ◌+◌, ◌<◌, Option, None, List, [], ◌∷◌, ◌++◌, length, append_assoc, refl, sym, ap, arith, subst}
+use Rattle.std.specs.Prelude.{All, IsSome}
 use Rattle.std.proofs.lemmas.List.{append-nil}
 use Rattle.style_table.specs.declared.style.Style.{Style}
 use Rattle.line_tokens.specs.declared.LineTok.{LineTok}
 use Rattle.token_arena.specs.Gaps.{Contents}
+use Rattle.token_arena.specs.Ids.{Increase}
 use Rattle.token_classes.specs.Kept.{kept_gaps_of}
 use Rattle.token_classes.specs.Partners.{partners_of}
 use Rattle.token_classes.specs.Viewed.{classes_of}
 use Rattle.line_tokens.specs.declared.line.ULine.{ULine}
 use Rattle.line_tokens.specs.Lines.{CutPlaces}
 use Rattle.unwrapped_lines.proofs.Started.{lines_cut_views}
-use Rattle.view_parts.specs.Parts.{part_ends}
+use Rattle.view_parts.specs.declared.walk.BodyPlace.{BodyPlace}
+use Rattle.view_parts.specs.Parts.{PartStop, items_before, laid_items, part_ends}
+use Rattle.replacements.specs.Decisions.{slot_of}
 use Rattle.replacements.specs.declared.slot.Slot.{Slot}
 use Rattle.run_layout.specs.Outcomes.{Kept, LaidLine, AfterLines, row_of}
 use Rattle.run_layout.specs.Reports.{report_by, reports_of, searched_of, cost_of}
@@ -28,7 +31,8 @@ use Rattle.unwrapped_lines.specs.Lines.{lines_of_items}
 use Rattle.format_core.specs.RunsTold.{AreItemsTold, ArePartsTold, AreSeenTold, AreRunsTold}
 use Rattle.format_core.specs.PartByPart.{GoesOnParts}
 use Rattle.format_core.proofs.NothingNew.{kept_nothing}
-use Rattle.format_core.proofs.Parts.{part_decided}
+use Rattle.format_core.proofs.Parts.{all_decided_of, decided_all_of, laid_have}
+use Rattle.format_core.proofs.PlacesStand.{PlacesHave, part_places_have}
 use Rattle.format_core.proofs.SoundPlan.{tell}
 
 -- ## Lists of what came of lines
@@ -89,17 +93,18 @@ items_told_nothing style budget arena run plan ids tally some =
 
 -- ## The parts of a view
 
-pub parts_begin : (style : Style) (budget : ℕ) (arena : Contents) (run : ℕ) (plan : List (Option Slot)) (ids ends left : List ℕ) (before : Tally) → left ≡ ends → GoesOnParts style budget arena run plan ids ends before plan 0 left before
+pub parts_begin : (style : Style) (budget : ℕ) (arena : Contents) (run : ℕ) (plan : List (Option Slot)) (ids : List ℕ) (ends left : List PartStop) (before : Tally) → left ≡ ends
+    → GoesOnParts style budget arena run plan ids ends before plan None 0 left before
 parts_begin style budget arena run plan ids ends left before all = λ final done h.
-    record { whole = done; parts_are = subst (λ (es : List ℕ). AfterParts style budget arena run plan ids 0 es final done) all h; reports = refl; searched = refl; cost = refl }
+    record { whole = done; parts_are = subst (λ (es : List PartStop). AfterParts style budget arena run plan ids None 0 es final done) all h; reports = refl; searched = refl; cost = refl }
 
-pub part_done : (style : Style) (budget : ℕ) (arena : Contents) (run : ℕ) (plan : List (Option Slot)) (ids ends : List ℕ) (before now next : Tally) (here after : List (Option Slot)) (first end : ℕ) (left rest : List ℕ) → left ≡ end ∷ rest
-    → GoesOnParts style budget arena run plan ids ends before here first left now → AreItemsTold style budget arena run here (slice_range ids first end) after now next
-    → GoesOnParts style budget arena run plan ids ends before after end rest next
-part_done style budget arena run plan ids ends before now next here after first end left rest more on laid = λ final done h.
+pub part_done : (style : Style) (budget : ℕ) (arena : Contents) (run : ℕ) (plan : List (Option Slot)) (ids : List ℕ) (ends : List PartStop) (before now next : Tally) (here after : List (Option Slot)) (begins : Option BodyPlace) (first : ℕ)
+    (stop : PartStop) (left rest : List PartStop) → left ≡ stop ∷ rest → GoesOnParts style budget arena run plan ids ends before here begins first left now
+    → AreItemsTold style budget arena run here (laid_items begins ids first stop.end) after now next → GoesOnParts style budget arena run plan ids ends before after stop.inside stop.end rest next
+part_done style budget arena run plan ids ends before now next here after begins first stop left rest more on laid = λ final done h.
     let all : List LaidLine = laid.done ++ done in
-    let parts : AfterParts style budget arena run here ids first (end ∷ rest) final all = (after, laid.done, done, laid.items, h, refl) in
-    let w = on final all (subst (λ (es : List ℕ). AfterParts style budget arena run here ids first es final all) (sym more) parts) in
+    let parts : AfterParts style budget arena run here ids begins first (stop ∷ rest) final all = (after, laid.done, done, laid.items, h, refl) in
+    let w = on final all (subst (λ (es : List PartStop). AfterParts style budget arena run here ids begins first es final all) (sym more) parts) in
     record {
       whole = w.whole;
       parts_are = w.parts_are;
@@ -110,10 +115,10 @@ part_done style budget arena run plan ids ends before now next here after first 
       cost = omega (arith, w.cost, laid.told.cost, cost_append laid.done done);
     }
 
-pub parts_end : (style : Style) (budget : ℕ) (arena : Contents) (run : ℕ) (plan : List (Option Slot)) (ids ends left : List ℕ) (first : ℕ) (before now : Tally) (here : List (Option Slot)) → left ≡ []
-    → GoesOnParts style budget arena run plan ids ends before here first left now → ArePartsTold style budget arena run plan ids 0 ends here before now
-parts_end style budget arena run plan ids ends left first before now here none on =
-    let w = on here [] (subst (λ (es : List ℕ). AfterParts style budget arena run here ids first es here []) (sym none) (refl, refl)) in
+pub parts_end : (style : Style) (budget : ℕ) (arena : Contents) (run : ℕ) (plan : List (Option Slot)) (ids : List ℕ) (ends left : List PartStop) (begins : Option BodyPlace) (first : ℕ) (before now : Tally) (here : List (Option Slot))
+    → left ≡ [] → GoesOnParts style budget arena run plan ids ends before here begins first left now → ArePartsTold style budget arena run plan ids None 0 ends here before now
+parts_end style budget arena run plan ids ends left begins first before now here none on =
+    let w = on here [] (subst (λ (es : List PartStop). AfterParts style budget arena run here ids begins first es here []) (sym none) (refl, refl)) in
     record {
       done = w.whole;
       parts = w.parts_are;
@@ -121,16 +126,17 @@ parts_end style budget arena run plan ids ends left first before now here none o
     }
 
 -- parts whose gaps are decided tell nothing
-parts_told_nothing : (style : Style) (budget : ℕ) (arena : Contents) (run : ℕ) (plan : List (Option Slot)) (ids : List ℕ) (first : ℕ) (ends : List ℕ) (tally : Tally) → AreDecided plan ids
-    → ArePartsTold style budget arena run plan ids first ends plan tally tally
-parts_told_nothing style budget arena run plan ids first [] tally some = record {
+parts_told_nothing : (style : Style) (budget : ℕ) (arena : Contents) (run : ℕ) (plan : List (Option Slot)) (ids : List ℕ) (begins : Option BodyPlace) (first : ℕ) (stops : List PartStop) (tally : Tally) → All (λ id. IsSome (slot_of plan id)) ids
+    → All (λ id. IsSome (slot_of plan id)) (items_before begins) → PlacesHave (λ id. IsSome (slot_of plan id)) stops → ArePartsTold style budget arena run plan ids begins first stops plan tally tally
+parts_told_nothing style budget arena run plan ids begins first [] tally all before places = record {
   done = [];
   parts = (refl, refl);
   told = record { reports = sym (append-nil tally.reports.items); searched = omega arith; cost = omega arith };
 }
-parts_told_nothing style budget arena run plan ids first (end ∷ ends) tally some =
-    let here = items_told_nothing style budget arena run plan (slice_range ids first end) tally (part_decided plan ids first end some) in
-    let later = parts_told_nothing style budget arena run plan ids end ends tally some in
+parts_told_nothing style budget arena run plan ids begins first (stop ∷ stops) tally all before places =
+    let items = laid_items begins ids first stop.end in
+    let here = items_told_nothing style budget arena run plan items tally (all_decided_of plan items (laid_have (λ id. IsSome (slot_of plan id)) ids begins first stop.end before all)) in
+    let later = parts_told_nothing style budget arena run plan ids stop.inside stop.end stops tally all places.0 places.1 in
     let reports = tally.reports.items in
     record {
       done = here.done ++ later.done;
@@ -144,17 +150,20 @@ parts_told_nothing style budget arena run plan ids first (end ∷ ends) tally so
       };
     }
 
-pub seen_told_nothing : (style : Style) (budget : ℕ) (arena : Contents) (run : ℕ) (plan : List (Option Slot)) (ids : List ℕ) (tally : Tally) → AreDecided plan ids → AreSeenTold style budget arena run plan ids plan tally tally
-seen_told_nothing style budget arena run plan ids tally some =
-    let all = parts_told_nothing style budget arena run plan ids 0 (part_ends arena ids) tally some in
-    record { done = all.done; seen = all.parts; told = all.told }
+pub seen_told_nothing : (style : Style) (budget : ℕ) (arena : Contents) (run : ℕ) (plan : List (Option Slot)) (ids : List ℕ) (tally : Tally) → Increase ids → AreDecided plan ids → AreSeenTold style budget arena run plan ids plan tally tally
+seen_told_nothing style budget arena run plan ids tally increase some =
+    let all = decided_all_of plan ids some in
+    let none : All (λ id. IsSome (slot_of plan id)) (items_before None) = λ k d below. absurd (omega (arith, below)) in
+    let told = parts_told_nothing style budget arena run plan ids None 0 (part_ends arena ids) tally all none (part_places_have (λ id. IsSome (slot_of plan id)) arena ids increase all) in
+    record { done = told.done; seen = told.parts; told = told.told }
 
 -- all parts are the run's
-pub all_seen : (style : Style) (budget : ℕ) (arena : Contents) (run : ℕ) (plan : List (Option Slot)) (ids seen ends : List ℕ) (final : List (Option Slot)) (before after : Tally) → ids ≡ seen → ends ≡ part_ends arena ids
-    → ArePartsTold style budget arena run plan ids 0 ends final before after → AreSeenTold style budget arena run plan seen final before after
+pub all_seen : (style : Style) (budget : ℕ) (arena : Contents) (run : ℕ) (plan : List (Option Slot)) (ids seen : List ℕ) (ends : List PartStop) (final : List (Option Slot)) (before after : Tally) → ids ≡ seen → ends ≡ part_ends arena ids
+    → ArePartsTold style budget arena run plan ids None 0 ends final before after → AreSeenTold style budget arena run plan seen final before after
 all_seen style budget arena run plan ids seen ends final before after is all laid = record {
   done = laid.done;
-  seen = subst (λ (xs : List ℕ). AfterSeen style budget arena run plan xs final laid.done) is (subst (λ (es : List ℕ). AfterParts style budget arena run plan ids 0 es final laid.done) all laid.parts);
+  seen = subst (λ (xs : List ℕ). AfterSeen style budget arena run plan xs final laid.done) is
+      (subst (λ (es : List PartStop). AfterParts style budget arena run plan ids None 0 es final laid.done) all laid.parts);
   told = laid.told;
 }
 

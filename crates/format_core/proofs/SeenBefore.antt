@@ -1,11 +1,12 @@
 -- The gaps before the items that earlier runs see are decided, so a run that sees no other has nothing to lay out.
-use Rattle.std.proofs.Common.{◌≡◌, ◌∙◌, ◌⊎◌, inl, inr, ℕ, ◌+◌, ◌<◌, ◌≤◌, ◌-◌, Option, List, length, get_or, sym, subst, arith}
+use Rattle.std.proofs.Common.{◌≡◌, ◌∙◌, ◌⊎◌, inl, inr, ℕ, ◌+◌, ◌<◌, ◌≤◌, ◌-◌, Option, None, List, length, get_or, sym, subst, arith}
 use Rattle.std.specs.Prelude.{IsSome}
 use Rattle.std.specs.List.{Contains}
 use Rattle.std.proofs.lemmas.List.{get_or_default}
 use Rattle.style_table.specs.declared.style.Style.{Style}
 use Rattle.token_arena.specs.Gaps.{Contents}
 use Rattle.branch_runs.specs.Anew.{items_between}
+use Rattle.view_parts.specs.declared.walk.BodyPlace.{BodyPlace}
 use Rattle.view_parts.specs.Parts.{part_ends}
 use Rattle.replacements.specs.declared.slot.Slot.{Slot}
 use Rattle.replacements.specs.Decisions.{slot_of}
@@ -41,7 +42,7 @@ run_seen style budget arena plan final run before after long all told seen low p
       | inl earlier ↦
           let was = decided-is_some plan id (all seen earlier place below) in
           let ids = seen_by arena run in
-          is_some-decided final id (was.0, parts_keep style budget arena run plan ids 0 (part_ends arena ids) final told.done id was.0 told.seen was.1)
+          is_some-decided final id (was.0, parts_keep style budget arena run plan ids None 0 (part_ends arena ids) final told.done id was.0 told.seen was.1)
       | inr here ↦
           let sees : Contains (seen_by arena seen) id = (place, below, get_or_default (seen_by arena seen) place id 0 below) in
           is_some-decided final id (seen_decided style budget arena plan run id final told.done long (subst (λ r. Contains (seen_by arena r) id) (sym here) sees) told.seen)
@@ -79,20 +80,20 @@ before_change arena plan run first all none same id early sees =
 pub nothing_new_told : (style : Style) (budget : ℕ) (arena : Contents) (plan : List (Option Slot)) (run end : ℕ) (tally : Tally) → AreSeenDecided arena plan run → (run ≡ 0 → end ≡ length arena.tokens)
     → (0 < run → (id : ℕ) → end ≤ id → Contains (seen_by arena run) id → Contains (seen_by arena (run - 1)) id) → end ≡ 0 → AreSeenTold style budget arena run plan (seen_by arena run) plan tally tally
 nothing_new_told style budget arena plan run end tally all whole behind none =
-    seen_told_nothing style budget arena run plan (seen_by arena run) tally (λ place below.
+    seen_told_nothing style budget arena run plan (seen_by arena run) tally (seen_increases arena run) (λ place below.
     let id = get_or (seen_by arena run) place 0 in
     behind_change arena plan run end all whole behind id (omega (arith, none)) (place, below, get_or_default (seen_by arena run) place id 0 below))
 
 -- the bounds that are left are bounds of what the run sees
-pub record RunBounds (arena : Contents) (run : ℕ) (left : List KnownBound) (item told : ℕ) : Type 0 where
-  pub bound : IsBound arena (seen_by arena run) item told
+pub record RunBounds (arena : Contents) (run : ℕ) (left : List KnownBound) (item told : ℕ) (inside : Option BodyPlace) : Type 0 where
+  pub bound : IsBound arena (seen_by arena run) item told inside
   pub bounds : AreBounds arena (seen_by arena run) left told
 
-pub run_bounds : (arena : Contents) (run : ℕ) (old left : List KnownBound) (first item told : ℕ) → (0 < run → (was : ℕ) × AreBounds arena (seen_by arena (run - 1)) old was) → (run ≡ 0 → length old ≡ 0)
+pub run_bounds : (arena : Contents) (run : ℕ) (old left : List KnownBound) (first item told : ℕ) (inside : Option BodyPlace) → (0 < run → (was : ℕ) × AreBounds arena (seen_by arena (run - 1)) old was) → (run ≡ 0 → length old ≡ 0)
     → (0 < run → items_between 0 first (seen_by arena run) ≡ items_between 0 first (seen_by arena (run - 1))) → told ≤ first
-    → ((view : List ℕ) (was : ℕ) → AreBounds arena view old was → AreBounds arena view left told) → ((view : List ℕ) (was : ℕ) → AreBounds arena view old was → IsBound arena view item told)
-    → RunBounds arena run left item told
-run_bounds arena run old left first item told were none same low still last =
+    → ((view : List ℕ) (was : ℕ) → AreBounds arena view old was → AreBounds arena view left told) → ((view : List ℕ) (was : ℕ) → AreBounds arena view old was → IsBound arena view item told inside)
+    → RunBounds arena run left item told inside
+run_bounds arena run old left first item told inside were none same low still last =
     elim (here_or_later 0 run (omega arith)) [
       | inl begins ↦
           let empty = none (sym begins) in
@@ -104,7 +105,7 @@ run_bounds arena run old left first item told were none same low still last =
           let had = were some in
           let before = seen_by arena (run - 1) in
           record {
-            bound = bound_stays arena before (seen_by arena run) item told first low (same some) (last before had.0 had.1);
+            bound = bound_stays arena before (seen_by arena run) item told inside first low (same some) (last before had.0 had.1);
             bounds = bounds_stay arena before (seen_by arena run) left told first low (same some) (still before had.0 had.1);
           }
     ]

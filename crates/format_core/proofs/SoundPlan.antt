@@ -1,5 +1,5 @@
 -- What holds of the plans of a text, whichever lines are reported.
-use Rattle.std.proofs.Common.{◌≡◌, ◌∙◌, inl, inr, ℕ, zero, suc, ◌+◌, ◌-◌, ◌<◌, ◌≤◌, Bool, true, false, Option, Some, List, [], ◌∷◌, length, get_or, sym, ap, arith, subst}
+use Rattle.std.proofs.Common.{◌≡◌, ◌∙◌, inl, inr, ℕ, zero, suc, ◌+◌, ◌-◌, ◌<◌, ◌≤◌, Bool, true, false, Option, None, Some, List, [], ◌∷◌, length, get_or, sym, ap, arith, subst}
 use Rattle.std.specs.Prelude.{All, slice_range}
 use Rattle.std.specs.List.{Contains}
 use Rattle.std.proofs.lemmas.List.{get_or_default}
@@ -15,8 +15,8 @@ use Rattle.token_classes.specs.Kept.{kept_gaps_of}
 use Rattle.token_classes.specs.Partners.{partners_of}
 use Rattle.token_classes.specs.Viewed.{AreWithin, classes_of}
 use Rattle.unwrapped_lines.proofs.Started.{lines_cut_views}
-use Rattle.view_parts.specs.Parts.{part_ends}
-use Rattle.view_parts.proofs.InOrder.{AreEnds, ends_cut}
+use Rattle.view_parts.specs.declared.walk.BodyPlace.{BodyPlace}
+use Rattle.view_parts.specs.Parts.{PartStop, items_before, laid_items, part_ends}
 use Rattle.annotator.proofs.Counts.{as_many_roles, roles_tell}
 use Rattle.replacements.specs.declared.slot.Slot.{Slot}
 use Rattle.replacements.specs.Decisions.{slot_of}
@@ -47,7 +47,10 @@ use Rattle.format_core.specs.Plans.{AfterItems, AfterParts, AfterSeen, AfterRuns
 use Rattle.format_core.specs.Runs.{runs_of, seen_by, after_kept}
 use Rattle.annotator.specs.Tokens.{toks_of_items, item_at}
 use Rattle.unwrapped_lines.specs.Lines.{lines_of_items}
-use Rattle.format_core.proofs.Parts.{part_within, part_item, part_length, before_or_behind}
+use Rattle.format_core.proofs.Parts.{laid_have, laid_item, laid_length, part_length, before_or_behind}
+use Rattle.view_parts.proofs.InOrder.{AreEnds, ends_cut}
+use Rattle.format_core.proofs.PlacesStand.{PlacesHave, part_places_have}
+use Rattle.format_core.proofs.SeenInOrder.{seen_increases}
 use Rattle.format_core.proofs.Seen.{here_or_later, length-kept, seen_within}
 use Rattle.format_core.proofs.OfTexts.{views_are_of_texts, text_mark}
 
@@ -77,21 +80,27 @@ items_sound style budget arena run plan ids final done within texts laid sound =
     (lines_cut_views style arena ids (partners_of (classes_of arena ids))) laid
     (all_sound arena plan made sound (kept_stand style arena 0 ids (kept_gaps_of (classes_of arena ids))))
 
-parts_sound : (style : Style) (budget : ℕ) (arena : Contents) (run : ℕ) (plan : List (Option Slot)) (ids : List ℕ) (first : ℕ) (ends : List ℕ) (final : List (Option Slot)) (done : List LaidLine) → AreWithin arena ids
-    → AreOfTexts arena ids → AfterParts style budget arena run plan ids first ends final done → IsSound arena plan → IsSound arena final
-parts_sound style budget arena run plan ids first [] final done within texts laid sound = subst (λ (p : List (Option Slot)). IsSound arena p) (sym laid.0) sound
-parts_sound style budget arena run plan ids first (end ∷ ends) final done within texts laid sound =
-    parts_sound style budget arena run laid.0 ids end ends final laid.2 within texts laid.4
-    (items_sound style budget arena run plan (slice_range ids first end) laid.0 laid.1 (part_within ids (λ id. id < length arena.tokens) first end within)
-    (part_within ids (λ id. stance_in (sections_of arena) id ≡ OfText) first end texts) laid.3 sound)
+-- it is an item of a text
+abbrev IsInText : Contents → ℕ → Type 0
+IsInText arena id = (id < length arena.tokens) × (stance_in (sections_of arena) id ≡ OfText)
+
+parts_sound : (style : Style) (budget : ℕ) (arena : Contents) (run : ℕ) (plan : List (Option Slot)) (ids : List ℕ) (begins : Option BodyPlace) (first : ℕ) (stops : List PartStop) (final : List (Option Slot)) (done : List LaidLine)
+    → All (IsInText arena) ids → All (IsInText arena) (items_before begins) → PlacesHave (IsInText arena) stops → AfterParts style budget arena run plan ids begins first stops final done → IsSound arena plan → IsSound arena final
+parts_sound style budget arena run plan ids begins first [] final done all here places laid sound = subst (λ (p : List (Option Slot)). IsSound arena p) (sym laid.0) sound
+parts_sound style budget arena run plan ids begins first (stop ∷ stops) final done all here places laid sound =
+    let part = laid_have (IsInText arena) ids begins first stop.end here all in
+    parts_sound style budget arena run laid.0 ids stop.inside stop.end stops final laid.2 all places.0 places.1 laid.4
+    (items_sound style budget arena run plan (laid_items begins ids first stop.end) laid.0 laid.1 (λ k d below. (part k d below).0) (λ k d below. (part k d below).1) laid.3 sound)
 
 runs_sound : (style : Style) (budget : ℕ) (arena : Contents) (plan : List (Option Slot)) (run count : ℕ) (final : List (Option Slot)) (done : List LaidLine)
     → AfterRuns style budget arena plan run count final done → IsSound arena plan → IsSound arena final
 runs_sound style budget arena plan run zero final done laid sound = subst (λ (p : List (Option Slot)). IsSound arena p) (sym laid.0) sound
 runs_sound style budget arena plan run (suc count) final done laid sound =
     let ids = seen_by arena run in
+    let all : All (IsInText arena) ids = λ k d below. (seen_within arena run k d below, views_are_of_texts arena (sections_are_cut arena) run k d below) in
+    let none : All (IsInText arena) (items_before None) = λ k d below. absurd (omega (arith, below)) in
     runs_sound style budget arena laid.0 (run + 1) count final laid.2 laid.4
-    (parts_sound style budget arena run plan ids 0 (part_ends arena ids) laid.0 laid.1 (seen_within arena run) (views_are_of_texts arena (sections_are_cut arena) run) laid.3 sound)
+    (parts_sound style budget arena run plan ids None 0 (part_ends arena ids) laid.0 laid.1 all none (part_places_have (IsInText arena) arena ids (seen_increases arena run) all) laid.3 sound)
 
 pub planned_texts_are_twins : PlannedTextsAreTwins
 planned_texts_are_twins style ranges budget crlf arena plan done holds laid =
@@ -110,18 +119,18 @@ items_keep style budget arena run plan ids final done place slot laid is =
     views_keep style budget arena ids (toks_of_items style arena ids) run (after_kept style arena plan ids) (lines_of_items style arena ids) final done laid place slot
     (stay plan (kept_decisions style arena 0 ids (kept_gaps_of (classes_of arena ids))) place slot is)
 
-pub parts_keep : (style : Style) (budget : ℕ) (arena : Contents) (run : ℕ) (plan : List (Option Slot)) (ids : List ℕ) (first : ℕ) (ends : List ℕ) (final : List (Option Slot)) (done : List LaidLine) (place : ℕ) (slot : Slot)
-    → AfterParts style budget arena run plan ids first ends final done → slot_of plan place ≡ Some slot → slot_of final place ≡ Some slot
-parts_keep style budget arena run plan ids first [] final done place slot laid is = subst (λ (p : List (Option Slot)). slot_of p place ≡ Some slot) (sym laid.0) is
-parts_keep style budget arena run plan ids first (end ∷ ends) final done place slot laid is =
-    parts_keep style budget arena run laid.0 ids end ends final laid.2 place slot laid.4 (items_keep style budget arena run plan (slice_range ids first end) laid.0 laid.1 place slot laid.3 is)
+pub parts_keep : (style : Style) (budget : ℕ) (arena : Contents) (run : ℕ) (plan : List (Option Slot)) (ids : List ℕ) (begins : Option BodyPlace) (first : ℕ) (stops : List PartStop) (final : List (Option Slot)) (done : List LaidLine) (place : ℕ) (slot : Slot)
+    → AfterParts style budget arena run plan ids begins first stops final done → slot_of plan place ≡ Some slot → slot_of final place ≡ Some slot
+parts_keep style budget arena run plan ids begins first [] final done place slot laid is = subst (λ (p : List (Option Slot)). slot_of p place ≡ Some slot) (sym laid.0) is
+parts_keep style budget arena run plan ids begins first (stop ∷ stops) final done place slot laid is =
+    parts_keep style budget arena run laid.0 ids stop.inside stop.end stops final laid.2 place slot laid.4 (items_keep style budget arena run plan (laid_items begins ids first stop.end) laid.0 laid.1 place slot laid.3 is)
 
 runs_keep : (style : Style) (budget : ℕ) (arena : Contents) (plan : List (Option Slot)) (run count : ℕ) (final : List (Option Slot)) (done : List LaidLine) (place : ℕ) (slot : Slot)
     → AfterRuns style budget arena plan run count final done → slot_of plan place ≡ Some slot → slot_of final place ≡ Some slot
 runs_keep style budget arena plan run zero final done place slot laid is = subst (λ (p : List (Option Slot)). slot_of p place ≡ Some slot) (sym laid.0) is
 runs_keep style budget arena plan run (suc count) final done place slot laid is =
     runs_keep style budget arena laid.0 (run + 1) count final laid.2 place slot laid.4
-    (parts_keep style budget arena run plan (seen_by arena run) 0 (part_ends arena (seen_by arena run)) laid.0 laid.1 place slot laid.3 is)
+    (parts_keep style budget arena run plan (seen_by arena run) None 0 (part_ends arena (seen_by arena run)) laid.0 laid.1 place slot laid.3 is)
 
 pub early_decisions_stay : EarlyDecisionsStay
 early_decisions_stay style ranges budget arena plan done place slot laid is =
@@ -142,11 +151,11 @@ length-items : (style : Style) (budget : ℕ) (arena : Contents) (run : ℕ) (pl
 length-items style budget arena run plan ids final done laid =
     view_length style budget arena ids (toks_of_items style arena ids) run (after_kept style arena plan ids) (lines_of_items style arena ids) final done laid ∙ length-kept style arena plan ids
 
-length-parts : (style : Style) (budget : ℕ) (arena : Contents) (run : ℕ) (plan : List (Option Slot)) (ids : List ℕ) (first : ℕ) (ends : List ℕ) (final : List (Option Slot)) (done : List LaidLine)
-    → AfterParts style budget arena run plan ids first ends final done → length final ≡ length plan
-length-parts style budget arena run plan ids first [] final done laid = ap (λ (p : List (Option Slot)). length p) laid.0
-length-parts style budget arena run plan ids first (end ∷ ends) final done laid =
-    length-parts style budget arena run laid.0 ids end ends final laid.2 laid.4 ∙ length-items style budget arena run plan (slice_range ids first end) laid.0 laid.1 laid.3
+length-parts : (style : Style) (budget : ℕ) (arena : Contents) (run : ℕ) (plan : List (Option Slot)) (ids : List ℕ) (begins : Option BodyPlace) (first : ℕ) (stops : List PartStop) (final : List (Option Slot)) (done : List LaidLine)
+    → AfterParts style budget arena run plan ids begins first stops final done → length final ≡ length plan
+length-parts style budget arena run plan ids begins first [] final done laid = ap (λ (p : List (Option Slot)). length p) laid.0
+length-parts style budget arena run plan ids begins first (stop ∷ stops) final done laid =
+    length-parts style budget arena run laid.0 ids stop.inside stop.end stops final laid.2 laid.4 ∙ length-items style budget arena run plan (laid_items begins ids first stop.end) laid.0 laid.1 laid.3
 
 -- behind a part each gap of its items is decided
 pub items_decided : (style : Style) (budget : ℕ) (arena : Contents) (run : ℕ) (plan : List (Option Slot)) (ids : List ℕ) (final : List (Option Slot)) (done : List LaidLine) (k : ℕ) → length plan ≡ length arena.tokens + 1
@@ -160,22 +169,25 @@ items_decided style budget arena run plan ids final done k long all below laid =
     (lines_cut_views style arena ids (partners_of (classes_of arena ids))) laid k 0 below)
 
 -- behind all parts each gap of their items is decided
-parts_decided : (style : Style) (budget : ℕ) (arena : Contents) (run : ℕ) (plan : List (Option Slot)) (ids : List ℕ) (first : ℕ) (ends : List ℕ) (final : List (Option Slot)) (done : List LaidLine) (place : ℕ)
-    → length plan ≡ length arena.tokens + 1 → AreWithin arena ids → AreEnds first (length ids) ends → first ≤ place → place < length ids → AfterParts style budget arena run plan ids first ends final done
-    → IsDecided final (get_or ids place 0)
-parts_decided style budget arena run plan ids first [] final done place long within cut low high laid = absurd (omega (arith, cut, low, high))
-parts_decided style budget arena run plan ids first (end ∷ ends) final done place long within cut low high laid =
-    elim (before_or_behind place end) [
-      | inl here ↦
-          let part = slice_range ids first end in
-          let below : place - first < length part = omega (arith, low, high, here, part_length ids first end) in
+parts_decided : (style : Style) (budget : ℕ) (arena : Contents) (run : ℕ) (plan : List (Option Slot)) (ids : List ℕ) (begins : Option BodyPlace) (first : ℕ) (stops : List PartStop) (final : List (Option Slot)) (done : List LaidLine)
+    (place : ℕ) → length plan ≡ length arena.tokens + 1 → AreWithin arena ids → AreWithin arena (items_before begins) → PlacesHave (λ id. id < length arena.tokens) stops → AreEnds first (length ids) stops → first ≤ place
+    → place < length ids → AfterParts style budget arena run plan ids begins first stops final done → IsDecided final (get_or ids place 0)
+parts_decided style budget arena run plan ids begins first [] final done place long within here places cut low high laid = absurd (omega (arith, cut, low, high))
+parts_decided style budget arena run plan ids begins first (stop ∷ stops) final done place long within here places cut low high laid =
+    let part = laid_items begins ids first stop.end in
+    elim (before_or_behind place stop.end) [
+      | inl before ↦
+          let k = length (items_before begins) + (place - first) in
+          let own : place - first < length (slice_range ids first stop.end) = omega (arith, low, high, before, part_length ids first stop.end) in
+          let below : k < length part = omega (arith, low, high, before, laid_length ids begins first stop.end) in
           let e : first + (place - first) ≡ place = omega (arith, low) in
-          let at : get_or part (place - first) 0 ≡ get_or ids place 0 = part_item ids first end (place - first) 0 below ∙ ap (λ i. get_or ids i 0) e in
-          let some : IsDecided laid.0 (get_or part (place - first) 0) = items_decided style budget arena run plan part laid.0 laid.1 (place - first) long (part_within ids (λ id. id < length arena.tokens) first end within) below laid.3 in
-          let kept : IsDecided final (get_or part (place - first) 0) = (some.0, parts_keep style budget arena run laid.0 ids end ends final laid.2 (get_or part (place - first) 0) some.0 laid.4 some.1) in
+          let at : get_or part k 0 ≡ get_or ids place 0 = laid_item ids begins first stop.end (place - first) 0 own ∙ ap (λ i. get_or ids i 0) e in
+          let some : IsDecided laid.0 (get_or part k 0) = items_decided style budget arena run plan part laid.0 laid.1 k long (laid_have (λ id. id < length arena.tokens) ids begins first stop.end here within) below laid.3 in
+          let kept : IsDecided final (get_or part k 0) = (some.0, parts_keep style budget arena run laid.0 ids stop.inside stop.end stops final laid.2 (get_or part k 0) some.0 laid.4 some.1) in
           subst (λ i. IsDecided final i) at kept
       | inr later ↦
-          parts_decided style budget arena run laid.0 ids end ends final laid.2 place (length-items style budget arena run plan (slice_range ids first end) laid.0 laid.1 laid.3 ∙ long) within cut.1 later high laid.4
+          let still : length laid.0 ≡ length arena.tokens + 1 = length-items style budget arena run plan part laid.0 laid.1 laid.3 ∙ long in
+          parts_decided style budget arena run laid.0 ids stop.inside stop.end stops final laid.2 place still within places.0 places.1 cut.1 later high laid.4
     ]
 
 -- behind a run each gap of an item that it sees is decided
@@ -183,7 +195,10 @@ pub seen_decided : (style : Style) (budget : ℕ) (arena : Contents) (plan : Lis
     → Contains (seen_by arena run) id → AfterSeen style budget arena run plan (seen_by arena run) final done → IsDecided final id
 seen_decided style budget arena plan run id final done long (k, below, is) laid =
     let ids = seen_by arena run in
-    let here : IsDecided final (get_or ids k 0) = parts_decided style budget arena run plan ids 0 (part_ends arena ids) final done k long (seen_within arena run) (ends_cut arena ids) (omega arith) below laid in
+    let within : AreWithin arena ids = seen_within arena run in
+    let none : AreWithin arena (items_before None) = λ k d low. absurd (omega (arith, low)) in
+    let places = part_places_have (λ id. id < length arena.tokens) arena ids (seen_increases arena run) within in
+    let here : IsDecided final (get_or ids k 0) = parts_decided style budget arena run plan ids None 0 (part_ends arena ids) final done k long within none places (ends_cut arena ids) (omega arith) below laid in
     subst (λ i. IsDecided final i) (get_or_default ids k 0 id below ∙ is) here
 
 -- what one of the runs sees is decided behind all of them
@@ -196,7 +211,7 @@ runs_decide style budget arena plan from (suc count) final done run id long low 
           all_keep style budget arena laid.0 (from + 1) count final laid.2 id laid.4
           (seen_decided style budget arena plan from id laid.0 laid.1 long (subst (λ r. Contains (seen_by arena r) id) (sym e) sees) laid.3)
       | inr later ↦
-          let still : length laid.0 ≡ length arena.tokens + 1 = length-parts style budget arena from plan (seen_by arena from) 0 (part_ends arena (seen_by arena from)) laid.0 laid.1 laid.3 ∙ long in
+          let still : length laid.0 ≡ length arena.tokens + 1 = length-parts style budget arena from plan (seen_by arena from) None 0 (part_ends arena (seen_by arena from)) laid.0 laid.1 laid.3 ∙ long in
           runs_decide style budget arena laid.0 (from + 1) count final laid.2 run id still later (omega (arith, high)) sees laid.4
     ]
 

@@ -1,11 +1,12 @@
 -- Windows of what a run sees.
-use Rattle.std.specs.Prelude.{◌≡◌, ◌<◌, ◌≤◌, ◌+◌, ◌-◌, ◌*◌, ℕ, List, length, slice_range}
+use Rattle.std.specs.Prelude.{◌≡◌, ◌<◌, ◌≤◌, ◌+◌, ◌-◌, ◌*◌, ℕ, List, Option, length, slice_range}
 use Rattle.token_arena.specs.Gaps.{Contents}
 use Rattle.branch_runs.specs.Anew.{items_between}
 use Rattle.run_layout.specs.Counted.{IsCounted}
 use Rattle.view_parts.specs.declared.known.KnownEnd.{KnownEnd}
 use Rattle.view_parts.specs.declared.known.KnownSpan.{KnownSpan}
 use Rattle.view_parts.specs.Known.{AreKnown, AreSpans}
+use Rattle.view_parts.specs.declared.walk.BodyPlace.{BodyPlace}
 use Rattle.view_parts.specs.Told.{TellParts}
 use Rattle.format_core.specs.declared.runs.Made.{Made}
 use Rattle.format_core.specs.Runs.{AreRowsDecided, seen_by}
@@ -28,8 +29,8 @@ pub record AreInStep (arena : Contents) (made : Made) (knowns : List KnownEnd) (
   pub rows : AreRowsDecided made.plan knowns
   pub spans : AreSpans arena kept
 
--- the items of a window from one place to before another tell where parts end that begin there
-pub record AreToldIn (arena : Contents) (view : List ℕ) (first end told : ℕ) : Type 0 where
-  pub tell : TellParts arena (slice_range view first told) (end - first)
+-- the items of a window from one place to before another tell where parts end that begin there, outside brackets or in a body
+pub record AreToldIn (arena : Contents) (view : List ℕ) (begins : Option BodyPlace) (first end : ℕ) (inside : Option BodyPlace) (told : ℕ) : Type 0 where
+  pub tell : TellParts arena begins (slice_range view first told) (end - first) inside
   pub later : end < told
   pub below : told ≤ length view

@@ -5,6 +5,7 @@ ghost use Rattle.token_arena.specs.Gaps.{Contents};
 ghost use Rattle.format_core.specs.Bounds.{AreBounds, IsBound};
 
 use bumpalo::Bump;
+use view_parts::BodyPlace;
 
 /// Where parts of a view end, as its first items tell.
 #[derive(Clone, Copy)]
@@ -13,13 +14,15 @@ pub(crate) struct KnownBound {
     pub item: u32,
     /// The item behind those that tell so.
     pub told: u32,
+    /// Where that is in a function's body, if it is in one.
+    pub inside: Option<BodyPlace>,
 }
 
 /// Takes away the bounds that are told by this item or one behind it. The result is the last one that is left.
 pub(crate) fn last_bound(bounds: &mut Vec<KnownBound, &Bump>, first: u32) -> KnownBound
     ensures low { result.told ≤ first }
     ensures bounds { (arena : Contents) (view : List ℕ) (told : ℕ) → AreBounds arena view bounds.old.items told → AreBounds arena view bounds.new.items result.told }
-    ensures last { (arena : Contents) (view : List ℕ) (told : ℕ) → AreBounds arena view bounds.old.items told → IsBound arena view result.item result.told }
+    ensures last { (arena : Contents) (view : List ℕ) (told : ℕ) → AreBounds arena view bounds.old.items told → IsBound arena view result.item result.told result.inside }
 {
     let mut count = bounds.len();
     while count > 0 {
@@ -31,5 +34,9 @@ pub(crate) fn last_bound(bounds: &mut Vec<KnownBound, &Bump>, first: u32) -> Kno
         count -= 1;
     }
     bounds.truncate(0);
-    KnownBound { item: 0, told: 0 }
+    KnownBound {
+        item: 0,
+        told: 0,
+        inside: None,
+    }
 }

@@ -12,7 +12,7 @@ ghost use Rattle.run_layout.specs.declared.report.Tally.{Tally};
 ghost use Rattle.replacements.specs.declared.slot.Slot.{Slot};
 ghost use Rattle.run_layout.specs.Counted.{IsCounted};
 ghost use Rattle.view_parts.specs.Known.{AreKnown};
-ghost use Rattle.view_parts.specs.Parts.{ArePartsUpTo};
+ghost use Rattle.view_parts.specs.Parts.{ArePartsUpTo, StandsBefore, items_before, laid_items};
 ghost use Rattle.format_core.specs.Runs.{AreDecided, AreRowsDecided, runs_of, seen_by};
 ghost use Rattle.std.specs.Prelude.{IsSome};
 ghost use Rattle.std.specs.List.{Contains};
@@ -40,7 +40,8 @@ use token_arena::{Section, TokenArena, View};
 use token_classes::{bracket_facts, classes_among, item_classes};
 use unwrapped_lines::lines_of_classes;
 use view_parts::{
-    KnownEnd, KnownSpans, PartsEnd, behind_row, join_rows, known_part_end, known_parts_end,
+    BodyPlace, KnownEnd, KnownSpans, PartsEnd, behind_row, join_rows, known_part_end,
+    known_parts_end, laid_view,
 };
 
 /// How many items behind what is new in a run are looked at first at least. Most parts end within as many, and so do
@@ -180,6 +181,7 @@ struct Window<'r> {
 fn lay_out_part(
     context: &Context<'_>,
     window: &Window<'_>,
+    inside: Option<BodyPlace>,
     first: u32,
     end: u32,
     made: &mut Made<'_>,
@@ -193,12 +195,15 @@ fn lay_out_part(
     requires some { first < end }
     requires inside { end ≤ length window.now.view }
     requires whole { length made.old.plan ≡ length context.now.arena.now.tokens + 1 }
-    requires room { made.old.tally.searched + (end - first) < 2 ^ 60 }
+    requires begins { ForSome inside (λ place. StandsBefore place (get_or window.now.view first 0)) }
+    requires items { All (λ id. id < length context.now.arena.now.tokens) (items_before inside) }
+    requires decided { All (λ id. IsSome (slot_of made.old.plan id)) (items_before inside) }
+    requires room { made.old.tally.searched + 67 * (end - first) < 2 ^ 60 }
     requires cheap { made.old.tally.cost ≤ made.old.tally.searched * 18446744073709551615 }
     requires counted { IsCounted context.now.arena.now made.old.tally.lines }
-    ensures told { OnOk result (AreItemsTold context.now.style.now context.now.budget context.now.arena.now window.now.number made.old.plan (slice_range window.now.view first end) made.new.plan made.old.tally made.new.tally) }
+    ensures told { OnOk result (AreItemsTold context.now.style.now context.now.budget context.now.arena.now window.now.number made.old.plan (laid_items inside window.now.view first end) made.new.plan made.old.tally made.new.tally) }
     ensures len { OnOk result (length made.new.plan ≡ length made.old.plan) }
-    ensures room { OnOk result (made.new.tally.searched ≤ made.old.tally.searched + (end - first)) }
+    ensures room { OnOk result (made.new.tally.searched ≤ made.old.tally.searched + 67 * (end - first)) }
     ensures cheap { OnOk result (made.new.tally.cost ≤ made.new.tally.searched * 18446744073709551615) }
     ensures counted { OnOk result (IsCounted context.now.arena.now made.new.tally.lines) }
 {
@@ -208,11 +213,11 @@ fn lay_out_part(
     if number > 0 && is_decided_row(arena, view, first, end, &made.plan, segment) {
         return Ok(());
     }
-    let part = view.part(first, end, room)?;
-    if are_decided(&part, &[], &made.plan) {
+    let laid = laid_view(inside, view, first, end, room)?;
+    if are_decided(&laid, &[], &made.plan) {
         return Ok(());
     }
-    lay_out_items(context, number, &part, made, room)
+    lay_out_items(context, number, &laid, made, room)
 }
 
 /// A run, and what of it is looked at.
@@ -239,24 +244,28 @@ struct Way {
     row: TokenId,
     /// The item behind those that tell where the parts before it end.
     told: u32,
+    /// Where the next part begins in a function's body, if it begins in one.
+    inside: Option<BodyPlace>,
 }
 
 impl Way {
     /// At the first part, before which parts end as the items before this one tell.
-    fn start(told: u32) -> Way
+    fn start(told: u32, inside: Option<BodyPlace>) -> Way
         ensures first { result.first ≡ 0 }
         ensures told { result.told ≡ told }
+        ensures inside { result.inside ≡ inside }
     {
         Way {
             first: 0,
             segment: 0,
             row: TokenId(0),
             told,
+            inside,
         }
     }
 }
 
-/// Goes on behind a part that is noted in a row, or parts that follow one another.
+/// Goes on behind a part that is noted in a row, or parts that follow one another. Such parts begin outside brackets.
 fn pass_row(
     arena: &TokenArena<'_, '_>,
     view: &View<'_>,
@@ -269,22 +278,51 @@ fn pass_row(
     requires known { AreKnown arena.now known.old }
     ensures known { AreKnown arena.now known.new }
     ensures rows { (plan : List (Option Slot)) → AreRowsDecided plan known.old → AreRowsDecided plan known.new }
-    ensures parts { IfSome result (λ parts. ArePartsUpTo arena.now view.now way.old.first parts.end) }
+    ensures parts { IfSome result (λ parts. ArePartsUpTo arena.now view.now None way.old.first (record { end = parts.end; inside = None })) }
     ensures decided { IfSome result (λ parts. (plan : List (Option Slot)) → AreRowsDecided plan known.old → AreDecided plan (slice_range view.now way.old.first parts.end)) }
+    ensures begins { IfSome result (λ parts. way.old.inside ≡ None) }
+    ensures outside { IfSome result (λ parts. parts.inside ≡ None) }
     ensures some { IfSome result (λ parts. way.old.first < parts.end) }
     ensures inside { IfSome result (λ parts. parts.end ≤ length view.now) }
     ensures end { IfSome result (λ parts. way.new.first ≡ parts.end) }
-    ensures told { IfSome result (λ parts. ForSome parts.told (λ told. AreToldIn arena.now view.now way.old.first parts.end told)) }
+    ensures told { IfSome result (λ parts. ForSome parts.told (λ told. AreToldIn arena.now view.now None way.old.first parts.end None told)) }
     ensures whole { IfSome result (λ parts. ForNone parts.told (parts.end ≡ length view.now)) }
     ensures always { IfSome result (λ parts. IsSome parts.told) }
     ensures stays { ForNone result (way.new.first ≡ way.old.first) }
     ensures same { way.new.told ≡ way.old.told }
+    ensures place { way.new.inside ≡ way.old.inside }
 {
+    if way.inside.is_some() {
+        return None;
+    }
     let first = way.first;
     let parts = known_parts_end(arena, view, first, id, known, &mut way.segment)?;
     way.row = join_rows(arena, known, way.row, id);
     way.first = parts.end;
     Some(parts)
+}
+
+/// Goes on behind a part that was laid out, which begins with this item. If it is noted in a row, so it is with those
+/// before it.
+fn pass_part(
+    arena: &TokenArena<'_, '_>,
+    id: TokenId,
+    part: PartsEnd,
+    known: &mut [KnownEnd],
+    way: &mut Way,
+)
+    requires known { AreKnown arena.now known.old }
+    ensures known { AreKnown arena.now known.new }
+    ensures rows { (plan : List (Option Slot)) → AreRowsDecided plan known.old → AreRowsDecided plan known.new }
+    ensures end { way.new.first ≡ part.end }
+    ensures inside { way.new.inside ≡ part.inside }
+    ensures same { way.new.told ≡ way.old.told }
+{
+    if way.inside.is_none() {
+        way.row = join_rows(arena, known, way.row, id);
+    }
+    way.first = part.end;
+    way.inside = part.inside;
 }
 
 /// Decides the gaps of the next part of a window, where they are open, or passes over parts that are noted in a row.
@@ -305,18 +343,25 @@ fn lay_out_next(
     requires window { IsWindow context.now.arena.now window.now.number window.now.view window.now.first window.now.end }
     requires here { way.old.first < length window.now.view }
     requires item { (d : ℕ) → get_or window.now.view way.old.first d ≡ id.0 }
-    requires room { made.old.tally.searched + (length window.now.view - way.old.first) < 2 ^ 60 }
+    requires begins { ForSome way.old.inside (λ place. StandsBefore place (get_or window.now.view way.old.first 0)) }
+    requires items { All (λ id. id < length context.now.arena.now.tokens) (items_before way.old.inside) }
+    requires decided { All (λ id. IsSome (slot_of made.old.plan id)) (items_before way.old.inside) }
+    requires room { made.old.tally.searched + 67 * (length window.now.view - way.old.first) < 2 ^ 60 }
     requires state { AreInStep context.now.arena.now made.old known.old.ends.now known.old.spans.spans.items }
     ensures state { OnOk result (AreInStep context.now.arena.now made.new known.new.ends.now known.new.spans.spans.items) }
-    ensures on { OnOk result ((plan : List (Option Slot)) (before : Tally) → GoesOnFrom context.now.style.now context.now.budget context.now.arena.now window.now.number plan (seen_by context.now.arena.now window.now.number) before made.old.plan (place_before context.now.arena.now window.now.number window.now.first + way.old.first) made.old.tally → GoesOnFrom context.now.style.now context.now.budget context.now.arena.now window.now.number plan (seen_by context.now.arena.now window.now.number) before made.new.plan (place_before context.now.arena.now window.now.number window.now.first + way.new.first) made.new.tally) }
-    ensures room { OnOk result (made.new.tally.searched ≤ made.old.tally.searched + (way.new.first - way.old.first)) }
-    ensures inside { OnOk result (way.new.first ≤ length window.now.view) }
+    ensures on { OnOk result ((plan : List (Option Slot)) (before : Tally) → GoesOnFrom context.now.style.now context.now.budget context.now.arena.now window.now.number plan (seen_by context.now.arena.now window.now.number) before made.old.plan way.old.inside (place_before context.now.arena.now window.now.number window.now.first + way.old.first) made.old.tally → GoesOnFrom context.now.style.now context.now.budget context.now.arena.now window.now.number plan (seen_by context.now.arena.now window.now.number) before made.new.plan way.new.inside (place_before context.now.arena.now window.now.number window.now.first + way.new.first) made.new.tally) }
+    ensures room { OnOk result (made.new.tally.searched ≤ made.old.tally.searched + 67 * (way.new.first - way.old.first)) }
+    ensures within { OnOk result (way.new.first ≤ length window.now.view) }
     ensures end { IfOk result (λ found. IfSome found (λ parts. way.new.first ≡ parts.end)) }
+    ensures inside { IfOk result (λ found. IfSome found (λ parts. way.new.inside ≡ parts.inside)) }
+    ensures place { IfOk result (λ found. IfSome found (λ parts. ForSome parts.inside (λ place. StandsBefore place (get_or window.now.view parts.end 0)))) }
+    ensures items { OnOk result (All (λ id. id < length context.now.arena.now.tokens) (items_before way.new.inside)) }
+    ensures decided { OnOk result (All (λ id. IsSome (slot_of made.new.plan id)) (items_before way.new.inside)) }
     ensures some { IfOk result (λ found. IfSome found (λ parts. way.old.first < parts.end)) }
-    ensures told { IfOk result (λ found. IfSome found (λ parts. ForSome parts.told (λ told. AreToldIn context.now.arena.now window.now.view way.old.first parts.end told))) }
+    ensures told { IfOk result (λ found. IfSome found (λ parts. ForSome parts.told (λ told. AreToldIn context.now.arena.now window.now.view way.old.inside way.old.first parts.end parts.inside told))) }
     ensures whole { IfOk result (λ found. IfSome found (λ parts. ForNone parts.told (parts.end ≡ length window.now.view))) }
     ensures none { IfOk result (λ found. ForNone found (window.now.end < length context.now.arena.now.tokens)) }
-    ensures stays { IfOk result (λ found. ForNone found (way.new.first ≡ way.old.first)) }
+    ensures stays { IfOk result (λ found. ForNone found ((way.new.first ≡ way.old.first) × (way.new.inside ≡ way.old.inside))) }
     ensures bounds { OnOk result (known.new.bounds.items ≡ known.old.bounds.items) }
     ensures same { OnOk result (way.new.told ≡ way.old.told) }
 {
@@ -324,6 +369,7 @@ fn lay_out_next(
     let begun = way.segment;
     let arena = context.arena;
     let view = &window.view;
+    let inside = way.inside;
     if let Some(parts) = pass_row(arena, view, id, known.ends, way) {
         return Ok(Some(parts));
     }
@@ -333,6 +379,7 @@ fn lay_out_next(
         arena,
         view,
         classes,
+        inside,
         first,
         known.ends,
         &mut known.spans,
@@ -343,9 +390,8 @@ fn lay_out_next(
     if part.told.is_none() && window.end < arena.len() {
         return Ok(None);
     }
-    lay_out_part(context, window, first, part.end, made, begun, room)?;
-    way.row = join_rows(arena, known.ends, way.row, id);
-    way.first = part.end;
+    lay_out_part(context, window, inside, first, part.end, made, begun, room)?;
+    pass_part(arena, id, part, known.ends, way);
     Ok(Some(part))
 }
 
@@ -353,6 +399,7 @@ fn lay_out_next(
 fn note_bound(
     arena: &TokenArena<'_, '_>,
     window: &Window<'_>,
+    begins: Option<BodyPlace>,
     first: u32,
     parts: PartsEnd,
     bounds: &mut Vec<KnownBound, &Bump>,
@@ -361,12 +408,13 @@ fn note_bound(
     requires within { AreWithin arena.now window.now.view }
     requires window { IsWindow arena.now window.now.number window.now.view window.now.first window.now.end }
     requires some { first < parts.end }
-    requires told { ForSome parts.told (λ told. AreToldIn arena.now window.now.view first parts.end told) }
+    requires told { ForSome parts.told (λ told. AreToldIn arena.now window.now.view begins first parts.end parts.inside told) }
     requires whole { ForNone parts.told (parts.end ≡ length window.now.view) }
-    requires begin { IsTrue window.now.later → BeginTold arena.now (items_between 0 way.old.told (seen_by arena.now window.now.number)) (place_before arena.now window.now.number window.now.first + first) }
+    requires begin { IsTrue window.now.later → BeginTold arena.now (items_between 0 way.old.told (seen_by arena.now window.now.number)) (place_before arena.now window.now.number window.now.first + first) begins }
     requires bounds { AreBounds arena.now (seen_by arena.now window.now.number) bounds.old.items way.old.told }
     ensures first { OnOk result (way.new.first ≡ way.old.first) }
-    ensures begin { OnOk result (IsTrue window.now.later → parts.end < length window.now.view → BeginTold arena.now (items_between 0 way.new.told (seen_by arena.now window.now.number)) (place_before arena.now window.now.number window.now.first + parts.end)) }
+    ensures inside { OnOk result (way.new.inside ≡ way.old.inside) }
+    ensures begin { OnOk result (IsTrue window.now.later → parts.end < length window.now.view → BeginTold arena.now (items_between 0 way.new.told (seen_by arena.now window.now.number)) (place_before arena.now window.now.number window.now.first + parts.end) parts.inside) }
     ensures bounds { OnOk result (AreBounds arena.now (seen_by arena.now window.now.number) bounds.new.items way.new.told) }
 {
     if !window.later {
@@ -384,6 +432,7 @@ fn note_bound(
     bounds.push(KnownBound {
         item: item.0,
         told: way.told,
+        inside: parts.inside,
     })?;
     Ok(())
 }
@@ -413,18 +462,24 @@ fn lay_out_window(
     requires window { IsWindow context.now.arena.now window.now.number window.now.view window.now.first window.now.end }
     requires new { window.now.new_end ≤ window.now.end }
     requires start { way.old.first ≡ 0 }
-    requires room { made.old.tally.searched ≤ 2 ^ 59 + 33554432 }
+    requires begins { ForSome way.old.inside (λ place. StandsBefore place (get_or (seen_by context.now.arena.now window.now.number) (place_before context.now.arena.now window.now.number window.now.first) 0)) }
+    requires items { All (λ id. id < length context.now.arena.now.tokens) (items_before way.old.inside) }
+    requires decided { All (λ id. IsSome (slot_of made.old.plan id)) (items_before way.old.inside) }
+    requires room { made.old.tally.searched ≤ 2 ^ 59 + 4294967296 }
     requires state { AreInStep context.now.arena.now made.old known.old.ends.now known.old.spans.spans.items }
-    requires begin { IsTrue window.now.later → BeginTold context.now.arena.now (items_between 0 way.old.told (seen_by context.now.arena.now window.now.number)) (place_before context.now.arena.now window.now.number window.now.first) }
+    requires begin { IsTrue window.now.later → BeginTold context.now.arena.now (items_between 0 way.old.told (seen_by context.now.arena.now window.now.number)) (place_before context.now.arena.now window.now.number window.now.first) way.old.inside }
     requires bounds { AreBounds context.now.arena.now (seen_by context.now.arena.now window.now.number) known.old.bounds.items way.old.told }
     ensures state { OnOk result (AreInStep context.now.arena.now made.new known.new.ends.now known.new.spans.spans.items) }
-    ensures on { OnOk result ((plan : List (Option Slot)) (before : Tally) → GoesOnFrom context.now.style.now context.now.budget context.now.arena.now window.now.number plan (seen_by context.now.arena.now window.now.number) before made.old.plan (place_before context.now.arena.now window.now.number window.now.first) made.old.tally → GoesOnFrom context.now.style.now context.now.budget context.now.arena.now window.now.number plan (seen_by context.now.arena.now window.now.number) before made.new.plan (place_before context.now.arena.now window.now.number window.now.first + way.new.first) made.new.tally) }
-    ensures room { OnOk result (made.new.tally.searched ≤ made.old.tally.searched + way.new.first) }
+    ensures on { OnOk result ((plan : List (Option Slot)) (before : Tally) → GoesOnFrom context.now.style.now context.now.budget context.now.arena.now window.now.number plan (seen_by context.now.arena.now window.now.number) before made.old.plan way.old.inside (place_before context.now.arena.now window.now.number window.now.first) made.old.tally → GoesOnFrom context.now.style.now context.now.budget context.now.arena.now window.now.number plan (seen_by context.now.arena.now window.now.number) before made.new.plan way.new.inside (place_before context.now.arena.now window.now.number window.now.first + way.new.first) made.new.tally) }
+    ensures room { OnOk result (made.new.tally.searched ≤ made.old.tally.searched + 67 * way.new.first) }
     ensures inside { OnOk result (way.new.first ≤ length window.now.view) }
     ensures bounds { OnOk result (AreBounds context.now.arena.now (seen_by context.now.arena.now window.now.number) known.new.bounds.items way.new.told) }
-    ensures begin { IfOk result (λ found. IfSome found (λ id. IsTrue window.now.later → BeginTold context.now.arena.now (items_between 0 way.new.told (seen_by context.now.arena.now window.now.number)) (place_before context.now.arena.now window.now.number window.now.first + way.new.first))) }
+    ensures begin { IfOk result (λ found. IfSome found (λ id. IsTrue window.now.later → BeginTold context.now.arena.now (items_between 0 way.new.told (seen_by context.now.arena.now window.now.number)) (place_before context.now.arena.now window.now.number window.now.first + way.new.first) way.new.inside)) }
     ensures stopped { IfOk result (λ found. IfSome found (λ id. id.0 ≡ get_or window.now.view way.new.first 0)) }
     ensures here { IfOk result (λ found. IfSome found (λ id. way.new.first < length window.now.view)) }
+    ensures place { OnOk result (ForSome way.new.inside (λ place. StandsBefore place (get_or (seen_by context.now.arena.now window.now.number) (place_before context.now.arena.now window.now.number window.now.first + way.new.first) 0))) }
+    ensures items { OnOk result (All (λ id. id < length context.now.arena.now.tokens) (items_before way.new.inside)) }
+    ensures decided { OnOk result (All (λ id. IsSome (slot_of made.new.plan id)) (items_before way.new.inside)) }
     ensures short { IfOk result (λ found. IfSome found (λ id. window.now.end < length context.now.arena.now.tokens)) }
     ensures done { IfOk result (λ found. ForNone found ((k : ℕ) → place_before context.now.arena.now window.now.number window.now.first + way.new.first ≤ k → k < length (seen_by context.now.arena.now window.now.number) → window.now.new_end ≤ get_or (seen_by context.now.arena.now window.now.number) k 0)) }
 {
@@ -435,6 +490,7 @@ fn lay_out_window(
     let mut room = Bump::new(context.alloc);
     while way.first < count {
         let first = way.first;
+        let begins = way.inside;
         let id = view.at_near(first, &mut way.segment);
         if id.0 >= window.new_end {
             return Ok(None);
@@ -444,7 +500,7 @@ fn lay_out_window(
             return Ok(Some(id));
         };
         let bounds = &mut known.bounds;
-        note_bound(context.arena, window, first, parts, bounds, way)?;
+        note_bound(context.arena, window, begins, first, parts, bounds, way)?;
         clear(&mut room, context.alloc);
     }
     Ok(None)
@@ -477,19 +533,20 @@ fn lay_out_seen(
     requires number { turn.now.number < runs_of context.now.arena.now }
     requires room { made.old.tally.searched ≤ 2 ^ 59 }
     requires state { AreInStep context.now.arena.now made.old known.old.ends.now known.old.spans.spans.items }
-    requires bound { IsBound context.now.arena.now (seen_by context.now.arena.now turn.now.number) turn.now.bound.item turn.now.bound.told }
+    requires bound { IsBound context.now.arena.now (seen_by context.now.arena.now turn.now.number) turn.now.bound.item turn.now.bound.told turn.now.bound.inside }
     requires bounds { AreBounds context.now.arena.now (seen_by context.now.arena.now turn.now.number) known.old.bounds.items turn.now.bound.told }
     requires new { turn.now.new_end ≤ length context.now.arena.now.tokens }
     requires before { (id : ℕ) → id < turn.now.bound.item → Contains (seen_by context.now.arena.now turn.now.number) id → IsSome (slot_of made.old.plan id) }
     requires behind { (id : ℕ) → turn.now.new_end ≤ id → Contains (seen_by context.now.arena.now turn.now.number) id → IsSome (slot_of made.old.plan id) }
     ensures told { OnOk result (AreSeenTold context.now.style.now context.now.budget context.now.arena.now turn.now.number made.old.plan (seen_by context.now.arena.now turn.now.number) made.new.plan made.old.tally made.new.tally) }
-    ensures room { OnOk result (made.new.tally.searched ≤ made.old.tally.searched + 33554432) }
+    ensures room { OnOk result (made.new.tally.searched ≤ made.old.tally.searched + 4294967296) }
     ensures state { OnOk result (AreInStep context.now.arena.now made.new known.new.ends.now known.new.spans.spans.items) }
     ensures bounds { OnOk result ((told : ℕ) × AreBounds context.now.arena.now (seen_by context.now.arena.now turn.now.number) known.new.bounds.items told) }
 {
     let items = context.arena.len();
     let mut first = turn.bound.item;
     let mut told = turn.bound.told;
+    let mut inside = turn.bound.inside;
     let mut end = turn.new_end.saturating_add(*ahead).min(items).max(first);
     loop {
         let window = Window {
@@ -500,7 +557,7 @@ fn lay_out_seen(
             new_end: turn.new_end,
             later: turn.later,
         };
-        let mut way = Way::start(told);
+        let mut way = Way::start(told, inside);
         let stopped = lay_out_window(context, &window, known, made, &mut way)?;
         let Some(id) = stopped else {
             *ahead = ahead_of(turn.new_end, way.told, end);
@@ -508,6 +565,7 @@ fn lay_out_seen(
         };
         first = id.0;
         told = way.told;
+        inside = way.inside;
         end = (end + (end - first)).min(items);
     }
 }
@@ -580,9 +638,10 @@ fn lay_out_runs(
     ensures len { OnOk result (length made.new.plan ≡ length made.old.plan) }
 {
     let count = tree.runs();
+    let items = context.arena.len();
     // Where there is one run, none follows to which parts are told.
-    let again = if count > 1 { context.classes.len() } else { 0 };
-    let mut known = KnownParts::none(again, keep)?;
+    let again = if count > 1 { items } else { 0 };
+    let mut known = KnownParts::none(again as usize, keep)?;
     let mut run = Bump::new(context.alloc);
     let mut ahead = LEAST_AHEAD;
     for number in 0..count {

@@ -1,6 +1,6 @@
 //! Texts, their stores, and what their runs see. Where one can't be had the test ends.
 
-ghost use Rattle.std.specs.Prelude.{◌≡◌, length};
+ghost use Rattle.std.specs.Prelude.{◌≡◌, ◌<◌, All, length};
 ghost use Rattle.branch_runs.specs.Cut.{end_of};
 
 use branch_runs::CondTree;
@@ -34,7 +34,9 @@ pub fn tree<'a>(rt: &impl Abort, bump: &'a Bump, arena: &TokenArena<'_, '_>) -> 
 }
 
 /// What a run sees.
-pub fn view<'r>(rt: &impl Abort, run: &'r Bump, tree: &CondTree<'_>, number: u32) -> View<'r> {
+pub fn view<'r>(rt: &impl Abort, run: &'r Bump, tree: &CondTree<'_>, number: u32) -> View<'r>
+    ensures { All (λ id. id < end_of 0 tree.now) result }
+{
     assert!(rt; number < tree.runs());
     tree.view(number, run).expect(rt, "a view")
 }

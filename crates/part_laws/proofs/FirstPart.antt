@@ -46,7 +46,7 @@ Follows arena (id ∷ ids) =
 -- ## The lowest opener that waits
 
 -- it is a `{`, where one waits
-abbrev on_brace : List Opener → Bool
+abbrev pub on_brace : List Opener → Bool
 on_brace [] = true
 on_brace (opener ∷ []) = is_brace opener
 on_brace (opener ∷ next ∷ below) = on_brace (next ∷ below)
@@ -55,7 +55,7 @@ on_below : (opener : Opener) (below : List Opener) → on_brace (opener ∷ belo
 on_below opener [] on = refl
 on_below opener (next ∷ below) on = on
 
-abbrev waits_so : List Opener → Matching
+abbrev pub waits_so : List Opener → Matching
 waits_so waiting = record { open_brackets = waiting; partners = [] }
 
 -- another closer takes off no brace
@@ -95,7 +95,7 @@ square_is_no_brace place OpenSquare square brace = cc
 square_is_no_brace place _ square brace = cc
 
 -- behind one more token
-inside_on : (class : TokenClass) (place : ℕ) (opener : Opener) (below : List Opener) → on_brace (opener ∷ below) ≡ true
+pub inside_on : (class : TokenClass) (place : ℕ) (opener : Opener) (below : List Opener) → on_brace (opener ∷ below) ≡ true
     → (on_brace (waiting_behind class place (opener ∷ below)) ≡ true) × (waiting_behind class place (opener ∷ below) ≡ [] → closes_part class ≡ true)
 inside_on OpenRound place opener below on = (on, λ e. cc)
 inside_on OpenSquare place opener below on = (on, λ e. cc)
@@ -134,7 +134,7 @@ no_comment_ends : (between : Bool) → is_end (if between then Between else Othe
 no_comment_ends true e = cc
 no_comment_ends false e = cc
 
-outside_on : (walk : Walk) (class : TokenClass) → is_end (behind walk class) ≡ true → on_brace (waiting_behind class walk.place []) ≡ true
+pub outside_on : (walk : Walk) (class : TokenClass) → is_end (behind walk class) ≡ true → on_brace (waiting_behind class walk.place []) ≡ true
 outside_on walk OpenRound e = (let body : false ≡ true = group_is_body walk OpenRound e in cc)
 outside_on walk OpenSquare e = (let body : false ≡ true = group_is_body walk OpenSquare e in cc)
 outside_on walk OpenBrace e = refl

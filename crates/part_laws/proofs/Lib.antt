@@ -33,3 +33,8 @@ pub mod Toks
 pub mod TellsParts
 pub mod LastToken
 pub mod RolesStay
+pub mod SameKinds
+pub mod SameSteps
+pub mod PartSteps
+pub mod DeclarationsStay
+pub mod DeclarationsFollow

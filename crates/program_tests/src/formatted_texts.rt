@@ -363,6 +363,31 @@ pub const BRANCHES: &[Row] = &[
         ..QUIET
     },
     Row {
+        name: "statements of a body on both sides of a directive",
+        input: b"int f(void){a;\n#if A\n#endif\nb;}\n",
+        out: b"int f(void) {\n  a;\n#if A\n#endif\n  b;\n}\n",
+        ..QUIET
+    },
+    Row {
+        name: "empty lines at the start of a body and behind a directive in it",
+        words: &["--style", "Google"],
+        input: b"int f(void){\n\na;\n#if A\n\nb;\n#endif\n}\n",
+        out: b"int f(void) {\n  a;\n#if A\n\n  b;\n#endif\n}\n",
+        ..QUIET
+    },
+    Row {
+        name: "a label behind a directive of a body",
+        input: b"void f(void){if(a){b;}\n#if A\n// c\nout: d;\n#endif\n}\n",
+        out: b"void f(void) {\n  if (a) {\n    b;\n  }\n#if A\n// c\nout:\n  d;\n#endif\n}\n",
+        ..QUIET
+    },
+    Row {
+        name: "a comment of a body behind a directive and before its end",
+        input: b"void f(void){a;\n#if A\n/* b */\n#else\nc; // d\n#endif\n}\n",
+        out: b"void f(void) {\n  a;\n#if A\n  /* b */\n#else\n  c; // d\n#endif\n}\n",
+        ..QUIET
+    },
+    Row {
         name: "a dead group and one that lives",
         input: b"if(a){\n#if 0\n  b ( ;\n\n\n#else\nc();\n#endif\n}\n",
         out: b"if (a) {\n#if 0\n  b ( ;\n\n\n#else\n  c();\n#endif\n}\n",

@@ -33,6 +33,32 @@ const BRACES: Pieces = &[(b"{", 100_000)];
 /// 100,000 conditionals in one another that nothing closes.
 const CONDITIONALS: Pieces = &[(b"#ifdef A\n", 100_000), (b"x;\n", 1)];
 
+/// A function with as many branches beside one another as statements behind them.
+const BRANCHES: Pieces = &[
+    (b"void f(void) {\n#if A\n", 1),
+    (b"b();\n#elif B\n", 20_000),
+    (b"#endif\n", 1),
+    (b"c();\n", 20_000),
+    (b"}\n", 1),
+];
+
+/// The same, laid out.
+const BRANCHES_LAID_OUT: Pieces = &[
+    (b"void f(void) {\n#if A\n", 1),
+    (b"  b();\n#elif B\n", 20_000),
+    (b"#endif\n", 1),
+    (b"  c();\n", 20_000),
+    (b"}\n", 1),
+];
+
+/// A function with conditionals in one another, each with two branches.
+const BRANCHES_IN_BRANCHES: Pieces = &[
+    (b"void f(void) {\n", 1),
+    (b"#if A\nb();\n#else\nc();\n", 10_000),
+    (b"#endif\n", 10_000),
+    (b"}\n", 1),
+];
+
 /// Braces of all levels begin their rows at column 0.
 const FLAT: &[(&str, &[u8])] = &[(".clang-format", b"IndentWidth: 0\n")];
 
@@ -100,6 +126,27 @@ const LONG_TEXTS: &[LongText] = &[
         },
         input: CONDITIONALS,
         out: Output::Text(&[]),
+    },
+    LongText {
+        row: Row {
+            name: "20,000 branches and as many statements in one function",
+            ..QUIET
+        },
+        input: BRANCHES,
+        out: Output::Text(BRANCHES_LAID_OUT),
+    },
+    LongText {
+        row: Row {
+            name: "10,000 conditionals in one another in one function",
+            ..QUIET
+        },
+        input: BRANCHES_IN_BRANCHES,
+        out: Output::Text(&[
+            (b"void f(void) {\n", 1),
+            (b"#if A\n  b();\n#else\n  c();\n", 10_000),
+            (b"#endif\n", 10_000),
+            (b"}\n", 1),
+        ]),
     },
     LongText {
         row: Row {

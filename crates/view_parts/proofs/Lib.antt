@@ -5,3 +5,5 @@ pub mod Spans
 pub mod RowParts
 pub mod NotedRows
 pub mod Told
+pub mod InBodies
+pub mod Laid

@@ -10,10 +10,11 @@ use Rattle.view_parts.specs.declared.known.KnownEnd.{KnownEnd}
 use Rattle.view_parts.specs.declared.known.KnownEnd.TheVariants.{Unknown, InRow, InRows, InSpan}
 use Rattle.view_parts.specs.declared.known.KnownRow.{KnownRow}
 use Rattle.view_parts.specs.Known.{IsKnown, AreKnown, FollowInRow, AreKnownRows, row_of, joined, joined_rows}
-use Rattle.view_parts.specs.Parts.{part_len, next_end, EndsBehind, FollowUpTo, ArePartsUpTo}
-use Rattle.view_parts.specs.Walk.{start}
+use Rattle.view_parts.specs.Parts.{PartStop, count_or, end_of_part, place_of, stop_from, EndsBehind, FollowUpTo, ArePartsUpTo}
+use Rattle.view_parts.specs.declared.walk.BodyPlace.{BodyPlace}
+use Rattle.view_parts.specs.declared.walk.Ended.{Ended}
 use Rattle.view_parts.proofs.Rows.{row_from, row_item, noted_all}
-use Rattle.view_parts.proofs.Walked.{len_behind}
+use Rattle.view_parts.proofs.Walked.{end_behind, outside_at}
 
 pub range_cut : (a m n k : ℕ) → k ≡ m + n → range_with_len a k ≡ range_with_len a m ++ range_with_len (a + m) n
 range_cut a zero n k e =
@@ -26,13 +27,13 @@ range_cut a (suc m) n (suc k) e =
     ap (λ (xs : List ℕ). a ∷ xs) (range_cut (a + 1) m n k (omega (arith, e)) ∙ ap (λ b. range_with_len (a + 1) m ++ range_with_len b n) here)
 
 -- items that tell an end tell it with those behind them
-ends_further : (arena : Contents) (ids more : List ℕ) (count : ℕ) → EndsBehind arena ids count → EndsBehind arena (ids ++ more) count
-ends_further arena ids more count ends rest = ap (λ (xs : List ℕ). next_end arena start [] xs) (append_assoc ids more rest) ∙ ends (more ++ rest)
+ends_further : (arena : Contents) (ids more : List ℕ) (ended : Ended) → EndsBehind arena None ids ended → EndsBehind arena None (ids ++ more) ended
+ends_further arena ids more ended ends rest = ap (λ (xs : List ℕ). end_of_part arena None xs) (append_assoc ids more rest) ∙ ends (more ++ rest)
 
-ends_later : (arena : Contents) (id seen later count : ℕ) → id ≤ seen → seen ≤ later → EndsBehind arena (range_with_len id (seen - id)) count → EndsBehind arena (range_with_len id (later - id)) count
+ends_later : (arena : Contents) (id seen later count : ℕ) → id ≤ seen → seen ≤ later → EndsBehind arena None (range_with_len id (seen - id)) (outside_at count) → EndsBehind arena None (range_with_len id (later - id)) (outside_at count)
 ends_later arena id seen later count low high ends =
     let cut = range_cut id (seen - id) (later - seen) (later - id) (omega (arith, low, high)) in
-    subst (λ (xs : List ℕ). EndsBehind arena xs count) (sym cut) (ends_further arena (range_with_len id (seen - id)) (range_with_len (id + (seen - id)) (later - seen)) count ends)
+    subst (λ (xs : List ℕ). EndsBehind arena None xs (outside_at count)) (sym cut) (ends_further arena (range_with_len id (seen - id)) (range_with_len (id + (seen - id)) (later - seen)) (outside_at count) ends)
 
 pub row_order : (arena : Contents) (seen id last : ℕ) (ends : List ℕ) → FollowInRow arena seen id last ends → id ≤ last
 row_order arena seen id last [] follow = omega (arith, follow)
@@ -77,20 +78,28 @@ rows_of arena id (InSpan number) row e so = absurd (none e)
 
 -- ## A view that has the row
 
+-- the end of a part at this place, outside brackets
+abbrev pub stop_outside : ℕ → PartStop
+stop_outside end = record { end = end; inside = None }
+
+-- where the part of a view ends of which that is told
+pub stop_at : (arena : Contents) (view : List ℕ) (begins : Option BodyPlace) (first : ℕ) (ended : Ended) → end_of_part arena begins (drop first view) ≡ Some ended → record { end = first + ended.count; inside = ended.inside } ≡ stop_from arena view begins first
+stop_at arena view begins first ended is = ap (λ (end : Option Ended). record { end = first + count_or end (length (drop first view)); inside = place_of end }) (sym is)
+
 row_told : (arena : Contents) (view : List ℕ) (seen id end first : ℕ) → Increase view → id < seen → first + (seen - id) ≤ length view → ((k : ℕ) → k < seen - id → get_or view (first + k) 0 ≡ id + k)
-    → EndsBehind arena (range_with_len id (seen - id)) (end - id) → part_len arena (drop first view) ≡ end - id
+    → EndsBehind arena None (range_with_len id (seen - id)) (outside_at (end - id)) → end_of_part arena None (drop first view) ≡ Some (outside_at (end - id))
 row_told arena view seen id end first increase some inside items ends =
     let behind = seen - id - 1 in
     let n : suc behind ≡ seen - id = omega (arith, some) in
     let e : first + 0 ≡ first = omega arith in
     let at : get_or view first 0 ≡ id = ap (λ k. get_or view k 0) (sym e) ∙ (items 0 (omega (arith, some)) ∙ omega arith) in
     let same : take (suc behind) (drop first view) ≡ range_with_len id (suc behind) = row_from view first id behind increase (omega (arith, some, inside)) at (items behind (omega (arith, some))) in
-    let told : EndsBehind arena (range_with_len id (suc behind)) (end - id) = subst (λ k. EndsBehind arena (range_with_len id k) (end - id)) (sym n) ends in
-    len_behind arena (drop first view) (suc behind) (end - id) (subst (λ (xs : List ℕ). EndsBehind arena xs (end - id)) (sym same) told)
+    let told : EndsBehind arena None (range_with_len id (suc behind)) (outside_at (end - id)) = subst (λ k. EndsBehind arena None (range_with_len id k) (outside_at (end - id))) (sym n) ends in
+    end_behind arena None (drop first view) (suc behind) (outside_at (end - id)) (subst (λ (xs : List ℕ). EndsBehind arena None xs (outside_at (end - id))) (sym same) told)
 
 follow_view : (arena : Contents) (view : List ℕ) (seen id last : ℕ) (ends : List ℕ) (first : ℕ) → Increase view → last < seen → first + (seen - id) ≤ length view → ((k : ℕ) → k < seen - id → get_or view (first + k) 0 ≡ id + k)
-    → FollowInRow arena seen id last ends → ArePartsUpTo arena view first (first + (last - id))
-follow_view arena view seen id last [] first increase within inside items follow = record { ends = []; follow = omega (arith, follow) }
+    → FollowInRow arena seen id last ends → ArePartsUpTo arena view None first (stop_outside (first + (last - id)))
+follow_view arena view seen id last [] first increase within inside items follow = record { stops = []; follow = ap (λ n. stop_outside n) (omega (arith, follow)) }
 follow_view arena view seen id last (end ∷ ends) first increase within inside items follow =
     let upto = row_order arena seen end last ends follow.2 in
     let some = follow.0 in
@@ -103,13 +112,13 @@ follow_view arena view seen id last (end ∷ ends) first increase within inside 
     follow.2 in
     let e : here + (last - end) ≡ first + (last - id) = omega (arith, some, upto) in
     record {
-      ends = here ∷ rest.ends;
-      follow = (omega (arith, inside, some, upto, within), omega (arith, some), omega (arith, told), subst (λ l. FollowUpTo arena view here l rest.ends) e rest.follow);
+      stops = stop_outside here ∷ rest.stops;
+      follow = (omega (arith, inside, some, upto, within), omega (arith, some), stop_at arena view None first (outside_at (end - id)) told, subst (λ l. FollowUpTo arena view None here (stop_outside l) rest.stops) e rest.follow);
     }
 
 -- where the view has the first and the last item of the row as far behind one another as they are, it has the parts
 pub rows_in_view : (arena : Contents) (view : List ℕ) (first id behind : ℕ) (known : KnownRow) → Increase view → first + behind < length view → get_or view first 0 ≡ id → get_or view (first + behind) 0 ≡ known.seen - 1 → behind ≡ known.seen - 1 - id
-    → AreKnownRows arena id known → ArePartsUpTo arena view first (first + (known.end - id))
+    → AreKnownRows arena id known → ArePartsUpTo arena view None first (stop_outside (first + (known.end - id)))
 rows_in_view arena view first id behind known increase below at last is are =
     let n : suc behind ≡ known.seen - id = omega (arith, is, are.some, are.later) in
     let far : get_or view (first + behind) 0 ≡ id + behind = omega (arith, last, is, are.some, are.later) in

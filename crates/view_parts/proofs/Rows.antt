@@ -1,24 +1,25 @@
 -- Places of a view whose items stand in a row.
-use Rattle.std.proofs.Common.{true, not, ◌&&◌, ◌≡◌, ◌∙◌, ◌⊎◌, inl, inr, ℕ, zero, suc, ◌+◌, ◌-◌, ◌<◌, ◌≤◌, List, [], ◌∷◌, length, take, drop, get_or, refl, sym, ap, subst, arith, get_or-set_same, get_or-set_other}
-use Rattle.std.specs.Prelude.{All, ◌^◌, slice_range, slice_set, replicate, map}
+use Rattle.std.proofs.Common.{true, ◌≡◌, ◌∙◌, ◌⊎◌, inl, inr, ℕ, zero, suc, ◌+◌, ◌-◌, ◌<◌, ◌≤◌, List, [], ◌∷◌, length, take, drop, get_or, refl, sym, ap, subst, arith, get_or-set_same, get_or-set_other}
+use Rattle.std.specs.Prelude.{All, ◌^◌, slice_range, slice_set, replicate, map, None}
 use Rattle.std.specs.List.{range_with_len}
 use Rattle.std.proofs.lemmas.List.{get_or-drop, get_or-take, length-drop}
 use Rattle.std.proofs.lemmas.List.FromFn.{get_or-range_with_len}
 use Rattle.token_arena.specs.Gaps.{Contents}
 use Rattle.token_classes.specs.declared.class.TokenClass.{TokenClass}
-use Rattle.token_classes.specs.Classes.{is_bracket, is_comment}
 use Rattle.token_arena.specs.Ids.{Increase, IncreaseFrom}
 use Rattle.token_arena.specs.declared.view.Segment.{Segment}
 use Rattle.token_arena.specs.Segments.{ids_of, segment_bounds, AreSegments, CountFrom, HasPlace, no_segment}
 use Rattle.token_arena.proofs.SegmentLemmas.{item_at_start, length_items}
+use Rattle.view_parts.specs.declared.walk.Around.{Around}
 use Rattle.view_parts.specs.declared.known.KnownEnd.{KnownEnd}
 use Rattle.view_parts.specs.declared.known.KnownEnd.TheVariants.{Unknown}
 use Rattle.view_parts.specs.declared.known.KnownRow.{KnownRow}
 use Rattle.view_parts.specs.Known.{IsKnown, IsKnownRow, AreKnown}
 use Rattle.view_parts.specs.declared.ends.Row.{Row}
 use Rattle.view_parts.specs.Rows.{IsRow}
-use Rattle.view_parts.specs.Parts.{part_len, EndsBehind}
-use Rattle.view_parts.proofs.Walked.{len_behind}
+use Rattle.view_parts.specs.Walk.{is_quiet}
+use Rattle.view_parts.specs.Parts.{part_inside, part_len, EndsBehind}
+use Rattle.view_parts.proofs.Walked.{inside_behind, len_behind, outside_at}
 
 at_least : (low : ℕ) (ids : List ℕ) (i : ℕ) → IncreaseFrom low ids → i < length ids → low + i ≤ get_or ids i 0
 at_least low [] i increase below = absurd (omega (arith, below))
@@ -63,16 +64,27 @@ row_item view first id behind increase below at last k low =
 
 -- ## What is known of a part
 
-pub recalled_len : (arena : Contents) (view : List ℕ) (first id behind : ℕ) (known : KnownRow) → Increase view → first + behind < length view → get_or view first 0 ≡ id → get_or view (first + behind) 0 ≡ known.seen - 1 → behind ≡ known.seen - 1 - id
-    → IsKnownRow arena id known → first + (known.end - id) ≡ first + part_len arena (drop first view)
-recalled_len arena view first id behind known increase below at last is so =
+recalled_ends : (arena : Contents) (view : List ℕ) (first id behind : ℕ) (known : KnownRow) → Increase view → first + behind < length view → get_or view first 0 ≡ id → get_or view (first + behind) 0 ≡ known.seen - 1 → behind ≡ known.seen - 1 - id
+    → IsKnownRow arena id known → EndsBehind arena None (take (known.seen - id) (drop first view)) (outside_at (known.end - id))
+recalled_ends arena view first id behind known increase below at last is so =
     let n : suc behind ≡ known.seen - id = omega (arith, is, so.some, so.later) in
     let far : get_or view (first + behind) 0 ≡ id + behind = omega (arith, last, is, so.some, so.later) in
     let same : range_with_len id (known.seen - id) ≡ take (known.seen - id) (drop first view) = subst (λ k. range_with_len id k ≡ take k (drop first view)) n (sym (row_from view first id behind increase below at far)) in
-    ap (λ k. first + k) (sym (len_behind arena (drop first view) (known.seen - id) (known.end - id) (subst (λ (xs : List ℕ). EndsBehind arena xs (known.end - id)) same so.ends)))
+    subst (λ (xs : List ℕ). EndsBehind arena None xs (outside_at (known.end - id))) same so.ends
+
+pub recalled_len : (arena : Contents) (view : List ℕ) (first id behind : ℕ) (known : KnownRow) → Increase view → first + behind < length view → get_or view first 0 ≡ id → get_or view (first + behind) 0 ≡ known.seen - 1 → behind ≡ known.seen - 1 - id
+    → IsKnownRow arena id known → first + (known.end - id) ≡ first + part_len arena None (drop first view)
+recalled_len arena view first id behind known increase below at last is so =
+    ap (λ k. first + k) (sym (len_behind arena None (drop first view) (known.seen - id) (outside_at (known.end - id)) (recalled_ends arena view first id behind known increase below at last is so)))
+
+-- it ends outside brackets
+pub recalled_outside : (arena : Contents) (view : List ℕ) (first id behind : ℕ) (known : KnownRow) → Increase view → first + behind < length view → get_or view first 0 ≡ id → get_or view (first + behind) 0 ≡ known.seen - 1 → behind ≡ known.seen - 1 - id
+    → IsKnownRow arena id known → part_inside arena None (drop first view) ≡ None
+recalled_outside arena view first id behind known increase below at last is so =
+    inside_behind arena None (drop first view) (known.seen - id) (outside_at (known.end - id)) (recalled_ends arena view first id behind known increase below at last is so)
 
 pub noted_end : (arena : Contents) (view : List ℕ) (first id end seen last : ℕ) → Increase view → first < end → end < seen → seen ≤ length view → get_or view first 0 ≡ id → get_or view (seen - 1) 0 ≡ last → id ≤ last → last - id ≡ seen - 1 - first
-    → EndsBehind arena (slice_range view first seen) (end - first) → IsKnownRow arena id (record { end = id + (end - first); seen = last + 1 })
+    → EndsBehind arena None (slice_range view first seen) (outside_at (end - first)) → IsKnownRow arena id (record { end = id + (end - first); seen = last + 1 })
 noted_end arena view first id end seen last increase some later inside at at_last low is ends =
     let behind = seen - 1 - first in
     let e : first + behind ≡ seen - 1 = omega (arith, some, later) in
@@ -80,13 +92,13 @@ noted_end arena view first id end seen last increase some later inside at at_las
     let m : suc behind ≡ (last + 1) - id = omega (arith, low, is) in
     let far : get_or view (first + behind) 0 ≡ id + behind = ap (λ k. get_or view k 0) e ∙ (at_last ∙ omega (arith, low, is)) in
     let same : take (suc behind) (drop first view) ≡ range_with_len id (suc behind) = row_from view first id behind increase (omega (arith, inside, some, later)) at far in
-    let told : EndsBehind arena (take (suc behind) (drop first view)) (end - first) = subst (λ k. EndsBehind arena (take k (drop first view)) (end - first)) (sym n) ends in
-    let row_told : EndsBehind arena (range_with_len id ((last + 1) - id)) (end - first) = subst (λ k. EndsBehind arena (range_with_len id k) (end - first)) m (subst (λ (xs : List ℕ). EndsBehind arena xs (end - first)) same told) in
+    let told : EndsBehind arena None (take (suc behind) (drop first view)) (outside_at (end - first)) = subst (λ k. EndsBehind arena None (take k (drop first view)) (outside_at (end - first))) (sym n) ends in
+    let row_told : EndsBehind arena None (range_with_len id ((last + 1) - id)) (outside_at (end - first)) = subst (λ k. EndsBehind arena None (range_with_len id k) (outside_at (end - first))) m (subst (λ (xs : List ℕ). EndsBehind arena None xs (outside_at (end - first))) same told) in
     let c : end - first ≡ (id + (end - first)) - id = omega arith in
     record {
       some = omega (arith, some);
       later = omega (arith, some, later, low, is);
-      ends = subst (λ k. EndsBehind arena (range_with_len id ((last + 1) - id)) k) c row_told;
+      ends = subst (λ k. EndsBehind arena None (range_with_len id ((last + 1) - id)) (outside_at k)) c row_told;
     }
 
 pub here_or_not : (at id : ℕ) → (at ≡ id) ⊎ (at ≡ id → ⊥)
@@ -174,8 +186,22 @@ row_stored view place items row within here is =
     omega (arith, last, below, here)
 
 -- the quiet tokens behind a place, as items of the view
-pub quiet_view : (view : List ℕ) (all : List TokenClass) (place n : ℕ) (row : Row) → IsRow view place row → place + n < row.end
-    → ((k : ℕ) → (d : TokenClass) → place < k → k ≤ place + n → not (is_bracket (get_or all (k + row.shift) d)) && not (is_comment (get_or all (k + row.shift) d)) ≡ true)
-    → (k : ℕ) → (d : TokenClass) → place < k → k ≤ place + n → not (is_bracket (get_or all (get_or view k 0) d)) && not (is_comment (get_or all (get_or view k 0) d)) ≡ true
-quiet_view view all place n row is within quiet k d after upto =
-    ap (λ id. not (is_bracket (get_or all id d)) && not (is_comment (get_or all id d))) (is.items k (omega (arith, after)) (omega (arith, upto, within))) ∙ quiet k d after upto
+pub quiet_view : (stands : Around) (view : List ℕ) (all : List TokenClass) (place n : ℕ) (row : Row) → IsRow view place row → place + n < row.end
+    → ((k : ℕ) → (d : TokenClass) → place < k → k ≤ place + n → is_quiet stands (get_or all (k + row.shift) d) ≡ true)
+    → (k : ℕ) → (d : TokenClass) → place < k → k ≤ place + n → is_quiet stands (get_or all (get_or view k 0) d) ≡ true
+quiet_view stands view all place n row is within quiet k d after upto =
+    ap (λ id. is_quiet stands (get_or all id d)) (is.items k (omega (arith, after)) (omega (arith, upto, within))) ∙ quiet k d after upto
+
+-- the items of a row from a place on, as those of a view behind the first one
+pub row_items : (view : List ℕ) (first place n id : ℕ) (row : Row) → IsRow view (first + place) row → id ≡ first + place + row.shift → first + place + n < row.end → (k : ℕ) → k ≤ n → get_or (drop first view) (place + k) 0 ≡ id + k
+row_items view first place n id row is at within k low =
+    let e : first + (place + k) ≡ first + place + k = omega arith in
+    get_or-drop first view (place + k) 0 ∙ (ap (λ j. get_or view j 0) e ∙ (is.items (first + place + k) (omega arith) (omega (arith, low, within)) ∙ omega (arith, at)))
+
+-- the items of a view from a place on increase
+pub drop_increase : (first : ℕ) (view : List ℕ) → Increase view → Increase (drop first view)
+drop_increase first view increase = (let rest = dropped 0 first view increase in from_zero rest.0 (drop first view) rest.1)
+  where
+    from_zero : (low : ℕ) (ids : List ℕ) → IncreaseFrom low ids → IncreaseFrom 0 ids
+    from_zero low [] increase = tt
+    from_zero low (id ∷ ids) increase = (omega arith, increase.1)

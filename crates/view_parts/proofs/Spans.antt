@@ -1,6 +1,6 @@
 -- Parts that stand in no row.
 use Rattle.std.proofs.Common.{◌≡◌, ◌∙◌, ◌⊎◌, inl, inr, ℕ, suc, ◌+◌, ◌-◌, ◌<◌, ◌≤◌, List, [], ◌∷◌, map, length, take, drop, get_or, sym, ap, subst, arith}
-use Rattle.std.specs.Prelude.{slice_range}
+use Rattle.std.specs.Prelude.{None, slice_range}
 use Rattle.std.proofs.lemmas.List.{ext_get_or, get_or-drop, get_or-take, length-drop, length-take-le}
 use Rattle.std.proofs.lemmas.List.FromFn.{get_or-range_with_len}
 use Rattle.token_arena.specs.Gaps.{Contents}
@@ -10,9 +10,9 @@ use Rattle.token_arena.specs.Segments.{ids_of, segment_bounds, AreSegments, Coun
 use Rattle.token_arena.proofs.SegmentLemmas.{item_at_start, length_items, well}
 use Rattle.view_parts.specs.declared.known.KnownSpan.{KnownSpan}
 use Rattle.view_parts.specs.Known.{IsSpan}
-use Rattle.view_parts.specs.Parts.{part_len, EndsBehind}
+use Rattle.view_parts.specs.Parts.{part_inside, part_len, EndsBehind}
 use Rattle.view_parts.proofs.Rows.{row_from, within_view}
-use Rattle.view_parts.proofs.Walked.{len_behind}
+use Rattle.view_parts.proofs.Walked.{inside_behind, len_behind, outside_at}
 
 -- ## The same items
 
@@ -97,17 +97,23 @@ same_all view first items segments n rule is all inside same =
 
 -- ## What is known of a part
 
-pub recalled_so : (arena : Contents) (view : List ℕ) (first : ℕ) (span : KnownSpan) → slice_range view first (first + length span.told) ≡ span.told → IsSpan arena span → first + span.count ≡ first + part_len arena (drop first view)
+pub recalled_so : (arena : Contents) (view : List ℕ) (first : ℕ) (span : KnownSpan) → slice_range view first (first + length span.told) ≡ span.told → IsSpan arena span → first + span.count ≡ first + part_len arena None (drop first view)
 recalled_so arena view first span same so =
     let n = first + length span.told - first in
-    ap (λ k. first + k) (sym (len_behind arena (drop first view) n span.count (subst (λ (xs : List ℕ). EndsBehind arena xs span.count) (sym same) so.ends)))
+    ap (λ k. first + k) (sym (len_behind arena None (drop first view) n (outside_at span.count) (subst (λ (xs : List ℕ). EndsBehind arena None xs (outside_at span.count)) (sym same) so.ends)))
 
-pub noted_so : (arena : Contents) (view : List ℕ) (first end seen : ℕ) (told : List ℕ) → first < end → end < seen → seen ≤ length view → told ≡ slice_range view first seen → EndsBehind arena (slice_range view first seen) (end - first)
+-- it ends outside brackets
+pub recalled_outside : (arena : Contents) (view : List ℕ) (first : ℕ) (span : KnownSpan) → slice_range view first (first + length span.told) ≡ span.told → IsSpan arena span → part_inside arena None (drop first view) ≡ None
+recalled_outside arena view first span same so =
+    let n = first + length span.told - first in
+    inside_behind arena None (drop first view) n (outside_at span.count) (subst (λ (xs : List ℕ). EndsBehind arena None xs (outside_at span.count)) (sym same) so.ends)
+
+pub noted_so : (arena : Contents) (view : List ℕ) (first end seen : ℕ) (told : List ℕ) → first < end → end < seen → seen ≤ length view → told ≡ slice_range view first seen → EndsBehind arena None (slice_range view first seen) (outside_at (end - first))
     → IsSpan arena (record { count = end - first; told = told })
 noted_so arena view first end seen told some later inside is ends =
     let whole : length told ≡ seen - first = ap (λ (ids : List ℕ). length ids) is ∙ length-take-le (seen - first) (drop first view) (omega (arith, length-drop first view, inside, some, later)) in
     record {
       some = omega (arith, some);
       later = omega (arith, some, later, whole);
-      ends = subst (λ (xs : List ℕ). EndsBehind arena xs (end - first)) (sym is) ends;
+      ends = subst (λ (xs : List ℕ). EndsBehind arena None xs (outside_at (end - first))) (sym is) ends;
     }

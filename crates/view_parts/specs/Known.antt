@@ -12,12 +12,12 @@ use Rattle.view_parts.specs.Parts.{EndsBehind}
 pub record IsKnownRow (arena : Contents) (id : ℕ) (known : KnownRow) : Type 0 where
   pub some : id < known.end
   pub later : known.end < known.seen
-  pub ends : EndsBehind arena (range_with_len id (known.seen - id)) (known.end - id)
+  pub ends : EndsBehind arena None (range_with_len id (known.seen - id)) (record { count = known.end - id; inside = None })
 
 -- Parts that follow one another in a row, the first of which begins with this item, end so: each behind the item before the next one, and the last before this one. The items of the row up to `seen` tell so, whatever follows them.
 abbrev pub FollowInRow : Contents → ℕ → ℕ → ℕ → List ℕ → Type 0
 FollowInRow arena seen id last [] = id ≡ last
-FollowInRow arena seen id last (end ∷ ends) = (id < end) × EndsBehind arena (range_with_len id (seen - id)) (end - id) × FollowInRow arena seen end last ends
+FollowInRow arena seen id last (end ∷ ends) = (id < end) × EndsBehind arena None (range_with_len id (seen - id)) (record { count = end - id; inside = None }) × FollowInRow arena seen end last ends
 
 -- parts that begin with this item, one behind another in a row, the last of which ends so
 pub record AreKnownRows (arena : Contents) (id : ℕ) (known : KnownRow) : Type 0 where
@@ -41,7 +41,7 @@ AreKnown arena knowns = (id : ℕ) → id < length knowns → IsKnown arena id (
 pub record IsSpan (arena : Contents) (span : KnownSpan) : Type 0 where
   pub some : 0 < span.count
   pub later : span.count < length span.told
-  pub ends : EndsBehind arena span.told span.count
+  pub ends : EndsBehind arena None span.told (record { count = span.count; inside = None })
 
 -- what is noted of parts that stand in no row is so
 abbrev pub AreSpans : Contents → List KnownSpan → Type 0

@@ -1,15 +1,15 @@
 //! Where the parts of a view end.
 
-ghost use Rattle.std.specs.Prelude.{not, true, ◌&&◌, ◌≡◌, ◌<◌, ◌≤◌, ◌+◌, ◌-◌, ◌^◌, ℕ, length, drop, get_or, slice_range, IfOk};
+ghost use Rattle.std.specs.Prelude.{true, ◌≡◌, ◌<◌, ◌≤◌, ◌+◌, ◌-◌, ◌^◌, ℕ, length, drop, get_or, reverse, slice_range, IfOk};
 ghost use Rattle.std.specs.Option.{ForNone, ForSome};
 ghost use Rattle.token_classes.specs.declared.class.TokenClass.{TokenClass};
-ghost use Rattle.token_classes.specs.Classes.{is_bracket, is_comment};
 ghost use Rattle.token_classes.specs.Viewed.{AreWithin, item_classes};
 ghost use Rattle.token_arena.specs.Ids.{Increase};
-ghost use Rattle.view_parts.specs.Parts.{part_len, EndsBehind};
+ghost use Rattle.view_parts.specs.Parts.{around_of, part_inside, part_len, EndsBehind, StandsBefore};
 ghost use Rattle.view_parts.specs.Rows.{IsRow};
+ghost use Rattle.view_parts.specs.Walk.{is_quiet, may_end};
 
-use crate::walk::{Reading, read, start};
+use crate::walk::{Around, BodyPlace, Told, Walk, is_label, read, start};
 use bumpalo::Bump;
 use line_tokens::{NoMemory, TokenId};
 use token_arena::{TokenArena, View};
@@ -22,24 +22,28 @@ pub struct PartEnd {
     pub end: u32,
     /// The place behind the items that tell so, whatever follows them. There is none where the part ends with the view.
     pub seen: Option<u32>,
+    /// Where that is in a function's body, if it is in one.
+    pub inside: Option<BodyPlace>,
 }
 
-/// Whether a token in a group changes nothing but the place.
+/// Whether a token changes nothing but the place and which token was the last, by what it stands in.
 #[inline(always)]
-fn is_quiet(class: TokenClass) -> bool
-    ensures { result ≡ (not (is_bracket class) && not (is_comment class)) }
+fn is_quiet(around: Around, class: TokenClass) -> bool
+    ensures { result ≡ is_quiet around class }
 {
-    !class.is_bracket() && !class.is_comment()
+    !class.is_bracket()
+        && !class.is_comment()
+        && (matches!(around, Around::Group) || !is_label(class))
 }
 
 /// How many quiet tokens stand at the beginning of these.
 #[inline(always)]
-fn quiet_count(classes: &[TokenClass]) -> usize
+fn quiet_count(around: Around, classes: &[TokenClass]) -> usize
     ensures within { result ≤ length classes.now }
-    ensures quiet { (k : ℕ) → (d : TokenClass) → k < result → not (is_bracket (get_or classes.now k d)) && not (is_comment (get_or classes.now k d)) ≡ true }
+    ensures quiet { (k : ℕ) → (d : TokenClass) → k < result → is_quiet around (get_or classes.now k d) ≡ true }
 {
     let mut count = 0;
-    while count < classes.len() && is_quiet(classes[count]) {
+    while count < classes.len() && is_quiet(around, classes[count]) {
         count += 1;
     }
     count
@@ -96,17 +100,46 @@ fn item_at(view: &View<'_>, place: u32, row: &mut Row, segment: &mut usize) -> T
     TokenId(place + row.shift)
 }
 
-/// How many quiet tokens follow a place directly in its row.
+/// How many quiet tokens follow a place directly in its row. Labels are looked for where they count, not in a group.
 #[inline(always)]
-fn quiet_behind(all: &[TokenClass], place: u32, row: &Row) -> u32
+fn quiet_behind(around: Around, all: &[TokenClass], place: u32, row: &Row) -> u32
     requires here { place < row.now.end }
     requires within { row.now.end + row.now.shift ≤ length all.now }
     ensures within { place + result < row.now.end }
-    ensures quiet { (k : ℕ) → (d : TokenClass) → place < k → k ≤ place + result → not (is_bracket (get_or all.now (k + row.now.shift) d)) && not (is_comment (get_or all.now (k + row.now.shift) d)) ≡ true }
+    ensures quiet { (k : ℕ) → (d : TokenClass) → place < k → k ≤ place + result → is_quiet around (get_or all.now (k + row.now.shift) d) ≡ true }
 {
     let shift = row.shift as usize;
     let next = place as usize + 1 + shift;
-    quiet_count(&all[next..row.end as usize + shift]) as u32
+    let classes = &all[next..row.end as usize + shift];
+    let count = match around {
+        Around::Group => quiet_count(Around::Group, classes),
+        _ => quiet_count(around, classes),
+    };
+    count as u32
+}
+
+/// What the next item stands in, where these openers wait.
+#[inline(always)]
+fn around(waiting: &[Opener], walk: &Walk) -> Around
+    ensures { result ≡ around_of walk.now.head (reverse waiting.now) }
+{
+    match waiting.len() {
+        0 => Around::Outside,
+        1 if walk.head.is_some() => Around::Body,
+        _ => Around::Group,
+    }
+}
+
+/// Whether an item may tell where the part ends, by what it stands in.
+#[inline(always)]
+fn may_end(walk: &Walk, around: Around, id: TokenId) -> bool
+    ensures { result ≡ may_end walk.now around id.0 }
+{
+    match around {
+        Around::Outside => true,
+        Around::Body => walk.asked.is_some() || id.0 != walk.behind,
+        Around::Group => false,
+    }
 }
 
 /// Where the part of a view ends that begins at a place. `all` are the classes of all items of the text. `segment` is
@@ -118,6 +151,7 @@ pub fn part_end(
     arena: &TokenArena<'_, '_>,
     view: &View<'_>,
     all: &[TokenClass],
+    begins: Option<BodyPlace>,
     first: u32,
     segment: &mut usize,
     room: &Bump,
@@ -125,10 +159,13 @@ pub fn part_end(
     requires within { AreWithin arena.now view.now }
     requires all { all.now ≡ item_classes arena.now }
     requires here { first < length view.now }
-    ensures end { IfOk result (λ part. part.end ≡ first + part_len arena.now (drop first view.now)) }
+    requires begins { ForSome begins (λ place. StandsBefore place (get_or view.now first 0)) }
+    ensures end { IfOk result (λ part. part.end ≡ first + part_len arena.now begins (drop first view.now)) }
+    ensures inside { IfOk result (λ part. part.inside ≡ part_inside arena.now begins (drop first view.now)) }
+    ensures place { IfOk result (λ part. ForSome part.inside (λ place. StandsBefore place (get_or view.now part.end 0))) }
     ensures some { IfOk result (λ part. first < part.end) }
-    ensures inside { IfOk result (λ part. part.end ≤ length view.now) }
-    ensures seen { IfOk result (λ part. ForSome part.seen (λ seen. EndsBehind arena.now (slice_range view.now first seen) (part.end - first))) }
+    ensures within { IfOk result (λ part. part.end ≤ length view.now) }
+    ensures seen { IfOk result (λ part. ForSome part.seen (λ seen. EndsBehind arena.now begins (slice_range view.now first seen) (record { count = part.end - first; inside = part.inside }))) }
     ensures later { IfOk result (λ part. ForSome part.seen (λ seen. part.end < seen)) }
     ensures below { IfOk result (λ part. ForSome part.seen (λ seen. seen ≤ length view.now)) }
     ensures whole { IfOk result (λ part. ForNone part.seen (part.end ≡ length view.now)) }
@@ -136,32 +173,41 @@ pub fn part_end(
     let count = view.len();
     let mut waiting: Vec<Opener, &Bump> = Vec::new(room);
     let mut braces: usize = 0;
-    let mut walk = start();
+    if begins.is_some() {
+        waiting_step(&mut waiting, &mut braces, 0, TokenClass::OpenBrace)?;
+    }
+    let mut walk = start(begins);
     let mut row = Row { shift: 0, end: 0 };
+    let items = arena.len();
     while walk.place < count - first {
-        let id = item_at(view, first + walk.place, &mut row, segment);
+        let place = walk.place;
+        let id = item_at(view, first + place, &mut row, segment);
+        prove!(id.0 < items);
         let class = all[id.0 as usize];
-        let alone = waiting.is_empty();
-        if !alone && is_quiet(class) {
-            walk.place += 1 + quiet_behind(all, first + walk.place, &row);
+        let around = around(&waiting, &walk);
+        if !may_end(&walk, around, id) && is_quiet(around, class) {
+            let quiet = quiet_behind(around, all, first + place, &row);
+            let last = id.0 + quiet;
+            walk.pass_quiet(around, place + quiet + 1, TokenId(last), all[last as usize]);
             continue;
         }
-        match read(arena, &walk, !alone, id, class) {
-            Reading::Ends(items) => {
+        match read(arena, &mut walk, around, id, class) {
+            Told::Ends(ended) => {
                 return Ok(PartEnd {
-                    end: first + items,
-                    seen: Some(first + walk.place + 1),
+                    end: first + ended.count,
+                    seen: Some(first + place + 1),
+                    inside: ended.inside,
                 });
             }
-            Reading::Never => break,
-            Reading::GoesOn(next) => {
-                waiting_step(&mut waiting, &mut braces, walk.place, class)?;
-                walk = next;
+            Told::Never => break,
+            Told::Nothing => {
+                waiting_step(&mut waiting, &mut braces, place + 1, class)?;
             }
         }
     }
     Ok(PartEnd {
         end: count,
         seen: None,
+        inside: None,
     })
 }

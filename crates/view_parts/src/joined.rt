@@ -1,6 +1,6 @@
 //! Parts that follow one another in a row, which are noted as one.
 
-ghost use Rattle.std.specs.Prelude.{◌≡◌, ◌<◌, ◌≤◌, ◌-◌, ℕ, length, get_or, slice_range, IfSome, IsSome};
+ghost use Rattle.std.specs.Prelude.{◌≡◌, ◌<◌, ◌≤◌, ◌-◌, ℕ, length, get_or, slice_range, IfSome, IsSome, None};
 ghost use Rattle.std.specs.Option.{ForNone, ForSome};
 ghost use Rattle.view_parts.specs.declared.known.KnownEnd.TheVariants.{Unknown};
 ghost use Rattle.view_parts.specs.Known.{AreKnown, HasNotedRow, after_joined, behind_row, item_of_row, joined, row_of};
@@ -99,11 +99,12 @@ pub fn known_parts_end(
     requires here { first < length view.now }
     requires item { (d : ℕ) → get_or view.now first d ≡ id.0 }
     requires known { AreKnown arena.now known.now }
-    ensures parts { IfSome result (λ parts. ArePartsUpTo arena.now view.now first parts.end) }
+    ensures parts { IfSome result (λ parts. ArePartsUpTo arena.now view.now None first (record { end = parts.end; inside = None })) }
     ensures row { IfSome result (λ parts. HasNotedRow known.now view.now first parts.end id.0) }
+    ensures outside { IfSome result (λ parts. parts.inside ≡ None) }
     ensures some { IfSome result (λ parts. first < parts.end) }
     ensures inside { IfSome result (λ parts. parts.end ≤ length view.now) }
-    ensures told { IfSome result (λ parts. ForSome parts.told (λ told. TellParts arena.now (slice_range view.now first told) (parts.end - first))) }
+    ensures told { IfSome result (λ parts. ForSome parts.told (λ told. TellParts arena.now None (slice_range view.now first told) (parts.end - first) None)) }
     ensures later { IfSome result (λ parts. ForSome parts.told (λ told. parts.end < told)) }
     ensures below { IfSome result (λ parts. ForSome parts.told (λ told. told ≤ length view.now)) }
     ensures always { IfSome result (λ parts. IsSome parts.told) }
@@ -121,5 +122,6 @@ pub fn known_parts_end(
     Some(PartsEnd {
         end: first + (row.end - id.0),
         told: Some(first + behind + 1),
+        inside: None,
     })
 }

@@ -1,13 +1,14 @@
 //! Where parts end that earlier runs saw.
 
-ghost use Rattle.std.specs.Prelude.{◌≡◌, ◌<◌, ◌≤◌, ◌+◌, ◌-◌, ℕ, [], length, drop, get_or, slice_range, IfOk, IfSome, IsTrue, OnOk};
+ghost use Rattle.std.specs.Prelude.{◌≡◌, ◌<◌, ◌≤◌, ◌+◌, ◌-◌, ℕ, [], length, drop, get_or, slice_range, IfOk, IfSome, IsTrue, None, OnOk};
 ghost use Rattle.std.specs.Option.{ForNone, ForSome};
 ghost use Rattle.token_classes.specs.Viewed.{AreWithin, item_classes};
 ghost use Rattle.view_parts.specs.Known.{AreKnown, AreRowsFrom, AreSpans, HasRow, IsKnown, IsKnownRow, IsRowAt};
-ghost use Rattle.view_parts.specs.Parts.{part_len, EndsBehind};
+ghost use Rattle.view_parts.specs.Parts.{part_inside, part_len, EndsBehind, StandsBefore};
 ghost use Rattle.view_parts.specs.Told.{TellParts};
 
 use crate::ends::part_end;
+use crate::walk::BodyPlace;
 use bumpalo::Bump;
 use line_tokens::{NoMemory, TokenId};
 use token_arena::{TokenArena, View};
@@ -75,6 +76,8 @@ pub struct PartsEnd {
     pub end: u32,
     /// The place behind the items that tell so, whatever follows them. There is none where the parts end with the view.
     pub told: Option<u32>,
+    /// Where that is in a function's body, if it is in one.
+    pub inside: Option<BodyPlace>,
 }
 
 /// The end of the part that begins at a place with this item, where a view has the items in a row that tell it.
@@ -89,10 +92,12 @@ fn recalled_row(
     requires here { first < length view.now }
     requires item { (d : ℕ) → get_or view.now first d ≡ id.0 }
     requires known { IsKnownRow arena.now id.0 known }
-    ensures end { IfSome result (λ part. part.end ≡ first + part_len arena.now (drop first view.now)) }
+    ensures end { IfSome result (λ part. part.end ≡ first + part_len arena.now None (drop first view.now)) }
+    ensures outside { IfSome result (λ part. part.inside ≡ None) }
+    ensures begun { IfSome result (λ part. part_inside arena.now None (drop first view.now) ≡ None) }
     ensures some { IfSome result (λ part. first < part.end) }
     ensures inside { IfSome result (λ part. part.end ≤ length view.now) }
-    ensures told { IfSome result (λ part. ForSome part.told (λ told. TellParts arena.now (slice_range view.now first told) (part.end - first))) }
+    ensures told { IfSome result (λ part. ForSome part.told (λ told. TellParts arena.now None (slice_range view.now first told) (part.end - first) None)) }
     ensures later { IfSome result (λ part. ForSome part.told (λ told. part.end < told)) }
     ensures below { IfSome result (λ part. ForSome part.told (λ told. told ≤ length view.now)) }
     ensures whole { IfSome result (λ part. ForNone part.told (part.end ≡ length view.now)) }
@@ -106,6 +111,7 @@ fn recalled_row(
     Some(PartsEnd {
         end: first + (known.end - id.0),
         told: Some(first + behind + 1),
+        inside: None,
     })
 }
 
@@ -125,7 +131,7 @@ fn noted_row(
     requires some { first < end }
     requires later { end < seen }
     requires inside { seen ≤ length view.now }
-    requires ends { EndsBehind arena.now (slice_range view.now first seen) (end - first) }
+    requires ends { EndsBehind arena.now None (slice_range view.now first seen) (record { count = end - first; inside = None }) }
     ensures known { IfSome result (λ known. IsKnownRow arena.now id.0 known) }
     ensures row { IfSome result (λ known. HasRow view.now first end id.0 known) }
 {
@@ -177,10 +183,12 @@ fn recalled_span(
 ) -> Option<PartsEnd>
     requires here { first < length view.now }
     requires known { AreSpans arena.now spans.now.spans.items }
-    ensures end { IfSome result (λ part. part.end ≡ first + part_len arena.now (drop first view.now)) }
+    ensures end { IfSome result (λ part. part.end ≡ first + part_len arena.now None (drop first view.now)) }
+    ensures outside { IfSome result (λ part. part.inside ≡ None) }
+    ensures begun { IfSome result (λ part. part_inside arena.now None (drop first view.now) ≡ None) }
     ensures some { IfSome result (λ part. first < part.end) }
     ensures inside { IfSome result (λ part. part.end ≤ length view.now) }
-    ensures told { IfSome result (λ part. ForSome part.told (λ told. TellParts arena.now (slice_range view.now first told) (part.end - first))) }
+    ensures told { IfSome result (λ part. ForSome part.told (λ told. TellParts arena.now None (slice_range view.now first told) (part.end - first) None)) }
     ensures later { IfSome result (λ part. ForSome part.told (λ told. part.end < told)) }
     ensures below { IfSome result (λ part. ForSome part.told (λ told. told ≤ length view.now)) }
     ensures whole { IfSome result (λ part. ForNone part.told (part.end ≡ length view.now)) }
@@ -198,6 +206,7 @@ fn recalled_span(
     Some(PartsEnd {
         end: first + span.count,
         told: Some(first + span.told.len()),
+        inside: None,
     })
 }
 
@@ -216,10 +225,12 @@ fn recalled(
     requires item { (d : ℕ) → get_or view.now first d ≡ id.0 }
     requires known { IsKnown arena.now id.0 known }
     requires spans { AreSpans arena.now spans.now.spans.items }
-    ensures end { IfSome result (λ part. part.end ≡ first + part_len arena.now (drop first view.now)) }
+    ensures end { IfSome result (λ part. part.end ≡ first + part_len arena.now None (drop first view.now)) }
+    ensures outside { IfSome result (λ part. part.inside ≡ None) }
+    ensures begun { IfSome result (λ part. part_inside arena.now None (drop first view.now) ≡ None) }
     ensures some { IfSome result (λ part. first < part.end) }
     ensures inside { IfSome result (λ part. part.end ≤ length view.now) }
-    ensures told { IfSome result (λ part. ForSome part.told (λ told. TellParts arena.now (slice_range view.now first told) (part.end - first))) }
+    ensures told { IfSome result (λ part. ForSome part.told (λ told. TellParts arena.now None (slice_range view.now first told) (part.end - first) None)) }
     ensures later { IfSome result (λ part. ForSome part.told (λ told. part.end < told)) }
     ensures below { IfSome result (λ part. ForSome part.told (λ told. told ≤ length view.now)) }
     ensures whole { IfSome result (λ part. ForNone part.told (part.end ≡ length view.now)) }
@@ -245,7 +256,7 @@ fn noted_span<'k>(
     requires some { first < end }
     requires later { end < seen }
     requires inside { seen ≤ length view.now }
-    requires ends { EndsBehind arena.now (slice_range view.now first seen) (end - first) }
+    requires ends { EndsBehind arena.now None (slice_range view.now first seen) (record { count = end - first; inside = None }) }
     requires known { AreSpans arena.now spans.old.spans.items }
     ensures end { IfOk result (λ known. (id : ℕ) → IsKnown arena.now id known) }
     ensures row { IfOk result (λ known. (id : ℕ) → IsRowAt view.now first end id known) }
@@ -283,7 +294,7 @@ fn noted_part<'k>(
     requires some { first < end }
     requires later { end < seen }
     requires inside { seen ≤ length view.now }
-    requires ends { EndsBehind arena.now (slice_range view.now first seen) (end - first) }
+    requires ends { EndsBehind arena.now None (slice_range view.now first seen) (record { count = end - first; inside = None }) }
     requires known { AreSpans arena.now spans.old.spans.items }
     ensures end { IfOk result (λ known. IsKnown arena.now id.0 known) }
     ensures row { IfOk result (λ known. IsRowAt view.now first end id.0 known) }
@@ -310,6 +321,7 @@ pub fn known_part_end<'k>(
     arena: &TokenArena<'_, '_>,
     view: &View<'_>,
     all: &[TokenClass],
+    begins: Option<BodyPlace>,
     first: u32,
     known: &mut [KnownEnd],
     spans: &mut KnownSpans<'k>,
@@ -320,12 +332,15 @@ pub fn known_part_end<'k>(
     requires within { AreWithin arena.now view.now }
     requires all { all.now ≡ item_classes arena.now }
     requires here { first < length view.now }
+    requires begins { ForSome begins (λ place. StandsBefore place (get_or view.now first 0)) }
     requires known { AreKnown arena.now known.old }
     requires spans { AreSpans arena.now spans.old.spans.items }
-    ensures end { IfOk result (λ part. part.end ≡ first + part_len arena.now (drop first view.now)) }
+    ensures end { IfOk result (λ part. part.end ≡ first + part_len arena.now begins (drop first view.now)) }
+    ensures begun { IfOk result (λ part. part.inside ≡ part_inside arena.now begins (drop first view.now)) }
+    ensures place { IfOk result (λ part. ForSome part.inside (λ place. StandsBefore place (get_or view.now part.end 0))) }
     ensures some { IfOk result (λ part. first < part.end) }
     ensures inside { IfOk result (λ part. part.end ≤ length view.now) }
-    ensures told { IfOk result (λ part. ForSome part.told (λ told. TellParts arena.now (slice_range view.now first told) (part.end - first))) }
+    ensures told { IfOk result (λ part. ForSome part.told (λ told. TellParts arena.now begins (slice_range view.now first told) (part.end - first) part.inside)) }
     ensures later { IfOk result (λ part. ForSome part.told (λ told. part.end < told)) }
     ensures below { IfOk result (λ part. ForSome part.told (λ told. told ≤ length view.now)) }
     ensures whole { IfOk result (λ part. ForNone part.told (part.end ≡ length view.now)) }
@@ -337,14 +352,15 @@ pub fn known_part_end<'k>(
     let id = view.at_near(first, segment);
     let begun = *segment;
     let number = id.0 as usize;
-    if number < known.len() {
+    let kept = begins.is_none() && number < known.len();
+    if kept {
         if let Some(part) = recalled(arena, view, first, id, known[number], spans, segment) {
             return Ok(part);
         }
     }
-    let part = part_end(arena, view, all, first, segment, room)?;
+    let part = part_end(arena, view, all, begins, first, segment, room)?;
     if let Some(seen) = part.seen {
-        if number < known.len() {
+        if kept && part.inside.is_none() {
             known[number] = noted_part(
                 arena, view, first, id, part.end, seen, begun, spans, keep, segment,
             )?;
@@ -353,5 +369,6 @@ pub fn known_part_end<'k>(
     Ok(PartsEnd {
         end: part.end,
         told: part.seen,
+        inside: part.inside,
     })
 }

@@ -4,12 +4,15 @@
 //! own items alone, so tables are made for one part at a time, and a part whose gaps are decided is passed over.
 #![tactic(auto)]
 
+mod body;
 mod ends;
 mod joined;
 mod known;
 mod walk;
 
+pub use body::laid_view;
 pub use ends::{PartEnd, part_end};
 pub use joined::{behind_row, join_rows, known_parts_end};
 pub use known::{KnownEnd, KnownRow, KnownSpan, KnownSpans, PartsEnd, known_part_end};
 pub use line_tokens::NoMemory;
+pub use walk::{BodyPlace, Head};

@@ -1,4 +1,4 @@
-use Rattle.std.proofs.Common.{◌≡◌, ◌∙◌, ◌+◌, ◌-◌, suc, List, length, sym, ap, subst, arith}
+use Rattle.std.proofs.Common.{◌≡◌, ◌∙◌, ◌+◌, ◌≤◌, ◌-◌, suc, List, length, sym, ap, subst, arith}
 use Rattle.branch_runs.specs.declared.mark.Mark.{Mark}
 use Rattle.branch_runs.specs.Reading.{read}
 use Rattle.branch_runs.specs.Runs.{need}
@@ -8,6 +8,7 @@ use Rattle.format_core.specs.Runs.{runs_of, seen_by}
 use Rattle.format_core.specs.RunsTold.{AreRunsTold}
 use Rattle.format_core.specs.Windows.{AreInStep}
 use Rattle.format_core.specs.declared.bounds.KnownBound.{KnownBound}
+use Rattle.format_core.proofs.RunsFew.{runs_few}
 use Rattle.format_core.proofs.RunsTold.{runs_begin, run_done, runs_end}
 use Rattle.format_core.proofs.SeenBefore.{none_seen, run_seen, behind_change, before_change, nothing_new_told, run_bounds}
 use Rattle.format_core.proofs.runs.lay_out_runs.Goals as goal
@@ -40,7 +41,7 @@ loop-number-preserved-then-change-eq0 c =
     let here : number ≡ number + 1 - 1 = omega arith in
     let told = nothing_new_told c.args.context.now.style.now c.args.context.now.budget arena c.loop-number.made.plan number c.change_of-change.result.end c.loop-number.made.tally v.seen changed.all changed.behind c.if-change-eq0.true in
     let left =
-    run_bounds c.args.context.now.arena.now c.loop-number.number c.loop-number.known.bounds.items c.last_bound-bound.new.bounds.items c.change_of-change.result.first c.last_bound-bound.result.item c.last_bound-bound.result.told v.bounds v.none changed.before
+    run_bounds c.args.context.now.arena.now c.loop-number.number c.loop-number.known.bounds.items c.last_bound-bound.new.bounds.items c.change_of-change.result.first c.last_bound-bound.result.item c.last_bound-bound.result.told c.last_bound-bound.result.inside v.bounds v.none changed.before
     c.last_bound-bound.ensures.low (c.last_bound-bound.ensures.bounds c.args.context.now.arena.now) (c.last_bound-bound.ensures.last c.args.context.now.arena.now) in
     record {
       room = omega (arith, v.room);
@@ -51,6 +52,13 @@ loop-number-preserved-then-change-eq0 c =
       on = run_done c.args.context.now.style.now c.args.context.now.budget arena c.args.made.now.plan count c.args.made.now.tally c.loop-number.made.tally c.loop-number.made.tally c.loop-number.made.plan c.loop-number.made.plan number (count - (number + 1)) (count - number) more v.on told;
     }
 
+pub lay_out_seen-requires-clause-room : goal.lay_out_seen-requires-clause-room
+lay_out_seen-requires-clause-room c =
+    let v = c.loop-number.invariant in
+    let all : c.runs-count.result ≡ runs_of c.args.context.now.arena.now = c.runs-count.ensures.need ∙ ap (λ (tree : List Mark). need (read tree)) c.requires.tree.marks in
+    let most : c.len-items.result ≤ 8388608 = c.len-items.ensures.most in
+    omega (arith, v.room, c.loop-number-test.true, all, runs_few c.args.context.now.arena.now, most, c.len-items.ensures.count)
+
 pub lay_out_seen-requires-clause-state : goal.lay_out_seen-requires-clause-state
 lay_out_seen-requires-clause-state c =
     subst (λ (kept : List KnownSpan). AreInStep c.args.context.now.arena.now c.loop-number.made c.loop-number.known.ends.now kept) (sym c.note_from.ensures.same) c.loop-number.invariant.state
@@ -60,7 +68,7 @@ lay_out_seen-requires-clause-bound c =
     let v = c.loop-number.invariant in
     let changed = c.change_of-change.ensures in
     let left =
-    run_bounds c.args.context.now.arena.now c.loop-number.number c.loop-number.known.bounds.items c.last_bound-bound.new.bounds.items c.change_of-change.result.first c.last_bound-bound.result.item c.last_bound-bound.result.told v.bounds v.none changed.before
+    run_bounds c.args.context.now.arena.now c.loop-number.number c.loop-number.known.bounds.items c.last_bound-bound.new.bounds.items c.change_of-change.result.first c.last_bound-bound.result.item c.last_bound-bound.result.told c.last_bound-bound.result.inside v.bounds v.none changed.before
     c.last_bound-bound.ensures.low (c.last_bound-bound.ensures.bounds c.args.context.now.arena.now) (c.last_bound-bound.ensures.last c.args.context.now.arena.now) in
     left.bound
 
@@ -69,7 +77,7 @@ lay_out_seen-requires-clause-bounds c =
     let v = c.loop-number.invariant in
     let changed = c.change_of-change.ensures in
     let left =
-    run_bounds c.args.context.now.arena.now c.loop-number.number c.loop-number.known.bounds.items c.last_bound-bound.new.bounds.items c.change_of-change.result.first c.last_bound-bound.result.item c.last_bound-bound.result.told v.bounds v.none changed.before
+    run_bounds c.args.context.now.arena.now c.loop-number.number c.loop-number.known.bounds.items c.last_bound-bound.new.bounds.items c.change_of-change.result.first c.last_bound-bound.result.item c.last_bound-bound.result.told c.last_bound-bound.result.inside v.bounds v.none changed.before
     c.last_bound-bound.ensures.low (c.last_bound-bound.ensures.bounds c.args.context.now.arena.now) (c.last_bound-bound.ensures.last c.args.context.now.arena.now) in
     left.bounds
 
@@ -78,7 +86,7 @@ lay_out_seen-requires-clause-before c =
     let v = c.loop-number.invariant in
     let changed = c.change_of-change.ensures in
     let left =
-    run_bounds c.args.context.now.arena.now c.loop-number.number c.loop-number.known.bounds.items c.last_bound-bound.new.bounds.items c.change_of-change.result.first c.last_bound-bound.result.item c.last_bound-bound.result.told v.bounds v.none changed.before
+    run_bounds c.args.context.now.arena.now c.loop-number.number c.loop-number.known.bounds.items c.last_bound-bound.new.bounds.items c.change_of-change.result.first c.last_bound-bound.result.item c.last_bound-bound.result.told c.last_bound-bound.result.inside v.bounds v.none changed.before
     c.last_bound-bound.ensures.low (c.last_bound-bound.ensures.bounds c.args.context.now.arena.now) (c.last_bound-bound.ensures.last c.args.context.now.arena.now) in
     λ id early sees.
     before_change c.args.context.now.arena.now c.loop-number.made.plan c.loop-number.number c.change_of-change.result.first v.seen changed.first changed.before id (omega (arith, early, left.bound.order, c.last_bound-bound.ensures.low)) sees

@@ -1,14 +1,19 @@
 use Rattle.std.proofs.Common.{◌≡◌, ◌∙◌, ◌+◌, ◌<◌, ◌≤◌, ℕ, Option, List, length, get_or, sym, ap, subst, arith}
 use Rattle.std.specs.Prelude.{IfSome, IsTrue}
+use Rattle.std.specs.Option.{ForSome}
 use Rattle.line_tokens.specs.declared.TokenId.{TokenId}
 use Rattle.branch_runs.specs.declared.mark.Mark.{Mark}
 use Rattle.branch_runs.specs.Anew.{items_between}
 use Rattle.branch_runs.specs.Reading.{read}
 use Rattle.branch_runs.specs.Runs.{view_of}
+use Rattle.view_parts.specs.declared.walk.BodyPlace.{BodyPlace}
+use Rattle.view_parts.specs.Parts.{StandsBefore}
 use Rattle.format_core.specs.Bounds.{BeginTold}
 use Rattle.format_core.specs.PartByPart.{GoesOnFrom}
 use Rattle.format_core.specs.Runs.{seen_by}
-use Rattle.format_core.proofs.FromBound.{from_bound, behind_new}
+use Rattle.format_core.proofs.FromBound.{behind_new, bound_decided, bound_placed, from_bound}
+use Rattle.format_core.proofs.PlacesStand.{placed_has}
+use Rattle.format_core.proofs.Seen.{seen_within}
 use Rattle.format_core.proofs.SeenInOrder.{seen_increases, seen_few}
 use Rattle.format_core.proofs.Stretches.{front_short, window_fits, next_window}
 use Rattle.format_core.proofs.runs.lay_out_seen.Goals as goal
@@ -19,17 +24,27 @@ loop-window-init c =
     let number = c.args.turn.now.number in
     let bound = c.args.turn.now.bound in
     let increase = seen_increases arena number in
+    let seen = seen_by arena number in
     let most : c.len-items.result ≤ 8388608 = c.len-items.ensures.most in
+    let placed = bound_placed arena seen bound.item bound.told bound.inside increase c.requires.bound.begin in
     record {
       order = omega (arith, c.max-end.ensures);
       new = omega (arith, c.max-end.ensures, c.min.ensures, c.saturating_add.ensures, c.requires.new, c.len-items.ensures.count, most);
-      place = front_short bound.item (seen_by arena number) increase;
+      place = front_short bound.item seen increase;
       room = omega arith;
       state = c.requires.state;
       begin = λ later. c.requires.bound.begin;
+      begins = placed.before;
+      items = placed_has (λ id. id < length arena.tokens) seen 0 bound.inside (length (items_between 0 bound.item seen)) (seen_within arena number) placed;
+      decided = bound_decided arena c.args.made.now.plan seen bound.item bound.told bound.inside increase c.requires.bound.begin c.requires.before;
       bounds = c.requires.bounds;
-      on = from_bound c.args.context.now.style.now c.args.context.now.budget arena number c.args.made.now.plan (seen_by arena number) c.args.made.now.tally bound.item bound.told increase c.requires.bound.begin c.requires.before;
+      on = from_bound c.args.context.now.style.now c.args.context.now.budget arena number c.args.made.now.plan seen c.args.made.now.tally bound.item bound.told bound.inside increase c.requires.bound.begin c.requires.before;
     }
+
+pub lay_out_window-requires-clause-begins : goal.lay_out_window-requires-clause-begins
+lay_out_window-requires-clause-begins c =
+    let seen = seen_by c.args.context.now.arena.now c.args.turn.now.number in
+    subst (λ (b : Option BodyPlace). ForSome b (λ place. StandsBefore place (get_or seen (length (items_between 0 c.loop-window.first seen)) 0))) (sym c.start-way.ensures.inside) c.loop-window.invariant.begins
 
 pub lay_out_window-requires-clause-room : goal.lay_out_window-requires-clause-room
 lay_out_window-requires-clause-room c =
@@ -49,8 +64,11 @@ returns-in_default-clause-told c =
     let fits = window_fits first end seen (seen_increases arena number) v.order in
     let as_many : length c.in_ok-view_between.field-0 ≡ length (items_between first end seen) = ap (λ (xs : List ℕ). length xs) is in
     let inside : length (items_between 0 first seen) + c.lay_out_window.new.way.first ≤ length seen = omega (arith, fits, as_many, laid.inside) in
+    let on : GoesOnFrom c.args.context.now.style.now c.args.context.now.budget arena number c.args.made.now.plan seen c.args.made.now.tally c.loop-window.made.plan c.start-way.result.inside (length (items_between 0 first seen)) c.loop-window.made.tally =
+    subst (λ (b : Option BodyPlace). GoesOnFrom c.args.context.now.style.now c.args.context.now.budget arena number c.args.made.now.plan seen c.args.made.now.tally c.loop-window.made.plan b (length (items_between 0 first seen)) c.loop-window.made.tally)
+    (sym c.start-way.ensures.inside) v.on in
     behind_new c.args.context.now.style.now c.args.context.now.budget arena number c.args.made.now.plan seen c.args.made.now.tally c.lay_out_window.new.made.tally c.lay_out_window.new.made.plan
-    (length (items_between 0 first seen) + c.lay_out_window.new.way.first) c.args.turn.now.new_end inside (laid.done c.in_default.is) c.requires.behind (laid.on c.args.made.now.plan c.args.made.now.tally v.on)
+    c.lay_out_window.new.way.inside (length (items_between 0 first seen) + c.lay_out_window.new.way.first) c.args.turn.now.new_end inside (laid.done c.in_default.is) c.requires.behind laid.decided laid.place (seen_increases arena number) (laid.on c.args.made.now.plan c.args.made.now.tally on)
 
 pub returns-in_default-clause-room : goal.returns-in_default-clause-room
 returns-in_default-clause-room c =
@@ -104,16 +122,22 @@ loop-window-preserved c =
     let is : c.in_ok-view_between.field-0 ≡ items_between first end seen = c.in_ok-view_between.ensures.view ∙ ap (λ (tree : List Mark). items_between first end (view_of (read tree) number)) c.requires.tree.marks in
     let next = next_window first end seen c.in_ok-view_between.field-0 c.lay_out_window.new.way.first c.in-Some.id.0 (seen_increases arena number) c.loop-window.invariant.order is (subst (λ (o : Option TokenId). IfSome o (λ id. id.0 ≡ get_or c.in_ok-view_between.field-0 c.lay_out_window.new.way.first 0)) c.in-Some.is laid.stopped) (subst (λ (o : Option TokenId). IfSome o (λ id. c.lay_out_window.new.way.first < length c.in_ok-view_between.field-0)) c.in-Some.is laid.here) in
     let short : end < length arena.tokens = (subst (λ (o : Option TokenId). IfSome o (λ id. end < length arena.tokens)) c.in-Some.is laid.short) in
-    let begin : IsTrue c.args.turn.now.later → BeginTold arena (items_between 0 c.lay_out_window.new.way.told seen) (length (items_between 0 first seen) + c.lay_out_window.new.way.first) =
-    subst (λ (o : Option TokenId). IfSome o (λ id. IsTrue c.args.turn.now.later → BeginTold arena (items_between 0 c.lay_out_window.new.way.told seen) (length (items_between 0 first seen) + c.lay_out_window.new.way.first))) c.in-Some.is laid.begin in
+    let begin : IsTrue c.args.turn.now.later → BeginTold arena (items_between 0 c.lay_out_window.new.way.told seen) (length (items_between 0 first seen) + c.lay_out_window.new.way.first) c.lay_out_window.new.way.inside =
+    subst (λ (o : Option TokenId). IfSome o (λ id. IsTrue c.args.turn.now.later → BeginTold arena (items_between 0 c.lay_out_window.new.way.told seen) (length (items_between 0 first seen) + c.lay_out_window.new.way.first) c.lay_out_window.new.way.inside)) c.in-Some.is laid.begin in
+    let on : GoesOnFrom c.args.context.now.style.now c.args.context.now.budget arena number c.args.made.now.plan seen c.args.made.now.tally c.loop-window.made.plan c.start-way.result.inside (length (items_between 0 first seen)) c.loop-window.made.tally =
+    subst (λ (b : Option BodyPlace). GoesOnFrom c.args.context.now.style.now c.args.context.now.budget arena number c.args.made.now.plan seen c.args.made.now.tally c.loop-window.made.plan b (length (items_between 0 first seen)) c.loop-window.made.tally)
+    (sym c.start-way.ensures.inside) v.on in
     record {
       order = omega (arith, next.before, short, c.min-end.ensures, c.len-items.ensures.count);
       new = omega (arith, v.new, next.before, short, c.min-end.ensures, c.len-items.ensures.count);
       place = front_short c.in-Some.id.0 seen (seen_increases arena number);
       room = omega (arith, v.room, laid.room, next.stands);
       state = laid.state;
-      begin = λ later. subst (λ k. BeginTold arena (items_between 0 c.lay_out_window.new.way.told seen) k) (sym next.stands) (begin later);
+      begin = λ later. subst (λ k. BeginTold arena (items_between 0 c.lay_out_window.new.way.told seen) k c.lay_out_window.new.way.inside) (sym next.stands) (begin later);
+      begins = subst (λ k. ForSome c.lay_out_window.new.way.inside (λ place. StandsBefore place (get_or seen k 0))) (sym next.stands) laid.place;
+      items = laid.items;
+      decided = laid.decided;
       bounds = laid.bounds;
-      on = subst (λ k. GoesOnFrom c.args.context.now.style.now c.args.context.now.budget arena number c.args.made.now.plan seen c.args.made.now.tally c.lay_out_window.new.made.plan k c.lay_out_window.new.made.tally) (sym next.stands)
-          (laid.on c.args.made.now.plan c.args.made.now.tally v.on);
+      on = subst (λ k. GoesOnFrom c.args.context.now.style.now c.args.context.now.budget arena number c.args.made.now.plan seen c.args.made.now.tally c.lay_out_window.new.made.plan c.lay_out_window.new.way.inside k c.lay_out_window.new.made.tally) (sym next.stands)
+          (laid.on c.args.made.now.plan c.args.made.now.tally on);
     }

@@ -1,18 +1,36 @@
-use Rattle.std.proofs.Common.{◌≡◌, ◌∙◌, ◌<◌, ◌+◌, ◌-◌, ◌&&◌, not, drop, take, get_or, sym, ap, arith}
+use Rattle.std.proofs.Common.{◌≡◌, ◌∙◌, ◌<◌, ◌≤◌, ◌+◌, ◌-◌, ℕ, true, List, drop, take, get_or, sym, ap, arith}
 use Rattle.std.proofs.lemmas.List.{get_or-drop, get_or-take}
 use Rattle.token_classes.specs.declared.class.TokenClass.{TokenClass}
-use Rattle.token_classes.specs.Classes.{is_bracket, is_comment}
+use Rattle.view_parts.specs.declared.walk.Around.{Around}
+use Rattle.view_parts.specs.declared.walk.Around.TheVariants.{Group}
+use Rattle.view_parts.specs.Walk.{is_quiet}
+use Rattle.view_parts.proofs.ends.quiet_behind.Goals.{in-Group, in_default}
 use Rattle.view_parts.proofs.ends.quiet_behind.Goals as goal
 
+-- so many tokens of a stretch, as those of the whole
+of_stretch : (stands : Around) (all : List TokenClass) (next far count : ℕ) → count ≤ far - next → ((k : ℕ) → (d : TokenClass) → k < count → is_quiet stands (get_or (take (far - next) (drop next all)) k d) ≡ true)
+    → (k : ℕ) → (d : TokenClass) → next ≤ k → k < next + count → is_quiet stands (get_or all k d) ≡ true
+of_stretch stands all next far count within quiet k d after before =
+    let n = k - next in
+    let at : next + n ≡ k = omega (arith, after) in
+    let is : get_or (take (far - next) (drop next all)) n d ≡ get_or all k d = get_or-take (far - next) (drop next all) n d (omega (arith, after, before, within)) ∙ (get_or-drop next all n d ∙ ap (λ j. get_or all j d) at) in
+    ap (λ (class : TokenClass). is_quiet stands class) (sym is) ∙ quiet n d (omega (arith, after, before))
+
 pub returns-clause-quiet : goal.returns-clause-quiet
-returns-clause-quiet c = λ k d after upto.
+returns-clause-quiet c =
     let all = c.args.all.now in
-    let row = c.args.row.now in
     let place = c.args.place in
-    let n = k - place - 1 in
-    let next = place + 1 + row.shift in
-    let far = row.end + row.shift in
-    let short : n < far - next = omega (arith, after, upto, c.quiet_count.ensures.within) in
-    let at : next + n ≡ k + row.shift = omega (arith, after) in
-    let is : get_or (take (far - next) (drop next all)) n d ≡ get_or all (k + row.shift) d = get_or-take (far - next) (drop next all) n d short ∙ (get_or-drop next all n d ∙ ap (λ j. get_or all j d) at) in
-    ap (λ (class : TokenClass). not (is_bracket class) && not (is_comment class)) (sym is) ∙ c.quiet_count.ensures.quiet n d (omega (arith, after, upto))
+    let shift = c.args.row.now.shift in
+    let next = place + 1 + shift in
+    let far = c.args.row.now.end + shift in
+    let count = c.match-around.count in
+    let quiet : (k : ℕ) → (d : TokenClass) → next ≤ k → k < next + count → is_quiet c.args.around (get_or all k d) ≡ true = elim c.match-around.branch [
+      | in-Group w ↦ λ k d after before.
+          let told = w.quiet_count-count.ensures in
+          ap (λ (a : Around). is_quiet a (get_or all k d)) w.in-Group.is
+          ∙ of_stretch Group all next far w.quiet_count-count.result (omega (arith, told.within)) told.quiet k d after (omega (arith, before, w.count-is))
+      | in_default w ↦ λ k d after before.
+          let told = w.quiet_count-count-in_default.ensures in
+          of_stretch c.args.around all next far w.quiet_count-count-in_default.result (omega (arith, told.within)) told.quiet k d after (omega (arith, before, w.count-is))
+    ] in
+    λ k d after upto. quiet (k + shift) d (omega (arith, after)) (omega (arith, upto))

@@ -1,7 +1,7 @@
-use Rattle.std.proofs.Common.{◌≡◌, ◌∙◌, ◌⊎◌, inl, inr, ◌<◌, ◌+◌, ◌&&◌, ℕ, not, get_or, sym, ap, arith}
+use Rattle.std.proofs.Common.{◌≡◌, ◌∙◌, ◌⊎◌, inl, inr, ◌<◌, ◌+◌, ℕ, get_or, sym, ap, arith}
 use Rattle.std.proofs.lemmas.List.{get_or_default}
 use Rattle.token_classes.specs.declared.class.TokenClass.{TokenClass}
-use Rattle.token_classes.specs.Classes.{is_bracket, is_comment}
+use Rattle.view_parts.specs.Walk.{is_quiet}
 use Rattle.view_parts.proofs.ends.quiet_count.Goals as goal
 
 earlier_or_here : (k n : ℕ) → k < n + 1 → (k < n) ⊎ (k ≡ n)
@@ -18,6 +18,6 @@ loop-count-preserved c =
             | inl earlier ↦ c.loop-count.invariant.quiet k d earlier
             | inr e ↦
                 let same : get_or classes k d ≡ get_or classes n _ = ap (λ j. get_or classes j d) e ∙ get_or_default classes n d _ c.loop-count-test.true in
-                ap (λ (class : TokenClass). not (is_bracket class) && not (is_comment class)) same ∙ (sym c.is_quiet.ensures ∙ c.if-is_quiet.true)
+                ap (λ (class : TokenClass). is_quiet c.args.around class) same ∙ (sym c.is_quiet.ensures ∙ c.if-is_quiet.true)
           ];
     }

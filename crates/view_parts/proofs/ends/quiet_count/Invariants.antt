@@ -1,12 +1,12 @@
-use Rattle.std.proofs.Common.{◌≡◌, ◌<◌, ◌≤◌, ◌-◌, ◌&&◌, ℕ, not, true, length, get_or}
+use Rattle.std.proofs.Common.{◌≡◌, ◌<◌, ◌≤◌, ◌-◌, ℕ, true, length, get_or}
 use Rattle.token_classes.specs.declared.class.TokenClass.{TokenClass}
-use Rattle.token_classes.specs.Classes.{is_bracket, is_comment}
+use Rattle.view_parts.specs.Walk.{is_quiet}
 use Rattle.view_parts.proofs.ends.quiet_count.Given as goal
 
 abbrev pub invariant-loop-count : goal.invariant-loop-count
 invariant-loop-count l = record {
   within : l.count ≤ length l.classes;
-  quiet : (k : ℕ) → (d : TokenClass) → k < l.count → not (is_bracket (get_or l.classes k d)) && not (is_comment (get_or l.classes k d)) ≡ true;
+  quiet : (k : ℕ) → (d : TokenClass) → k < l.count → is_quiet l.around (get_or l.classes k d) ≡ true;
 }
 
 abbrev pub decreases-loop-count : goal.decreases-loop-count
