@@ -4,8 +4,8 @@ use Rattle.annotator.proofs.Items.{edges_touch}
 use Rattle.annotator.proofs.Segmented.{apart_first, follows, pushed_on, counted_on, told_on}
 use Rattle.annotator.proofs.tokens.push_segment.Goals as goal
 
-pub loop-id-init : goal.loop-id-init
-loop-id-init c =
+pub loop-last-init : goal.loop-last-init
+loop-last-init c =
     let arena = c.args.arena.now in
     let ids = c.args.view.now in
     let marks = c.args.marks.now in
@@ -32,32 +32,33 @@ loop-id-init c =
       told = told_on arena first apart marks toks after push;
     }
 
-pub loop-id-preserved : goal.loop-id-preserved
-loop-id-preserved c =
-    let v = c.loop-id.invariant in
+pub loop-last-preserved : goal.loop-last-preserved
+loop-last-preserved c =
+    let v = c.loop-last.invariant in
     let arena = c.args.arena.now in
     let ids = c.args.view.now in
     let marks = c.args.marks.now in
-    let id = c.loop-id.id in
+    let last_id : ℕ = c.loop-last.last in
+    let id : ℕ = last_id + 1 in
     let first = c.args.segment.first in
-    let toks = c.loop-id.toks.items in
-    let after = c.push_token-left-in-loop-id.new.toks.items in
-    let push = c.push_token-left-in-loop-id.ensures.token in
+    let toks = c.loop-last.toks.items in
+    let after = c.push_token-left-in-loop-last.new.toks.items in
+    let push = c.push_token-left-in-loop-last.ensures.token in
     let before : ℕ = length c.args.toks.now.items in
     let i : ℕ = id - first in
     let j : ℕ = id - first - 1 in
-    let within : length toks < length marks = omega (arith, v.count, v.from, c.loop-id-test.true, c.requires.places) in
+    let within : length toks < length marks = omega (arith, v.count, v.from, c.loop-last-test.true, c.requires.places) in
     let place : before + i ≡ length toks = omega (arith, v.count) in
     let last_place : before + j + 1 ≡ length toks = omega (arith, v.count, v.from) in
-    let at : get_or ids (length toks) 0 ≡ id = subst (λ x. get_or ids x 0 ≡ first + i) place (c.requires.items i (omega (arith, v.from, c.loop-id-test.true))) ∙ omega (arith, v.from) in
-    let last : get_or ids (before + j) 0 ≡ id - 1 = c.requires.items j (omega (arith, v.from, c.loop-id-test.true)) ∙ omega (arith, v.from) in
+    let at : get_or ids (length toks) 0 ≡ id = subst (λ x. get_or ids x 0 ≡ first + i) place (c.requires.items i (omega (arith, v.from, c.loop-last-test.true))) ∙ omega (arith, v.from) in
+    let last : get_or ids (before + j) 0 ≡ id - 1 = c.requires.items j (omega (arith, v.from, c.loop-last-test.true)) ∙ omega (arith, v.from) in
     let next : get_or ids (before + j + 1) 0 ≡ id - 1 + 1 = ap (λ n. get_or ids n 0) last_place ∙ at ∙ omega (arith, v.from) in
     let apart : false ≡ stands_apart ids (length toks) = sym (ap (λ n. stands_apart ids n) (sym last_place) ∙ follows ids (before + j) (id - 1) last next) in
     record {
       from = omega (arith, v.from);
       count = counted_on arena id false marks toks after before i push v.count ∙ omega (arith, v.from);
-      room = c.push_token-left-in-loop-id.ensures.room ∙ v.room;
+      room = c.push_token-left-in-loop-last.ensures.room ∙ v.room;
       same = pushed_on arena ids marks toks after id false within at apart push ∙ v.same;
-      left = edges_touch arena id c.push_token-left-in-loop-id.result c.push_token-left-in-loop-id.ensures.edge;
+      left = edges_touch arena id c.push_token-left-in-loop-last.result c.push_token-left-in-loop-last.ensures.edge;
       told = told_on arena id false marks toks after push;
     }
