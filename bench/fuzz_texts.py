@@ -57,6 +57,17 @@ STATEMENTS = [
     "MACRO(a,b)", "MACRO", "LIST_FOR_EACH(x,y){z();}", "_Static_assert(sizeof(a)==4,\"x\");",
     "_Generic(a,int:1,default:2);",
 ]
+HEADS = [
+    "int f(void)\n{\n", "static struct s *f(struct s *a, int b) // c\n{\n", "int f(a) int a; {\n",
+    "void __attribute__((noinline)) f(int a) {\n", "#if A\nint f(int a)\n#else\nint f(void)\n#endif\n{\n",
+    "extern \"C\" {\n", "struct s {\n", "typedef struct __attribute__((packed)) {\n", "enum e {\n",
+    "static const struct s v = {\n",
+]
+GROUPS = [
+    "{\n", "if (a) {\n", "else {\n", "} else {\n", "for (;;) {\n", "do {\n", "switch (a) {\n", "case 1: {\n",
+    "MACRO(a) {\n",
+]
+ENDS = ["}\n", "}\n", "} // end\n", "} while (a);\n", "};\n", "} a;\n"]
 WHITE = [" "] * 12 + ["\n"] * 6 + [""] * 8
 WHITE += ["  ", "\t", "\n\n", "\n\n\n\n", "\r\n", "\\\n", "\\\r\n", " \\\n ", "??/\n", "\v", "\f", "\r", " \t "]
 WHITE += ["\\ \n", "      "]
@@ -105,7 +116,7 @@ class Texts:
         self.white = encoded(WHITE)
         self.pieces = self.tokens + self.rows + self.white + ODD
         self.ways = [self.of_tokens, self.of_conditionals, self.of_bytes, self.of_brackets]
-        self.ways += [self.of_rows, self.of_a_source] * 2
+        self.ways += [self.of_rows, self.of_a_source, self.of_functions] * 2
 
     def between(self, pieces, white):
         chosen = self.chance.choices(white, k=len(pieces))
@@ -123,6 +134,33 @@ class Texts:
 
     def of_conditionals(self, size):
         return self.between(self.chance.choices(self.conditionals, k=1 + size // 16), [b"\n"])
+
+    def of_functions(self, size):
+        """Functions, structures and lists, with groups and conditionals in one another, most of them closed."""
+        pieces, waiting = [], []
+        for _ in range(1 + size // 16):
+            turn = self.chance.random()
+            if not waiting:
+                opener, closer = self.chance.choice(HEADS), self.chance.choice(ENDS)
+            elif turn < 0.12:
+                opener, closer = self.chance.choice(DIRECTIVES[:3]), "#endif\n"
+            elif turn < 0.2:
+                opener, closer = self.chance.choice(GROUPS), self.chance.choice(ENDS)
+            elif turn < 0.35:
+                pieces.append(waiting.pop())
+                continue
+            elif turn < 0.5:
+                pieces.append(self.chance.choice(("#else\n", "#elif B\n", *DIRECTIVES)))
+                continue
+            else:
+                row = self.chance.choice(STATEMENTS if turn < 0.9 else COMMENTS)
+                pieces.append(row + self.chance.choice(("\n", "\n", "\n\n", " ", " // c\n", " /* c */\n")))
+                continue
+            pieces.append(opener)
+            waiting.append(closer)
+        if self.chance.random() < 0.9:
+            pieces += reversed(waiting)
+        return "".join(pieces).encode("utf-8")
 
     def of_a_source(self, size):
         """A part of a source, with faults."""

@@ -39,10 +39,10 @@ def has_other_word_characters(spelling):
 
 
 def may_turn_its_line_ends(text, once):
-    """Whether a splice with its line end went, and the output has more line ends of the other kind ("Line ends")."""
+    """Whether the output has more line ends of the other kind: a splice or an empty line went ("Line ends")."""
     ends = [(it.count(b"\r\n"), it.count(b"\n") - it.count(b"\r\n")) for it in (text, once)]
     turned = [(two > one, one > two) for two, one in ends]
-    return turned[0] != turned[1] and len(SPLICED.findall(text)) > len(SPLICED.findall(once))
+    return turned[0] != turned[1]
 
 
 def is_read_otherwise(text):
