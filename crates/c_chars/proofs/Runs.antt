@@ -1,14 +1,16 @@
 -- Runs of bytes that are characters by themselves.
-use Rattle.std.proofs.Common.{◌≡◌, ◌==◌, ◌&&◌, not, ℕ, suc, ◌+◌, arith, Bool, true, false, List, [], ◌∷◌, ◌++◌, take, drop, refl, sym, ◌∙◌, ap, subst, inl, inr}
+use Rattle.std.proofs.Common.{◌≡◌, ◌==◌, ◌&&◌, not, ℕ, suc, ◌+◌, ◌-◌, ◌≤◌, arith, length, get_or, Bool, true, false, List, [], ◌∷◌, ◌++◌, take, drop, refl, sym, ◌∙◌, ap, subst, inl, inr}
 use Rattle.std.specs.List.{list_all, prefix_len}
+use Rattle.std.proofs.lemmas.List.{take_all}
 use Rattle.std.proofs.lemmas.List.Folds.{length-prefix_len}
 use Rattle.std.proofs.lemmas.Bool.{and_parts, and_from, and_right, cases_Bool, not-true}
 use Rattle.std.proofs.lemmas.Bool.Decides.{nat_tests}
-use Rattle.c_chars.specs.Characters.{chars, placed, IsUnit, begins_trigraph, begins_return, has_trigraphs, is_ink_byte, is_plain, is_space_byte, is_text_byte, is_word_byte}
+use Rattle.c_chars.specs.Characters.{bytes_of, chars, placed, IsUnit, begins_trigraph, begins_return, has_trigraphs, is_ink_byte, is_plain, is_space_byte, is_text_byte, is_word_byte}
 use Rattle.c_chars.specs.Coming.{Coming, AreBytesPassed, ArePassed, AreSpacesPassed}
 use Rattle.c_chars.specs.declared.Dialect.{Dialect}
 use Rattle.c_chars.specs.declared.LogicalChar.{LogicalChar}
 use Rattle.c_chars.proofs.FirstUnits.{at_plain, step_plain}
+use Rattle.c_chars.proofs.Moved.{bytes_at}
 
 no_trigraph : (d : Dialect) (b : ℕ) (s : List ℕ) → (b == 63) ≡ false → (has_trigraphs d && begins_trigraph (b ∷ s)) ≡ false
 no_trigraph d b [] q = and_right (has_trigraphs d) false refl
@@ -19,7 +21,7 @@ no_return : (b : ℕ) (s : List ℕ) → (b == 13) ≡ false → begins_return (
 no_return b [] r = refl
 no_return b (c ∷ s) r = rw r refl
 
-plain_first : (d : Dialect) (at b : ℕ) (s : List ℕ) → is_plain b ≡ true → chars d at (b ∷ s) ≡ record { byte = b; from = at; to = at + 1 } ∷ chars d (at + 1) s
+pub plain_first : (d : Dialect) (at b : ℕ) (s : List ℕ) → is_plain b ≡ true → chars d at (b ∷ s) ≡ record { byte = b; from = at; to = at + 1 } ∷ chars d (at + 1) s
 plain_first d at b s h =
     let p = and_parts (not (b == 63)) (not (b == 13) && not (b == 92)) h in
     let q = and_parts (not (b == 13)) (not (b == 92)) p.1 in
@@ -137,3 +139,10 @@ spaces_passed d d2 at at2 n s rest e dd aa rr =
       at_is = aa;
       dialect_is = dd;
     }
+
+-- The first byte of a text is its first character where it is one by itself, wherever the text stands.
+pub plain_byte : (d : Dialect) (s : List ℕ) → 1 ≤ length s → is_plain (get_or s 0 0) ≡ true → bytes_of (chars d 0 s) ≡ get_or s 0 0 ∷ bytes_of (chars d 0 (take (length s - 1) (drop 1 s)))
+plain_byte d [] some h = absurd (omega (arith, some))
+plain_byte d (b ∷ s) some h =
+    let few : length s ≤ length (b ∷ s) - 1 = omega arith in
+    ap bytes_of (plain_first d 0 b s h) ∙ (ap (λ z. b ∷ z) (bytes_at d (0 + 1) s) ∙ sym (ap (λ z. b ∷ bytes_of (chars d 0 z)) (take_all (length (b ∷ s) - 1) s few)))

@@ -1,7 +1,7 @@
 -- What is left to read.
 use Rattle.std.specs.Prelude.{◌≡◌, ℕ, zero, suc, ◌+◌, ◌≤◌, ◌<◌, Bool, List, [], ◌∷◌, ◌++◌, length, take, IsTrue}
 use Rattle.std.specs.List.{list_all}
-use Rattle.c_chars.specs.Characters.{bytes_of, placed, is_space_byte}
+use Rattle.c_chars.specs.Characters.{are_words, bytes_of, placed, is_space_byte}
 use Rattle.c_chars.specs.declared.Dialect.{Dialect}
 use Rattle.c_chars.specs.declared.LogicalChar.{LogicalChar}
 
@@ -48,3 +48,10 @@ pub record AreSpacesPassed (old new : Coming) (n : ℕ) : Type 0 where
   pub chars_are : old.chars ≡ placed old.at bytes ++ new.chars
   pub at_is : new.at ≡ old.at + n
   pub dialect_is : new.dialect ≡ old.dialect
+
+-- Words were passed: some of the next characters of `old`, and `new` is what is to come behind them.
+pub record AreWordsPassed (old new : Coming) : Type 0 where
+  pub n : ℕ
+  pub within : n ≤ length old.chars
+  pub all : IsTrue (are_words (take n (bytes_of old.chars)))
+  pub new_is : new ≡ behind old n

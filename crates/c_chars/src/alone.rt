@@ -5,6 +5,7 @@ ghost use Rattle.c_chars.specs.Characters.{chars, bytes_of};
 ghost use Rattle.c_chars.specs.Alone.{IsFirstCharacter, HasNoCharacter};
 
 use crate::Dialect;
+use crate::classes::is_plain;
 use crate::units::unit;
 
 /// The first character of some bytes.
@@ -46,12 +47,9 @@ pub(crate) fn first_character(dialect: Dialect, bytes: &[u8]) -> Option<FirstCha
     None
 }
 
-/// The first character of bytes that stand for themselves, and the bytes behind it; none exactly where
-/// there is none.
-///
-/// Trigraphs are replaced, spliced lines joined, and `\r\n` is one new-line (C11 5.1.1.2, phases 1 and
-/// 2). No byte order mark is taken off, and there is no limit to the number of bytes.
-pub fn next_character<'s>(dialect: Dialect, bytes: &'s [u8]) -> Option<(u8, &'s [u8])>
+/// The first character of bytes that stand for themselves, whatever it is written as, and the bytes behind it;
+/// none exactly where there is none.
+fn next_written<'s>(dialect: Dialect, bytes: &'s [u8]) -> Option<(u8, &'s [u8])>
     ensures { MatchOption result
         (bytes_of (chars dialect 0 bytes.now) ≡ [])
         (λ c. bytes_of (chars dialect 0 bytes.now) ≡ c.0 ∷ bytes_of (chars dialect 0 c.1.now)) }
@@ -59,4 +57,24 @@ pub fn next_character<'s>(dialect: Dialect, bytes: &'s [u8]) -> Option<(u8, &'s 
     let first = first_character(dialect, bytes)?;
     let (_, behind) = bytes.split_at(first.before + first.len);
     Some((first.byte, behind))
+}
+
+/// The first character of bytes that stand for themselves, and the bytes behind it; none exactly where
+/// there is none. Most bytes are plain, and taken here.
+///
+/// Trigraphs are replaced, spliced lines joined, and `\r\n` is one new-line (C11 5.1.1.2, phases 1 and
+/// 2). No byte order mark is taken off, and there is no limit to the number of bytes.
+#[inline(always)]
+pub fn next_character<'s>(dialect: Dialect, bytes: &'s [u8]) -> Option<(u8, &'s [u8])>
+    ensures { MatchOption result
+        (bytes_of (chars dialect 0 bytes.now) ≡ [])
+        (λ c. bytes_of (chars dialect 0 bytes.now) ≡ c.0 ∷ bytes_of (chars dialect 0 c.1.now)) }
+{
+    let [byte, behind @ ..] = bytes else {
+        return None;
+    };
+    if is_plain(*byte) {
+        return Some((*byte, behind));
+    }
+    next_written(dialect, bytes)
 }

@@ -5,14 +5,16 @@
 #![tactic(auto)]
 
 mod alone;
+mod classes;
+mod eights;
 mod front;
 mod reader;
 mod units;
 
 pub use alone::next_character;
+pub use classes::{is_word_byte, told};
 pub use front::{begins_with, behind};
 pub use reader::Chars;
-pub use units::is_word_byte;
 
 /// The most bytes that one input may have.
 pub const LIMIT: usize = 8_388_608;

@@ -1,11 +1,12 @@
 //! Reads the characters of a text one after another.
 
 ghost use Rattle.std.specs.Prelude.{◌≡◌, ◌+◌, ◌<◌, ◌≤◌, ◌^◌, length, drop, MatchOption, Some, IfSome, IfNone, ◌∷◌, [], slice_get};
-ghost use Rattle.c_chars.specs.Characters.{chars, logical, mark_len, is_ink_byte, is_text_byte, is_word_byte};
-ghost use Rattle.c_chars.specs.Coming.{AreBetween, AreBytesPassed, ArePassed, AreSpacesPassed};
+ghost use Rattle.c_chars.specs.Characters.{chars, logical, mark_len, is_text_byte, is_word_byte};
+ghost use Rattle.c_chars.specs.Coming.{AreBetween, AreBytesPassed, ArePassed, AreSpacesPassed, AreWordsPassed};
 
 use crate::alone::first_character;
-use crate::units::{ink_len, is_plain, space_len, text_len, word_len};
+use crate::classes::{is_plain, space_len, word_len};
+use crate::eights::{text_len, words_len};
 use crate::{Dialect, LIMIT, LogicalChar};
 use std::marker::Model;
 
@@ -243,19 +244,8 @@ impl<'s> Chars<'s> {
         len as u32
     }
 
-    /// Steps behind the characters that come next and are no white space and none of `"'*?\\`, in one pass over
-    /// their bytes.
-    ///
-    /// It may stop before a further one, where lines are spliced between the two.
-    #[inline(always)]
-    pub fn pass_ink(&mut self)
-        ensures { ArePassed is_ink_byte self.old self.new }
-    {
-        let len = ink_len(self.cursor.rest);
-        self.cursor.pass(len);
-    }
-
-    /// Steps behind such characters, spaces and tabs: what comments and strings are mostly made of.
+    /// Steps behind the spaces, the tabs and the characters that come next and are no white space and none of
+    /// `"'*?\\`, in one pass over their bytes: what comments and strings are mostly made of.
     ///
     /// It may stop before a further one, where lines are spliced between the two.
     #[inline(always)]
@@ -263,6 +253,15 @@ impl<'s> Chars<'s> {
         ensures { ArePassed is_text_byte self.old self.new }
     {
         let len = text_len(self.cursor.rest);
+        self.cursor.pass(len);
+    }
+
+    /// Steps behind the last of such characters that is no space or tab.
+    #[inline(always)]
+    pub fn pass_words(&mut self)
+        ensures { AreWordsPassed self.old self.new }
+    {
+        let len = words_len(self.cursor.rest);
         self.cursor.pass(len);
     }
 

@@ -6,13 +6,36 @@ ghost use Rattle.c_grammar.specs.Grammar.{is_white, is_new_line, is_digit, is_le
 
 use c_chars::Dialect;
 
+/// Of each byte, whether it is white space or a new-line.
+const BLANK_BYTES: [bool; 256] = [
+    false, false, false, false, false, false, false, false, false, true, true, true, true, true,
+    false, false, false, false, false, false, false, false, false, false, false, false, false,
+    false, false, false, false, false, true, false, false, false, false, false, false, false,
+    false, false, false, false, false, false, false, false, false, false, false, false, false,
+    false, false, false, false, false, false, false, false, false, false, false, false, false,
+    false, false, false, false, false, false, false, false, false, false, false, false, false,
+    false, false, false, false, false, false, false, false, false, false, false, false, false,
+    false, false, false, false, false, false, false, false, false, false, false, false, false,
+    false, false, false, false, false, false, false, false, false, false, false, false, false,
+    false, false, false, false, false, false, false, false, false, false, false, false, false,
+    false, false, false, false, false, false, false, false, false, false, false, false, false,
+    false, false, false, false, false, false, false, false, false, false, false, false, false,
+    false, false, false, false, false, false, false, false, false, false, false, false, false,
+    false, false, false, false, false, false, false, false, false, false, false, false, false,
+    false, false, false, false, false, false, false, false, false, false, false, false, false,
+    false, false, false, false, false, false, false, false, false, false, false, false, false,
+    false, false, false, false, false, false, false, false, false, false, false, false, false,
+    false, false, false, false, false, false, false, false, false, false, false, false, false,
+    false, false, false, false, false, false, false, false, false, false, false, false, false,
+    false, false, false, false, false, false, false, false,
+];
+
 /// White space and new-lines (C11 6.4p3).
-#[tactic(auto, unfolding(crate::specs::Grammar::is_white, crate::specs::Grammar::is_new_line))]
 #[inline(always)]
 pub fn is_blank(byte: u8) -> bool
     ensures { result ≡ (is_white byte || is_new_line byte) }
 {
-    matches!(byte, 9 | 11 | 12 | 13 | b' ' | b'\n')
+    c_chars::told(&BLANK_BYTES, byte)
 }
 
 /// White space that ends no line (C11 6.4p3).
@@ -42,13 +65,35 @@ pub fn is_digit(byte: u8) -> bool
     byte.is_ascii_digit()
 }
 
+/// Of each byte, whether it is a letter, `_` or `$`.
+const LETTER_BYTES: [bool; 256] = [
+    false, false, false, false, false, false, false, false, false, false, false, false, false,
+    false, false, false, false, false, false, false, false, false, false, false, false, false,
+    false, false, false, false, false, false, false, false, false, false, true, false, false,
+    false, false, false, false, false, false, false, false, false, false, false, false, false,
+    false, false, false, false, false, false, false, false, false, false, false, false, false,
+    true, true, true, true, true, true, true, true, true, true, true, true, true, true, true, true,
+    true, true, true, true, true, true, true, true, true, true, false, false, false, false, true,
+    false, true, true, true, true, true, true, true, true, true, true, true, true, true, true,
+    true, true, true, true, true, true, true, true, true, true, true, true, false, false, false,
+    false, false, false, false, false, false, false, false, false, false, false, false, false,
+    false, false, false, false, false, false, false, false, false, false, false, false, false,
+    false, false, false, false, false, false, false, false, false, false, false, false, false,
+    false, false, false, false, false, false, false, false, false, false, false, false, false,
+    false, false, false, false, false, false, false, false, false, false, false, false, false,
+    false, false, false, false, false, false, false, false, false, false, false, false, false,
+    false, false, false, false, false, false, false, false, false, false, false, false, false,
+    false, false, false, false, false, false, false, false, false, false, false, false, false,
+    false, false, false, false, false, false, false, false, false, false, false, false, false,
+    false, false, false, false, false, false, false, false, false, false, false, false, false,
+];
+
 /// A nondigit (C11 6.4.2.1): a letter or `_`; and `$`.
-#[tactic(auto, unfolding(crate::specs::Grammar::is_letter))]
 #[inline(always)]
 pub fn is_letter(byte: u8) -> bool
     ensures { result ≡ is_letter byte }
 {
-    byte.is_ascii_alphabetic() || byte == b'_' || byte == b'$'
+    c_chars::told(&LETTER_BYTES, byte)
 }
 
 /// A hexadecimal digit (C11 6.4.4.1).

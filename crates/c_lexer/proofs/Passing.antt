@@ -11,8 +11,8 @@ use Rattle.c_grammar.specs.Touch.{starts}
 use Rattle.c_grammar.specs.Bytes.{is_quote_mark}
 use Rattle.std.proofs.Common.{true, inl, inr, ◌≡◌, ◌≤◌, ◌==◌, ◌&&◌, Bool, false, ℕ, zero, suc, length, ◌+◌, ◌||◌, List, [], ◌∷◌, take, refl, sym, ◌∙◌, ap, arith}
 use Rattle.c_chars.proofs.Steps.{behind_next}
-use Rattle.c_chars.specs.Coming.{Coming, ArePassed, behind, passed}
-use Rattle.c_chars.specs.Characters.{bytes_of, is_ink_byte, is_space_byte, is_text_byte}
+use Rattle.c_chars.specs.Coming.{Coming, ArePassed, AreWordsPassed, behind, passed}
+use Rattle.c_chars.specs.Characters.{are_words, bytes_of, is_ink_byte, is_space_byte, is_text_byte}
 use Rattle.c_chars.specs.declared.Dialect.{Dialect}
 use Rattle.c_chars.specs.declared.LogicalChar.{LogicalChar}
 
@@ -261,27 +261,82 @@ same_last a b (c ∷ s) e = elim (cases_Bool (is_new_line c)) [
   ]
 ]
 
+-- such a byte is a space or a tab, or no white space
+text_parts : (b : ℕ) → is_text_byte b ≡ true → is_ink_byte b ≡ false → (is_new_line b ≡ false) × (is_white b ≡ true)
+unfolding is_text_byte is_ink_byte is_space_byte is_new_line is_white
+text_parts b h n = (grind (arith, nat_tests), grind (arith, nat_tests))
+
+ink_text : (b : ℕ) → is_ink_byte b ≡ true → is_text_byte b ≡ true
+unfolding is_text_byte
+ink_text b h = rw h refl
+
+words_first : (b : ℕ) (s : List ℕ) → are_words (b ∷ s) ≡ true → (is_text_byte b ≡ true) × (are_words s ≡ true)
+words_first b [] h = (ink_text b h, refl)
+words_first b (c ∷ s) h = and_parts (is_text_byte b) (are_words (c ∷ s)) h
+
+-- white space stands within a comment that goes on behind it
+over_some : (keeps : Bool) (m : ℕ) → (m == 0) ≡ false → over_white keeps m ≡ 1 + m
+over_some keeps m e = rw e refl
+
+-- a line comment has the words that come next
+some_ink : (last b : ℕ) (s : List ℕ) → is_ink_byte b ≡ true → (line_len last (b ∷ s) == 0) ≡ false
+some_ink last b s h =
+    let means = ink_means b h in
+    let len = black_len last b s means.0 means.1.0 in
+    ne_eqb (line_len last (b ∷ s)) 0 (λ z. absurd (omega (arith, len, z)))
+
+some_words : (last n b : ℕ) (s : List ℕ) → are_words (b ∷ take n s) ≡ true → (line_len last (b ∷ s) == 0) ≡ false
+some_words last zero b s h = some_ink last b s h
+some_words last (suc n) b [] h = some_ink last b [] h
+some_words last (suc n) b (c ∷ s) h =
+    let parts = words_first b (c ∷ take n s) h in
+    let rest = some_words last n c s parts.1 in
+    elim (cases_Bool (is_ink_byte b)) [
+      | inl y ↦ some_ink last b (c ∷ s) y
+      | inr m ↦
+          let means = text_parts b parts.0 m in
+          let len : line_len last (b ∷ c ∷ s) ≡ 1 + line_len last (c ∷ s) = white_len last b (c ∷ s) means.0 means.1 ∙ over_some (last == 92) (line_len last (c ∷ s)) rest in
+          ne_eqb (line_len last (b ∷ c ∷ s)) 0 (λ z. absurd (omega (arith, len, z)))
+    ]
+
+-- one character of words is passed
+word_len : (last n : ℕ) (b : ℕ) (s : List ℕ) → (last == 92) ≡ false → are_words (b ∷ take n s) ≡ true → line_len last (b ∷ s) ≡ 1 + line_len last s
+word_len last n b s other h = elim (cases_Bool (is_ink_byte b)) [
+  | inl y ↦
+      let means = ink_means b y in
+      let same : line_len b s ≡ line_len last s = same_last b last s (means.1.1 ∙ sym other) in
+      black_len last b s means.0 means.1.0 ∙ ap (λ k. 1 + k) same
+  | inr m ↦ white n s (text_parts b (words_first b (take n s) h).0 m) h m
+]
+  where
+    white : (n : ℕ) (s : List ℕ) → (is_new_line b ≡ false) × (is_white b ≡ true) → are_words (b ∷ take n s) ≡ true → is_ink_byte b ≡ false → line_len last (b ∷ s) ≡ 1 + line_len last s
+    white zero s means h m = let no : true ≡ false = sym h ∙ m in cc
+    white (suc n) [] means h m = let no : true ≡ false = sym h ∙ m in cc
+    white (suc n) (c ∷ s) means h m =
+        let rest = some_words last n c s (words_first b (c ∷ take n s) h).1 in
+        white_len last b (c ∷ s) means.0 means.1 ∙ over_some (last == 92) (line_len last (c ∷ s)) rest
+
 -- what passed is within a line comment, and its last character is no white space
-pub passed_line : (last : ℕ) (x y : Coming) → (last == 92) ≡ false → ArePassed is_ink_byte x y → behind y (line_len last (bytes_of y.chars)) ≡ behind x (line_len last (bytes_of x.chars))
+pub passed_line : (last : ℕ) (x y : Coming) → (last == 92) ≡ false → AreWordsPassed x y → behind y (line_len last (bytes_of y.chars)) ≡ behind x (line_len last (bytes_of x.chars))
 passed_line last x y other r = ap (λ z. behind z (line_len last (bytes_of z.chars))) r.new_is ∙ on x.dialect x.at x.chars r.n r.within r.all
   where
-    on : (d : Dialect) (at : ℕ) (s : List LogicalChar) (n : ℕ) → n ≤ length s → list_all is_ink_byte (take n (bytes_of s)) ≡ true →
+    on : (d : Dialect) (at : ℕ) (s : List LogicalChar) (n : ℕ) → n ≤ length s → are_words (take n (bytes_of s)) ≡ true →
         behind (passed d at s n) (line_len last (bytes_of (passed d at s n).chars)) ≡ passed d at s (line_len last (bytes_of s))
     on d at s zero within all = refl
     on d at [] (suc n) within all = absurd (omega arith)
     on d at (c ∷ s) (suc n) within all =
-        let parts = and_parts (is_ink_byte c.byte) (list_all is_ink_byte (take n (bytes_of s))) all in
-        let means = ink_means c.byte parts.0 in
-        let len : line_len last (c.byte ∷ bytes_of s) ≡ 1 + line_len c.byte (bytes_of s) = black_len last c.byte (bytes_of s) means.0 means.1.0 in
-        let same : line_len c.byte (bytes_of s) ≡ line_len last (bytes_of s) = same_last c.byte last (bytes_of s) (means.1.1 ∙ sym other) in
-        let one : line_len last (c.byte ∷ bytes_of s) ≡ suc (line_len last (bytes_of s)) = omega (arith, len, same) in
-        on d c.to s n (omega (arith, within)) parts.1 ∙ sym (ap (λ k. passed d at (c ∷ s) k) one)
+        let len = word_len last n c.byte (bytes_of s) other all in
+        let one : line_len last (c.byte ∷ bytes_of s) ≡ suc (line_len last (bytes_of s)) = omega (arith, len) in
+        on d c.to s n (omega (arith, within)) (words_first c.byte (take n (bytes_of s)) all).1 ∙ sym (ap (λ k. passed d at (c ∷ s) k) one)
 
 -- no more are left than were
+fewer_behind : (d : Dialect) (at : ℕ) (s : List LogicalChar) (n : ℕ) → length (passed d at s n).chars ≤ length s
+fewer_behind d at s zero = omega arith
+fewer_behind d at [] (suc n) = omega arith
+fewer_behind d at (c ∷ s) (suc n) = let h = fewer_behind d c.to s n in omega (arith, h)
+
+pub fewer_words : (x y : Coming) → AreWordsPassed x y → length y.chars ≤ length x.chars
+fewer_words x y r = let e : length y.chars ≡ length (behind x r.n).chars = ap (λ z. length z.chars) r.new_is in rw e (fewer_behind x.dialect x.at x.chars r.n)
+
 pub fewer_left : (p : ℕ → Bool) (x y : Coming) → ArePassed p x y → length y.chars ≤ length x.chars
-fewer_left p x y r = let e : length y.chars ≡ length (behind x r.n).chars = ap (λ z. length z.chars) r.new_is in rw e (left x.dialect x.at x.chars r.n)
-  where
-    left : (d : Dialect) (at : ℕ) (s : List LogicalChar) (n : ℕ) → length (passed d at s n).chars ≤ length s
-    left d at s zero = omega arith
-    left d at [] (suc n) = omega arith
-    left d at (c ∷ s) (suc n) = let h = left d c.to s n in omega (arith, h)
+fewer_left p x y r = let e : length y.chars ≡ length (behind x r.n).chars = ap (λ z. length z.chars) r.new_is in rw e (fewer_behind x.dialect x.at x.chars r.n)

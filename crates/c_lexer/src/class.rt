@@ -8,13 +8,36 @@ use crate::punctuator;
 use c_chars::Dialect;
 use c_grammar::bytes;
 
+/// Of each byte, whether it ends a word.
+const ENDS_WORD: [bool; 256] = [
+    true, true, true, true, true, true, true, true, true, true, true, true, true, true, true, true,
+    true, true, true, true, true, true, true, true, true, true, true, true, true, true, true, true,
+    true, true, false, true, false, true, true, false, true, true, true, true, true, true, true,
+    true, false, false, false, false, false, false, false, false, false, false, true, true, true,
+    true, true, true, true, false, false, false, false, false, false, false, false, false, false,
+    false, false, false, false, false, false, false, false, false, false, false, false, false,
+    false, false, false, true, false, true, true, false, true, false, false, false, false, false,
+    false, false, false, false, false, false, false, false, false, false, false, false, false,
+    false, false, false, false, false, false, false, false, true, true, true, true, true, false,
+    false, false, false, false, false, false, false, false, false, false, false, false, false,
+    false, false, false, false, false, false, false, false, false, false, false, false, false,
+    false, false, false, false, false, false, false, false, false, false, false, false, false,
+    false, false, false, false, false, false, false, false, false, false, false, false, false,
+    false, false, false, false, false, false, false, false, false, false, false, false, false,
+    false, false, false, false, false, false, false, false, false, false, false, false, false,
+    false, false, false, false, false, false, false, false, false, false, false, false, false,
+    false, false, false, false, false, false, false, false, false, false, false, false, false,
+    false, false, false, false, false, false, false, false, false, false, false, false, false,
+    false, false, false, false, false, false, false, false, false, false,
+];
+
 /// What ends a word that stands before it, which begins no literal: no letter, no digit, no quote, no
 /// backslash and no byte past ASCII.
 #[inline(always)]
 pub(crate) fn ends_word(byte: u8) -> bool
     ensures { result ≡ ends_word byte }
 {
-    !(bytes::is_word(byte) || (bytes::is_beyond(byte) || bytes::is_quote_mark(byte)))
+    c_chars::told(&ENDS_WORD, byte)
 }
 
 /// What ends a number that stands before it: no part of one, no sign, no quote, no backslash and no byte
@@ -26,16 +49,36 @@ pub(crate) fn ends_number(byte: u8) -> bool
     !(is_single(byte) || (bytes::is_sign(byte) || (bytes::is_beyond(byte) || byte == b'\'')))
 }
 
+/// Of each byte, whether it is a punctuator by itself.
+const LONE_MARKS: [bool; 256] = [
+    false, false, false, false, false, false, false, false, false, false, false, false, false,
+    false, false, false, false, false, false, false, false, false, false, false, false, false,
+    false, false, false, false, false, false, false, false, false, false, false, false, false,
+    false, true, true, false, false, true, false, false, false, false, false, false, false, false,
+    false, false, false, false, false, false, true, false, false, false, false, false, false,
+    false, false, false, false, false, false, false, false, false, false, false, false, false,
+    false, false, false, false, false, false, false, false, false, false, false, false, true,
+    false, true, false, false, false, false, false, false, false, false, false, false, false,
+    false, false, false, false, false, false, false, false, false, false, false, false, false,
+    false, false, false, false, false, true, false, true, true, false, false, false, false, false,
+    false, false, false, false, false, false, false, false, false, false, false, false, false,
+    false, false, false, false, false, false, false, false, false, false, false, false, false,
+    false, false, false, false, false, false, false, false, false, false, false, false, false,
+    false, false, false, false, false, false, false, false, false, false, false, false, false,
+    false, false, false, false, false, false, false, false, false, false, false, false, false,
+    false, false, false, false, false, false, false, false, false, false, false, false, false,
+    false, false, false, false, false, false, false, false, false, false, false, false, false,
+    false, false, false, false, false, false, false, false, false, false, false, false, false,
+    false, false, false, false, false, false, false, false, false, false, false, false, false,
+    false, false, false, false, false, false, false,
+];
+
 /// A punctuator by itself, that none begins with that is longer.
-#[tactic(auto, unfolding(crate::specs::Class::is_lone_mark))]
 #[inline(always)]
 pub(crate) fn is_lone_mark(byte: u8) -> bool
     ensures { result ≡ is_lone_mark byte }
 {
-    matches!(
-        byte,
-        b'[' | b']' | b'(' | b')' | b'{' | b'}' | b'~' | b';' | b','
-    )
+    c_chars::told(&LONE_MARKS, byte)
 }
 
 /// What ends a punctuator of one byte that stands before it: it goes on with none, and neither a number

@@ -56,7 +56,7 @@ fn pass_within_line(chars: &mut Chars, last: u8)
     ensures fewer { length chars.new.chars ≤ length chars.old.chars }
 {
     if last != b'\\' {
-        chars.pass_ink();
+        chars.pass_words();
     }
 }
 

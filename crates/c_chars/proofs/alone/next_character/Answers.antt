@@ -1,9 +1,6 @@
-use Rattle.std.proofs.Common.{◌∙◌, ◌+◌, ap, ◌∷◌, sym}
-use Rattle.c_chars.specs.Characters.{bytes_of, chars}
-use Rattle.c_chars.proofs.Moved.{bytes_at}
+use Rattle.std.proofs.Common.{◌∙◌, sym, arith}
+use Rattle.c_chars.proofs.Runs.{plain_byte}
 use Rattle.c_chars.proofs.alone.next_character.Goals as goal
 
-pub returns : goal.returns
-returns c =
-    let first = c.in_ok-first.first in
-    ap bytes_of (c.in_ok-first.ensures.first 0) ∙ (ap (λ z. first.byte ∷ z) (bytes_at c.args.dialect ((0 + first.before) + first.len) _) ∙ ap (λ z. first.byte ∷ bytes_of (chars c.args.dialect 0 z)) (sym c.split_at.ensures.back))
+pub returns-then-is_plain : goal.returns-then-is_plain
+returns-then-is_plain c = plain_byte c.args.dialect c.args.bytes.now c.in-len1-up.len_at_least (sym c.is_plain.ensures ∙ c.if-is_plain.true)

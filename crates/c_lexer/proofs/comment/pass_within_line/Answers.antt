@@ -1,10 +1,9 @@
 use Rattle.std.proofs.lemmas.Bool.{ne_eqb}
-use Rattle.c_chars.specs.Characters.{is_ink_byte}
-use Rattle.c_lexer.proofs.Passing.{passed_line, fewer_left}
+use Rattle.c_lexer.proofs.Passing.{passed_line, fewer_words}
 use Rattle.c_lexer.proofs.comment.pass_within_line.Goals as goal
 
 pub returns-then-last-ne92-clause-rest : goal.returns-then-last-ne92-clause-rest
-returns-then-last-ne92-clause-rest c = passed_line c.args.last c.args.chars.now c.pass_ink.new.self (ne_eqb c.args.last 92 c.if-last-ne92.true) c.pass_ink.ensures
+returns-then-last-ne92-clause-rest c = passed_line c.args.last c.args.chars.now c.pass_words.new.self (ne_eqb c.args.last 92 c.if-last-ne92.true) c.pass_words.ensures
 
 pub returns-then-last-ne92-clause-fewer : goal.returns-then-last-ne92-clause-fewer
-returns-then-last-ne92-clause-fewer c = fewer_left is_ink_byte c.args.chars.now c.pass_ink.new.self c.pass_ink.ensures
+returns-then-last-ne92-clause-fewer c = fewer_words c.args.chars.now c.pass_words.new.self c.pass_words.ensures
