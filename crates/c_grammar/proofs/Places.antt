@@ -55,15 +55,17 @@ take_front (suc n) (c ∷ s) (b ∷ w) i h =
     let there = rest.0 in
     (rw (e, there) refl, ap suc rest.1)
 
--- they reach as far as the word, and are it
-pub spelled_yes : (x y left : Coming) (w : List ℕ) (n : ℕ) (b : Bool) → IsSpanned x → y ≡ behind x (length w) → y.at ≡ left.at → b ≡ starts_with nat_eq (bytes_of x.chars) w → n ≤ length x.chars → left ≡ behind x n → b ≡ is_same (take n (bytes_of x.chars)) w
-spelled_yes x y left w n b sp e at h i l = elim (cases_Bool (starts_with nat_eq (bytes_of x.chars) w)) [
-  | inl t ↦
-      let same : n ≡ length w = at_inject x.dialect x.at n (length w) sp.high x.chars sp.spans i (front_len x.chars w t) (sym (ap (λ z. z.at) l) ∙ (sym at ∙ ap (λ z. z.at) e)) in
-      let is : take n (bytes_of x.chars) ≡ w = ap (λ k. take k (bytes_of x.chars)) same ∙ front_take (bytes_of x.chars) w t in
-      h ∙ (t ∙ sym (subst (λ z. is_same z w ≡ true) (sym is) (same_refl w)))
-  | inr t ↦ h ∙ (t ∙ sym (false_from_ne_true (is_same (take n (bytes_of x.chars)) w) (λ z. let y = (take_front n x.chars w i z).0 in cc)))
-]
+-- the text begins with the word, and they reach as far
+pub spelled_yes : (x y left : Coming) (w : List ℕ) (n : ℕ) → IsSpanned x → starts_with nat_eq (bytes_of x.chars) w ≡ true → y ≡ behind x (length w) → y.at ≡ left.at → n ≤ length x.chars → left ≡ behind x n
+    → true ≡ is_same (take n (bytes_of x.chars)) w
+spelled_yes x y left w n sp t e at i l =
+    let same : n ≡ length w = at_inject x.dialect x.at n (length w) sp.high x.chars sp.spans i (front_len x.chars w t) (sym (ap (λ z. z.at) l) ∙ (sym at ∙ ap (λ z. z.at) e)) in
+    let is : take n (bytes_of x.chars) ≡ w = ap (λ k. take k (bytes_of x.chars)) same ∙ front_take (bytes_of x.chars) w t in
+    sym (subst (λ z. is_same z w ≡ true) (sym is) (same_refl w))
+
+-- the text begins otherwise
+pub spelled_other : (x : Coming) (w : List ℕ) (n : ℕ) → starts_with nat_eq (bytes_of x.chars) w ≡ false → n ≤ length x.chars → false ≡ is_same (take n (bytes_of x.chars)) w
+spelled_other x w n t i = sym (false_from_ne_true (is_same (take n (bytes_of x.chars)) w) (λ z. let y = (take_front n x.chars w i z).0 in cc))
 
 -- they reach elsewhere
 pub spelled_no : (x y left : Coming) (w : List ℕ) (n : ℕ) → y ≡ behind x (length w) → (y.at ≡ left.at → ⊥) → n ≤ length x.chars → left ≡ behind x n → false ≡ is_same (take n (bytes_of x.chars)) w

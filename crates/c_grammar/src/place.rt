@@ -46,12 +46,12 @@ impl Standing {
     }
 }
 
-/// Whether the characters of the text up to what is left of it are these.
+/// Whether the characters of the text up to what is left of it are these. Most differ in the first.
 fn spells(text: &Chars, left: &Chars, word: &[u8]) -> bool
     requires { IsSpanned text.now }
     ensures { SpelledBy text.now left.now (λ s. result ≡ is_same s word.now) }
 {
-    c_chars::behind(text, word.len()).at() == left.at() && c_chars::begins_with(text, word)
+    c_chars::begins_with(text, word) && c_chars::behind(text, word.len()).at() == left.at()
 }
 
 /// Whether they are `#` or its digraph.

@@ -1,13 +1,19 @@
-use Rattle.std.proofs.Common.{◌∙◌, sym}
-use Rattle.std.proofs.lemmas.Bool.{ne_eqb}
-use Rattle.c_grammar.proofs.Places.{spelled_yes, spelled_no}
+use Rattle.std.proofs.Common.{◌∙◌, ◌==◌, sym, inl, inr}
+use Rattle.std.proofs.lemmas.Bool.{both_ways, cases_Bool, eq-eqb, eqb-true}
+use Rattle.c_grammar.proofs.Places.{spelled_yes, spelled_no, spelled_other}
 use Rattle.c_grammar.proofs.place.spells.Goals as goal
 
-pub returns-then-at : goal.returns-then-at
-returns-then-at c = λ n i l.
-    spelled_yes c.args.text.now c.behind.result c.args.left.now c.args.word.now n c.begins_with.result c.requires c.behind.ensures (sym c.at.ensures ∙ (c.if-at.true ∙ c.at-2.ensures)) c.begins_with.ensures i l
+pub returns-then-begins_with : goal.returns-then-begins_with
+returns-then-begins_with c = λ n i l. elim (cases_Bool (c.at.result == c.at-then-begins_with.result)) [
+  | inl y ↦
+      y
+      ∙ spelled_yes c.args.text.now c.behind.result c.args.left.now c.args.word.now n c.requires (sym c.begins_with.ensures ∙ c.if-begins_with.true) c.behind.ensures
+      (sym c.at.ensures ∙ (eqb-true c.at.result c.at-then-begins_with.result y ∙ c.at-then-begins_with.ensures)) i l
+  | inr m ↦
+      m
+      ∙ spelled_no c.args.text.now c.behind.result c.args.left.now c.args.word.now n c.behind.ensures
+      (λ z. both_ways (c.at.result == c.at-then-begins_with.result) m (eq-eqb c.at.result c.at-then-begins_with.result (c.at.ensures ∙ (z ∙ sym c.at-then-begins_with.ensures)))) i l
+]
 
-pub returns-else-at : goal.returns-else-at
-returns-else-at c = λ n i l.
-    ne_eqb c.at.result c.at-2.result c.if-at.false
-    ∙ spelled_no c.args.text.now c.behind.result c.args.left.now c.args.word.now n c.behind.ensures (λ z. c.if-at.false (c.at.ensures ∙ (z ∙ sym c.at-2.ensures))) i l
+pub returns-else-begins_with : goal.returns-else-begins_with
+returns-else-begins_with c = λ n i l. c.if-begins_with.false ∙ spelled_other c.args.text.now c.args.word.now n (sym c.begins_with.ensures ∙ c.if-begins_with.false) i
