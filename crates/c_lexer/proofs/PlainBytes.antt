@@ -1,20 +1,22 @@
--- Characters that are bytes of their text by themselves, and those of them that are printable.
-use Rattle.std.proofs.Common.{◌≡◌, ◌==◌, ◌&&◌, ◌∙◌, Bool, true, ℕ, zero, suc, ◌+◌, ◌-◌, ◌<◌, ◌≤◌, List, [], ◌∷◌, ◌++◌, length, take, drop, get_or, refl, sym, ap, subst, arith}
+-- Characters that are bytes of their text by themselves, and those of items.
+use Rattle.std.proofs.Common.{◌≡◌, ◌==◌, ◌&&◌, ◌∙◌, Bool, true, false, not, ℕ, zero, suc, ◌+◌, ◌-◌, ◌<◌, ◌≤◌, List, [], ◌∷◌, ◌++◌, length, take, drop, get_or, refl, sym, ap, subst, arith}
 use Rattle.std.specs.Prelude.{⊤, Some, None, Option, IfSome, slice_get}
 use Rattle.std.specs.Int.{is_in_range}
 use Rattle.std.specs.List.{list_all}
-use Rattle.std.proofs.lemmas.Bool.{and_from, and_parts}
+use Rattle.std.proofs.lemmas.Bool.{and_from, and_parts, not-true}
 use Rattle.std.proofs.lemmas.Bool.Decides.{nat_tests}
 use Rattle.std.proofs.lemmas.List.{drop-drop, drop_more}
 use Rattle.c_chars.specs.Characters.{placed, replaced, with_lines, spliced, phase_1, logical, mark_len, is_trigraph, is_word_byte, trigraph}
-use Rattle.c_chars.specs.Coming.{Coming, AreBytesPassed, passed, behind}
+use Rattle.c_chars.specs.Coming.{Coming, AreBetween, AreBytesPassed, passed, behind}
 use Rattle.c_chars.specs.declared.Dialect.{Dialect}
 use Rattle.c_chars.specs.declared.Dialect.TheVariants.{C11, C23}
 use Rattle.c_chars.specs.declared.LogicalChar.{LogicalChar}
 use Rattle.c_grammar.specs.Grammar.{is_digit, is_letter}
 use Rattle.c_grammar.specs.Bytes.{begins_punctuator}
+use Rattle.c_grammar.specs.Place.{IsSpanned}
+use Rattle.c_chars.proofs.Steps.{onwards}
 use Rattle.c_lexer.specs.Class.{is_lone_mark}
-use Rattle.c_lexer.specs.Reading.{ArePrintable, AreRaw}
+use Rattle.c_lexer.specs.Reading.{AreItemBytes, AreRaw, BeforeLeft, ends_in_backslash, is_item_byte}
 use Rattle.c_lexer.specs.Run.{is_pair_mark}
 use Rattle.c_lexer.proofs.Backslashes.{by_test}
 use Rattle.c_lexer.proofs.Stepping.{behind_chars}
@@ -145,51 +147,93 @@ next_one p x y e first from to holds y_is =
     let left = y_is ∙ next.1 in
     one_passed p x y y e (next.0 ∙ ap (λ s. e ∷ s) (sym (ap (λ z. z.chars) left))) (ap (λ z. z.at) left) from to holds (none_passed p y)
 
--- Printable characters.
+-- Characters of items: printable, and no backslash.
 
-pub letter_printable : (b : ℕ) → is_letter b ≡ true → is_in_range 0x20 0x7E b ≡ true
-unfolding is_letter
-letter_printable b h = grind (arith, nat_tests)
+pub letter_item : (b : ℕ) → is_letter b ≡ true → is_item_byte b ≡ true
+unfolding is_letter is_item_byte
+letter_item b h = grind (arith, nat_tests)
 
-pub digit_printable : (b : ℕ) → is_digit b ≡ true → is_in_range 0x20 0x7E b ≡ true
-unfolding is_digit
-digit_printable b h = grind (arith, nat_tests)
+pub digit_item : (b : ℕ) → is_digit b ≡ true → is_item_byte b ≡ true
+unfolding is_digit is_item_byte
+digit_item b h = grind (arith, nat_tests)
 
-pub lone_printable : (b : ℕ) → is_lone_mark b ≡ true → is_in_range 0x20 0x7E b ≡ true
-unfolding is_lone_mark
-lone_printable b h = grind (arith, nat_tests)
+pub lone_item : (b : ℕ) → is_lone_mark b ≡ true → is_item_byte b ≡ true
+unfolding is_lone_mark is_item_byte
+lone_item b h = grind (arith, nat_tests)
 
-pub mark_printable : (b : ℕ) → begins_punctuator b ≡ true → is_in_range 0x20 0x7E b ≡ true
-unfolding begins_punctuator
-mark_printable b h = grind (arith, nat_tests)
+pub mark_item : (b : ℕ) → begins_punctuator b ≡ true → is_item_byte b ≡ true
+unfolding begins_punctuator is_item_byte
+mark_item b h = grind (arith, nat_tests)
 
-pub second_printable : (a b : ℕ) → is_pair_mark a b ≡ true → is_in_range 0x20 0x7E b ≡ true
-unfolding is_pair_mark
-second_printable a b h = grind (arith, nat_tests)
+pub second_item : (a b : ℕ) → is_pair_mark a b ≡ true → is_item_byte b ≡ true
+unfolding is_pair_mark is_item_byte
+second_item a b h = grind (arith, nat_tests)
 
-word_printable : (b : ℕ) → is_word_byte b ≡ true → is_in_range 0x20 0x7E b ≡ true
-unfolding is_word_byte
-word_printable b h = grind (arith, nat_tests)
+word_item : (b : ℕ) → is_word_byte b ≡ true → is_item_byte b ≡ true
+unfolding is_word_byte is_item_byte
+word_item b h = grind (arith, nat_tests)
 
-pub words_printable : (x y : Coming) → AreBytesPassed is_word_byte x y → AreBytesPassed (is_in_range 0x20 0x7E) x y
-words_printable x y r = record {
+pub words_items : (x y : Coming) → AreBytesPassed is_word_byte x y → AreBytesPassed is_item_byte x y
+words_items x y r = record {
   bytes = r.bytes;
-  all = each is_word_byte (is_in_range 0x20 0x7E) r.bytes word_printable r.all;
+  all = each is_word_byte is_item_byte r.bytes word_item r.all;
   chars_are = r.chars_are;
   at_is = r.at_is;
 }
 
-pub digits_printable : (first : LogicalChar) (y : Coming) (o : Option Coming) → is_digit first.byte ≡ true → IfSome o (λ left. AreBytesPassed is_word_byte y left) → IfSome o (λ left. ArePrintable first y left)
-digits_printable first y None digit h = h
-digits_printable first y (Some left) digit h = record { first_is = digit_printable first.byte digit; rest_are = words_printable y left h }
+pub digits_items : (first : LogicalChar) (y : Coming) (o : Option Coming) → is_digit first.byte ≡ true → IfSome o (λ left. AreBytesPassed is_word_byte y left) → IfSome o (λ left. AreItemBytes first y left)
+digits_items first y None digit h = h
+digits_items first y (Some left) digit h = record { first_is = digit_item first.byte digit; rest_are = words_items y left h }
+
+item_printable : (b : ℕ) → is_item_byte b ≡ true → is_in_range 0x20 0x7E b ≡ true
+unfolding is_item_byte
+item_printable b h = (and_parts (is_in_range 0x20 0x7E b) (not (b == 92)) h).0
+
+item_other : (b : ℕ) → is_item_byte b ≡ true → (b == 92) ≡ false
+unfolding is_item_byte
+item_other b h = not-true (b == 92) (and_parts (is_in_range 0x20 0x7E b) (not (b == 92)) h).1
+
+-- an item's characters, each a byte by itself
+items_passed : (x y left : Coming) (first : LogicalChar) → x.chars ≡ first ∷ y.chars → y.at ≡ first.to → first.from ≡ x.at → first.to ≡ x.at + 1 → AreItemBytes first y left → AreBytesPassed is_item_byte x left
+items_passed x y left first chars at from to items = one_passed is_item_byte x y left first chars at from to items.first_is items.rest_are
 
 -- an item of printable characters has printable bytes
 pub raw_printable : (text : List ℕ) (x y left : Coming) (first : LogicalChar) → AreRaw text x.chars → left.at ≤ length text → x.chars ≡ first ∷ y.chars → y.at ≡ first.to → first.from ≡ x.at → first.to ≡ x.at + 1
-    → ArePrintable first y left → list_all (is_in_range 0x20 0x7E) (take (left.at - first.from) (drop first.from text)) ≡ true
-raw_printable text x y left first raw within chars at from to printable =
-    let all : AreBytesPassed (is_in_range 0x20 0x7E) x left = one_passed (is_in_range 0x20 0x7E) x y left first chars at from to printable.first_is printable.rest_are in
+    → AreItemBytes first y left → list_all (is_in_range 0x20 0x7E) (take (left.at - first.from) (drop first.from text)) ≡ true
+raw_printable text x y left first raw within chars at from to items =
+    let all : AreBytesPassed is_item_byte x left = items_passed x y left first chars at from to items in
     let there : left.at ≡ x.at + length all.bytes = all.at_is in
     let len : left.at - first.from ≡ length all.bytes = omega (arith, there, from) in
     let bytes : take (length all.bytes) (drop x.at text) ≡ all.bytes = placed_there text x.at all.bytes left.chars (subst (AreRaw text) all.chars_are raw) (omega (arith, there, within)) in
     ap (λ k. list_all (is_in_range 0x20 0x7E) (take k (drop first.from text))) len
-    ∙ (ap (λ k. list_all (is_in_range 0x20 0x7E) (take (length all.bytes) (drop k text))) from ∙ (ap (list_all (is_in_range 0x20 0x7E)) bytes ∙ all.all))
+    ∙ (ap (λ k. list_all (is_in_range 0x20 0x7E) (take (length all.bytes) (drop k text))) from ∙ (ap (list_all (is_in_range 0x20 0x7E)) bytes ∙ each is_item_byte (is_in_range 0x20 0x7E) all.bytes item_printable all.all))
+
+-- no backslash is the last of them
+
+back_behind : (c : LogicalChar) (s : List LogicalChar) → (c.byte == 92) ≡ false → ends_in_backslash s ≡ false → ends_in_backslash (c ∷ s) ≡ false
+back_behind c [] h rest = h
+back_behind c (e ∷ s) h rest = rest
+
+none_back : (d : Dialect) (at high n : ℕ) (bytes : List ℕ) (rest : List LogicalChar) → AreBetween at (placed at bytes ++ rest) high → list_all is_item_byte bytes ≡ true → n ≤ length (placed at bytes ++ rest)
+    → (passed d at (placed at bytes ++ rest) n).at ≡ at + length bytes → ends_in_backslash (take n (placed at bytes ++ rest)) ≡ false
+none_back d at high zero bytes rest between items within there = refl
+none_back d at high (suc n) [] [] between items within there = absurd (omega (arith, within))
+none_back d at high (suc n) [] (c ∷ rest) between items within there =
+    let on = onwards d c.to n high rest between.2 in
+    let first : at ≤ c.from = between.0 in
+    let some : c.from < c.to = between.1 in
+    absurd (omega (arith, on, first, some, there))
+none_back d at high (suc n) (b ∷ bytes) rest between items within there =
+    let parts = and_parts (is_item_byte b) (list_all is_item_byte bytes) items in
+    let far : (passed d (at + 1) (placed (at + 1) bytes ++ rest) n).at ≡ (at + 1) + length bytes = omega (arith, there) in
+    back_behind (record { byte = b; from = at; to = at + 1 }) (take n (placed (at + 1) bytes ++ rest)) (item_other b parts.0)
+    (none_back d (at + 1) high n bytes rest between.2 parts.1 (omega (arith, within)) far)
+
+pub items_told : (x y left : Coming) (first : LogicalChar) → IsSpanned x → x.chars ≡ first ∷ y.chars → y.at ≡ first.to → first.from ≡ x.at → first.to ≡ x.at + 1 → AreItemBytes first y left
+    → BeforeLeft x left (λ s. ends_in_backslash s ≡ false)
+items_told x y left first spanned chars at from to items = λ n within left_is.
+    let all = items_passed x y left first chars at from to items in
+    let there : (passed x.dialect x.at x.chars n).at ≡ x.at + length all.bytes = sym (ap (λ z. z.at) left_is) ∙ all.at_is in
+    ap (λ z. ends_in_backslash (take n z)) all.chars_are
+    ∙ none_back x.dialect x.at spanned.high n all.bytes left.chars (subst (λ z. AreBetween x.at z spanned.high) all.chars_are spanned.spans) all.all (subst (λ z. n ≤ length z) all.chars_are within)
+    (subst (λ z. (passed x.dialect x.at z n).at ≡ x.at + length all.bytes) all.chars_are there)

@@ -55,10 +55,14 @@ pub record IsBegun (text : Coming) (first : LogicalChar) (left : Coming) : Type 
   pub at_is : left.at ≡ first.to
   pub dialect_is : left.dialect ≡ text.dialect
 
--- An item begins with this character, goes on behind it up to what is left, and is of printable characters of ASCII; those behind the first are bytes by themselves.
-pub record ArePrintable (first : LogicalChar) (behind left : Coming) : Type 0 where
-  pub first_is : IsTrue (is_in_range 0x20 0x7E first.byte)
-  pub rest_are : AreBytesPassed (is_in_range 0x20 0x7E) behind left
+-- a printable character of ASCII that is no backslash
+unfoldable pub is_item_byte : ℕ → Bool
+is_item_byte b = is_in_range 0x20 0x7E b && not (b == 92)
+
+-- An item begins with this character, goes on behind it up to what is left, and is of such characters; those behind the first are bytes by themselves.
+pub record AreItemBytes (first : LogicalChar) (behind left : Coming) : Type 0 where
+  pub first_is : IsTrue (is_item_byte first.byte)
+  pub rest_are : AreBytesPassed is_item_byte behind left
 
 -- The next item of the text is this one, and this is what its characters and those of its gap tell.
 pub record IsNextLexeme (old new : Reading) (lexeme : Lexeme) : Type 0 where

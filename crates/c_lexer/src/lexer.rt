@@ -88,6 +88,18 @@ fn ends_plainly(text: &[u8], chars: &Chars, left: &Chars) -> bool
     !may_end_backslash(text, left.at())
 }
 
+/// Whether no backslash is the last character of an item: its bytes are known to be none, or the last of them tell it.
+#[inline(always)]
+fn has_no_backslash_last(known: bool, text: &[u8], chars: &Chars, left: &Chars) -> bool
+    requires some { 0 < left.now.at }
+    requires within { left.now.at ≤ length text.now }
+    requires slashed { AreSlashed text.now chars.now.chars }
+    requires known { IsTrue known → BeforeLeft chars.now left.now (λ s. IsFalse (ends_in_backslash s)) }
+    ensures { IsTrue result → BeforeLeft chars.now left.now (λ s. IsFalse (ends_in_backslash s)) }
+{
+    known || ends_plainly(text, chars, left)
+}
+
 /// Reads the items of a text one after another.
 #[derive(Drop)]
 pub struct Lexer<'s> {
@@ -161,7 +173,7 @@ impl<'s> Lexer<'s> {
         ) else {
             return None;
         };
-        if !ends_plainly(self.text, &begun.text, &left) {
+        if !has_no_backslash_last(!again, self.text, &begun.text, &left) {
             return None;
         }
         let raw = between(self.text, begun.first.from as usize, left.at());

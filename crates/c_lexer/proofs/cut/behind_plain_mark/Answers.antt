@@ -1,10 +1,10 @@
 use Rattle.std.proofs.Common.{◌∙◌, ◌+◌, ap, subst, sym}
-use Rattle.std.specs.Int.{is_in_range}
 use Rattle.std.specs.Prelude.{slice_get}
 use Rattle.c_chars.specs.Coming.{AreBytesPassed, behind}
 use Rattle.c_grammar.specs.declared.ItemKind.TheVariants.{Punct}
 use Rattle.c_lexer.specs.Cut.{IsCutOff}
-use Rattle.c_lexer.proofs.PlainBytes.{lone_printable, mark_printable, next_one, none_passed, second_printable}
+use Rattle.c_lexer.specs.Reading.{is_item_byte}
+use Rattle.c_lexer.proofs.PlainBytes.{lone_item, mark_item, next_one, none_passed, second_item}
 use Rattle.c_lexer.proofs.Plains.{ended_off, lone_off, pair_off}
 use Rattle.c_lexer.proofs.cut.behind_plain_mark.Goals as goal
 
@@ -15,8 +15,8 @@ returns-then-is_lone_mark-clause-off c =
 
 pub returns-then-is_lone_mark-clause-plain : goal.returns-then-is_lone_mark-clause-plain
 returns-then-is_lone_mark-clause-plain c = record {
-  first_is = lone_printable c.args.begun.now.first.byte (sym c.is_lone_mark.ensures ∙ c.if-is_lone_mark.true);
-  rest_are = subst (λ z. AreBytesPassed (is_in_range 0x20 0x7E) c.args.begun.now.behind z) (sym c.ahead-left.ensures) (none_passed (is_in_range 0x20 0x7E) c.args.begun.now.behind);
+  first_is = lone_item c.args.begun.now.first.byte (sym c.is_lone_mark.ensures ∙ c.if-is_lone_mark.true);
+  rest_are = subst (λ z. AreBytesPassed is_item_byte c.args.begun.now.behind z) (sym c.ahead-left.ensures) (none_passed is_item_byte c.args.begun.now.behind);
 }
 
 pub returns-then-is_pair-clause-off : goal.returns-then-is_pair-clause-off
@@ -29,10 +29,10 @@ pub returns-then-is_pair-clause-plain : goal.returns-then-is_pair-clause-plain
 returns-then-is_pair-clause-plain c =
     let at_is = ap (λ z. z.at) c.ahead-left.ensures in
     record {
-      first_is = mark_printable c.args.begun.now.first.byte (sym c.begins_punctuator.ensures ∙ c.if-not-begins_punctuator.false);
-      rest_are = next_one (is_in_range 0x20 0x7E) c.args.begun.now.behind c.behind.result c.in-Some.second (sym (ap (λ z. slice_get z.chars 0) c.ahead-left.ensures) ∙ c.in-Some.ensures.some)
+      first_is = mark_item c.args.begun.now.first.byte (sym c.begins_punctuator.ensures ∙ c.if-not-begins_punctuator.false);
+      rest_are = next_one is_item_byte c.args.begun.now.behind c.behind.result c.in-Some.second (sym (ap (λ z. slice_get z.chars 0) c.ahead-left.ensures) ∙ c.in-Some.ensures.some)
           (c.in-Some.ensures.plain.0 ∙ at_is) (c.in-Some.ensures.plain.1 ∙ ap (λ k. k + 1) at_is)
-          (second_printable c.args.begun.now.first.byte c.in-Some.second.byte (sym c.is_pair.ensures ∙ c.if-is_pair.true)) (c.behind.ensures ∙ ap (λ z. behind z 1) c.ahead-left.ensures);
+          (second_item c.args.begun.now.first.byte c.in-Some.second.byte (sym c.is_pair.ensures ∙ c.if-is_pair.true)) (c.behind.ensures ∙ ap (λ z. behind z 1) c.ahead-left.ensures);
     }
 
 pub returns-then-ends_mark-clause-off : goal.returns-then-ends_mark-clause-off
@@ -43,6 +43,6 @@ returns-then-ends_mark-clause-off c =
 
 pub returns-then-ends_mark-clause-plain : goal.returns-then-ends_mark-clause-plain
 returns-then-ends_mark-clause-plain c = record {
-  first_is = mark_printable c.args.begun.now.first.byte (sym c.begins_punctuator.ensures ∙ c.if-not-begins_punctuator.false);
-  rest_are = subst (λ z. AreBytesPassed (is_in_range 0x20 0x7E) c.args.begun.now.behind z) (sym c.ahead-left.ensures) (none_passed (is_in_range 0x20 0x7E) c.args.begun.now.behind);
+  first_is = mark_item c.args.begun.now.first.byte (sym c.begins_punctuator.ensures ∙ c.if-not-begins_punctuator.false);
+  rest_are = subst (λ z. AreBytesPassed is_item_byte c.args.begun.now.behind z) (sym c.ahead-left.ensures) (none_passed is_item_byte c.args.begun.now.behind);
 }

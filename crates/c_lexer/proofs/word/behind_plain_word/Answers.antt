@@ -1,7 +1,7 @@
 use Rattle.std.proofs.Common.{◌∙◌, subst, sym}
 use Rattle.c_chars.specs.Characters.{is_word_byte}
 use Rattle.c_chars.specs.Coming.{AreBytesPassed, ArePassed}
-use Rattle.c_lexer.proofs.PlainBytes.{letter_printable, words_printable}
+use Rattle.c_lexer.proofs.PlainBytes.{letter_item, words_items}
 use Rattle.c_lexer.proofs.Plains.{word_ended}
 use Rattle.c_lexer.proofs.word.behind_plain_word.Goals as goal
 
@@ -12,6 +12,6 @@ returns-then-ends_word-clause-off c =
 
 pub returns-then-ends_word-clause-plain : goal.returns-then-ends_word-clause-plain
 returns-then-ends_word-clause-plain c = record {
-  first_is = letter_printable c.args.begun.now.first.byte c.requires.letter;
-  rest_are = words_printable c.args.begun.now.behind c.pass_word.new.self (subst (λ z. AreBytesPassed is_word_byte z c.pass_word.new.self) c.ahead-left.ensures c.pass_word.ensures.bytes);
+  first_is = letter_item c.args.begun.now.first.byte c.requires.letter;
+  rest_are = words_items c.args.begun.now.behind c.pass_word.new.self (subst (λ z. AreBytesPassed is_word_byte z c.pass_word.new.self) c.ahead-left.ensures c.pass_word.ensures.bytes);
 }

@@ -1,5 +1,6 @@
 use Rattle.std.proofs.Common.{◌==◌, ◌∙◌, ◌-◌, false, not, refl, sym, subst, ap, take, drop}
 use Rattle.std.specs.Prelude.{slice_get}
+use Rattle.std.proofs.lemmas.Bool.{not-true}
 use Rattle.std.specs.Int.{is_in_range}
 use Rattle.std.specs.List.{list_all}
 use Rattle.c_grammar.specs.Place.{place_of}
@@ -9,7 +10,7 @@ use Rattle.c_lexer.proofs.Backslashes.{slashed_rest}
 use Rattle.c_lexer.proofs.Gaps.{gap_lines}
 use Rattle.c_lexer.proofs.Lexemes.{lexeme_there, some_before}
 use Rattle.c_lexer.proofs.Plains.{begun_first}
-use Rattle.c_lexer.proofs.PlainBytes.{raw_printable, raw_rest}
+use Rattle.c_lexer.proofs.PlainBytes.{items_told, raw_printable, raw_rest}
 use Rattle.c_lexer.proofs.NextItems.{spanned, gap_of, at_rest, bounds, next_there}
 use Rattle.c_lexer.proofs.lexer.Lexer.next_plain.Goals as goal
 
@@ -18,18 +19,18 @@ cut_begun-requires-clause-dialect c =
     let rest = at_rest c.self.inside.text.now c.self.inside.dialect c.self.inside.chars c.in-Some.begun.text (gap_of c.self.inside.chars) c.self.invariant.0 c.in-Some.ensures.gap.rest_is in
     sym rest.dialect_is
 
-pub ends_plainly-requires-clause-some : goal.ends_plainly-requires-clause-some
-ends_plainly-requires-clause-some c =
+pub has_no_backslash_last-requires-clause-some : goal.has_no_backslash_last-requires-clause-some
+has_no_backslash_last-requires-clause-some c =
     let rest = at_rest c.self.inside.text.now c.self.inside.dialect c.self.inside.chars c.in-Some.begun.text (gap_of c.self.inside.chars) c.self.invariant.0 c.in-Some.ensures.gap.rest_is in
     some_before c.self.inside.text.now c.self.inside.dialect (place_of c.past_gap-standing.result) c.in-Some.begun.text c.in-Some-cut_begun.left c.in-Some-cut_begun.kind rest c.in-Some-cut_begun.ensures.next
 
-pub ends_plainly-requires-clause-within : goal.ends_plainly-requires-clause-within
-ends_plainly-requires-clause-within c =
+pub has_no_backslash_last-requires-clause-within : goal.has_no_backslash_last-requires-clause-within
+has_no_backslash_last-requires-clause-within c =
     let rest = at_rest c.self.inside.text.now c.self.inside.dialect c.self.inside.chars c.in-Some.begun.text (gap_of c.self.inside.chars) c.self.invariant.0 c.in-Some.ensures.gap.rest_is in
     (bounds c.self.inside.text.now c.self.inside.dialect (place_of c.past_gap-standing.result) c.in-Some.begun.text c.in-Some-cut_begun.left c.in-Some-cut_begun.kind c.in-Some.begun.first rest (ap (λ z. slice_get z 0) c.in-Some.ensures.begun.chars_are) c.in-Some-cut_begun.ensures.next).1
 
-pub ends_plainly-requires-clause-slashed : goal.ends_plainly-requires-clause-slashed
-ends_plainly-requires-clause-slashed c = slashed_rest c.self.inside.text.now c.self.inside.chars c.in-Some.begun.text (gap_of c.self.inside.chars) c.self.invariant.1 c.in-Some.ensures.gap.rest_is
+pub has_no_backslash_last-requires-clause-slashed : goal.has_no_backslash_last-requires-clause-slashed
+has_no_backslash_last-requires-clause-slashed c = slashed_rest c.self.inside.text.now c.self.inside.chars c.in-Some.begun.text (gap_of c.self.inside.chars) c.self.invariant.1 c.in-Some.ensures.gap.rest_is
 
 pub between-raw-requires-clause-order : goal.between-raw-requires-clause-order
 between-raw-requires-clause-order c =
@@ -72,7 +73,7 @@ returns-clause-some c =
     } in
     subst (λ v. IsNextLexeme v new lexeme) c.self.view_is
     (lexeme_there old new c.self.inside.chars c.in-Some.begun.text c.in-Some-cut_begun.left (place_of c.past_gap-standing.result) c.in-Some-cut_begun.kind lexeme c.self.invariant.0 refl gap.rest_is
-    c.in-Some-cut_begun.ensures.next refl gap.lines_are gap.bytes_are refl (λ n within e. sym (c.ends_plainly.ensures c.if-not-ends_plainly.false n within e)) next)
+    c.in-Some-cut_begun.ensures.next refl gap.lines_are gap.bytes_are refl (λ n within e. sym (c.has_no_backslash_last.ensures c.if-not-has_no_backslash_last.false n within e)) next)
 
 pub returns-clause-plain : goal.returns-clause-plain
 returns-clause-plain c = λ once.
@@ -91,3 +92,9 @@ past_begun-requires-clause-spans c =
 
 pub past_begun-requires-clause-first : goal.past_begun-requires-clause-first
 past_begun-requires-clause-first c = begun_first c.in-Some.begun.text c.in-Some.begun.behind c.in-Some.begun.first c.in-Some.ensures.begun
+
+pub has_no_backslash_last-requires-clause-known : goal.has_no_backslash_last-requires-clause-known
+has_no_backslash_last-requires-clause-known c = λ once.
+    let rest = at_rest c.self.inside.text.now c.self.inside.dialect c.self.inside.chars c.in-Some.begun.text (gap_of c.self.inside.chars) c.self.invariant.0 c.in-Some.ensures.gap.rest_is in
+    items_told c.in-Some.begun.text c.in-Some.begun.behind c.in-Some-cut_begun.left c.in-Some.begun.first (spanned c.self.inside.text.now c.self.inside.dialect c.in-Some.begun.text rest)
+    c.in-Some.ensures.begun.chars_are c.in-Some.ensures.begun.at_is c.in-Some.ensures.plain.0 c.in-Some.ensures.plain.1 (c.in-Some-cut_begun.ensures.plain (not-true _ once))
