@@ -1,4 +1,4 @@
-use Rattle.std.proofs.Common.{◌∙◌, sym, arith}
+use Rattle.std.proofs.Common.{◌∙◌, sym}
 use Rattle.c_chars.proofs.Runs.{plain_byte}
 use Rattle.c_chars.proofs.alone.next_character.Goals as goal
 

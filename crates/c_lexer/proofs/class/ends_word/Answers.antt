@@ -1,6 +1,6 @@
 use Rattle.std.proofs.Common.{◌∙◌, arith}
 use Rattle.c_chars.proofs.Tables.{table_told}
-use Rattle.c_grammar.specs.Bytes.{is_beyond, is_quote_mark}
+use Rattle.c_grammar.specs.Bytes.{is_beyond}
 use Rattle.c_grammar.specs.Grammar.{is_digit, is_letter}
 use Rattle.c_lexer.specs.Class.{ends_word}
 use Rattle.c_lexer.proofs.class.ends_word.Goals as goal
