@@ -1,6 +1,6 @@
 -- How far a word reaches, and the place behind an item.
 use Rattle.std.proofs.Common.{◌≡◌, ◌==◌, not, Bool, true, false, ℕ, suc, zero, ◌≤◌, ◌<◌, List, [], ◌∷◌, length, take, nat_eq, refl, sym, ◌∙◌, ap, subst, arith}
-use Rattle.std.specs.Prelude.{IfSome, None, Option, Some}
+use Rattle.std.specs.Prelude.{IfSome, None, Option, Some, slice_get}
 use Rattle.std.specs.List.{starts_with}
 use Rattle.std.proofs.lemmas.Bool.{and_parts, eqb-true, eq-eqb, false_from_ne_true, not-false}
 use Rattle.c_chars.specs.Characters.{bytes_of}
@@ -183,3 +183,32 @@ plain_place d InText Other s h = refl
 
 pub told_other : (d : Dialect) (p : Place) (k : ItemKind) (f : ℕ) (past : Standing) → is_plain k ≡ true → place_of past ≡ past_plain p → IsToldPlace d p k f (Some past)
 told_other d p k f past plain h = λ s first. h ∙ plain_place d p k s plain
+
+-- a character that reaches up to what is left of the text, and is a hash
+hash_there : (d : Dialect) (at high n : ℕ) (s : List LogicalChar) (c : LogicalChar) → AreBetween at s high → slice_get s 0 ≡ Some c → c.byte ≡ 35 → n ≤ length s → c.to ≡ (passed d at s n).at
+    → is_hash (take n (bytes_of s)) ≡ true
+hash_there d at high n [] c between first hash within there = cc
+hash_there d at high zero (e ∷ s) c between first hash within there =
+    let same : e ≡ c = cc in
+    let to : e.to ≡ c.to = ap (λ (z : LogicalChar). z.to) same in
+    let low : at ≤ e.from = between.0 in
+    let some : e.from < e.to = between.1 in
+    absurd (omega (arith, to, low, some, there))
+hash_there d at high (suc zero) (e ∷ s) c between first hash within there =
+    let same : e ≡ c = cc in
+    let byte : e.byte ≡ 35 = ap (λ (z : LogicalChar). z.byte) same ∙ hash in
+    ap (λ b. is_hash (b ∷ [])) byte
+hash_there d at high (suc (suc n)) (e ∷ []) c between first hash within there = absurd (omega (arith, within))
+hash_there d at high (suc (suc n)) (e ∷ f ∷ s) c between first hash within there =
+    let same : e ≡ c = cc in
+    let to : e.to ≡ c.to = ap (λ (z : LogicalChar). z.to) same in
+    let low : e.to ≤ f.from = between.2.0 in
+    let some : f.from < f.to = between.2.1 in
+    let on = onwards d f.to n high s between.2.2 in
+    absurd (omega (arith, to, low, some, on, there))
+
+pub hash_place : (d : Dialect) (x left : Coming) (c : LogicalChar) (place : Place) (kind : ItemKind) (n : ℕ) → IsSpanned x → slice_get x.chars 0 ≡ Some c → c.byte ≡ 35 → c.to ≡ left.at → place ≡ LineStart → kind ≡ Punct
+    → n ≤ length x.chars → left ≡ behind x n → AfterHash ≡ past_item d place kind (take n (bytes_of x.chars))
+hash_place d x left c place kind n spanned first hash at start mark within left_is =
+    let is = hash_there x.dialect x.at spanned.high n x.chars c spanned.spans first hash within (at ∙ ap (λ z. z.at) left_is) in
+    sym (rw (start, mark, is) refl)

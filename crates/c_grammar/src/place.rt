@@ -1,6 +1,6 @@
 //! Where an item stands: in a line, and in a directive (C11 6.10).
 
-ghost use Rattle.std.specs.Prelude.{◌≡◌, ◌≤◌, ◌==◌, not, ℕ, List, length, take, codes, if◌then◌else◌, true, false, IfSome, IsFalse};
+ghost use Rattle.std.specs.Prelude.{◌≡◌, ◌≤◌, ◌==◌, not, ℕ, List, length, take, codes, if◌then◌else◌, true, false, IfSome, IsFalse, IsTrue};
 ghost use Rattle.c_chars.specs.Characters.{bytes_of};
 ghost use Rattle.c_chars.specs.Coming.{behind};
 ghost use Rattle.c_chars.specs.declared.Dialect.{Dialect};
@@ -227,6 +227,39 @@ fn past_plain(dialect: Dialect, standing: Standing, kind: ItemKind, first: u8) -
     }
 }
 
+/// Whether an item stands first in its line.
+#[inline(always)]
+fn is_first_in_line(standing: Standing) -> bool
+    ensures { IsTrue result → place_of standing ≡ LineStart }
+{
+    matches!(standing, Standing::FirstInLine)
+}
+
+/// Whether it is a punctuator.
+#[inline(always)]
+fn is_mark(kind: ItemKind) -> bool
+    ensures { IsTrue result → kind ≡ Punct }
+{
+    matches!(kind, ItemKind::Punct)
+}
+
+/// Behind an item of this kind that is a `#` first in its line; none elsewhere.
+#[inline(always)]
+fn past_hash(standing: Standing, kind: ItemKind, text: &Chars, left: &Chars) -> Option<Standing>
+    requires { IsSpanned text.now }
+    ensures { IfSome result (λ past. (d : Dialect) → SpelledBy text.now left.now (λ s. place_of past ≡ past_item d (place_of standing) kind s)) }
+{
+    let mark = text.peek_plain()?;
+    if mark.byte != b'#' || mark.to as usize != left.at() {
+        return None;
+    }
+    if is_first_in_line(standing) && is_mark(kind) {
+        Some(Standing::BehindHash)
+    } else {
+        None
+    }
+}
+
 /// Behind an item of this kind that begins with this byte, whose characters are those of the text up to
 /// what is left of it. Where `again` is false they are not read again, and none is told where they would
 /// have to be.
@@ -249,6 +282,6 @@ pub fn past_begun(
     }
     match past_plain(dialect, standing, kind, first) {
         Some(past) => Some(past),
-        None => None,
+        None => past_hash(standing, kind, text, left),
     }
 }
