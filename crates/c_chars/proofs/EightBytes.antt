@@ -6,7 +6,7 @@ use Rattle.std.specs.Int.{from_le_bytes}
 use Rattle.std.specs.List.{list_all, prefix_len}
 use Rattle.std.specs.Int.Bits.{bit_and, bit_or, bit_xor}
 use Rattle.std.specs.Slice.Scan.{digits_from}
-use Rattle.c_chars.specs.Characters.{is_ink_byte, is_space_byte, is_text_byte}
+use Rattle.c_chars.specs.Characters.{is_comment_byte, is_comment_ink, is_space_byte}
 use Rattle.c_chars.specs.Eights.{untold}
 
 abbrev Bytes : (ℕ → ℕ) → Type 0
@@ -47,56 +47,43 @@ apart_Bytes f m small mark = ap (λ w. w + 0x7f7f_7f7f_7f7f_7f7f) (xor_Bytes f (
 abbrev flag : ℕ → ℕ
 flag y =
     bit_and
-    (bit_xor
-    (bit_or
-    (bit_and (bit_and (bit_and (bit_and (bit_and y 127 + 96) (bit_xor (bit_and y 119) 34 + 127)) (bit_xor (bit_and y 127) 39 + 127)) (bit_xor (bit_and y 127) 63 + 127)) (bit_xor (bit_and y 127) 92 + 127))
-    y) 128) 128
+    (bit_xor (bit_or (bit_and (bit_and (bit_and (bit_and y 127 + 96) (bit_xor (bit_and y 127) 42 + 127)) (bit_xor (bit_and y 127) 63 + 127)) (bit_xor (bit_and y 127) 92 + 127)) y) 128) 128
 
 untold_Bytes : (f : ℕ → ℕ) → Bytes f → untold (digits_from f 0 8) ≡ digits_from (λ k. flag (f k)) 0 8
 unfolding untold
 untold_Bytes f f_small =
     let low = λ (k : ℕ). bit_and (f k) 127 in
     let low_small : Lows low = λ k. omega (arith, and_le_r (f k) 127) in
-    let few = λ (k : ℕ). bit_and (f k) 119 in
-    let few_small : Lows few = λ k. omega (arith, and_le_r (f k) 119) in
     let printable = λ (k : ℕ). low k + 96 in
     let printable_small : Bytes printable = λ k. omega (arith, and_le_r (f k) 127) in
-    let quotes = λ (k : ℕ). bit_xor (few k) 34 + 127 in
-    let quotes_small : Bytes quotes = apart_small few 34 few_small (omega arith) in
-    let apostrophes = λ (k : ℕ). bit_xor (low k) 39 + 127 in
-    let apostrophes_small : Bytes apostrophes = apart_small low 39 low_small (omega arith) in
+    let stars = λ (k : ℕ). bit_xor (low k) 42 + 127 in
+    let stars_small : Bytes stars = apart_small low 42 low_small (omega arith) in
     let questions = λ (k : ℕ). bit_xor (low k) 63 + 127 in
     let questions_small : Bytes questions = apart_small low 63 low_small (omega arith) in
     let backslashes = λ (k : ℕ). bit_xor (low k) 92 + 127 in
     let backslashes_small : Bytes backslashes = apart_small low 92 low_small (omega arith) in
-    let two = λ (k : ℕ). bit_and (printable k) (quotes k) in
-    let two_small : Bytes two = λ k. and_small (printable k) (quotes k) (quotes_small k) in
-    let three = λ (k : ℕ). bit_and (two k) (apostrophes k) in
-    let three_small : Bytes three = λ k. and_small (two k) (apostrophes k) (apostrophes_small k) in
-    let four = λ (k : ℕ). bit_and (three k) (questions k) in
-    let four_small : Bytes four = λ k. and_small (three k) (questions k) (questions_small k) in
-    let five = λ (k : ℕ). bit_and (four k) (backslashes k) in
-    let five_small : Bytes five = λ k. and_small (four k) (backslashes k) (backslashes_small k) in
-    let any = λ (k : ℕ). bit_or (five k) (f k) in
-    let any_small : Bytes any = λ k. or_lt 8 (five k) (f k) (five_small k) (f_small k) in
+    let two = λ (k : ℕ). bit_and (printable k) (stars k) in
+    let two_small : Bytes two = λ k. and_small (printable k) (stars k) (stars_small k) in
+    let three = λ (k : ℕ). bit_and (two k) (questions k) in
+    let three_small : Bytes three = λ k. and_small (two k) (questions k) (questions_small k) in
+    let four = λ (k : ℕ). bit_and (three k) (backslashes k) in
+    let four_small : Bytes four = λ k. and_small (three k) (backslashes k) (backslashes_small k) in
+    let any = λ (k : ℕ). bit_or (four k) (f k) in
+    let any_small : Bytes any = λ k. or_lt 8 (four k) (f k) (four_small k) (f_small k) in
     let turned = λ (k : ℕ). bit_xor (any k) 128 in
     let turned_small : Bytes turned = λ k. xor_lt 8 (any k) 128 (any_small k) (omega arith) in
     let low_is : bit_and (digits_from f 0 8) 0x7f7f_7f7f_7f7f_7f7f ≡ digits_from low 0 8 = and_Bytes f (λ _. 127) f_small (λ _. omega arith) in
-    let few_is : bit_and (digits_from f 0 8) 0x7777_7777_7777_7777 ≡ digits_from few 0 8 = and_Bytes f (λ _. 119) f_small (λ _. omega arith) in
     let printable_is : bit_and (digits_from f 0 8) 0x7f7f_7f7f_7f7f_7f7f + 0x6060_6060_6060_6060 ≡ digits_from printable 0 8 = ap (λ w. w + 0x6060_6060_6060_6060) low_is ∙ omega arith in
-    let quotes_is : bit_xor (bit_and (digits_from f 0 8) 0x7777_7777_7777_7777) 0x2222_2222_2222_2222 + 0x7f7f_7f7f_7f7f_7f7f ≡ digits_from quotes 0 8 =
-    ap (λ w. bit_xor w 0x2222_2222_2222_2222 + 0x7f7f_7f7f_7f7f_7f7f) few_is ∙ apart_Bytes few 34 few_small (omega arith) in
-    let apostrophes_is : bit_xor (bit_and (digits_from f 0 8) 0x7f7f_7f7f_7f7f_7f7f) 0x2727_2727_2727_2727 + 0x7f7f_7f7f_7f7f_7f7f ≡ digits_from apostrophes 0 8 =
-    ap (λ w. bit_xor w 0x2727_2727_2727_2727 + 0x7f7f_7f7f_7f7f_7f7f) low_is ∙ apart_Bytes low 39 low_small (omega arith) in
+    let stars_is : bit_xor (bit_and (digits_from f 0 8) 0x7f7f_7f7f_7f7f_7f7f) 0x2a2a_2a2a_2a2a_2a2a + 0x7f7f_7f7f_7f7f_7f7f ≡ digits_from stars 0 8 =
+    ap (λ w. bit_xor w 0x2a2a_2a2a_2a2a_2a2a + 0x7f7f_7f7f_7f7f_7f7f) low_is ∙ apart_Bytes low 42 low_small (omega arith) in
     let questions_is : bit_xor (bit_and (digits_from f 0 8) 0x7f7f_7f7f_7f7f_7f7f) 0x3f3f_3f3f_3f3f_3f3f + 0x7f7f_7f7f_7f7f_7f7f ≡ digits_from questions 0 8 =
     ap (λ w. bit_xor w 0x3f3f_3f3f_3f3f_3f3f + 0x7f7f_7f7f_7f7f_7f7f) low_is ∙ apart_Bytes low 63 low_small (omega arith) in
     let backslashes_is : bit_xor (bit_and (digits_from f 0 8) 0x7f7f_7f7f_7f7f_7f7f) 0x5c5c_5c5c_5c5c_5c5c + 0x7f7f_7f7f_7f7f_7f7f ≡ digits_from backslashes 0 8 =
     ap (λ w. bit_xor w 0x5c5c_5c5c_5c5c_5c5c + 0x7f7f_7f7f_7f7f_7f7f) low_is ∙ apart_Bytes low 92 low_small (omega arith) in
-    let two_is = (λ j. bit_and (printable_is j) (quotes_is j)) ∙ and_Bytes printable quotes printable_small quotes_small in
-    let three_is = (λ j. bit_and (two_is j) (apostrophes_is j)) ∙ and_Bytes two apostrophes two_small apostrophes_small in
-    let four_is = (λ j. bit_and (three_is j) (questions_is j)) ∙ and_Bytes three questions three_small questions_small in
-    let five_is = (λ j. bit_and (four_is j) (backslashes_is j)) ∙ and_Bytes four backslashes four_small backslashes_small in
-    let any_is = ap (λ w. bit_or w (digits_from f 0 8)) five_is ∙ or_Bytes five f five_small f_small in
+    let two_is = (λ j. bit_and (printable_is j) (stars_is j)) ∙ and_Bytes printable stars printable_small stars_small in
+    let three_is = (λ j. bit_and (two_is j) (questions_is j)) ∙ and_Bytes two questions two_small questions_small in
+    let four_is = (λ j. bit_and (three_is j) (backslashes_is j)) ∙ and_Bytes three backslashes three_small backslashes_small in
+    let any_is = ap (λ w. bit_or w (digits_from f 0 8)) four_is ∙ or_Bytes four f four_small f_small in
     let turned_is = ap (λ w. bit_xor w 0x8080_8080_8080_8080) any_is ∙ xor_Bytes any (λ _. 128) any_small (λ _. omega arith) in
     ap (λ w. bit_and w 0x8080_8080_8080_8080) turned_is ∙ and_Bytes turned (λ _. 128) turned_small (λ _. omega arith)
 
@@ -116,9 +103,9 @@ tried (suc n) t e b l =
     below : (b n : ℕ) → b < suc n → (b ≡ n → ⊥) → b < n
     below b n l ne = grind arith
 
-text_byte : (b : ℕ) → b < 256 → flag b ≡ 0 → is_text_byte b ≡ true
-unfolding is_text_byte is_ink_byte is_space_byte
-text_byte b l none = told (flag b) (is_text_byte b) none (tried 256 (λ y. if flag y == 0 then is_text_byte y else true) refl b l)
+comment_byte : (b : ℕ) → b < 256 → flag b ≡ 0 → is_comment_byte b ≡ true
+unfolding is_comment_byte is_comment_ink is_space_byte
+comment_byte b l none = told (flag b) (is_comment_byte b) none (tried 256 (λ y. if flag y == 0 then is_comment_byte y else true) refl b l)
   where
     told : (n : ℕ) (t : Bool) → n ≡ 0 → (if n == 0 then t else true) ≡ true → t ≡ true
     told n t e h = let z = eq-eqb n 0 e in subst (λ (x : Bool). (if x then t else true) ≡ true) z h
@@ -139,15 +126,15 @@ read : (eight : List ℕ) → from_le_bytes w64 eight ≡ digits_from (λ k. get
 read eight = omega arith
 
 -- where it holds of each byte of a row it holds of all
-all_text : (row : List ℕ) → ((k : ℕ) → k < length row → is_text_byte (get_or row k 0) ≡ true) → list_all is_text_byte row ≡ true
-all_text [] each = refl
-all_text (b ∷ row) each = and_from (is_text_byte b) (list_all is_text_byte row) (each 0 (omega arith)) (all_text row (λ k below. each (suc k) (omega (arith, below))))
+all_comment : (row : List ℕ) → ((k : ℕ) → k < length row → is_comment_byte (get_or row k 0) ≡ true) → list_all is_comment_byte row ≡ true
+all_comment [] each = refl
+all_comment (b ∷ row) each = and_from (is_comment_byte b) (list_all is_comment_byte row) (each 0 (omega arith)) (all_comment row (λ k below. each (suc k) (omega (arith, below))))
 
-pub eight_text : (eight : List ℕ) → length eight ≡ 8 → ((k : ℕ) → get_or eight k 0 < 256) → untold (from_le_bytes w64 eight) ≡ 0 → list_all is_text_byte eight ≡ true
-eight_text eight len small none =
+pub eight_comment : (eight : List ℕ) → length eight ≡ 8 → ((k : ℕ) → get_or eight k 0 < 256) → untold (from_le_bytes w64 eight) ≡ 0 → list_all is_comment_byte eight ≡ true
+eight_comment eight len small none =
     let f = λ (k : ℕ). get_or eight k 0 in
     let zero_sum : digits_from (λ k. flag (f k)) 0 8 ≡ 0 = sym (ap untold (read eight) ∙ untold_Bytes f small) ∙ none in
-    all_text eight (λ k below. text_byte (f k) (small k) (digit_zero (λ j. flag (f j)) 8 0 zero_sum k (omega arith) (omega (arith, below, len))))
+    all_comment eight (λ k below. comment_byte (f k) (small k) (digit_zero (λ j. flag (f j)) 8 0 zero_sum k (omega arith) (omega (arith, below, len))))
 
 -- a run goes on behind what is of it in front
 pub front_run : (p : ℕ → Bool) (n : ℕ) (row : List ℕ) → n ≤ length row → list_all p (take n row) ≡ true → n + prefix_len p (drop n row) ≡ prefix_len p row

@@ -5,7 +5,7 @@ use Rattle.std.proofs.lemmas.List.{take_all}
 use Rattle.std.proofs.lemmas.List.Folds.{length-prefix_len}
 use Rattle.std.proofs.lemmas.Bool.{and_parts, and_from, and_right, cases_Bool, not-true}
 use Rattle.std.proofs.lemmas.Bool.Decides.{nat_tests}
-use Rattle.c_chars.specs.Characters.{bytes_of, chars, placed, IsUnit, begins_trigraph, begins_return, has_trigraphs, is_ink_byte, is_plain, is_space_byte, is_text_byte, is_word_byte}
+use Rattle.c_chars.specs.Characters.{bytes_of, chars, placed, IsUnit, begins_trigraph, begins_return, has_trigraphs, is_comment_byte, is_comment_ink, is_ink_byte, is_plain, is_space_byte, is_text_byte, is_word_byte}
 use Rattle.c_chars.specs.Coming.{Coming, AreBytesPassed, ArePassed, AreSpacesPassed}
 use Rattle.c_chars.specs.declared.Dialect.{Dialect}
 use Rattle.c_chars.specs.declared.LogicalChar.{LogicalChar}
@@ -73,13 +73,13 @@ run_passed p d d2 at at2 n s rest plain e dd aa rr =
     rw (dd, far, left) (run p d at s plain)
 
 -- the bytes of comments and strings are characters by themselves
-pub ink_plain : (b : ℕ) → is_ink_byte b ≡ true → is_plain b ≡ true
-unfolding is_ink_byte
-ink_plain b h = grind (arith, nat_tests)
-
 pub text_plain : (b : ℕ) → is_text_byte b ≡ true → is_plain b ≡ true
 unfolding is_text_byte is_ink_byte is_space_byte
 text_plain b h = grind (arith, nat_tests)
+
+pub comment_plain : (b : ℕ) → is_comment_byte b ≡ true → is_plain b ≡ true
+unfolding is_comment_byte is_comment_ink is_space_byte
+comment_plain b h = grind (arith, nat_tests)
 
 -- The characters of a run are its bytes, one by one.
 

@@ -2,45 +2,45 @@
 use Rattle.std.proofs.Common.{◌≡◌, ◌||◌, ℕ, zero, suc, ◌+◌, ◌≤◌, arith, true, false, List, [], ◌∷◌, length, take, drop, get_or, refl, sym, ◌∙◌, ap, inl, inr}
 use Rattle.std.specs.List.{prefix_len}
 use Rattle.std.proofs.lemmas.Bool.{and_parts, and_from, both_ways, cases_Bool}
-use Rattle.c_chars.specs.Characters.{are_words, bytes_of, chars, is_ink_byte, is_space_byte, is_text_byte}
+use Rattle.c_chars.specs.Characters.{are_words, bytes_of, chars, is_comment_ink, is_space_byte, is_comment_byte}
 use Rattle.c_chars.specs.Coming.{AreWordsPassed, passed}
 use Rattle.c_chars.specs.declared.Dialect.{Dialect}
-use Rattle.c_chars.proofs.Runs.{plain_first, text_plain}
+use Rattle.c_chars.proofs.Runs.{plain_first, comment_plain}
 
-ink_text : (b : ℕ) → is_ink_byte b ≡ true → is_text_byte b ≡ true
-unfolding is_text_byte
-ink_text b h = rw h refl
+ink_comment : (b : ℕ) → is_comment_ink b ≡ true → is_comment_byte b ≡ true
+unfolding is_comment_byte
+ink_comment b h = rw h refl
 
 -- such a byte that is no space
-ink_left : (b : ℕ) → is_text_byte b ≡ true → is_space_byte b ≡ false → is_ink_byte b ≡ true
-unfolding is_text_byte
-ink_left b h n = elim (cases_Bool (is_ink_byte b)) [
+ink_left : (b : ℕ) → is_comment_byte b ≡ true → is_space_byte b ≡ false → is_comment_ink b ≡ true
+unfolding is_comment_byte
+ink_left b h n = elim (cases_Bool (is_comment_ink b)) [
   | inl y ↦ y
-  | inr m ↦ absurd (both_ways (is_ink_byte b || is_space_byte b) (rw (m, n) refl) h)
+  | inr m ↦ absurd (both_ways (is_comment_ink b || is_space_byte b) (rw (m, n) refl) h)
 ]
 
 -- the front of a run is words where its last byte is no space
-pub words_front : (n : ℕ) (s : List ℕ) → n ≤ prefix_len is_text_byte s → ((m : ℕ) → n ≡ suc m → is_space_byte (get_or s m 0) ≡ false) → are_words (take n s) ≡ true
+pub words_front : (n : ℕ) (s : List ℕ) → n ≤ prefix_len is_comment_byte s → ((m : ℕ) → n ≡ suc m → is_space_byte (get_or s m 0) ≡ false) → are_words (take n s) ≡ true
 words_front zero s within last = refl
 words_front (suc n) [] within last = absurd (omega (arith, within))
-words_front (suc n) (b ∷ s) within last = elim (cases_Bool (is_text_byte b)) [
+words_front (suc n) (b ∷ s) within last = elim (cases_Bool (is_comment_byte b)) [
   | inl y ↦
-      let len : prefix_len is_text_byte (b ∷ s) ≡ 1 + prefix_len is_text_byte s = rw y refl in
+      let len : prefix_len is_comment_byte (b ∷ s) ≡ 1 + prefix_len is_comment_byte s = rw y refl in
       on n s y (omega (arith, within, len)) last (λ more. words_front n s (omega (arith, within, len)) more)
   | inr m ↦
-      let len : prefix_len is_text_byte (b ∷ s) ≡ 0 = rw m refl in
+      let len : prefix_len is_comment_byte (b ∷ s) ≡ 0 = rw m refl in
       absurd (omega (arith, within, len))
 ]
   where
-    on : (n : ℕ) (s : List ℕ) → is_text_byte b ≡ true → n ≤ prefix_len is_text_byte s → ((m : ℕ) → suc n ≡ suc m → is_space_byte (get_or (b ∷ s) m 0) ≡ false)
+    on : (n : ℕ) (s : List ℕ) → is_comment_byte b ≡ true → n ≤ prefix_len is_comment_byte s → ((m : ℕ) → suc n ≡ suc m → is_space_byte (get_or (b ∷ s) m 0) ≡ false)
         → (((m : ℕ) → n ≡ suc m → is_space_byte (get_or s m 0) ≡ false) → are_words (take n s) ≡ true) → are_words (b ∷ take n s) ≡ true
     on zero s y within last front = ink_left b y (last 0 refl)
     on (suc n) [] y within last front = absurd (omega (arith, within))
-    on (suc n) (c ∷ s) y within last front = and_from (is_text_byte b) (are_words (c ∷ take n s)) y (front (λ m e. last (suc m) (ap suc e)))
+    on (suc n) (c ∷ s) y within last front = and_from (is_comment_byte b) (are_words (c ∷ take n s)) y (front (λ m e. last (suc m) (ap suc e)))
 
-words_parts : (b : ℕ) (s : List ℕ) → are_words (b ∷ s) ≡ true → (is_text_byte b ≡ true) × (are_words s ≡ true)
-words_parts b [] h = (ink_text b h, refl)
-words_parts b (c ∷ s) h = and_parts (is_text_byte b) (are_words (c ∷ s)) h
+words_parts : (b : ℕ) (s : List ℕ) → are_words (b ∷ s) ≡ true → (is_comment_byte b ≡ true) × (are_words s ≡ true)
+words_parts b [] h = (ink_comment b h, refl)
+words_parts b (c ∷ s) h = and_parts (is_comment_byte b) (are_words (c ∷ s)) h
 
 -- bytes of words are characters by themselves
 record AreAlone (d : Dialect) (at n : ℕ) (s : List ℕ) : Type 0 where
@@ -56,7 +56,7 @@ words_alone d at (suc n) [] within words = absurd (omega (arith, within))
 words_alone d at (suc n) (b ∷ s) within words =
     let parts = words_parts b (take n s) words in
     let rest = words_alone d (at + 1) n s (omega (arith, within)) parts.1 in
-    let first = plain_first d at b s (text_plain b parts.0) in
+    let first = plain_first d at b s (comment_plain b parts.0) in
     let len : length (chars d at (b ∷ s)) ≡ suc (length (chars d (at + 1) s)) = ap length first in
     let far : (at + 1) + n ≡ at + suc n = omega arith in
     record {

@@ -2,7 +2,7 @@
 
 ghost use Rattle.std.specs.Prelude.{◌≡◌, false, get_or};
 ghost use Rattle.std.specs.List.{prefix_len};
-ghost use Rattle.c_chars.specs.Characters.{is_ink_byte, is_plain, is_space_byte, is_text_byte, is_word_byte};
+ghost use Rattle.c_chars.specs.Characters.{is_comment_byte, is_comment_ink, is_ink_byte, is_plain, is_space_byte, is_text_byte, is_word_byte};
 
 /// What a table tells of a byte.
 #[inline(always)]
@@ -126,8 +126,8 @@ pub(crate) fn space_len(bytes: &[u8]) -> usize
     bytes.len()
 }
 
-/// Whether the byte is a character by itself that is no white space, and that comments and literals don't look
-/// at: none of `"'*?\\`.
+/// Whether the byte is a character by itself that is no white space, and that literals don't look at: none of
+/// `"'*?\\`.
 #[tactic(auto, unfolding(crate::specs::Characters::is_ink_byte))]
 #[inline(always)]
 fn is_ink_byte(byte: u8) -> bool
@@ -142,8 +142,39 @@ fn is_ink_byte(byte: u8) -> bool
 /// Such a byte, a space or a tab.
 #[tactic(auto, unfolding(crate::specs::Characters::is_text_byte))]
 #[inline(always)]
-pub(crate) fn is_text_byte(byte: u8) -> bool
+fn is_text_byte(byte: u8) -> bool
     ensures { result ≡ is_text_byte byte }
 {
     is_ink_byte(byte) || is_space_byte(byte)
+}
+
+/// How many such bytes, spaces and tabs the bytes begin with.
+#[inline(always)]
+pub(crate) fn text_len(bytes: &[u8]) -> usize
+    ensures { result ≡ prefix_len is_text_byte bytes.now }
+{
+    for i in 0..bytes.len() {
+        if !is_text_byte(bytes[i]) {
+            return i;
+        }
+    }
+    bytes.len()
+}
+
+/// Whether the byte is a character by itself that is no white space, and that comments don't look at: none of `*?\\`.
+#[tactic(auto, unfolding(crate::specs::Characters::is_comment_ink))]
+#[inline(always)]
+fn is_comment_ink(byte: u8) -> bool
+    ensures { result ≡ is_comment_ink byte }
+{
+    byte > b'\\' || (byte > b' ' && byte != b'*' && (byte != b'?' && byte != b'\\'))
+}
+
+/// Such a byte, a space or a tab.
+#[tactic(auto, unfolding(crate::specs::Characters::is_comment_byte))]
+#[inline(always)]
+pub(crate) fn is_comment_byte(byte: u8) -> bool
+    ensures { result ≡ is_comment_byte byte }
+{
+    is_comment_ink(byte) || is_space_byte(byte)
 }

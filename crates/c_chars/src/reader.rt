@@ -1,12 +1,12 @@
 //! Reads the characters of a text one after another.
 
 ghost use Rattle.std.specs.Prelude.{◌≡◌, ◌+◌, ◌<◌, ◌≤◌, ◌^◌, length, drop, MatchOption, Some, IfSome, IfNone, ◌∷◌, [], slice_get};
-ghost use Rattle.c_chars.specs.Characters.{chars, logical, mark_len, is_text_byte, is_word_byte};
+ghost use Rattle.c_chars.specs.Characters.{chars, logical, mark_len, is_comment_byte, is_text_byte, is_word_byte};
 ghost use Rattle.c_chars.specs.Coming.{AreBetween, AreBytesPassed, ArePassed, AreSpacesPassed, AreWordsPassed};
 
 use crate::alone::first_character;
-use crate::classes::{is_plain, space_len, word_len};
-use crate::eights::{text_len, words_len};
+use crate::classes::{is_plain, space_len, text_len, word_len};
+use crate::eights::{comment_len, words_len};
 use crate::{Dialect, LIMIT, LogicalChar};
 use std::marker::Model;
 
@@ -245,7 +245,7 @@ impl<'s> Chars<'s> {
     }
 
     /// Steps behind the spaces, the tabs and the characters that come next and are no white space and none of
-    /// `"'*?\\`, in one pass over their bytes: what comments and strings are mostly made of.
+    /// `"'*?\\`, in one pass over their bytes: what strings are mostly made of.
     ///
     /// It may stop before a further one, where lines are spliced between the two.
     #[inline(always)]
@@ -253,6 +253,18 @@ impl<'s> Chars<'s> {
         ensures { ArePassed is_text_byte self.old self.new }
     {
         let len = text_len(self.cursor.rest);
+        self.cursor.pass(len);
+    }
+
+    /// Steps behind the spaces, the tabs and the characters that come next and are no white space and none of `*?\\`,
+    /// eight bytes at a time: what comments are mostly made of.
+    ///
+    /// It may stop before a further one, where lines are spliced between the two.
+    #[inline(always)]
+    pub fn pass_comment(&mut self)
+        ensures { ArePassed is_comment_byte self.old self.new }
+    {
+        let len = comment_len(self.cursor.rest);
         self.cursor.pass(len);
     }
 

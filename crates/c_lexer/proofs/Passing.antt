@@ -12,7 +12,7 @@ use Rattle.c_grammar.specs.Bytes.{is_quote_mark}
 use Rattle.std.proofs.Common.{true, inl, inr, ◌≡◌, ◌≤◌, ◌==◌, ◌&&◌, Bool, false, ℕ, zero, suc, length, ◌+◌, ◌||◌, List, [], ◌∷◌, take, refl, sym, ◌∙◌, ap, arith}
 use Rattle.c_chars.proofs.Steps.{behind_next}
 use Rattle.c_chars.specs.Coming.{Coming, ArePassed, AreWordsPassed, behind, passed}
-use Rattle.c_chars.specs.Characters.{are_words, bytes_of, is_ink_byte, is_space_byte, is_text_byte}
+use Rattle.c_chars.specs.Characters.{are_words, bytes_of, is_comment_byte, is_comment_ink, is_ink_byte, is_space_byte, is_text_byte}
 use Rattle.c_chars.specs.declared.Dialect.{Dialect}
 use Rattle.c_chars.specs.declared.LogicalChar.{LogicalChar}
 
@@ -178,42 +178,46 @@ passed_run p q x y more r =
 
 -- Bytes of comments and strings that end neither.
 
-pub ink_means : (b : ℕ) → is_ink_byte b ≡ true → (is_new_line b ≡ false) × ((is_white b ≡ false) × ((b == 92) ≡ false))
-unfolding is_ink_byte is_new_line is_white
+pub ink_means : (b : ℕ) → is_comment_ink b ≡ true → (is_new_line b ≡ false) × ((is_white b ≡ false) × ((b == 92) ≡ false))
+unfolding is_comment_ink is_new_line is_white
 ink_means b h = (grind (arith, nat_tests), (grind (arith, nat_tests), grind (arith, nat_tests)))
 
-pub text_means : (b : ℕ) → is_text_byte b ≡ true → (is_new_line b ≡ false) × (((b == 42) ≡ false) × ((b == 92) ≡ false))
+comment_means : (b : ℕ) → is_comment_byte b ≡ true → (b == 42) ≡ false
+unfolding is_comment_byte is_comment_ink is_space_byte
+comment_means b h = grind (arith, nat_tests)
+
+pub text_means : (b : ℕ) → is_text_byte b ≡ true → (is_new_line b ≡ false) × ((b == 92) ≡ false)
 unfolding is_text_byte is_ink_byte is_space_byte is_new_line
-text_means b h = (grind (arith, nat_tests), (grind (arith, nat_tests), grind (arith, nat_tests)))
+text_means b h = (grind (arith, nat_tests), grind (arith, nat_tests))
 
 pub text_quote : (q b : ℕ) → is_quote_mark q ≡ true → is_text_byte b ≡ true → (b == q) ≡ false
 unfolding is_text_byte is_ink_byte is_space_byte
 text_quote q b k h = grind (arith, nat_tests)
 
 -- what passed ends no block comment
-pub passed_block : (x y : Coming) → ArePassed is_text_byte x y →
+pub passed_block : (x y : Coming) → ArePassed is_comment_byte x y →
     (closes_block false (bytes_of y.chars) ≡ closes_block false (bytes_of x.chars)) × (behind y (block_len false (bytes_of y.chars)) ≡ behind x (block_len false (bytes_of x.chars)))
 passed_block x y r = (
   ap (λ z. closes_block false (bytes_of z.chars)) r.new_is ∙ closes x.dialect x.at x.chars r.n r.within r.all,
   ap (λ z. behind z (block_len false (bytes_of z.chars))) r.new_is ∙ on x.dialect x.at x.chars r.n r.within r.all,
 )
   where
-    closes : (d : Dialect) (at : ℕ) (s : List LogicalChar) (n : ℕ) → n ≤ length s → list_all is_text_byte (take n (bytes_of s)) ≡ true →
+    closes : (d : Dialect) (at : ℕ) (s : List LogicalChar) (n : ℕ) → n ≤ length s → list_all is_comment_byte (take n (bytes_of s)) ≡ true →
         closes_block false (bytes_of (passed d at s n).chars) ≡ closes_block false (bytes_of s)
     closes d at s zero within all = refl
     closes d at [] (suc n) within all = absurd (omega arith)
     closes d at (c ∷ s) (suc n) within all =
-        let parts = and_parts (is_text_byte c.byte) (list_all is_text_byte (take n (bytes_of s))) all in
-        let star = (text_means c.byte parts.0).1.0 in
+        let parts = and_parts (is_comment_byte c.byte) (list_all is_comment_byte (take n (bytes_of s))) all in
+        let star = comment_means c.byte parts.0 in
         closes d c.to s n (omega (arith, within)) parts.1 ∙ sym (ap (λ b. closes_block b (bytes_of s)) star)
 
-    on : (d : Dialect) (at : ℕ) (s : List LogicalChar) (n : ℕ) → n ≤ length s → list_all is_text_byte (take n (bytes_of s)) ≡ true →
+    on : (d : Dialect) (at : ℕ) (s : List LogicalChar) (n : ℕ) → n ≤ length s → list_all is_comment_byte (take n (bytes_of s)) ≡ true →
         behind (passed d at s n) (block_len false (bytes_of (passed d at s n).chars)) ≡ passed d at s (block_len false (bytes_of s))
     on d at s zero within all = refl
     on d at [] (suc n) within all = absurd (omega arith)
     on d at (c ∷ s) (suc n) within all =
-        let parts = and_parts (is_text_byte c.byte) (list_all is_text_byte (take n (bytes_of s))) all in
-        let star = (text_means c.byte parts.0).1.0 in
+        let parts = and_parts (is_comment_byte c.byte) (list_all is_comment_byte (take n (bytes_of s))) all in
+        let star = comment_means c.byte parts.0 in
         let one : 1 + block_len false (bytes_of s) ≡ suc (block_len false (bytes_of s)) = omega arith in
         on d c.to s n (omega (arith, within)) parts.1 ∙ sym (ap (λ b. passed d at (c ∷ s) (1 + block_len b (bytes_of s))) star ∙ rw one refl)
 
@@ -233,7 +237,7 @@ passed_quote q x y mark r = (
         let parts = and_parts (is_text_byte c.byte) (list_all is_text_byte (take n (bytes_of s))) all in
         let means = text_means c.byte parts.0 in
         let line = means.0 in
-        let slash = means.1.1 in
+        let slash = means.1 in
         let other = text_quote q c.byte mark parts.0 in
         closes d c.to s n (omega (arith, within)) parts.1 ∙ sym (rw (line, other, slash) refl)
 
@@ -245,7 +249,7 @@ passed_quote q x y mark r = (
         let parts = and_parts (is_text_byte c.byte) (list_all is_text_byte (take n (bytes_of s))) all in
         let means = text_means c.byte parts.0 in
         let line = means.0 in
-        let slash = means.1.1 in
+        let slash = means.1 in
         let other = text_quote q c.byte mark parts.0 in
         let one : 1 + quote_len q false (bytes_of s) ≡ suc (quote_len q false (bytes_of s)) = omega arith in
         on d c.to s n (omega (arith, within)) parts.1 ∙ sym (rw (line, other, slash, one) refl)
@@ -262,24 +266,24 @@ same_last a b (c ∷ s) e = elim (cases_Bool (is_new_line c)) [
 ]
 
 -- such a byte is a space or a tab, or no white space
-text_parts : (b : ℕ) → is_text_byte b ≡ true → is_ink_byte b ≡ false → (is_new_line b ≡ false) × (is_white b ≡ true)
-unfolding is_text_byte is_ink_byte is_space_byte is_new_line is_white
-text_parts b h n = (grind (arith, nat_tests), grind (arith, nat_tests))
+comment_parts : (b : ℕ) → is_comment_byte b ≡ true → is_comment_ink b ≡ false → (is_new_line b ≡ false) × (is_white b ≡ true)
+unfolding is_comment_byte is_comment_ink is_space_byte is_new_line is_white
+comment_parts b h n = (grind (arith, nat_tests), grind (arith, nat_tests))
 
-ink_text : (b : ℕ) → is_ink_byte b ≡ true → is_text_byte b ≡ true
-unfolding is_text_byte
-ink_text b h = rw h refl
+ink_comment : (b : ℕ) → is_comment_ink b ≡ true → is_comment_byte b ≡ true
+unfolding is_comment_byte
+ink_comment b h = rw h refl
 
-words_first : (b : ℕ) (s : List ℕ) → are_words (b ∷ s) ≡ true → (is_text_byte b ≡ true) × (are_words s ≡ true)
-words_first b [] h = (ink_text b h, refl)
-words_first b (c ∷ s) h = and_parts (is_text_byte b) (are_words (c ∷ s)) h
+words_first : (b : ℕ) (s : List ℕ) → are_words (b ∷ s) ≡ true → (is_comment_byte b ≡ true) × (are_words s ≡ true)
+words_first b [] h = (ink_comment b h, refl)
+words_first b (c ∷ s) h = and_parts (is_comment_byte b) (are_words (c ∷ s)) h
 
 -- white space stands within a comment that goes on behind it
 over_some : (keeps : Bool) (m : ℕ) → (m == 0) ≡ false → over_white keeps m ≡ 1 + m
 over_some keeps m e = rw e refl
 
 -- a line comment has the words that come next
-some_ink : (last b : ℕ) (s : List ℕ) → is_ink_byte b ≡ true → (line_len last (b ∷ s) == 0) ≡ false
+some_ink : (last b : ℕ) (s : List ℕ) → is_comment_ink b ≡ true → (line_len last (b ∷ s) == 0) ≡ false
 some_ink last b s h =
     let means = ink_means b h in
     let len = black_len last b s means.0 means.1.0 in
@@ -291,25 +295,25 @@ some_words last (suc n) b [] h = some_ink last b [] h
 some_words last (suc n) b (c ∷ s) h =
     let parts = words_first b (c ∷ take n s) h in
     let rest = some_words last n c s parts.1 in
-    elim (cases_Bool (is_ink_byte b)) [
+    elim (cases_Bool (is_comment_ink b)) [
       | inl y ↦ some_ink last b (c ∷ s) y
       | inr m ↦
-          let means = text_parts b parts.0 m in
+          let means = comment_parts b parts.0 m in
           let len : line_len last (b ∷ c ∷ s) ≡ 1 + line_len last (c ∷ s) = white_len last b (c ∷ s) means.0 means.1 ∙ over_some (last == 92) (line_len last (c ∷ s)) rest in
           ne_eqb (line_len last (b ∷ c ∷ s)) 0 (λ z. absurd (omega (arith, len, z)))
     ]
 
 -- one character of words is passed
 word_len : (last n : ℕ) (b : ℕ) (s : List ℕ) → (last == 92) ≡ false → are_words (b ∷ take n s) ≡ true → line_len last (b ∷ s) ≡ 1 + line_len last s
-word_len last n b s other h = elim (cases_Bool (is_ink_byte b)) [
+word_len last n b s other h = elim (cases_Bool (is_comment_ink b)) [
   | inl y ↦
       let means = ink_means b y in
       let same : line_len b s ≡ line_len last s = same_last b last s (means.1.1 ∙ sym other) in
       black_len last b s means.0 means.1.0 ∙ ap (λ k. 1 + k) same
-  | inr m ↦ white n s (text_parts b (words_first b (take n s) h).0 m) h m
+  | inr m ↦ white n s (comment_parts b (words_first b (take n s) h).0 m) h m
 ]
   where
-    white : (n : ℕ) (s : List ℕ) → (is_new_line b ≡ false) × (is_white b ≡ true) → are_words (b ∷ take n s) ≡ true → is_ink_byte b ≡ false → line_len last (b ∷ s) ≡ 1 + line_len last s
+    white : (n : ℕ) (s : List ℕ) → (is_new_line b ≡ false) × (is_white b ≡ true) → are_words (b ∷ take n s) ≡ true → is_comment_ink b ≡ false → line_len last (b ∷ s) ≡ 1 + line_len last s
     white zero s means h m = let no : true ≡ false = sym h ∙ m in cc
     white (suc n) [] means h m = let no : true ≡ false = sym h ∙ m in cc
     white (suc n) (c ∷ s) means h m =

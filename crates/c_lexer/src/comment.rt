@@ -25,7 +25,7 @@ fn pass_within_block(chars: &mut Chars, star: bool)
     ensures fewer { length chars.new.chars ≤ length chars.old.chars }
 {
     if !star {
-        chars.pass_text();
+        chars.pass_comment();
     }
 }
 

@@ -1,17 +1,17 @@
 use Rattle.std.proofs.Common.{◌≡◌, ◌∙◌, ◌-◌, get_or, sym, ap, arith}
 use Rattle.std.proofs.lemmas.List.Sums.{prefix_len-le-length}
-use Rattle.c_chars.specs.Characters.{is_space_byte, is_text_byte}
+use Rattle.c_chars.specs.Characters.{is_space_byte, is_comment_byte}
 use Rattle.c_chars.proofs.Words.{words_front}
 use Rattle.c_chars.proofs.eights.words_len.Goals as goal
 
 pub bounds-bytes-len : goal.bounds-bytes-len
 bounds-bytes-len c =
-    let few = prefix_len-le-length is_text_byte c.args.bytes.now in
+    let few = prefix_len-le-length is_comment_byte c.args.bytes.now in
     omega (arith, few, c.loop-len.invariant)
 
 pub returns-else-is_space_byte-clause-within : goal.returns-else-is_space_byte-clause-within
 returns-else-is_space_byte-clause-within c =
-    let few = prefix_len-le-length is_text_byte c.args.bytes.now in
+    let few = prefix_len-le-length is_comment_byte c.args.bytes.now in
     omega (arith, few, c.loop-len.invariant)
 
 pub returns-else-is_space_byte-clause-words : goal.returns-else-is_space_byte-clause-words

@@ -1,10 +1,10 @@
 use Rattle.std.proofs.Common.{◌≤◌}
 use Rattle.std.specs.List.{prefix_len}
-use Rattle.c_chars.specs.Characters.{is_text_byte}
+use Rattle.c_chars.specs.Characters.{is_comment_byte}
 use Rattle.c_chars.proofs.eights.words_len.Given as goal
 
 abbrev pub invariant-loop-len : goal.invariant-loop-len
-invariant-loop-len l = l.len ≤ prefix_len is_text_byte l.bytes
+invariant-loop-len l = l.len ≤ prefix_len is_comment_byte l.bytes
 
 abbrev pub decreases-loop-len : goal.decreases-loop-len
 decreases-loop-len l = l.len
