@@ -16,3 +16,4 @@ pub mod Noted
 pub mod Seen
 pub mod Visible
 pub mod Inside
+pub mod Kept

@@ -61,6 +61,68 @@ fn till_of(node: &Node, from: u32, till: u32) -> u32
     }
 }
 
+impl Place {
+    /// The same group, at another section.
+    fn moved(self, at: u32) -> Place
+        ensures { result ≡ record { at = at; from = self.from; till = self.till } }
+    {
+        Place {
+            at,
+            from: self.from,
+            till: self.till,
+        }
+    }
+
+    /// The slot of a conditional that opens in this group, before its first branch.
+    fn slot(self) -> OpenSlot
+        ensures { result ≡ record { next = self.from; from = self.from; till = self.till } }
+    {
+        OpenSlot {
+            next: self.from,
+            from: self.from,
+            till: self.till,
+        }
+    }
+}
+
+impl OpenSlot {
+    /// The slot behind its next branch, which needs so many runs.
+    fn passed(self, need: u32) -> OpenSlot
+        requires { self.next + need < 2 ^ 32 }
+        ensures { result ≡ record { next = self.next + need; from = self.from; till = self.till } }
+    {
+        OpenSlot {
+            next: self.next + need,
+            from: self.from,
+            till: self.till,
+        }
+    }
+
+    /// The group of its next branch, which this section begins, at a section.
+    fn in_branch(self, node: &Node, at: u32) -> Place
+        requires { self.next + node.now.need < 2 ^ 32 }
+        ensures { result
+            ≡ record { at = at; from = self.next; till = till_of node.now.later node.now.need self.next self.till } }
+    {
+        Place {
+            at,
+            from: self.next,
+            till: till_of(node, self.next, self.till),
+        }
+    }
+
+    /// The group around the conditional, at a section.
+    fn around(self, at: u32) -> Place
+        ensures { result ≡ record { at = at; from = self.from; till = self.till } }
+    {
+        Place {
+            at,
+            from: self.from,
+            till: self.till,
+        }
+    }
+}
+
 // Adds a section to the texts where it is one.
 fn push_text(texts: &mut Vec<SeenText, &Bump>, node: Node, place: Place) -> Result<(), NoMemory>
     ensures { IfOk result (λ _. texts.new.items ≡ texts.old.items ++ text_of node place) }
@@ -88,65 +150,29 @@ fn step(nodes: &[Node], place: Place, slots: &mut Stack<'_, OpenSlot>) -> Result
     ensures runs { IfOk result (λ p. FitPlace (rest_at (map node_mark nodes.now) p.at) p slots.new) }
     ensures after { IfOk result (λ p. place.at < p.at) }
 {
-    let Place { at, from, till } = place;
+    let at = place.at;
     let node = nodes[at as usize];
     match node.kind {
-        MarkKind::Text | MarkKind::Flat => Ok(Place {
-            at: at + 1,
-            from,
-            till,
-        }),
+        MarkKind::Text | MarkKind::Flat => Ok(place.moved(at + 1)),
         MarkKind::Opens => {
-            let next = from + node.need;
-            slots.push(OpenSlot { next, from, till })?;
-            Ok(Place {
-                at: at + 1,
-                from,
-                till: till_of(&node, from, till),
-            })
+            let slot = place.slot();
+            slots.push(slot.passed(node.need))?;
+            Ok(slot.in_branch(&node, at + 1))
         }
         MarkKind::IfZero => {
-            slots.push(OpenSlot {
-                next: from,
-                from,
-                till,
-            })?;
-            Ok(Place {
-                at: node.next,
-                from,
-                till,
-            })
+            slots.push(place.slot())?;
+            Ok(place.moved(node.next))
         }
         MarkKind::Branch | MarkKind::LastBranch => match slots.pop() {
             Some(slot) => {
-                slots.push(OpenSlot {
-                    next: slot.next + node.need,
-                    from: slot.from,
-                    till: slot.till,
-                })?;
-                Ok(Place {
-                    at: at + 1,
-                    from: slot.next,
-                    till: till_of(&node, slot.next, slot.till),
-                })
+                slots.push(slot.passed(node.need))?;
+                Ok(slot.in_branch(&node, at + 1))
             }
-            None => Ok(Place {
-                at: nodes.len() as u32,
-                from,
-                till,
-            }),
+            None => Ok(place.moved(nodes.len() as u32)),
         },
         MarkKind::Ends => match slots.pop() {
-            Some(slot) => Ok(Place {
-                at: at + 1,
-                from: slot.from,
-                till: slot.till,
-            }),
-            None => Ok(Place {
-                at: nodes.len() as u32,
-                from,
-                till,
-            }),
+            Some(slot) => Ok(slot.around(at + 1)),
+            None => Ok(place.moved(nodes.len() as u32)),
         },
     }
 }

@@ -36,25 +36,16 @@ pub struct CondTree<'a> {
 }
 
 impl<'a> Model for CondTree<'a> {
-    ghost use Rattle.std.specs.Prelude.{◌≡◌, ◌≤◌, List, [], map, length};
-    ghost use Rattle.c_chars.specs.declared.TheConstants.{LIMIT};
+    ghost use Rattle.std.specs.Prelude.{List, map};
     ghost use Rattle.branch_runs.specs.declared.mark.Mark.{Mark};
-    ghost use Rattle.branch_runs.specs.Reading.{read};
     ghost use Rattle.branch_runs.specs.Links.{node_mark};
-    ghost use Rattle.branch_runs.specs.Fits.{FitNodes};
-    ghost use Rattle.branch_runs.specs.Cut.{IsCutFrom};
-    ghost use Rattle.branch_runs.specs.Flags.{flags_in};
-    ghost use Rattle.branch_runs.specs.Runs.{need};
-    ghost use Rattle.token_arena.specs.Segments.{AscendFrom};
-    ghost use Rattle.branch_runs.specs.Inside.{text_bounds};
-    ghost use Rattle.branch_runs.specs.Seen.{seen_texts};
-    ghost use Rattle.branch_runs.specs.Noted.{AreNoted, AreNarrow};
+    ghost use Rattle.branch_runs.specs.Kept.{IsKept};
 
     ghost Value = { List Mark };
 
     ghost view = { λ t. map node_mark t.nodes.now };
 
-    ghost invariant = { λ t. record { fit : FitNodes (map node_mark t.nodes.now) 0 t.nodes.now; need_is : t.count ≡ need (read (map node_mark t.nodes.now)); small : length t.nodes.now ≤ LIMIT; cut : IsCutFrom 0 (map node_mark t.nodes.now); flags : t.dead.now ≡ flags_in [] (map node_mark t.nodes.now); texts : t.texts ≡ seen_texts (read (map node_mark t.nodes.now)) 0 t.count; ascend : AscendFrom 0 (map text_bounds t.texts); each_run : length t.changes.now ≡ t.count; changes : AreNoted t.changes.now t.texts; narrow : AreNarrow t.changes.now t.texts } };
+    ghost invariant = { λ t. IsKept t.nodes.now t.dead.now t.texts t.changes.now t.count };
 }
 
 impl<'a> CondTree<'a> {

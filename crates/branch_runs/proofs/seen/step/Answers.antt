@@ -28,31 +28,31 @@ flat_room nodes at from till slots fit within (inl is) h = room_text (map node_m
 flat_room nodes at from till slots fit within (inr is) h = let p = leaves_flat (map node_mark nodes) at from till slots (get_or nodes at no_node) (here nodes at fit within) is h in (p.room, p.small, p.fits)
 
 pub returns-in-Text-clause-left : goal.returns-in-Text-clause-left
-returns-in-Text-clause-left c = flat_left c.args.nodes.now c.args.place c.args.slots.now c.requires.fit c.requires.within c.in-Text.is c.requires.runs
+returns-in-Text-clause-left c = rw c.moved.ensures (flat_left c.args.nodes.now c.args.place c.args.slots.now c.requires.fit c.requires.within c.in-Text.is c.requires.runs)
 
 pub returns-in-Text-clause-runs : goal.returns-in-Text-clause-runs
-returns-in-Text-clause-runs c = flat_room c.args.nodes.now c.args.place.at c.args.place.from c.args.place.till c.args.slots.now c.requires.fit c.requires.within c.in-Text.is c.requires.runs
+returns-in-Text-clause-runs c = rw c.moved.ensures (flat_room c.args.nodes.now c.args.place.at c.args.place.from c.args.place.till c.args.slots.now c.requires.fit c.requires.within c.in-Text.is c.requires.runs)
 
-pub overflow_add-next : goal.overflow_add-next
-overflow_add-next c = let p = leaves_opens (map node_mark c.args.nodes.now) c.args.place.at c.args.place.from c.args.place.till c.args.slots.now _ (here c.args.nodes.now c.args.place.at c.requires.fit c.requires.within) c.in-Opens.is c.requires.runs in omega (arith, p.fits.0, p.fits.2)
+pub passed-requires : goal.passed-requires
+passed-requires c = let p = leaves_opens (map node_mark c.args.nodes.now) c.args.place.at c.args.place.from c.args.place.till c.args.slots.now _ (here c.args.nodes.now c.args.place.at c.requires.fit c.requires.within) c.in-Opens.is c.requires.runs in rw c.slot-slot.ensures (omega (arith, p.fits.0, p.fits.2))
 
-pub till_of-requires : goal.till_of-requires
-till_of-requires c = let p = leaves_opens (map node_mark c.args.nodes.now) c.args.place.at c.args.place.from c.args.place.till c.args.slots.now _ (here c.args.nodes.now c.args.place.at c.requires.fit c.requires.within) c.in-Opens.is c.requires.runs in omega (arith, p.fits.0, p.fits.2)
+pub in_branch-requires : goal.in_branch-requires
+in_branch-requires c = let p = leaves_opens (map node_mark c.args.nodes.now) c.args.place.at c.args.place.from c.args.place.till c.args.slots.now _ (here c.args.nodes.now c.args.place.at c.requires.fit c.requires.within) c.in-Opens.is c.requires.runs in rw c.slot-slot.ensures (omega (arith, p.fits.0, p.fits.2))
 
 pub returns-in_ok-push-in-Opens-clause-left : goal.returns-in_ok-push-in-Opens-clause-left
-returns-in_ok-push-in-Opens-clause-left c = rw (c.in-Opens.is, c.in_ok-push-in-Opens.ensures.ok, c.till_of.ensures) (leaves_opens (map node_mark c.args.nodes.now) c.args.place.at c.args.place.from c.args.place.till c.args.slots.now _ (here c.args.nodes.now c.args.place.at c.requires.fit c.requires.within) c.in-Opens.is c.requires.runs).left
+returns-in_ok-push-in-Opens-clause-left c = rw (c.in-Opens.is, c.in_branch.ensures, c.in_ok-push-in-Opens.ensures.ok, c.passed.ensures, c.slot-slot.ensures) (leaves_opens (map node_mark c.args.nodes.now) c.args.place.at c.args.place.from c.args.place.till c.args.slots.now _ (here c.args.nodes.now c.args.place.at c.requires.fit c.requires.within) c.in-Opens.is c.requires.runs).left
 
 pub returns-in_ok-push-in-Opens-clause-runs : goal.returns-in_ok-push-in-Opens-clause-runs
-returns-in_ok-push-in-Opens-clause-runs c = let p = leaves_opens (map node_mark c.args.nodes.now) c.args.place.at c.args.place.from c.args.place.till c.args.slots.now _ (here c.args.nodes.now c.args.place.at c.requires.fit c.requires.within) c.in-Opens.is c.requires.runs in rw (c.in_ok-push-in-Opens.ensures.ok, c.till_of.ensures) (p.room, p.small, p.fits)
+returns-in_ok-push-in-Opens-clause-runs c = let p = leaves_opens (map node_mark c.args.nodes.now) c.args.place.at c.args.place.from c.args.place.till c.args.slots.now _ (here c.args.nodes.now c.args.place.at c.requires.fit c.requires.within) c.in-Opens.is c.requires.runs in rw (c.in_branch.ensures, c.in_ok-push-in-Opens.ensures.ok, c.passed.ensures, c.slot-slot.ensures) (p.room, p.small, p.fits)
 
 pub returns-in_ok-push-in-IfZero-clause-left : goal.returns-in_ok-push-in-IfZero-clause-left
-returns-in_ok-push-in-IfZero-clause-left c = rw (c.in-IfZero.is, c.in_ok-push-in-IfZero.ensures.ok) (leaves_off (map node_mark c.args.nodes.now) c.args.place.at c.args.place.from c.args.place.till c.args.slots.now _ (here c.args.nodes.now c.args.place.at c.requires.fit c.requires.within) c.in-IfZero.is c.requires.runs).left
+returns-in_ok-push-in-IfZero-clause-left c = rw (c.in-IfZero.is, c.moved-in-IfZero.ensures, c.in_ok-push-in-IfZero.ensures.ok, c.slot.ensures) (leaves_off (map node_mark c.args.nodes.now) c.args.place.at c.args.place.from c.args.place.till c.args.slots.now _ (here c.args.nodes.now c.args.place.at c.requires.fit c.requires.within) c.in-IfZero.is c.requires.runs).left
 
 pub returns-in_ok-push-in-IfZero-clause-runs : goal.returns-in_ok-push-in-IfZero-clause-runs
-returns-in_ok-push-in-IfZero-clause-runs c = let p = leaves_off (map node_mark c.args.nodes.now) c.args.place.at c.args.place.from c.args.place.till c.args.slots.now _ (here c.args.nodes.now c.args.place.at c.requires.fit c.requires.within) c.in-IfZero.is c.requires.runs in rw c.in_ok-push-in-IfZero.ensures.ok (p.room, p.small, p.fits)
+returns-in_ok-push-in-IfZero-clause-runs c = let p = leaves_off (map node_mark c.args.nodes.now) c.args.place.at c.args.place.from c.args.place.till c.args.slots.now _ (here c.args.nodes.now c.args.place.at c.requires.fit c.requires.within) c.in-IfZero.is c.requires.runs in rw (c.moved-in-IfZero.ensures, c.in_ok-push-in-IfZero.ensures.ok, c.slot.ensures) (p.room, p.small, p.fits)
 
 pub returns-in_ok-push-in-IfZero-clause-after : goal.returns-in_ok-push-in-IfZero-clause-after
-returns-in_ok-push-in-IfZero-clause-after c = (here c.args.nodes.now c.args.place.at c.requires.fit c.requires.within).next_after
+returns-in_ok-push-in-IfZero-clause-after c = rw c.moved-in-IfZero.ensures (here c.args.nodes.now c.args.place.at c.requires.fit c.requires.within).next_after
 
 -- a branch of an open conditional
 on_branch : (nodes : List Node) (at from till : ℕ) (old : List OpenSlot) (slot : OpenSlot) (slots : List OpenSlot) → FitsNode (map node_mark nodes) at (get_or nodes at no_node)
@@ -62,23 +62,23 @@ on_branch : (nodes : List Node) (at from till : ℕ) (old : List OpenSlot) (slot
 on_branch nodes at from till old slot slots fits is top h =
     rw top (leaves_branch (map node_mark nodes) at from till slot slots (get_or nodes at no_node) fits (is_branch _ is) (subst (λ xs. Room (rest_at (map node_mark nodes) at) from till xs) top h))
 
-pub overflow_add-slot : goal.overflow_add-slot
-overflow_add-slot c = let p = on_branch c.args.nodes.now c.args.place.at c.args.place.from c.args.place.till c.args.slots.now c.in-Some.slot c.pop.new.self (here c.args.nodes.now c.args.place.at c.requires.fit c.requires.within) c.in-Branch.is c.in-Some.ensures c.requires.runs in omega (arith, p.fits.0, p.fits.2)
+pub passed-requires-in-Some : goal.passed-requires-in-Some
+passed-requires-in-Some c = let p = on_branch c.args.nodes.now c.args.place.at c.args.place.from c.args.place.till c.args.slots.now c.in-Some.slot c.pop.new.self (here c.args.nodes.now c.args.place.at c.requires.fit c.requires.within) c.in-Branch.is c.in-Some.ensures c.requires.runs in omega (arith, p.fits.0, p.fits.2)
 
-pub till_of-requires-in-Some : goal.till_of-requires-in-Some
-till_of-requires-in-Some c = let p = on_branch c.args.nodes.now c.args.place.at c.args.place.from c.args.place.till c.args.slots.now c.in-Some.slot c.pop.new.self (here c.args.nodes.now c.args.place.at c.requires.fit c.requires.within) c.in-Branch.is c.in-Some.ensures c.requires.runs in omega (arith, p.fits.0, p.fits.2)
+pub in_branch-requires-in-Some : goal.in_branch-requires-in-Some
+in_branch-requires-in-Some c = let p = on_branch c.args.nodes.now c.args.place.at c.args.place.from c.args.place.till c.args.slots.now c.in-Some.slot c.pop.new.self (here c.args.nodes.now c.args.place.at c.requires.fit c.requires.within) c.in-Branch.is c.in-Some.ensures c.requires.runs in omega (arith, p.fits.0, p.fits.2)
 
 pub returns-in_ok-push-in-Some-clause-left : goal.returns-in_ok-push-in-Some-clause-left
-returns-in_ok-push-in-Some-clause-left c = rw (branch_no_text _ _ (is_branch _ c.in-Branch.is), c.in_ok-push-in-Some.ensures.ok, c.till_of-in-Some.ensures) (on_branch c.args.nodes.now c.args.place.at c.args.place.from c.args.place.till c.args.slots.now c.in-Some.slot c.pop.new.self (here c.args.nodes.now c.args.place.at c.requires.fit c.requires.within) c.in-Branch.is c.in-Some.ensures c.requires.runs).left
+returns-in_ok-push-in-Some-clause-left c = rw (branch_no_text _ _ (is_branch _ c.in-Branch.is), c.in_branch-in-Some.ensures, c.in_ok-push-in-Some.ensures.ok, c.passed-in-Some.ensures) (on_branch c.args.nodes.now c.args.place.at c.args.place.from c.args.place.till c.args.slots.now c.in-Some.slot c.pop.new.self (here c.args.nodes.now c.args.place.at c.requires.fit c.requires.within) c.in-Branch.is c.in-Some.ensures c.requires.runs).left
 
 pub returns-in_ok-push-in-Some-clause-runs : goal.returns-in_ok-push-in-Some-clause-runs
-returns-in_ok-push-in-Some-clause-runs c = let p = on_branch c.args.nodes.now c.args.place.at c.args.place.from c.args.place.till c.args.slots.now c.in-Some.slot c.pop.new.self (here c.args.nodes.now c.args.place.at c.requires.fit c.requires.within) c.in-Branch.is c.in-Some.ensures c.requires.runs in rw (c.in_ok-push-in-Some.ensures.ok, c.till_of-in-Some.ensures) (p.room, p.small, p.fits)
+returns-in_ok-push-in-Some-clause-runs c = let p = on_branch c.args.nodes.now c.args.place.at c.args.place.from c.args.place.till c.args.slots.now c.in-Some.slot c.pop.new.self (here c.args.nodes.now c.args.place.at c.requires.fit c.requires.within) c.in-Branch.is c.in-Some.ensures c.requires.runs in rw (c.in_branch-in-Some.ensures, c.in_ok-push-in-Some.ensures.ok, c.passed-in-Some.ensures) (p.room, p.small, p.fits)
 
 pub returns-in-None-clause-left : goal.returns-in-None-clause-left
-returns-in-None-clause-left c = rw (branch_no_text _ _ (is_branch _ c.in-Branch.is)) (leaves_out c.args.nodes.now c.args.place.at c.args.place.from c.args.place.till c.args.slots.now c.pop.new.self _ (here c.args.nodes.now c.args.place.at c.requires.fit c.requires.within) (inl (is_branch _ c.in-Branch.is)) c.in-None.ensures.0 c.in-None.ensures.1 c.requires.runs).left
+returns-in-None-clause-left c = rw (branch_no_text _ _ (is_branch _ c.in-Branch.is), c.moved-in-None.ensures) (leaves_out c.args.nodes.now c.args.place.at c.args.place.from c.args.place.till c.args.slots.now c.pop.new.self _ (here c.args.nodes.now c.args.place.at c.requires.fit c.requires.within) (inl (is_branch _ c.in-Branch.is)) c.in-None.ensures.0 c.in-None.ensures.1 c.requires.runs).left
 
 pub returns-in-None-clause-runs : goal.returns-in-None-clause-runs
-returns-in-None-clause-runs c = let p = leaves_out c.args.nodes.now c.args.place.at c.args.place.from c.args.place.till c.args.slots.now c.pop.new.self _ (here c.args.nodes.now c.args.place.at c.requires.fit c.requires.within) (inl (is_branch _ c.in-Branch.is)) c.in-None.ensures.0 c.in-None.ensures.1 c.requires.runs in (p.room, p.small, p.fits)
+returns-in-None-clause-runs c = let p = leaves_out c.args.nodes.now c.args.place.at c.args.place.from c.args.place.till c.args.slots.now c.pop.new.self _ (here c.args.nodes.now c.args.place.at c.requires.fit c.requires.within) (inl (is_branch _ c.in-Branch.is)) c.in-None.ensures.0 c.in-None.ensures.1 c.requires.runs in rw c.moved-in-None.ensures (p.room, p.small, p.fits)
 
 -- the end of an open conditional
 on_end : (nodes : List Node) (at from till : ℕ) (old : List OpenSlot) (slot : OpenSlot) (slots : List OpenSlot) → FitsNode (map node_mark nodes) at (get_or nodes at no_node)
@@ -88,13 +88,13 @@ on_end nodes at from till old slot slots fits is top h =
     rw top (leaves_ends (map node_mark nodes) at from till slot slots (get_or nodes at no_node) fits is (subst (λ xs. Room (rest_at (map node_mark nodes) at) from till xs) top h))
 
 pub returns-in-Some-pop-clause-left : goal.returns-in-Some-pop-clause-left
-returns-in-Some-pop-clause-left c = rw c.in-Ends.is (on_end c.args.nodes.now c.args.place.at c.args.place.from c.args.place.till c.args.slots.now c.in-Some-pop.slot c.pop-in-Ends.new.self (here c.args.nodes.now c.args.place.at c.requires.fit c.requires.within) c.in-Ends.is c.in-Some-pop.ensures c.requires.runs).left
+returns-in-Some-pop-clause-left c = rw (c.in-Ends.is, c.around.ensures) (on_end c.args.nodes.now c.args.place.at c.args.place.from c.args.place.till c.args.slots.now c.in-Some-pop.slot c.pop-in-Ends.new.self (here c.args.nodes.now c.args.place.at c.requires.fit c.requires.within) c.in-Ends.is c.in-Some-pop.ensures c.requires.runs).left
 
 pub returns-in-Some-pop-clause-runs : goal.returns-in-Some-pop-clause-runs
-returns-in-Some-pop-clause-runs c = let p = on_end c.args.nodes.now c.args.place.at c.args.place.from c.args.place.till c.args.slots.now c.in-Some-pop.slot c.pop-in-Ends.new.self (here c.args.nodes.now c.args.place.at c.requires.fit c.requires.within) c.in-Ends.is c.in-Some-pop.ensures c.requires.runs in (p.room, p.small, p.fits)
+returns-in-Some-pop-clause-runs c = let p = on_end c.args.nodes.now c.args.place.at c.args.place.from c.args.place.till c.args.slots.now c.in-Some-pop.slot c.pop-in-Ends.new.self (here c.args.nodes.now c.args.place.at c.requires.fit c.requires.within) c.in-Ends.is c.in-Some-pop.ensures c.requires.runs in rw c.around.ensures (p.room, p.small, p.fits)
 
 pub returns-in-None-pop-clause-left : goal.returns-in-None-pop-clause-left
-returns-in-None-pop-clause-left c = rw c.in-Ends.is (leaves_out c.args.nodes.now c.args.place.at c.args.place.from c.args.place.till c.args.slots.now c.pop-in-Ends.new.self _ (here c.args.nodes.now c.args.place.at c.requires.fit c.requires.within) (inr c.in-Ends.is) c.in-None-pop.ensures.0 c.in-None-pop.ensures.1 c.requires.runs).left
+returns-in-None-pop-clause-left c = rw (c.in-Ends.is, c.moved-in-None-pop.ensures) (leaves_out c.args.nodes.now c.args.place.at c.args.place.from c.args.place.till c.args.slots.now c.pop-in-Ends.new.self _ (here c.args.nodes.now c.args.place.at c.requires.fit c.requires.within) (inr c.in-Ends.is) c.in-None-pop.ensures.0 c.in-None-pop.ensures.1 c.requires.runs).left
 
 pub returns-in-None-pop-clause-runs : goal.returns-in-None-pop-clause-runs
-returns-in-None-pop-clause-runs c = let p = leaves_out c.args.nodes.now c.args.place.at c.args.place.from c.args.place.till c.args.slots.now c.pop-in-Ends.new.self _ (here c.args.nodes.now c.args.place.at c.requires.fit c.requires.within) (inr c.in-Ends.is) c.in-None-pop.ensures.0 c.in-None-pop.ensures.1 c.requires.runs in (p.room, p.small, p.fits)
+returns-in-None-pop-clause-runs c = let p = leaves_out c.args.nodes.now c.args.place.at c.args.place.from c.args.place.till c.args.slots.now c.pop-in-Ends.new.self _ (here c.args.nodes.now c.args.place.at c.requires.fit c.requires.within) (inr c.in-Ends.is) c.in-None-pop.ensures.0 c.in-None-pop.ensures.1 c.requires.runs in rw c.moved-in-None-pop.ensures (p.room, p.small, p.fits)

@@ -16,10 +16,10 @@ invariant_of-result c =
       small = small_nodes c.in_ok-nodes.nodes.now c.in_ok-marks.marks.now _ c.in_ok-nodes.ensures.marks (rw c.in_ok-marks.ensures.marks (small_effects c.args.marks.now _ (omega (arith, c.requires.small, c.requires.limit))));
       cut = rw (c.in_ok-nodes.ensures.marks, c.in_ok-marks.ensures.marks) (effects_cut c.args.marks.now 0 [] c.requires.cut);
       flags = rw (c.in_ok-nodes.ensures.marks, c.in_ok-marks.ensures.marks) c.in_ok-marks.ensures.dead;
-      texts = rw c.in_ok-texts-2.ensures c.in_ok-texts.ensures.texts;
+      texts_are = rw c.in_ok-texts-2.ensures c.in_ok-texts.ensures.texts;
       ascend = rw c.in_ok-texts-2.ensures c.in_ok-texts.ensures.ascend;
       each_run = c.in_ok-changes.ensures.count;
-      changes = rw c.in_ok-texts-2.ensures c.in_ok-changes.ensures.noted;
+      noted = rw c.in_ok-texts-2.ensures c.in_ok-changes.ensures.noted;
       narrow = rw c.in_ok-texts-2.ensures c.in_ok-changes.ensures.narrow;
     }
 

@@ -18,7 +18,7 @@ of_stretches-requires c =
     let i = c.self.inside in
     let marks = map node_mark i.nodes.now in
     let t = texts (read marks) c.args.number in
-    let are : taken i.texts c.args.number ≡ t = are_texts (read marks) i.count c.args.number i.texts c.self.invariant.texts c.self.invariant.need_is (rw c.self.view_is c.requires) in
+    let are : taken i.texts c.args.number ≡ t = are_texts (read marks) i.count c.args.number i.texts c.self.invariant.texts_are c.self.invariant.need_is (rw c.self.view_is c.requires) in
     rw (c.in_ok-stretches.ensures, are) (inside-ascend c.args.first c.args.end 0 t (texts_ascend marks c.args.number c.self.invariant.cut))
 
 pub returns-clause-view : goal.returns-clause-view
@@ -26,7 +26,7 @@ returns-clause-view c =
     let i = c.self.inside in
     let marks = map node_mark i.nodes.now in
     let t = texts (read marks) c.args.number in
-    let are : taken i.texts c.args.number ≡ t = are_texts (read marks) i.count c.args.number i.texts c.self.invariant.texts c.self.invariant.need_is (rw c.self.view_is c.requires) in
+    let are : taken i.texts c.args.number ≡ t = are_texts (read marks) i.count c.args.number i.texts c.self.invariant.texts_are c.self.invariant.need_is (rw c.self.view_is c.requires) in
     rw (c.in_ok-view.ensures.items, c.in_ok-stretches.ensures, are, ← c.self.view_is) (ids-inside c.args.first c.args.end t)
 
 pub returns-clause-within : goal.returns-clause-within
@@ -34,6 +34,6 @@ returns-clause-within c =
     let i = c.self.inside in
     let marks = map node_mark i.nodes.now in
     let t = texts (read marks) c.args.number in
-    let are : taken i.texts c.args.number ≡ t = are_texts (read marks) i.count c.args.number i.texts c.self.invariant.texts c.self.invariant.need_is (rw c.self.view_is c.requires) in
+    let are : taken i.texts c.args.number ≡ t = are_texts (read marks) i.count c.args.number i.texts c.self.invariant.texts_are c.self.invariant.need_is (rw c.self.view_is c.requires) in
     rw (c.in_ok-view.ensures.items, c.in_ok-stretches.ensures, are, ← c.self.view_is)
     (inside_all (λ id. id < end_of 0 marks) c.args.first c.args.end t (view_within marks c.args.number c.self.invariant.cut))
