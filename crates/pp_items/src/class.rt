@@ -3,12 +3,14 @@
 ghost use Rattle.std.specs.Prelude.{◌≡◌, ◌==◌, ◌||◌, ◌&&◌, not, [], ◌∷◌};
 ghost use Rattle.std.specs.List.{list_all};
 ghost use Rattle.unicode_ident.specs.Ident.{is_xid_start, is_xid_continue};
-ghost use Rattle.c_grammar.specs.Grammar.{is_new_line, is_digit, is_letter, is_hex, is_sign, is_exponent, is_wide, is_universal_name, is_letter_unit, is_word_unit, is_number_head, is_number_unit, is_quoted_unit, is_separated, is_one, is_two};
+ghost use Rattle.c_grammar.specs.Grammar.{is_new_line, is_digit, is_letter, is_hex, is_sign, is_exponent, is_wide};
+ghost use Rattle.c_grammar.specs.Grammar.{is_universal_name, is_letter_unit, is_word_unit, is_number_head};
+ghost use Rattle.c_grammar.specs.Grammar.{is_number_unit, is_quoted_unit, is_separated, is_one, is_two};
 
 use c_chars::Dialect;
 use c_grammar::bytes::{is_hex, is_separable};
 pub(crate) use c_grammar::bytes::{
-    is_digit, is_exponent, is_letter, is_new_line, is_sign, is_white,
+    is_digit, is_exponent, is_letter, is_new_line, is_quote_mark, is_sign, is_white,
 };
 use c_grammar::only_char;
 

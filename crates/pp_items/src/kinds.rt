@@ -4,9 +4,10 @@
 //! A spelling has any length, and no memory is taken. No trigraph and no splice is in it, so it isn't read
 //! by the lexer, which would take `"??/"` for an open quote.
 
-ghost use Rattle.std.specs.Prelude.{◌≡◌, ◌||◌, true, false, map, codes};
+ghost use Rattle.std.specs.Prelude.{◌≡◌, ◌||◌, true, false, map};
 ghost use Rattle.std.specs.List.{list_any};
-ghost use Rattle.c_grammar.specs.Grammar.{is_of, is_same, is_char_prefix, is_string_prefix, is_punctuator, is_other, is_other_unit};
+ghost use Rattle.c_grammar.specs.Grammar.{is_same, is_char_prefix, is_string_prefix, is_punctuator, is_other};
+ghost use Rattle.c_grammar.specs.Grammar.{is_other_unit};
 ghost use Rattle.pp_model.specs.Finding.{kind_of, is_quoted, is_inside, is_unclosed, is_empty_quotes, is_in_line};
 ghost use Rattle.pp_items.specs.Literals.{closes, ends_cut_off, is_open_body};
 
@@ -130,19 +131,12 @@ fn is_open_body(text: &[u8], quote: u8) -> bool
     Units::Quoted(quote).are_units(text) || ends_cut_off(text, quote)
 }
 
-/// An apostrophe or a quotation mark.
-fn is_quote_mark(byte: u8) -> bool
-    ensures { result ≡ is_of (codes "'\"") byte }
-{
-    matches!(byte, b'\'' | b'"')
-}
-
 /// Whether it is a quote that isn't closed.
 fn is_unclosed(text: &[u8]) -> bool
     ensures { result ≡ is_unclosed text.now }
 {
     match text {
-        [quote, body @ ..] => is_quote_mark(*quote) && is_open_body(body, *quote),
+        [quote, body @ ..] => class::is_quote_mark(*quote) && is_open_body(body, *quote),
         [] => false,
     }
 }
@@ -177,7 +171,7 @@ fn begins_nothing(dialect: Dialect, byte: u8) -> bool
         || class::is_new_line(byte)
         || class::is_letter(byte)
         || class::is_digit(byte)
-        || is_quote_mark(byte)
+        || class::is_quote_mark(byte)
         || is_punctuator(dialect, &[byte]))
 }
 
