@@ -125,7 +125,8 @@ impl<'a> Model for SearchedLine<'a> {
 
     ghost view = { λ l. record { style = l.style.now; column = l.column; tokens = l.tokens.now; fixed = l.fixed.now } };
 
-    ghost invariant = { λ l. HaveRules l.style.now l.tokens.now l.rules.now × HaveStretches (line_of l.style.now l.column l.tokens.now l.fixed.now) l.stretches.now };
+    ghost invariant = { λ l. HaveRules l.style.now l.tokens.now l.rules.now
+        × HaveStretches (line_of l.style.now l.column l.tokens.now l.fixed.now) l.stretches.now };
 }
 
 impl<'a> SearchedLine<'a> {

@@ -1,6 +1,7 @@
 //! Reads the characters of a text one after another.
 
-ghost use Rattle.std.specs.Prelude.{◌≡◌, ◌+◌, ◌<◌, ◌≤◌, ◌^◌, length, drop, MatchOption, Some, IfSome, IfNone, ◌∷◌, [], slice_get};
+ghost use Rattle.std.specs.Prelude.{◌≡◌, ◌+◌, ◌<◌, ◌≤◌, ◌^◌, length, drop, MatchOption, Some, IfSome, IfNone, ◌∷◌, []};
+ghost use Rattle.std.specs.Prelude.{slice_get};
 ghost use Rattle.c_chars.specs.Characters.{chars, logical, mark_len, is_comment_byte, is_text_byte, is_word_byte};
 ghost use Rattle.c_chars.specs.Coming.{AreBetween, AreBytesPassed, ArePassed, AreSpacesPassed, AreWordsPassed};
 
@@ -168,7 +169,11 @@ impl<'s> Model for Chars<'s> {
 
     ghost Value = { Coming };
 
-    ghost view = { λ a. record { dialect = a.cursor.dialect; at = a.cursor.at; chars = chars a.cursor.dialect a.cursor.at a.cursor.rest.now } };
+    ghost view = { λ a. record {
+      dialect = a.cursor.dialect;
+      at = a.cursor.at;
+      chars = chars a.cursor.dialect a.cursor.at a.cursor.rest.now;
+    } };
 }
 
 impl<'s> Chars<'s> {

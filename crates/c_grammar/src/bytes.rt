@@ -2,7 +2,8 @@
 
 ghost use Rattle.std.specs.Prelude.{◌≡◌, ◌||◌, ◌&&◌, ◌==◌, ◌∷◌, [], nat_le};
 ghost use Rattle.c_grammar.specs.Bytes.{is_quote_mark, begins_punctuator, is_beyond};
-ghost use Rattle.c_grammar.specs.Grammar.{is_white, is_new_line, is_digit, is_letter, is_sign, is_exponent, is_hex, is_separated};
+ghost use Rattle.c_grammar.specs.Grammar.{is_white, is_new_line, is_digit, is_letter, is_sign, is_exponent, is_hex};
+ghost use Rattle.c_grammar.specs.Grammar.{is_separated};
 
 use c_chars::Dialect;
 

@@ -1,12 +1,14 @@
 //! Reads the items of a text one after another.
 
-ghost use Rattle.std.specs.Prelude.{◌≡◌, ◌≤◌, ◌<◌, ◌-◌, length, take, drop, get_or, IsFalse, IsTrue, IfSome, IfNone, IfOk, IfErr, MatchOption, ⊤};
+ghost use Rattle.std.specs.Prelude.{◌≡◌, ◌≤◌, ◌<◌, ◌-◌, length, take, drop, get_or, IsFalse, IsTrue, IfSome, IfNone};
+ghost use Rattle.std.specs.Prelude.{IfOk, IfErr, MatchOption, ⊤};
 ghost use Rattle.std.specs.Int.{is_in_range};
 ghost use Rattle.std.specs.List.{list_all};
 ghost use Rattle.c_grammar.specs.Items.{is_gap, LineStart};
 ghost use Rattle.c_chars.specs.Characters.{logical, bytes_of};
 ghost use Rattle.c_grammar.specs.Place.{IsSpanned, place_of};
-ghost use Rattle.c_lexer.specs.Reading.{IsNextItem, IsNextLexeme, AreSlashed, BeforeLeft, ends_backslash, ends_in_backslash};
+ghost use Rattle.c_lexer.specs.Reading.{IsNextItem, IsNextLexeme, AreSlashed, BeforeLeft, ends_backslash};
+ghost use Rattle.c_lexer.specs.Reading.{ends_in_backslash};
 ghost use Rattle.c_lexer.specs.Fault.{IsFault};
 
 use crate::fault::{self, LexFault};

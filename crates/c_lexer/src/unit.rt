@@ -6,7 +6,8 @@ ghost use Rattle.c_chars.specs.Characters.{bytes_of, is_word_byte};
 ghost use Rattle.c_chars.specs.Coming.{AreBytesPassed};
 ghost use Rattle.c_grammar.specs.Grammar.{is_universal_name, is_word_unit, is_number_unit};
 ghost use Rattle.c_grammar.specs.Touch.{starts};
-ghost use Rattle.c_lexer.specs.Unit.{BeginsUnit, IsUnitOff, IsRunOff, is_rare_unit, is_single, begins_hex, begins_name, begins_pair};
+ghost use Rattle.c_lexer.specs.Unit.{BeginsUnit, IsUnitOff, IsRunOff, is_rare_unit, is_single, begins_hex, begins_name};
+ghost use Rattle.c_lexer.specs.Unit.{begins_pair};
 
 use crate::{class, front, line, utf8};
 use c_chars::{Chars, Dialect};

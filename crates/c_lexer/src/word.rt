@@ -1,6 +1,7 @@
 //! Words, and the literals whose prefix a word is (C11 6.4.2.1, 6.4.4.4, 6.4.5).
 
-ghost use Rattle.std.specs.Prelude.{◌≡◌, ◌∷◌, ◌++◌, ◌+◌, ◌==◌, ◌&&◌, not, [], length, drop, codes, nat_eq, IsTrue, IsFalse, IfSome, MatchOption};
+ghost use Rattle.std.specs.Prelude.{◌≡◌, ◌∷◌, ◌++◌, ◌+◌, ◌==◌, ◌&&◌, not, [], length, drop, codes, nat_eq, IsTrue};
+ghost use Rattle.std.specs.Prelude.{IsFalse, IfSome, MatchOption};
 ghost use Rattle.std.specs.List.{starts_with};
 ghost use Rattle.c_chars.specs.Characters.{bytes_of};
 ghost use Rattle.c_grammar.specs.Grammar.{is_letter, is_letter_unit, is_word_unit, is_char_prefix, is_string_prefix};

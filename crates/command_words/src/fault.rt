@@ -8,7 +8,8 @@ use thiserror::Error;
 
 /// How the command is used, with the words that are built: the note on words that are not of its form.
 pub const USAGE: &str =
-    "usage: clang_format [--style S] [--lines L] [--states N] [-i] [--dry-run] [--Werror] [--dump-config] [--generate N:COUNT] [FILE ..]";
+    "usage: clang_format [--style S] [--lines L] [--states N] [-i] [--dry-run] [--Werror] \
+    [--dump-config] [--generate N:COUNT] [FILE ..]";
 
 /// Why words are refused. It is shown as the row that tells it.
 #[derive(Clone, Copy, Debug, PartialEq, Eq, Error)]

@@ -5,7 +5,8 @@
 
 ghost use Rattle.std.specs.Prelude.{◌≡◌, ◌++◌, IfOk, OnOk, map};
 ghost use Rattle.std.specs.List.{concat};
-ghost use Rattle.command_words.specs.Generated.{branch_parts, call_parts, function_parts, generated, macro_parts, parts_of, piece, value_of};
+ghost use Rattle.command_words.specs.Generated.{branch_parts, call_parts, function_parts, generated, macro_parts};
+ghost use Rattle.command_words.specs.Generated.{parts_of, piece, value_of};
 
 use itoa::Buffer;
 use std::alloc::{AllocError, Global};

@@ -1,6 +1,7 @@
 //! Reading the words: what they say, each by a small function.
 
-ghost use Rattle.std.specs.Prelude.{◌≡◌, ◌≢◌, ◌≤◌, ◌⊎◌, ◌↔◌, [], IfErr, IfOk, IsTrue, None, Some, codes, map, option_map, string_bytes, unwrap_or};
+ghost use Rattle.std.specs.Prelude.{◌≡◌, ◌≢◌, ◌≤◌, ◌⊎◌, ◌↔◌, [], IfErr, IfOk, IsTrue, None, Some, codes, map};
+ghost use Rattle.std.specs.Prelude.{option_map, string_bytes, unwrap_or};
 ghost use Rattle.clap.specs.Words.{first_value, found_of, kind_of, matched_of, raw_values, rows_of};
 ghost use Rattle.command_words.specs.Said.{Chooses, Reads, ReadsForm, ReadsOthers, SaysOrNot};
 ghost use Rattle.command_words.specs.Budget.{budget_of};

@@ -1,12 +1,14 @@
 //! The trailing comments of a view.
 
-ghost use Rattle.std.specs.Prelude.{◌≡◌, ◌∷◌, ◌+◌, ◌-◌, ◌++◌, ◌<◌, ◌≤◌, All, IfOk, IsSome, OnOk, Some, drop, get_or, length, map, slice_get, if◌then◌else◌, true};
+ghost use Rattle.std.specs.Prelude.{◌≡◌, ◌∷◌, ◌+◌, ◌-◌, ◌++◌, ◌<◌, ◌≤◌, All, IfOk, IsSome, OnOk, Some, drop, get_or};
+ghost use Rattle.std.specs.Prelude.{length, map, slice_get, if◌then◌else◌, true};
 ghost use Rattle.std.specs.Bool.{OnFalse};
 ghost use Rattle.style_table.specs.Range.{IsInRange};
 ghost use Rattle.line_tokens.specs.declared.LineTok.{LineTok};
 ghost use Rattle.line_tokens.specs.Roles.{is_trailing};
 ghost use Rattle.replacements.specs.Decisions.{decided, decided_all, slot_of};
-ghost use Rattle.comment_rows.specs.Comments.{column_behind, comment_at, comment_of, comments_in, comments_made, placed, placed_slot, row_of};
+ghost use Rattle.comment_rows.specs.Comments.{column_behind, comment_at, comment_of, comments_in, comments_made};
+ghost use Rattle.comment_rows.specs.Comments.{placed, placed_slot, row_of};
 ghost use Rattle.line_tokens.specs.Tokens.{no_token};
 
 use crate::rows::{end_of, first_start, is_next, start_by};

@@ -5,10 +5,12 @@ ghost use Rattle.std.specs.Io.KnownBytes.{Keeps};
 ghost use Rattle.fmt_ports.specs.Causes.{Rose};
 ghost use Rattle.fmt_ports.specs.Files.{KeepsAll};
 ghost use Rattle.style_table.specs.Range.{IsInRange};
-ghost use Rattle.format_cli.specs.Account.{EndsWell, IsNotPerformed, IsPerformedWith, IsRefused, outcome_of, outcome_status, place_of, world};
+ghost use Rattle.format_cli.specs.Account.{EndsWell, IsNotPerformed, IsPerformedWith, IsRefused, outcome_of};
+ghost use Rattle.format_cli.specs.Account.{outcome_status, place_of, world};
 ghost use Rattle.format_cli.specs.Causes.{IsRefusedFor};
 ghost use Rattle.format_cli.specs.Counts.{Counted, Faults};
-ghost use Rattle.format_cli.specs.Statuses.{AreBadWords, AsksWhetherChanged, HasNoStyle, HasRefusedInput, IsStatus, LacksName, LeavesFiles, LeavesOutput};
+ghost use Rattle.format_cli.specs.Statuses.{AreBadWords, AsksWhetherChanged, HasNoStyle, HasRefusedInput, IsStatus};
+ghost use Rattle.format_cli.specs.Statuses.{LacksName, LeavesFiles, LeavesOutput};
 ghost use Rattle.format_cli.specs.Order.{LacksRows, StopsWith};
 
 use crate::in_force::style_in_force;
@@ -138,7 +140,8 @@ fn run<'w, S: Source, K: Sink, E: Sink, F: Files>(
 /// keys of the configuration that no style has, and those of each input: of the lines that are reported, and with
 /// `--dry-run` or `--generate` its summary, which are told before its text is written.
 ///
-/// 0: all was done. 1: so it was, and a dry run with `--Werror` found a text that would change. 2: the words. 3: the style. 4: an input is past the limit or has a comment without an end.
+/// 0: all was done. 1: so it was, and a dry run with `--Werror` found a text that would change. 2: the words. 3: the
+/// style. 4: an input is past the limit or has a comment without an end.
 /// 5: a port failed. 6: a file isn't there. 7: memory ran out. Inputs before a refusal stay done.
 pub fn format_command<S: Source, K: Sink, E: Sink, F: Files>(
     alloc: Global,
@@ -150,7 +153,8 @@ pub fn format_command<S: Source, K: Sink, E: Sink, F: Files>(
 ) -> u8
     // All that the words ask for was done, in the style in force: each input has a formatted text, its twin that
     // preprocesses alike, which stands in its place; and the notes took the rows of the skipped keys and then those of
-    // each input. The status is 1 exactly where the words have `--dry-run` and `--Werror` and some input's text changes.
+    // each input. The status is 1 exactly where the words have `--dry-run` and `--Werror` and some input's text
+    // changes.
     ensures done { (result ≡ 0) ⊎ (result ≡ 1) → EndsWell (map string_bytes words.now) (world (S.left source.old) (K.taken out.old) (F.holds files.old) (E.taken notes.old)) (world (S.left source.new) (K.taken out.new) (F.holds files.new) (E.taken notes.new)) result }
 
     // What was done before a refusal, its cause, what the notes took, and the count that it raised: that of what its
@@ -161,8 +165,8 @@ pub fn format_command<S: Source, K: Sink, E: Sink, F: Files>(
     // 1 only where the words ask for it.
     ensures changed { result ≡ 1 → AsksWhetherChanged (map string_bytes words.now) }
 
-    // 2 exactly where the words aren't of the form, `--lines`, `--states` or `--generate` isn't in form, `-i` has no FILE
-    // without `--dump-config`, `--lines` has two FILEs or more, or `--generate` is given with a FILE, `-i` or
+    // 2 exactly where the words aren't of the form, `--lines`, `--states` or `--generate` isn't in form, `-i` has no
+    // FILE without `--dump-config`, `--lines` has two FILEs or more, or `--generate` is given with a FILE, `-i` or
     // `--dump-config`, want of memory aside.
     ensures usage { result ≡ 2 → AreBadWords (map string_bytes words.now) }
     ensures form { AreBadWords (map string_bytes words.now) → (result ≡ 2) ⊎ (result ≡ 7) }
@@ -170,13 +174,16 @@ pub fn format_command<S: Source, K: Sink, E: Sink, F: Files>(
     // 3 only for the style that the words choose: its name, its length or its fault.
     ensures style { result ≡ 3 → HasNoStyle (map string_bytes words.now) (F.holds files.old) 3 }
 
-    // 3, 4 and 6 always where names and bytes tell a first refusal of that status, a fault of a port and want of memory aside.
+    // 3, 4 and 6 always where names and bytes tell a first refusal of that status, a fault of a port and want of memory
+    // aside.
     ensures first { (status : ℕ) → StopsWith (map string_bytes words.now) (S.left source.old) (F.holds files.old) status → (result ≡ status) ⊎ (result ≡ 5) ⊎ (result ≡ 7) }
 
-    // 4 only for the text of an input: its size or a comment without an end. Where files are written it is the text that stands there at its turn (`refused`).
+    // 4 only for the text of an input: its size or a comment without an end. Where files are written it is the text
+    // that stands there at its turn (`refused`).
     ensures input { result ≡ 4 → LeavesFiles (map string_bytes words.now) → HasRefusedInput (map string_bytes words.now) (S.left source.old) (F.holds files.old) 4 }
 
-    // 5 only where a count of faults rose, and always where one is greater than at entry, but for the notes' while a refusal is told.
+    // 5 only where a count of faults rose, and always where one is greater than at entry, but for the notes' while a
+    // refusal is told.
     ensures failed { result ≡ 5 → Rose (S.faults source.old) (S.faults source.new) ⊎ Rose (K.faults out.old) (K.faults out.new) ⊎ Rose (E.faults notes.old) (E.faults notes.new) ⊎ Rose (F.faults files.old) (F.faults files.new) }
     ensures source_fault { S.faults source.old < S.faults source.new → result ≡ 5 }
     ensures out_fault { K.faults out.old < K.faults out.new → result ≡ 5 }
@@ -186,7 +193,8 @@ pub fn format_command<S: Source, K: Sink, E: Sink, F: Files>(
     // 5 where the notes don't take the rows of all skipped keys, want of memory aside.
     ensures skipped { LacksRows (map string_bytes words.now) (F.holds files.old) (E.taken notes.old) (E.taken notes.new) → (result ≡ 5) ⊎ (result ≡ 7) }
 
-    // With `-i`, `--dry-run` or `--generate` nothing goes to the output; without `-i`, and with `--dry-run`, no file is written. `--dump-config` goes before both.
+    // With `-i`, `--dry-run` or `--generate` nothing goes to the output; without `-i`, and with `--dry-run`, no file is
+    // written. `--dump-config` goes before both.
     ensures out_kept { LeavesOutput (map string_bytes words.now) → Keeps (K.taken out.old) (K.taken out.new) }
     ensures files_kept { LeavesFiles (map string_bytes words.now) → KeepsAll (F.holds files.old) (F.holds files.new) }
 

@@ -8,7 +8,8 @@ ghost use Rattle.style_config.specs.declared.TheConstants.{LIMIT as CONFIGURATIO
 ghost use Rattle.style_table.specs.Named.{named};
 ghost use Rattle.style_table.specs.Range.{IsInRange};
 ghost use Rattle.format_cli.specs.Counts.{Counted, Faults};
-ghost use Rattle.format_cli.specs.InForce.{Configures, IsConfigurationRefused, IsInForce, IsStyleRefused, lacking_refusal};
+ghost use Rattle.format_cli.specs.InForce.{Configures, IsConfigurationRefused, IsInForce, IsStyleRefused};
+ghost use Rattle.format_cli.specs.InForce.{lacking_refusal};
 ghost use Rattle.format_cli.specs.Notes.{skipped_row, skipped_rows};
 
 use crate::refusal::{Refusal, write_number, write_two};

@@ -9,7 +9,9 @@ ghost use Rattle.format_core.specs.TextOf.{text_of as laid_text};
 ghost use Rattle.format_cli.specs.Counts.{Counted, Faults};
 ghost use Rattle.format_cli.specs.Generated.{IsGeneratedDoneWith, IsGeneratedRefused, text_of};
 ghost use Rattle.format_cli.specs.InForce.{IsHeld};
-ghost use Rattle.format_cli.specs.Inputs.{AreDoneWith, AreRefused, IsDoneWith, IsFileCause, IsFileRefused, IsFormatted, IsSourceDoneWith, IsSourceRefused, IsTextCause, IsWriteRefused, SourcePutFails, SourcePuts, ends};
+ghost use Rattle.format_cli.specs.Inputs.{AreDoneWith, AreRefused, IsDoneWith, IsFileCause, IsFileRefused, IsFormatted};
+ghost use Rattle.format_cli.specs.Inputs.{IsSourceDoneWith, IsSourceRefused, IsTextCause, IsWriteRefused};
+ghost use Rattle.format_cli.specs.Inputs.{SourcePutFails, SourcePuts, ends};
 
 use crate::refusal::{GENERATED, Refusal, STANDARD_INPUT};
 use crate::summary::tell_input;

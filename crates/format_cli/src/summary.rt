@@ -3,7 +3,8 @@
 ghost use Rattle.std.specs.Prelude.{◌≡◌, ◌≤◌, ◌++◌, [], OnOk, codes};
 ghost use Rattle.std.specs.Io.KnownBytes.{Appends};
 ghost use Rattle.fmt_ports.specs.Causes.{AppendsPart, Counts as FaultCounts};
-ghost use Rattle.format_cli.specs.Notes.{change_word, cost_row, input_rows, lines_row, numbered_row, report_rows, summary_row};
+ghost use Rattle.format_cli.specs.Notes.{change_word, cost_row, input_rows, lines_row, numbered_row, report_rows};
+ghost use Rattle.format_cli.specs.Notes.{summary_row};
 
 use crate::input::Place;
 use crate::refusal::{write_number, write_two};

@@ -1,7 +1,8 @@
 //! Where the row of an unwrapped line starts, and how many empty lines stand before it.
 
 ghost use Rattle.std.specs.Prelude.{◌≡◌};
-ghost use Rattle.layout_tables.specs.Indents.{start_column, is_close, begins_with_close, opens_block, keeps_none, empty_lines};
+ghost use Rattle.layout_tables.specs.Indents.{start_column, is_close, begins_with_close, opens_block, keeps_none};
+ghost use Rattle.layout_tables.specs.Indents.{empty_lines};
 
 use line_tokens::{LineKind, LineTok, ULine};
 use style_table::Style;

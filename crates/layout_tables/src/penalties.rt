@@ -5,7 +5,9 @@
 
 ghost use Rattle.std.specs.Prelude.{◌≡◌, ◌<◌, ◌^◌, ◌==◌, ◌||◌, ◌&&◌, not, IsTrue};
 ghost use Rattle.line_tokens.specs.Roles.{is_own};
-ghost use Rattle.layout_tables.specs.Breaks.{ends_its_row, is_string, is_all, is_behind, is_never_first, is_never_last, is_assignment_gap, operator_side, ternary_side, break_by_table, cost_in, gap_rule};
+ghost use Rattle.layout_tables.specs.Breaks.{ends_its_row, is_string, is_all, is_behind, is_never_first, is_never_last};
+ghost use Rattle.layout_tables.specs.Breaks.{is_assignment_gap, operator_side, ternary_side, break_by_table, cost_in};
+ghost use Rattle.layout_tables.specs.Breaks.{gap_rule};
 
 use line_tokens::{ItemKind, LineTok, Role};
 use style_table::{BreakBeforeBinaryOperators, Style};

@@ -7,7 +7,8 @@ mod laws;
 
 ghost use Rattle.std.specs.Prelude.{◌≡◌, ◌≤◌};
 ghost use Rattle.style_table.specs.Range.{IsInRange};
-ghost use Rattle.layout_tables.specs.Spaces.{as_before, one_if, is_attached, is_line_comment, is_never, is_always, is_left, is_right, spaces_by_table, spaces_before};
+ghost use Rattle.layout_tables.specs.Spaces.{as_before, one_if, is_attached, is_line_comment, is_never, is_always};
+ghost use Rattle.layout_tables.specs.Spaces.{is_left, is_right, spaces_by_table, spaces_before};
 ghost use Rattle.layout_tables.specs.Told.{left_tells, right_tells};
 
 pub use laws::keeps_apart;

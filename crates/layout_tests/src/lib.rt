@@ -1,7 +1,8 @@
-//! What no contract says of the layers that lay out lines: worked rows by hand, each short line beside a search of every
-//! breaking, and that calls succeed with ample memory.
+//! What no contract says of the layers that lay out lines: worked rows by hand, each short line beside a search of
+//! every breaking, and that calls succeed with ample memory.
 //!
-//! The libraries have no tests of their own, so that they are proved once. All that is here speaks to their public calls.
+//! The libraries have no tests of their own, so that they are proved once. All that is here speaks to their public
+//! calls.
 //!
 //! - `fixtures`: what several of these are made of
 //! - `token_fixtures`: tokens by their roles, and steps from one token to the next

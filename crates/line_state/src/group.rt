@@ -35,8 +35,8 @@ pub struct Link {
 }
 
 /// Numbers, found by digests. A slot's chain goes from its last link back to its first one, and ends behind its last
-/// link, or at 0 where it has none. There are about as many slots as links, so that chains are short. A few links are on
-/// one chain without slots.
+/// link, or at 0 where it has none. There are about as many slots as links, so that chains are short. A few links are
+/// on one chain without slots.
 #[derive(Drop)]
 pub struct Group<'r> {
     /// For each slot where its chain ends.

@@ -1,9 +1,12 @@
 //! States with their frames in a store: the same steps, in which equal lists of frames are kept once.
 
-ghost use Rattle.std.specs.Prelude.{◌≡◌, ◌+◌, ◌*◌, ◌^◌, ◌<◌, ◌≤◌, ◌↔◌, ◌&&◌, not, nat_le, true, false, length, IfOk, IsTrue, IfNone, IfSome, OnSome};
+ghost use Rattle.std.specs.Prelude.{◌≡◌, ◌+◌, ◌*◌, ◌^◌, ◌<◌, ◌≤◌, ◌↔◌, ◌&&◌, not, nat_le, true, false, length, IfOk};
+ghost use Rattle.std.specs.Prelude.{IsTrue, IfNone, IfSome, OnSome};
 ghost use Rattle.line_state.specs.Brackets.{opens_frame};
 ghost use Rattle.style_table.specs.Range.{IsInRange};
-ghost use Rattle.line_state.specs.Layout.{AreRules, gap_before, is_allowed, spot_of, open_frames, placed_frame, placed_frames, frames_after, with_topmost, with_opened, layout_after, cost_of, cells_of, start_layout, start_of};
+ghost use Rattle.line_state.specs.Layout.{AreRules, gap_before, is_allowed, spot_of, open_frames, placed_frame};
+ghost use Rattle.line_state.specs.Layout.{placed_frames, frames_after, with_topmost, with_opened, layout_after};
+ghost use Rattle.line_state.specs.Layout.{cost_of, cells_of, start_layout, start_of};
 ghost use Rattle.line_state.specs.Store.{list_at, layout_in, IsIn, IsGrown, AreApart};
 
 use crate::frames::Frame;
@@ -85,8 +88,8 @@ fn spot_in(store: &FrameStore<'_>, state: &NodeState, gap: &Gap, left_open: u32)
 
 /// Whether the gap before `right` may break, where `brk`, or stay as it is. Takes no memory.
 ///
-/// Before the line's first token, which then stands for `left` too, a break is the one choice. A decided gap has its own
-/// choice.
+/// Before the line's first token, which then stands for `left` too, a break is the one choice. A decided gap has its
+/// own choice.
 pub fn allowed_in<'r>(
     store: &FrameStore<'r>,
     style: &Style,

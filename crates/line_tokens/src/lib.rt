@@ -1,6 +1,7 @@
 //! A token as the layout of a line sees it: its role, the gap before it and its widths.
 //!
-//! These are the types that the tables of spaces, breaks and joined lines look at, and unwrapped lines. They hold no text.
+//! These are the types that the tables of spaces, breaks and joined lines look at, and unwrapped lines. They hold no
+//! text.
 #![tactic(auto)]
 
 mod ends;

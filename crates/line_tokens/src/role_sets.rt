@@ -1,7 +1,12 @@
 //! Sets of roles: the tests that the tables of spaces, breaks and joined lines are made of.
 
 ghost use Rattle.std.specs.Prelude.{◌≡◌};
-ghost use Rattle.line_tokens.specs.Roles.{is_own, is_trailing, is_ctrl_open, is_cast_close, is_ctrl_close, is_list_open, is_list_close, is_block_open, is_block_close, is_decl_open, is_pointer, is_binary, is_assign, is_comma, is_decl_name, is_member, is_asm_colon, is_round_close, is_bracket_open, is_bracket_close, is_call_or_decl_open, is_ctrl_or_group_open, is_comma_or_semi, is_inner_or_stray, is_unary_or_prefix, is_member_or_desig_dot, is_ternary};
+ghost use Rattle.line_tokens.specs.Roles.{is_own, is_trailing, is_ctrl_open, is_cast_close, is_ctrl_close};
+ghost use Rattle.line_tokens.specs.Roles.{is_list_open, is_list_close, is_block_open, is_block_close, is_decl_open};
+ghost use Rattle.line_tokens.specs.Roles.{is_pointer, is_binary, is_assign, is_comma, is_decl_name, is_member};
+ghost use Rattle.line_tokens.specs.Roles.{is_asm_colon, is_round_close, is_bracket_open, is_bracket_close};
+ghost use Rattle.line_tokens.specs.Roles.{is_call_or_decl_open, is_ctrl_or_group_open, is_comma_or_semi};
+ghost use Rattle.line_tokens.specs.Roles.{is_inner_or_stray, is_unary_or_prefix, is_member_or_desig_dot, is_ternary};
 
 use crate::role::Role;
 

@@ -1,7 +1,8 @@
 //! The parts of a macro's body.
 
 ghost use Rattle.std.specs.Prelude.{◌≡◌, ℕ, Bool, false, List, [], ◌∷◌, ◌++◌, map, IfOk, Option, Some, option_map};
-ghost use Rattle.pp_model.specs.Define.{parts_of_body, paste_next, what_of, is_paste_before, is_item_before, ends_body, Nothing};
+ghost use Rattle.pp_model.specs.Define.{parts_of_body, paste_next, what_of, is_paste_before, is_item_before, ends_body};
+ghost use Rattle.pp_model.specs.Define.{Nothing};
 ghost use Rattle.pp_model.specs.Token.{Tok as Token, Name};
 ghost use Rattle.pp_events.specs.View.{tok_shown, what_shown, part_shown};
 ghost use Rattle.pp_directives.specs.DefineView.{before_shown, some_parts};

@@ -1,10 +1,12 @@
 //! What the directives of conditionals do (C11 6.10.1).
 
-ghost use Rattle.std.specs.Prelude.{◌≡◌, ℕ, Bool, true, false, List, [], ◌∷◌, ◌++◌, map, drop, IfOk, IfSome, Option, Some, None, option_map};
+ghost use Rattle.std.specs.Prelude.{◌≡◌, ℕ, Bool, true, false, List, [], ◌∷◌, ◌++◌, map, drop, IfOk, IfSome, Option};
+ghost use Rattle.std.specs.Prelude.{Some, None, option_map};
 ghost use Rattle.pp_model.specs.Token.{PpToken as Token};
 ghost use Rattle.pp_model.specs.Condition.{Cond as Conds, is_active};
 ghost use Rattle.pp_model.specs.Setting.{holds_in};
-ghost use Rattle.pp_model.specs.Preprocess.{World as Worlds, test, asked, begin_if, if_active, branch, entered, otherwise, endif, blame, left_open, finish};
+ghost use Rattle.pp_model.specs.Preprocess.{World as Worlds, test, asked, begin_if, if_active, branch, entered};
+ghost use Rattle.pp_model.specs.Preprocess.{otherwise, endif, blame, left_open, finish};
 ghost use Rattle.pp_events.specs.View.{tok_shown};
 ghost use Rattle.pp_directives.specs.CondView.{cond_shown};
 ghost use Rattle.pp_directives.specs.SettingView.{condition_shown};

@@ -1,7 +1,8 @@
 //! The parameters of a macro.
 
 ghost use Rattle.std.specs.Prelude.{◌≡◌, ℕ, List, ◌∷◌, ◌++◌, map, IfOk, Option, bytes_eq};
-ghost use Rattle.pp_model.specs.Define.{params_of, all_names, may_name, may_end, may_go_on, is_after_dots, index_of, param_of, AfterOpen};
+ghost use Rattle.pp_model.specs.Define.{params_of, all_names, may_name, may_end, may_go_on, is_after_dots, index_of};
+ghost use Rattle.pp_model.specs.Define.{param_of, AfterOpen};
 ghost use Rattle.pp_model.specs.Token.{Tok as Token};
 ghost use Rattle.pp_events.specs.View.{tok_shown};
 ghost use Rattle.pp_directives.specs.DefineView.{place_shown, params_read, listed_on};

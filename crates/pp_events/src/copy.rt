@@ -1,7 +1,8 @@
 //! Copies.
 
 ghost use Rattle.std.specs.Prelude.{◌≡◌, ℕ, List, [], ◌∷◌, ◌++◌, map, IfOk};
-ghost use Rattle.pp_events.specs.View.{shown, shown_tokens, shown_spaced, shown_spaceds, tokens_of, spaceds_of, tok_shown, toks_shown};
+ghost use Rattle.pp_events.specs.View.{shown, shown_tokens, shown_spaced, shown_spaceds, tokens_of, spaceds_of};
+ghost use Rattle.pp_events.specs.View.{tok_shown, toks_shown};
 
 use crate::token::{PpToken, PpTokens, Spaced, SpacedList, Tok};
 use std::alloc::{AllocError, Global};

@@ -2,9 +2,13 @@
 
 ghost use Rattle.std.specs.Prelude.{◌≡◌, ℕ, List, [], ◌∷◌, ◌++◌, map, IfOk, Option, option_map, flat_map, false};
 ghost use Rattle.pp_model.specs.Token.{Tok as Token, common, is_in};
-ghost use Rattle.pp_model.specs.Replace.{Piece, pieces, pieces_of, tokens_of, argument, parts_of, quoted, paste, paste_all, paste_from, join, kept, hidden, joined, lined, placed, free, two, pasted, joined_tokens, made, replacement};
+ghost use Rattle.pp_model.specs.Replace.{Piece, pieces, pieces_of, tokens_of, argument, parts_of, quoted, paste};
+ghost use Rattle.pp_model.specs.Replace.{paste_all, paste_from, join, kept, hidden, joined, lined, placed, free, two};
+ghost use Rattle.pp_model.specs.Replace.{pasted, joined_tokens, made, replacement};
 ghost use Rattle.pp_events.specs.Pasted.{item_shown, item_read};
-ghost use Rattle.pp_events.specs.View.{shown, shown_tokens, shown_spaceds, tok_shown, toks_shown, part_shown, piece_shown, shown_spaced, spaced_pairs, trimmed, what_shown, tokens_of as shown_list};
+ghost use Rattle.pp_events.specs.View.{shown, shown_tokens, shown_spaceds, tok_shown, toks_shown, part_shown};
+ghost use Rattle.pp_events.specs.View.{piece_shown, shown_spaced, spaced_pairs, trimmed, what_shown};
+ghost use Rattle.pp_events.specs.View.{tokens_of as shown_list};
 
 use crate::Spellings;
 use crate::copy::{

@@ -4,7 +4,8 @@ ghost use Rattle.std.specs.Prelude.{◌≡◌, ◌==◌, ◌≤◌, length, IsTr
 ghost use Rattle.replacements.specs.declared.guard.Guard.TheVariants.{Free};
 ghost use Rattle.c_grammar.specs.Touch.{ends, takes_line};
 ghost use Rattle.token_arena.specs.Entries.{told_by};
-ghost use Rattle.replacements.specs.Guards.{guard_before, guard_for, guard_of, guard_text, guarded_ends, is_behind_backslash};
+ghost use Rattle.replacements.specs.Guards.{guard_before, guard_for, guard_of, guard_text, guarded_ends};
+ghost use Rattle.replacements.specs.Guards.{is_behind_backslash};
 
 use crate::Decision;
 use c_grammar::ItemKind;

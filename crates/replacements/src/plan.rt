@@ -154,7 +154,8 @@ impl<'a> Plan<'a> {
         entries[place as usize].slot()
     }
 
-    /// Where the item behind a decided gap starts, and whether a line ends in the gap. The plan is of this arena's text.
+    /// Where the item behind a decided gap starts, and whether a line ends in the gap. The plan is of this arena's
+    /// text.
     pub fn fixed_of(&self, arena: &TokenArena<'_, '_>, place: u32) -> Option<Fixed>
         requires fits { length arena.now.text ≤ LIMIT }
         requires whole { length self.now ≡ length arena.now.tokens + 1 }

@@ -1,6 +1,7 @@
 //! The text of a plan.
 
-ghost use Rattle.std.specs.Prelude.{◌≡◌, ◌==◌, ◌&&◌, ◌<◌, ◌≤◌, ◌+◌, ◌++◌, List, ℕ, length, drop, OnOk, false, if◌then◌else◌};
+ghost use Rattle.std.specs.Prelude.{◌≡◌, ◌==◌, ◌&&◌, ◌<◌, ◌≤◌, ◌+◌, ◌++◌, List, ℕ, length, drop, OnOk, false};
+ghost use Rattle.std.specs.Prelude.{if◌then◌else◌};
 ghost use Rattle.std.specs.Io.KnownBytes.{Appends};
 ghost use Rattle.c_chars.specs.Characters.{mark_len};
 ghost use Rattle.token_arena.specs.declared.directives.Section.{Section};
@@ -9,7 +10,8 @@ ghost use Rattle.token_arena.specs.Entries.{told_by};
 ghost use Rattle.token_arena.specs.Gaps.{gap_start, Stands, StandFrom};
 ghost use Rattle.replacements.specs.Guards.{guard_before, guarded_text};
 ghost use Rattle.replacements.specs.Stances.{stance_in, hash_comes, IsAt, IsKnown};
-ghost use Rattle.replacements.specs.Written.{bytes_between, decision_at, first_gap, is_of_text, is_old, laid_gap, mark_bytes, planned_gap, written, written_from};
+ghost use Rattle.replacements.specs.Written.{bytes_between, decision_at, first_gap, is_of_text, is_old, laid_gap};
+ghost use Rattle.replacements.specs.Written.{mark_bytes, planned_gap, written, written_from};
 ghost use Rattle.replacements.specs.declared.guard.Guard.TheVariants.{Free};
 
 use crate::guard::{Guard, guard_before, guard_for, guard_text, guarded_ends};

@@ -1,6 +1,7 @@
 //! Lines that are broken.
 
-ghost use Rattle.std.specs.Prelude.{◌≡◌, ◌||◌, ◌+◌, ◌<◌, ◌≤◌, ◌^◌, ◌∷◌, All, IfOk, IsTrue, None, OnOk, Some, length, map, get_or, replicate, slice_get, if◌then◌else◌};
+ghost use Rattle.std.specs.Prelude.{◌≡◌, ◌||◌, ◌+◌, ◌<◌, ◌≤◌, ◌^◌, ◌∷◌, All, IfOk, IsTrue, None, OnOk, Some, length};
+ghost use Rattle.std.specs.Prelude.{map, get_or, replicate, slice_get, if◌then◌else◌};
 ghost use Rattle.style_table.specs.Range.{IsInRange};
 ghost use Rattle.token_classes.specs.Viewed.{AreWithin, classes_of};
 ghost use Rattle.line_state.specs.Layout.{is_some_decision};
@@ -10,7 +11,8 @@ ghost use Rattle.break_search.specs.Starts.{IsAdmissible, starts_of};
 ghost use Rattle.layout_tables.specs.Indents.{start_column};
 ghost use Rattle.replacements.specs.Decisions.{decided, decided_all, slot_of};
 ghost use Rattle.line_tokens.specs.declared.LineTok.{LineTok};
-ghost use Rattle.run_layout.specs.Broken.{decision_by, empty_inside, first_made, fixed_of_token, inside_made, number, waits};
+ghost use Rattle.run_layout.specs.Broken.{decision_by, empty_inside, first_made, fixed_of_token, inside_made, number};
+ghost use Rattle.run_layout.specs.Broken.{waits};
 
 use crate::first::decide_first;
 use crate::row::token_at;

@@ -3,7 +3,8 @@
 ghost use Rattle.std.specs.Prelude.{◌≡◌, ◌<◌, ◌+◌, length, get_or};
 ghost use Rattle.token_classes.specs.Viewed.{AreWithin, classes_of};
 ghost use Rattle.replacements.specs.Decisions.{decided};
-ghost use Rattle.run_layout.specs.Rows.{item_before, row_token, first_role, opens_before, empty_rows, first_of_line, first_decision};
+ghost use Rattle.run_layout.specs.Rows.{item_before, row_token, first_role, opens_before, empty_rows, first_of_line};
+ghost use Rattle.run_layout.specs.Rows.{first_decision};
 ghost use Rattle.run_layout.specs.Broken.{first_slot};
 
 use crate::columns::start_behind;

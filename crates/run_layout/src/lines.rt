@@ -157,8 +157,8 @@ fn is_line_decided(
     is_decided(layout.arena, layout.view, line, plan, segment)
 }
 
-/// Lays out a line: decides its open gaps, and tells what came of it. `segment` is the number of the view's segment that
-/// was looked into last.
+/// Lays out a line: decides its open gaps, and tells what came of it. `segment` is the number of the view's segment
+/// that was looked into last.
 fn lay_out_line(
     layout: &ViewLayout<'_>,
     line: &ULine,
@@ -187,8 +187,8 @@ fn lay_out_line(
     lay_out_searched(layout, line, cursor, plan, run)
 }
 
-/// Lays out the lines of a run: decides the gap before each item of a view, which these lines cut, where it is open. What
-/// came of them is noted.
+/// Lays out the lines of a run: decides the gap before each item of a view, which these lines cut, where it is open.
+/// What came of them is noted.
 pub fn lay_out_lines(
     layout: &ViewLayout<'_>,
     number: u32,

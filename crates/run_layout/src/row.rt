@@ -1,6 +1,7 @@
 //! Lines that stay on one row. They need no search, and take no memory.
 
-ghost use Rattle.std.specs.Prelude.{◌≡◌, ◌+◌, ◌<◌, ◌≤◌, ◌^◌, All, IsTrue, None, Some, drop, get_or, length, slice_get, if◌then◌else◌};
+ghost use Rattle.std.specs.Prelude.{◌≡◌, ◌+◌, ◌<◌, ◌≤◌, ◌^◌, All, IsTrue, None, Some, drop, get_or, length, slice_get};
+ghost use Rattle.std.specs.Prelude.{if◌then◌else◌};
 ghost use Rattle.line_tokens.specs.Roles.{is_trailing};
 ghost use Rattle.style_table.specs.Range.{IsInRange};
 ghost use Rattle.line_state.specs.Brackets.{opens_frame};

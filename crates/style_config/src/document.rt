@@ -3,7 +3,8 @@ ghost use Rattle.std.specs.Prelude.{◌≡◌, ◌≤◌, ◌++◌, ◌∷◌, [
 ghost use Rattle.std.specs.List.{position_or_len};
 ghost use Rattle.std.specs.Option.{option_map};
 ghost use Rattle.style_table.specs.Range.{IsInRange};
-ghost use Rattle.style_config.specs.Lines.{base_after, based_on, document_text, documents_for_c, documents_text, is_for_c, is_language_of_c, is_marker, line_text, value_at};
+ghost use Rattle.style_config.specs.Lines.{base_after, based_on, document_text, documents_for_c, documents_text};
+ghost use Rattle.style_config.specs.Lines.{is_for_c, is_language_of_c, is_marker, line_text, value_at};
 
 use crate::line::{Line, NumberedLine};
 use std::alloc::{AllocError, Global};

@@ -3,7 +3,8 @@ ghost use Rattle.std.specs.Prelude.{◌≡◌};
 ghost use Rattle.std.specs.Option.{option_map};
 ghost use Rattle.style_config.specs.Texts.{pair_of};
 ghost use Rattle.style_config.specs.Lines.{document_text, line_text};
-ghost use Rattle.style_config.specs.Entries.{begins_nested, has_width, inner_item, is_malformed, is_nested, item_of, item_text, outer_name, outer_of, owner_after, owner_of};
+ghost use Rattle.style_config.specs.Entries.{begins_nested, has_width, inner_item, is_malformed, is_nested, item_of};
+ghost use Rattle.style_config.specs.Entries.{item_text, outer_name, outer_of, owner_after, owner_of};
 
 use crate::line::{Line, NumberedLine};
 use crate::pair::pair_of;

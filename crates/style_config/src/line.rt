@@ -1,7 +1,8 @@
 // The lines of a configuration, with their numbers.
 ghost use Rattle.std.specs.Prelude.{◌≡◌, ◌≤◌, ◌^◌, length, map, IfOk};
 ghost use Rattle.std.specs.Option.{option_map};
-ghost use Rattle.style_config.specs.Lines.{belongs_to_key, document_text, is_mark, is_passed_over, line_of, line_text, lines_in};
+ghost use Rattle.style_config.specs.Lines.{belongs_to_key, document_text, is_mark, is_passed_over, line_of, line_text};
+ghost use Rattle.style_config.specs.Lines.{lines_in};
 
 use crate::pair::{Pair, pair_of};
 use crate::text::{blanks_of, without_first_blanks, without_last_blanks};

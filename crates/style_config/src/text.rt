@@ -1,7 +1,9 @@
 // The parts of a line: blanks, comments, quotes, keys and values.
 ghost use Rattle.std.specs.Prelude.{◌≡◌, ◌≤◌, ◌<◌, drop, length};
 ghost use Rattle.std.specs.List.{prefix_len};
-ghost use Rattle.style_config.specs.Texts.{begins_comment, blanks_of, is_blank, is_key_byte, is_quoted, without_comment, without_first_blanks, without_last_blanks, without_quotes, written_of};
+ghost use Rattle.style_config.specs.Texts.{begins_comment, blanks_of, is_blank, is_key_byte, is_quoted};
+ghost use Rattle.style_config.specs.Texts.{without_comment, without_first_blanks, without_last_blanks, without_quotes};
+ghost use Rattle.style_config.specs.Texts.{written_of};
 
 /// A blank or a tab.
 pub(crate) fn is_blank(byte: u8) -> bool

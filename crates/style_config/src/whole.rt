@@ -4,7 +4,8 @@ ghost use Rattle.std.specs.Option.{option_map};
 ghost use Rattle.style_table.specs.Range.{IsInRange};
 ghost use Rattle.style_config.specs.Lines.{base_of, document_text, documents_text};
 ghost use Rattle.style_config.specs.Entries.{item_text, items_of, setting_text};
-ghost use Rattle.style_config.specs.Reading.{Gives, Notes, before_given, key_paths, path_of, read_documents, read_given, read_items};
+ghost use Rattle.style_config.specs.Reading.{Gives, Notes, before_given, key_paths, path_of, read_documents};
+ghost use Rattle.style_config.specs.Reading.{read_given, read_items};
 
 use crate::ConfigFault;
 use crate::document::base_after;

@@ -150,8 +150,8 @@ pub const KEYS: [Key; 46] = [
     Key::PenaltyReturnTypeOnItsOwnLine,
 ];
 
-/// How each key is spelled, in the order of `Key`: the key that it stands under, empty where it stands under none, and its
-/// own part.
+/// How each key is spelled, in the order of `Key`: the key that it stands under, empty where it stands under none, and
+/// its own part.
 const SPELLINGS: &[(&str, &str)] = &[
     ("", "ColumnLimit"),
     ("", "IndentWidth"),

@@ -4,7 +4,14 @@
 //! their values, and last those of older configurations.
 
 ghost use Rattle.std.specs.Prelude.{◌≡◌, ◌≤◌, length, map};
-ghost use Rattle.style_table.specs.Words.{value_in, bool_word, bool_words, use_tab_word, break_before_braces_word, brace_wrapping_after_control_statement_word, pointer_alignment_word, space_before_parens_word, align_after_open_bracket_word, break_before_binary_operators_word, indent_pp_directives_word, allow_short_functions_on_a_single_line_word, allow_short_if_statements_on_a_single_line_word, allow_short_blocks_on_a_single_line_word, align_escaped_newlines_word, align_trailing_comments_kind_word, line_ending_word};
+ghost use Rattle.style_table.specs.Words.{value_in, bool_word, bool_words, use_tab_word, break_before_braces_word};
+ghost use Rattle.style_table.specs.Words.{brace_wrapping_after_control_statement_word, pointer_alignment_word};
+ghost use Rattle.style_table.specs.Words.{space_before_parens_word, align_after_open_bracket_word};
+ghost use Rattle.style_table.specs.Words.{break_before_binary_operators_word, indent_pp_directives_word};
+ghost use Rattle.style_table.specs.Words.{allow_short_functions_on_a_single_line_word};
+ghost use Rattle.style_table.specs.Words.{allow_short_if_statements_on_a_single_line_word};
+ghost use Rattle.style_table.specs.Words.{allow_short_blocks_on_a_single_line_word, align_escaped_newlines_word};
+ghost use Rattle.style_table.specs.Words.{align_trailing_comments_kind_word, line_ending_word};
 
 use crate::style::{
     AlignAfterOpenBracket, AlignEscapedNewlines, AlignTrailingCommentsKind,

@@ -1,4 +1,5 @@
-//! Tests of the ports, of styles and configurations, of the words of the command, and of the text that one of them makes.
+//! Tests of the ports, of styles and configurations, of the words of the command, and of the text that one of them
+//! makes.
 //!
 //! - `ports`: the ends in memory and those of the process, which fail and end where they should.
 //! - `named_styles`: the five named styles, and the values that keys take.

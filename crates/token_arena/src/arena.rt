@@ -1,6 +1,7 @@
 //! The store of items, and what it answers.
 
-ghost use Rattle.std.specs.Prelude.{◌≡◌, ◌==◌, ◌<◌, ◌≤◌, ◌+◌, ◌^◌, length, take, drop, Some, get_or, slice_get, if◌then◌else◌};
+ghost use Rattle.std.specs.Prelude.{◌≡◌, ◌==◌, ◌<◌, ◌≤◌, ◌+◌, ◌^◌, length, take, drop, Some, get_or, slice_get};
+ghost use Rattle.std.specs.Prelude.{if◌then◌else◌};
 ghost use Rattle.c_chars.specs.Characters.{mark_len};
 ghost use Rattle.c_chars.specs.declared.TheConstants.{LIMIT};
 ghost use Rattle.token_arena.specs.Gaps.{gap_of, gap_start, gap_end, joined, StandFrom};
@@ -41,7 +42,8 @@ impl Token<'_> {
         rows_of(self.item.raw)
     }
 
-    /// The physical line on which it begins, from 1. The new-lines before it are counted at each call, as its rows are read.
+    /// The physical line on which it begins, from 1. The new-lines before it are counted at each call, as its rows are
+    /// read.
     pub fn line(&self) -> usize
         ensures { result ≡ (told_by self.now).line }
     {

@@ -129,8 +129,8 @@ fn is_each_printable(row: &[u8]) -> bool
     true
 }
 
-/// Whether each byte is told to be a printable character of ASCII: where there are eight and more, eight at a time, with
-/// the last eight once more for those that are left behind the others.
+/// Whether each byte is told to be a printable character of ASCII: where there are eight and more, eight at a time,
+/// with the last eight once more for those that are left behind the others.
 #[inline(never)]
 pub(crate) fn looks_printable(row: &[u8]) -> bool
     ensures { IsTrue result → IsTrue (list_all (is_in_range 0x20 0x7E) row.now) }

@@ -3,7 +3,8 @@
 //! A [`View`] is an increasing list of items. It is kept as segments, one for each unbroken stretch of
 //! items, so its memory grows with the directives of a text and not with its items.
 
-ghost use Rattle.std.specs.Prelude.{◌≡◌, ◌≢◌, ◌<◌, ◌≤◌, ◌+◌, ◌-◌, ◌↔◌, ℕ, All, map, length, get_or, min, slice_range, IsTrue, IfOk};
+ghost use Rattle.std.specs.Prelude.{◌≡◌, ◌≢◌, ◌<◌, ◌≤◌, ◌+◌, ◌-◌, ◌↔◌, ℕ, All, map, length, get_or, min, slice_range};
+ghost use Rattle.std.specs.Prelude.{IsTrue, IfOk};
 ghost use Rattle.std.specs.Bool.{OnTrue};
 ghost use Rattle.std.specs.List.{range_with_len};
 ghost use Rattle.token_arena.specs.Segments.{segment_bounds, ids_of, AreSegments, HasPlace, AscendFrom, bounds_of};

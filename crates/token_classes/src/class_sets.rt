@@ -1,7 +1,12 @@
 //! Sets of classes: the tests that statements are told apart by.
 
 ghost use Rattle.std.specs.Prelude.{◌≡◌};
-ghost use Rattle.token_classes.specs.Classes.{is_word, is_plain, is_control, is_opener, is_bracket, is_before_list, is_assigning, is_capital, is_if, is_else, is_while, is_do, is_switch, is_case, is_default, is_struct, is_union, is_enum, is_extern, is_call_word, is_open_round, is_close_round, is_open_brace, is_close_brace, is_colon, is_semicolon, is_comma, is_question, is_text, is_comment, is_line_comment};
+ghost use Rattle.token_classes.specs.Classes.{is_word, is_plain, is_control, is_opener, is_bracket, is_before_list};
+ghost use Rattle.token_classes.specs.Classes.{is_assigning, is_capital, is_if, is_else, is_while, is_do, is_switch};
+ghost use Rattle.token_classes.specs.Classes.{is_case, is_default, is_struct, is_union, is_enum, is_extern};
+ghost use Rattle.token_classes.specs.Classes.{is_call_word, is_open_round, is_close_round, is_open_brace};
+ghost use Rattle.token_classes.specs.Classes.{is_close_brace, is_colon, is_semicolon, is_comma, is_question, is_text};
+ghost use Rattle.token_classes.specs.Classes.{is_comment, is_line_comment};
 
 use crate::class::TokenClass;
 

@@ -1,9 +1,11 @@
 //! Partners of brackets, found with a stack of the openers that wait.
 
-ghost use Rattle.std.specs.Prelude.{◌≡◌, ◌∷◌, [], ◌++◌, ◌<◌, ◌≤◌, ◌+◌, ◌^◌, reverse, IfOk, Option, Some, None, IfSome, IfNone, MatchOption, length, ℕ, All, OnOk, slice_set};
+ghost use Rattle.std.specs.Prelude.{◌≡◌, ◌∷◌, [], ◌++◌, ◌<◌, ◌≤◌, ◌+◌, ◌^◌, reverse, IfOk, Option, Some, None, IfSome};
+ghost use Rattle.std.specs.Prelude.{IfNone, MatchOption, length, ℕ, All, OnOk, slice_set};
 ghost use Rattle.std.specs.Option.{ForSome, ForNone};
 ghost use Rattle.token_classes.specs.Viewed.{AreWithin, classes_of};
-ghost use Rattle.token_classes.specs.Partners.{partners_of, count_braces, nearest_brace, topmost, is_round, is_square, bracket_step, matching_of, paired, TakesStep, StandBefore};
+ghost use Rattle.token_classes.specs.Partners.{partners_of, count_braces, nearest_brace, topmost, is_round, is_square};
+ghost use Rattle.token_classes.specs.Partners.{bracket_step, matching_of, paired, TakesStep, StandBefore};
 
 use crate::partner::Partner;
 use crate::{TokenClass, classes};

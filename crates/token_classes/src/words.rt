@@ -3,7 +3,8 @@
 ghost use Rattle.std.specs.Prelude.{◌≡◌, ◌∷◌, [], nat_eq, codes, filter, map};
 ghost use Rattle.std.specs.List.{ends_with, list_any};
 ghost use Rattle.std.specs.Char.{is_ascii_lowercase};
-ghost use Rattle.token_classes.specs.Words.{class_in, words, begins, is_in_capitals, named_class, word_class, punctuators};
+ghost use Rattle.token_classes.specs.Words.{class_in, words, begins, is_in_capitals, named_class, word_class};
+ghost use Rattle.token_classes.specs.Words.{punctuators};
 ghost use Rattle.token_classes.specs.declared.class.TokenClass.TheVariants.{Other};
 
 use crate::class::TokenClass;

@@ -5,7 +5,8 @@
 
 ghost use Rattle.std.specs.Prelude.{◌≡◌, ◌==◌};
 ghost use Rattle.touching.specs.declared.edge.Edge.TheVariants.{Quiet};
-ghost use Rattle.touching.specs.Edges.{is_name_byte, is_number_byte, is_operator, byte_edge, punct_edge, begins_with, known, edge_of, touch_of};
+ghost use Rattle.touching.specs.Edges.{is_name_byte, is_number_byte, is_operator, byte_edge, punct_edge, begins_with};
+ghost use Rattle.touching.specs.Edges.{known, edge_of, touch_of};
 
 use line_tokens::ItemKind;
 

@@ -3,7 +3,8 @@
 ghost use Rattle.std.specs.Prelude.{◌≡◌, ◌==◌, ◌<◌, ◌&&◌, ◌||◌, ◌∷◌, [], codes, length, map, IfSome};
 ghost use Rattle.std.specs.List.{list_any};
 ghost use Rattle.c_grammar.specs.Grammar.{is_of, is_sign};
-ghost use Rattle.c_grammar.specs.Touch.{is_front, is_identifier, is_number, is_other_kind, is_punct, may_touch, punct_goes_on, takes_line, word_by_word};
+ghost use Rattle.c_grammar.specs.Touch.{is_front, is_identifier, is_number, is_other_kind, is_punct, may_touch};
+ghost use Rattle.c_grammar.specs.Touch.{punct_goes_on, takes_line, word_by_word};
 ghost use Rattle.touching.specs.Near.{is_plain, pair_goes_on, seconds, thirds};
 ghost use Rattle.touching.specs.Spelling.{spelling};
 
@@ -140,7 +141,8 @@ fn punct_goes_on(dialect: Dialect, left: ItemKind, raw: &[u8], right: u8) -> Opt
     None
 }
 
-/// Whether two items may touch, of these kinds and with these bytes, where their first bytes tell it, as those of most do.
+/// Whether two items may touch, of these kinds and with these bytes, where their first bytes tell it, as those of most
+/// do.
 ///
 /// Where they don't, [`may_touch`](crate::may_touch) tells it.
 #[inline(always)]

@@ -4,7 +4,9 @@ ghost use Rattle.std.specs.Prelude.{◌≡◌, ◌==◌, ◌≤◌, ◌++◌, �
 ghost use Rattle.std.specs.List.{list_any};
 ghost use Rattle.c_chars.specs.declared.TheConstants.{LIMIT};
 ghost use Rattle.c_grammar.specs.Grammar.{is_of, is_letter, is_sign, is_string_prefix, common_punctuators};
-ghost use Rattle.c_grammar.specs.Touch.{starts, first_of, is_front, is_identifier, is_literal, is_number, is_other_kind, is_punct, may_touch, number_goes_on, point_by_number, prefix_by_quote, punct_goes_on, takes_line, trigraph_comes, word_by_word};
+ghost use Rattle.c_grammar.specs.Touch.{starts, first_of, is_front, is_identifier, is_literal, is_number};
+ghost use Rattle.c_grammar.specs.Touch.{is_other_kind, is_punct, may_touch, number_goes_on, point_by_number};
+ghost use Rattle.c_grammar.specs.Touch.{prefix_by_quote, punct_goes_on, takes_line, trigraph_comes, word_by_word};
 ghost use Rattle.std.specs.Option.{option_to_list};
 ghost use Rattle.touching.specs.Spelling.{spelling};
 
@@ -180,8 +182,8 @@ fn trigraph_comes(dialect: Dialect, left: &Item<'_>, right: &Item<'_>) -> bool
 
 /// Whether two items may stand side by side with nothing between them (docs/DEFINITIONS.md, "Items that may touch").
 ///
-/// Their bytes are at most [`LIMIT`], as those of every item of a text. Ask [`near_touch`](crate::near_touch) first, which
-/// is told most answers by the first bytes.
+/// Their bytes are at most [`LIMIT`], as those of every item of a text. Ask [`near_touch`](crate::near_touch) first,
+/// which is told most answers by the first bytes.
 #[inline(never)]
 pub fn may_touch(dialect: Dialect, left: &Item<'_>, right: &Item<'_>) -> bool
     requires left { length left.now.raw.now ≤ LIMIT }

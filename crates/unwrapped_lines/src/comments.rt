@@ -1,9 +1,11 @@
 //! Where the lines of a view with its comments begin.
 
-ghost use Rattle.std.specs.Prelude.{◌≡◌, ◌<◌, ◌≤◌, ◌+◌, ◌^◌, ◌++◌, false, drop, length, IfOk, IfSome, Some, List, slice_get, ℕ};
+ghost use Rattle.std.specs.Prelude.{◌≡◌, ◌<◌, ◌≤◌, ◌+◌, ◌^◌, ◌++◌, false, drop, length, IfOk, IfSome, Some, List};
+ghost use Rattle.std.specs.Prelude.{slice_get, ℕ};
 ghost use Rattle.unwrapped_lines.specs.declared.part.Part.{Part};
 ghost use Rattle.unwrapped_lines.specs.declared.part.Run.TheVariants.{Apart};
-ghost use Rattle.unwrapped_lines.specs.Comments.{token_follows, between_at, is_between, new_begin, next_marks, begins_from, no_marks, list_of, begins_line, inner_run};
+ghost use Rattle.unwrapped_lines.specs.Comments.{token_follows, between_at, is_between, new_begin, next_marks};
+ghost use Rattle.unwrapped_lines.specs.Comments.{begins_from, no_marks, list_of, begins_line, inner_run};
 
 use crate::line::Line;
 use crate::part::{Begin, Marks, Part, Run};
@@ -204,7 +206,8 @@ fn pass_tokens(lines: &[Line], total: usize, end_level: u32, parts: &[Part], fro
     Walk { index, marks }
 }
 
-/// The line whose first token stands at a place, as nearly every line begins: no inner comments before it have begun it.
+/// The line whose first token stands at a place, as nearly every line begins: no inner comments before it have begun
+/// it.
 #[inline(always)]
 fn starting(lines: &[Line], total: usize, end_level: u32, part: Part, marks: Marks) -> Option<Line>
     ensures begin { IfSome result (λ line. (k : ℕ) → (ps : List Part) → new_begin (record { lines = lines.now; total = total; end_level = end_level }) k part ps marks ≡ Some (record { first = k; level = line.level; kind = line.kind })) }

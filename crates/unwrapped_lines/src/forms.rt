@@ -1,6 +1,7 @@
 //! The cases of a statement: what line begins at a place, where it ends, and what it leaves open.
 
-ghost use Rattle.std.specs.Prelude.{◌≡◌, ◌<◌, ◌≤◌, ◌+◌, ◌-◌, ◌*◌, ◌^◌, length, slice_get, Some, None, IfSome, true, false, ℕ};
+ghost use Rattle.std.specs.Prelude.{◌≡◌, ◌<◌, ◌≤◌, ◌+◌, ◌-◌, ◌*◌, ◌^◌, length, slice_get, Some, None, IfSome, true};
+ghost use Rattle.std.specs.Prelude.{false, ℕ};
 ghost use Rattle.unwrapped_lines.specs.declared.form.Next.TheVariants.{Ends, Opens};
 ghost use Rattle.unwrapped_lines.specs.declared.open.Context.TheVariants.{Code, File};
 ghost use Rattle.line_tokens.specs.declared.line.LineKind.TheVariants.{ExternHead};
@@ -8,7 +9,14 @@ ghost use Rattle.unwrapped_lines.specs.declared.open.Head.TheVariants.{Plain};
 ghost use Rattle.std.specs.Bool.{OnTrue, OnFalse};
 ghost use Rattle.token_classes.specs.Classes.{is_open_brace};
 ghost use Rattle.unwrapped_lines.specs.Colons.{AreCaseColons};
-ghost use Rattle.unwrapped_lines.specs.Forms.{class_at, seen, partner_in, after_group, step_over, block_end, began_at, touched_at, has_no_partner, case_colon, enumerator_end, class_before, opens_list, statement_stop, call_opener, tag_before, block_at, label_form, goto_level, label, header_end, head_of, label_level, control_block, control_form, tail_end, ends_macro, macro_end, tagged_kind, wraps_tagged, tagged_context, tagged_head, behind_close, kind_or_close, is_member_word, other_form, unlabelled, statement, close_form, form_of, StaysIn, IsLow};
+ghost use Rattle.unwrapped_lines.specs.Forms.{class_at, seen, partner_in, after_group, step_over, block_end, began_at};
+ghost use Rattle.unwrapped_lines.specs.Forms.{touched_at, has_no_partner, case_colon, enumerator_end, class_before};
+ghost use Rattle.unwrapped_lines.specs.Forms.{opens_list, statement_stop, call_opener, tag_before, block_at};
+ghost use Rattle.unwrapped_lines.specs.Forms.{label_form, goto_level, label, header_end, head_of, label_level};
+ghost use Rattle.unwrapped_lines.specs.Forms.{control_block, control_form, tail_end, ends_macro, macro_end};
+ghost use Rattle.unwrapped_lines.specs.Forms.{tagged_kind, wraps_tagged, tagged_context, tagged_head, behind_close};
+ghost use Rattle.unwrapped_lines.specs.Forms.{kind_or_close, is_member_word, other_form, unlabelled, statement};
+ghost use Rattle.unwrapped_lines.specs.Forms.{close_form, form_of, StaysIn, IsLow};
 
 use crate::braces::Braces;
 use crate::form::{Form, Next};

@@ -1,7 +1,8 @@
 //! Open lists of statements.
 
 ghost use Rattle.std.specs.Prelude.{◌≡◌};
-ghost use Rattle.unwrapped_lines.specs.Forms.{is_code, is_enumerators, is_switch_head, is_if_head, is_do_head, is_tagged};
+ghost use Rattle.unwrapped_lines.specs.Forms.{is_code, is_enumerators, is_switch_head, is_if_head, is_do_head};
+ghost use Rattle.unwrapped_lines.specs.Forms.{is_tagged};
 
 /// What a list holds.
 #[derive(Clone, Copy, PartialEq, Eq)]

@@ -4,7 +4,8 @@ ghost use Rattle.std.specs.Prelude.{◌≡◌, ◌<◌, ◌≤◌, ◌+◌, ◌-
 ghost use Rattle.std.specs.Bool.{OnFalse, OnTrue};
 ghost use Rattle.token_classes.specs.Classes.{is_open_brace};
 ghost use Rattle.token_classes.specs.declared.class.TokenClass.TheVariants.{Nothing};
-ghost use Rattle.unwrapped_lines.specs.Forms.{enumerator_end, statement_stop, call_opener, tag_before, behind, partner_of, opens_block, assigns, is_member_word, enum_or, class_at};
+ghost use Rattle.unwrapped_lines.specs.Forms.{enumerator_end, statement_stop, call_opener, tag_before, behind};
+ghost use Rattle.unwrapped_lines.specs.Forms.{partner_of, opens_block, assigns, is_member_word, enum_or, class_at};
 
 use crate::form::Stop;
 use crate::lookups::{class_at, opens_list, step_over};

@@ -70,8 +70,8 @@ fn lay_section(
     }
 }
 
-/// Decides the gaps before and inside all directives of a text, of which these are the sections. What was decided before
-/// stays.
+/// Decides the gaps before and inside all directives of a text, of which these are the sections. What was decided
+/// before stays.
 ///
 /// `docs/PROFILE.md` says under "Layout of directives" what stands in each gap. Time is linear in the items of the
 /// directives and the sections, and what one directive takes of memory serves the next one too. Want of memory is the

@@ -185,8 +185,8 @@ fn write_through<'k, T: Stream, K: Sink, B: Behind>(
 }
 
 /// Writes a text in pieces of [`PIECE`](crate::PIECE) bytes, however small the writes are of which it is made. It takes
-/// memory for one piece; where that isn't there, the text is written as it is made. After `Failed` the sink took a front
-/// of the text.
+/// memory for one piece; where that isn't there, the text is written as it is made. After `Failed` the sink took a
+/// front of the text.
 pub fn write_in_pieces<T: Stream, K: Sink>(
     alloc: Global,
     text: &T,

@@ -4,7 +4,8 @@ ghost use Rattle.std.specs.Prelude.{◌≡◌, ◌≤◌, ◌-◌, OnOk, ◌++�
 ghost use Rattle.std.specs.Io.KnownBytes.{Appends};
 ghost use Rattle.fmt_ports.specs.Causes.{AppendsPart, Counts};
 ghost use Rattle.style_table.specs.Range.{IsInRange};
-ghost use Rattle.replacements.specs.GapText.{blanks, gap_text, indentation, level_columns, line_end, line_ends, tabs_to};
+ghost use Rattle.replacements.specs.GapText.{blanks, gap_text, indentation, level_columns, line_end, line_ends};
+ghost use Rattle.replacements.specs.GapText.{tabs_to};
 
 use crate::{Decision, short_lines};
 use fmt_ports::{Failed, Sink, write_all};

@@ -4,7 +4,8 @@ ghost use Rattle.std.specs.Prelude.{◌≡◌, ◌≤◌, ◌+◌, length};
 ghost use Rattle.std.specs.List.{slice_range, list_any, Contains};
 ghost use Rattle.token_arena.specs.Entries.{told_by};
 ghost use Rattle.token_arena.specs.Sections.{sections_of};
-ghost use Rattle.token_arena.specs.Keeping.{behind_of, operand, is_file_name, is_one_file_name, asks_whether_there, keeps_after_name};
+ghost use Rattle.token_arena.specs.Keeping.{behind_of, operand, is_file_name, is_one_file_name, asks_whether_there};
+ghost use Rattle.token_arena.specs.Keeping.{keeps_after_name};
 ghost use Rattle.token_arena.specs.declared.directives.Section.TheVariants.{Dir};
 
 use crate::directives::names::{first_code, is_identifier};

@@ -8,7 +8,8 @@ ghost use Rattle.c_grammar.specs.Grammar.{is_same};
 ghost use Rattle.c_grammar.specs.Rewritten.{read_alone};
 ghost use Rattle.token_arena.specs.Entries.{told_by};
 ghost use Rattle.token_arena.specs.declared.directives.DirectiveKind.TheVariants.{Unknown};
-ghost use Rattle.token_arena.specs.Directives.{spelling, is_hash_token, is_opening, kind_named, kind_behind, past_comments, opens_parameters, heads_function, defines_function};
+ghost use Rattle.token_arena.specs.Directives.{spelling, is_hash_token, is_opening, kind_named, kind_behind};
+ghost use Rattle.token_arena.specs.Directives.{past_comments, opens_parameters, heads_function, defines_function};
 
 use crate::directives::spelling::is_spelled;
 use crate::{DirectiveKind, Token, TokenArena};
