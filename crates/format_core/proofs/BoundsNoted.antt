@@ -6,7 +6,7 @@ use Rattle.std.proofs.lemmas.List.Folds.{drop_split}
 use Rattle.token_arena.specs.Gaps.{Contents}
 use Rattle.token_arena.specs.Ids.{Increase}
 use Rattle.branch_runs.specs.Anew.{items_between}
-use Rattle.view_parts.specs.declared.walk.BodyPlace.{BodyPlace}
+use Rattle.view_parts.specs.Places.{Place}
 use Rattle.format_core.specs.Bounds.{BeginTold, IsBound}
 use Rattle.format_core.specs.Runs.{seen_by}
 use Rattle.format_core.specs.Windows.{AreToldIn, IsWindow, place_before}
@@ -21,7 +21,7 @@ cut_twice : (ids : List ℕ) (from to : ℕ) → from ≤ to → ids ≡ take fr
 cut_twice ids from to order = sym (take-append-drop from ids) ∙ ap (λ (xs : List ℕ). take from ids ++ xs) (drop_split ids from to order)
 
 -- where parts end behind those that earlier items tell
-pub window_told : (arena : Contents) (run : ℕ) (view : List ℕ) (first end : ℕ) (begins inside : Option BodyPlace) (from to told was now : ℕ) → IsWindow arena run view first end → AreToldIn arena view begins from to inside told → from < to → was ≤ now → get_or view (told - 1) 0 < now
+pub window_told : (arena : Contents) (run : ℕ) (view : List ℕ) (first end : ℕ) (begins inside : Option Place) (from to told was now : ℕ) → IsWindow arena run view first end → AreToldIn arena view begins from to inside told → from < to → was ≤ now → get_or view (told - 1) 0 < now
     → BeginTold arena (items_between 0 was (seen_by arena run)) (place_before arena run first + from) begins → BeginTold arena (items_between 0 now (seen_by arena run)) (place_before arena run first + to) inside
 window_told arena run view first end begins inside from to told was now window tells some later last begin =
     let ids = seen_by arena run in
@@ -47,7 +47,7 @@ window_told arena run view first end begins inside from to told was now window t
     subst (λ k. BeginTold arena (items_between 0 now ids) k inside) upto (subst (λ (xs : List ℕ). BeginTold arena (items_between 0 now xs) (length before + (to - from)) inside) (sym is) ended)
 
 -- the item before which they end is a bound
-pub window_bound : (arena : Contents) (run : ℕ) (view : List ℕ) (first end to : ℕ) (inside : Option BodyPlace) (last now : ℕ) → IsWindow arena run view first end → to ≤ last → last < length view → get_or view last 0 < now
+pub window_bound : (arena : Contents) (run : ℕ) (view : List ℕ) (first end to : ℕ) (inside : Option Place) (last now : ℕ) → IsWindow arena run view first end → to ≤ last → last < length view → get_or view last 0 < now
     → BeginTold arena (items_between 0 now (seen_by arena run)) (place_before arena run first + to) inside → IsBound arena (seen_by arena run) (get_or view to 0) now inside
 window_bound arena run view first end to inside last now window order below past told =
     let ids = seen_by arena run in

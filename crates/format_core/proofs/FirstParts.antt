@@ -7,22 +7,21 @@ use Rattle.token_classes.specs.Viewed.{item_class}
 use Rattle.token_arena.specs.Ids.{Increase, IncreaseFrom}
 use Rattle.token_classes.specs.declared.pairing.Opener.{Opener}
 use Rattle.branch_runs.specs.Anew.{items_between}
-use Rattle.view_parts.specs.declared.walk.BodyPlace.{BodyPlace}
-use Rattle.view_parts.specs.declared.walk.Ended.{Ended}
+use Rattle.view_parts.specs.Places.{Place, place_in}
+use Rattle.view_parts.specs.Parts.{Ended, PartStop, around_of, bodies_at, bodies_behind, count_or, end_of_part, place_behind, waiting_at, waiting_behind, walk_behind, next_end, part_len, stop_from, FollowUpTo, ArePartsUpTo}
+use Rattle.view_parts.specs.declared.bodies.Head.{Head}
 use Rattle.view_parts.specs.declared.walk.Walk.{Walk}
-use Rattle.view_parts.specs.Walk.{start, reading}
-use Rattle.view_parts.specs.Parts.{PartStop, around_of, count_or, end_of_part, waiting_at, waiting_behind, next_end, part_len, stop_from, FollowUpTo, ArePartsUpTo}
-use Rattle.view_parts.specs.Reading.{Reading, Ends, Never, GoesOn}
+use Rattle.view_parts.specs.Walk.{opened_head, reading, start}
+use Rattle.view_parts.specs.Reading.{Reading, EndsOutside, EndsInBody, Never, GoesOn}
 use Rattle.view_parts.specs.Told.{TellParts}
-use Rattle.view_parts.proofs.InOrder.{len_fits}
-use Rattle.view_parts.proofs.Walked.{by_reading}
+use Rattle.view_parts.proofs.InOrder.{HasHeads, inside_headed, len_fits}
 use Rattle.format_core.specs.declared.bounds.KnownBound.{KnownBound}
 use Rattle.format_core.specs.Bounds.{BeginTold, IsBound, AreBounds, no_bound}
 use Rattle.format_core.proofs.Between.{items_from, view_cut, front_cut, front_agrees, first_between, in_order, between_in, none_between, none_first}
 use Rattle.format_core.proofs.RowsPassed.{follow_order}
 
 -- where a part of a view ends so
-abbrev pub stop_at : ℕ → Option BodyPlace → PartStop
+abbrev pub stop_at : ℕ → Option Place → PartStop
 stop_at end inside = record { end = end; inside = inside }
 
 pub nothing_told : (arena : Contents) → BeginTold arena [] 0 None
@@ -36,7 +35,7 @@ starts_bound arena view = record {
 }
 
 -- it is so in a view that has the same items before those
-pub bound_stays : (arena : Contents) (view next : List ℕ) (item told : ℕ) (inside : Option BodyPlace) (first : ℕ) → told ≤ first → items_between 0 first next ≡ items_between 0 first view → IsBound arena view item told inside
+pub bound_stays : (arena : Contents) (view next : List ℕ) (item told : ℕ) (inside : Option Place) (first : ℕ) → told ≤ first → items_between 0 first next ≡ items_between 0 first view → IsBound arena view item told inside
     → IsBound arena next item told inside
 bound_stays arena view next item told inside first low same bound =
     let is : items_between 0 told view ≡ items_between 0 told next = sym (front_agrees told first next view low same) in
@@ -47,58 +46,75 @@ bound_stays arena view next item told inside first low same bound =
     }
 
 -- what the first items tell is so in the view
-pub parts_of_told : (arena : Contents) (view : List ℕ) (told last : ℕ) (inside : Option BodyPlace) → Increase view → BeginTold arena (items_between 0 told view) last inside → ArePartsUpTo arena view None 0 (stop_at last inside)
+pub parts_of_told : (arena : Contents) (view : List ℕ) (told last : ℕ) (inside : Option Place) → Increase view → BeginTold arena (items_between 0 told view) last inside → ArePartsUpTo arena view None 0 (stop_at last inside)
 parts_of_told arena view told last inside increase begin = subst (λ (xs : List ℕ). ArePartsUpTo arena xs None 0 (stop_at last inside)) (sym (view_cut told view increase)) (begin (items_from told view))
 
 -- ## Parts behind parts
 
-follow_both : (arena : Contents) (view : List ℕ) (begins : Option BodyPlace) (first : ℕ) (middle last : PartStop) (stops later : List PartStop) → FollowUpTo arena view begins first middle stops
+follow_both : (arena : Contents) (view : List ℕ) (begins : Option Place) (first : ℕ) (middle last : PartStop) (stops later : List PartStop) → FollowUpTo arena view begins first middle stops
     → FollowUpTo arena view middle.inside middle.end last later → FollowUpTo arena view begins first last (stops ++ later)
 follow_both arena view begins first middle last [] later follow behind = subst (λ (s : PartStop). FollowUpTo arena view s.inside s.end last later) (sym follow) behind
 follow_both arena view begins first middle last (stop ∷ stops) later follow behind = (follow.0, follow.1, follow.2, follow_both arena view stop.inside stop.end middle last stops later follow.3 behind)
 
-pub parts_joined : (arena : Contents) (view : List ℕ) (begins : Option BodyPlace) (first : ℕ) (middle last : PartStop) → ArePartsUpTo arena view begins first middle → ArePartsUpTo arena view middle.inside middle.end last
+pub parts_joined : (arena : Contents) (view : List ℕ) (begins : Option Place) (first : ℕ) (middle last : PartStop) → ArePartsUpTo arena view begins first middle → ArePartsUpTo arena view middle.inside middle.end last
     → ArePartsUpTo arena view begins first last
 parts_joined arena view begins first middle last parts later =
     record { stops = parts.stops ++ later.stops; follow = follow_both arena view begins first middle last parts.stops later.stops parts.follow later.follow }
 
 -- from any place parts go on up to the end of the view
-pub parts_to_end : (arena : Contents) (view : List ℕ) (begins : Option BodyPlace) (first : ℕ) → first ≤ length view → (inside : Option BodyPlace) × ArePartsUpTo arena view begins first (stop_at (length view) inside)
-parts_to_end arena view begins first inside = by_left (length view - first) begins first inside (omega arith)
+pub parts_to_end : (arena : Contents) (view : List ℕ) (begins : Option Place) (first : ℕ) → HasHeads begins → first ≤ length view → (inside : Option Place) × ArePartsUpTo arena view begins first (stop_at (length view) inside)
+parts_to_end arena view begins first has inside = by_left (length view - first) begins first has inside (omega arith)
   where
     here_or_end : (first : ℕ) → first ≤ length view → (first < length view) ⊎ (first ≡ length view)
     here_or_end first inside = grind (arith, inside)
 
-    at_end : (begins : Option BodyPlace) (first : ℕ) → first ≡ length view → (inside : Option BodyPlace) × ArePartsUpTo arena view begins first (stop_at (length view) inside)
+    at_end : (begins : Option Place) (first : ℕ) → first ≡ length view → (inside : Option Place) × ArePartsUpTo arena view begins first (stop_at (length view) inside)
     at_end begins first at = (begins, record { stops = []; follow = ap (λ n. stop_at n begins) at })
 
-    by_left : (left : ℕ) (begins : Option BodyPlace) (first : ℕ) → first ≤ length view → length view - first ≤ left → (inside : Option BodyPlace) × ArePartsUpTo arena view begins first (stop_at (length view) inside)
-    by_left zero begins first inside few = at_end begins first (omega (arith, inside, few))
-    by_left (suc left) begins first inside few =
+    by_left : (left : ℕ) (begins : Option Place) (first : ℕ) → HasHeads begins → first ≤ length view → length view - first ≤ left → (inside : Option Place) × ArePartsUpTo arena view begins first (stop_at (length view) inside)
+    by_left zero begins first has inside few = at_end begins first (omega (arith, inside, few))
+    by_left (suc left) begins first has inside few =
         elim (here_or_end first inside) [
           | inl here ↦
-              let fit = len_fits arena begins (drop first view) (omega (arith, here, length-drop first view)) in
+              let fit = len_fits arena begins (drop first view) has (omega (arith, here, length-drop first view)) in
               let some = fit.0 in
               let most = fit.1 in
               let stop = stop_from arena view begins first in
-              let rest = by_left left stop.inside stop.end (omega (arith, most, here, length-drop first view)) (omega (arith, few, some)) in
+              let rest = by_left left stop.inside stop.end (inside_headed arena begins (drop first view)) (omega (arith, most, here, length-drop first view)) (omega (arith, few, some)) in
               (rest.0, record { stops = stop ∷ rest.1.stops; follow = (here, omega (arith, some), refl, rest.1.follow) })
           | inr at ↦ at_end begins first at
         ]
 
 -- ## One part
 
-next_later : (arena : Contents) (ids rest : List ℕ) (walk : Walk) (waiting : List Opener) (ended : Ended) → next_end arena walk waiting ids ≡ Some ended → next_end arena walk waiting (ids ++ rest) ≡ Some ended
-next_later arena [] rest walk waiting ended is = absurd (none is)
+next_later : (arena : Contents) (ids rest : List ℕ) (walk : Walk) (bodies : List Head) (waiting : List Opener) (ended : Ended) → next_end arena walk bodies waiting ids ≡ Some ended → next_end arena walk bodies waiting (ids ++ rest) ≡ Some ended
+next_later arena [] rest walk bodies waiting ended is = absurd (none is)
   where
     none : None ≡ Some ended → ⊥
     none e = cc
-next_later arena (id ∷ ids) rest walk waiting ended is =
-    by_reads (reading arena walk (around_of walk.head waiting) id (item_class arena id)) (λ next. next_later arena ids rest next (waiting_behind (item_class arena id) walk.place waiting) ended) is
+next_later arena (id ∷ ids) rest walk bodies waiting ended is =
+    by_reads (reading arena walk (around_of bodies waiting) id (item_class arena id)) (λ next. next_later arena ids rest (walk_behind next bodies behind opened id) (bodies_behind bodies behind opened) behind ended) is
   where
-    by_reads : (read : Reading) → ((next : Walk) → next_end arena next (waiting_behind (item_class arena id) walk.place waiting) ids ≡ Some ended → next_end arena next (waiting_behind (item_class arena id) walk.place waiting) (ids ++ rest) ≡ Some ended)
-        → by_reading arena (waiting_behind (item_class arena id) walk.place waiting) ids read ≡ Some ended → by_reading arena (waiting_behind (item_class arena id) walk.place waiting) (ids ++ rest) read ≡ Some ended
-    by_reads (Ends n) on e = e
+    behind : List Opener
+    behind = waiting_behind (item_class arena id) walk.place waiting
+
+    opened : Option Head
+    opened = opened_head walk (around_of bodies waiting) bodies id (item_class arena id)
+
+    end_by : List ℕ → Reading → Option Ended
+    end_by ids read =
+        elim read [
+          | EndsOutside count ↦ Some (record { count = count; inside = None })
+          | EndsInBody count ↦ Some (record { count = count; inside = Some (place_behind walk bodies) })
+          | Never ↦ None
+          | GoesOn next ↦ next_end arena (walk_behind next bodies behind opened id) (bodies_behind bodies behind opened) behind ids
+        ]
+
+    by_reads : (read : Reading)
+        → ((next : Walk) → next_end arena (walk_behind next bodies behind opened id) (bodies_behind bodies behind opened) behind ids ≡ Some ended → next_end arena (walk_behind next bodies behind opened id) (bodies_behind bodies behind opened) behind (ids ++ rest) ≡ Some ended)
+        → end_by ids read ≡ Some ended → end_by (ids ++ rest) read ≡ Some ended
+    by_reads (EndsOutside count) on e = e
+    by_reads (EndsInBody count) on e = e
     by_reads Never on e = absurd (none e)
       where
         none : None ≡ Some ended → ⊥
@@ -106,7 +122,7 @@ next_later arena (id ∷ ids) rest walk waiting ended is =
     by_reads (GoesOn next) on e = on next e
 
 -- a part whose end is told ends so, whatever follows what tells it
-pub tell_one : (arena : Contents) (begins : Option BodyPlace) (told : List ℕ) (count : ℕ) (inside : Option BodyPlace) → TellParts arena begins told count inside → 0 < count → count < length told
+pub tell_one : (arena : Contents) (begins : Option Place) (told : List ℕ) (count : ℕ) (inside : Option Place) → TellParts arena begins told count inside → 0 < count → count < length told
     → (ended : Ended) × ((rest : List ℕ) → end_of_part arena begins (told ++ rest) ≡ Some ended)
 tell_one arena begins told count inside tell some few = by_end (end_of_part arena begins told) refl
   where
@@ -120,12 +136,12 @@ tell_one arena begins told count inside tell some few = by_end (end_of_part aren
 
     by_end : (end : Option Ended) → end_of_part arena begins told ≡ end → (ended : Ended) × ((rest : List ℕ) → end_of_part arena begins (told ++ rest) ≡ Some ended)
     by_end None e = absurd (none_told e (tell [] []).stops (tell [] []).follow)
-    by_end (Some ended) e = (ended, λ rest. next_later arena told rest (start begins) (waiting_at begins) ended e)
+    by_end (Some ended) e = (ended, λ rest. next_later arena told rest (start begins) (bodies_at begins) (waiting_at begins) ended e)
 
 -- ## What is told further
 
 -- behind the first items of a view, which tell where parts end, others tell where more do
-pub told_further : (arena : Contents) (before told behind : List ℕ) (begins inside : Option BodyPlace) (was now count : ℕ) → Increase (before ++ (told ++ behind)) → 0 < length told → was ≤ now → get_or told (length told - 1) 0 < now
+pub told_further : (arena : Contents) (before told behind : List ℕ) (begins inside : Option Place) (was now count : ℕ) → Increase (before ++ (told ++ behind)) → 0 < length told → was ≤ now → get_or told (length told - 1) 0 < now
     → BeginTold arena (items_between 0 was (before ++ (told ++ behind))) (length before) begins → TellParts arena begins told count inside
     → BeginTold arena (items_between 0 now (before ++ (told ++ behind))) (length before + count) inside
 told_further arena before told behind begins inside was now count increase some later last begin tell rest =
@@ -174,7 +190,7 @@ place_of low (id ∷ ids) (suc place) increase below =
 pub bounds_left : (arena : Contents) (view : List ℕ) (bounds : List KnownBound) (told n : ℕ) → n ≤ length bounds → AreBounds arena view bounds told
     → AreBounds arena view (take n bounds) (get_or bounds (n - 1) no_bound).told
 bounds_left arena view bounds told n few are = record {
-  each = λ k below. (let short = fits k below in subst (λ (b : KnownBound). IsBound arena view b.item b.told b.inside) (sym (get_or-take n bounds k no_bound short)) (are.each k (omega (arith, short, few))));
+  each = λ k below. (let short = fits k below in subst (λ (b : KnownBound). IsBound arena view b.item b.told (place_in b.inside)) (sym (get_or-take n bounds k no_bound short)) (are.each k (omega (arith, short, few))));
   order = λ j k order below.
       let short = fits k below in
       let a = ap (λ (b : KnownBound). b.told) (get_or-take n bounds j no_bound (omega (arith, order, short))) in
@@ -194,7 +210,7 @@ bounds_left arena view bounds told n few are = record {
 -- they are bounds of a view that has the same items before one that tells none of them
 pub bounds_stay : (arena : Contents) (view next : List ℕ) (bounds : List KnownBound) (told first : ℕ) → told ≤ first → items_between 0 first next ≡ items_between 0 first view → AreBounds arena view bounds told → AreBounds arena next bounds told
 bounds_stay arena view next bounds told first low same are = record {
-  each = λ k below. (let most = are.most k below in bound_stays arena view next (get_or bounds k no_bound).item (get_or bounds k no_bound).told (get_or bounds k no_bound).inside first (omega (arith, most, low)) same (are.each k below));
+  each = λ k below. (let most = are.most k below in bound_stays arena view next (get_or bounds k no_bound).item (get_or bounds k no_bound).told (place_in (get_or bounds k no_bound).inside) first (omega (arith, most, low)) same (are.each k below));
   order = are.order;
   most = are.most;
 }
@@ -203,12 +219,12 @@ in_or_last : (k n : ℕ) → k < n + 1 → (k < n) ⊎ (k ≡ n)
 in_or_last k n below = grind (arith, below)
 
 -- and one more
-pub bound_noted : (arena : Contents) (view : List ℕ) (bounds : List KnownBound) (told : ℕ) (bound : KnownBound) → told ≤ bound.told → IsBound arena view bound.item bound.told bound.inside → AreBounds arena view bounds told
+pub bound_noted : (arena : Contents) (view : List ℕ) (bounds : List KnownBound) (told : ℕ) (bound : KnownBound) → told ≤ bound.told → IsBound arena view bound.item bound.told (place_in bound.inside) → AreBounds arena view bounds told
     → AreBounds arena view (bounds ++ (bound ∷ [])) bound.told
 bound_noted arena view bounds told bound later is are = record {
   each = λ k below. elim (in_or_last k (length bounds) (short k below)) [
-    | inl inside ↦ subst (λ (b : KnownBound). IsBound arena view b.item b.told b.inside) (sym (early k inside)) (are.each k inside)
-    | inr last ↦ subst (λ (b : KnownBound). IsBound arena view b.item b.told b.inside) (sym (late k last)) is
+    | inl inside ↦ subst (λ (b : KnownBound). IsBound arena view b.item b.told (place_in b.inside)) (sym (early k inside)) (are.each k inside)
+    | inr last ↦ subst (λ (b : KnownBound). IsBound arena view b.item b.told (place_in b.inside)) (sym (late k last)) is
   ];
   order = λ j k order below. elim (in_or_last k (length bounds) (short k below)) [
     | inl inside ↦

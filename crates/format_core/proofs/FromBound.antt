@@ -8,7 +8,7 @@ use Rattle.style_table.specs.declared.style.Style.{Style}
 use Rattle.token_arena.specs.Gaps.{Contents}
 use Rattle.token_arena.specs.Ids.{Increase}
 use Rattle.branch_runs.specs.Anew.{items_between}
-use Rattle.view_parts.specs.declared.walk.BodyPlace.{BodyPlace}
+use Rattle.view_parts.specs.Places.{Place}
 use Rattle.view_parts.specs.Parts.{StandsBefore, items_before, part_ends, part_inside, part_len}
 use Rattle.view_parts.proofs.InBodies.{stands_before}
 use Rattle.replacements.specs.declared.slot.Slot.{Slot}
@@ -22,7 +22,7 @@ use Rattle.format_core.proofs.Between.{between_has}
 use Rattle.format_core.proofs.FirstParts.{parts_of_told, parts_to_end, stop_at}
 use Rattle.format_core.proofs.Parts.{all_decided_of}
 use Rattle.format_core.proofs.PartsTold.{from_begin, from_end}
-use Rattle.format_core.proofs.PlacesStand.{IsPlaced, next_has, placed_behind, placed_decided, placed_outside, rest_increases, stands_in_rest}
+use Rattle.format_core.proofs.PlacesStand.{IsPlaced, next_has, placed_behind, placed_decided, placed_outside, rest_increases, stands_headed, stands_in_rest}
 use Rattle.format_core.proofs.RowsPassed.{AreDecidedUpTo, TellDecided, from_outside, from_parts}
 use Rattle.format_core.proofs.RunsTold.{all_seen}
 use Rattle.format_core.proofs.Stretches.{front_short, front_item}
@@ -43,7 +43,7 @@ front_decided plan ids end increase all = λ k low high.
     all (get_or ids k 0) (omega (arith, is, has)) (k, below, get_or_default ids k (get_or ids k 0) 0 below)
 
 -- the parts before a bound tell nothing, where all before it is decided
-pub from_bound : (style : Style) (budget : ℕ) (arena : Contents) (run : ℕ) (plan : List (Option Slot)) (ids : List ℕ) (tally : Tally) (item told : ℕ) (inside : Option BodyPlace) → Increase ids
+pub from_bound : (style : Style) (budget : ℕ) (arena : Contents) (run : ℕ) (plan : List (Option Slot)) (ids : List ℕ) (tally : Tally) (item told : ℕ) (inside : Option Place) → Increase ids
     → BeginTold arena (items_between 0 told ids) (length (items_between 0 item ids)) inside → AreDecidedBefore plan ids item
     → GoesOnFrom style budget arena run plan ids tally plan inside (length (items_between 0 item ids)) tally
 from_bound style budget arena run plan ids tally item told inside increase begin all =
@@ -52,7 +52,7 @@ from_bound style budget arena run plan ids tally item told inside increase begin
     from_outside style budget arena run plan ids tally tally plan 0 (stop_at place inside) increase parts (front_decided plan ids item increase all) (from_begin style budget arena run plan ids tally)
 
 -- what stands for the place where it is stands before it
-pub bound_placed : (arena : Contents) (ids : List ℕ) (item told : ℕ) (inside : Option BodyPlace) → Increase ids → BeginTold arena (items_between 0 told ids) (length (items_between 0 item ids)) inside
+pub bound_placed : (arena : Contents) (ids : List ℕ) (item told : ℕ) (inside : Option Place) → Increase ids → BeginTold arena (items_between 0 told ids) (length (items_between 0 item ids)) inside
     → IsPlaced ids 0 inside (length (items_between 0 item ids))
 bound_placed arena ids item told inside increase begin =
     let place = length (items_between 0 item ids) in
@@ -60,17 +60,17 @@ bound_placed arena ids item told inside increase begin =
     placed_behind arena ids 0 None 0 (stop_at place inside) parts.stops increase parts.follow (placed_outside ids 0)
 
 -- so it is decided
-pub bound_decided : (arena : Contents) (plan : List (Option Slot)) (ids : List ℕ) (item told : ℕ) (inside : Option BodyPlace) → Increase ids → BeginTold arena (items_between 0 told ids) (length (items_between 0 item ids)) inside
+pub bound_decided : (arena : Contents) (plan : List (Option Slot)) (ids : List ℕ) (item told : ℕ) (inside : Option Place) → Increase ids → BeginTold arena (items_between 0 told ids) (length (items_between 0 item ids)) inside
     → AreDecidedBefore plan ids item → All (λ id. IsSome (slot_of plan id)) (items_before inside)
 bound_decided arena plan ids item told inside increase begin all =
     placed_decided plan ids 0 inside (length (items_between 0 item ids)) increase (bound_placed arena ids item told inside increase begin) (front_decided plan ids item increase all)
 
 -- the parts behind what is new tell nothing
-pub behind_new : (style : Style) (budget : ℕ) (arena : Contents) (run : ℕ) (plan : List (Option Slot)) (ids : List ℕ) (before now : Tally) (here : List (Option Slot)) (begins : Option BodyPlace) (first new : ℕ) → first ≤ length ids
+pub behind_new : (style : Style) (budget : ℕ) (arena : Contents) (run : ℕ) (plan : List (Option Slot)) (ids : List ℕ) (before now : Tally) (here : List (Option Slot)) (begins : Option Place) (first new : ℕ) → first ≤ length ids
     → ((k : ℕ) → first ≤ k → k < length ids → new ≤ get_or ids k 0) → AreDecidedFrom plan ids new → All (λ id. IsSome (slot_of here id)) (items_before begins)
     → ForSome begins (λ place. StandsBefore place (get_or ids first 0)) → Increase ids → GoesOnFrom style budget arena run plan ids before here begins first now → AreSeenTold style budget arena run plan ids here before now
 behind_new style budget arena run plan ids before now here begins first new inside behind all place stands increase on =
-    let parts = parts_to_end arena ids begins first inside in
+    let parts = parts_to_end arena ids begins first (stands_headed begins (get_or ids first 0) stands) inside in
     let last = from_parts style budget arena run plan ids before now here begins first (stop_at (length ids) parts.0) parts.1.stops Q tell (omega arith, place, stands) some parts.1.follow on in
     all_seen style budget arena run plan ids ids (part_ends arena ids) here before now refl refl (from_end style budget arena run plan ids before now here parts.0 (length ids) (omega arith) last)
   where
@@ -80,7 +80,7 @@ behind_new style budget arena run plan ids before now here begins first new insi
         let was = decided-is_some plan id (all id (behind k low high) (k, high, get_or_default ids k id 0 high)) in
         is_some-decided here id (was.0, on.stays id was.0 was.1)
 
-    Q : Option BodyPlace → ℕ → Type 0
+    Q : Option Place → ℕ → Type 0
     Q begins at = (first ≤ at) × All (λ id. IsSome (slot_of here id)) (items_before begins) × ForSome begins (λ place. StandsBefore place (get_or ids at 0))
 
     rest : (at : ℕ) → first ≤ at → All (λ id. IsSome (slot_of here id)) (drop at ids)

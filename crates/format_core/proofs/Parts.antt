@@ -3,7 +3,7 @@ use Rattle.std.proofs.Common.{◌≡◌, ◌∙◌, ◌⊎◌, ℕ, ◌+◌, ◌
 use Rattle.std.specs.Prelude.{All, IsSome, slice_range}
 use Rattle.std.proofs.lemmas.List.{get_or-append-add, get_or-drop, get_or-take, get_or_default, length-append, length-drop, length-take}
 use Rattle.std.proofs.lemmas.List.Elements.{All-append}
-use Rattle.view_parts.specs.declared.walk.BodyPlace.{BodyPlace}
+use Rattle.view_parts.specs.Places.{Place}
 use Rattle.view_parts.specs.Parts.{items_before, laid_items}
 use Rattle.replacements.specs.declared.slot.Slot.{Slot}
 use Rattle.replacements.specs.Decisions.{slot_of}
@@ -26,15 +26,15 @@ part_within ids P first end all = λ k d below.
 -- ## What stands for the place where a part begins
 
 -- what those items and all of a view have, the items have that are laid out for a part
-pub laid_have : (P : ℕ → Type 0) (ids : List ℕ) (begins : Option BodyPlace) (first end : ℕ) → All P (items_before begins) → All P ids → All P (laid_items begins ids first end)
+pub laid_have : (P : ℕ → Type 0) (ids : List ℕ) (begins : Option Place) (first end : ℕ) → All P (items_before begins) → All P ids → All P (laid_items begins ids first end)
 laid_have P ids begins first end before all = All-append P (items_before begins) (slice_range ids first end) before (part_within ids P first end all)
 
 -- how many more are laid out
-pub laid_length : (ids : List ℕ) (begins : Option BodyPlace) (first end : ℕ) → length (laid_items begins ids first end) ≡ length (items_before begins) + min (end - first) (length ids - first)
+pub laid_length : (ids : List ℕ) (begins : Option Place) (first end : ℕ) → length (laid_items begins ids first end) ≡ length (items_before begins) + min (end - first) (length ids - first)
 laid_length ids begins first end = length-append (items_before begins) (slice_range ids first end) ∙ ap (λ n. length (items_before begins) + n) (part_length ids first end)
 
 -- the items of the part stand behind them
-pub laid_item : (ids : List ℕ) (begins : Option BodyPlace) (first end k d : ℕ) → k < length (slice_range ids first end) → get_or (laid_items begins ids first end) (length (items_before begins) + k) d ≡ get_or ids (first + k) d
+pub laid_item : (ids : List ℕ) (begins : Option Place) (first end k d : ℕ) → k < length (slice_range ids first end) → get_or (laid_items begins ids first end) (length (items_before begins) + k) d ≡ get_or ids (first + k) d
 laid_item ids begins first end k d below = get_or-append-add (items_before begins) (slice_range ids first end) k d ∙ part_item ids first end k d below
 
 -- ## Decided gaps
@@ -46,7 +46,7 @@ pub all_decided_of : (plan : List (Option Slot)) (ids : List ℕ) → All (λ id
 all_decided_of plan ids all = λ k below. all k 0 below
 
 -- behind the gaps before decided items, those of a part of decided items are
-pub laid_decided : (plan : List (Option Slot)) (ids : List ℕ) (begins : Option BodyPlace) (first end : ℕ) → AreDecided plan (items_before begins) → AreDecided plan (slice_range ids first end) → AreDecided plan (laid_items begins ids first end)
+pub laid_decided : (plan : List (Option Slot)) (ids : List ℕ) (begins : Option Place) (first end : ℕ) → AreDecided plan (items_before begins) → AreDecided plan (slice_range ids first end) → AreDecided plan (laid_items begins ids first end)
 laid_decided plan ids begins first end before all =
     all_decided_of plan (laid_items begins ids first end)
     (All-append (λ id. IsSome (slot_of plan id)) (items_before begins) (slice_range ids first end) (decided_all_of plan (items_before begins) before) (decided_all_of plan (slice_range ids first end) all))

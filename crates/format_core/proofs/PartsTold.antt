@@ -4,7 +4,7 @@ use Rattle.std.specs.Prelude.{if◌then◌else◌}
 use Rattle.std.proofs.lemmas.Bool.{lt-ltb, le-ltb}
 use Rattle.style_table.specs.declared.style.Style.{Style}
 use Rattle.token_arena.specs.Gaps.{Contents}
-use Rattle.view_parts.specs.declared.walk.BodyPlace.{BodyPlace}
+use Rattle.view_parts.specs.Places.{Place}
 use Rattle.view_parts.specs.Parts.{PartStop, ends_from, laid_items, part_ends, stop_from}
 use Rattle.replacements.specs.declared.slot.Slot.{Slot}
 use Rattle.run_layout.specs.declared.report.Tally.{Tally}
@@ -22,7 +22,7 @@ from_begin style budget arena run plan ids before = record {
 }
 
 -- behind the part that begins there
-pub from_part : (style : Style) (budget : ℕ) (arena : Contents) (run : ℕ) (plan : List (Option Slot)) (ids : List ℕ) (before now next : Tally) (here after : List (Option Slot)) (begins : Option BodyPlace) (first : ℕ) (stop : PartStop)
+pub from_part : (style : Style) (budget : ℕ) (arena : Contents) (run : ℕ) (plan : List (Option Slot)) (ids : List ℕ) (before now next : Tally) (here after : List (Option Slot)) (begins : Option Place) (first : ℕ) (stop : PartStop)
     → first < length ids → first < stop.end → stop ≡ stop_from arena ids begins first → GoesOnFrom style budget arena run plan ids before here begins first now
     → AreItemsTold style budget arena run here (laid_items begins ids first stop.end) after now next → GoesOnFrom style budget arena run plan ids before after stop.inside stop.end next
 from_part style budget arena run plan ids before now next here after begins first stop here_is some is from laid = by_fuel from.fuel from.enough from.on
@@ -43,7 +43,7 @@ from_part style budget arena run plan ids before now next here after begins firs
         }
 
 -- behind the last one
-pub from_end : (style : Style) (budget : ℕ) (arena : Contents) (run : ℕ) (plan : List (Option Slot)) (ids : List ℕ) (before now : Tally) (here : List (Option Slot)) (begins : Option BodyPlace) (first : ℕ) → length ids ≤ first
+pub from_end : (style : Style) (budget : ℕ) (arena : Contents) (run : ℕ) (plan : List (Option Slot)) (ids : List ℕ) (before now : Tally) (here : List (Option Slot)) (begins : Option Place) (first : ℕ) → length ids ≤ first
     → GoesOnFrom style budget arena run plan ids before here begins first now → ArePartsTold style budget arena run plan ids None 0 (part_ends arena ids) here before now
 from_end style budget arena run plan ids before now here begins first done from =
     parts_end style budget arena run plan ids (part_ends arena ids) (ends_from from.fuel arena ids begins first) begins first before now here (none from.fuel) from.on

@@ -8,39 +8,58 @@ use Rattle.std.proofs.lemmas.List.Elements.{All-append, All-nil}
 use Rattle.std.proofs.lemmas.List.FromFn.{length-range_with_len, get_or-range_with_len}
 use Rattle.token_arena.specs.Gaps.{Contents}
 use Rattle.token_arena.specs.Ids.{Increase, IncreaseFrom}
-use Rattle.view_parts.specs.declared.walk.BodyPlace.{BodyPlace}
-use Rattle.view_parts.specs.Parts.{PartStop, StandsBefore, ends_from, items_before, items_of_place, laid_items, opened_items, part_ends, part_inside, part_len, stop_from, FollowUpTo}
+use Rattle.view_parts.specs.Places.{Place}
+use Rattle.view_parts.specs.declared.bodies.Head.{Head}
+use Rattle.view_parts.specs.Parts.{PartStop, Stand, StandsBefore, ends_from, head_items, heads_end, items_before, items_of_place, laid_items, opened_items, part_ends, part_inside, part_len, stop_from, FollowUpTo}
+use Rattle.view_parts.specs.Walk.{heads_len}
 use Rattle.view_parts.proofs.InBodies.{places_have, stands_before}
+use Rattle.view_parts.proofs.InOrder.{HasHeads}
 use Rattle.replacements.specs.declared.slot.Slot.{Slot}
 use Rattle.replacements.specs.Decisions.{slot_of}
 use Rattle.format_core.proofs.Between.{in_order, looser}
 use Rattle.format_core.proofs.Parts.{before_or_behind, part_length}
 
+-- ## Heads
+
+-- the item behind them stands behind all of them
+heads_low : (low : ℕ) (heads : List Head) → Stand low heads → low ≤ heads_end low heads
+heads_low low [] stand = omega arith
+heads_low low (head ∷ heads) stand = (let rest = heads_low head.end heads stand.2 in omega (arith, stand.0, stand.1, rest))
+
+heads_before : (low : ℕ) (heads : List Head) → Stand low heads → All (λ i. i < heads_end low heads) (head_items heads)
+heads_before low [] stand = All-nil (λ i. i < low)
+heads_before low (head ∷ heads) stand = All-append (λ i. i < heads_end head.end heads) (range_with_len head.first (head.end - head.first)) (head_items heads) own (heads_before head.end heads stand.2)
+  where
+    own : All (λ i. i < heads_end head.end heads) (range_with_len head.first (head.end - head.first))
+    own k d below =
+        let few : k < head.end - head.first = omega (arith, below, length-range_with_len head.first (head.end - head.first)) in
+        let at = get_or-range_with_len head.first (head.end - head.first) k d few in
+        let rest = heads_low head.end heads stand.2 in
+        omega (arith, at, few, rest)
+
+-- so many they are
+heads_many : (heads : List Head) → length (head_items heads) ≡ heads_len heads
+heads_many [] = refl
+heads_many (head ∷ heads) =
+    let own = range_with_len head.first (head.end - head.first) in
+    omega (arith, length-append own (head_items heads), length-range_with_len head.first (head.end - head.first), heads_many heads)
+
 -- ## One place
 
 -- what stands for a place before an item are items before it
-of_place : (place : BodyPlace) (id : ℕ) → StandsBefore place id → All (λ i. i < id) (items_of_place place)
+of_place : (place : Place) (id : ℕ) → StandsBefore place id → All (λ i. i < id) (items_of_place place)
 of_place place id stands =
-    let low = stands.before in
-    let end = stands.ended in
-    All-append (λ i. i < id) head (opened_items place.opened ++ (place.ended ∷ [])) heads
+    All-append (λ i. i < id) (head_items place.heads) (opened_items place.opened ++ (place.ended ∷ [])) heads
     (All-append (λ i. i < id) (opened_items place.opened) (place.ended ∷ []) (opens place.opened stands.opened) (λ k d below. last k d below))
   where
-    n : ℕ
-    n = place.head.end - place.head.first
-
-    head : List ℕ
-    head = range_with_len place.head.first n
-
-    heads : All (λ i. i < id) head
+    heads : All (λ i. i < id) (head_items place.heads)
     heads k d below =
-        let few : k < n = omega (arith, below, length-range_with_len place.head.first n) in
-        let at = get_or-range_with_len place.head.first n k d few in
-        let low = stands.before in
+        let early = heads_before 0 place.heads stands.stand k d below in
         let end = stands.ended in
-        omega (arith, at, few, low, end)
+        let low = stands.before in
+        omega (arith, early, end, low)
 
-    opens : (opened : Option ℕ) → ForSome opened (λ opened. (place.head.end ≤ opened) × (opened < place.ended)) → All (λ i. i < id) (opened_items opened)
+    opens : (opened : Option ℕ) → ForSome opened (λ opened. (heads_end 0 place.heads ≤ opened) × (opened < place.ended)) → All (λ i. i < id) (opened_items opened)
     opens None here = All-nil (λ i. i < id)
     opens (Some opened) here = λ k d below. one k d below
       where
@@ -55,37 +74,41 @@ of_place place id stands =
     last zero d below = stands.before
     last (suc k) d below = absurd (omega (arith, below))
 
-pub all_before : (begins : Option BodyPlace) (id : ℕ) → ForSome begins (λ place. StandsBefore place id) → All (λ i. i < id) (items_before begins)
+pub all_before : (begins : Option Place) (id : ℕ) → ForSome begins (λ place. StandsBefore place id) → All (λ i. i < id) (items_before begins)
 all_before None id here = All-nil (λ i. i < id)
 all_before (Some place) id here = of_place place id (here place refl)
 
+-- it stands in bodies
+pub stands_headed : (begins : Option Place) (id : ℕ) → ForSome begins (λ place. StandsBefore place id) → HasHeads begins
+stands_headed None id here = tt
+stands_headed (Some place) id here = (here place refl).some
+
 -- and they are few
-pub few_before : (begins : Option BodyPlace) (id : ℕ) → ForSome begins (λ place. StandsBefore place id) → length (items_before begins) ≤ 66
+pub few_before : (begins : Option Place) (id : ℕ) → ForSome begins (λ place. StandsBefore place id) → length (items_before begins) ≤ 66
 few_before None id here = omega arith
 few_before (Some place) id here =
     let stands = here place refl in
     let few = stands.few in
-    let n = place.head.end - place.head.first in
     let rest = opened_items place.opened ++ (place.ended ∷ []) in
-    omega (arith, few, length-append (range_with_len place.head.first n) rest, length-range_with_len place.head.first n, length-append (opened_items place.opened) (place.ended ∷ []), opens place.opened)
+    omega (arith, few, length-append (head_items place.heads) rest, heads_many place.heads, length-append (opened_items place.opened) (place.ended ∷ []), opens place.opened)
   where
     opens : (opened : Option ℕ) → length (opened_items opened) ≤ 1
     opens None = omega arith
     opens (Some opened) = omega arith
 
 -- so are those that are laid out for a part
-pub laid_few : (begins : Option BodyPlace) (ids : List ℕ) (first end : ℕ) → first < end → end ≤ length ids → ForSome begins (λ place. StandsBefore place (get_or ids first 0)) → length (laid_items begins ids first end) ≤ 67 * (end - first)
+pub laid_few : (begins : Option Place) (ids : List ℕ) (first end : ℕ) → first < end → end ≤ length ids → ForSome begins (λ place. StandsBefore place (get_or ids first 0)) → length (laid_items begins ids first end) ≤ 67 * (end - first)
 laid_few begins ids first end some inside here =
     omega (arith, some, inside, few_before begins (get_or ids first 0) here, length-append (items_before begins) (slice_range ids first end), part_length ids first end)
 
 -- outside brackets nothing stands for the place
-pub none_before : (P : ℕ → Type 0) (begins : Option BodyPlace) → begins ≡ None → All P (items_before begins)
-none_before P begins is = subst (λ (b : Option BodyPlace). All P (items_before b)) (sym is) (All-nil P)
+pub none_before : (P : ℕ → Type 0) (begins : Option Place) → begins ≡ None → All P (items_before begins)
+none_before P begins is = subst (λ (b : Option Place). All P (items_before b)) (sym is) (All-nil P)
 
-pub none_stands : (begins : Option BodyPlace) (id : ℕ) → begins ≡ None → ForSome begins (λ place. StandsBefore place id)
+pub none_stands : (begins : Option Place) (id : ℕ) → begins ≡ None → ForSome begins (λ place. StandsBefore place id)
 none_stands begins id is = λ place e. absurd (unlike place (sym is ∙ e))
   where
-    unlike : (place : BodyPlace) → None ≡ Some place → ⊥
+    unlike : (place : Place) → None ≡ Some place → ⊥
     unlike place e = cc
 
 -- ## Places of a view
@@ -95,16 +118,16 @@ rest_increases low zero ids increase = increase
 rest_increases low (suc n) [] increase = tt
 rest_increases low (suc n) (id ∷ ids) increase = looser (id + 1) low (drop n ids) (omega (arith, increase.0)) (rest_increases (id + 1) n ids increase.1)
 
-pub stands_in_rest : (view : List ℕ) (begins : Option BodyPlace) (first : ℕ) → ForSome begins (λ place. StandsBefore place (get_or view first 0)) → ForSome begins (λ place. StandsBefore place (get_or (drop first view) 0 0))
+pub stands_in_rest : (view : List ℕ) (begins : Option Place) (first : ℕ) → ForSome begins (λ place. StandsBefore place (get_or view first 0)) → ForSome begins (λ place. StandsBefore place (get_or (drop first view) 0 0))
 stands_in_rest view begins first stands = λ place is.
     let e : first + 0 ≡ first = omega arith in
     subst (λ id. StandsBefore place id) (sym (get_or-drop first view 0 0 ∙ ap (λ k. get_or view k 0) e)) (stands place is)
 
 -- what stands for the place behind a part has what its items have and those that stand for its own place
-pub next_has : (P : ℕ → Type 0) (arena : Contents) (view : List ℕ) (begins inside : Option BodyPlace) (first : ℕ) → Increase view → ForSome begins (λ place. StandsBefore place (get_or view first 0)) → All P (items_before begins) → All P (drop first view)
+pub next_has : (P : ℕ → Type 0) (arena : Contents) (view : List ℕ) (begins inside : Option Place) (first : ℕ) → Increase view → ForSome begins (λ place. StandsBefore place (get_or view first 0)) → All P (items_before begins) → All P (drop first view)
     → inside ≡ part_inside arena begins (drop first view) → All P (items_before inside)
 next_has P arena view begins inside first increase stands before all is =
-    subst (λ (b : Option BodyPlace). All P (items_before b)) (sym is) (places_have P arena begins (drop first view) 0 (rest_increases 0 first view increase) (stands_in_rest view begins first stands) before all)
+    subst (λ (b : Option Place). All P (items_before b)) (sym is) (places_have P arena begins (drop first view) 0 (rest_increases 0 first view increase) (stands_in_rest view begins first stands) before all)
 
 pub rest_have : (P : ℕ → Type 0) (view : List ℕ) (first : ℕ) → All P view → All P (drop first view)
 rest_have P view first all = λ k d below.
@@ -116,7 +139,7 @@ abbrev pub StandsFrom : List ℕ → ℕ → ℕ → Type 0
 StandsFrom ids base id = (k : ℕ) × (base ≤ k) × (k < length ids) × (get_or ids k 0 ≡ id)
 
 -- what stands for the place where a part begins stands in the view, from this place on and before the part
-pub record IsPlaced (ids : List ℕ) (base : ℕ) (begins : Option BodyPlace) (first : ℕ) : Type 0 where
+pub record IsPlaced (ids : List ℕ) (base : ℕ) (begins : Option Place) (first : ℕ) : Type 0 where
   pub order : base ≤ first
   pub items : All (λ id. StandsFrom ids base id) (items_before begins)
   pub before : ForSome begins (λ place. StandsBefore place (get_or ids first 0))
@@ -125,7 +148,7 @@ pub placed_outside : (ids : List ℕ) (base : ℕ) → IsPlaced ids base None ba
 placed_outside ids base = record { order = omega arith; items = All-nil (λ id. StandsFrom ids base id); before = none_stands None (get_or ids base 0) refl }
 
 -- so it is behind the part
-pub placed_next : (arena : Contents) (ids : List ℕ) (base : ℕ) (begins : Option BodyPlace) (first : ℕ) → Increase ids → IsPlaced ids base begins first
+pub placed_next : (arena : Contents) (ids : List ℕ) (base : ℕ) (begins : Option Place) (first : ℕ) → Increase ids → IsPlaced ids base begins first
     → IsPlaced ids base (part_inside arena begins (drop first ids)) (first + part_len arena begins (drop first ids))
 placed_next arena ids base begins first increase placed =
     let rest = drop first ids in
@@ -141,13 +164,13 @@ placed_next arena ids base begins first increase placed =
     }
 
 -- it has what all items of the view have
-pub placed_has : (P : ℕ → Type 0) (ids : List ℕ) (base : ℕ) (begins : Option BodyPlace) (first : ℕ) → All P ids → IsPlaced ids base begins first → All P (items_before begins)
+pub placed_has : (P : ℕ → Type 0) (ids : List ℕ) (base : ℕ) (begins : Option Place) (first : ℕ) → All P ids → IsPlaced ids base begins first → All P (items_before begins)
 placed_has P ids base begins first all placed = λ k d below.
     let stands = placed.items k d below in
     subst P stands.3 (all stands.0 0 stands.2)
 
 -- its gaps are decided where those of the items of the view are, from this place up to the part
-pub placed_decided : (plan : List (Option Slot)) (ids : List ℕ) (base : ℕ) (begins : Option BodyPlace) (first : ℕ) → Increase ids → IsPlaced ids base begins first
+pub placed_decided : (plan : List (Option Slot)) (ids : List ℕ) (base : ℕ) (begins : Option Place) (first : ℕ) → Increase ids → IsPlaced ids base begins first
     → ((k : ℕ) → base ≤ k → k < first → IsSome (slot_of plan (get_or ids k 0))) → All (λ id. IsSome (slot_of plan id)) (items_before begins)
 placed_decided plan ids base begins first increase placed some = λ k d below.
     let id = get_or (items_before begins) k d in
@@ -162,7 +185,7 @@ placed_decided plan ids base begins first increase placed some = λ k d below.
     ]
 
 -- and so it is behind parts that follow one another
-pub placed_behind : (arena : Contents) (ids : List ℕ) (base : ℕ) (begins : Option BodyPlace) (first : ℕ) (last : PartStop) (stops : List PartStop) → Increase ids → FollowUpTo arena ids begins first last stops → IsPlaced ids base begins first
+pub placed_behind : (arena : Contents) (ids : List ℕ) (base : ℕ) (begins : Option Place) (first : ℕ) (last : PartStop) (stops : List PartStop) → Increase ids → FollowUpTo arena ids begins first last stops → IsPlaced ids base begins first
     → IsPlaced ids base last.inside last.end
 placed_behind arena ids base begins first last [] increase follow placed = subst (λ (s : PartStop). IsPlaced ids base s.inside s.end) follow placed
 placed_behind arena ids base begins first last (stop ∷ stops) increase follow placed =
@@ -176,7 +199,7 @@ abbrev pub PlacesHave : (ℕ → Type 0) → List PartStop → Type 0
 PlacesHave P [] = ⊤
 PlacesHave P (stop ∷ stops) = All P (items_before stop.inside) × PlacesHave P stops
 
-stops_have : (P : ℕ → Type 0) (n : ℕ) (arena : Contents) (ids : List ℕ) (begins : Option BodyPlace) (first : ℕ) → Increase ids → All P ids → IsPlaced ids 0 begins first → PlacesHave P (ends_from n arena ids begins first)
+stops_have : (P : ℕ → Type 0) (n : ℕ) (arena : Contents) (ids : List ℕ) (begins : Option Place) (first : ℕ) → Increase ids → All P ids → IsPlaced ids 0 begins first → PlacesHave P (ends_from n arena ids begins first)
 stops_have P zero arena ids begins first increase all placed = tt
 stops_have P (suc n) arena ids begins first increase all placed =
     let stop = stop_from arena ids begins first in

@@ -4,7 +4,7 @@ use Rattle.std.specs.Prelude.{IsSome, slice_range}
 use Rattle.style_table.specs.declared.style.Style.{Style}
 use Rattle.token_arena.specs.Gaps.{Contents}
 use Rattle.token_arena.specs.Ids.{Increase}
-use Rattle.view_parts.specs.declared.walk.BodyPlace.{BodyPlace}
+use Rattle.view_parts.specs.Places.{Place}
 use Rattle.view_parts.specs.Parts.{PartStop, FollowUpTo, ArePartsUpTo, items_before, laid_items, part_inside, part_len}
 use Rattle.replacements.specs.declared.slot.Slot.{Slot}
 use Rattle.replacements.specs.Decisions.{slot_of}
@@ -30,17 +30,17 @@ part_decided_in : (plan : List (Option Slot)) (ids : List ℕ) (first end last :
 part_decided_in plan ids first end last upto all = λ k below.
     subst (λ id. IsSome (slot_of plan id)) (sym (part_item ids first end k 0 below)) (all (first + k) (omega arith) (omega (arith, below, part_length ids first end, upto)))
 
-pub follow_order : (arena : Contents) (ids : List ℕ) (begins : Option BodyPlace) (first : ℕ) (last : PartStop) (stops : List PartStop) → FollowUpTo arena ids begins first last stops → first ≤ last.end
+pub follow_order : (arena : Contents) (ids : List ℕ) (begins : Option Place) (first : ℕ) (last : PartStop) (stops : List PartStop) → FollowUpTo arena ids begins first last stops → first ≤ last.end
 follow_order arena ids begins first last [] follow = (let at : first ≡ last.end = ap (λ (s : PartStop). s.end) follow in omega (arith, at))
 follow_order arena ids begins first last (stop ∷ stops) follow = (let rest = follow_order arena ids stop.inside stop.end last stops follow.3 in omega (arith, follow.1, rest))
 
 -- what is so of each place where a part begins, and tells that the gaps of what stands for it are decided
-pub record TellDecided (arena : Contents) (plan : List (Option Slot)) (ids : List ℕ) (last : ℕ) (Q : Option BodyPlace → ℕ → Type 0) : Type 0 where
-  pub tells : (begins : Option BodyPlace) (first : ℕ) → first ≤ last → Q begins first → AreDecided plan (items_before begins)
-  pub next : (begins : Option BodyPlace) (first : ℕ) → Q begins first → Q (part_inside arena begins (drop first ids)) (first + part_len arena begins (drop first ids))
+pub record TellDecided (arena : Contents) (plan : List (Option Slot)) (ids : List ℕ) (last : ℕ) (Q : Option Place → ℕ → Type 0) : Type 0 where
+  pub tells : (begins : Option Place) (first : ℕ) → first ≤ last → Q begins first → AreDecided plan (items_before begins)
+  pub next : (begins : Option Place) (first : ℕ) → Q begins first → Q (part_inside arena begins (drop first ids)) (first + part_len arena begins (drop first ids))
 
-pub from_parts : (style : Style) (budget : ℕ) (arena : Contents) (run : ℕ) (plan : List (Option Slot)) (ids : List ℕ) (before now : Tally) (here : List (Option Slot)) (begins : Option BodyPlace) (first : ℕ) (last : PartStop) (stops : List PartStop)
-    (Q : Option BodyPlace → ℕ → Type 0) → TellDecided arena here ids last.end Q → Q begins first → AreDecidedUpTo here ids first last.end → FollowUpTo arena ids begins first last stops
+pub from_parts : (style : Style) (budget : ℕ) (arena : Contents) (run : ℕ) (plan : List (Option Slot)) (ids : List ℕ) (before now : Tally) (here : List (Option Slot)) (begins : Option Place) (first : ℕ) (last : PartStop) (stops : List PartStop)
+    (Q : Option Place → ℕ → Type 0) → TellDecided arena here ids last.end Q → Q begins first → AreDecidedUpTo here ids first last.end → FollowUpTo arena ids begins first last stops
     → GoesOnFrom style budget arena run plan ids before here begins first now → GoesOnFrom style budget arena run plan ids before here last.inside last.end now
 from_parts style budget arena run plan ids before now here begins first last [] Q tell at some follow from =
     subst (λ (s : PartStop). GoesOnFrom style budget arena run plan ids before here s.inside s.end now) follow from

@@ -13,7 +13,7 @@ use Rattle.run_layout.specs.OpenGaps.{IsRowDecided}
 use Rattle.run_layout.specs.declared.report.Tally.{Tally}
 use Rattle.run_layout.proofs.MadeFor.{is_some-decided, decided-is_some}
 use Rattle.view_parts.specs.declared.known.KnownEnd.{KnownEnd}
-use Rattle.view_parts.specs.declared.walk.BodyPlace.{BodyPlace}
+use Rattle.view_parts.specs.Places.{Place}
 use Rattle.view_parts.specs.Parts.{StandsBefore, items_before, laid_items, part_inside}
 use Rattle.view_parts.specs.declared.known.KnownEnd.TheVariants.{Unknown}
 use Rattle.view_parts.specs.declared.known.KnownRow.{KnownRow}
@@ -42,7 +42,7 @@ told_decided style budget arena run plan ids final before after long within laid
     is_some-decided final (get_or ids k 0) (items_decided style budget arena run plan ids final laid.done k long within below laid.items)
 
 -- so are those of the part itself
-own_decided : (plan : List (Option Slot)) (ids : List ℕ) (begins : Option BodyPlace) (first end : ℕ) → AreDecided plan (laid_items begins ids first end) → AreDecided plan (slice_range ids first end)
+own_decided : (plan : List (Option Slot)) (ids : List ℕ) (begins : Option Place) (first end : ℕ) → AreDecided plan (laid_items begins ids first end) → AreDecided plan (slice_range ids first end)
 own_decided plan ids begins first end all = λ k below.
     subst (λ id. IsSome (slot_of plan id)) (laid_item ids begins first end k 0 below ∙ sym (part_item ids first end k 0 below))
     (all (length (items_before begins) + k) (omega (arith, below, laid_length ids begins first end, part_length ids first end)))
@@ -69,7 +69,7 @@ noted_decided plan knowns view first end id noted all = part_of_row plan view fi
 -- ## What is noted
 
 -- behind a part that was laid out its row is decided too, if it was noted
-pub rows_behind : (style : Style) (budget : ℕ) (arena : Contents) (run : ℕ) (plan final : List (Option Slot)) (view : List ℕ) (begins : Option BodyPlace) (first end : ℕ) (earlier knowns : List KnownEnd) (before after : Tally)
+pub rows_behind : (style : Style) (budget : ℕ) (arena : Contents) (run : ℕ) (plan final : List (Option Slot)) (view : List ℕ) (begins : Option Place) (first end : ℕ) (earlier knowns : List KnownEnd) (before after : Tally)
     → length plan ≡ length arena.tokens + 1 → AreWithin arena view → AreWithin arena (items_before begins) → end ≤ length view → AreRowsFrom earlier view first end knowns
     → AreItemsTold style budget arena run plan (laid_items begins view first end) final before after → AreRowsDecided plan earlier → AreRowsDecided final knowns
 rows_behind style budget arena run plan final view begins first end earlier knowns before after long within place inside from laid all id row is =
@@ -102,7 +102,7 @@ behind_decided plan knowns first end begun is all rest = by_row (row_of (get_or 
 -- ## What stands for the place behind a part
 
 -- it is decided behind a part that was laid out
-pub place_decided : (style : Style) (budget : ℕ) (arena : Contents) (run : ℕ) (plan final : List (Option Slot)) (view : List ℕ) (begins inside : Option BodyPlace) (first end : ℕ) (before after : Tally)
+pub place_decided : (style : Style) (budget : ℕ) (arena : Contents) (run : ℕ) (plan final : List (Option Slot)) (view : List ℕ) (begins inside : Option Place) (first end : ℕ) (before after : Tally)
     → length plan ≡ length arena.tokens + 1 → Increase view → AreWithin arena view → AreWithin arena (items_before begins) → ForSome begins (λ place. StandsBefore place (get_or view first 0)) → end ≤ length view → inside ≡ part_inside arena begins (drop first view)
     → ForSome inside (λ place. StandsBefore place (get_or view end 0)) → AreItemsTold style budget arena run plan (laid_items begins view first end) final before after → All (λ id. IsSome (slot_of final id)) (items_before inside)
 place_decided style budget arena run plan final view begins inside first end before after long increase within place begun fits is stands laid = λ k d below.

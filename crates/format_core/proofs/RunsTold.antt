@@ -12,7 +12,7 @@ use Rattle.token_classes.specs.Viewed.{classes_of}
 use Rattle.line_tokens.specs.declared.line.ULine.{ULine}
 use Rattle.line_tokens.specs.Lines.{CutPlaces}
 use Rattle.unwrapped_lines.proofs.Started.{lines_cut_views}
-use Rattle.view_parts.specs.declared.walk.BodyPlace.{BodyPlace}
+use Rattle.view_parts.specs.Places.{Place}
 use Rattle.view_parts.specs.Parts.{PartStop, items_before, laid_items, part_ends}
 use Rattle.replacements.specs.Decisions.{slot_of}
 use Rattle.replacements.specs.declared.slot.Slot.{Slot}
@@ -98,7 +98,7 @@ pub parts_begin : (style : Style) (budget : ℕ) (arena : Contents) (run : ℕ) 
 parts_begin style budget arena run plan ids ends left before all = λ final done h.
     record { whole = done; parts_are = subst (λ (es : List PartStop). AfterParts style budget arena run plan ids None 0 es final done) all h; reports = refl; searched = refl; cost = refl }
 
-pub part_done : (style : Style) (budget : ℕ) (arena : Contents) (run : ℕ) (plan : List (Option Slot)) (ids : List ℕ) (ends : List PartStop) (before now next : Tally) (here after : List (Option Slot)) (begins : Option BodyPlace) (first : ℕ)
+pub part_done : (style : Style) (budget : ℕ) (arena : Contents) (run : ℕ) (plan : List (Option Slot)) (ids : List ℕ) (ends : List PartStop) (before now next : Tally) (here after : List (Option Slot)) (begins : Option Place) (first : ℕ)
     (stop : PartStop) (left rest : List PartStop) → left ≡ stop ∷ rest → GoesOnParts style budget arena run plan ids ends before here begins first left now
     → AreItemsTold style budget arena run here (laid_items begins ids first stop.end) after now next → GoesOnParts style budget arena run plan ids ends before after stop.inside stop.end rest next
 part_done style budget arena run plan ids ends before now next here after begins first stop left rest more on laid = λ final done h.
@@ -115,7 +115,7 @@ part_done style budget arena run plan ids ends before now next here after begins
       cost = omega (arith, w.cost, laid.told.cost, cost_append laid.done done);
     }
 
-pub parts_end : (style : Style) (budget : ℕ) (arena : Contents) (run : ℕ) (plan : List (Option Slot)) (ids : List ℕ) (ends left : List PartStop) (begins : Option BodyPlace) (first : ℕ) (before now : Tally) (here : List (Option Slot))
+pub parts_end : (style : Style) (budget : ℕ) (arena : Contents) (run : ℕ) (plan : List (Option Slot)) (ids : List ℕ) (ends left : List PartStop) (begins : Option Place) (first : ℕ) (before now : Tally) (here : List (Option Slot))
     → left ≡ [] → GoesOnParts style budget arena run plan ids ends before here begins first left now → ArePartsTold style budget arena run plan ids None 0 ends here before now
 parts_end style budget arena run plan ids ends left begins first before now here none on =
     let w = on here [] (subst (λ (es : List PartStop). AfterParts style budget arena run here ids begins first es here []) (sym none) (refl, refl)) in
@@ -126,7 +126,7 @@ parts_end style budget arena run plan ids ends left begins first before now here
     }
 
 -- parts whose gaps are decided tell nothing
-parts_told_nothing : (style : Style) (budget : ℕ) (arena : Contents) (run : ℕ) (plan : List (Option Slot)) (ids : List ℕ) (begins : Option BodyPlace) (first : ℕ) (stops : List PartStop) (tally : Tally) → All (λ id. IsSome (slot_of plan id)) ids
+parts_told_nothing : (style : Style) (budget : ℕ) (arena : Contents) (run : ℕ) (plan : List (Option Slot)) (ids : List ℕ) (begins : Option Place) (first : ℕ) (stops : List PartStop) (tally : Tally) → All (λ id. IsSome (slot_of plan id)) ids
     → All (λ id. IsSome (slot_of plan id)) (items_before begins) → PlacesHave (λ id. IsSome (slot_of plan id)) stops → ArePartsTold style budget arena run plan ids begins first stops plan tally tally
 parts_told_nothing style budget arena run plan ids begins first [] tally all before places = record {
   done = [];

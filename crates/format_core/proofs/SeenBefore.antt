@@ -6,7 +6,7 @@ use Rattle.std.proofs.lemmas.List.{get_or_default}
 use Rattle.style_table.specs.declared.style.Style.{Style}
 use Rattle.token_arena.specs.Gaps.{Contents}
 use Rattle.branch_runs.specs.Anew.{items_between}
-use Rattle.view_parts.specs.declared.walk.BodyPlace.{BodyPlace}
+use Rattle.view_parts.specs.Places.{Place}
 use Rattle.view_parts.specs.Parts.{part_ends}
 use Rattle.replacements.specs.declared.slot.Slot.{Slot}
 use Rattle.replacements.specs.Decisions.{slot_of}
@@ -85,11 +85,11 @@ nothing_new_told style budget arena plan run end tally all whole behind none =
     behind_change arena plan run end all whole behind id (omega (arith, none)) (place, below, get_or_default (seen_by arena run) place id 0 below))
 
 -- the bounds that are left are bounds of what the run sees
-pub record RunBounds (arena : Contents) (run : ℕ) (left : List KnownBound) (item told : ℕ) (inside : Option BodyPlace) : Type 0 where
+pub record RunBounds (arena : Contents) (run : ℕ) (left : List KnownBound) (item told : ℕ) (inside : Option Place) : Type 0 where
   pub bound : IsBound arena (seen_by arena run) item told inside
   pub bounds : AreBounds arena (seen_by arena run) left told
 
-pub run_bounds : (arena : Contents) (run : ℕ) (old left : List KnownBound) (first item told : ℕ) (inside : Option BodyPlace) → (0 < run → (was : ℕ) × AreBounds arena (seen_by arena (run - 1)) old was) → (run ≡ 0 → length old ≡ 0)
+pub run_bounds : (arena : Contents) (run : ℕ) (old left : List KnownBound) (first item told : ℕ) (inside : Option Place) → (0 < run → (was : ℕ) × AreBounds arena (seen_by arena (run - 1)) old was) → (run ≡ 0 → length old ≡ 0)
     → (0 < run → items_between 0 first (seen_by arena run) ≡ items_between 0 first (seen_by arena (run - 1))) → told ≤ first
     → ((view : List ℕ) (was : ℕ) → AreBounds arena view old was → AreBounds arena view left told) → ((view : List ℕ) (was : ℕ) → AreBounds arena view old was → IsBound arena view item told inside)
     → RunBounds arena run left item told inside

@@ -15,7 +15,7 @@ use Rattle.token_classes.specs.Kept.{kept_gaps_of}
 use Rattle.token_classes.specs.Partners.{partners_of}
 use Rattle.token_classes.specs.Viewed.{AreWithin, classes_of}
 use Rattle.unwrapped_lines.proofs.Started.{lines_cut_views}
-use Rattle.view_parts.specs.declared.walk.BodyPlace.{BodyPlace}
+use Rattle.view_parts.specs.Places.{Place}
 use Rattle.view_parts.specs.Parts.{PartStop, items_before, laid_items, part_ends}
 use Rattle.annotator.proofs.Counts.{as_many_roles, roles_tell}
 use Rattle.replacements.specs.declared.slot.Slot.{Slot}
@@ -84,7 +84,7 @@ items_sound style budget arena run plan ids final done within texts laid sound =
 abbrev IsInText : Contents → ℕ → Type 0
 IsInText arena id = (id < length arena.tokens) × (stance_in (sections_of arena) id ≡ OfText)
 
-parts_sound : (style : Style) (budget : ℕ) (arena : Contents) (run : ℕ) (plan : List (Option Slot)) (ids : List ℕ) (begins : Option BodyPlace) (first : ℕ) (stops : List PartStop) (final : List (Option Slot)) (done : List LaidLine)
+parts_sound : (style : Style) (budget : ℕ) (arena : Contents) (run : ℕ) (plan : List (Option Slot)) (ids : List ℕ) (begins : Option Place) (first : ℕ) (stops : List PartStop) (final : List (Option Slot)) (done : List LaidLine)
     → All (IsInText arena) ids → All (IsInText arena) (items_before begins) → PlacesHave (IsInText arena) stops → AfterParts style budget arena run plan ids begins first stops final done → IsSound arena plan → IsSound arena final
 parts_sound style budget arena run plan ids begins first [] final done all here places laid sound = subst (λ (p : List (Option Slot)). IsSound arena p) (sym laid.0) sound
 parts_sound style budget arena run plan ids begins first (stop ∷ stops) final done all here places laid sound =
@@ -119,7 +119,7 @@ items_keep style budget arena run plan ids final done place slot laid is =
     views_keep style budget arena ids (toks_of_items style arena ids) run (after_kept style arena plan ids) (lines_of_items style arena ids) final done laid place slot
     (stay plan (kept_decisions style arena 0 ids (kept_gaps_of (classes_of arena ids))) place slot is)
 
-pub parts_keep : (style : Style) (budget : ℕ) (arena : Contents) (run : ℕ) (plan : List (Option Slot)) (ids : List ℕ) (begins : Option BodyPlace) (first : ℕ) (stops : List PartStop) (final : List (Option Slot)) (done : List LaidLine) (place : ℕ) (slot : Slot)
+pub parts_keep : (style : Style) (budget : ℕ) (arena : Contents) (run : ℕ) (plan : List (Option Slot)) (ids : List ℕ) (begins : Option Place) (first : ℕ) (stops : List PartStop) (final : List (Option Slot)) (done : List LaidLine) (place : ℕ) (slot : Slot)
     → AfterParts style budget arena run plan ids begins first stops final done → slot_of plan place ≡ Some slot → slot_of final place ≡ Some slot
 parts_keep style budget arena run plan ids begins first [] final done place slot laid is = subst (λ (p : List (Option Slot)). slot_of p place ≡ Some slot) (sym laid.0) is
 parts_keep style budget arena run plan ids begins first (stop ∷ stops) final done place slot laid is =
@@ -151,7 +151,7 @@ length-items : (style : Style) (budget : ℕ) (arena : Contents) (run : ℕ) (pl
 length-items style budget arena run plan ids final done laid =
     view_length style budget arena ids (toks_of_items style arena ids) run (after_kept style arena plan ids) (lines_of_items style arena ids) final done laid ∙ length-kept style arena plan ids
 
-length-parts : (style : Style) (budget : ℕ) (arena : Contents) (run : ℕ) (plan : List (Option Slot)) (ids : List ℕ) (begins : Option BodyPlace) (first : ℕ) (stops : List PartStop) (final : List (Option Slot)) (done : List LaidLine)
+length-parts : (style : Style) (budget : ℕ) (arena : Contents) (run : ℕ) (plan : List (Option Slot)) (ids : List ℕ) (begins : Option Place) (first : ℕ) (stops : List PartStop) (final : List (Option Slot)) (done : List LaidLine)
     → AfterParts style budget arena run plan ids begins first stops final done → length final ≡ length plan
 length-parts style budget arena run plan ids begins first [] final done laid = ap (λ (p : List (Option Slot)). length p) laid.0
 length-parts style budget arena run plan ids begins first (stop ∷ stops) final done laid =
@@ -169,7 +169,7 @@ items_decided style budget arena run plan ids final done k long all below laid =
     (lines_cut_views style arena ids (partners_of (classes_of arena ids))) laid k 0 below)
 
 -- behind all parts each gap of their items is decided
-parts_decided : (style : Style) (budget : ℕ) (arena : Contents) (run : ℕ) (plan : List (Option Slot)) (ids : List ℕ) (begins : Option BodyPlace) (first : ℕ) (stops : List PartStop) (final : List (Option Slot)) (done : List LaidLine)
+parts_decided : (style : Style) (budget : ℕ) (arena : Contents) (run : ℕ) (plan : List (Option Slot)) (ids : List ℕ) (begins : Option Place) (first : ℕ) (stops : List PartStop) (final : List (Option Slot)) (done : List LaidLine)
     (place : ℕ) → length plan ≡ length arena.tokens + 1 → AreWithin arena ids → AreWithin arena (items_before begins) → PlacesHave (λ id. id < length arena.tokens) stops → AreEnds first (length ids) stops → first ≤ place
     → place < length ids → AfterParts style budget arena run plan ids begins first stops final done → IsDecided final (get_or ids place 0)
 parts_decided style budget arena run plan ids begins first [] final done place long within here places cut low high laid = absurd (omega (arith, cut, low, high))

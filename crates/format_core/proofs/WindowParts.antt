@@ -7,9 +7,8 @@ use Rattle.std.proofs.lemmas.List.Folds.{drop_split}
 use Rattle.token_arena.specs.Gaps.{Contents}
 use Rattle.token_arena.specs.Ids.{Increase}
 use Rattle.branch_runs.specs.Anew.{items_between}
-use Rattle.view_parts.specs.declared.walk.BodyPlace.{BodyPlace}
-use Rattle.view_parts.specs.declared.walk.Ended.{Ended}
-use Rattle.view_parts.specs.Parts.{PartStop, StandsBefore, ArePartsUpTo, count_or, end_of_part, laid_items, part_inside, part_len, place_of, stop_from, items_before}
+use Rattle.view_parts.specs.Places.{Place}
+use Rattle.view_parts.specs.Parts.{Ended, PartStop, StandsBefore, ArePartsUpTo, count_or, end_of_part, inside_of, laid_items, part_inside, part_len, stop_from, items_before}
 use Rattle.view_parts.specs.Told.{TellParts}
 use Rattle.format_core.specs.Runs.{seen_by}
 use Rattle.format_core.specs.Windows.{AreToldIn, IsWindow, place_before}
@@ -40,13 +39,13 @@ slice_in ids before stretch behind first end is order inside =
 -- ## Parts that a stretch tells
 
 -- where a part ends
-pub stop_is : (arena : Contents) (view : List ℕ) (begins inside : Option BodyPlace) (first end : ℕ) → end ≡ first + part_len arena begins (drop first view) → inside ≡ part_inside arena begins (drop first view)
+pub stop_is : (arena : Contents) (view : List ℕ) (begins inside : Option Place) (first end : ℕ) → end ≡ first + part_len arena begins (drop first view) → inside ≡ part_inside arena begins (drop first view)
     → stop_at end inside ≡ stop_from arena view begins first
 stop_is arena view begins inside first end at is =
-    ap (λ n. stop_at n inside) at ∙ ap (λ (place : Option BodyPlace). stop_at (first + part_len arena begins (drop first view)) place) is
+    ap (λ n. stop_at n inside) at ∙ ap (λ (place : Option Place). stop_at (first + part_len arena begins (drop first view)) place) is
 
 -- a part ends in the list where it ends in the stretch
-pub told_part : (arena : Contents) (ids before stretch behind : List ℕ) (begins : Option BodyPlace) (first : ℕ) (stop : PartStop) (told : ℕ) → ids ≡ before ++ (stretch ++ behind) → first < stop.end → stop.end < told → told ≤ length stretch
+pub told_part : (arena : Contents) (ids before stretch behind : List ℕ) (begins : Option Place) (first : ℕ) (stop : PartStop) (told : ℕ) → ids ≡ before ++ (stretch ++ behind) → first < stop.end → stop.end < told → told ≤ length stretch
     → TellParts arena begins (slice_range stretch first told) (stop.end - first) stop.inside → stop ≡ stop_from arena stretch begins first → stop_at (length before + stop.end) stop.inside ≡ stop_from arena ids begins (length before + first)
 told_part arena ids before stretch behind begins first stop told is some later below tell ends =
     let items = slice_range stretch first told in
@@ -61,12 +60,12 @@ told_part arena ids before stretch behind begins first stop told is some later b
     let len : part_len arena begins (drop first stretch) ≡ one.0.count = ap (λ (o : Option Ended). count_or o (length (drop first stretch))) here in
     let long : part_len arena begins (drop (length before + first) ids) ≡ one.0.count = ap (λ (o : Option Ended). count_or o (length (drop (length before + first) ids))) there in
     let at : stop.end ≡ first + part_len arena begins (drop first stretch) = ap (λ (s : PartStop). s.end) ends in
-    let inside : stop.inside ≡ part_inside arena begins (drop (length before + first) ids) = ap (λ (s : PartStop). s.inside) ends ∙ (ap (λ (o : Option Ended). place_of o) here ∙ sym (ap (λ (o : Option Ended). place_of o) there)) in
+    let inside : stop.inside ≡ part_inside arena begins (drop (length before + first) ids) = ap (λ (s : PartStop). s.inside) ends ∙ (ap (λ (o : Option Ended). inside_of o) here ∙ sym (ap (λ (o : Option Ended). inside_of o) there)) in
     let end : length before + stop.end ≡ (length before + first) + part_len arena begins (drop (length before + first) ids) = omega (arith, len, long, at) in
     stop_is arena ids begins stop.inside (length before + first) (length before + stop.end) end inside
 
 -- and so do parts that follow one another
-pub told_parts : (arena : Contents) (ids before stretch behind : List ℕ) (begins inside : Option BodyPlace) (first end told : ℕ) → ids ≡ before ++ (stretch ++ behind) → first < end → end < told → told ≤ length stretch
+pub told_parts : (arena : Contents) (ids before stretch behind : List ℕ) (begins inside : Option Place) (first end told : ℕ) → ids ≡ before ++ (stretch ++ behind) → first < end → end < told → told ≤ length stretch
     → TellParts arena begins (slice_range stretch first told) (end - first) inside → ArePartsUpTo arena ids begins (length before + first) (stop_at (length before + end) inside)
 told_parts arena ids before stretch behind begins inside first end told is some later below tell =
     let items = slice_range stretch first told in
@@ -116,12 +115,12 @@ window_slice arena run from till window first end is order inside =
     let seen = seen_by arena run in
     slice_in seen (items_between 0 from seen) window (items_from till seen) first end (window_stands arena run from till window is) order inside
 
-pub window_laid : (arena : Contents) (run from till : ℕ) (window : List ℕ) (begins : Option BodyPlace) (first end : ℕ) → IsWindow arena run window from till → first ≤ end → end ≤ length window
+pub window_laid : (arena : Contents) (run from till : ℕ) (window : List ℕ) (begins : Option Place) (first end : ℕ) → IsWindow arena run window from till → first ≤ end → end ≤ length window
     → laid_items begins (seen_by arena run) (place_before arena run from + first) (place_before arena run from + end) ≡ laid_items begins window first end
 window_laid arena run from till window begins first end is order inside = ap (λ (xs : List ℕ). items_before begins ++ xs) (window_slice arena run from till window first end is order inside)
 
 -- parts that the window tells are parts of what the run sees
-pub window_parts : (arena : Contents) (run from till : ℕ) (window : List ℕ) (begins inside : Option BodyPlace) (first end told : ℕ) → IsWindow arena run window from till → first < end → AreToldIn arena window begins first end inside told
+pub window_parts : (arena : Contents) (run from till : ℕ) (window : List ℕ) (begins inside : Option Place) (first end told : ℕ) → IsWindow arena run window from till → first < end → AreToldIn arena window begins first end inside told
     → ArePartsUpTo arena (seen_by arena run) begins (place_before arena run from + first) (stop_at (place_before arena run from + end) inside)
 window_parts arena run from till window begins inside first end told is some are =
     let seen = seen_by arena run in
@@ -134,7 +133,7 @@ seen_item arena run from till window place is below =
     subst (λ (xs : List ℕ). place < length xs → get_or seen (place_before arena run from + place) 0 ≡ get_or xs place 0) (sym is.items) (window_item from till seen place (seen_increases arena run) is.order) below
 
 -- what stands for a place before an item of the window stands before it in what the run sees
-pub stands_in_seen : (arena : Contents) (run from till : ℕ) (window : List ℕ) (begins : Option BodyPlace) (place : ℕ) → IsWindow arena run window from till → ForSome begins (λ b. StandsBefore b (get_or window place 0))
+pub stands_in_seen : (arena : Contents) (run from till : ℕ) (window : List ℕ) (begins : Option Place) (place : ℕ) → IsWindow arena run window from till → ForSome begins (λ b. StandsBefore b (get_or window place 0))
     → ForSome begins (λ b. StandsBefore b (get_or (seen_by arena run) (place_before arena run from + place) 0))
 stands_in_seen arena run from till window begins place window_is stands = λ b is.
     let here = stands b is in
@@ -165,7 +164,7 @@ pub unlike : false ≡ true → ⊥
 unlike e = cc
 
 -- the same, where it is known that the window tells them
-pub window_row : (arena : Contents) (run from till : ℕ) (window : List ℕ) (begins inside : Option BodyPlace) (first end : ℕ) (told : Option ℕ) → IsWindow arena run window from till → first < end → IsSome told
+pub window_row : (arena : Contents) (run from till : ℕ) (window : List ℕ) (begins inside : Option Place) (first end : ℕ) (told : Option ℕ) → IsWindow arena run window from till → first < end → IsSome told
     → ForSome told (λ told. AreToldIn arena window begins first end inside told) → ArePartsUpTo arena (seen_by arena run) begins (place_before arena run from + first) (stop_at (place_before arena run from + end) inside)
 window_row arena run from till window begins inside first end (Some told) is some tells are = window_parts arena run from till window begins inside first end told is some (are told refl)
 window_row arena run from till window begins inside first end None is some tells are = absurd (unlike tells)
@@ -175,7 +174,7 @@ pub isnt_told : (told : Option ℕ) (none : Bool) → is_some told ≡ not none 
 isnt_told told none is told_is e = unlike (sym (ap (λ (o : Option ℕ). is_some o) e) ∙ (is ∙ ap (λ (b : Bool). not b) told_is))
 
 -- a part of the window ends in what the run sees where it ends in the window, which tells so or reaches the end of the text
-pub window_part : (arena : Contents) (run from till : ℕ) (window : List ℕ) (begins : Option BodyPlace) (first : ℕ) (stop : PartStop) (told : Option ℕ) → IsWindow arena run window from till → first < stop.end → stop.end ≤ length window
+pub window_part : (arena : Contents) (run from till : ℕ) (window : List ℕ) (begins : Option Place) (first : ℕ) (stop : PartStop) (told : Option ℕ) → IsWindow arena run window from till → first < stop.end → stop.end ≤ length window
     → ForSome told (λ told. AreToldIn arena window begins first stop.end stop.inside told) → ForNone told (length arena.tokens ≤ till) → stop ≡ stop_from arena window begins first
     → stop_at (place_before arena run from + stop.end) stop.inside ≡ stop_from arena (seen_by arena run) begins (place_before arena run from + first)
 window_part arena run from till window begins first stop (Some told) is some inside are whole ends =

@@ -7,7 +7,7 @@ use Rattle.replacements.specs.declared.slot.Slot.{Slot}
 use Rattle.run_layout.specs.Outcomes.{LaidLine}
 use Rattle.run_layout.specs.View.{AfterView}
 use Rattle.format_core.specs.BeforeRuns.{early_plan}
-use Rattle.view_parts.specs.declared.walk.BodyPlace.{BodyPlace}
+use Rattle.view_parts.specs.Places.{Place}
 use Rattle.view_parts.specs.Parts.{PartStop, laid_items, part_ends}
 use Rattle.format_core.specs.Runs.{runs_of, seen_by, after_kept}
 use Rattle.annotator.specs.Tokens.{toks_of_items}
@@ -19,7 +19,7 @@ AfterItems style budget arena run plan ids final done =
     AfterView style budget arena ids (toks_of_items style arena ids) run (after_kept style arena plan ids) (lines_of_items style arena ids) final done
 
 -- Behind the parts of a view that end so, the first of which begins at this place, outside brackets or at this place of a body, stands this plan, and this came of their lines: they are laid out one after another.
-abbrev pub AfterParts : Style → ℕ → Contents → ℕ → List (Option Slot) → List ℕ → Option BodyPlace → ℕ → List PartStop → List (Option Slot) → List LaidLine → Type 0
+abbrev pub AfterParts : Style → ℕ → Contents → ℕ → List (Option Slot) → List ℕ → Option Place → ℕ → List PartStop → List (Option Slot) → List LaidLine → Type 0
 AfterParts style budget arena run plan ids begins first [] final done = (final ≡ plan) × (done ≡ [])
 AfterParts style budget arena run plan ids begins first (stop ∷ stops) final done =
     (after : List (Option Slot)) × (here : List LaidLine) × (later : List LaidLine)

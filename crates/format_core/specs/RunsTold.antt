@@ -2,7 +2,7 @@
 use Rattle.std.specs.Prelude.{◌≡◌, ℕ, List, Option}
 use Rattle.style_table.specs.declared.style.Style.{Style}
 use Rattle.token_arena.specs.Gaps.{Contents}
-use Rattle.view_parts.specs.declared.walk.BodyPlace.{BodyPlace}
+use Rattle.view_parts.specs.Places.{Place}
 use Rattle.view_parts.specs.Parts.{PartStop}
 use Rattle.off_regions.specs.declared.range.LineRange.{LineRange}
 use Rattle.replacements.specs.declared.slot.Slot.{Slot}
@@ -21,7 +21,7 @@ pub record AreItemsTold (style : Style) (budget : ℕ) (arena : Contents) (run :
   pub told : IsToldOf done before after
 
 -- the same behind the parts of a view that end so, the first of which begins at this place
-pub record ArePartsTold (style : Style) (budget : ℕ) (arena : Contents) (run : ℕ) (plan : List (Option Slot)) (ids : List ℕ) (begins : Option BodyPlace) (first : ℕ) (ends : List PartStop) (final : List (Option Slot)) (before after : Tally) : Type 0 where
+pub record ArePartsTold (style : Style) (budget : ℕ) (arena : Contents) (run : ℕ) (plan : List (Option Slot)) (ids : List ℕ) (begins : Option Place) (first : ℕ) (ends : List PartStop) (final : List (Option Slot)) (before after : Tally) : Type 0 where
   pub done : List LaidLine
   pub parts : AfterParts style budget arena run plan ids begins first ends final done
   pub told : IsToldOf done before after

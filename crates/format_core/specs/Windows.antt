@@ -6,7 +6,7 @@ use Rattle.run_layout.specs.Counted.{IsCounted}
 use Rattle.view_parts.specs.declared.known.KnownEnd.{KnownEnd}
 use Rattle.view_parts.specs.declared.known.KnownSpan.{KnownSpan}
 use Rattle.view_parts.specs.Known.{AreKnown, AreSpans}
-use Rattle.view_parts.specs.declared.walk.BodyPlace.{BodyPlace}
+use Rattle.view_parts.specs.Places.{Place}
 use Rattle.view_parts.specs.Told.{TellParts}
 use Rattle.format_core.specs.declared.runs.Made.{Made}
 use Rattle.format_core.specs.Runs.{AreRowsDecided, seen_by}
@@ -30,7 +30,7 @@ pub record AreInStep (arena : Contents) (made : Made) (knowns : List KnownEnd) (
   pub spans : AreSpans arena kept
 
 -- the items of a window from one place to before another tell where parts end that begin there, outside brackets or in a body
-pub record AreToldIn (arena : Contents) (view : List ℕ) (begins : Option BodyPlace) (first end : ℕ) (inside : Option BodyPlace) (told : ℕ) : Type 0 where
+pub record AreToldIn (arena : Contents) (view : List ℕ) (begins : Option Place) (first end : ℕ) (inside : Option Place) (told : ℕ) : Type 0 where
   pub tell : TellParts arena begins (slice_range view first told) (end - first) inside
   pub later : end < told
   pub below : told ≤ length view

@@ -2,6 +2,7 @@
 
 ghost use Rattle.std.specs.Prelude.{◌≤◌, ℕ, List};
 ghost use Rattle.token_arena.specs.Gaps.{Contents};
+ghost use Rattle.view_parts.specs.Places.{place_in};
 ghost use Rattle.format_core.specs.Bounds.{AreBounds, IsBound};
 
 use bumpalo::Bump;
@@ -9,20 +10,20 @@ use view_parts::BodyPlace;
 
 /// Where parts of a view end, as its first items tell.
 #[derive(Clone, Copy)]
-pub(crate) struct KnownBound {
+pub(crate) struct KnownBound<'k> {
     /// The item before which they end.
     pub item: u32,
     /// The item behind those that tell so.
     pub told: u32,
-    /// Where that is in a function's body, if it is in one.
-    pub inside: Option<BodyPlace>,
+    /// Where that is in a body, if it is in one.
+    pub inside: Option<BodyPlace<'k>>,
 }
 
 /// Takes away the bounds that are told by this item or one behind it. The result is the last one that is left.
-pub(crate) fn last_bound(bounds: &mut Vec<KnownBound, &Bump>, first: u32) -> KnownBound
+pub(crate) fn last_bound<'k>(bounds: &mut Vec<KnownBound<'k>, &Bump>, first: u32) -> KnownBound<'k>
     ensures low { result.told ≤ first }
     ensures bounds { (arena : Contents) (view : List ℕ) (told : ℕ) → AreBounds arena view bounds.old.items told → AreBounds arena view bounds.new.items result.told }
-    ensures last { (arena : Contents) (view : List ℕ) (told : ℕ) → AreBounds arena view bounds.old.items told → IsBound arena view result.item result.told result.inside }
+    ensures last { (arena : Contents) (view : List ℕ) (told : ℕ) → AreBounds arena view bounds.old.items told → IsBound arena view result.item result.told (place_in result.inside) }
 {
     let mut count = bounds.len();
     while count > 0 {

@@ -14,20 +14,20 @@ use view_parts::{KnownEnd, KnownSpans};
 
 /// What earlier runs told of parts.
 #[derive(Drop)]
-pub(crate) struct KnownParts<'k> {
+pub(crate) struct KnownParts<'e, 'k> {
     /// Where parts end that begin with an item, for each item of the text, or for none.
-    pub ends: &'k mut [KnownEnd],
+    pub ends: &'e mut [KnownEnd],
     /// Parts that stand in no row.
     pub spans: KnownSpans<'k>,
     /// Where parts of the view end, as its first items tell.
-    pub bounds: Vec<KnownBound, &'k Bump>,
+    pub bounds: Vec<KnownBound<'k>, &'k Bump>,
     /// What the memory of all these is taken from.
     pub keep: &'k Bump,
 }
 
-impl<'k> KnownParts<'k> {
+impl<'k> KnownParts<'k, 'k> {
     /// Nothing is known. It has room for what is told of the parts of a text with so many items.
-    pub fn none(items: usize, keep: &'k Bump) -> Result<KnownParts<'k>, NoMemory>
+    pub fn none(items: usize, keep: &'k Bump) -> Result<KnownParts<'k, 'k>, NoMemory>
         ensures known { IfOk result (λ known. (arena : Contents) → AreKnown arena known.ends.now) }
         ensures rows { IfOk result (λ known. (plan : List (Option Slot)) → AreRowsDecided plan known.ends.now) }
         ensures spans { IfOk result (λ known. (arena : Contents) → AreSpans arena known.spans.spans.items) }

@@ -13,6 +13,7 @@ ghost use Rattle.replacements.specs.declared.slot.Slot.{Slot};
 ghost use Rattle.run_layout.specs.Counted.{IsCounted};
 ghost use Rattle.view_parts.specs.Known.{AreKnown};
 ghost use Rattle.view_parts.specs.Parts.{ArePartsUpTo, StandsBefore, items_before, laid_items};
+ghost use Rattle.view_parts.specs.Places.{place_in};
 ghost use Rattle.format_core.specs.Runs.{AreDecided, AreRowsDecided, runs_of, seen_by};
 ghost use Rattle.std.specs.Prelude.{IsSome};
 ghost use Rattle.std.specs.List.{Contains};
@@ -181,7 +182,7 @@ struct Window<'r> {
 fn lay_out_part(
     context: &Context<'_>,
     window: &Window<'_>,
-    inside: Option<BodyPlace>,
+    inside: Option<BodyPlace<'_>>,
     first: u32,
     end: u32,
     made: &mut Made<'_>,
@@ -195,13 +196,13 @@ fn lay_out_part(
     requires some { first < end }
     requires inside { end ≤ length window.now.view }
     requires whole { length made.old.plan ≡ length context.now.arena.now.tokens + 1 }
-    requires begins { ForSome inside (λ place. StandsBefore place (get_or window.now.view first 0)) }
-    requires items { All (λ id. id < length context.now.arena.now.tokens) (items_before inside) }
-    requires decided { All (λ id. IsSome (slot_of made.old.plan id)) (items_before inside) }
+    requires begins { ForSome (place_in inside) (λ place. StandsBefore place (get_or window.now.view first 0)) }
+    requires items { All (λ id. id < length context.now.arena.now.tokens) (items_before (place_in inside)) }
+    requires decided { All (λ id. IsSome (slot_of made.old.plan id)) (items_before (place_in inside)) }
     requires room { made.old.tally.searched + 67 * (end - first) < 2 ^ 60 }
     requires cheap { made.old.tally.cost ≤ made.old.tally.searched * 18446744073709551615 }
     requires counted { IsCounted context.now.arena.now made.old.tally.lines }
-    ensures told { OnOk result (AreItemsTold context.now.style.now context.now.budget context.now.arena.now window.now.number made.old.plan (laid_items inside window.now.view first end) made.new.plan made.old.tally made.new.tally) }
+    ensures told { OnOk result (AreItemsTold context.now.style.now context.now.budget context.now.arena.now window.now.number made.old.plan (laid_items (place_in inside.entry) window.now.view first end) made.new.plan made.old.tally made.new.tally) }
     ensures len { OnOk result (length made.new.plan ≡ length made.old.plan) }
     ensures room { OnOk result (made.new.tally.searched ≤ made.old.tally.searched + 67 * (end - first)) }
     ensures cheap { OnOk result (made.new.tally.cost ≤ made.new.tally.searched * 18446744073709551615) }
@@ -222,11 +223,11 @@ fn lay_out_part(
 
 /// A run, and what of it is looked at.
 #[derive(Drop)]
-struct Turn {
+struct Turn<'k> {
     /// The number of the run.
     number: u32,
     /// Where it starts.
-    bound: KnownBound,
+    bound: KnownBound<'k>,
     /// The item behind those that are new in it.
     new_end: u32,
     /// Whether another run follows.
@@ -235,7 +236,7 @@ struct Turn {
 
 /// How far a run has come in a window.
 #[derive(Drop)]
-struct Way {
+struct Way<'k> {
     /// The place of the next part.
     first: u32,
     /// The number of the segment that is looked at first.
@@ -244,16 +245,16 @@ struct Way {
     row: TokenId,
     /// The item behind those that tell where the parts before it end.
     told: u32,
-    /// Where the next part begins in a function's body, if it begins in one.
-    inside: Option<BodyPlace>,
+    /// Where the next part begins in a body, if it begins in one.
+    inside: Option<BodyPlace<'k>>,
 }
 
-impl Way {
+impl<'k> Way<'k> {
     /// At the first part, before which parts end as the items before this one tell.
-    fn start(told: u32, inside: Option<BodyPlace>) -> Way
+    fn start(told: u32, inside: Option<BodyPlace<'k>>) -> Way<'k>
         ensures first { result.first ≡ 0 }
         ensures told { result.told ≡ told }
-        ensures inside { result.inside ≡ inside }
+        ensures inside { result.inside ≡ inside.entry }
     {
         Way {
             first: 0,
@@ -271,8 +272,8 @@ fn pass_row(
     view: &View<'_>,
     id: TokenId,
     known: &mut [KnownEnd],
-    way: &mut Way,
-) -> Option<PartsEnd>
+    way: &mut Way<'_>,
+) -> Option<PartsEnd<'static>>
     requires here { way.old.first < length view.now }
     requires item { (d : ℕ) → get_or view.now way.old.first d ≡ id.0 }
     requires known { AreKnown arena.now known.old }
@@ -304,18 +305,18 @@ fn pass_row(
 
 /// Goes on behind a part that was laid out, which begins with this item. If it is noted in a row, so it is with those
 /// before it.
-fn pass_part(
+fn pass_part<'k>(
     arena: &TokenArena<'_, '_>,
     id: TokenId,
-    part: PartsEnd,
+    part: PartsEnd<'k>,
     known: &mut [KnownEnd],
-    way: &mut Way,
+    way: &mut Way<'k>,
 )
     requires known { AreKnown arena.now known.old }
     ensures known { AreKnown arena.now known.new }
     ensures rows { (plan : List (Option Slot)) → AreRowsDecided plan known.old → AreRowsDecided plan known.new }
-    ensures end { way.new.first ≡ part.end }
-    ensures inside { way.new.inside ≡ part.inside }
+    ensures end { way.new.first ≡ part.entry.end }
+    ensures inside { way.new.inside ≡ part.entry.inside }
     ensures same { way.new.told ≡ way.old.told }
 {
     if way.inside.is_none() {
@@ -327,15 +328,15 @@ fn pass_part(
 
 /// Decides the gaps of the next part of a window, where they are open, or passes over parts that are noted in a row.
 /// Where the window doesn't tell where the part ends, the result is none.
-fn lay_out_next(
+fn lay_out_next<'k>(
     context: &Context<'_>,
     window: &Window<'_>,
     id: TokenId,
-    known: &mut KnownParts<'_>,
+    known: &mut KnownParts<'_, 'k>,
     made: &mut Made<'_>,
-    way: &mut Way,
+    way: &mut Way<'k>,
     room: &Bump,
-) -> Result<Option<PartsEnd>, NoMemory>
+) -> Result<Option<PartsEnd<'k>>, NoMemory>
     requires range { IsInRange context.now.style.now }
     requires budget { context.now.budget ≤ 16000000 }
     requires all { context.now.classes.now ≡ item_classes context.now.arena.now }
@@ -343,22 +344,22 @@ fn lay_out_next(
     requires window { IsWindow context.now.arena.now window.now.number window.now.view window.now.first window.now.end }
     requires here { way.old.first < length window.now.view }
     requires item { (d : ℕ) → get_or window.now.view way.old.first d ≡ id.0 }
-    requires begins { ForSome way.old.inside (λ place. StandsBefore place (get_or window.now.view way.old.first 0)) }
-    requires items { All (λ id. id < length context.now.arena.now.tokens) (items_before way.old.inside) }
-    requires decided { All (λ id. IsSome (slot_of made.old.plan id)) (items_before way.old.inside) }
+    requires begins { ForSome (place_in way.old.inside) (λ place. StandsBefore place (get_or window.now.view way.old.first 0)) }
+    requires items { All (λ id. id < length context.now.arena.now.tokens) (items_before (place_in way.old.inside)) }
+    requires decided { All (λ id. IsSome (slot_of made.old.plan id)) (items_before (place_in way.old.inside)) }
     requires room { made.old.tally.searched + 67 * (length window.now.view - way.old.first) < 2 ^ 60 }
     requires state { AreInStep context.now.arena.now made.old known.old.ends.now known.old.spans.spans.items }
     ensures state { OnOk result (AreInStep context.now.arena.now made.new known.new.ends.now known.new.spans.spans.items) }
-    ensures on { OnOk result ((plan : List (Option Slot)) (before : Tally) → GoesOnFrom context.now.style.now context.now.budget context.now.arena.now window.now.number plan (seen_by context.now.arena.now window.now.number) before made.old.plan way.old.inside (place_before context.now.arena.now window.now.number window.now.first + way.old.first) made.old.tally → GoesOnFrom context.now.style.now context.now.budget context.now.arena.now window.now.number plan (seen_by context.now.arena.now window.now.number) before made.new.plan way.new.inside (place_before context.now.arena.now window.now.number window.now.first + way.new.first) made.new.tally) }
+    ensures on { OnOk result ((plan : List (Option Slot)) (before : Tally) → GoesOnFrom context.now.style.now context.now.budget context.now.arena.now window.now.number plan (seen_by context.now.arena.now window.now.number) before made.old.plan (place_in way.old.inside) (place_before context.now.arena.now window.now.number window.now.first + way.old.first) made.old.tally → GoesOnFrom context.now.style.now context.now.budget context.now.arena.now window.now.number plan (seen_by context.now.arena.now window.now.number) before made.new.plan (place_in way.new.inside) (place_before context.now.arena.now window.now.number window.now.first + way.new.first) made.new.tally) }
     ensures room { OnOk result (made.new.tally.searched ≤ made.old.tally.searched + 67 * (way.new.first - way.old.first)) }
     ensures within { OnOk result (way.new.first ≤ length window.now.view) }
     ensures end { IfOk result (λ found. IfSome found (λ parts. way.new.first ≡ parts.end)) }
     ensures inside { IfOk result (λ found. IfSome found (λ parts. way.new.inside ≡ parts.inside)) }
-    ensures place { IfOk result (λ found. IfSome found (λ parts. ForSome parts.inside (λ place. StandsBefore place (get_or window.now.view parts.end 0)))) }
-    ensures items { OnOk result (All (λ id. id < length context.now.arena.now.tokens) (items_before way.new.inside)) }
-    ensures decided { OnOk result (All (λ id. IsSome (slot_of made.new.plan id)) (items_before way.new.inside)) }
+    ensures place { IfOk result (λ found. IfSome found (λ parts. ForSome (place_in parts.inside) (λ place. StandsBefore place (get_or window.now.view parts.end 0)))) }
+    ensures items { OnOk result (All (λ id. id < length context.now.arena.now.tokens) (items_before (place_in way.new.inside))) }
+    ensures decided { OnOk result (All (λ id. IsSome (slot_of made.new.plan id)) (items_before (place_in way.new.inside))) }
     ensures some { IfOk result (λ found. IfSome found (λ parts. way.old.first < parts.end)) }
-    ensures told { IfOk result (λ found. IfSome found (λ parts. ForSome parts.told (λ told. AreToldIn context.now.arena.now window.now.view way.old.inside way.old.first parts.end parts.inside told))) }
+    ensures told { IfOk result (λ found. IfSome found (λ parts. ForSome parts.told (λ told. AreToldIn context.now.arena.now window.now.view (place_in way.old.inside) way.old.first parts.end (place_in parts.inside) told))) }
     ensures whole { IfOk result (λ found. IfSome found (λ parts. ForNone parts.told (parts.end ≡ length window.now.view))) }
     ensures none { IfOk result (λ found. ForNone found (window.now.end < length context.now.arena.now.tokens)) }
     ensures stays { IfOk result (λ found. ForNone found ((way.new.first ≡ way.old.first) × (way.new.inside ≡ way.old.inside))) }
@@ -396,25 +397,25 @@ fn lay_out_next(
 }
 
 /// Notes where parts end that begin at this place, if a later run follows.
-fn note_bound(
+fn note_bound<'k>(
     arena: &TokenArena<'_, '_>,
     window: &Window<'_>,
-    begins: Option<BodyPlace>,
+    begins: Option<BodyPlace<'k>>,
     first: u32,
-    parts: PartsEnd,
-    bounds: &mut Vec<KnownBound, &Bump>,
-    way: &mut Way,
+    parts: PartsEnd<'k>,
+    bounds: &mut Vec<KnownBound<'k>, &'k Bump>,
+    way: &mut Way<'_>,
 ) -> Result<(), NoMemory>
     requires within { AreWithin arena.now window.now.view }
     requires window { IsWindow arena.now window.now.number window.now.view window.now.first window.now.end }
     requires some { first < parts.end }
-    requires told { ForSome parts.told (λ told. AreToldIn arena.now window.now.view begins first parts.end parts.inside told) }
+    requires told { ForSome parts.told (λ told. AreToldIn arena.now window.now.view (place_in begins) first parts.end (place_in parts.inside) told) }
     requires whole { ForNone parts.told (parts.end ≡ length window.now.view) }
-    requires begin { IsTrue window.now.later → BeginTold arena.now (items_between 0 way.old.told (seen_by arena.now window.now.number)) (place_before arena.now window.now.number window.now.first + first) begins }
+    requires begin { IsTrue window.now.later → BeginTold arena.now (items_between 0 way.old.told (seen_by arena.now window.now.number)) (place_before arena.now window.now.number window.now.first + first) (place_in begins) }
     requires bounds { AreBounds arena.now (seen_by arena.now window.now.number) bounds.old.items way.old.told }
     ensures first { OnOk result (way.new.first ≡ way.old.first) }
     ensures inside { OnOk result (way.new.inside ≡ way.old.inside) }
-    ensures begin { OnOk result (IsTrue window.now.later → parts.end < length window.now.view → BeginTold arena.now (items_between 0 way.new.told (seen_by arena.now window.now.number)) (place_before arena.now window.now.number window.now.first + parts.end) parts.inside) }
+    ensures begin { OnOk result (IsTrue window.now.later → parts.entry.end < length window.now.view → BeginTold arena.now (items_between 0 way.new.told (seen_by arena.now window.now.number)) (place_before arena.now window.now.number window.now.first + parts.entry.end) (place_in parts.entry.inside)) }
     ensures bounds { OnOk result (AreBounds arena.now (seen_by arena.now window.now.number) bounds.new.items way.new.told) }
 {
     if !window.later {
@@ -448,12 +449,12 @@ fn clear(room: &mut Bump, alloc: Global) {
 /// Goes over a window from part to part, up to the first one that begins behind what is new. Where the window doesn't
 /// tell where a part ends, the result is the item with which it begins. What a part takes of memory serves the next one
 /// too.
-fn lay_out_window(
+fn lay_out_window<'k>(
     context: &Context<'_>,
     window: &Window<'_>,
-    known: &mut KnownParts<'_>,
+    known: &mut KnownParts<'_, 'k>,
     made: &mut Made<'_>,
-    way: &mut Way,
+    way: &mut Way<'k>,
 ) -> Result<Option<TokenId>, NoMemory>
     requires range { IsInRange context.now.style.now }
     requires budget { context.now.budget ≤ 16000000 }
@@ -462,24 +463,24 @@ fn lay_out_window(
     requires window { IsWindow context.now.arena.now window.now.number window.now.view window.now.first window.now.end }
     requires new { window.now.new_end ≤ window.now.end }
     requires start { way.old.first ≡ 0 }
-    requires begins { ForSome way.old.inside (λ place. StandsBefore place (get_or (seen_by context.now.arena.now window.now.number) (place_before context.now.arena.now window.now.number window.now.first) 0)) }
-    requires items { All (λ id. id < length context.now.arena.now.tokens) (items_before way.old.inside) }
-    requires decided { All (λ id. IsSome (slot_of made.old.plan id)) (items_before way.old.inside) }
+    requires begins { ForSome (place_in way.old.inside) (λ place. StandsBefore place (get_or (seen_by context.now.arena.now window.now.number) (place_before context.now.arena.now window.now.number window.now.first) 0)) }
+    requires items { All (λ id. id < length context.now.arena.now.tokens) (items_before (place_in way.old.inside)) }
+    requires decided { All (λ id. IsSome (slot_of made.old.plan id)) (items_before (place_in way.old.inside)) }
     requires room { made.old.tally.searched ≤ 2 ^ 59 + 4294967296 }
     requires state { AreInStep context.now.arena.now made.old known.old.ends.now known.old.spans.spans.items }
-    requires begin { IsTrue window.now.later → BeginTold context.now.arena.now (items_between 0 way.old.told (seen_by context.now.arena.now window.now.number)) (place_before context.now.arena.now window.now.number window.now.first) way.old.inside }
+    requires begin { IsTrue window.now.later → BeginTold context.now.arena.now (items_between 0 way.old.told (seen_by context.now.arena.now window.now.number)) (place_before context.now.arena.now window.now.number window.now.first) (place_in way.old.inside) }
     requires bounds { AreBounds context.now.arena.now (seen_by context.now.arena.now window.now.number) known.old.bounds.items way.old.told }
     ensures state { OnOk result (AreInStep context.now.arena.now made.new known.new.ends.now known.new.spans.spans.items) }
-    ensures on { OnOk result ((plan : List (Option Slot)) (before : Tally) → GoesOnFrom context.now.style.now context.now.budget context.now.arena.now window.now.number plan (seen_by context.now.arena.now window.now.number) before made.old.plan way.old.inside (place_before context.now.arena.now window.now.number window.now.first) made.old.tally → GoesOnFrom context.now.style.now context.now.budget context.now.arena.now window.now.number plan (seen_by context.now.arena.now window.now.number) before made.new.plan way.new.inside (place_before context.now.arena.now window.now.number window.now.first + way.new.first) made.new.tally) }
+    ensures on { OnOk result ((plan : List (Option Slot)) (before : Tally) → GoesOnFrom context.now.style.now context.now.budget context.now.arena.now window.now.number plan (seen_by context.now.arena.now window.now.number) before made.old.plan (place_in way.old.inside) (place_before context.now.arena.now window.now.number window.now.first) made.old.tally → GoesOnFrom context.now.style.now context.now.budget context.now.arena.now window.now.number plan (seen_by context.now.arena.now window.now.number) before made.new.plan (place_in way.new.inside) (place_before context.now.arena.now window.now.number window.now.first + way.new.first) made.new.tally) }
     ensures room { OnOk result (made.new.tally.searched ≤ made.old.tally.searched + 67 * way.new.first) }
     ensures inside { OnOk result (way.new.first ≤ length window.now.view) }
     ensures bounds { OnOk result (AreBounds context.now.arena.now (seen_by context.now.arena.now window.now.number) known.new.bounds.items way.new.told) }
-    ensures begin { IfOk result (λ found. IfSome found (λ id. IsTrue window.now.later → BeginTold context.now.arena.now (items_between 0 way.new.told (seen_by context.now.arena.now window.now.number)) (place_before context.now.arena.now window.now.number window.now.first + way.new.first) way.new.inside)) }
+    ensures begin { IfOk result (λ found. IfSome found (λ id. IsTrue window.now.later → BeginTold context.now.arena.now (items_between 0 way.new.told (seen_by context.now.arena.now window.now.number)) (place_before context.now.arena.now window.now.number window.now.first + way.new.first) (place_in way.new.inside))) }
     ensures stopped { IfOk result (λ found. IfSome found (λ id. id.0 ≡ get_or window.now.view way.new.first 0)) }
     ensures here { IfOk result (λ found. IfSome found (λ id. way.new.first < length window.now.view)) }
-    ensures place { OnOk result (ForSome way.new.inside (λ place. StandsBefore place (get_or (seen_by context.now.arena.now window.now.number) (place_before context.now.arena.now window.now.number window.now.first + way.new.first) 0))) }
-    ensures items { OnOk result (All (λ id. id < length context.now.arena.now.tokens) (items_before way.new.inside)) }
-    ensures decided { OnOk result (All (λ id. IsSome (slot_of made.new.plan id)) (items_before way.new.inside)) }
+    ensures place { OnOk result (ForSome (place_in way.new.inside) (λ place. StandsBefore place (get_or (seen_by context.now.arena.now window.now.number) (place_before context.now.arena.now window.now.number window.now.first + way.new.first) 0))) }
+    ensures items { OnOk result (All (λ id. id < length context.now.arena.now.tokens) (items_before (place_in way.new.inside))) }
+    ensures decided { OnOk result (All (λ id. IsSome (slot_of made.new.plan id)) (items_before (place_in way.new.inside))) }
     ensures short { IfOk result (λ found. IfSome found (λ id. window.now.end < length context.now.arena.now.tokens)) }
     ensures done { IfOk result (λ found. ForNone found ((k : ℕ) → place_before context.now.arena.now window.now.number window.now.first + way.new.first ≤ k → k < length (seen_by context.now.arena.now window.now.number) → window.now.new_end ≤ get_or (seen_by context.now.arena.now window.now.number) k 0)) }
 {
@@ -517,11 +518,11 @@ fn ahead_of(new_end: u32, told: u32, end: u32) -> u32 {
 /// behind what is new in it. So many items behind that are looked at first as `ahead` says; where they don't tell where
 /// a part ends, twice as many are. What is new in the next run is often in the same part, so that run looks first at as
 /// many as this one needed.
-fn lay_out_seen(
+fn lay_out_seen<'k>(
     context: &Context<'_>,
     tree: &CondTree<'_>,
-    turn: &Turn,
-    known: &mut KnownParts<'_>,
+    turn: &Turn<'k>,
+    known: &mut KnownParts<'_, 'k>,
     made: &mut Made<'_>,
     ahead: &mut u32,
     run: &Bump,
@@ -533,7 +534,7 @@ fn lay_out_seen(
     requires number { turn.now.number < runs_of context.now.arena.now }
     requires room { made.old.tally.searched ≤ 2 ^ 59 }
     requires state { AreInStep context.now.arena.now made.old known.old.ends.now known.old.spans.spans.items }
-    requires bound { IsBound context.now.arena.now (seen_by context.now.arena.now turn.now.number) turn.now.bound.item turn.now.bound.told turn.now.bound.inside }
+    requires bound { IsBound context.now.arena.now (seen_by context.now.arena.now turn.now.number) turn.now.bound.item turn.now.bound.told (place_in turn.now.bound.inside) }
     requires bounds { AreBounds context.now.arena.now (seen_by context.now.arena.now turn.now.number) known.old.bounds.items turn.now.bound.told }
     requires new { turn.now.new_end ≤ length context.now.arena.now.tokens }
     requires before { (id : ℕ) → id < turn.now.bound.item → Contains (seen_by context.now.arena.now turn.now.number) id → IsSome (slot_of made.old.plan id) }

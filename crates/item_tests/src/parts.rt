@@ -4,10 +4,11 @@ ghost use Rattle.std.specs.Prelude.{◌≡◌, ◌<◌, length, get_or};
 ghost use Rattle.std.specs.Option.{ForSome};
 ghost use Rattle.token_classes.specs.Viewed.{AreWithin, item_classes};
 ghost use Rattle.view_parts.specs.Parts.{StandsBefore};
+ghost use Rattle.view_parts.specs.Places.{place_in};
 
 use crate::comparing::same;
 use crate::fixtures::{tree, view};
-use crate::line_fixtures::items_from;
+use crate::line_fixtures::{items_from, repeated};
 use bumpalo::Bump;
 use bumpalo::collections::into_bump_slice;
 use std::alloc::Global;
@@ -43,90 +44,181 @@ const PARTS: &[(&str, &[u32])] = &[
     ("a;\ndefault: b;\nc;", &[2, 8]),
 ];
 
-/// A text, behind how many of the items that its first run sees each part ends, and how many items are laid out for it:
-/// its own, and those that stand for the place of a body where it begins.
-const PARTS_IN_BODIES: &[(&str, &[(u32, u32)])] = &[
+/// A statement of 19 items.
+const CALL: &str = "a(1, 2, 3, 4, 5, 6, 7, 8);\n";
+
+/// A text behind the head of a function and three such statements, which have 63 items; behind how many of the items
+/// that the first run sees each part ends, and how many items are laid out for it: its own, and those that stand for
+/// the place of a body where it begins.
+const PARTS_BEHIND_CALLS: &[(&str, &[(u32, u32)])] = &[
+    ("#if A\nb;\n#endif\n}", &[(66, 66)]),
+    (";\n#if A\nb;\n#endif\n}", &[(64, 64), (67, 10)]),
+    ("a;\n#if A\nb;\n#endif\nc;\n}", &[(65, 65), (70, 12)]),
+    ("a;\n#define A\nb;\n}", &[(65, 65), (68, 10)]),
+    ("a;\nb;\n}", &[(68, 68)]),
     (
-        "int f(void) {\na;\n#if A\nb;\n#endif\nc;\n}",
-        &[(8, 8), (10, 9), (13, 10)],
+        "a;\n#if A\nb;\n#endif\n}\nint c;",
+        &[(65, 65), (68, 10), (71, 3)],
     ),
-    ("int f(void) {\na;\n#define A\nb;\n}", &[(8, 8), (11, 10)]),
-    ("int f(void) {\na;\nb;\n}", &[(11, 11)]),
+    ("if (a)\n#if A\nb;\n#endif\nelse c;\n}", &[(73, 73)]),
+    ("do a;\n#if A\n#endif\nwhile (b);\n}", &[(72, 72)]),
+    ("if (a) { b; }\n#if A\nc;\n#endif\n}", &[(71, 71), (74, 11)]),
     (
-        "int f(void) {\na;\n#if A\nb;\n#endif\n}\nint c;",
-        &[(8, 8), (11, 10), (14, 3)],
+        "if (a) b; else { c; }\n#if A\nd;\n#endif\n}",
+        &[(74, 74), (77, 11)],
     ),
+    ("{ b; }\n#if A\nc;\n#endif\n}", &[(67, 67), (70, 11)]),
+    ("int a[] = { 1 }\n#if A\nc;\n#endif\n}", &[(74, 74)]),
+    ("struct g(1) { int a; }\n#if A\nc;\n#endif\n}", &[(76, 76)]),
+    ("a;\n// one\n#if A\nb;\n#endif\n}", &[(65, 65), (69, 11)]),
+    ("a; // one\n#if A\nb;\n#endif\n}", &[(66, 66), (69, 10)]),
+    ("a;\n#if A\n// one\nb;\n#endif\n}", &[(65, 65), (69, 11)]),
+    ("a;\n#if A\n// one\n#endif\n}", &[(67, 67)]),
+];
+
+/// The same where statements or members stand in bodies of the function's body.
+const PARTS_IN_BLOCKS: &[(&str, &[(u32, u32)])] = &[
     (
-        "int f(void) {\nif (a)\n#if A\nb;\n#endif\nelse c;\n}",
-        &[(16, 16)],
-    ),
-    (
-        "int f(void) {\ndo a;\n#if A\n#endif\nwhile (b);\n}",
-        &[(15, 15)],
-    ),
-    (
-        "int f(void) {\nwhile (a) {\nb;\n#if A\nc;\n#endif\n}\n}",
-        &[(17, 17)],
-    ),
-    (
-        "int f(void) {\nif (a) { b; }\n#if A\nc;\n#endif\n}",
-        &[(14, 14), (17, 11)],
-    ),
-    (
-        "int f(void) {\nif (a) b; else { c; }\n#if A\nd;\n#endif\n}",
-        &[(17, 17), (20, 11)],
-    ),
-    (
-        "int f(void) {\n{ b; }\n#if A\nc;\n#endif\n}",
-        &[(10, 10), (13, 11)],
-    ),
-    (
-        "int f(void) {\nint a[] = { 1 }\n#if A\nc;\n#endif\n}",
-        &[(17, 17)],
+        "while (a) {\nb;\n#if A\nc;\n#endif\n}\n}",
+        &[(70, 70), (74, 16)],
     ),
     (
-        "int f(void) {\nstruct g(1) { int a; }\n#if A\nc;\n#endif\n}",
-        &[(19, 19)],
+        "for (;;) {\nif (a) {\nb;\n#if A\nc;\n#endif\n}\n}\n}",
+        &[(76, 76), (81, 23)],
     ),
     (
-        "int f(void) {\na;\n// one\n#if A\nb;\n#endif\n}",
-        &[(12, 12)],
+        "while (a) {\nif (b) { c; }\n#if A\nd;\n#endif\n}\n}",
+        &[(76, 76), (80, 17)],
     ),
     (
-        "int f(void) {\na; // one\n#if A\nb;\n#endif\n}",
-        &[(9, 9), (12, 10)],
+        "if (a) b; else {\nc;\n#if A\nd;\n#endif\n}\n}",
+        &[(73, 73), (77, 19)],
     ),
     (
-        "int f(void) {\na;\n#if A\n// one\nb;\n#endif\n}",
-        &[(8, 8), (12, 11)],
+        "if (a) {\nb;\n} else {\nc;\n#if A\nd;\n#endif\n}\n}",
+        &[(75, 75), (79, 16)],
     ),
-    ("int f(void) {\na;\n#if A\n// one\n#endif\n}", &[(10, 10)]),
     (
-        "int f(\n#if A\nint a\n#endif\n) {\nb;\n#if A\nc;\n#endif\n}",
-        &[(12, 12)],
+        "if (a) {\nb;\n} else if (c) {\nd;\n#if A\ne;\n#endif\n}\n}",
+        &[(79, 79), (83, 16)],
     ),
-    ("struct s {\nint a;\n#if A\nint b;\n#endif\n};", &[(11, 11)]),
+    (
+        "struct g {\nint b;\n#if A\nint c;\n#endif\n} d;\n}",
+        &[(69, 69), (76, 17)],
+    ),
+    (
+        "switch (a) {\ncase 1:\nb;\n#if A\nc;\n#endif\n}\n}",
+        &[(77, 77)],
+    ),
+    (
+        "switch (a) {\ncase 1:\nb;\nb;\nb;\n#if A\nc;\n#endif\n}\n}",
+        &[(77, 77), (81, 16)],
+    ),
+    (
+        "switch (a) {\ncase 1:\nb;\n#if A\ncase 2:\nc;\n#endif\n}\n}",
+        &[(73, 73), (80, 19)],
+    ),
+];
+
+/// Pieces of a text, each so many times, and the same of that text.
+const PARTS_OF_PIECES: &[(&[(&str, usize)], &[(u32, u32)])] = &[
+    (
+        &[
+            ("int f(void) {\n", 1),
+            (CALL, 3),
+            ("a;\n#if A\n", 1),
+            (CALL, 4),
+            ("#endif\nc;\n}", 1),
+        ],
+        &[(65, 65), (141, 83), (144, 10)],
+    ),
+    (
+        &[
+            ("int f(void) {\nwhile (a) {\n", 1),
+            (CALL, 3),
+            ("#if A\nb;\n#endif\n}\n", 1),
+            (CALL, 4),
+            ("#if B\nc;\n#endif\n}", 1),
+        ],
+        &[(68, 68), (147, 91), (150, 10)],
+    ),
+    (
+        &[
+            ("int f(\n#if A\nint a\n#endif\n) {\n", 1),
+            (CALL, 3),
+            ("b;\n#if A\nc;\n#endif\n}", 1),
+        ],
+        &[(69, 69)],
+    ),
+    (
+        &[
+            ("struct s {\n", 1),
+            ("int a;\n", 21),
+            ("#if A\nint b;\n#endif\n};", 1),
+        ],
+        &[(66, 66), (71, 9)],
+    ),
+    (
+        &[
+            ("int f(void) {\n", 1),
+            (CALL, 26),
+            ("b;\n", 6),
+            (CALL, 1),
+            ("}", 1),
+        ],
+        &[(512, 512), (532, 27)],
+    ),
+    (
+        &[
+            ("int f(void) {\n", 1),
+            (CALL, 26),
+            ("b;\n", 5),
+            (CALL, 2),
+            ("}", 1),
+        ],
+        &[(529, 529), (549, 27)],
+    ),
+    (
+        &[
+            ("int f(void) {\n", 1),
+            (CALL, 26),
+            ("b;\n", 5),
+            ("b; // one\n", 1),
+            (CALL, 2),
+            ("}", 1),
+        ],
+        &[(532, 532), (552, 27)],
+    ),
+    (
+        &[
+            ("int f(void) {\n// one\n", 1),
+            (CALL, 27),
+            ("b;\n", 2),
+            ("}", 1),
+        ],
+        &[(522, 522), (525, 10)],
+    ),
 ];
 
 /// Where a part ends, and how many items are laid out for it.
-fn next_part(
+fn next_part<'r>(
     rt: &impl Abort,
     name: &str,
     arena: &TokenArena<'_, '_>,
     view: &View<'_>,
     all: &[TokenClass],
-    begins: Option<BodyPlace>,
+    begins: Option<BodyPlace<'r>>,
     first: u32,
-    run: &Bump,
-) -> (PartEnd, u32)
+    run: &'r Bump,
+) -> (PartEnd<'r>, u32)
     requires within { AreWithin arena.now view.now }
     requires all { all.now ≡ item_classes arena.now }
     requires here { first < length view.now }
-    requires begins { ForSome begins (λ place. StandsBefore place (get_or view.now first 0)) }
-    ensures place { ForSome result.0.inside (λ place. StandsBefore place (get_or view.now result.0.end 0)) }
+    requires begins { ForSome (place_in begins) (λ place. StandsBefore place (get_or view.now first 0)) }
+    ensures place { ForSome (place_in result.0.inside) (λ place. StandsBefore place (get_or view.now result.0.end 0)) }
 {
     let mut segment = 0;
-    let part = part_end(arena, view, all, begins, first, &mut segment, run).expect(rt, name);
+    let part = part_end(arena, view, all, begins, first, &mut segment, run, run).expect(rt, name);
     let laid = laid_view(begins, view, first, part.end, run).expect(rt, name);
     (part, laid.len())
 }
@@ -176,16 +268,16 @@ fn has_parts_in_bodies(rt: &impl Abort, run: &Bump, text: &str, want: &[(u32, u3
     same(rt, text, parts_of(rt, text, &arena, &view, run), want);
 }
 
-/// A function whose head has four items more than so many words, with a branch behind its first statement.
-fn with_head(rt: &impl Abort, alloc: Global, words: u32) -> String {
-    let mut text = String::new(alloc);
-    text.push_str("f(").expect(rt, "a head");
-    for _ in 0..words {
-        text.push_str("a ").expect(rt, "a head");
-    }
-    text.push_str(") {\nb;\n#if A\nc;\n#endif\n}")
-        .expect(rt, "a head");
-    text
+/// The same of a text behind the head of a function and three statements.
+fn has_parts_behind_calls(
+    rt: &impl Abort,
+    run: &Bump,
+    alloc: Global,
+    text: &str,
+    want: &[(u32, u32)],
+) {
+    let whole = repeated(rt, alloc, &[("int f(void) {\n", 1), (CALL, 3), (text, 1)]);
+    has_parts_in_bodies(rt, run, &whole, want);
 }
 
 #[test]
@@ -199,16 +291,48 @@ fn ends_parts_behind_declarations(rt: HostRuntime) {
 #[test]
 fn ends_parts_in_bodies_where_a_directive_stands(rt: HostRuntime) {
     let run = Bump::new(rt.alloc());
-    for (text, want) in PARTS_IN_BODIES {
-        has_parts_in_bodies(&rt, &run, text, want);
+    for (text, want) in PARTS_BEHIND_CALLS {
+        has_parts_behind_calls(&rt, &run, rt.alloc(), text, want);
     }
+}
+
+#[test]
+fn ends_parts_in_blocks_where_a_directive_stands(rt: HostRuntime) {
+    let run = Bump::new(rt.alloc());
+    for (text, want) in PARTS_IN_BLOCKS {
+        has_parts_behind_calls(&rt, &run, rt.alloc(), text, want);
+    }
+}
+
+#[test]
+fn ends_parts_of_long_bodies(rt: HostRuntime) {
+    let run = Bump::new(rt.alloc());
+    for (pieces, want) in PARTS_OF_PIECES {
+        let text = repeated(&rt, rt.alloc(), pieces);
+        has_parts_in_bodies(&rt, &run, &text, want);
+    }
+}
+
+/// A function whose head has four items more than so many words, and this body.
+fn with_head(rt: &impl Abort, alloc: Global, words: usize, body: &str) -> String {
+    repeated(
+        rt,
+        alloc,
+        &[("f(", 1), ("a ", words), (") {\n", 1), (body, 1)],
+    )
 }
 
 #[test]
 fn ends_no_parts_behind_long_heads(rt: HostRuntime) {
     let run = Bump::new(rt.alloc());
-    let short = with_head(&rt, rt.alloc(), 60);
+    let body = "b;\n#if A\nc;\n#endif\n}";
+    let short = with_head(&rt, rt.alloc(), 60, body);
     has_parts_in_bodies(&rt, &run, &short, &[(66, 66), (69, 68)]);
-    let long = with_head(&rt, rt.alloc(), 61);
+    let long = with_head(&rt, rt.alloc(), 61, body);
     has_parts_in_bodies(&rt, &run, &long, &[(70, 70)]);
+    let block = "if (a) {\nb;\n#if A\nc;\n#endif\n}\n}";
+    let short = with_head(&rt, rt.alloc(), 55, block);
+    has_parts_in_bodies(&rt, &run, &short, &[(66, 66), (70, 69)]);
+    let long = with_head(&rt, rt.alloc(), 56, block);
+    has_parts_in_bodies(&rt, &run, &long, &[(71, 71)]);
 }

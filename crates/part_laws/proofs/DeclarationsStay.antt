@@ -4,13 +4,11 @@ use Rattle.std.specs.Prelude.{if◌then◌else◌}
 use Rattle.std.proofs.lemmas.Bool.{le-ltb, lt-ltb, ltb-false, ltb-true}
 use Rattle.std.proofs.lemmas.List.{drop-drop, length-drop}
 use Rattle.token_arena.specs.Gaps.{Contents}
-use Rattle.view_parts.specs.declared.walk.BodyPlace.{BodyPlace}
-use Rattle.view_parts.specs.declared.walk.Ended.{Ended}
-use Rattle.view_parts.specs.Parts.{PartStop, end_of_part, count_or, place_of, stop_from, ends_from as part_ends_from}
+use Rattle.view_parts.specs.Places.{Place}
+use Rattle.view_parts.specs.Parts.{Ended, PartStop, end_of_part, count_or, inside_of, stop_from, ends_from as part_ends_from}
 use Rattle.part_laws.specs.Declarations.{start, next_end, or_all, first_len, ends_from}
 use Rattle.part_laws.specs.BodyParts.{DeclarationEnds, ends_outside, DeclarationsStay}
-use Rattle.part_laws.proofs.PartSteps.{Tells, TellsEnd, body_waits, tells_outer, tells_inner}
-use Rattle.part_laws.proofs.SameSteps.{at_body}
+use Rattle.part_laws.proofs.PartSteps.{EndsFrom, Tells, TellsEnd, tells_outer, tells_inner}
 
 -- ## The first part
 
@@ -19,7 +17,7 @@ declaration_ends_so arena ids ended is outside =
     let told : TellsEnd arena (next_end arena start [] ids) 0 ids (Some ended) =
     subst (λ (end : Option Ended). TellsEnd arena (next_end arena start [] ids) 0 ids end) is (tells_outer arena ids) in
     let there : next_end arena start [] ids ≡ Some (0 + ended.count) =
-    subst (λ (inside : Option BodyPlace). Tells arena (next_end arena start [] ids) 0 ids ended.count inside) outside told.1 in
+    subst (λ (inside : Option Place). Tells arena (next_end arena start [] ids) 0 ids ended.count inside) outside told.1 in
     let same : 0 + ended.count ≡ ended.count = omega arith in
     there ∙ ap (λ (n : ℕ). Some n) same
 
@@ -32,19 +30,19 @@ no_declaration (suc m) arena ids first past =
     ap (λ (b : Bool). if b then (first + first_len arena (drop first ids)) ∷ ends_from m arena ids (first + first_len arena (drop first ids)) else [])
     (le-ltb first (length ids) past)
 
-no_part : (n : ℕ) (arena : Contents) (ids : List ℕ) (begins : Option BodyPlace) (first : ℕ) → length ids ≤ first → part_ends_from n arena ids begins first ≡ []
+no_part : (n : ℕ) (arena : Contents) (ids : List ℕ) (begins : Option Place) (first : ℕ) → length ids ≤ first → part_ends_from n arena ids begins first ≡ []
 no_part zero arena ids begins first past = refl
 no_part (suc n) arena ids begins first past =
     let stop : PartStop = stop_from arena ids begins first in
     ap (λ (b : Bool). if b then stop_from arena ids begins first ∷ part_ends_from n arena ids stop.inside stop.end else []) (le-ltb first (length ids) past)
 
 -- the part from this place on begins outside brackets with the next declaration, or in its body
-abbrev pub Begins : Contents → List ℕ → Option BodyPlace → ℕ → ℕ → Type 0
+abbrev pub Begins : Contents → List ℕ → Option Place → ℕ → ℕ → Type 0
 Begins arena ids None from k = k ≡ 0
-Begins arena ids (Some place) from k = (from + k < length ids) × (next_end arena start [] (drop from ids) ≡ next_end arena (at_body k) body_waits (drop (from + k) ids))
+Begins arena ids (Some place) from k = (from + k < length ids) × EndsFrom arena (next_end arena start [] (drop from ids)) k place (drop (from + k) ids)
 
 -- what it tells of the declarations that begin before it
-pub told_there : (arena : Contents) (ids : List ℕ) (begins : Option BodyPlace) (from k : ℕ) → Begins arena ids begins from k
+pub told_there : (arena : Contents) (ids : List ℕ) (begins : Option Place) (from k : ℕ) → Begins arena ids begins from k
     → TellsEnd arena (next_end arena start [] (drop from ids)) k (drop (from + k) ids) (end_of_part arena begins (drop (from + k) ids))
 told_there arena ids None from k none =
     let here : from + 0 ≡ from = omega arith in
@@ -60,12 +58,12 @@ DeclarationsFrom m arena ids from end = (from + or_all end (length (drop from id
 -- the parts from a place on, where the next one ends so
 abbrev PartsFrom : ℕ → Contents → List ℕ → ℕ → Option Ended → List PartStop
 PartsFrom n arena ids first end =
-    let stop : PartStop = record { end = first + count_or end (length (drop first ids)); inside = place_of end } in
+    let stop : PartStop = record { end = first + count_or end (length (drop first ids)); inside = inside_of end } in
     stop ∷ part_ends_from n arena ids stop.inside stop.end
 
 -- so many of what is left suffice
 abbrev Rest : ℕ → Contents → List ℕ → Type 0
-Rest n arena ids = (m : ℕ) (begins : Option BodyPlace) (from k : ℕ) → length ids - (from + k) ≤ n → length ids - from ≤ m → Begins arena ids begins from k
+Rest n arena ids = (m : ℕ) (begins : Option Place) (from k : ℕ) → length ids - (from + k) ≤ n → length ids - from ≤ m → Begins arena ids begins from k
     → ends_outside (part_ends_from n arena ids begins (from + k)) ≡ ends_from m arena ids from
 
 by_declaration : (m : ℕ) (arena : Contents) (ids : List ℕ) (from : ℕ) → from < length ids
@@ -89,7 +87,7 @@ next_part n m arena ids from k None within few enough told on =
     ∙ (ap (λ (end : Option ℕ). DeclarationsFrom m arena ids from end) (sym told) ∙ by_declaration m arena ids from (omega (arith, within)))))
 next_part n m arena ids from k (Some ended) within few enough told on = by_inside ended.inside told.1
   where
-    by_inside : (inside : Option BodyPlace) → Tells arena (next_end arena start [] (drop from ids)) k (drop (from + k) ids) ended.count inside
+    by_inside : (inside : Option Place) → Tells arena (next_end arena start [] (drop from ids)) k (drop (from + k) ids) ended.count inside
         → ends_outside (PartsFrom n arena ids (from + k) (Some (record { count = ended.count; inside = inside }))) ≡ ends_from (suc m) arena ids from
     by_inside None there =
         let end : ℕ = from + k + ended.count in
@@ -107,9 +105,8 @@ next_part n m arena ids from k (Some ended) within few enough told on = by_insid
         ap (λ (at : ℕ). ends_outside (part_ends_from n arena ids (Some place) at)) (sym same)
         ∙ on (suc m) (Some place) from (k + ended.count) (omega (arith, few, told.0)) enough (
           below,
-          there.1
-              ∙ ap (λ (xs : List ℕ). next_end arena (at_body (k + ended.count)) body_waits xs)
-              (drop-drop ended.count (from + k) ids ∙ ap (λ (at : ℕ). drop at ids) (sym same)),
+          subst (λ (xs : List ℕ). EndsFrom arena (next_end arena start [] (drop from ids)) (k + ended.count) place xs)
+              (drop-drop ended.count (from + k) ids ∙ ap (λ (at : ℕ). drop at ids) (sym same)) there.1,
         )
 
 part_after_part : (n : ℕ) (arena : Contents) (ids : List ℕ) → Rest n arena ids
@@ -123,7 +120,7 @@ part_after_part (suc n) arena ids m begins from k few enough there =
     out : (from k : ℕ) → k ≡ 0 → nat_lt (from + k) (length ids) ≡ false → length ids ≤ from
     out from k none past = omega (arith, ltb-false (from + k) (length ids) past, none)
 
-    beyond : (begins : Option BodyPlace) → Begins arena ids begins from k → nat_lt (from + k) (length ids) ≡ false → length ids ≤ from
+    beyond : (begins : Option Place) → Begins arena ids begins from k → nat_lt (from + k) (length ids) ≡ false → length ids ≤ from
     beyond None none past = out from k none past
     beyond (Some place) there past = absurd (omega (arith, ltb-false (from + k) (length ids) past, there.0))
 

@@ -8,9 +8,10 @@ use Rattle.token_classes.specs.declared.class.TokenClass.TheVariants.{Nothing, O
 use Rattle.token_classes.specs.Classes.{is_comment, is_word, is_open_round, is_open_brace}
 use Rattle.token_classes.specs.Viewed.{item_class, classes_of}
 use Rattle.token_classes.specs.declared.pairing.Opener.{Opener}
-use Rattle.token_classes.specs.Partners.{Matching, Nearest, is_brace, is_round, is_square, nearest_brace, topmost, closed}
+use Rattle.token_classes.specs.Partners.{Nearest, is_brace, is_round, is_square, nearest_brace, topmost, closed}
 use Rattle.part_laws.specs.Declarations.{Before, Name, Parameters, Body, Between, Other, Reading, Ends, Never, GoesOn, Walk, start, is_end, is_between, behind_group, behind, asked_behind, asked_at, ends_or, is_lost, outside, inside, waiting_behind, is_open, next_end}
 use Rattle.part_laws.specs.LinesCut.{IsFirstPart}
+use Rattle.view_parts.proofs.BodiesPassed.{round_is_no_brace, square_is_no_brace, waits_so}
 
 -- what comes of a list of items whose first is read so
 abbrev pub by_reading : Contents → List Opener → List ℕ → Reading → Option ℕ
@@ -55,9 +56,6 @@ on_below : (opener : Opener) (below : List Opener) → on_brace (opener ∷ belo
 on_below opener [] on = refl
 on_below opener (next ∷ below) on = on
 
-abbrev pub waits_so : List Opener → Matching
-waits_so waiting = record { open_brackets = waiting; partners = [] }
-
 -- another closer takes off no brace
 topmost_on : (fits : Opener → Bool) (place : ℕ) (opener : Opener) (below : List Opener) → (fits opener ≡ true → is_brace opener ≡ true → ⊥)
     → on_brace (opener ∷ below) ≡ true → (on_brace (closed place (topmost fits (opener ∷ below)) (waits_so (opener ∷ below))).open_brackets ≡ true)
@@ -84,18 +82,8 @@ nearest_on place (opener ∷ below) all on is =
       | false ↦ nearest_on place below all on (on_below opener below is)
     ]
 
-round_is_no_brace : (place : ℕ) (kind : TokenClass) → is_round (record { place = place; kind = kind }) ≡ true
-    → is_brace (record { place = place; kind = kind }) ≡ true → ⊥
-round_is_no_brace place OpenRound round brace = cc
-round_is_no_brace place _ round brace = cc
-
-square_is_no_brace : (place : ℕ) (kind : TokenClass) → is_square (record { place = place; kind = kind }) ≡ true
-    → is_brace (record { place = place; kind = kind }) ≡ true → ⊥
-square_is_no_brace place OpenSquare square brace = cc
-square_is_no_brace place _ square brace = cc
-
 -- behind one more token
-pub inside_on : (class : TokenClass) (place : ℕ) (opener : Opener) (below : List Opener) → on_brace (opener ∷ below) ≡ true
+inside_on : (class : TokenClass) (place : ℕ) (opener : Opener) (below : List Opener) → on_brace (opener ∷ below) ≡ true
     → (on_brace (waiting_behind class place (opener ∷ below)) ≡ true) × (waiting_behind class place (opener ∷ below) ≡ [] → closes_part class ≡ true)
 inside_on OpenRound place opener below on = (on, λ e. cc)
 inside_on OpenSquare place opener below on = (on, λ e. cc)
@@ -134,7 +122,7 @@ no_comment_ends : (between : Bool) → is_end (if between then Between else Othe
 no_comment_ends true e = cc
 no_comment_ends false e = cc
 
-pub outside_on : (walk : Walk) (class : TokenClass) → is_end (behind walk class) ≡ true → on_brace (waiting_behind class walk.place []) ≡ true
+outside_on : (walk : Walk) (class : TokenClass) → is_end (behind walk class) ≡ true → on_brace (waiting_behind class walk.place []) ≡ true
 outside_on walk OpenRound e = (let body : false ≡ true = group_is_body walk OpenRound e in cc)
 outside_on walk OpenSquare e = (let body : false ≡ true = group_is_body walk OpenSquare e in cc)
 outside_on walk OpenBrace e = refl

@@ -35,6 +35,7 @@ pub mod LastToken
 pub mod RolesStay
 pub mod SameKinds
 pub mod SameSteps
+pub mod BodiesWait
 pub mod PartSteps
 pub mod DeclarationsStay
 pub mod DeclarationsFollow

@@ -8,7 +8,8 @@ use Rattle.token_classes.specs.Viewed.{item_class}
 use Rattle.token_classes.specs.declared.pairing.Opener.{Opener}
 use Rattle.token_classes.specs.Partners.{Nearest, is_brace, is_round, is_square, nearest_brace, topmost, closed}
 use Rattle.part_laws.specs.Declarations.{Reading, Ends, Never, GoesOn, Walk, reading, waiting_behind, is_open, next_end}
-use Rattle.part_laws.proofs.FirstPart.{by_reading, on_brace, waits_so}
+use Rattle.part_laws.proofs.FirstPart.{by_reading}
+use Rattle.view_parts.proofs.BodiesPassed.{waits_so}
 
 -- these openers are of the same kinds, one by one
 abbrev pub SameKinds : List Opener → List Opener → Type 0
@@ -90,20 +91,11 @@ same_behind _ place there waiting others same = same
 
 -- ## What depends on kinds alone
 
-pub same_open : (waiting others : List Opener) → SameKinds waiting others → is_open waiting ≡ is_open others
+same_open : (waiting others : List Opener) → SameKinds waiting others → is_open waiting ≡ is_open others
 same_open [] [] same = refl
 same_open [] (other ∷ others) same = absurd same
 same_open (opener ∷ below) [] same = absurd same
 same_open (opener ∷ below) (other ∷ others) same = refl
-
-pub same_on_brace : (waiting others : List Opener) → SameKinds waiting others → on_brace waiting ≡ on_brace others
-same_on_brace [] [] same = refl
-same_on_brace [] (other ∷ others) same = absurd same
-same_on_brace (opener ∷ below) [] same = absurd same
-same_on_brace (opener ∷ []) (other ∷ []) same = kind_of_brace opener other same.0
-same_on_brace (opener ∷ []) (other ∷ next ∷ others) same = absurd same.1
-same_on_brace (opener ∷ next ∷ below) (other ∷ []) same = absurd same.1
-same_on_brace (opener ∷ next ∷ below) (other ∷ after ∷ others) same = same_on_brace (next ∷ below) (after ∷ others) same.1
 
 pub same_ends : (arena : Contents) (walk : Walk) (waiting others : List Opener) (ids : List ℕ) → SameKinds waiting others
     → next_end arena walk waiting ids ≡ next_end arena walk others ids

@@ -3,15 +3,15 @@ use Rattle.std.proofs.Common.{◌≡◌, ◌∙◌, ℕ, ◌+◌, Bool, true, fa
 use Rattle.std.specs.Prelude.{if◌then◌else◌}
 use Rattle.token_arena.specs.Gaps.{Contents, item_began}
 use Rattle.token_classes.specs.declared.class.TokenClass.{TokenClass}
-use Rattle.token_classes.specs.declared.class.TokenClass.TheVariants.{OpenRound, OpenSquare, OpenBrace, LineComment, BlockComment}
+use Rattle.token_classes.specs.declared.class.TokenClass.TheVariants.{LineComment, BlockComment}
 use Rattle.token_classes.specs.Classes.{is_bracket, is_opener, is_open_round, is_open_brace, is_semicolon, is_plain, is_comment}
 use Rattle.view_parts.specs.declared.walk.Before.{Before as PartBefore}
 use Rattle.view_parts.specs.declared.walk.Before.TheVariants as part
+use Rattle.view_parts.specs.declared.walk.Declaration.{Declaration}
 use Rattle.view_parts.specs.declared.walk.Walk.{Walk as PartWalk}
-use Rattle.view_parts.specs.Walk.{behind_group as part_behind_group, behind as part_behind, is_end as part_is_end, is_between as part_is_between, is_between_comments as part_is_between_comments, is_body as part_is_body, is_commented as part_is_commented, asked_behind as part_asked_behind, asked_at as part_asked_at, outside as part_outside, in_body as part_in_body, in_group as part_in_group, past_bracket}
+use Rattle.view_parts.specs.Walk.{behind_group as part_behind_group, behind as part_behind, is_end as part_is_end, is_between as part_is_between, is_between_comments as part_is_between_comments, is_body as part_is_body, is_commented as part_is_commented, asked_behind as part_asked_behind, asked_at as part_asked_at, next_declaration, inside_declaration}
 use Rattle.view_parts.specs.Parts.{waiting_behind as part_waiting_behind}
 use Rattle.part_laws.specs.Declarations.{Before, Name, Parameters, Semicolon, Body, Between, Other, Walk, behind_group, behind, is_end, is_between, is_body, is_between_comments, asked_behind, asked_at, is_commented, inside, outside, is_open}
-use Rattle.part_laws.proofs.Choices.{never}
 
 -- ## What the way along a part tells of declarations
 
@@ -31,9 +31,18 @@ later k (Some count) = Some (k + count)
 abbrev walk_of : ℕ → Before → Bool → Bool → Option ℕ → Walk
 walk_of place before assigned commented asked = record { place = place; before = before; assigned = assigned; commented = commented; asked = asked }
 
--- the part begins behind so many items; where a group is open, no end of declarations is asked
-abbrev pub along : ℕ → Bool → PartWalk → Walk
-along k opened walk = walk_of (k + walk.place) (told walk.before) walk.assigned walk.commented (if opened then None else later k walk.asked)
+-- where a group is open, no end of declarations is asked
+abbrev pub asked_along : ℕ → Bool → Option ℕ → Option ℕ
+asked_along k opened asked = if opened then None else later k asked
+
+-- the part begins behind so many items, and so many of its own were read
+abbrev pub along : ℕ → Bool → ℕ → Declaration → Option ℕ → Walk
+along k opened place declaration asked =
+    walk_of (k + place) (told declaration.before) declaration.assigned declaration.commented (asked_along k opened asked)
+
+-- a part that begins there in a body
+abbrev pub at_place : ℕ → Declaration → Walk
+at_place place declaration = walk_of place (told declaration.before) declaration.assigned declaration.commented None
 
 same_walk : (p q : ℕ) (b c : Before) (assigned : Bool) (m n : Bool) (x y : Option ℕ) → p ≡ q → b ≡ c → m ≡ n → x ≡ y
     → walk_of p b assigned m x ≡ walk_of q c assigned n y
@@ -80,24 +89,32 @@ told_if false x y = refl
 
 -- ## Behind a token
 
-group_told : (k : ℕ) (opened : Bool) (walk : PartWalk) (before : PartBefore) (opener : TokenClass)
-    → behind_group (along k opened (record walk { before = before })) opener ≡ told (part_behind_group (record walk { before = before }) opener)
-group_told k opened walk part.Name opener = told_if (is_open_round opener) part.Parameters part.Other
-group_told k opened walk part.Parameters opener = told_if (is_open_brace opener && not (walk.assigned || walk.commented)) part.Body part.Other
-group_told k opened walk part.Semicolon opener = refl
-group_told k opened walk part.Body opener = refl
-group_told k opened walk part.Between opener = refl
-group_told k opened walk part.Other opener = refl
+group_told : (walk : Walk) (declaration : Declaration) (before : PartBefore) (opener : TokenClass) → walk.assigned ≡ declaration.assigned
+    → walk.commented ≡ declaration.commented
+    → behind_group (record walk { before = told before }) opener ≡ told (part_behind_group (record declaration { before = before }) opener)
+group_told walk declaration part.Name opener assigned commented = told_if (is_open_round opener) part.Parameters part.Other
+group_told walk declaration part.Parameters opener assigned commented =
+    ap (λ (b : Bool). if is_open_brace opener && not (b || walk.commented) then Body else Other) assigned
+    ∙ (ap (λ (b : Bool). if is_open_brace opener && not (declaration.assigned || b) then Body else Other) commented
+    ∙ told_if (is_open_brace opener && not (declaration.assigned || declaration.commented)) part.Body part.Other)
+group_told walk declaration part.Semicolon opener assigned commented = refl
+group_told walk declaration part.Body opener assigned commented = refl
+group_told walk declaration part.Between opener assigned commented = refl
+group_told walk declaration part.Other opener assigned commented = refl
 
-pub behind_told : (k : ℕ) (opened : Bool) (walk : PartWalk) (class : TokenClass) → behind (along k opened walk) class ≡ told (part_behind walk class)
-behind_told k opened walk class =
-    by_bits (is_opener class) (is_semicolon class) (is_comment class) (is_between (told walk.before)) (part_is_between walk.before) (is_plain class)
-    (told_between walk.before) (group_told k opened walk walk.before class)
+behind_told : (k : ℕ) (place : ℕ) (declaration : Declaration) (asked : Option ℕ) (class : TokenClass)
+    → behind (along k false place declaration asked) class ≡ told (part_behind declaration class)
+behind_told k place declaration asked class =
+    by_bits (is_opener class) (is_semicolon class) (is_comment class) (is_between (told declaration.before)) (part_is_between declaration.before) (is_plain class)
+    (told_between declaration.before) (group_told walk declaration declaration.before class refl refl)
   where
-    by_bits : (opener semicolon comment between same plain : Bool) → between ≡ same → behind_group (along k opened walk) class ≡ told (part_behind_group walk class)
-        → (if opener then behind_group (along k opened walk) class
+    walk : Walk
+    walk = along k false place declaration asked
+
+    by_bits : (opener semicolon comment between same plain : Bool) → between ≡ same → behind_group walk class ≡ told (part_behind_group declaration class)
+        → (if opener then behind_group walk class
         else (if semicolon then Semicolon else (if comment && between then Between else (if plain then Name else Other))))
-        ≡ told (if opener then part_behind_group walk class
+        ≡ told (if opener then part_behind_group declaration class
         else (if semicolon then part.Semicolon else (if comment && same then part.Between else (if plain then part.Name else part.Other))))
     by_bits true semicolon comment between same plain e group = group
     by_bits false true comment between same plain e group = refl
@@ -107,175 +124,96 @@ behind_told k opened walk class =
     by_bits false false true false false plain e group = told_if plain part.Name part.Other
     by_bits false false false between same plain e group = told_if plain part.Name part.Other
 
-commented_told : (k : ℕ) (opened : Bool) (walk : PartWalk) (class : TokenClass)
-    → is_commented (along k opened walk) (behind (along k opened walk) class) class ≡ part_is_commented walk (part_behind walk class) class
-commented_told k opened walk class =
-    ap (λ (b : Before). is_commented (along k opened walk) b class) (behind_told k opened walk class)
-    ∙ (ap (λ (b : Bool). not b && ((not (is_between (told walk.before)) && walk.commented) || is_comment class)) (told_between_comments (part_behind walk class))
-    ∙ ap (λ (b : Bool). not (part_is_between_comments (part_behind walk class)) && ((not b && walk.commented) || is_comment class)) (told_between walk.before))
+commented_told : (k : ℕ) (place : ℕ) (declaration : Declaration) (asked : Option ℕ) (class : TokenClass)
+    → is_commented (along k false place declaration asked) (behind (along k false place declaration asked) class) class
+    ≡ part_is_commented declaration (part_behind declaration class) class
+commented_told k place declaration asked class =
+    ap (λ (b : Before). is_commented (along k false place declaration asked) b class) (behind_told k place declaration asked class)
+    ∙ (ap (λ (b : Bool). not b && ((not (is_between (told declaration.before)) && declaration.commented) || is_comment class))
+    (told_between_comments (part_behind declaration class))
+    ∙ ap (λ (b : Bool). not (part_is_between_comments (part_behind declaration class)) && ((not b && declaration.commented) || is_comment class))
+    (told_between declaration.before))
 
 -- ## One item
 
 pub asked_told : (k : ℕ) (arena : Contents) (walk : PartWalk) (id : ℕ) (class : TokenClass)
-    → asked_at arena (along k false walk) id class ≡ later k (part_asked_at arena walk id class)
+    → asked_at arena (along k false walk.place walk.declaration walk.asked) id class ≡ later k (part_asked_at arena walk id class)
 asked_told k arena walk id class = by_began (item_began arena id) walk.asked
   where
+    here : Walk
+    here = along k false walk.place walk.declaration walk.asked
+
     by_end : (b : Bool) → (if b then Some (k + walk.place) else None) ≡ later k (if b then Some walk.place else None)
     by_end true = refl
     by_end false = refl
 
     by_began : (began : Bool) (asked : Option ℕ)
-        → (if began then asked_behind (later k asked) (along k false walk) class else None) ≡ later k (if began then part_asked_behind asked walk class else None)
+        → (if began then asked_behind (later k asked) here class else None) ≡ later k (if began then part_asked_behind asked walk class else None)
     by_began false asked = refl
     by_began true (Some place) = refl
     by_began true None =
-        ap (λ (b : Bool). if b && (is_comment class || not walk.commented) then Some (k + walk.place) else None) (told_end walk.before)
-        ∙ by_end (part_is_end walk.before && (is_comment class || not walk.commented))
+        ap (λ (b : Bool). if b && (is_comment class || not walk.declaration.commented) then Some (k + walk.place) else None) (told_end walk.declaration.before)
+        ∙ by_end (part_is_end walk.declaration.before && (is_comment class || not walk.declaration.commented))
 
-pub outside_told : (k : ℕ) (walk : PartWalk) (id : ℕ) (class : TokenClass) (asked : Option ℕ)
-    → outside (along k false walk) class (later k asked) ≡ along k (is_open (part_waiting_behind class walk.place [])) (part_outside walk id class asked)
-outside_told k walk id class asked =
-    same_walk (k + walk.place + 1) (k + (walk.place + 1)) (behind (along k false walk) class) (told (part_behind walk class)) _ _ _ _ _
-    (omega arith) (behind_told k false walk class) (commented_told k false walk class) (by_class class)
+-- behind a token outside brackets
+pub outside_told : (k : ℕ) (place : ℕ) (declaration : Declaration) (was asked : Option ℕ) (class : TokenClass)
+    → outside (along k false place declaration was) class (later k asked)
+    ≡ along k (is_open (part_waiting_behind class place [])) (place + 1) (next_declaration declaration class) (if is_comment class then asked else None)
+outside_told k place declaration was asked class =
+    same_walk (k + place + 1) (k + (place + 1)) (behind (along k false place declaration was) class) (told (part_behind declaration class)) _ _ _ _ _
+    (omega arith) (behind_told k place declaration was class) (commented_told k place declaration was class) (by_class class)
   where
     by_class : (c : TokenClass) → (if is_comment c then later k asked else None)
-        ≡ (if is_open (part_waiting_behind c walk.place []) then None else later k (if is_comment c then asked else None))
+        ≡ asked_along k (is_open (part_waiting_behind c place [])) (if is_comment c then asked else None)
     by_class LineComment = refl
     by_class _ = refl
 
-code_comment : (class : TokenClass) (b : Bool) → is_bracket class ≡ true → is_comment class && b ≡ false
-code_comment LineComment b bracket = cc
-code_comment BlockComment b bracket = cc
-code_comment _ b bracket = refl
+-- behind an item of a group or a body, where nothing is asked if none is open behind it
+pub inside_told : (k : ℕ) (place : ℕ) (declaration : Declaration) (was asked : Option ℕ) (opened : Bool) (class : TokenClass) → (opened ≡ false → asked ≡ None)
+    → inside (along k true place declaration was) class ≡ along k opened (place + 1) (inside_declaration declaration class) asked
+inside_told k place declaration was asked opened class none =
+    same_walk (k + place + 1) (k + (place + 1)) (told declaration.before) (told declaration.before) _ _ _ _ _ (omega arith) refl
+    (ap (λ (b : Bool). declaration.commented || (is_comment class && not b)) (told_body declaration.before)) (by_opened opened none)
+  where
+    by_opened : (opened : Bool) → (opened ≡ false → asked ≡ None) → None ≡ asked_along k opened asked
+    by_opened true none = refl
+    by_opened false none = sym (ap (later k) (none refl))
+
+-- ## Comments
 
 or_none : (b none : Bool) → none ≡ false → b || none ≡ b
 or_none true none e = refl
 or_none false none e = e
 
-none_and : (b : Bool) → b && false ≡ false
-none_and true = refl
-none_and false = refl
+-- a token that is none changes nothing
+pub code_keeps : (declaration : Declaration) (class : TokenClass) → is_comment class ≡ false → inside_declaration declaration class ≡ declaration
+code_keeps declaration class code =
+    ap (λ (b : Bool). record declaration { commented = b })
+    (or_none declaration.commented (is_comment class && not (part_is_body declaration.before)) (ap (λ (b : Bool). b && not (part_is_body declaration.before)) code))
 
-none_left : (opened : Bool) → ◌≡◌ {A = Option ℕ} None (if opened then None else None)
-none_left true = refl
-none_left false = refl
+pub bracket_is_code : (class : TokenClass) → is_bracket class ≡ true → is_comment class ≡ false
+bracket_is_code LineComment bracket = cc
+bracket_is_code BlockComment bracket = cc
+bracket_is_code _ bracket = refl
 
-pub passed_told : (k : ℕ) (opened : Bool) (walk : PartWalk) (id : ℕ) (class : TokenClass) → (opened ≡ false → is_bracket class ≡ true)
-    → inside (along k true walk) class ≡ along k opened (part_in_group walk id class)
-passed_told k opened walk id class bracket = by_bracket (is_bracket class) opened bracket refl
+-- behind a comment a further one changes nothing
+abbrev pub IsCommented : Declaration → Type 0
+IsCommented declaration = declaration.commented || not (part_is_body declaration.before) ≡ declaration.commented
+
+pub commented_stays : (declaration : Declaration) (class : TokenClass) → IsCommented declaration → inside_declaration declaration class ≡ declaration
+commented_stays declaration class is = ap (λ (b : Bool). record declaration { commented = b }) (by_comment (is_comment class) declaration.commented is)
   where
-    by_bracket : (b opened : Bool) → (opened ≡ false → b ≡ true) → is_bracket class ≡ b
-        → inside (along k true walk) class
-        ≡ along k opened (if b then past_bracket walk id class else record walk { place = walk.place + 1; commented = walk.commented || (is_comment class && not (part_is_body walk.before)) })
-    by_bracket true opened code is =
-        same_walk (k + walk.place + 1) (k + (walk.place + 1)) (told walk.before) (told walk.before) _ _ _ _ _ (omega arith) refl
-        (or_none walk.commented (is_comment class && not (is_body (told walk.before))) (code_comment class (not (is_body (told walk.before))) is)) (none_left opened)
-    by_bracket false true code is =
-        same_walk (k + walk.place + 1) (k + (walk.place + 1)) (told walk.before) (told walk.before) _ _ _ _ _ (omega arith) refl
-        (ap (λ (b : Bool). walk.commented || (is_comment class && not b)) (told_body walk.before)) refl
-    by_bracket false false code is = absurd (never (code refl))
+    by_comment : (comment commented : Bool) → commented || not (part_is_body declaration.before) ≡ commented
+        → commented || (comment && not (part_is_body declaration.before)) ≡ commented
+    by_comment true commented e = e
+    by_comment false true e = refl
+    by_comment false false e = refl
 
--- ## A function's body
-
--- nothing is asked or met in it that tells where declarations end
-pub record InBody (walk : PartWalk) : Type 0 where
-  pub before : walk.before ≡ part.Body
-  pub assigned : walk.assigned ≡ false
-  pub commented : walk.commented ≡ false
-
-body_of_group : (walk : PartWalk) (before : PartBefore) → part_is_body (part_behind_group (record walk { before = before }) OpenBrace) ≡ true
-    → (walk.assigned ≡ false) × (walk.commented ≡ false)
-body_of_group walk part.Name body = cc
-body_of_group walk part.Parameters body = by_bits walk.assigned walk.commented body
+pub comment_told : (declaration : Declaration) (class : TokenClass) → is_comment class ≡ true → IsCommented (inside_declaration declaration class)
+comment_told declaration class comment = by_bits declaration.commented (is_comment class) (part_is_body declaration.before) comment
   where
-    by_bits : (assigned commented : Bool) → part_is_body (if not (assigned || commented) then part.Body else part.Other) ≡ true
-        → (assigned ≡ false) × (commented ≡ false)
-    by_bits true commented body = cc
-    by_bits false true body = cc
-    by_bits false false body = (refl, refl)
-body_of_group walk part.Semicolon body = cc
-body_of_group walk part.Body body = cc
-body_of_group walk part.Between body = cc
-body_of_group walk part.Other body = cc
-
-is_body_of : (before : PartBefore) → part_is_body before ≡ true → before ≡ part.Body
-is_body_of part.Name body = cc
-is_body_of part.Parameters body = cc
-is_body_of part.Semicolon body = cc
-is_body_of part.Body body = refl
-is_body_of part.Between body = cc
-is_body_of part.Other body = cc
-
-no_body_of : (walk : PartWalk) (before : PartBefore) (opener : TokenClass) → is_open_brace opener ≡ false
-    → part_is_body (part_behind_group (record walk { before = before }) opener) ≡ false
-no_body_of walk part.Name opener other = by_round (is_open_round opener)
-  where
-    by_round : (b : Bool) → part_is_body (if b then part.Parameters else part.Other) ≡ false
-    by_round true = refl
-    by_round false = refl
-no_body_of walk part.Parameters opener other =
-    ap (λ (b : Bool). part_is_body (if b && not (walk.assigned || walk.commented) then part.Body else part.Other)) other
-no_body_of walk part.Semicolon opener other = refl
-no_body_of walk part.Body opener other = refl
-no_body_of walk part.Between opener other = refl
-no_body_of walk part.Other opener other = refl
-
-no_comment_body : (between : Bool) → part_is_body (if between then part.Between else part.Other) ≡ true → ⊥
-no_comment_body true body = cc
-no_comment_body false body = cc
-
--- a function's body is opened
-pub body_begins : (walk : PartWalk) (id : ℕ) (class : TokenClass) (asked : Option ℕ) → part_is_body (part_behind walk class) ≡ true
-    → InBody (part_outside walk id class asked)
-body_begins walk id OpenRound asked body = absurd (never (sym (no_body_of walk walk.before OpenRound refl) ∙ body))
-body_begins walk id OpenSquare asked body = absurd (never (sym (no_body_of walk walk.before OpenSquare refl) ∙ body))
-body_begins walk id OpenBrace asked body =
-    let fresh = body_of_group walk walk.before body in
-    let is : part_behind walk OpenBrace ≡ part.Body = is_body_of (part_behind walk OpenBrace) body in
-    record {
-      before = is;
-      assigned = ap (λ (b : Bool). b || false) fresh.0;
-      commented = ap (λ (b : PartBefore). part_is_commented walk b OpenBrace) is ∙ by_between (part_is_between walk.before) fresh.1;
-    }
-  where
-    by_between : (between : Bool) → walk.commented ≡ false → (not between && walk.commented) || false ≡ false
-    by_between true other = refl
-    by_between false other = ap (λ (b : Bool). b || false) other
-body_begins walk id LineComment asked body = absurd (no_comment_body (part_is_between walk.before) body)
-body_begins walk id BlockComment asked body = absurd (no_comment_body (part_is_between walk.before) body)
-body_begins walk id _ asked body = cc
-
--- and goes on
-pub body_goes_on : (arena : Contents) (walk : PartWalk) (id : ℕ) (class : TokenClass) (asked : Option ℕ) → InBody walk → InBody (part_in_body arena walk id class asked)
-body_goes_on arena walk id class asked body = record { before = body.before; assigned = body.assigned; commented = body.commented }
-
-pub body_passes_group : (walk : PartWalk) (id : ℕ) (class : TokenClass) → InBody walk → InBody (part_in_group walk id class)
-body_passes_group walk id class body = by_bracket (is_bracket class)
-  where
-    by_bracket : (b : Bool) → InBody (if b then past_bracket walk id class else record walk { place = walk.place + 1; commented = walk.commented || (is_comment class && not (part_is_body walk.before)) })
-    by_bracket true = record { before = body.before; assigned = body.assigned; commented = body.commented }
-    by_bracket false = record {
-      before = body.before;
-      assigned = body.assigned;
-      commented = ap (λ (b : PartBefore). walk.commented || (is_comment class && not (part_is_body b))) body.before ∙ (or_none walk.commented (is_comment class && false) (none_and (is_comment class)) ∙ body.commented);
-    }
-
-pub body_told : (k : ℕ) (opened : Bool) (arena : Contents) (walk : PartWalk) (id : ℕ) (class : TokenClass) (asked : Option ℕ) → InBody walk → (opened ≡ false → is_comment class ≡ false)
-    → inside (along k true walk) class ≡ along k opened (part_in_body arena walk id class asked)
-body_told k opened arena walk id class asked body code =
-    same_walk (k + walk.place + 1) (k + (walk.place + 1)) (told walk.before) (told walk.before) _ _ _ _ _ (omega arith) refl
-    (ap (λ (b : PartBefore). walk.commented || (is_comment class && not (is_body (told b)))) body.before ∙ or_none walk.commented (is_comment class && false) (none_and (is_comment class))) (by_open opened code)
-  where
-    by_open : (opened : Bool) → (opened ≡ false → is_comment class ≡ false) → None ≡ (if opened then None else later k (if is_comment class then asked else None))
-    by_open true code = refl
-    by_open false code = sym (ap (λ (b : Bool). later k (if b then asked else None)) (code refl))
-
--- a part that begins in one, behind so many items of a declaration
-abbrev pub at_body : ℕ → Walk
-at_body k = record { place = k; before = Body; assigned = false; commented = false; asked = None }
-
-pub along_body : (k : ℕ) (walk : PartWalk) → InBody walk → along k true walk ≡ at_body (k + walk.place)
-along_body k walk body =
-    ap (λ (b : PartBefore). walk_of (k + walk.place) (told b) walk.assigned walk.commented None) body.before
-    ∙ (ap (λ (b : Bool). walk_of (k + walk.place) Body b walk.commented None) body.assigned
-    ∙ ap (λ (b : Bool). walk_of (k + walk.place) Body false b None) body.commented)
+    by_bits : (commented comment body : Bool) → comment ≡ true → (commented || (comment && not body)) || not body ≡ commented || (comment && not body)
+    by_bits true comment body e = refl
+    by_bits false true true e = refl
+    by_bits false true false e = refl
+    by_bits false false body e = cc

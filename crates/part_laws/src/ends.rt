@@ -1,6 +1,6 @@
 //! Where the parts of a view end tells where its declarations do.
 //!
-//! A part of `view_parts` may end in a function's body too. [`declaration_ends`], [`declarations_follow`] and
+//! A part of `view_parts` may end in a body too. [`declaration_ends`], [`declarations_follow`] and
 //! [`declarations_stay`] carry the laws: where one ends in no body a declaration ends, and none ends elsewhere. So what
 //! the laws of this crate tell of declarations holds of such parts from one end outside bodies up to the next.
 

@@ -4,7 +4,7 @@
 //! one begins on a line of its own (`specs/Declarations.antt`): whole declarations, whose bodies are never cut.
 //! [`partners_stay`] and [`lines_stay`] carry the laws of partners of brackets and of lines, [`tells_parts`] and
 //! [`roles_stay`] those of roles. [`declarations_stay`] carries the law that these places are where the parts of
-//! `view_parts` end, but for those that end in a function's body.
+//! `view_parts` end, but for those that end in a body.
 #![tactic(auto)]
 
 mod ends;

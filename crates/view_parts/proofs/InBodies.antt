@@ -1,67 +1,69 @@
--- The places of functions' bodies where parts begin.
-use Rattle.std.proofs.Common.{◌≡◌, ◌∙◌, ◌⊎◌, inl, inr, ℕ, zero, suc, ◌+◌, ◌-◌, ◌<◌, ◌≤◌, nat_lt, nat_le, ◌==◌, Bool, true, false, not, ◌&&◌, ◌||◌, Option, Some, None, List, [], ◌∷◌, ◌++◌, length, get_or, refl, sym, ap, subst, arith}
+-- The places of bodies where parts begin.
+use Rattle.std.proofs.Common.{◌≡◌, ◌∙◌, ℕ, zero, suc, ◌+◌, ◌-◌, ◌<◌, ◌≤◌, nat_le, ◌==◌, Bool, true, false, not, ◌&&◌, ◌||◌, Option, Some, None, List, [], ◌∷◌, ◌++◌, length, get_or, reverse, refl, sym, ap, subst, arith}
 use Rattle.std.specs.Prelude.{⊤, All, if◌then◌else◌}
-use Rattle.std.specs.List.{range_with_len}
 use Rattle.std.specs.Option.{ForSome}
-use Rattle.std.proofs.lemmas.Bool.{eqb-true, leb-true, ltb-true}
+use Rattle.std.proofs.lemmas.Bool.{eqb-true, leb-true}
 use Rattle.std.proofs.lemmas.List.{get_or_default, length-append}
 use Rattle.std.proofs.lemmas.List.Elements.{All-append}
-use Rattle.std.proofs.lemmas.List.FromFn.{get_or-range_with_len, length-range_with_len}
 use Rattle.std.proofs.Math.ListN.{get_or-append}
 use Rattle.token_arena.specs.Gaps.{Contents, item_began}
 use Rattle.token_arena.specs.Ids.{Increase, IncreaseFrom}
 use Rattle.token_classes.specs.declared.class.TokenClass.{TokenClass}
-use Rattle.token_classes.specs.declared.class.TokenClass.TheVariants.{OpenRound, OpenSquare, OpenBrace}
-use Rattle.token_classes.specs.Classes.{is_bracket, is_close_brace, is_comment, is_open_brace, is_opener, is_plain, is_semicolon, is_word}
+use Rattle.token_classes.specs.declared.class.TokenClass.TheVariants.{OpenBrace, CloseBrace, LineComment, BlockComment}
+use Rattle.token_classes.specs.Classes.{is_bracket, is_close_brace, is_comment, is_else, is_open_brace, is_semicolon, is_word}
 use Rattle.token_classes.specs.Viewed.{item_class}
 use Rattle.token_classes.specs.declared.pairing.Opener.{Opener}
+use Rattle.view_parts.specs.declared.bodies.BodyKind.{BodyKind}
+use Rattle.view_parts.specs.declared.bodies.BodyKind.TheVariants as kind
+use Rattle.view_parts.specs.declared.bodies.Head.{Head}
 use Rattle.view_parts.specs.declared.walk.Around.{Around}
 use Rattle.view_parts.specs.declared.walk.Around.TheVariants as around
-use Rattle.view_parts.specs.declared.walk.Before.TheVariants.{Name, Semicolon, Between, Other}
-use Rattle.view_parts.specs.declared.walk.BodyPlace.{BodyPlace}
-use Rattle.view_parts.specs.declared.walk.Ended.{Ended}
-use Rattle.view_parts.specs.declared.walk.Head.{Head}
+use Rattle.view_parts.specs.declared.walk.Begun.{Begun}
+use Rattle.view_parts.specs.declared.walk.Begun.TheVariants.{Unknown, With, Behind}
 use Rattle.view_parts.specs.declared.walk.LastToken.{LastToken}
-use Rattle.view_parts.specs.Reading.{Reading, Ends, Never, GoesOn}
 use Rattle.view_parts.specs.declared.walk.Walk.{Walk}
-use Rattle.view_parts.specs.Walk.{start, reading, asked_at, asked_in_body, behind, behind_group, begins_block, begins_statement, ends_or, ends_statement, head_behind, head_from, in_body, in_group, is_between, is_body, is_label, is_lost, later, next_in_body, outside, past_bracket, place_behind}
-use Rattle.view_parts.specs.Parts.{around_of, count_or, end_of_part, items_before, items_of_place, next_end, opened_items, part_inside, part_len, place_of, waiting_at, waiting_behind, StandsBefore}
-use Rattle.view_parts.proofs.InOrder.{IsEnd, end_fits}
+use Rattle.view_parts.specs.Places.{Place}
+use Rattle.view_parts.specs.Reading.{Reading, EndsOutside, EndsInBody, Never, GoesOn}
+use Rattle.view_parts.specs.Walk.{start, reading, asked_at, begins_behind, begins_block, begins_statement, begun_before, body_kind, end_in_body, ends_apart, ends_in_row, ends_inside_or, ends_or, ends_statement, entered, goes_on_with, head_from, head_of_kind, heads_len, in_body, in_group, is_apart, is_leading, is_lost, kept_begun, may_part, next_begun, next_last, opened_head, or_place, outside, parts_statements, past_bracket, past_comment, past_other}
+use Rattle.view_parts.specs.Parts.{Ended, around_of, bodies_behind, count_or, end_of_part, head_items, heads_end, inside_of, is_left, items_before, items_of_place, left_innermost, next_end, opened_items, part_inside, part_len, place_behind, waiting_at, waiting_behind, walk_behind, without_innermost, StandsBefore}
+use Rattle.view_parts.proofs.Heads.{BodiesStand, IsHead, bodies_end, bodies_so, end_low, head_before, heads_len-reverse, reversed_end, reversed_have, reversed_stand, stand_before}
+use Rattle.view_parts.proofs.InOrder.{HasHeads, IsEnd, end_fits, inside_headed}
+use Rattle.view_parts.proofs.OpenBodies.{Cover, cover_len, covers_first, covers_on, left_at}
 use Rattle.view_parts.proofs.RowParts.{some_is}
 use Rattle.view_parts.proofs.Rows.{row_item}
-use Rattle.view_parts.proofs.Walked.{by_reading, past_other}
+use Rattle.view_parts.proofs.Walked.{behind_place, bodies_past, by_reading, walk_past}
 
 -- ## What is kept of the items that were read
 
--- the head of a function whose items have this, behind none of which this one stands
-record IsHead (P : ℕ → Type 0) (head : Head) (low : ℕ) : Type 0 where
-  some : head.first < head.end
-  few : head.end ≤ head.first + 64
-  upto : head.end ≤ low
-  has : (n : ℕ) → head.first ≤ n → n < head.end → P n
+-- how a statement began, in a body whose head ends so
+abbrev IsBegun : (ℕ → Type 0) → List ℕ → ℕ → ℕ → Begun → Type 0
+IsBegun P all end low Unknown = ⊤
+IsBegun P all end low (With token) = (token.id ≡ get_or all token.place 0) × (end ≤ token.id)
+IsBegun P all end low (Behind head) = IsHead P head low × (end ≤ head.first)
 
--- the token with which a statement behind this head ends, before this item
-record IsLast (P : ℕ → Type 0) (head : Head) (last low : ℕ) : Type 0 where
+-- the token with which a statement ends in such a body, before this item
+record IsLast (P : ℕ → Type 0) (end last low : ℕ) : Type 0 where
   has : P last
-  behind : head.end ≤ last
+  behind : end ≤ last
   before : last < low
 
--- the `{` of a block, before the last token where that is a `}`
-record IsBlock (P : ℕ → Type 0) (opened : ℕ) (class : TokenClass) (last low : ℕ) : Type 0 where
+-- the `{` of a block in it, before the last token where that is a `}`
+record IsBlock (P : ℕ → Type 0) (end opened : ℕ) (class : TokenClass) (last low : ℕ) : Type 0 where
   has : P opened
+  behind : end ≤ opened
   before : opened < low
   closed : is_close_brace class ≡ true → opened < last
 
-record KeepsLast (P : ℕ → Type 0) (head : Option Head) (last : LastToken) (low : ℕ) : Type 0 where
-  block : (opened : ℕ) → last.block ≡ Some opened → IsBlock P opened last.class last.id low
-  inside : (opened : ℕ) (h : Head) → last.block ≡ Some opened → head ≡ Some h → h.end ≤ opened
-  ended : (h : Head) → head ≡ Some h → ends_statement last ≡ true → IsLast P h last.id low
+record KeepsLast (P : ℕ → Type 0) (end : ℕ) (last : LastToken) (low : ℕ) : Type 0 where
+  block : (opened : ℕ) → last.block ≡ Some opened → IsBlock P end opened last.class last.id low
+  ended : ends_statement last ≡ true → IsLast P end last.id low
 
-record Keeps (P : ℕ → Type 0) (all : List ℕ) (walk : Walk) (low : ℕ) : Type 0 where
-  begun : (first : ℕ) → walk.begun ≡ Some first → first ≡ get_or all 0 0
-  head : (h : Head) → walk.head ≡ Some h → IsHead P h low
-  last : KeepsLast P walk.head walk.last low
-  asked : (count : ℕ) (h : Head) → walk.asked ≡ Some count → walk.head ≡ Some h → IsLast P h walk.last.id (get_or all count 0)
+record Keeps (P : ℕ → Type 0) (all : List ℕ) (walk : Walk) (bodies : List Head) (low : ℕ) : Type 0 where
+  begun : IsBegun P all (bodies_end bodies) low walk.begun
+  stand : BodiesStand P bodies low
+  few : heads_len bodies ≤ 64
+  last : KeepsLast P (bodies_end bodies) walk.last low
+  asked : (count : ℕ) → ends_statement walk.last ≡ true → walk.asked ≡ Some count → walk.last.id < get_or all count 0
 
 -- all items have this, and the next one is among them
 record AreAll (P : ℕ → Type 0) (all : List ℕ) (place id : ℕ) : Type 0 where
@@ -70,46 +72,21 @@ record AreAll (P : ℕ → Type 0) (all : List ℕ) (place id : ℕ) : Type 0 wh
   below : place < length all
   at : id ≡ get_or all place 0
 
--- ## Kinds of tokens
+-- ## Tests
 
 open_or_close : (class : TokenClass) → is_open_brace class ≡ true → is_close_brace class ≡ true → ⊥
 open_or_close OpenBrace opens closes = cc
 open_or_close _ opens closes = cc
 
-opener_or_comment : (class : TokenClass) → is_opener class ≡ true → is_comment class ≡ true → ⊥
-opener_or_comment OpenRound opens comment = cc
-opener_or_comment OpenSquare opens comment = cc
-opener_or_comment OpenBrace opens comment = cc
-opener_or_comment _ opens comment = cc
+comment_or_bracket : (class : TokenClass) → is_comment class ≡ true → is_bracket class ≡ true → ⊥
+comment_or_bracket LineComment comment bracket = cc
+comment_or_bracket BlockComment comment bracket = cc
+comment_or_bracket _ comment bracket = cc
 
-opener_or_semicolon : (class : TokenClass) → is_opener class ≡ true → is_semicolon class ≡ true → ⊥
-opener_or_semicolon OpenRound opens ends = cc
-opener_or_semicolon OpenSquare opens ends = cc
-opener_or_semicolon OpenBrace opens ends = cc
-opener_or_semicolon _ opens ends = cc
-
--- only an opener begins a body
-body_opens : (walk : Walk) (class : TokenClass) → is_body (behind walk class) ≡ true → is_opener class ≡ true
-body_opens walk class is = by_kind (is_opener class) (is_semicolon class) (is_comment class && is_between walk.before) (is_plain class) is
-  where
-    by_kind : (opens ends comments word : Bool) → is_body (if opens then behind_group walk class else (if ends then Semicolon else (if comments then Between else (if word then Name else Other)))) ≡ true → opens ≡ true
-    by_kind true ends comments word e = refl
-    by_kind false true comments word e = absurd (differ e)
-      where
-        differ : false ≡ true → ⊥
-        differ e = cc
-    by_kind false false true word e = absurd (differ e)
-      where
-        differ : false ≡ true → ⊥
-        differ e = cc
-    by_kind false false false true e = absurd (differ e)
-      where
-        differ : false ≡ true → ⊥
-        differ e = cc
-    by_kind false false false false e = absurd (differ e)
-      where
-        differ : false ≡ true → ⊥
-        differ e = cc
+comment_ends : (class : TokenClass) (block : Bool) → is_comment class ≡ true → is_semicolon class || (is_close_brace class && block) ≡ true → ⊥
+comment_ends LineComment block comment ends = cc
+comment_ends BlockComment block comment ends = cc
+comment_ends _ block comment ends = cc
 
 if_some : {A : Type 0} (test : Bool) (o : Option A) (x : A) → (if test then o else None) ≡ Some x → (test ≡ true) × (o ≡ Some x)
 if_some true o x e = (refl, e)
@@ -121,301 +98,421 @@ if_some false o x e = absurd (differ e)
 none_some : {A : Type 0} (x : A) → None ≡ Some x → ⊥
 none_some x e = cc
 
+false_true : false ≡ true → ⊥
+false_true e = cc
+
 both_true : (a b : Bool) → a && b ≡ true → (a ≡ true) × (b ≡ true)
 both_true true b e = (refl, e)
-both_true false b e = absurd (differ e)
+both_true false b e = absurd (false_true e)
+
+by_three : (a b c : Bool) → a && b && c ≡ true → (a ≡ true) × ((b ≡ true) × (c ≡ true))
+by_three true true true e = (refl, (refl, refl))
+by_three true true false e = cc
+by_three true false true e = cc
+by_three true false false e = cc
+by_three false true true e = cc
+by_three false true false e = cc
+by_three false false true e = cc
+by_three false false false e = cc
+
+-- ## How statements begin
+
+begun_later : (P : ℕ → Type 0) (all : List ℕ) (end low id : ℕ) (begun : Begun) → low ≤ id → IsBegun P all end low begun → IsBegun P all end (id + 1) begun
+begun_later P all end low id Unknown after is = tt
+begun_later P all end low id (With token) after is = is
+begun_later P all end low id (Behind head) after is = (let upto = is.0.upto in head_before P head low (id + 1) (omega (arith, upto, after)) is.0, is.1)
+
+-- behind the next token of a body
+begun_on : (P : ℕ → Type 0) (all : List ℕ) (end low : ℕ) (walk : Walk) (id : ℕ) (class : TokenClass) → low ≤ id → end ≤ id → id ≡ get_or all walk.place 0 → IsBegun P all end low walk.begun → IsBegun P all end (id + 1) (next_begun walk id class)
+begun_on P all end low walk id class after inside at is = by_test (begins_behind walk.last && is_leading class)
   where
-    differ : false ≡ true → ⊥
-    differ e = cc
+    kept : (begun : Begun) → IsBegun P all end (id + 1) begun → IsBegun P all end (id + 1) (kept_begun walk.last class begun)
+    kept Unknown is = tt
+    kept (With token) is = is
+    kept (Behind head) is = by_goes ((is_leading class || is_else class) && not (goes_on_with walk.last class))
+      where
+        by_goes : (lost : Bool) → IsBegun P all end (id + 1) (if lost then Unknown else Behind head)
+        by_goes true = tt
+        by_goes false = is
 
-either_true : (a b : Bool) → a || b ≡ true → (a ≡ true) ⊎ (b ≡ true)
-either_true true b e = inl refl
-either_true false b e = inr e
+    by_test : (test : Bool) → IsBegun P all end (id + 1) (if test then With (record { id = id; place = walk.place }) else kept_begun walk.last class walk.begun)
+    by_test true = (at, inside)
+    by_test false = kept walk.begun (begun_later P all end low id walk.begun after is)
 
-ends_so : (ends closes : Bool) → ends || (closes && false) ≡ true → ends ≡ true
-ends_so true closes e = refl
-ends_so false true e = e
-ends_so false false e = e
+-- ## Bodies that begin
 
--- ## One item
+-- the head of a body in these bodies, before the item behind this one
+record IsOpened (P : ℕ → Type 0) (bodies : List Head) (head : Head) (id : ℕ) : Type 0 where
+  is : IsHead P head (id + 1)
+  behind : bodies_end bodies ≤ head.first
+  few : heads_len bodies + (head.end - head.first) ≤ 64
 
-head_on : (P : ℕ → Type 0) (all : List ℕ) (walk : Walk) (id : ℕ) (h : Head) → AreAll P all walk.place id → ((first : ℕ) → walk.begun ≡ Some first → first ≡ get_or all 0 0) → head_from walk.begun walk.place id ≡ Some h → IsHead P h (id + 1)
-head_on P all walk id h is begun e = by_begun walk.begun begun e
+head_on : (P : ℕ → Type 0) (all : List ℕ) (bodies : List Head) (begun : Begun) (place id : ℕ) (k : BodyKind) (head : Head) → AreAll P all place id → IsBegun P all (bodies_end bodies) (id + 1) begun → head_from begun place id k (heads_len bodies) ≡ Some head
+    → IsOpened P bodies head id
+head_on P all bodies Unknown place id k head is began e = absurd (none_some head e)
+head_on P all bodies (Behind h) place id k head is began e =
+    let test = if_some (nat_le (heads_len bodies + (h.end - h.first)) 64) (Some h) head e in
+    subst (λ (x : Head). IsOpened P bodies x id) (some_is h head test.1) (record { is = began.0; behind = began.1; few = leb-true (heads_len bodies + (h.end - h.first)) 64 test.0 })
+head_on P all bodies (With token) place id k head is began e =
+    let made : Head = record { first = token.id; end = id + 1; kind = k } in
+    let count = heads_len bodies in
+    let test = if_some (nat_le token.id id && token.id + place == id + token.place && nat_le (count + (id + 1 - token.id)) 64) (Some made) head e in
+    let three = by_three (nat_le token.id id) (token.id + place == id + token.place) (nat_le (count + (id + 1 - token.id)) 64) test.0 in
+    let low : token.id ≤ id = leb-true token.id id three.0 in
+    let row : token.id + place ≡ id + token.place = eqb-true (token.id + place) (id + token.place) three.1.0 in
+    let behind = id - token.id in
+    let here : token.place + behind ≡ place = omega (arith, low, row) in
+    let ends : get_or all (token.place + behind) 0 ≡ token.id + behind = ap (λ n. get_or all n 0) here ∙ (sym is.at ∙ omega (arith, low)) in
+    let below = is.below in
+    subst (λ (x : Head). IsOpened P bodies x id) (some_is made head test.1) (record {
+      is = record {
+        some = omega (arith, low);
+        upto = omega arith;
+        has = λ n after before.
+            let j = n - token.id in
+            let item : get_or all (token.place + j) 0 ≡ token.id + j = row_item all token.place token.id behind is.increase (omega (arith, below, here)) (sym began.0) ends j (omega (arith, after, before, low)) in
+            subst (λ x. P x) (item ∙ omega (arith, after)) (is.have (token.place + j) 0 (omega (arith, after, before, low, row, below)));
+      };
+      behind = began.1;
+      few = leb-true (count + (id + 1 - token.id)) 64 three.1.1;
+    })
+
+opened_on : (P : ℕ → Type 0) (all : List ℕ) (walk : Walk) (stands : Around) (bodies : List Head) (id low : ℕ) (class : TokenClass) (head : Head) → low ≤ id → AreAll P all walk.place id → Keeps P all walk bodies low
+    → opened_head walk stands bodies id class ≡ Some head → (is_open_brace class ≡ true) × IsOpened P bodies head id
+opened_on P all walk stands bodies id low class head after is keeps e =
+    let test = if_some (is_open_brace class) (head_of_kind (body_kind walk stands) (begun_before walk stands id) walk.place id (heads_len bodies)) head e in
+    (test.0, by_kind (body_kind walk stands) test.1)
   where
-    by_three : (a b c : Bool) → a && b && c ≡ true → (a ≡ true) × ((b ≡ true) × (c ≡ true))
-    by_three true true true e = (refl, (refl, refl))
-    by_three true true false e = cc
-    by_three true false true e = cc
-    by_three true false false e = cc
-    by_three false true true e = cc
-    by_three false true false e = cc
-    by_three false false true e = cc
-    by_three false false false e = cc
+    later : IsBegun P all (bodies_end bodies) (id + 1) walk.begun
+    later = begun_later P all (bodies_end bodies) low id walk.begun after keeps.begun
 
-    by_begun : (o : Option ℕ) → ((first : ℕ) → o ≡ Some first → first ≡ get_or all 0 0) → head_from o walk.place id ≡ Some h → IsHead P h (id + 1)
-    by_begun None begun e = absurd (none_some h e)
-    by_begun (Some first) begun e =
-        let made : Head = record { first = first; end = id + 1 } in
-        let test = if_some (nat_lt walk.place 64 && nat_le first id && (id - first == walk.place)) (Some made) h e in
-        let three = by_three (nat_lt walk.place 64) (nat_le first id) (id - first == walk.place) test.0 in
-        let few : walk.place < 64 = ltb-true walk.place 64 three.0 in
-        let low : first ≤ id = leb-true first id three.1.0 in
-        let far : id - first ≡ walk.place = eqb-true (id - first) walk.place three.1.1 in
-        let begins : get_or all (0 + 0) 0 ≡ first = sym (begun first refl) in
-        let here : 0 + walk.place ≡ walk.place = omega arith in
-        let ends : get_or all (0 + walk.place) 0 ≡ first + walk.place = ap (λ k. get_or all k 0) here ∙ (sym is.at ∙ omega (arith, low, far)) in
-        let below = is.below in
-        subst (λ (x : Head). IsHead P x (id + 1)) (some_is made h test.1) (record {
-          some = omega (arith, low);
-          few = omega (arith, few, low, far);
-          upto = omega arith;
-          has = λ n after before.
-              let k = n - first in
-              let item : get_or all (0 + k) 0 ≡ first + k = row_item all 0 first walk.place is.increase (omega (arith, below)) begins ends k (omega (arith, after, before, low, far)) in
-              subst (λ x. P x) (item ∙ omega (arith, after)) (is.have (0 + k) 0 (omega (arith, after, before, low, far, below)));
-        })
+    by_first : (first : Bool) → IsBegun P all (bodies_end bodies) (id + 1) (if first then With (record { id = id; place = walk.place }) else walk.begun)
+    by_first true = (let inside = end_low P bodies low keeps.stand in (is.at, omega (arith, inside, after)))
+    by_first false = later
 
--- the last token behind a bracket of a group
-bracket_last : (P : ℕ → Type 0) (head : Option Head) (last : LastToken) (id low : ℕ) (class : TokenClass) → low ≤ id → P id → ((h : Head) → head ≡ Some h → h.end ≤ low) → KeepsLast P head last low
-    → KeepsLast P head (later last id class) (id + 1)
-bracket_last P head last id low class after has heads keeps = record {
-  block = λ opened e. (let old = keeps.block opened e in let before = old.before in record { has = old.has; before = omega (arith, before, after); closed = λ c. omega (arith, before, after) });
-  inside = λ opened h e f. keeps.inside opened h e f;
-  ended = λ h e f. (let low_head = heads h e in record { has = has; behind = omega (arith, low_head, after); before = omega arith });
+    began : (stands : Around) → IsBegun P all (bodies_end bodies) (id + 1) (begun_before walk stands id)
+    began around.Body = by_first (begins_behind walk.last)
+    began around.Outside = later
+    began around.Group = later
+
+    by_kind : (k : Option BodyKind) → head_of_kind k (begun_before walk stands id) walk.place id (heads_len bodies) ≡ Some head → IsOpened P bodies head id
+    by_kind None e = absurd (none_some head e)
+    by_kind (Some k) e = head_on P all bodies (begun_before walk stands id) walk.place id k head is (began stands) e
+
+-- only the `{` of bodies wait there
+opened_waits : (walk : Walk) (bodies : List Head) (waiting : List Opener) (id : ℕ) (class : TokenClass) (head : Head) → Cover (length bodies) waiting → opened_head walk (around_of bodies waiting) bodies id class ≡ Some head → length waiting ≡ length bodies
+opened_waits walk bodies [] id class head c e = (let enough = cover_len (length bodies) [] c in omega (arith, enough))
+opened_waits walk bodies (opener ∷ waiting) id class head c e = by_same (length (opener ∷ waiting) == length bodies) (λ s. eqb-true (length (opener ∷ waiting)) (length bodies) s) e
+  where
+    by_same : (same : Bool) → (same ≡ true → length (opener ∷ waiting) ≡ length bodies) → opened_head walk (if same then around.Body else around.Group) bodies id class ≡ Some head → length (opener ∷ waiting) ≡ length bodies
+    by_same true len e = len refl
+    by_same false len e = absurd (none_some head (if_some (is_open_brace class) None head e).1)
+
+-- ## The last token
+
+-- another one, where the last block stays the same
+renamed_last : (P : ℕ → Type 0) (end : ℕ) (last new : LastToken) (low : ℕ) → new.block ≡ last.block → low ≤ new.id → end ≤ new.id → P new.id → KeepsLast P end last low → KeepsLast P end new (new.id + 1)
+renamed_last P end last new low same after inside has keeps = record {
+  block = λ opened e. (let old = keeps.block opened (sym same ∙ e) in let before = old.before in record { has = old.has; behind = old.behind; before = omega (arith, before, after); closed = λ c. omega (arith, before, after) });
+  ended = λ e. record { has = has; behind = inside; before = omega arith };
 }
 
 -- that behind a token of a body
-token_last : (P : ℕ → Type 0) (head : Option Head) (last : LastToken) (id low : ℕ) (class : TokenClass) → low ≤ id → P id → ((h : Head) → head ≡ Some h → h.end ≤ low) → KeepsLast P head last low
-    → KeepsLast P head (next_in_body last id class) (id + 1)
-token_last P head last id low class after has heads keeps = record {
+token_last : (P : ℕ → Type 0) (end place : ℕ) (last : LastToken) (id low : ℕ) (class : TokenClass) → low ≤ id → end ≤ id → P id → KeepsLast P end last low → KeepsLast P end (next_last place last id class) (id + 1)
+token_last P end place last id low class after inside has keeps = record {
   block = λ opened e. by_block (is_open_brace class) (begins_block last) opened refl e;
-  inside = λ opened h e f. by_inside (is_open_brace class) (begins_block last) opened h e f;
-  ended = λ h e f. (let low_head = heads h e in record { has = has; behind = omega (arith, low_head, after); before = omega arith });
+  ended = λ e. record { has = has; behind = inside; before = omega arith };
 }
   where
-    by_block : (brace begins : Bool) (opened : ℕ) → is_open_brace class ≡ brace → (if brace then (if begins then Some id else None) else last.block) ≡ Some opened → IsBlock P opened class id (id + 1)
+    by_block : (brace begins : Bool) (opened : ℕ) → is_open_brace class ≡ brace → (if brace then (if begins then Some id else None) else last.block) ≡ Some opened → IsBlock P end opened class id (id + 1)
     by_block true true opened kind e =
-        subst (λ n. IsBlock P n class id (id + 1)) (some_is id opened e) (record { has = has; before = omega arith; closed = λ c. absurd (open_or_close class kind c) })
+        subst (λ n. IsBlock P end n class id (id + 1)) (some_is id opened e) (record { has = has; behind = inside; before = omega arith; closed = λ c. absurd (open_or_close class kind c) })
     by_block true false opened kind e = absurd (none_some opened e)
-    by_block false begins opened kind e = (let old = keeps.block opened e in let before = old.before in record { has = old.has; before = omega (arith, before, after); closed = λ c. omega (arith, before, after) })
-
-    by_inside : (brace begins : Bool) (opened : ℕ) (h : Head) → (if brace then (if begins then Some id else None) else last.block) ≡ Some opened → head ≡ Some h → h.end ≤ opened
-    by_inside true true opened h e f = (let low_head = heads h f in let at = some_is id opened e in omega (arith, low_head, after, at))
-    by_inside true false opened h e f = absurd (none_some opened e)
-    by_inside false begins opened h e f = keeps.inside opened h e f
+    by_block false begins opened kind e = (let old = keeps.block opened e in let before = old.before in record { has = old.has; behind = old.behind; before = omega (arith, before, after); closed = λ c. omega (arith, before, after) })
 
 -- what changes no token
-last_told : (P : ℕ → Type 0) (head : Option Head) (last : LastToken) (id low : ℕ) (commented : Bool) → low ≤ id → KeepsLast P head last low → KeepsLast P head (record last { commented = commented }) (id + 1)
-last_told P head last id low commented after keeps = record {
-  block = λ opened e. (let old = keeps.block opened e in let before = old.before in record { has = old.has; before = omega (arith, before, after); closed = old.closed });
-  inside = λ opened h e f. keeps.inside opened h e f;
-  ended = λ h e f. (let old = keeps.ended h e f in let before = old.before in record { has = old.has; behind = old.behind; before = omega (arith, before, after) });
+told_last : (P : ℕ → Type 0) (end : ℕ) (last : LastToken) (id low : ℕ) (apart commented : Bool) → low ≤ id → KeepsLast P end last low → KeepsLast P end (record last { apart = apart; commented = commented }) (id + 1)
+told_last P end last id low apart commented after keeps = record {
+  block = λ opened e. (let old = keeps.block opened e in let before = old.before in record { has = old.has; behind = old.behind; before = omega (arith, before, after); closed = old.closed });
+  ended = λ e. (let old = keeps.ended e in let before = old.before in record { has = old.has; behind = old.behind; before = omega (arith, before, after) });
 }
 
-head_later : (P : ℕ → Type 0) (h : Head) (low id : ℕ) → low ≤ id → IsHead P h low → IsHead P h (id + 1)
-head_later P h low id after is = (let upto = is.upto in record { some = is.some; few = is.few; upto = omega (arith, upto, after); has = is.has })
+-- ## One item
 
--- behind an item of a body
-body_on : (P : ℕ → Type 0) (arena : Contents) (all : List ℕ) (walk : Walk) (id low : ℕ) (class : TokenClass) (asked : Option ℕ) → low ≤ id → P id
-    → ((count : ℕ) (h : Head) → asked ≡ Some count → walk.head ≡ Some h → IsLast P h walk.last.id (get_or all count 0)) → Keeps P all walk low → Keeps P all (in_body arena walk id class asked) (id + 1)
-body_on P arena all walk id low class asked after has asks keeps = by_comment (is_comment class)
+later_stand : (P : ℕ → Type 0) (bodies : List Head) (id low : ℕ) → low ≤ id → BodiesStand P bodies low → BodiesStand P bodies (id + 1)
+later_stand P bodies id low after stand = (let inside = end_low P bodies low stand in stand_before P bodies low (id + 1) (omega (arith, inside, after)) stand)
+
+-- behind a token of a body
+body_on : (P : ℕ → Type 0) (all : List ℕ) (walk : Walk) (bodies : List Head) (id low : ℕ) (class : TokenClass) → low ≤ id → P id → id ≡ get_or all walk.place 0 → Keeps P all walk bodies low → Keeps P all (in_body walk id class) bodies (id + 1)
+body_on P all walk bodies id low class after has at keeps =
+    let end = end_low P bodies low keeps.stand in
+    record {
+      begun = begun_on P all (bodies_end bodies) low walk id class after (omega (arith, end, after)) at keeps.begun;
+      stand = later_stand P bodies id low after keeps.stand;
+      few = keeps.few;
+      last = token_last P (bodies_end bodies) walk.place walk.last id low class after (omega (arith, end, after)) has keeps.last;
+      asked = λ count ends e. absurd (none_some count e);
+    }
+
+-- behind a comment of a body
+comment_on : (P : ℕ → Type 0) (arena : Contents) (all : List ℕ) (walk : Walk) (bodies : List Head) (id low : ℕ) → low ≤ id → id ≡ get_or all walk.place 0 → Keeps P all walk bodies low → Keeps P all (past_comment arena walk id) bodies (id + 1)
+comment_on P arena all walk bodies id low after at keeps = record {
+  begun = begun_later P all (bodies_end bodies) low id walk.begun after keeps.begun;
+  stand = later_stand P bodies id low after keeps.stand;
+  few = keeps.few;
+  last = told_last P (bodies_end bodies) walk.last id low (is_apart walk id) true after keeps.last;
+  asked = λ count ends e. by_asked walk.asked refl count ends e;
+}
   where
-    told : LastToken
-    told = record walk.last { commented = walk.last.commented || item_began arena id }
-
-    next : Bool → Walk
-    next comment = record walk {
-      place = walk.place + 1;
-      asked = if comment then asked else None;
-      head = head_behind walk.head class;
-      behind = id + 1;
-      last = if comment then told else next_in_body walk.last id class;
-    }
-
-    known : (h : Head) → head_behind walk.head class ≡ Some h → walk.head ≡ Some h
-    known h e = by_label (is_label class) e
-      where
-        by_label : (label : Bool) → (if label then None else walk.head) ≡ Some h → walk.head ≡ Some h
-        by_label true e = absurd (none_some h e)
-        by_label false e = e
-
-    keeps_last : KeepsLast P (head_behind walk.head class) walk.last low
-    keeps_last = record {
-      block = keeps.last.block;
-      inside = λ opened h e f. keeps.last.inside opened h e (known h f);
-      ended = λ h e f. keeps.last.ended h (known h e) f;
-    }
-
-    by_comment : (comment : Bool) → Keeps P all (next comment) (id + 1)
-    by_comment true = record {
-      begun = keeps.begun;
-      head = λ h e. head_later P h low id after (keeps.head h (known h e));
-      last = last_told P (head_behind walk.head class) walk.last id low (walk.last.commented || item_began arena id) after keeps_last;
-      asked = λ count h e f. asks count h e (known h f);
-    }
-    by_comment false = record {
-      begun = keeps.begun;
-      head = λ h e. head_later P h low id after (keeps.head h (known h e));
-      last = token_last P (head_behind walk.head class) walk.last id low class after has (λ h e. (keeps.head h (known h e)).upto) keeps_last;
-      asked = λ count h e f. absurd (none_some count e);
-    }
+    by_asked : (asked : Option ℕ) → walk.asked ≡ asked → (count : ℕ) → ends_statement walk.last ≡ true
+        → ◌≡◌ {A = Option ℕ} (elim asked [ Some place ↦ Some place | None ↦ if ends_statement walk.last && item_began arena id then Some walk.place else None ]) (Some count)
+        → walk.last.id < get_or all count 0
+    by_asked (Some place) is count ends e = keeps.asked count ends (is ∙ e)
+    by_asked None is count ends e =
+        let test = if_some (ends_statement walk.last && item_began arena id) (Some walk.place) count e in
+        let same : get_or all walk.place 0 ≡ get_or all count 0 = ap (λ n. get_or all n 0) (some_is walk.place count test.1) in
+        let before = (keeps.last.ended ends).before in
+        omega (arith, before, after, at, same)
 
 -- behind an item of a group
-group_on : (P : ℕ → Type 0) (all : List ℕ) (walk : Walk) (id low : ℕ) (class : TokenClass) → low ≤ id → P id → Keeps P all walk low → Keeps P all (in_group walk id class) (id + 1)
-group_on P all walk id low class after has keeps = by_bracket (is_bracket class)
+group_on : (P : ℕ → Type 0) (all : List ℕ) (walk : Walk) (bodies : List Head) (id low : ℕ) (class : TokenClass) → low ≤ id → P id → Keeps P all walk bodies low → Keeps P all (in_group walk id class) bodies (id + 1)
+group_on P all walk bodies id low class after has keeps = by_bracket (is_bracket class)
   where
-    by_bracket : (bracket : Bool) → Keeps P all (if bracket then past_bracket walk id class else past_other walk class) (id + 1)
-    by_bracket true = record {
-      begun = keeps.begun;
-      head = λ h e. head_later P h low id after (keeps.head h e);
-      last = bracket_last P walk.head walk.last id low class after has (λ h e. (keeps.head h e).upto) keeps.last;
-      asked = λ count h e f. absurd (none_some count e);
-    }
+    by_bracket : (bracket : Bool) → Keeps P all (if bracket then past_bracket walk id class else past_other walk class) bodies (id + 1)
+    by_bracket true =
+        let end = end_low P bodies low keeps.stand in
+        record {
+          begun = begun_later P all (bodies_end bodies) low id walk.begun after keeps.begun;
+          stand = later_stand P bodies id low after keeps.stand;
+          few = keeps.few;
+          last = renamed_last P (bodies_end bodies) walk.last (record walk.last { class = class; id = id; apart = false }) low refl after (omega (arith, end, after)) has keeps.last;
+          asked = λ count ends e. absurd (none_some count e);
+        }
     by_bracket false = record {
-      begun = keeps.begun;
-      head = λ h e. head_later P h low id after (keeps.head h e);
-      last = last_told P walk.head walk.last id low walk.last.commented after keeps.last;
+      begun = begun_later P all (bodies_end bodies) low id walk.begun after keeps.begun;
+      stand = later_stand P bodies id low after keeps.stand;
+      few = keeps.few;
+      last = told_last P (bodies_end bodies) walk.last id low walk.last.apart (walk.last.commented || is_comment class) after keeps.last;
       asked = keeps.asked;
     }
 
 -- behind a token outside brackets
-outside_on : (P : ℕ → Type 0) (all : List ℕ) (walk : Walk) (id low : ℕ) (class : TokenClass) (asked : Option ℕ) → AreAll P all walk.place id → Keeps P all walk low → Keeps P all (outside walk id class asked) (id + 1)
-outside_on P all walk id low class asked is keeps = record {
-  begun = λ first e. by_first (walk.place == 0) first (λ zero. eqb-true walk.place 0 zero) e;
-  head = heads;
-  last = record {
-    block = λ opened e. absurd (none_some opened e);
-    inside = λ opened h e f. absurd (none_some opened e);
-    ended = λ h e f. absurd (opener_or_semicolon class (opens h e) (ends_so (is_semicolon class) (is_close_brace class) f));
-  };
-  asked = λ count h e f. by_comment (is_comment class) count h (λ kind. opener_or_comment class (opens h f) kind) e;
+outside_on : (P : ℕ → Type 0) (all : List ℕ) (walk : Walk) (bodies : List Head) (id low : ℕ) (class : TokenClass) (asked : Option ℕ) → low ≤ id → P id → id ≡ get_or all walk.place 0 → Keeps P all walk bodies low
+    → Keeps P all (outside walk id class asked) bodies (id + 1)
+outside_on P all walk bodies id low class asked after has at keeps = record {
+  begun = by_first (walk.place == 0) (λ zero. eqb-true walk.place 0 zero);
+  stand = later_stand P bodies id low after keeps.stand;
+  few = keeps.few;
+  last = renamed_last P (bodies_end bodies) walk.last (outside walk id class asked).last low refl after inside has keeps.last;
+  asked = λ count ends e. absurd (comment_ends class _ (if_some (is_comment class) asked count e).0 ends);
 }
   where
-    opens : (h : Head) → (if is_body (behind walk class) then head_from walk.begun walk.place id else None) ≡ Some h → is_opener class ≡ true
-    opens h e = body_opens walk class (if_some (is_body (behind walk class)) (head_from walk.begun walk.place id) h e).0
+    inside : bodies_end bodies ≤ id
+    inside = (let end = end_low P bodies low keeps.stand in omega (arith, end, after))
 
-    heads : (h : Head) → (if is_body (behind walk class) then head_from walk.begun walk.place id else None) ≡ Some h → IsHead P h (id + 1)
-    heads h e = head_on P all walk id h is keeps.begun (if_some (is_body (behind walk class)) (head_from walk.begun walk.place id) h e).1
+    by_first : (first : Bool) → (first ≡ true → walk.place ≡ 0) → IsBegun P all (bodies_end bodies) (id + 1) (if first then With (record { id = id; place = 0 }) else walk.begun)
+    by_first true none = (at ∙ ap (λ n. get_or all n 0) (none refl), inside)
+    by_first false none = begun_later P all (bodies_end bodies) low id walk.begun after keeps.begun
 
-    by_first : (zero : Bool) (first : ℕ) → (zero ≡ true → walk.place ≡ 0) → (if zero then Some id else walk.begun) ≡ Some first → first ≡ get_or all 0 0
-    by_first true first none e = sym (some_is id first e) ∙ (is.at ∙ ap (λ k. get_or all k 0) (none refl))
-    by_first false first none e = keeps.begun first e
+-- ## Bodies that begin or end
 
-    by_comment : (comment : Bool) (count : ℕ) (h : Head) → (comment ≡ true → ⊥) → (if comment then asked else None) ≡ Some count → IsLast P h id (get_or all count 0)
-    by_comment true count h never e = absurd (never refl)
-    by_comment false count h never e = absurd (none_some count e)
+entered_on : (P : ℕ → Type 0) (all : List ℕ) (next : Walk) (bodies : List Head) (head : Head) (id : ℕ) → IsOpened P bodies head id → Keeps P all next bodies (id + 1) → Keeps P all (entered next id) (head ∷ bodies) (id + 1)
+entered_on P all next bodies head id is keeps = record {
+  begun = tt;
+  stand = (is.is, stand_before P bodies (id + 1) head.first is.behind keeps.stand);
+  few = (let few = is.few in omega (arith, few));
+  last = record { block = λ opened e. absurd (none_some opened e); ended = λ e. absurd (false_true e) };
+  asked = λ count ends e. absurd (false_true ends);
+}
 
--- where it is asked in a body, the last token ends a statement of it
-asked_on : (P : ℕ → Type 0) (all : List ℕ) (walk : Walk) (id low : ℕ) → low ≤ id → id ≡ get_or all walk.place 0 → Keeps P all walk low → (count : ℕ) (h : Head) → asked_in_body walk id ≡ Some count → walk.head ≡ Some h → IsLast P h walk.last.id (get_or all count 0)
-asked_on P all walk id low after at keeps count h is f = by_asked walk.asked refl is
+left_on : (P : ℕ → Type 0) (all : List ℕ) (next : Walk) (bodies : List Head) (id low : ℕ) → low ≤ id → P id → next.asked ≡ None → BodiesStand P bodies low → Keeps P all next bodies (id + 1)
+    → Keeps P all (left_innermost next bodies id) (without_innermost bodies) (id + 1)
+left_on P all next [] id low after has none stand keeps = keeps
+left_on P all next (head ∷ bodies) id low after has none stand keeps =
+    let few = keeps.few in
+    record {
+      begun = by_begun head.kind;
+      stand = stand_before P bodies head.first (id + 1) (omega (arith, outer, some, upto, after)) stand.1;
+      few = omega (arith, few);
+      last = record { block = λ opened e. by_block head.kind opened e; ended = λ e. record { has = has; behind = omega (arith, outer, some, upto, after); before = omega arith } };
+      asked = λ count ends e. absurd (none_some count (sym none ∙ e));
+    }
   where
-    here : ends_statement walk.last ≡ true → walk.place ≡ count → IsLast P h walk.last.id (get_or all count 0)
-    here ends e = (let old = keeps.last.ended h f ends in let before = old.before in subst (λ k. IsLast P h walk.last.id (get_or all k 0)) e (record { has = old.has; behind = old.behind; before = omega (arith, before, after, at) }))
+    some : head.first < head.end
+    some = stand.0.some
 
-    by_tests : (gap ends rows : Bool) → ends_statement walk.last ≡ ends → (if gap && ends && rows then Some walk.place else None) ≡ Some count → IsLast P h walk.last.id (get_or all count 0)
-    by_tests true true true e same = here e (some_is walk.place count same)
-    by_tests true true false e same = absurd (none_some count same)
-    by_tests true false rows e same = absurd (none_some count same)
-    by_tests false true true e same = absurd (none_some count same)
-    by_tests false true false e same = absurd (none_some count same)
-    by_tests false false true e same = absurd (none_some count same)
-    by_tests false false false e same = absurd (none_some count same)
+    upto : head.end ≤ low
+    upto = stand.0.upto
 
-    by_asked : (asked : Option ℕ) → walk.asked ≡ asked
-        → ◌≡◌ {A = Option ℕ} (elim asked [ Some place ↦ Some place | None ↦ if not (id == walk.behind) && ends_statement walk.last && not walk.last.commented then Some walk.place else None ]) (Some count)
-        → IsLast P h walk.last.id (get_or all count 0)
-    by_asked (Some place) e same = keeps.asked count h (e ∙ same) f
-    by_asked None e same = by_tests (not (id == walk.behind)) (ends_statement walk.last) (not walk.last.commented) refl same
+    outer : bodies_end bodies ≤ head.first
+    outer = end_low P bodies head.first stand.1
+
+    by_begun : (k : BodyKind) → IsBegun P all (bodies_end bodies) (id + 1) (elim k [ kind.If ↦ Behind head | _ ↦ Unknown ])
+    by_begun kind.If = (head_before P head low (id + 1) (omega (arith, upto, after)) stand.0, outer)
+    by_begun kind.Function = tt
+    by_begun kind.Block = tt
+    by_begun kind.Members = tt
+
+    block_is : (opened : ℕ) → ◌≡◌ {A = Option ℕ} (Some (head.end - 1)) (Some opened) → IsBlock P (bodies_end bodies) opened CloseBrace id (id + 1)
+    block_is opened e = subst (λ n. IsBlock P (bodies_end bodies) n CloseBrace id (id + 1)) (some_is (head.end - 1) opened e) (record {
+      has = stand.0.has (head.end - 1) (omega (arith, some)) (omega (arith, some));
+      behind = omega (arith, outer, some);
+      before = omega (arith, some, upto, after);
+      closed = λ c. omega (arith, some, upto, after);
+    })
+
+    by_block : (k : BodyKind) (opened : ℕ) → ◌≡◌ {A = Option ℕ} (elim k [ kind.Members ↦ None | _ ↦ Some (head.end - 1) ]) (Some opened) → IsBlock P (bodies_end bodies) opened CloseBrace id (id + 1)
+    by_block kind.Members opened e = absurd (none_some opened e)
+    by_block kind.If opened e = block_is opened e
+    by_block kind.Function opened e = block_is opened e
+    by_block kind.Block opened e = block_is opened e
+
+-- behind a token that opens a body, or none, with this head
+past_on : (P : ℕ → Type 0) (all : List ℕ) (next : Walk) (bodies : List Head) (after : List Opener) (opened : Option Head) (id low : ℕ) → low ≤ id → P id → (is_left bodies after ≡ true → next.asked ≡ None) → BodiesStand P bodies low
+    → ((head : Head) → opened ≡ Some head → IsOpened P bodies head id) → Keeps P all next bodies (id + 1) → Keeps P all (walk_behind next bodies after opened id) (bodies_behind bodies after opened) (id + 1)
+past_on P all next bodies after (Some head) id low later has none stand opens keeps = entered_on P all next bodies head id (opens head refl) keeps
+past_on P all next bodies after None id low later has none stand opens keeps = by_left (is_left bodies after) none
+  where
+    by_left : (gone : Bool) → (gone ≡ true → next.asked ≡ None) → Keeps P all (if gone then left_innermost next bodies id else next) (if gone then without_innermost bodies else bodies) (id + 1)
+    by_left true none = left_on P all next bodies id low later has (none refl) stand keeps
+    by_left false none = keeps
 
 -- ## Where the part ends
 
 -- the place of a body where a part begins before this item, all items of which have this
-pub record IsPlace (P : ℕ → Type 0) (place : BodyPlace) (id : ℕ) : Type 0 where
-  pub before : StandsBefore place id
-  pub head : (n : ℕ) → place.head.first ≤ n → n < place.head.end → P n
-  pub opened : (opened : ℕ) → place.opened ≡ Some opened → P opened
-  pub ended : P place.ended
+record IsPlace (P : ℕ → Type 0) (place : Place) (id : ℕ) : Type 0 where
+  before : 0 < length place.heads → StandsBefore place id
+  heads : All P (head_items place.heads)
+  opened : (opened : ℕ) → place.opened ≡ Some opened → P opened
+  ended : P place.ended
 
 -- where the part ends in a body, it ends at such a place
-abbrev pub EndsAtPlace : (ℕ → Type 0) → List ℕ → Option Ended → Type 0
+abbrev EndsAtPlace : (ℕ → Type 0) → List ℕ → Option Ended → Type 0
 EndsAtPlace P all None = ⊤
-EndsAtPlace P all (Some ended) = (place : BodyPlace) → ended.inside ≡ Some place → IsPlace P place (get_or all ended.count 0)
+EndsAtPlace P all (Some ended) = (place : Place) → ended.inside ≡ Some place → IsPlace P place (get_or all ended.count 0)
 
-abbrev Reads : (ℕ → Type 0) → List ℕ → Walk → ℕ → Reading → Type 0
-Reads P all walk id (Ends ended) = EndsAtPlace P all (Some ended)
-Reads P all walk id Never = ⊤
-Reads P all walk id (GoesOn next) = (next.place ≡ walk.place + 1) × Keeps P all next (id + 1)
+abbrev Reads : (ℕ → Type 0) → List ℕ → Walk → List Head → ℕ → TokenClass → Reading → Type 0
+Reads P all walk bodies id class (EndsOutside count) = ⊤
+Reads P all walk bodies id class (EndsInBody count) = IsPlace P (place_behind walk bodies) (get_or all count 0)
+Reads P all walk bodies id class Never = ⊤
+Reads P all walk bodies id class (GoesOn next) = (next.place ≡ walk.place + 1) × Keeps P all next bodies (id + 1) × (is_bracket class ≡ true → next.asked ≡ None)
 
-place_so : (P : ℕ → Type 0) (all : List ℕ) (walk : Walk) (low id : ℕ) (head : Option Head) (place : BodyPlace) → walk.head ≡ head → Keeps P all walk low → ((h : Head) → walk.head ≡ Some h → IsLast P h walk.last.id id) → place_behind head walk.last ≡ Some place
-    → IsPlace P place id
-place_so P all walk low id None place e keeps asks is = absurd (none_some place is)
-place_so P all walk low id (Some h) place e keeps asks is =
-    let last = asks h e in
-    let head = keeps.head h e in
+place_so : (P : ℕ → Type 0) (all : List ℕ) (walk : Walk) (bodies : List Head) (low id : ℕ) → Keeps P all walk bodies low → ends_statement walk.last ≡ true → walk.last.id < id → IsPlace P (place_behind walk bodies) id
+place_so P all walk bodies low id keeps ends before =
+    let last = keeps.last.ended ends in
+    let inside = last.behind in
+    let end = reversed_end bodies in
+    let len = heads_len-reverse bodies in
+    let few = keeps.few in
     let test = λ (opened : ℕ) (o : (if is_close_brace walk.last.class then walk.last.block else None) ≡ Some opened). if_some (is_close_brace walk.last.class) walk.last.block opened o in
-    subst (λ (p : BodyPlace). IsPlace P p id) (some_is _ place is) (record {
-      before = record {
-        some = head.some;
-        few = head.few;
-        opened = λ opened o. (keeps.last.inside opened h (test opened o).1 e, (keeps.last.block opened (test opened o).1).closed (test opened o).0);
-        ended = last.behind;
-        before = last.before;
+    record {
+      before = λ some. record {
+        some = some;
+        few = omega (arith, few, len);
+        stand = reversed_stand P bodies low keeps.stand;
+        opened = λ opened o. (let block = keeps.last.block opened (test opened o).1 in let within = block.behind in (omega (arith, within, end), block.closed (test opened o).0));
+        ended = omega (arith, inside, end);
+        before = before;
       };
-      head = head.has;
+      heads = reversed_have P bodies low keeps.stand;
       opened = λ opened o. (keeps.last.block opened (test opened o).1).has;
       ended = last.has;
-    })
+    }
 
-reads_on : (P : ℕ → Type 0) (arena : Contents) (all : List ℕ) (walk : Walk) (stands : Around) (id low : ℕ) (class : TokenClass) → low ≤ id → P id → AreAll P all walk.place id → Keeps P all walk low → Reads P all walk id (reading arena walk stands id class)
-reads_on P arena all walk stands id low class after has is keeps = by_stands stands
+-- where it ends in a body, the last token ends a statement of it
+ends_told : (P : ℕ → Type 0) (all : List ℕ) (walk : Walk) (bodies : List Head) (id low count : ℕ) (class : TokenClass) → low ≤ id → id ≡ get_or all walk.place 0 → Keeps P all walk bodies low → end_in_body walk id class ≡ Some count
+    → IsPlace P (place_behind walk bodies) (get_or all count 0)
+ends_told P all walk bodies id low count class after at keeps e =
+    let test = if_some (parts_statements walk class) (if is_apart walk id then ends_apart walk else ends_in_row walk id) count e in
+    let ends = (by_three (ends_statement walk.last) (begins_statement class) (may_part walk class) test.0).0 in
+    place_so P all walk bodies low (get_or all count 0) keeps ends (by_apart ends (is_apart walk id) test.1)
   where
-    by_lost : (lost : Bool) (next : Walk) → next.place ≡ walk.place + 1 → Keeps P all next (id + 1) → Reads P all walk id (if lost then Never else GoesOn next)
-    by_lost true next one on = tt
-    by_lost false next one on = (one, on)
+    here : ends_statement walk.last ≡ true → walk.place ≡ count → walk.last.id < get_or all count 0
+    here ends same = (let before = (keeps.last.ended ends).before in let item = ap (λ n. get_or all n 0) same in omega (arith, before, after, at, item))
 
-    by_word : (word : Bool) (ended : Ended) (next : Reading) → EndsAtPlace P all (Some ended) → Reads P all walk id next → Reads P all walk id (if word then Ends ended else next)
-    by_word true ended next told on = told
-    by_word false ended next told on = on
+    by_asked : (asked : Option ℕ) → walk.asked ≡ asked → ends_statement walk.last ≡ true → or_place asked walk.place ≡ count → walk.last.id < get_or all count 0
+    by_asked None is ends same = here ends same
+    by_asked (Some n) is ends same = keeps.asked count ends (is ∙ ap (λ k. Some k) same)
 
-    by_asked : (asked : Option ℕ) (word : Bool) (place : Option BodyPlace) (next : Reading) → ((count : ℕ) → asked ≡ Some count → EndsAtPlace P all (Some (record { count = count; inside = place }))) → Reads P all walk id next
-        → Reads P all walk id (ends_or asked word place next)
-    by_asked None word place next told on = on
-    by_asked (Some count) word place next told on = by_word word (record { count = count; inside = place }) next (told count refl) on
+    by_apart : ends_statement walk.last ≡ true → (apart : Bool) → (if apart then ends_apart walk else ends_in_row walk id) ≡ Some count → walk.last.id < get_or all count 0
+    by_apart ends true e = by_asked walk.asked refl ends (some_is (or_place walk.asked walk.place) count (if_some (nat_le 64 walk.place) (Some (or_place walk.asked walk.place)) count e).1)
+    by_apart ends false e = here ends (some_is walk.place count (if_some (nat_le 512 walk.place && id == walk.last.id + 1 && not walk.last.commented) (Some walk.place) count e).1)
 
-    by_stands : (stands : Around) → Reads P all walk id (reading arena walk stands id class)
-    by_stands around.Group = (group_place (is_bracket class), group_on P all walk id low class after has keeps)
-      where
-        group_place : (bracket : Bool) → (if bracket then past_bracket walk id class else past_other walk class).place ≡ walk.place + 1
-        group_place true = refl
-        group_place false = refl
+reads_on : (P : ℕ → Type 0) (arena : Contents) (all : List ℕ) (walk : Walk) (stands : Around) (bodies : List Head) (id low : ℕ) (class : TokenClass) → low ≤ id → P id → id ≡ get_or all walk.place 0 → Keeps P all walk bodies low
+    → Reads P all walk bodies id class (reading arena walk stands id class)
+reads_on P arena all walk stands bodies id low class after has at keeps = by_stands stands
+  where
+    by_lost : (lost : Bool) (next : Walk) → Reads P all walk bodies id class (GoesOn next) → Reads P all walk bodies id class (if lost then Never else GoesOn next)
+    by_lost true next on = tt
+    by_lost false next on = on
+
+    by_word : (word : Bool) (count : ℕ) (later : Reading) → Reads P all walk bodies id class later → Reads P all walk bodies id class (if word then EndsOutside count else later)
+    by_word true count later on = tt
+    by_word false count later on = on
+
+    by_asked : (asked : Option ℕ) (word : Bool) (later : Reading) → Reads P all walk bodies id class later → Reads P all walk bodies id class (ends_or asked word later)
+    by_asked None word later on = on
+    by_asked (Some count) word later on = by_word word count later on
+
+    by_end : (end : Option ℕ) (next : Walk) → ((count : ℕ) → end ≡ Some count → IsPlace P (place_behind walk bodies) (get_or all count 0)) → Reads P all walk bodies id class (GoesOn next) → Reads P all walk bodies id class (ends_inside_or end next)
+    by_end None next told on = on
+    by_end (Some count) next told on = told count refl
+
+    by_comment : (comment : Bool) → is_comment class ≡ comment → Reads P all walk bodies id class (if comment then GoesOn (past_comment arena walk id) else ends_inside_or (end_in_body walk id class) (in_body walk id class))
+    by_comment true is = (refl, comment_on P arena all walk bodies id low after at keeps, λ bracket. absurd (comment_or_bracket class is bracket))
+    by_comment false is = by_end (end_in_body walk id class) (in_body walk id class) (λ count e. ends_told P all walk bodies id low count class after at keeps e) (refl, body_on P all walk bodies id low class after has at keeps, λ bracket. refl)
+
+    group_place : (bracket : Bool) → (if bracket then past_bracket walk id class else past_other walk class).place ≡ walk.place + 1
+    group_place true = refl
+    group_place false = refl
+
+    group_asked : (bracket : Bool) → bracket ≡ true → (if bracket then past_bracket walk id class else past_other walk class).asked ≡ None
+    group_asked true is = refl
+    group_asked false is = absurd (false_true is)
+
+    outside_asked : (comment : Bool) (asked : Option ℕ) → (comment ≡ true → ⊥) → (if comment then asked else None) ≡ None
+    outside_asked true asked never = absurd (never refl)
+    outside_asked false asked never = refl
+
+    by_stands : (stands : Around) → Reads P all walk bodies id class (reading arena walk stands id class)
+    by_stands around.Group = (group_place (is_bracket class), group_on P all walk bodies id low class after has keeps, λ bracket. group_asked (is_bracket class) bracket)
     by_stands around.Outside =
         let asked = asked_at arena walk id class in
-        by_asked asked (is_word class) None (if is_lost class then Never else GoesOn (outside walk id class asked)) (λ count e place f. absurd (none_some place f))
-        (by_lost (is_lost class) (outside walk id class asked) refl (outside_on P all walk id low class asked is keeps))
-    by_stands around.Body =
-        let asked = asked_in_body walk id in
-        let asks = asked_on P all walk id low after is.at keeps in
-        by_asked asked (begins_statement class) (place_behind walk.head walk.last) (GoesOn (in_body arena walk id class asked))
-        (λ count e place f. place_so P all walk low (get_or all count 0) walk.head place refl keeps (λ h g. asks count h e g) f)
-        (refl, body_on P arena all walk id low class asked after has asks keeps)
+        by_asked asked (is_word class) (if is_lost class then Never else GoesOn (outside walk id class asked))
+        (by_lost (is_lost class) (outside walk id class asked) (refl, outside_on P all walk bodies id low class asked after has at keeps, λ bracket. outside_asked (is_comment class) asked (λ comment. comment_or_bracket class comment bracket)))
+    by_stands around.Body = by_comment (is_comment class) refl
 
-told_on : (P : ℕ → Type 0) (arena : Contents) (all ids : List ℕ) (walk : Walk) (waiting : List Opener) (low : ℕ) → Increase all → All P all → walk.place + length ids ≤ length all → IncreaseFrom low ids
-    → ((k : ℕ) → k < length ids → get_or ids k 0 ≡ get_or all (walk.place + k) 0) → Keeps P all walk low → EndsAtPlace P all (next_end arena walk waiting ids)
-told_on P arena all [] walk waiting low whole have within increase same keeps = tt
-told_on P arena all (id ∷ ids) walk waiting low whole have within increase same keeps =
+told_on : (P : ℕ → Type 0) (arena : Contents) (all ids : List ℕ) (walk : Walk) (bodies : List Head) (waiting : List Opener) (low : ℕ) → Increase all → All P all → walk.place + length ids ≤ length all → IncreaseFrom low ids
+    → ((k : ℕ) → k < length ids → get_or ids k 0 ≡ get_or all (walk.place + k) 0) → Cover (length bodies) waiting → Keeps P all walk bodies low → EndsAtPlace P all (next_end arena walk bodies waiting ids)
+told_on P arena all [] walk bodies waiting low whole have within increase same cover keeps = tt
+told_on P arena all (id ∷ ids) walk bodies waiting low whole have within increase same cover keeps =
+    let class = item_class arena id in
+    let stands = around_of bodies waiting in
+    let after = waiting_behind class walk.place waiting in
+    let opened = opened_head walk stands bodies id class in
     let p : walk.place + 0 ≡ walk.place = omega arith in
     let at : id ≡ get_or all walk.place 0 = same 0 (omega arith) ∙ ap (λ k. get_or all k 0) p in
     let has : P id = subst (λ x. P x) (sym at) (have walk.place 0 (omega (arith, within))) in
-    by_reads (reading arena walk (around_of walk.head waiting) id (item_class arena id))
-    (reads_on P arena all walk (around_of walk.head waiting) id low (item_class arena id) increase.0 has (record { increase = whole; have = have; below = omega (arith, within); at = at }) keeps)
-    (λ next one on. told_on P arena all ids next (waiting_behind (item_class arena id) walk.place waiting) (id + 1) whole have (omega (arith, one, within)) increase.1
-    (λ k below. let e : walk.place + suc k ≡ next.place + k = omega (arith, one) in same (suc k) (omega (arith, below)) ∙ ap (λ j. get_or all j 0) e) on)
+    let is : AreAll P all walk.place id = record { increase = whole; have = have; below = omega (arith, within); at = at } in
+    let opens = λ (head : Head) (e : opened ≡ Some head). opened_on P all walk stands bodies id low class head increase.0 is keeps e in
+    by_reads (reading arena walk stands id class) (reads_on P arena all walk stands bodies id low class increase.0 has at keeps)
+    (λ next one on none.
+    let past = walk_behind next bodies after opened id in
+    let place : past.place ≡ walk.place + 1 = behind_place next bodies after opened id ∙ one in
+    told_on P arena all ids past (bodies_behind bodies after opened) after (id + 1) whole have (omega (arith, place, within)) increase.1
+    (λ k below. let e : walk.place + suc k ≡ past.place + k = omega (arith, place) in same (suc k) (omega (arith, below)) ∙ ap (λ j. get_or all j 0) e)
+    (covers_on class walk.place bodies waiting opened cover (λ head e. ((opens head e).0, opened_waits walk bodies waiting id class head cover e)))
+    (past_on P all next bodies after opened id low increase.0 has (λ gone. none (left_at class walk.place bodies waiting cover gone)) keeps.stand (λ head e. (opens head e).1) on))
   where
-    by_reads : (read : Reading) → Reads P all walk id read → ((next : Walk) → next.place ≡ walk.place + 1 → Keeps P all next (id + 1) → EndsAtPlace P all (next_end arena next (waiting_behind (item_class arena id) walk.place waiting) ids))
-        → EndsAtPlace P all (by_reading arena (waiting_behind (item_class arena id) walk.place waiting) ids read)
-    by_reads (Ends ended) told on = told
+    by_reads : (read : Reading) → Reads P all walk bodies id (item_class arena id) read
+        → ((next : Walk) → next.place ≡ walk.place + 1 → Keeps P all next bodies (id + 1) → (is_bracket (item_class arena id) ≡ true → next.asked ≡ None)
+        → EndsAtPlace P all (next_end arena (walk_past arena walk bodies waiting id next (waiting_behind (item_class arena id) walk.place waiting)) (bodies_past arena walk bodies waiting id (waiting_behind (item_class arena id) walk.place waiting))
+        (waiting_behind (item_class arena id) walk.place waiting) ids))
+        → EndsAtPlace P all (by_reading arena walk (around_of bodies waiting) bodies (waiting_behind (item_class arena id) walk.place waiting) id ids read)
+    by_reads (EndsOutside count) told on = λ place e. absurd (none_some place e)
+    by_reads (EndsInBody count) told on = λ place e. subst (λ (p : Place). IsPlace P p (get_or all count 0)) (some_is (place_behind walk bodies) place e) told
     by_reads Never told on = tt
-    by_reads (GoesOn next) told on = on next told.0 told.1
+    by_reads (GoesOn next) told on = on next told.0 told.1 told.2
 
 -- ## The first item
 
@@ -427,77 +524,72 @@ opened_have : (P : ℕ → Type 0) (opened : Option ℕ) → ((x : ℕ) → open
 opened_have P None has = λ k d below. absurd (omega (arith, below))
 opened_have P (Some x) has = one_has P x (has x refl)
 
-items_have : (P : ℕ → Type 0) (place : BodyPlace) (id : ℕ) → IsPlace P place id → All P (items_of_place place)
+items_have : (P : ℕ → Type 0) (place : Place) (id : ℕ) → IsPlace P place id → All P (items_of_place place)
 items_have P place id is =
-    let n = place.head.end - place.head.first in
-    let head : All P (range_with_len place.head.first n) = λ k d below. (let short : k < n = omega (arith, below, length-range_with_len place.head.first n) in
-    subst (λ x. P x) (sym (get_or-range_with_len place.head.first n k d short)) (is.head (place.head.first + k) (omega arith) (omega (arith, short)))) in
-    All-append P (range_with_len place.head.first n) (opened_items place.opened ++ place.ended ∷ []) head (All-append P (opened_items place.opened) (place.ended ∷ []) (opened_have P place.opened is.opened) (one_has P place.ended is.ended))
+    All-append P (head_items place.heads) (opened_items place.opened ++ place.ended ∷ []) is.heads (All-append P (opened_items place.opened) (place.ended ∷ []) (opened_have P place.opened is.opened) (one_has P place.ended is.ended))
 
-head_has : (P : ℕ → Type 0) (place : BodyPlace) → All P (items_of_place place) → (n : ℕ) → place.head.first ≤ n → n < place.head.end → P n
-head_has P place have n after before =
-    let first = place.head.first in
-    let many = place.head.end - first in
-    let k = n - first in
-    let short : k < many = omega (arith, after, before) in
-    let rest = opened_items place.opened ++ place.ended ∷ [] in
-    let len = length-range_with_len first many in
-    let at : get_or (range_with_len first many ++ rest) k 0 ≡ n = get_or-append (range_with_len first many) rest 0 k (omega (arith, short, len)) ∙ (get_or-range_with_len first many k 0 short ∙ omega (arith, after)) in
-    subst (λ x. P x) at (have k 0 (more k many first rest short))
-  where
-    more : (k many first : ℕ) (rest : List ℕ) → k < many → k < length (range_with_len first many ++ rest)
-    more k many first rest short = (let a = length-append (range_with_len first many) rest in let b = length-range_with_len first many in omega (arith, short, a, b))
+first_have : (P : ℕ → Type 0) (xs ys : List ℕ) → All P (xs ++ ys) → All P xs
+first_have P xs ys have = λ k d below. (let all = length-append xs ys in subst (λ x. P x) (get_or-append xs ys d k below) (have k d (omega (arith, below, all))))
 
 increase_from : (low d : ℕ) (ids : List ℕ) → low < get_or ids 0 d → Increase ids → IncreaseFrom (low + 1) ids
 increase_from low d [] after increase = tt
 increase_from low d (id ∷ ids) after increase = (omega (arith, after), increase.1)
 
 -- a part that begins with these items ends in no body, or at a place of one
-pub place_told : (P : ℕ → Type 0) (arena : Contents) (begins : Option BodyPlace) (ids : List ℕ) (d : ℕ) → Increase ids → ForSome begins (λ place. StandsBefore place (get_or ids 0 d)) → All P (items_before begins) → All P ids → EndsAtPlace P ids (end_of_part arena begins ids)
-place_told P arena None ids d increase stands before have = told_on P arena ids ids (start None) [] 0 increase have (omega arith) increase (λ k below. ap (λ j. get_or ids j 0) (omega arith)) (record {
-  begun = λ first e. absurd (none_some first e);
-  head = λ h e. absurd (none_some h e);
-  last = record { block = λ opened e. absurd (none_some opened e); inside = λ opened h e f. absurd (none_some opened e); ended = λ h e f. absurd (none_some h e) };
-  asked = λ count h e f. absurd (none_some count e);
+place_told : (P : ℕ → Type 0) (arena : Contents) (begins : Option Place) (ids : List ℕ) (d : ℕ) → Increase ids → ForSome begins (λ place. StandsBefore place (get_or ids 0 d)) → All P (items_before begins) → All P ids → EndsAtPlace P ids (end_of_part arena begins ids)
+place_told P arena None ids d increase stands before have = told_on P arena ids ids (start None) [] [] 0 increase have (omega arith) increase (λ k below. ap (λ j. get_or ids j 0) (omega arith)) (covers_first []) (record {
+  begun = tt;
+  stand = tt;
+  few = omega arith;
+  last = record { block = λ opened e. absurd (none_some opened e); ended = λ e. absurd (false_true e) };
+  asked = λ count ends e. absurd (none_some count e);
 })
 place_told P arena (Some place) ids d increase stands before have =
     let is = stands place refl in
-    let last = is.ended in
-    told_on P arena ids ids (start (Some place)) (waiting_at (Some place)) (place.ended + 1) increase have (omega arith) (increase_from place.ended d ids is.before increase) (λ k below. ap (λ j. get_or ids j 0) (omega arith)) (record {
-      begun = λ first e. absurd (none_some first e);
-      head = λ h e. subst (λ (x : Head). IsHead P x (place.ended + 1)) (some_is place.head h e) (record { some = is.some; few = is.few; upto = omega (arith, last); has = head_has P place before });
-      last = record { block = λ opened e. absurd (none_some opened e); inside = λ opened h e f. absurd (none_some opened e); ended = λ h e f. absurd (differ f) };
-      asked = λ count h e f. absurd (none_some count e);
+    let end = is.ended in
+    let few = is.few in
+    let len = heads_len-reverse place.heads in
+    let bodies = reverse place.heads in
+    let stand = bodies_so P place.heads is.stand (first_have P (head_items place.heads) (opened_items place.opened ++ place.ended ∷ []) before) in
+    let low = end_low P bodies (heads_end 0 place.heads) stand in
+    told_on P arena ids ids (start (Some place)) bodies (waiting_at (Some place)) (place.ended + 1) increase have (omega arith) (increase_from place.ended d ids is.before increase) (λ k below. ap (λ j. get_or ids j 0) (omega arith)) (covers_first place.heads) (record {
+      begun = tt;
+      stand = stand_before P bodies (heads_end 0 place.heads) (place.ended + 1) (omega (arith, low, end)) stand;
+      few = omega (arith, few, len);
+      last = record { block = λ opened e. absurd (none_some opened e); ended = λ e. absurd (false_true e) };
+      asked = λ count ends e. absurd (none_some count e);
     })
-  where
-    differ : false ≡ true → ⊥
-    differ e = cc
 
 -- ## The place
 
 -- What all items of a part and those before it have, those have that stand for the place where it ends.
-pub places_have : (P : ℕ → Type 0) (arena : Contents) (begins : Option BodyPlace) (ids : List ℕ) (d : ℕ) → Increase ids → ForSome begins (λ place. StandsBefore place (get_or ids 0 d)) → All P (items_before begins) → All P ids
+pub places_have : (P : ℕ → Type 0) (arena : Contents) (begins : Option Place) (ids : List ℕ) (d : ℕ) → Increase ids → ForSome begins (λ place. StandsBefore place (get_or ids 0 d)) → All P (items_before begins) → All P ids
     → All P (items_before (part_inside arena begins ids))
 places_have P arena begins ids d increase stands before have = by_end (end_of_part arena begins ids) (place_told P arena begins ids d increase stands before have)
   where
     none : All P []
     none = λ k d below. absurd (omega (arith, below))
 
-    by_place : (inside : Option BodyPlace) (id : ℕ) → ((place : BodyPlace) → inside ≡ Some place → IsPlace P place id) → All P (items_before inside)
+    by_place : (inside : Option Place) (id : ℕ) → ((place : Place) → inside ≡ Some place → IsPlace P place id) → All P (items_before inside)
     by_place None id told = none
     by_place (Some place) id told = items_have P place id (told place refl)
 
-    by_end : (end : Option Ended) → EndsAtPlace P ids end → All P (items_before (place_of end))
+    by_end : (end : Option Ended) → EndsAtPlace P ids end → All P (items_before (inside_of end))
     by_end None told = none
     by_end (Some ended) told = by_place ended.inside (get_or ids ended.count 0) told
 
 -- They stand before the item behind the part.
-pub stands_before : (arena : Contents) (begins : Option BodyPlace) (ids : List ℕ) (d : ℕ) → Increase ids → ForSome begins (λ place. StandsBefore place (get_or ids 0 d))
+pub stands_before : (arena : Contents) (begins : Option Place) (ids : List ℕ) (d : ℕ) → Increase ids → ForSome begins (λ place. StandsBefore place (get_or ids 0 d))
     → ForSome (part_inside arena begins ids) (λ place. StandsBefore place (get_or ids (part_len arena begins ids) d))
-stands_before arena begins ids d increase stands = by_end (end_of_part arena begins ids) (end_fits arena begins ids) (place_told (λ n. ⊤) arena begins ids d increase stands (λ k e below. tt) (λ k e below. tt))
+stands_before arena begins ids d increase stands =
+    by_end (end_of_part arena begins ids) (end_fits arena begins ids (headed begins stands)) (inside_headed arena begins ids) (place_told (λ n. ⊤) arena begins ids d increase stands (λ k e below. tt) (λ k e below. tt))
   where
-    by_end : (end : Option Ended) → IsEnd (length ids) end → EndsAtPlace (λ n. ⊤) ids end → ForSome (place_of end) (λ place. StandsBefore place (get_or ids (count_or end (length ids)) d))
-    by_end None fit told = λ place e. absurd (none_some place e)
-    by_end (Some ended) fit told = λ place e.
+    headed : (begins : Option Place) → ForSome begins (λ place. StandsBefore place (get_or ids 0 d)) → HasHeads begins
+    headed None stands = tt
+    headed (Some place) stands = (stands place refl).some
+
+    by_end : (end : Option Ended) → IsEnd (length ids) end → HasHeads (inside_of end) → EndsAtPlace (λ n. ⊤) ids end → ForSome (inside_of end) (λ place. StandsBefore place (get_or ids (count_or end (length ids)) d))
+    by_end None fit has told = λ place e. absurd (none_some place e)
+    by_end (Some ended) fit has told = λ place e.
         let same : get_or ids ended.count 0 ≡ get_or ids ended.count d = get_or_default ids ended.count 0 d fit.1 in
-        subst (λ n. StandsBefore place n) same (told place e).before
+        subst (λ n. StandsBefore place n) same ((told place e).before (subst (λ (o : Option Place). HasHeads o) e has))

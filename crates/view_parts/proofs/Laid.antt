@@ -1,10 +1,17 @@
 -- Stretches of items that are laid out one behind another.
-use Rattle.std.proofs.Common.{◌≡◌, ◌∙◌, ℕ, zero, suc, ◌+◌, ◌-◌, ◌<◌, ◌≤◌, List, [], ◌∷◌, ◌++◌, append-nil, append_assoc, length, map, take, get_or, refl, sym, ap, subst, arith}
+use Rattle.std.proofs.Common.{◌≡◌, ◌∙◌, ℕ, zero, suc, ◌+◌, ◌-◌, ◌<◌, ◌≤◌, Option, Some, None, List, [], ◌∷◌, ◌++◌, append-nil, append_assoc, length, map, take, drop, get_or, refl, sym, ap, subst, arith}
 use Rattle.std.specs.List.{range_with_len}
-use Rattle.std.proofs.lemmas.List.{take_more}
+use Rattle.std.specs.Option.{ForSome}
+use Rattle.std.specs.Prelude.{slice_range}
+use Rattle.std.proofs.lemmas.List.{get_or-drop, get_or-take, take_all, take_more}
 use Rattle.token_arena.specs.declared.view.Segment.{Segment}
 use Rattle.token_arena.specs.declared.view.Stretch.{Stretch}
 use Rattle.token_arena.specs.Segments.{ids_of, AscendFrom, bounds_of, no_segment, segment_bounds}
+use Rattle.view_parts.specs.declared.bodies.BodyKind.TheVariants.{Function}
+use Rattle.view_parts.specs.declared.bodies.BodyPlace.{BodyPlace}
+use Rattle.view_parts.specs.declared.bodies.Head.{Head}
+use Rattle.view_parts.specs.Parts.{head_items, heads_end, opened_items, Stand, StandsBefore}
+use Rattle.view_parts.specs.Places.{place_in, place_of}
 use Rattle.view_parts.proofs.RowParts.{range_cut}
 
 -- the last one isn't empty
@@ -88,3 +95,49 @@ first_item low (segment ∷ segments) is some = by_count (segment.end - segment.
     by_count : (n : ℕ) → 0 < n → get_or (range_with_len segment.first n ++ ids_of (map segment_bounds segments)) 0 0 ≡ segment.first
     by_count zero some = absurd (omega (arith, some))
     by_count (suc n) some = refl
+
+-- the first item of a part of a view
+pub first_of : (view : List ℕ) (first end : ℕ) → first < end → get_or (slice_range view first end) 0 0 ≡ get_or view first 0
+first_of view first end some = (let here : first + 0 ≡ first = omega arith in get_or-take (end - first) (drop first view) 0 0 (omega (arith, some)) ∙ (get_or-drop first view 0 0 ∙ ap (λ k. get_or view k 0) here))
+
+-- ## Heads
+
+-- what a list of heads has past its end
+abbrev pub no_head : Head
+no_head = record { first = 0; end = 0; kind = Function }
+
+pub stands_so : (begins : Option BodyPlace) (place : BodyPlace) (id : ℕ) → begins ≡ Some place → ForSome (place_in begins) (λ p. StandsBefore p id) → StandsBefore (place_of place) id
+stands_so begins place id is stands = stands (place_of place) (ap (λ (o : Option BodyPlace). place_in o) is)
+
+-- the outermost of these heads, and the others behind it
+pub record AreOutermost (heads : List Head) (head : Head) (rest : List Head) : Type 0 where
+  pub some : head.first < head.end
+  pub stand : Stand head.end rest
+  pub end : heads_end head.end rest ≡ heads_end 0 heads
+  pub items : range_with_len head.first (head.end - head.first) ++ head_items rest ≡ head_items heads
+
+pub outermost : (heads : List Head) → 0 < length heads → Stand 0 heads → AreOutermost heads (get_or heads 0 no_head) (take (length heads - 1) (drop 1 heads))
+outermost [] some stand = absurd (omega (arith, some))
+outermost (head ∷ heads) some stand =
+    subst (λ (hs : List Head). AreOutermost (head ∷ heads) head hs) (sym (take_all (suc (length heads) - 1) heads (omega arith))) (record { some = stand.1; stand = stand.2; end = refl; items = refl })
+
+one_item : (id : ℕ) → range_with_len id (id + 1 - id) ≡ id ∷ []
+one_item id = (let one : id + 1 - id ≡ 1 = omega arith in ap (λ n. range_with_len id n) one)
+
+pub opened_one : (opened : Option ℕ) (id : ℕ) (old next : List ℕ) → opened ≡ Some id → next ≡ old ++ range_with_len id (id + 1 - id) → next ≡ old ++ opened_items opened
+opened_one opened id old next is more = more ∙ (ap (λ (xs : List ℕ). old ++ xs) (one_item id) ∙ ap (λ (o : Option ℕ). old ++ opened_items o) (sym is))
+
+pub opened_none : (opened : Option ℕ) (old next : List ℕ) → opened ≡ None → next ≡ old → next ≡ old ++ opened_items opened
+opened_none opened old next is same = same ∙ (sym (append-nil old) ∙ ap (λ (o : Option ℕ). old ++ opened_items o) (sym is))
+
+-- what is laid out behind the outermost head, one list behind another
+pub laid_so : (heads : List Head) (opened : Option ℕ) (ended : ℕ) (head : Head) (rest : List Head) (bodies statement place own laid : List ℕ) → AreOutermost heads head rest
+    → bodies ≡ (range_with_len head.first (head.end - head.first) ++ []) ++ head_items rest → statement ≡ bodies ++ opened_items opened → place ≡ statement ++ range_with_len ended (ended + 1 - ended) → laid ≡ place ++ own
+    → laid ≡ (head_items heads ++ (opened_items opened ++ ended ∷ [])) ++ own
+laid_so heads opened ended head rest bodies statement place own laid outer bodies_are statement_is place_is is =
+    let here = range_with_len head.first (head.end - head.first) in
+    let all : bodies ≡ head_items heads = bodies_are ∙ (ap (λ (xs : List ℕ). xs ++ head_items rest) (append-nil here) ∙ outer.items) in
+    let behind = opened_items opened in
+    is
+    ∙ ap (λ (xs : List ℕ). xs ++ own) (place_is
+    ∙ (ap (λ (xs : List ℕ). statement ++ xs) (one_item ended) ∙ (ap (λ (xs : List ℕ). xs ++ ended ∷ []) (statement_is ∙ ap (λ (xs : List ℕ). xs ++ behind) all) ∙ append_assoc (head_items heads) behind (ended ∷ []))))

@@ -1,4 +1,8 @@
+pub mod Heads
+pub mod Waits
+pub mod OpenBodies
 pub mod Walked
+pub mod Quiet
 pub mod InOrder
 pub mod Rows
 pub mod Spans
@@ -6,4 +10,7 @@ pub mod RowParts
 pub mod NotedRows
 pub mod Told
 pub mod InBodies
+pub mod PartEnds
 pub mod Laid
+pub mod BodiesPassed
+pub mod BodyRows

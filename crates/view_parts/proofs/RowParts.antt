@@ -10,9 +10,9 @@ use Rattle.view_parts.specs.declared.known.KnownEnd.{KnownEnd}
 use Rattle.view_parts.specs.declared.known.KnownEnd.TheVariants.{Unknown, InRow, InRows, InSpan}
 use Rattle.view_parts.specs.declared.known.KnownRow.{KnownRow}
 use Rattle.view_parts.specs.Known.{IsKnown, AreKnown, FollowInRow, AreKnownRows, row_of, joined, joined_rows}
-use Rattle.view_parts.specs.Parts.{PartStop, count_or, end_of_part, place_of, stop_from, EndsBehind, FollowUpTo, ArePartsUpTo}
-use Rattle.view_parts.specs.declared.walk.BodyPlace.{BodyPlace}
-use Rattle.view_parts.specs.declared.walk.Ended.{Ended}
+use Rattle.view_parts.specs.Parts.{PartStop, count_or, end_of_part, inside_of, stop_from, EndsBehind, FollowUpTo, ArePartsUpTo}
+use Rattle.view_parts.specs.Places.{Place}
+use Rattle.view_parts.specs.Parts.{Ended}
 use Rattle.view_parts.proofs.Rows.{row_from, row_item, noted_all}
 use Rattle.view_parts.proofs.Walked.{end_behind, outside_at}
 
@@ -83,8 +83,8 @@ abbrev pub stop_outside : ℕ → PartStop
 stop_outside end = record { end = end; inside = None }
 
 -- where the part of a view ends of which that is told
-pub stop_at : (arena : Contents) (view : List ℕ) (begins : Option BodyPlace) (first : ℕ) (ended : Ended) → end_of_part arena begins (drop first view) ≡ Some ended → record { end = first + ended.count; inside = ended.inside } ≡ stop_from arena view begins first
-stop_at arena view begins first ended is = ap (λ (end : Option Ended). record { end = first + count_or end (length (drop first view)); inside = place_of end }) (sym is)
+pub stop_at : (arena : Contents) (view : List ℕ) (begins : Option Place) (first : ℕ) (ended : Ended) → end_of_part arena begins (drop first view) ≡ Some ended → record { end = first + ended.count; inside = ended.inside } ≡ stop_from arena view begins first
+stop_at arena view begins first ended is = ap (λ (end : Option Ended). record { end = first + count_or end (length (drop first view)); inside = inside_of end }) (sym is)
 
 row_told : (arena : Contents) (view : List ℕ) (seen id end first : ℕ) → Increase view → id < seen → first + (seen - id) ≤ length view → ((k : ℕ) → k < seen - id → get_or view (first + k) 0 ≡ id + k)
     → EndsBehind arena None (range_with_len id (seen - id)) (outside_at (end - id)) → end_of_part arena None (drop first view) ≡ Some (outside_at (end - id))

@@ -17,11 +17,11 @@ use Rattle.view_parts.specs.declared.known.KnownRow.{KnownRow}
 use Rattle.view_parts.specs.Known.{IsKnown, IsKnownRow, AreKnown}
 use Rattle.view_parts.specs.declared.ends.Row.{Row}
 use Rattle.view_parts.specs.Rows.{IsRow}
-use Rattle.view_parts.specs.Walk.{is_quiet}
+use Rattle.view_parts.specs.Steps.{is_quiet}
 use Rattle.view_parts.specs.Parts.{part_inside, part_len, EndsBehind}
 use Rattle.view_parts.proofs.Walked.{inside_behind, len_behind, outside_at}
 
-at_least : (low : ℕ) (ids : List ℕ) (i : ℕ) → IncreaseFrom low ids → i < length ids → low + i ≤ get_or ids i 0
+pub at_least : (low : ℕ) (ids : List ℕ) (i : ℕ) → IncreaseFrom low ids → i < length ids → low + i ≤ get_or ids i 0
 at_least low [] i increase below = absurd (omega (arith, below))
 at_least low (id ∷ ids) zero increase below = omega (arith, increase.0)
 at_least low (id ∷ ids) (suc i) increase below = (let rest = at_least (id + 1) ids i increase.1 (omega (arith, below)) in omega (arith, rest, increase.0))

@@ -9,8 +9,8 @@ use Rattle.std.proofs.lemmas.List.FromFn.{length-range_with_len}
 use Rattle.token_arena.specs.Gaps.{Contents}
 use Rattle.token_arena.specs.Ids.{Increase}
 use Rattle.view_parts.specs.declared.known.KnownRow.{KnownRow}
-use Rattle.view_parts.specs.declared.walk.BodyPlace.{BodyPlace}
-use Rattle.view_parts.specs.declared.walk.Ended.{Ended}
+use Rattle.view_parts.specs.Places.{Place}
+use Rattle.view_parts.specs.Parts.{Ended}
 use Rattle.view_parts.specs.declared.known.KnownSpan.{KnownSpan}
 use Rattle.view_parts.specs.Known.{AreKnownRows, FollowInRow, IsKnownRow, IsSpan}
 use Rattle.view_parts.specs.Parts.{end_of_part, EndsBehind, FollowUpTo, ArePartsUpTo}
@@ -27,12 +27,12 @@ tells_to : (arena : Contents) (view : List ℕ) (first end seen : ℕ) → TellP
 tells_to arena view first end seen tells = λ told is. subst (λ n. TellParts arena None (slice_range view first n) (end - first) None) (some_is seen told is) tells
 
 -- where the first part ends of items that begin with those that tell it
-end_told : (arena : Contents) (begins : Option BodyPlace) (ids told rest : List ℕ) (ended : Ended) → ids ≡ told ++ rest → EndsBehind arena begins told ended → end_of_part arena begins ids ≡ Some ended
+end_told : (arena : Contents) (begins : Option Place) (ids told rest : List ℕ) (ended : Ended) → ids ≡ told ++ rest → EndsBehind arena begins told ended → end_of_part arena begins ids ≡ Some ended
 end_told arena begins ids told rest ended is ends = ap (λ (xs : List ℕ). end_of_part arena begins xs) is ∙ ends rest
 
 -- ## One part
 
-pub one_told : (arena : Contents) (begins : Option BodyPlace) (told : List ℕ) (ended : Ended) → 0 < ended.count → ended.count < length told → EndsBehind arena begins told ended → TellParts arena begins told ended.count ended.inside
+pub one_told : (arena : Contents) (begins : Option Place) (told : List ℕ) (ended : Ended) → 0 < ended.count → ended.count < length told → EndsBehind arena begins told ended → TellParts arena begins told ended.count ended.inside
 one_told arena begins told ended some later ends before rest =
     let view = before ++ (told ++ rest) in
     let first = length before in
@@ -44,7 +44,7 @@ one_told arena begins told ended some later ends before rest =
     }
 
 -- the items of a view from a place on, up to the one that tells it
-pub part_told : (arena : Contents) (begins inside : Option BodyPlace) (view : List ℕ) (first end seen : ℕ) → first < end → end < seen → seen ≤ length view
+pub part_told : (arena : Contents) (begins inside : Option Place) (view : List ℕ) (first end seen : ℕ) → first < end → end < seen → seen ≤ length view
     → EndsBehind arena begins (slice_range view first seen) (record { count = end - first; inside = inside }) → TellParts arena begins (slice_range view first seen) (end - first) inside
 part_told arena begins inside view first end seen some later within ends =
     let many : length (slice_range view first seen) ≡ seen - first = length-take-le (seen - first) (drop first view) (omega (arith, length-drop first view, within, some, later)) in

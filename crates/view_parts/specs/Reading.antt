@@ -1,10 +1,12 @@
 -- What comes of an item of a part.
-use Rattle.view_parts.specs.declared.walk.Ended.{Ended}
+use Rattle.std.specs.Prelude.{ℕ}
 use Rattle.view_parts.specs.declared.walk.Walk.{Walk}
 
 pub data Reading : Type 0 where
-  -- the part ends there
-  Ends : Ended → Reading
+  -- the part ends outside brackets, behind so many of its items
+  EndsOutside : ℕ → Reading
+  -- the part ends in a body, behind so many of its items
+  EndsInBody : ℕ → Reading
   -- no part ends behind it
   Never : Reading
   -- the part goes on behind it

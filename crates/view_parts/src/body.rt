@@ -1,13 +1,14 @@
-//! What is laid out for a part that begins in a function's body.
+//! What is laid out for a part that begins in a body.
 
 ghost use Rattle.std.specs.Prelude.{◌≡◌, ◌<◌, ◌≤◌, ◌++◌, ◌∷◌, [], ◌-◌, length, get_or, map, IfOk, OnOk};
 ghost use Rattle.std.specs.Option.{ForSome};
 ghost use Rattle.std.specs.List.{range_with_len};
 ghost use Rattle.token_arena.specs.Ids.{Increase};
 ghost use Rattle.token_arena.specs.Segments.{ids_of, AscendFrom, bounds_of};
-ghost use Rattle.view_parts.specs.Parts.{laid_items, StandsBefore};
+ghost use Rattle.view_parts.specs.Parts.{head_items, heads_end, laid_items, Stand, StandsBefore};
+ghost use Rattle.view_parts.specs.Places.{place_in};
 
-use crate::walk::BodyPlace;
+use crate::bodies::{BodyPlace, Head};
 use bumpalo::Bump;
 use line_tokens::NoMemory;
 use token_arena::{Stretch, View};
@@ -53,10 +54,28 @@ fn push_view(
     Ok(())
 }
 
-/// The items that are laid out for a part of a view, from one place to before another: where it begins in a function's
-/// body, those that stand for that place, and then its own.
+/// Adds the items of heads, all behind those of some stretches and a last one.
+fn push_heads(
+    done: &mut Vec<Stretch, &Bump>,
+    last: &mut Stretch,
+    heads: &[Head],
+) -> Result<(), NoMemory>
+    requires ascend { AscendFrom 0 (map bounds_of (done.old.items ++ last.old ∷ [])) }
+    requires stand { Stand last.old.end heads.now }
+    ensures ascend { OnOk result (AscendFrom 0 (map bounds_of (done.new.items ++ last.new ∷ []))) }
+    ensures items { OnOk result (ids_of (map bounds_of (done.new.items ++ last.new ∷ [])) ≡ ids_of (map bounds_of (done.old.items ++ last.old ∷ [])) ++ head_items heads.now) }
+    ensures end { OnOk result (last.new.end ≡ heads_end last.old.end heads.now) }
+{
+    for head in heads {
+        push_stretch(done, last, head.first, head.end)?;
+    }
+    Ok(())
+}
+
+/// The items that are laid out for a part of a view, from one place to before another: where it begins in a body, those
+/// that stand for that place, and then its own.
 pub fn laid_view<'r>(
-    begins: Option<BodyPlace>,
+    begins: Option<BodyPlace<'_>>,
     view: &View<'_>,
     first: u32,
     end: u32,
@@ -64,8 +83,8 @@ pub fn laid_view<'r>(
 ) -> Result<View<'r>, NoMemory>
     requires some { first < end }
     requires within { end ≤ length view.now }
-    requires begins { ForSome begins (λ place. StandsBefore place (get_or view.now first 0)) }
-    ensures items { IfOk result (λ laid. laid ≡ laid_items begins view.now first end) }
+    requires begins { ForSome (place_in begins) (λ place. StandsBefore place (get_or view.now first 0)) }
+    ensures items { IfOk result (λ laid. laid ≡ laid_items (place_in begins.entry) view.now first end) }
     ensures increase { IfOk result (λ laid. Increase laid) }
 {
     let own = view.part(first, end, room)?;
@@ -75,10 +94,12 @@ pub fn laid_view<'r>(
     let next = view.at(first);
     prove!(place.ended < next.0);
     let mut done = Vec::new(room);
+    let outermost = place.heads[0];
     let mut last = Stretch {
-        first: place.head.first,
-        end: place.head.end,
+        first: outermost.first,
+        end: outermost.end,
     };
+    push_heads(&mut done, &mut last, &place.heads[1..])?;
     if let Some(opened) = place.opened {
         push_stretch(&mut done, &mut last, opened, opened + 1)?;
     }

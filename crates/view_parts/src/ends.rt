@@ -1,15 +1,26 @@
 //! Where the parts of a view end.
 
-ghost use Rattle.std.specs.Prelude.{true, ◌≡◌, ◌<◌, ◌≤◌, ◌+◌, ◌-◌, ◌^◌, ℕ, length, drop, get_or, reverse, slice_range, IfOk};
+ghost use Rattle.std.specs.Prelude.{true, ◌≡◌, ◌<◌, ◌≤◌, ◌+◌, ◌-◌, ◌^◌, ℕ, length, drop, take, get_or, reverse, slice_range};
+ghost use Rattle.std.specs.Prelude.{IfOk, List, OnOk, []};
 ghost use Rattle.std.specs.Option.{ForNone, ForSome};
 ghost use Rattle.token_classes.specs.declared.class.TokenClass.{TokenClass};
 ghost use Rattle.token_classes.specs.Viewed.{AreWithin, item_classes};
 ghost use Rattle.token_arena.specs.Ids.{Increase};
-ghost use Rattle.view_parts.specs.Parts.{around_of, part_inside, part_len, EndsBehind, StandsBefore};
+ghost use Rattle.token_classes.specs.declared.pairing.Opener.{Opener};
+ghost use Rattle.token_classes.specs.Partners.{count_braces, StandBefore};
+ghost use Rattle.view_parts.specs.declared.walk.Around.TheVariants.{Body};
+ghost use Rattle.view_parts.specs.Parts.{around_of, bodies_behind, braces_of, heads_at, part_inside, part_len};
+ghost use Rattle.view_parts.specs.Parts.{waiting_behind, walk_behind};
+ghost use Rattle.view_parts.specs.Parts.{EndsBehind, StandsBefore};
+ghost use Rattle.view_parts.specs.Places.{place_in};
 ghost use Rattle.view_parts.specs.Rows.{IsRow};
-ghost use Rattle.view_parts.specs.Walk.{is_quiet, may_end};
+ghost use Rattle.view_parts.specs.declared.walk.Before.TheVariants as Before;
+ghost use Rattle.view_parts.specs.Steps.{Closes, is_quiet, is_telling, may_end};
 
-use crate::walk::{Around, BodyPlace, Told, Walk, is_label, read, start};
+use crate::bodies::{BodyPlace, Head, opened_head, place_behind};
+use crate::walk::{
+    Around, Declaration, LEAST_IN_ROW, Outcome, Walk, is_label, is_record, read, start,
+};
 use bumpalo::Bump;
 use line_tokens::{NoMemory, TokenId};
 use token_arena::{TokenArena, View};
@@ -17,13 +28,21 @@ use token_classes::{Opener, TokenClass, waiting_step};
 
 /// Where a part ends.
 #[derive(Clone, Copy)]
-pub struct PartEnd {
+pub struct PartEnd<'k> {
     /// The place behind its last item.
     pub end: u32,
     /// The place behind the items that tell so, whatever follows them. There is none where the part ends with the view.
     pub seen: Option<u32>,
-    /// Where that is in a function's body, if it is in one.
-    pub inside: Option<BodyPlace>,
+    /// Where that is in a body, if it is in one.
+    pub inside: Option<BodyPlace<'k>>,
+}
+
+/// Whether a token of a body changes what is known by its class.
+#[inline(always)]
+fn is_telling(class: TokenClass) -> bool
+    ensures { result ≡ is_telling class }
+{
+    is_label(class) || class.is_control() || is_record(class)
 }
 
 /// Whether a token changes nothing but the place and which token was the last, by what it stands in.
@@ -33,7 +52,7 @@ fn is_quiet(around: Around, class: TokenClass) -> bool
 {
     !class.is_bracket()
         && !class.is_comment()
-        && (matches!(around, Around::Group) || !is_label(class))
+        && (matches!(around, Around::Group) || !is_telling(class))
 }
 
 /// How many quiet tokens stand at the beginning of these.
@@ -100,32 +119,87 @@ fn item_at(view: &View<'_>, place: u32, row: &mut Row, segment: &mut usize) -> T
     TokenId(place + row.shift)
 }
 
-/// How many quiet tokens follow a place directly in its row. Labels are looked for where they count, not in a group.
+/// How many quiet tokens follow a place of a part directly in its row: in a body up to where parts may end anywhere.
 #[inline(always)]
-fn quiet_behind(around: Around, all: &[TokenClass], place: u32, row: &Row) -> u32
-    requires here { place < row.now.end }
+fn quiet_behind(around: Around, all: &[TokenClass], first: u32, place: u32, row: &Row) -> u32
+    requires here { first + place < row.now.end }
     requires within { row.now.end + row.now.shift ≤ length all.now }
-    ensures within { place + result < row.now.end }
-    ensures quiet { (k : ℕ) → (d : TokenClass) → place < k → k ≤ place + result → is_quiet around (get_or all.now (k + row.now.shift) d) ≡ true }
+    requires low { around ≡ Body → place < 512 }
+    ensures within { first + place + result < row.now.end }
+    ensures low { around ≡ Body → place + result < 512 }
+    ensures quiet { (k : ℕ) → (d : TokenClass) → first + place < k → k ≤ first + place + result → is_quiet around (get_or all.now (k + row.now.shift) d) ≡ true }
 {
     let shift = row.shift as usize;
-    let next = place as usize + 1 + shift;
-    let classes = &all[next..row.end as usize + shift];
+    let next = (first + place) as usize + 1 + shift;
     let count = match around {
-        Around::Group => quiet_count(Around::Group, classes),
-        _ => quiet_count(around, classes),
+        Around::Outside => 0,
+        Around::Body => {
+            let end = row.end.min(first.saturating_add(LEAST_IN_ROW));
+            quiet_count(Around::Body, &all[next..end as usize + shift])
+        }
+        Around::Group => quiet_count(Around::Group, &all[next..row.end as usize + shift]),
     };
     count as u32
 }
 
-/// What the next item stands in, where these openers wait.
+/// How many of these tokens stand up to the `}` that closes the brace before them, if it is among them.
 #[inline(always)]
-fn around(waiting: &[Opener], walk: &Walk) -> Around
-    ensures { result ≡ around_of walk.now.head (reverse waiting.now) }
+fn closing_len(classes: &[TokenClass]) -> Option<usize>
+    ensures within { ForSome result (λ len. len ≤ length classes.now) }
+    ensures closes { ForSome result (λ len. Closes 1 (take len classes.now)) }
+{
+    let mut depth: usize = 1;
+    let mut count: usize = 0;
+    while count < classes.len() {
+        let class = classes[count];
+        count += 1;
+        if class.is_close_brace() {
+            if depth == 1 {
+                return Some(count);
+            }
+            depth -= 1;
+        } else if class.is_open_brace() {
+            depth += 1;
+        }
+    }
+    None
+}
+
+/// How many items stand behind the `{` of a body at a place of a part up to its `}`, if no part ends in it: they stand
+/// in its row, before the place from which a part may end there. `declaration` is that outside brackets.
+#[inline(never)]
+fn body_len(
+    declaration: Declaration,
+    all: &[TokenClass],
+    first: u32,
+    place: u32,
+    row: &Row,
+) -> Option<u32>
+    requires here { first + place < row.now.end }
+    requires within { row.now.end + row.now.shift ≤ length all.now }
+    ensures before { ForSome result (λ len. declaration.before ≡ Before.Body) }
+    ensures within { ForSome result (λ len. first + place + len < row.now.end) }
+    ensures low { ForSome result (λ len. place + 1 + len ≤ 512) }
+    ensures closes { ForSome result (λ len. Closes 1 (take len (drop (first + place + 1 + row.now.shift) all.now))) }
+{
+    if place >= LEAST_IN_ROW || !declaration.is_behind_body() {
+        return None;
+    }
+    let shift = row.shift as usize;
+    let next = (first + place) as usize + 1 + shift;
+    let end = row.end.min(first.saturating_add(LEAST_IN_ROW));
+    let count = closing_len(&all[next..end as usize + shift])?;
+    Some(count as u32)
+}
+
+/// What the next item stands in, where these openers wait and these bodies are open, the innermost of each last.
+#[inline(always)]
+fn around(waiting: &[Opener], bodies: &[Head]) -> Around
+    ensures { result ≡ around_of (reverse bodies.now) (reverse waiting.now) }
 {
     match waiting.len() {
         0 => Around::Outside,
-        1 if walk.head.is_some() => Around::Body,
+        count if count == bodies.len() => Around::Body,
         _ => Around::Group,
     }
 }
@@ -137,9 +211,89 @@ fn may_end(walk: &Walk, around: Around, id: TokenId) -> bool
 {
     match around {
         Around::Outside => true,
-        Around::Body => walk.asked.is_some() || id.0 != walk.behind,
+        Around::Body => walk.may_end(id),
         Around::Group => false,
     }
+}
+
+/// The bodies that are open where a part begins, and their `{`, which wait. None were kept before.
+fn begin_bodies(
+    begins: Option<BodyPlace<'_>>,
+    bodies: &mut Vec<Head, &Bump>,
+    waiting: &mut Vec<Opener, &Bump>,
+) -> Result<(), NoMemory>
+    requires bodies { bodies.old.items ≡ [] }
+    requires waiting { waiting.old.items ≡ [] }
+    ensures bodies { OnOk result (bodies.new.items ≡ heads_at (place_in begins.entry)) }
+    ensures waiting { OnOk result (waiting.new.items ≡ braces_of (heads_at (place_in begins.entry))) }
+{
+    if let Some(place) = begins {
+        bodies.extend_from_slice(place.heads)?;
+        for _ in place.heads {
+            waiting.push(Opener {
+                place: 0,
+                kind: TokenClass::OpenBrace,
+            })?;
+        }
+    }
+    Ok(())
+}
+
+/// Goes on with the openers that wait behind a token at a place of a part. `braces` says how many of them are a `{`.
+#[inline(always)]
+fn pass_bracket(
+    waiting: &mut Vec<Opener, &Bump>,
+    braces: &mut usize,
+    place: u32,
+    id: TokenId,
+    class: TokenClass,
+) -> Result<(), NoMemory>
+    requires count { braces.old ≡ count_braces (reverse waiting.old.items) }
+    requires small { braces.old ≤ id.0 + 1 }
+    requires before { StandBefore (id.0 + 1) (reverse waiting.old.items) }
+    requires low { place ≤ id.0 }
+    requires room { id.0 < 4294967295 }
+    ensures waiting { OnOk result (reverse waiting.new.items ≡ waiting_behind class place (reverse waiting.old.items)) }
+    ensures count { OnOk result (braces.new ≡ count_braces (reverse waiting.new.items)) }
+    ensures small { OnOk result (braces.new ≤ id.0 + 2) }
+    ensures before { OnOk result (StandBefore (id.0 + 2) (reverse waiting.new.items)) }
+{
+    if class.is_opener() {
+        if class.is_open_brace() {
+            *braces += 1;
+        }
+        waiting.push(Opener {
+            place: place + 1,
+            kind: class,
+        })?;
+    } else {
+        waiting_step(waiting, braces, id.0 + 1, class)?;
+    }
+    Ok(())
+}
+
+/// Goes on with the bodies that are open behind a token: one that it opens, with this head, or all but the innermost,
+/// where fewer openers wait behind it.
+#[inline(always)]
+fn pass_brace(
+    walk: &mut Walk,
+    bodies: &mut Vec<Head, &Bump>,
+    waiting: usize,
+    opened: Option<Head>,
+    id: TokenId,
+) -> Result<(), NoMemory>
+    ensures walk { OnOk result ((openers : List Opener) → length openers ≡ waiting → walk.new ≡ walk_behind walk.old (reverse bodies.old.items) openers opened id.0) }
+    ensures bodies { OnOk result ((openers : List Opener) → length openers ≡ waiting → reverse bodies.new.items ≡ bodies_behind (reverse bodies.old.items) openers opened) }
+{
+    if let Some(head) = opened {
+        bodies.push(head)?;
+        walk.enter(id);
+    } else if waiting < bodies.len() {
+        if let Some(head) = bodies.pop() {
+            walk.leave(head, id);
+        }
+    }
+    Ok(())
 }
 
 /// Where the part of a view ends that begins at a place. `all` are the classes of all items of the text. `segment` is
@@ -147,63 +301,86 @@ fn may_end(walk: &Walk, around: Around, id: TokenId) -> bool
 ///
 /// `docs/PROFILE.md` says under "Parts" which these are. Items before the place aren't looked at, nor those behind the
 /// first token of the next part. Want of memory, for brackets that are open, is the only error.
-pub fn part_end(
+#[inline(never)]
+pub fn part_end<'k>(
     arena: &TokenArena<'_, '_>,
     view: &View<'_>,
     all: &[TokenClass],
-    begins: Option<BodyPlace>,
+    begins: Option<BodyPlace<'k>>,
     first: u32,
     segment: &mut usize,
+    keep: &'k Bump,
     room: &Bump,
-) -> Result<PartEnd, NoMemory>
+) -> Result<PartEnd<'k>, NoMemory>
     requires within { AreWithin arena.now view.now }
     requires all { all.now ≡ item_classes arena.now }
     requires here { first < length view.now }
-    requires begins { ForSome begins (λ place. StandsBefore place (get_or view.now first 0)) }
-    ensures end { IfOk result (λ part. part.end ≡ first + part_len arena.now begins (drop first view.now)) }
-    ensures inside { IfOk result (λ part. part.inside ≡ part_inside arena.now begins (drop first view.now)) }
-    ensures place { IfOk result (λ part. ForSome part.inside (λ place. StandsBefore place (get_or view.now part.end 0))) }
+    requires begins { ForSome (place_in begins) (λ place. StandsBefore place (get_or view.now first 0)) }
+    ensures end { IfOk result (λ part. part.end ≡ first + part_len arena.now (place_in begins.entry) (drop first view.now)) }
+    ensures inside { IfOk result (λ part. place_in part.inside ≡ part_inside arena.now (place_in begins.entry) (drop first view.now)) }
+    ensures place { IfOk result (λ part. ForSome (place_in part.inside) (λ place. StandsBefore place (get_or view.now part.end 0))) }
     ensures some { IfOk result (λ part. first < part.end) }
     ensures within { IfOk result (λ part. part.end ≤ length view.now) }
-    ensures seen { IfOk result (λ part. ForSome part.seen (λ seen. EndsBehind arena.now begins (slice_range view.now first seen) (record { count = part.end - first; inside = part.inside }))) }
+    ensures seen { IfOk result (λ part. ForSome part.seen (λ seen. EndsBehind arena.now (place_in begins.entry) (slice_range view.now first seen) (record { count = part.end - first; inside = place_in part.inside }))) }
     ensures later { IfOk result (λ part. ForSome part.seen (λ seen. part.end < seen)) }
     ensures below { IfOk result (λ part. ForSome part.seen (λ seen. seen ≤ length view.now)) }
     ensures whole { IfOk result (λ part. ForNone part.seen (part.end ≡ length view.now)) }
 {
     let count = view.len();
     let mut waiting: Vec<Opener, &Bump> = Vec::new(room);
-    let mut braces: usize = 0;
-    if begins.is_some() {
-        waiting_step(&mut waiting, &mut braces, 0, TokenClass::OpenBrace)?;
-    }
+    let mut bodies: Vec<Head, &Bump> = Vec::new(room);
+    begin_bodies(begins, &mut bodies, &mut waiting)?;
+    let mut braces = waiting.len();
     let mut walk = start(begins);
     let mut row = Row { shift: 0, end: 0 };
+    let mut stands = around(&waiting, &bodies);
     let items = arena.len();
     while walk.place < count - first {
         let place = walk.place;
         let id = item_at(view, first + place, &mut row, segment);
         prove!(id.0 < items);
         let class = all[id.0 as usize];
-        let around = around(&waiting, &walk);
-        if !may_end(&walk, around, id) && is_quiet(around, class) {
-            let quiet = quiet_behind(around, all, first + place, &row);
+        if !may_end(&walk, stands, id) && is_quiet(stands, class) {
+            let quiet = quiet_behind(stands, all, first, place, &row);
             let last = id.0 + quiet;
-            walk.pass_quiet(around, place + quiet + 1, TokenId(last), all[last as usize]);
+            walk.pass_quiet(stands, place + quiet + 1, TokenId(last), all[last as usize]);
             continue;
         }
-        match read(arena, &mut walk, around, id, class) {
-            Told::Ends(ended) => {
+        let opened = if class.is_open_brace() {
+            opened_head(&walk, stands, &bodies, id)
+        } else {
+            None
+        };
+        match read(arena, &mut walk, stands, id, class) {
+            Outcome::EndsOutside(ended) => {
                 return Ok(PartEnd {
-                    end: first + ended.count,
+                    end: first + ended,
                     seen: Some(first + place + 1),
-                    inside: ended.inside,
+                    inside: None,
                 });
             }
-            Told::Never => break,
-            Told::Nothing => {
-                waiting_step(&mut waiting, &mut braces, place + 1, class)?;
+            Outcome::EndsInBody(ended) => {
+                return Ok(PartEnd {
+                    end: first + ended,
+                    seen: Some(first + place + 1),
+                    inside: Some(place_behind(&walk, &bodies, begins, keep)?),
+                });
+            }
+            Outcome::Never => break,
+            Outcome::GoesOn => {}
+        }
+        if !class.is_bracket() {
+            continue;
+        }
+        if let Some(head) = opened {
+            if let Some(len) = body_len(walk.declaration, all, first, place, &row) {
+                walk.pass_body(head, place + 1 + len, TokenId(id.0 + len));
+                continue;
             }
         }
+        pass_bracket(&mut waiting, &mut braces, place, id, class)?;
+        pass_brace(&mut walk, &mut bodies, waiting.len(), opened, id)?;
+        stands = around(&waiting, &bodies);
     }
     Ok(PartEnd {
         end: count,

@@ -95,7 +95,7 @@ pub fn known_parts_end(
     id: TokenId,
     known: &[KnownEnd],
     segment: &mut usize,
-) -> Option<PartsEnd>
+) -> Option<PartsEnd<'static>>
     requires here { first < length view.now }
     requires item { (d : ℕ) → get_or view.now first d ≡ id.0 }
     requires known { AreKnown arena.now known.now }

@@ -1,14 +1,16 @@
 //! Where parts end that earlier runs saw.
 
-ghost use Rattle.std.specs.Prelude.{◌≡◌, ◌<◌, ◌≤◌, ◌+◌, ◌-◌, ℕ, [], length, drop, get_or, slice_range, IfOk, IfSome, IsTrue, None, OnOk};
+ghost use Rattle.std.specs.Prelude.{◌≡◌, ◌<◌, ◌≤◌, ◌+◌, ◌-◌, ℕ, [], length, drop, get_or, slice_range};
+ghost use Rattle.std.specs.Prelude.{IfOk, IfSome, IsTrue, None, OnOk};
 ghost use Rattle.std.specs.Option.{ForNone, ForSome};
 ghost use Rattle.token_classes.specs.Viewed.{AreWithin, item_classes};
 ghost use Rattle.view_parts.specs.Known.{AreKnown, AreRowsFrom, AreSpans, HasRow, IsKnown, IsKnownRow, IsRowAt};
 ghost use Rattle.view_parts.specs.Parts.{part_inside, part_len, EndsBehind, StandsBefore};
+ghost use Rattle.view_parts.specs.Places.{place_in};
 ghost use Rattle.view_parts.specs.Told.{TellParts};
 
+use crate::bodies::BodyPlace;
 use crate::ends::part_end;
-use crate::walk::BodyPlace;
 use bumpalo::Bump;
 use line_tokens::{NoMemory, TokenId};
 use token_arena::{TokenArena, View};
@@ -71,13 +73,13 @@ impl<'k> KnownSpans<'k> {
 
 /// Where a part of a view ends, or the last of parts that follow one another.
 #[derive(Clone, Copy)]
-pub struct PartsEnd {
+pub struct PartsEnd<'k> {
     /// The place behind the last item.
     pub end: u32,
     /// The place behind the items that tell so, whatever follows them. There is none where the parts end with the view.
     pub told: Option<u32>,
-    /// Where that is in a function's body, if it is in one.
-    pub inside: Option<BodyPlace>,
+    /// Where that is in a body, if it is in one.
+    pub inside: Option<BodyPlace<'k>>,
 }
 
 /// The end of the part that begins at a place with this item, where a view has the items in a row that tell it.
@@ -88,7 +90,7 @@ fn recalled_row(
     id: TokenId,
     known: KnownRow,
     segment: &mut usize,
-) -> Option<PartsEnd>
+) -> Option<PartsEnd<'static>>
     requires here { first < length view.now }
     requires item { (d : ℕ) → get_or view.now first d ≡ id.0 }
     requires known { IsKnownRow arena.now id.0 known }
@@ -115,8 +117,8 @@ fn recalled_row(
     })
 }
 
-/// What is known of a part that begins at a place with this item, where its items and those that tell its end stand in a
-/// row.
+/// What is known of a part that begins at a place with this item, where its items and those that tell its end stand in
+/// a row.
 fn noted_row(
     arena: &TokenArena<'_, '_>,
     view: &View<'_>,
@@ -180,7 +182,7 @@ fn recalled_span(
     number: u32,
     spans: &KnownSpans<'_>,
     segment: &mut usize,
-) -> Option<PartsEnd>
+) -> Option<PartsEnd<'static>>
     requires here { first < length view.now }
     requires known { AreSpans arena.now spans.now.spans.items }
     ensures end { IfSome result (λ part. part.end ≡ first + part_len arena.now None (drop first view.now)) }
@@ -220,7 +222,7 @@ fn recalled(
     known: KnownEnd,
     spans: &KnownSpans<'_>,
     segment: &mut usize,
-) -> Option<PartsEnd>
+) -> Option<PartsEnd<'static>>
     requires here { first < length view.now }
     requires item { (d : ℕ) → get_or view.now first d ≡ id.0 }
     requires known { IsKnown arena.now id.0 known }
@@ -312,8 +314,8 @@ fn noted_part<'k>(
     }
 }
 
-/// Where the part of a view ends that begins at a place, as [`part_end`](crate::part_end) says, and which items tell so.
-/// Where it is known, that takes one step.
+/// Where the part of a view ends that begins at a place, as [`part_end`](crate::part_end) says, and which items tell
+/// so. Where it is known, that takes one step.
 ///
 /// `known` has what is known for each item of the text, or for none where nothing is to be kept. `segment` is kept from
 /// one place of a view to the next, and starts at 0.
@@ -321,26 +323,26 @@ pub fn known_part_end<'k>(
     arena: &TokenArena<'_, '_>,
     view: &View<'_>,
     all: &[TokenClass],
-    begins: Option<BodyPlace>,
+    begins: Option<BodyPlace<'k>>,
     first: u32,
     known: &mut [KnownEnd],
     spans: &mut KnownSpans<'k>,
     keep: &'k Bump,
     segment: &mut usize,
     room: &Bump,
-) -> Result<PartsEnd, NoMemory>
+) -> Result<PartsEnd<'k>, NoMemory>
     requires within { AreWithin arena.now view.now }
     requires all { all.now ≡ item_classes arena.now }
     requires here { first < length view.now }
-    requires begins { ForSome begins (λ place. StandsBefore place (get_or view.now first 0)) }
+    requires begins { ForSome (place_in begins) (λ place. StandsBefore place (get_or view.now first 0)) }
     requires known { AreKnown arena.now known.old }
     requires spans { AreSpans arena.now spans.old.spans.items }
-    ensures end { IfOk result (λ part. part.end ≡ first + part_len arena.now begins (drop first view.now)) }
-    ensures begun { IfOk result (λ part. part.inside ≡ part_inside arena.now begins (drop first view.now)) }
-    ensures place { IfOk result (λ part. ForSome part.inside (λ place. StandsBefore place (get_or view.now part.end 0))) }
+    ensures end { IfOk result (λ part. part.end ≡ first + part_len arena.now (place_in begins.entry) (drop first view.now)) }
+    ensures begun { IfOk result (λ part. place_in part.inside ≡ part_inside arena.now (place_in begins.entry) (drop first view.now)) }
+    ensures place { IfOk result (λ part. ForSome (place_in part.inside) (λ place. StandsBefore place (get_or view.now part.end 0))) }
     ensures some { IfOk result (λ part. first < part.end) }
     ensures inside { IfOk result (λ part. part.end ≤ length view.now) }
-    ensures told { IfOk result (λ part. ForSome part.told (λ told. TellParts arena.now begins (slice_range view.now first told) (part.end - first) part.inside)) }
+    ensures told { IfOk result (λ part. ForSome part.told (λ told. TellParts arena.now (place_in begins.entry) (slice_range view.now first told) (part.end - first) (place_in part.inside))) }
     ensures later { IfOk result (λ part. ForSome part.told (λ told. part.end < told)) }
     ensures below { IfOk result (λ part. ForSome part.told (λ told. told ≤ length view.now)) }
     ensures whole { IfOk result (λ part. ForNone part.told (part.end ≡ length view.now)) }
@@ -358,7 +360,7 @@ pub fn known_part_end<'k>(
             return Ok(part);
         }
     }
-    let part = part_end(arena, view, all, begins, first, segment, room)?;
+    let part = part_end(arena, view, all, begins, first, segment, keep, room)?;
     if let Some(seen) = part.seen {
         if kept && part.inside.is_none() {
             known[number] = noted_part(

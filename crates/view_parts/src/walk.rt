@@ -1,10 +1,20 @@
 //! The way along the items of a part.
 
-ghost use Rattle.std.specs.Prelude.{◌≡◌, ◌<◌, Option, None, length, if◌then◌else◌};
+ghost use Rattle.std.specs.Prelude.{◌≡◌, ◌<◌, ◌||◌, not, length};
 ghost use Rattle.token_arena.specs.Gaps.{item_began};
 ghost use Rattle.view_parts.specs.declared.walk.Around.TheVariants.{Outside, Body};
-ghost use Rattle.view_parts.specs.Walk.{behind_group, behind, is_end, is_between, is_lost, asked_at, asked_in_body, is_commented, head_at, begins_block, begins_statement, ends_statement, in_body, in_group, is_label, outside, last_behind, later, next_in_body, opening, passed, place_behind, reading, read_so, start};
+ghost use Rattle.view_parts.specs.Places.{place_in};
+ghost use Rattle.view_parts.specs.Steps.{body_passed, passed, read_so, tells_end, StaysWhereItEnds};
+ghost use Rattle.view_parts.specs.Walk.{behind_group, behind, is_end, is_between, is_lost};
+ghost use Rattle.view_parts.specs.Walk.{asked_at, asked_in_body, is_apart, is_body, is_commented, next_declaration};
+ghost use Rattle.view_parts.specs.Walk.{opening, start};
+ghost use Rattle.view_parts.specs.Walk.{is_record, is_label, is_leading, begins_statement};
+ghost use Rattle.view_parts.specs.Walk.{begins_behind, begins_block, begins_members, ends_statement, is_behind_if};
+ghost use Rattle.view_parts.specs.Walk.{headed_by, goes_on_with, kept_begun, next_begun, next_last};
+ghost use Rattle.view_parts.specs.Walk.{end_in_body, may_part, past_comment, in_body, in_group, outside};
+ghost use Rattle.view_parts.specs.Walk.{reading, entered, left};
 
+use crate::bodies::{BodyKind, BodyPlace, Head};
 use line_tokens::TokenId;
 use token_arena::TokenArena;
 use token_classes::TokenClass;
@@ -26,25 +36,15 @@ pub enum Before {
     Other,
 }
 
-/// The items from one to before another.
+/// What is known of the declaration outside brackets that is read.
 #[derive(Clone, Copy)]
-pub struct Head {
-    /// The first one.
-    pub first: u32,
-    /// The one behind them.
-    pub end: u32,
-}
-
-/// A place between two statements of a function's body, between which a directive stands. What stands here is laid out
-/// like what follows the function's head and the end of the statement before.
-#[derive(Clone, Copy)]
-pub struct BodyPlace {
-    /// The head of the function, from the first item of its part to the `{` of its body.
-    pub head: Head,
-    /// The `{` of the block with which the statement before ends, where it ends with one.
-    pub opened: Option<u32>,
-    /// The `;` or `}` with which the statement before ends.
-    pub ended: u32,
+pub struct Declaration {
+    /// What stands before the next token of it.
+    pub before: Before,
+    /// An `=` or `return` stands in it, behind the last `;`.
+    pub assigned: bool,
+    /// A comment stands in it behind its first token.
+    pub commented: bool,
 }
 
 /// What the next item of a part stands in.
@@ -52,25 +52,63 @@ pub struct BodyPlace {
 pub enum Around {
     /// No bracket.
     Outside,
-    /// The body of a function whose head is known, and no other bracket in it.
+    /// A body whose head is known, and no other bracket in it.
     Body,
     /// Another group.
     Group,
 }
 
-/// The last token that is no comment, and what is known of the statement that it may end.
+/// What a `(` stands directly behind.
+#[derive(Clone, Copy)]
+pub enum Headed {
+    /// `if`
+    If,
+    /// Another word of a control statement.
+    Control,
+    /// Another token.
+    Other,
+}
+
+/// The last token that is no comment, and what is known of the statement that it may end. In a group that token is its
+/// last bracket.
 #[derive(Clone, Copy)]
 pub struct LastToken {
     /// Its class.
     pub class: TokenClass,
     /// Its number.
     pub id: u32,
-    /// A comment that began its line stands behind it.
+    /// A directive stands between it and a comment behind it.
+    pub apart: bool,
+    /// A comment stands in the statement, or did in one before, where few items of the part were read.
     pub commented: bool,
-    /// The last `(` of a body stood directly behind the word of a control statement.
-    pub headed: bool,
+    /// What the last `(` of a body stood directly behind.
+    pub headed: Headed,
     /// The last `{` of a body that began a block.
     pub block: Option<u32>,
+    /// The last `struct` or `union`.
+    pub structure: Option<u32>,
+    /// Behind so many statements more a part may end: a short label may take statements onto its row.
+    pub held: u32,
+}
+
+/// A token of a part.
+#[derive(Clone, Copy)]
+pub struct PartToken {
+    /// Its number.
+    pub id: u32,
+    /// Its place in the part.
+    pub place: u32,
+}
+
+/// How a statement or declaration began.
+#[derive(Clone, Copy)]
+pub enum Begun {
+    /// It isn't known.
+    Unknown,
+    /// With this token, or one with which a later one began.
+    With(PartToken),
+    /// Behind the body of an `if` with this head, which an `else` may follow.
+    Behind(Head),
 }
 
 /// How far a part has been read.
@@ -78,42 +116,29 @@ pub struct LastToken {
 pub struct Walk {
     /// How many of its items were read.
     pub place: u32,
-    /// What stands before the next one.
-    pub before: Before,
-    /// An `=` or `return` stands before it, behind the last `;`.
-    pub assigned: bool,
-    /// A comment stands behind the first token of the declaration before it.
-    pub commented: bool,
+    /// The declaration outside brackets.
+    pub declaration: Declaration,
     /// Behind so many items the part ends, if a declaration or statement begins with the next item that is no comment.
     pub asked: Option<u32>,
-    /// The first item of the part, if it stands outside brackets.
-    pub begun: Option<u32>,
-    /// The head of the function whose body is open or was last. It isn't known behind the word of a label.
-    pub head: Option<Head>,
+    /// How the statement of the innermost body began that is read, or outside brackets the part.
+    pub begun: Begun,
     /// The item behind the last one that was read. In a group it is the one behind its last bracket.
     pub behind: u32,
-    /// The last token of a body that is no comment. In a group it is its last bracket, and outside brackets any item.
+    /// The last token.
     pub last: LastToken,
-}
-
-/// Where a part ends, as an item tells.
-#[derive(Clone, Copy)]
-pub struct Ended {
-    /// Behind how many of its items.
-    pub count: u32,
-    /// Where that is in a function's body, if it is in one.
-    pub inside: Option<BodyPlace>,
 }
 
 /// What an item tells.
 #[derive(Clone, Copy)]
-pub enum Told {
-    /// The part ends there.
-    Ends(Ended),
+pub(crate) enum Outcome {
+    /// The part ends outside brackets, behind so many of its items.
+    EndsOutside(u32),
+    /// The part ends in a body, behind so many of its items.
+    EndsInBody(u32),
     /// No part ends behind it.
     Never,
     /// The part goes on behind it.
-    Nothing,
+    GoesOn,
 }
 
 impl Before {
@@ -140,36 +165,76 @@ fn item_began(arena: &TokenArena<'_, '_>, id: TokenId) -> bool
     arena.get(id).gap.began
 }
 
-/// What stands behind a group with this opener.
-fn behind_group(walk: &Walk, opener: TokenClass) -> Before
-    ensures { result ≡ behind_group walk.now opener }
-{
-    match walk.before {
-        Before::Name if opener.is_open_round() => Before::Parameters,
-        Before::Parameters if opener.is_open_brace() && !(walk.assigned || walk.commented) => {
-            Before::Body
+impl Declaration {
+    /// What stands behind a group with this opener.
+    fn behind_group(&self, opener: TokenClass) -> Before
+        ensures { result ≡ behind_group self.now opener }
+    {
+        match self.before {
+            Before::Name if opener.is_open_round() => Before::Parameters,
+            Before::Parameters if opener.is_open_brace() && !(self.assigned || self.commented) => {
+                Before::Body
+            }
+            _ => Before::Other,
         }
-        _ => Before::Other,
     }
-}
 
-/// What stands behind a token, or behind the group that it opens.
-fn behind(walk: &Walk, class: TokenClass) -> Before
-    ensures { result ≡ behind walk.now class }
-{
-    if class.is_opener() {
-        return behind_group(walk, class);
+    /// What stands behind a token, or behind the group that it opens.
+    pub(crate) fn behind(&self, class: TokenClass) -> Before
+        ensures { result ≡ behind self.now class }
+    {
+        if class.is_opener() {
+            return self.behind_group(class);
+        }
+        if class.is_semicolon() {
+            return Before::Semicolon;
+        }
+        if class.is_comment() && self.before.is_between() {
+            return Before::Between;
+        }
+        if class.is_plain() {
+            Before::Name
+        } else {
+            Before::Other
+        }
     }
-    if class.is_semicolon() {
-        return Before::Semicolon;
+
+    /// Whether a comment stands behind the first token of the declaration that goes on or ends behind this one.
+    fn is_commented(&self, before: Before, class: TokenClass) -> bool
+        ensures { result ≡ is_commented self.now before class }
+    {
+        if matches!(before, Before::Between) {
+            return false;
+        }
+        let earlier = !self.before.is_between() && self.commented;
+        earlier || class.is_comment()
     }
-    if class.is_comment() && walk.before.is_between() {
-        return Before::Between;
+
+    /// Whether a comment stands in it, where the next item of a body or group is one.
+    fn is_commented_inside(&self) -> bool
+        ensures { result ≡ (self.now.commented || not (is_body self.now.before)) }
+    {
+        self.commented || !matches!(self.before, Before::Body)
     }
-    if class.is_plain() {
-        Before::Name
-    } else {
-        Before::Other
+
+    /// Whether it ends with the body of a function that is read.
+    pub(crate) fn is_behind_body(&self) -> bool
+        ensures { result ≡ is_body self.now.before }
+    {
+        matches!(self.before, Before::Body)
+    }
+
+    /// Behind the next token, which stands outside brackets.
+    #[inline(always)]
+    fn next(&self, class: TokenClass) -> Declaration
+        ensures { result ≡ next_declaration self.now class }
+    {
+        let before = self.behind(class);
+        Declaration {
+            before,
+            assigned: !class.is_semicolon() && (self.assigned || class.is_assigning()),
+            commented: self.is_commented(before, class),
+        }
     }
 }
 
@@ -188,8 +253,34 @@ pub(crate) fn is_label(class: TokenClass) -> bool
     class.is_case() || class.is_default()
 }
 
-/// How many items a head has at most that are laid out again with what stands in the body.
-const MOST_HEAD: u32 = 64;
+/// Whether a token is `struct` or `union`.
+#[inline(always)]
+pub(crate) fn is_record(class: TokenClass) -> bool
+    ensures { result ≡ is_record class }
+{
+    class.is_struct() || class.is_union()
+}
+
+/// Whether a statement that begins with such a token may have a body.
+fn is_leading(class: TokenClass) -> bool
+    ensures { result ≡ is_leading class }
+{
+    (class.is_control() && !class.is_else()) || is_record(class) || class.is_open_brace()
+}
+
+/// Whether a statement may begin with a token of this class: an `else` or a `while` may go on with the one before.
+fn begins_statement(class: TokenClass) -> bool
+    ensures { result ≡ begins_statement class }
+{
+    class.is_word() && !class.is_else() && !class.is_while()
+}
+
+/// How many items a part has at least that ends in a body behind which a directive stands.
+const LEAST_APART: u32 = 64;
+/// How many items a part has at least that ends anywhere else in a body.
+pub(crate) const LEAST_IN_ROW: u32 = 512;
+/// Behind so many statements from a label on a part may end.
+const HELD: u32 = 3;
 
 /// This token, where nothing is known of a statement.
 fn opening(id: TokenId, class: TokenClass) -> LastToken
@@ -198,33 +289,37 @@ fn opening(id: TokenId, class: TokenClass) -> LastToken
     LastToken {
         class,
         id: id.0,
+        apart: false,
         commented: false,
-        headed: false,
+        headed: Headed::Other,
         block: None,
+        structure: None,
+        held: 0,
     }
 }
 
 /// Before the first item of a part, which begins there.
-pub(crate) fn start(begins: Option<BodyPlace>) -> Walk
-    ensures { result ≡ start begins }
+pub(crate) fn start(begins: Option<BodyPlace<'_>>) -> Walk
+    ensures { result ≡ start (place_in begins.entry) }
 {
+    let (declaration, class) = match begins {
+        Some(place) => (place.declaration, TokenClass::OpenBrace),
+        None => {
+            let none = Declaration {
+                before: Before::Between,
+                assigned: false,
+                commented: false,
+            };
+            (none, TokenClass::Nothing)
+        }
+    };
     Walk {
         place: 0,
-        before: if begins.is_some() {
-            Before::Body
-        } else {
-            Before::Between
-        },
-        assigned: false,
-        commented: false,
+        declaration,
         asked: None,
-        begun: None,
-        head: match begins {
-            Some(place) => Some(place.head),
-            None => None,
-        },
+        begun: Begun::Unknown,
         behind: 0,
-        last: opening(TokenId(0), TokenClass::Nothing),
+        last: opening(TokenId(0), class),
     }
 }
 
@@ -233,9 +328,12 @@ fn asked_at(arena: &TokenArena<'_, '_>, walk: &Walk, id: TokenId, class: TokenCl
     requires { id.0 < length arena.now.tokens }
     ensures { result ≡ asked_at arena.now walk.now id.0 class }
 {
+    let declaration = walk.declaration;
     let asked = match walk.asked {
         Some(place) => place,
-        None if walk.before.is_end() && (class.is_comment() || !walk.commented) => walk.place,
+        None if declaration.before.is_end() && (class.is_comment() || !declaration.commented) => {
+            walk.place
+        }
         None => return None,
     };
     if item_began(arena, id) {
@@ -245,15 +343,19 @@ fn asked_at(arena: &TokenArena<'_, '_>, walk: &Walk, id: TokenId, class: TokenCl
     }
 }
 
-/// Whether a comment stands behind the first token of the declaration that goes on or ends behind this one.
-fn is_commented(walk: &Walk, before: Before, class: TokenClass) -> bool
-    ensures { result ≡ is_commented walk.now before class }
-{
-    if matches!(before, Before::Between) {
-        return false;
+impl Headed {
+    /// What a `(` stands behind that follows such a token.
+    fn by(class: TokenClass) -> Headed
+        ensures { result ≡ headed_by class }
+    {
+        if class.is_if() {
+            Headed::If
+        } else if class.is_control() {
+            Headed::Control
+        } else {
+            Headed::Other
+        }
     }
-    let earlier = !walk.before.is_between() && walk.commented;
-    earlier || class.is_comment()
 }
 
 impl LastToken {
@@ -264,8 +366,15 @@ impl LastToken {
         self.class.is_semicolon() || (self.class.is_close_brace() && self.block.is_some())
     }
 
+    /// Whether a statement begins behind it.
+    pub(crate) fn is_begin(&self) -> bool
+        ensures { result ≡ begins_behind self.now }
+    {
+        self.is_end() || self.class.is_open_brace()
+    }
+
     /// Whether a `{` of a body that stands behind it begins a block.
-    fn begins_block(&self) -> bool
+    pub(crate) fn begins_block(&self) -> bool
         ensures { result ≡ begins_block self.now }
     {
         self.class.is_semicolon()
@@ -273,133 +382,171 @@ impl LastToken {
             || self.class.is_close_brace()
             || self.class.is_else()
             || self.class.is_do()
-            || (self.class.is_close_round() && self.headed)
+            || (self.class.is_close_round() && !matches!(self.headed, Headed::Other))
     }
 
-    /// Behind the next token, which is no comment and stands directly in a body.
-    fn next_in_body(&self, id: TokenId, class: TokenClass) -> LastToken
-        ensures { result ≡ next_in_body self.now id.0 class }
+    /// Whether it ends the condition of an `if`.
+    pub(crate) fn is_behind_if(&self) -> bool
+        ensures { result ≡ is_behind_if self.now }
     {
-        let block = if !class.is_open_brace() {
-            self.block
-        } else if self.begins_block() {
-            Some(id.0)
-        } else {
-            None
-        };
-        LastToken {
-            class,
-            id: id.0,
-            commented: false,
-            headed: if class.is_open_round() {
-                self.class.is_control()
-            } else {
-                self.headed
-            },
-            block,
-        }
+        self.class.is_close_round() && matches!(self.headed, Headed::If)
     }
 
-    /// Behind this token, which tells nothing of a statement or a block.
-    fn later(&self, id: TokenId, class: TokenClass) -> LastToken
-        ensures { result ≡ later self.now id.0 class }
+    /// Whether a `{` that stands behind it begins the members of a structure or union.
+    pub(crate) fn begins_members(&self) -> bool
+        ensures { result ≡ begins_members self.now }
     {
-        LastToken {
-            class,
-            id: id.0,
-            commented: false,
-            ..*self
-        }
-    }
-
-    /// Behind the next item of a body.
-    #[inline(always)]
-    fn next(&self, arena: &TokenArena<'_, '_>, id: TokenId, class: TokenClass) -> LastToken
-        requires { id.0 < length arena.now.tokens }
-        ensures { result ≡ last_behind arena.now self.now id.0 class }
-    {
-        if class.is_comment() {
-            LastToken {
-                commented: self.commented || item_began(arena, id),
-                ..*self
+        match self.structure {
+            Some(word) => {
+                word == self.id || (self.class.is_plain() && word < self.id && self.id - word == 1)
             }
-        } else {
-            self.next_in_body(id, class)
+            None => false,
         }
     }
-}
 
-/// The head of the function whose body this `{` opens, where it stands in a row and is not long.
-fn head_at(walk: &Walk, id: TokenId) -> Option<Head>
-    requires { id.0 < 4294967295 }
-    ensures { result ≡ head_at walk.now id.0 }
-{
-    let first = walk.begun?;
-    if walk.place < MOST_HEAD && first <= id.0 && id.0 - first == walk.place {
-        Some(Head {
-            first,
-            end: id.0 + 1,
-        })
-    } else {
-        None
+    /// Whether a statement that began behind the body of an `if` goes on so with a token.
+    fn goes_on_with(&self, class: TokenClass) -> bool
+        ensures { result ≡ goes_on_with self.now class }
+    {
+        (class.is_else() && self.class.is_close_brace() && self.block.is_some())
+            || (class.is_if() && self.class.is_else())
     }
-}
 
-/// Behind how many items the part ends, if a statement begins with this item of a body or behind it and comments: a
-/// directive stands before it, behind the end of a statement.
-fn asked_in_body(walk: &Walk, id: TokenId) -> Option<u32>
-    ensures { result ≡ asked_in_body walk.now id.0 }
-{
-    match walk.asked {
-        Some(place) => Some(place),
-        None if id.0 != walk.behind && walk.last.is_end() && !walk.last.commented => {
-            Some(walk.place)
+    /// Behind the next token of a body, which is no comment. So many items of the part were read before it.
+    #[inline(always)]
+    fn pass(&mut self, place: u32, id: TokenId, class: TokenClass)
+        ensures { self.new ≡ next_last place self.old id.0 class }
+    {
+        if place >= LEAST_IN_ROW && self.is_begin() {
+            self.commented = false;
         }
-        None => None,
+        if class.is_open_brace() {
+            self.block = if self.begins_block() {
+                Some(id.0)
+            } else {
+                None
+            };
+        } else if class.is_open_round() {
+            self.headed = Headed::by(self.class);
+        } else if class.is_semicolon() {
+            self.held = self.held.saturating_sub(1);
+        } else if is_label(class) {
+            self.held = HELD;
+        } else if is_record(class) {
+            self.structure = Some(id.0);
+        }
+        self.class = class;
+        self.id = id.0;
+        self.apart = false;
     }
-}
-
-/// The place of a body that stands behind the last token.
-fn place_behind(walk: &Walk) -> Option<BodyPlace>
-    ensures { result ≡ place_behind walk.now.head walk.now.last }
-{
-    let Some(head) = walk.head else {
-        return None;
-    };
-    Some(BodyPlace {
-        head,
-        opened: if walk.last.class.is_close_brace() {
-            walk.last.block
-        } else {
-            None
-        },
-        ended: walk.last.id,
-    })
 }
 
 impl Walk {
-    /// Passes the next item, which stands directly in a function's body. Comments in it stand on earlier rows than its
-    /// `}`. No head is known behind the word of a label.
+    /// How the statement began that is read, behind the next token of its body.
+    fn next_begun(&self, id: TokenId, class: TokenClass) -> Begun
+        ensures { result ≡ next_begun self.now id.0 class }
+    {
+        if self.last.is_begin() && is_leading(class) {
+            return Begun::With(PartToken {
+                id: id.0,
+                place: self.place,
+            });
+        }
+        match self.begun {
+            Begun::Behind(_)
+                if (is_leading(class) || class.is_else()) && !self.last.goes_on_with(class) => {
+                Begun::Unknown
+            }
+            begun => begun,
+        }
+    }
+
+    /// Whether a token of a body may tell where the part ends, or what is known changes in another way than by its
+    /// class.
     #[inline(always)]
-    fn pass_in_body(
-        &mut self,
-        arena: &TokenArena<'_, '_>,
-        id: TokenId,
-        class: TokenClass,
-        asked: Option<u32>,
-    )
+    pub(crate) fn may_end(&self, id: TokenId) -> bool
+        ensures { result ≡ tells_end self.now id.0 }
+    {
+        id.0 != self.behind || self.last.apart || self.last.held > 0 || self.place >= LEAST_IN_ROW
+    }
+
+    /// Whether no label holds the part's end before this token: behind one, three statements end first, or the next one
+    /// stands here, with no comment on lines of its own before it.
+    fn may_part(&self, class: TokenClass) -> bool
+        ensures { result ≡ may_part self.now class }
+    {
+        self.last.held == 0 || (is_label(class) && self.asked.is_none())
+    }
+
+    /// Behind how many items the part ends, where this token of a body tells so.
+    fn end_in_body(&self, id: TokenId, class: TokenClass) -> Option<u32>
+        ensures { result ≡ end_in_body self.now id.0 class }
+    {
+        let last = &self.last;
+        if !last.is_end() || !begins_statement(class) || !self.may_part(class) {
+            return None;
+        }
+        if self.is_apart(id) {
+            if self.place < LEAST_APART {
+                return None;
+            }
+            return Some(self.asked.unwrap_or(self.place));
+        }
+        let follows = last.id < id.0 && id.0 - last.id == 1;
+        if self.place >= LEAST_IN_ROW && follows && !last.commented {
+            Some(self.place)
+        } else {
+            None
+        }
+    }
+
+    /// Whether a directive, or a branch that isn't seen, stands between the last token of the body and this item.
+    fn is_apart(&self, id: TokenId) -> bool
+        ensures { result ≡ is_apart self.now id.0 }
+    {
+        self.last.apart || id.0 != self.behind
+    }
+
+    /// Behind how many items the part may end, with this comment of a body.
+    fn asked_in_body(&self, arena: &TokenArena<'_, '_>, id: TokenId) -> Option<u32>
+        requires { id.0 < length arena.now.tokens }
+        ensures { result ≡ asked_in_body arena.now self.now id.0 }
+    {
+        match self.asked {
+            Some(place) => Some(place),
+            None if self.last.is_end() && item_began(arena, id) => Some(self.place),
+            None => None,
+        }
+    }
+
+    /// Passes the next comment, which stands directly in a body. Comments in a function's body stand on earlier rows
+    /// than its `}`.
+    fn pass_comment(&mut self, arena: &TokenArena<'_, '_>, id: TokenId)
         requires item { id.0 < length arena.now.tokens }
         requires small { id.0 < 4294967295 }
         requires room { self.old.place < 4294967295 }
-        ensures { self.new ≡ in_body arena.now self.old id.0 class asked }
+        ensures { self.new ≡ past_comment arena.now self.old id.0 }
     {
+        self.asked = self.asked_in_body(arena, id);
+        self.last.apart = self.is_apart(id);
+        self.last.commented = true;
+        self.declaration.commented = self.declaration.is_commented_inside();
         self.place += 1;
-        self.asked = if class.is_comment() { asked } else { None };
-        if is_label(class) {
-            self.head = None;
-        }
         self.behind = id.0 + 1;
-        self.last = self.last.next(arena, id, class);
+    }
+
+    /// Passes the next token, which stands directly in a body and is no comment.
+    #[inline(always)]
+    fn pass_in_body(&mut self, id: TokenId, class: TokenClass)
+        requires small { id.0 < 4294967295 }
+        requires room { self.old.place < 4294967295 }
+        ensures { self.new ≡ in_body self.old id.0 class }
+    {
+        self.begun = self.next_begun(id, class);
+        self.last.pass(self.place, id, class);
+        self.asked = None;
+        self.place += 1;
+        self.behind = id.0 + 1;
     }
 
     /// Passes the next item, which stands in a group.
@@ -413,9 +560,12 @@ impl Walk {
         if class.is_bracket() {
             self.asked = None;
             self.behind = id.0 + 1;
-            self.last = self.last.later(id, class);
-        } else if class.is_comment() && !matches!(self.before, Before::Body) {
-            self.commented = true;
+            self.last.class = class;
+            self.last.id = id.0;
+            self.last.apart = false;
+        } else if class.is_comment() {
+            self.last.commented = true;
+            self.declaration.commented = self.declaration.is_commented_inside();
         }
     }
 
@@ -426,26 +576,18 @@ impl Walk {
         requires room { self.old.place < 4294967295 }
         ensures { self.new ≡ outside self.old id.0 class asked }
     {
-        let before = behind(self, class);
-        *self = Walk {
-            place: self.place + 1,
-            before,
-            assigned: !class.is_semicolon() && (self.assigned || class.is_assigning()),
-            commented: is_commented(self, before, class),
-            asked: if class.is_comment() { asked } else { None },
-            begun: if self.place == 0 {
-                Some(id.0)
-            } else {
-                self.begun
-            },
-            head: if matches!(before, Before::Body) {
-                head_at(self, id)
-            } else {
-                None
-            },
-            behind: id.0 + 1,
-            last: opening(id, class),
-        };
+        self.declaration = self.declaration.next(class);
+        self.asked = if class.is_comment() { asked } else { None };
+        if self.place == 0 {
+            self.begun = Begun::With(PartToken { id: id.0, place: 0 });
+        }
+        self.place += 1;
+        self.behind = id.0 + 1;
+        self.last.class = class;
+        self.last.id = id.0;
+        if is_record(class) {
+            self.last.structure = Some(id.0);
+        }
     }
 
     /// Passes tokens in a row that tell nothing, up to this place. The last one has this number and class.
@@ -462,65 +604,100 @@ impl Walk {
     {
         self.place = place;
         if !matches!(around, Around::Group) {
+            self.asked = None;
             self.behind = last.0 + 1;
-            self.last = self.last.later(last, class);
+            self.last.class = class;
+            self.last.id = last.0;
         }
+    }
+
+    /// Goes into the body that this `{` opens.
+    pub(crate) fn enter(&mut self, id: TokenId)
+        ensures { self.new ≡ entered self.old id.0 }
+    {
+        self.begun = Begun::Unknown;
+        self.last = opening(id, TokenClass::OpenBrace);
+    }
+
+    /// Goes out of the body with this head behind its `}`.
+    pub(crate) fn leave(&mut self, head: Head, id: TokenId)
+        ensures { self.new ≡ left self.old head id.0 }
+    {
+        self.begun = match head.kind {
+            BodyKind::If => Begun::Behind(head),
+            _ => Begun::Unknown,
+        };
+        self.last = opening(id, TokenClass::CloseBrace);
+        self.last.block = match head.kind {
+            BodyKind::Members => None,
+            _ => Some(head.end.saturating_sub(1)),
+        };
+    }
+
+    /// Goes past a body with this head whose items stand in a row, up to this place. Its `}` is this token.
+    pub(crate) fn pass_body(&mut self, head: Head, place: u32, id: TokenId)
+        requires { id.0 < 4294967295 }
+        ensures { self.new ≡ body_passed self.old head place id.0 }
+    {
+        self.place = place;
+        self.behind = id.0 + 1;
+        self.leave(head, id);
     }
 }
 
 /// What the next item tells outside brackets.
 #[inline(always)]
-fn read_outside(arena: &TokenArena<'_, '_>, walk: &mut Walk, id: TokenId, class: TokenClass) -> Told
+fn read_outside(
+    arena: &TokenArena<'_, '_>,
+    walk: &mut Walk,
+    id: TokenId,
+    class: TokenClass,
+) -> Outcome
     requires item { id.0 < length arena.now.tokens }
     requires small { id.0 < 4294967295 }
     requires room { walk.old.place < 4294967295 }
-    ensures { read_so result walk.new ≡ reading arena.now walk.old Outside id.0 class }
+    ensures read { read_so result walk.new ≡ reading arena.now walk.old Outside id.0 class }
+    ensures stays { StaysWhereItEnds result walk.old walk.new }
 {
     let asked = asked_at(arena, walk, id, class);
     if let Some(count) = asked {
         if class.is_word() {
-            return Told::Ends(Ended {
-                count,
-                inside: None,
-            });
+            return Outcome::EndsOutside(count);
         }
     }
     if is_lost(class) {
-        return Told::Never;
+        return Outcome::Never;
     }
     walk.pass_outside(id, class, asked);
-    Told::Nothing
+    Outcome::GoesOn
 }
 
-/// Whether a statement may begin with a token of this class: an `else` or a `while` may go on with the one before.
-fn begins_statement(class: TokenClass) -> bool
-    ensures { result ≡ begins_statement class }
-{
-    class.is_word() && !class.is_else() && !class.is_while()
-}
-
-/// What the next item of a function's body tells.
-#[inline(always)]
-fn read_in_body(arena: &TokenArena<'_, '_>, walk: &mut Walk, id: TokenId, class: TokenClass) -> Told
+/// What the next item of a body tells.
+#[inline(never)]
+fn read_in_body(
+    arena: &TokenArena<'_, '_>,
+    walk: &mut Walk,
+    id: TokenId,
+    class: TokenClass,
+) -> Outcome
     requires item { id.0 < length arena.now.tokens }
     requires small { id.0 < 4294967295 }
     requires room { walk.old.place < 4294967295 }
-    ensures { read_so result walk.new ≡ reading arena.now walk.old Body id.0 class }
+    ensures read { read_so result walk.new ≡ reading arena.now walk.old Body id.0 class }
+    ensures stays { StaysWhereItEnds result walk.old walk.new }
 {
-    let asked = asked_in_body(walk, id);
-    if let Some(count) = asked {
-        if begins_statement(class) {
-            return Told::Ends(Ended {
-                count,
-                inside: place_behind(walk),
-            });
-        }
+    if class.is_comment() {
+        walk.pass_comment(arena, id);
+        return Outcome::GoesOn;
     }
-    walk.pass_in_body(arena, id, class, asked);
-    Told::Nothing
+    if let Some(count) = walk.end_in_body(id, class) {
+        return Outcome::EndsInBody(count);
+    }
+    walk.pass_in_body(id, class);
+    Outcome::GoesOn
 }
 
-/// What the next item tells, behind which the way goes on.
+/// What the next item tells. Where the part goes on behind it, so does the way; else it stays.
 #[inline(always)]
 pub(crate) fn read(
     arena: &TokenArena<'_, '_>,
@@ -528,18 +705,19 @@ pub(crate) fn read(
     around: Around,
     id: TokenId,
     class: TokenClass,
-) -> Told
+) -> Outcome
     requires item { id.0 < length arena.now.tokens }
     requires small { id.0 < 4294967295 }
     requires room { walk.old.place < 4294967295 }
-    ensures { read_so result walk.new ≡ reading arena.now walk.old around id.0 class }
+    ensures read { read_so result walk.new ≡ reading arena.now walk.old around id.0 class }
+    ensures stays { StaysWhereItEnds result walk.old walk.new }
 {
     match around {
         Around::Outside => read_outside(arena, walk, id, class),
         Around::Body => read_in_body(arena, walk, id, class),
         Around::Group => {
             walk.pass_in_group(id, class);
-            Told::Nothing
+            Outcome::GoesOn
         }
     }
 }

@@ -1,5 +1,6 @@
 use Rattle.std.proofs.Common.{◌≡◌, ◌∙◌, ◌-◌, List, length, take, get_or, sym, ap, subst, arith}
 use Rattle.std.proofs.lemmas.List.{get_or_default}
+use Rattle.view_parts.specs.Places.{place_in}
 use Rattle.format_core.specs.declared.bounds.KnownBound.{KnownBound}
 use Rattle.format_core.specs.Bounds.{AreBounds, IsBound, no_bound}
 use Rattle.format_core.proofs.FirstParts.{bounds_left, starts_bound}
@@ -25,7 +26,7 @@ returns-then-bound-first-clause-last c = λ arena view told are.
     let v = c.loop-count.invariant in
     let at : get_or bounds (count - 1) no_bound ≡ bound =
     ap (λ (items : List KnownBound). get_or items (count - 1) no_bound) (sym v.same) ∙ (get_or_default c.loop-count.bounds.items (count - 1) no_bound bound (omega (arith, c.loop-count-test.true, v.count)) ∙ sym c.index-bound.ensures) in
-    subst (λ (b : KnownBound). IsBound arena view b.item b.told b.inside) at (are.each (count - 1) (omega (arith, c.loop-count-test.true, v.count, ap (λ (items : List KnownBound). length items) v.same)))
+    subst (λ (b : KnownBound). IsBound arena view b.item b.told (place_in b.inside)) at (are.each (count - 1) (omega (arith, c.loop-count-test.true, v.count, ap (λ (items : List KnownBound). length items) v.same)))
 
 pub returns-clause-last : goal.returns-clause-last
 returns-clause-last c = λ arena view told are. starts_bound arena view

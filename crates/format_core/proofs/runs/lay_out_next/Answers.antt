@@ -1,6 +1,7 @@
-use Rattle.std.proofs.Common.{◌≡◌, ◌∙◌, ◌+◌, ◌<◌, ◌≤◌, ℕ, Some, None, Option, List, length, sym, subst, arith}
+use Rattle.std.proofs.Common.{◌≡◌, ◌∙◌, ◌+◌, ◌<◌, ◌≤◌, ℕ, Some, None, Option, List, length, sym, ap, subst, arith}
 use Rattle.std.specs.Prelude.{All, IsSome, slice_range}
-use Rattle.view_parts.specs.declared.walk.BodyPlace.{BodyPlace}
+use Rattle.view_parts.specs.declared.bodies.BodyPlace.{BodyPlace}
+use Rattle.view_parts.specs.Places.{place_in}
 use Rattle.view_parts.specs.Parts.{items_before, laid_items}
 use Rattle.replacements.specs.Decisions.{slot_of}
 use Rattle.format_core.specs.Runs.{AreDecided, AreRowsDecided, seen_by}
@@ -36,19 +37,19 @@ returns-in-Some-clause-on c = λ plan before from.
     let decided : AreDecided here (slice_range seen (place + first) (place + end)) =
     subst (λ (ids : List ℕ). AreDecided here ids) (sym (window_slice arena window.number window.first window.end window.view first end c.requires.window (omega (arith, passed.some)) passed.inside)) (passed.decided here state.rows) in
     let outside : GoesOnFrom style budget arena window.number plan seen before here None (place + first) tally =
-    subst (λ (b : Option BodyPlace). GoesOnFrom style budget arena window.number plan seen before here b (place + first) tally) passed.begins from in
-    subst (λ k. GoesOnFrom style budget arena window.number plan seen before here c.pass_row.new.way.inside (place + k) tally) (sym passed.end)
-    (subst (λ (b : Option BodyPlace). GoesOnFrom style budget arena window.number plan seen before here b (place + end) tally) (sym (c.pass_row.ensures.place ∙ passed.begins))
+    subst (λ (b : Option BodyPlace). GoesOnFrom style budget arena window.number plan seen before here (place_in b) (place + first) tally) passed.begins from in
+    subst (λ k. GoesOnFrom style budget arena window.number plan seen before here (place_in c.pass_row.new.way.inside) (place + k) tally) (sym passed.end)
+    (subst (λ (b : Option BodyPlace). GoesOnFrom style budget arena window.number plan seen before here (place_in b) (place + end) tally) (sym (c.pass_row.ensures.place ∙ passed.begins))
     (from_row style budget arena window.number plan seen before tally here (place + first) (stop_at (place + end) None) (seen_increases arena window.number) inside parts decided outside))
 
 pub returns-in-Some-clause-place : goal.returns-in-Some-clause-place
-returns-in-Some-clause-place c = none_stands c.in-Some.parts.inside _ c.in-Some.ensures.outside
+returns-in-Some-clause-place c = none_stands (place_in c.in-Some.parts.inside) _ (ap place_in c.in-Some.ensures.outside)
 
 pub returns-in-Some-clause-items : goal.returns-in-Some-clause-items
-returns-in-Some-clause-items c = none_before (λ id. id < length c.args.context.now.arena.now.tokens) c.pass_row.new.way.inside (c.pass_row.ensures.place ∙ c.in-Some.ensures.begins)
+returns-in-Some-clause-items c = none_before (λ id. id < length c.args.context.now.arena.now.tokens) (place_in c.pass_row.new.way.inside) (ap place_in (c.pass_row.ensures.place ∙ c.in-Some.ensures.begins))
 
 pub returns-in-Some-clause-decided : goal.returns-in-Some-clause-decided
-returns-in-Some-clause-decided c = none_before (λ id. IsSome (slot_of c.args.made.now.plan id)) c.pass_row.new.way.inside (c.pass_row.ensures.place ∙ c.in-Some.ensures.begins)
+returns-in-Some-clause-decided c = none_before (λ id. IsSome (slot_of c.args.made.now.plan id)) (place_in c.pass_row.new.way.inside) (ap place_in (c.pass_row.ensures.place ∙ c.in-Some.ensures.begins))
 
 pub returns-clause-state : goal.returns-clause-state
 returns-clause-state c =
@@ -58,7 +59,7 @@ returns-clause-state c =
     let part = c.in_ok-part.ensures in
     let laid = c.in_ok-lay_out_part.ensures in
     let behind : AreRowsDecided plan c.known_part_end.new.known =
-    rows_behind c.args.context.now.style.now c.args.context.now.budget arena c.args.window.now.number c.args.made.now.plan plan c.args.window.now.view c.args.way.now.inside c.args.way.now.first c.in_ok-part.part.end c.pass_row.new.known c.known_part_end.new.known
+    rows_behind c.args.context.now.style.now c.args.context.now.budget arena c.args.window.now.number c.args.made.now.plan plan c.args.window.now.view (place_in c.args.way.now.inside) c.args.way.now.first c.in_ok-part.part.end c.pass_row.new.known c.known_part_end.new.known
     c.args.made.now.tally c.lay_out_part.new.made.tally state.whole c.requires.within c.requires.items part.inside part.rows laid.told (c.pass_row.ensures.rows c.args.made.now.plan state.rows) in
     record {
       whole = laid.len ∙ state.whole;
@@ -77,10 +78,10 @@ returns-clause-on c = λ plan before from.
     let window = c.args.window.now in
     let seen = seen_by arena window.number in
     let place = place_before arena window.number window.first in
-    let begins = c.args.way.now.inside in
+    let begins = place_in c.args.way.now.inside in
     let first = c.args.way.now.first in
     let end = c.in_ok-part.part.end in
-    let inside = c.in_ok-part.part.inside in
+    let inside = place_in c.in_ok-part.part.inside in
     let part = c.in_ok-part.ensures in
     let here = c.args.made.now.plan in
     let tally = c.args.made.now.tally in
@@ -100,8 +101,8 @@ returns-clause-on c = λ plan before from.
     (sym (window_laid arena window.number window.first window.end window.view begins first end c.requires.window (omega (arith, part.some)) part.inside)) c.in_ok-lay_out_part.ensures.told in
     let next = from_part style budget arena window.number plan seen before tally now here after begins (place + first) (stop_at (place + end) inside)
     (omega (arith, long, part.some, part.inside)) (omega (arith, part.some)) ends from laid in
-    subst (λ k. GoesOnFrom style budget arena window.number plan seen before after c.pass_part.new.way.inside (place + k) now) (sym c.pass_part.ensures.end)
-    (subst (λ (b : Option BodyPlace). GoesOnFrom style budget arena window.number plan seen before after b (place + end) now) (sym c.pass_part.ensures.inside) next)
+    subst (λ k. GoesOnFrom style budget arena window.number plan seen before after (place_in c.pass_part.new.way.inside) (place + k) now) (sym c.pass_part.ensures.end)
+    (subst (λ (b : Option BodyPlace). GoesOnFrom style budget arena window.number plan seen before after (place_in b) (place + end) now) (sym c.pass_part.ensures.inside) next)
 
 pub returns-clause-items : goal.returns-clause-items
 returns-clause-items c =
@@ -109,13 +110,13 @@ returns-clause-items c =
     let window = c.args.window.now in
     let first = c.args.way.now.first in
     let within = λ (id : ℕ). id < length arena.tokens in
-    next_has within arena window.view c.args.way.now.inside c.pass_part.new.way.inside first (window_increases arena window.number window.first window.end window.view c.requires.window) c.requires.begins c.requires.items
-    (rest_have within window.view first c.requires.within) (c.pass_part.ensures.inside ∙ c.in_ok-part.ensures.begun)
+    next_has within arena window.view (place_in c.args.way.now.inside) (place_in c.pass_part.new.way.inside) first (window_increases arena window.number window.first window.end window.view c.requires.window) c.requires.begins c.requires.items
+    (rest_have within window.view first c.requires.within) (ap place_in c.pass_part.ensures.inside ∙ c.in_ok-part.ensures.begun)
 
 pub returns-clause-decided : goal.returns-clause-decided
 returns-clause-decided c =
     let part = c.in_ok-part.ensures in
     let plan = c.lay_out_part.new.made.plan in
-    subst (λ (b : Option BodyPlace). All (λ id. IsSome (slot_of plan id)) (items_before b)) (sym c.pass_part.ensures.inside)
-    (place_decided c.args.context.now.style.now c.args.context.now.budget c.args.context.now.arena.now c.args.window.now.number c.args.made.now.plan plan c.args.window.now.view c.args.way.now.inside c.in_ok-part.part.inside c.args.way.now.first
+    subst (λ (b : Option BodyPlace). All (λ id. IsSome (slot_of plan id)) (items_before (place_in b))) (sym c.pass_part.ensures.inside)
+    (place_decided c.args.context.now.style.now c.args.context.now.budget c.args.context.now.arena.now c.args.window.now.number c.args.made.now.plan plan c.args.window.now.view (place_in c.args.way.now.inside) (place_in c.in_ok-part.part.inside) c.args.way.now.first
     c.in_ok-part.part.end c.args.made.now.tally c.lay_out_part.new.made.tally c.requires.state.whole (window_increases c.args.context.now.arena.now c.args.window.now.number c.args.window.now.first c.args.window.now.end c.args.window.now.view c.requires.window) c.requires.within c.requires.items c.requires.begins part.inside part.begun part.place c.in_ok-lay_out_part.ensures.told)

@@ -2,6 +2,7 @@ use Rattle.std.proofs.Common.{◌<◌, ℕ, List, length, subst, sym, ap, arith}
 use Rattle.std.specs.Prelude.{All}
 use Rattle.std.proofs.lemmas.Result.{on_ok_weaker}
 use Rattle.view_parts.specs.Parts.{items_before, laid_items}
+use Rattle.view_parts.specs.Places.{place_in}
 use Rattle.format_core.specs.Runs.{AreDecided}
 use Rattle.format_core.specs.RunsTold.{AreItemsTold}
 use Rattle.format_core.proofs.Parts.{all_decided_of, laid_decided, laid_have}
@@ -12,30 +13,30 @@ use Rattle.format_core.proofs.runs.lay_out_part.Goals as goal
 pub are_decided-requires-clause-within : goal.are_decided-requires-clause-within
 are_decided-requires-clause-within c =
     let tokens = length c.args.context.now.arena.now.tokens in
-    let all = laid_have (λ id. id < tokens) c.args.window.now.view c.args.inside c.args.first c.args.end c.requires.items c.requires.within in
+    let all = laid_have (λ id. id < tokens) c.args.window.now.view (place_in c.args.inside) c.args.first c.args.end c.requires.items c.requires.within in
     subst (λ (ids : List ℕ). All (λ id. id < length c.args.made.now.plan) ids) (sym c.in_ok-laid.ensures.items) (λ k d below. (let low = all k d below in omega (arith, low, c.requires.whole)))
 
 pub returns-then-are_decided-clause-told : goal.returns-then-are_decided-clause-told
 returns-then-are_decided-clause-told c =
     let plan = c.args.made.now.plan in
-    items_told_nothing c.args.context.now.style.now c.args.context.now.budget c.args.context.now.arena.now c.args.window.now.number plan (laid_items c.args.inside c.args.window.now.view c.args.first c.args.end) c.args.made.now.tally
+    items_told_nothing c.args.context.now.style.now c.args.context.now.budget c.args.context.now.arena.now c.args.window.now.number plan (laid_items (place_in c.args.inside) c.args.window.now.view c.args.first c.args.end) c.args.made.now.tally
     (subst (λ (ids : List ℕ). AreDecided plan ids) c.in_ok-laid.ensures.items (c.are_decided.ensures c.if-are_decided.true))
 
 pub returns-then-is_decided_row-clause-told : goal.returns-then-is_decided_row-clause-told
 returns-then-is_decided_row-clause-told c =
     let plan = c.args.made.now.plan in
-    items_told_nothing c.args.context.now.style.now c.args.context.now.budget c.args.context.now.arena.now c.args.window.now.number plan (laid_items c.args.inside c.args.window.now.view c.args.first c.args.end) c.args.made.now.tally
-    (laid_decided plan c.args.window.now.view c.args.inside c.args.first c.args.end (all_decided_of plan (items_before c.args.inside) c.requires.decided) (c.is_decided_row.ensures c.if-is_decided_row.true))
+    items_told_nothing c.args.context.now.style.now c.args.context.now.budget c.args.context.now.arena.now c.args.window.now.number plan (laid_items (place_in c.args.inside) c.args.window.now.view c.args.first c.args.end) c.args.made.now.tally
+    (laid_decided plan c.args.window.now.view (place_in c.args.inside) c.args.first c.args.end (all_decided_of plan (items_before (place_in c.args.inside)) c.requires.decided) (c.is_decided_row.ensures c.if-is_decided_row.true))
 
 pub lay_out_items-requires-clause-within : goal.lay_out_items-requires-clause-within
 lay_out_items-requires-clause-within c =
     let tokens = length c.args.context.now.arena.now.tokens in
     subst (λ (ids : List ℕ). All (λ id. id < tokens) ids) (sym c.in_ok-laid.ensures.items)
-    (laid_have (λ id. id < tokens) c.args.window.now.view c.args.inside c.args.first c.args.end c.requires.items c.requires.within)
+    (laid_have (λ id. id < tokens) c.args.window.now.view (place_in c.args.inside) c.args.first c.args.end c.requires.items c.requires.within)
 
 pub lay_out_items-requires-clause-room : goal.lay_out_items-requires-clause-room
 lay_out_items-requires-clause-room c =
-    let few = laid_few c.args.inside c.args.window.now.view c.args.first c.args.end c.requires.some c.requires.inside c.requires.begins in
+    let few = laid_few (place_in c.args.inside) c.args.window.now.view c.args.first c.args.end c.requires.some c.requires.inside c.requires.begins in
     omega (arith, few, ap (λ (ids : List ℕ). length ids) c.in_ok-laid.ensures.items, c.requires.room)
 
 pub returns-clause-told : goal.returns-clause-told
@@ -46,5 +47,5 @@ returns-clause-told c =
 
 pub returns-clause-room : goal.returns-clause-room
 returns-clause-room c =
-    let few = laid_few c.args.inside c.args.window.now.view c.args.first c.args.end c.requires.some c.requires.inside c.requires.begins in
+    let few = laid_few (place_in c.args.inside) c.args.window.now.view c.args.first c.args.end c.requires.some c.requires.inside c.requires.begins in
     on_ok_weaker c.lay_out_items.result (λ room. omega (arith, room, few, ap (λ (ids : List ℕ). length ids) c.in_ok-laid.ensures.items)) c.lay_out_items.ensures.room

@@ -3,6 +3,7 @@ use Rattle.branch_runs.specs.declared.mark.Mark.{Mark}
 use Rattle.branch_runs.specs.Reading.{read}
 use Rattle.branch_runs.specs.Runs.{need}
 use Rattle.view_parts.specs.declared.known.KnownSpan.{KnownSpan}
+use Rattle.view_parts.specs.Places.{place_in}
 use Rattle.format_core.specs.Bounds.{AreBounds}
 use Rattle.format_core.specs.Runs.{runs_of, seen_by}
 use Rattle.format_core.specs.RunsTold.{AreRunsTold}
@@ -41,7 +42,7 @@ loop-number-preserved-then-change-eq0 c =
     let here : number ≡ number + 1 - 1 = omega arith in
     let told = nothing_new_told c.args.context.now.style.now c.args.context.now.budget arena c.loop-number.made.plan number c.change_of-change.result.end c.loop-number.made.tally v.seen changed.all changed.behind c.if-change-eq0.true in
     let left =
-    run_bounds c.args.context.now.arena.now c.loop-number.number c.loop-number.known.bounds.items c.last_bound-bound.new.bounds.items c.change_of-change.result.first c.last_bound-bound.result.item c.last_bound-bound.result.told c.last_bound-bound.result.inside v.bounds v.none changed.before
+    run_bounds c.args.context.now.arena.now c.loop-number.number c.loop-number.known.bounds.items c.last_bound-bound.new.bounds.items c.change_of-change.result.first c.last_bound-bound.result.item c.last_bound-bound.result.told (place_in c.last_bound-bound.result.inside) v.bounds v.none changed.before
     c.last_bound-bound.ensures.low (c.last_bound-bound.ensures.bounds c.args.context.now.arena.now) (c.last_bound-bound.ensures.last c.args.context.now.arena.now) in
     record {
       room = omega (arith, v.room);
@@ -68,7 +69,7 @@ lay_out_seen-requires-clause-bound c =
     let v = c.loop-number.invariant in
     let changed = c.change_of-change.ensures in
     let left =
-    run_bounds c.args.context.now.arena.now c.loop-number.number c.loop-number.known.bounds.items c.last_bound-bound.new.bounds.items c.change_of-change.result.first c.last_bound-bound.result.item c.last_bound-bound.result.told c.last_bound-bound.result.inside v.bounds v.none changed.before
+    run_bounds c.args.context.now.arena.now c.loop-number.number c.loop-number.known.bounds.items c.last_bound-bound.new.bounds.items c.change_of-change.result.first c.last_bound-bound.result.item c.last_bound-bound.result.told (place_in c.last_bound-bound.result.inside) v.bounds v.none changed.before
     c.last_bound-bound.ensures.low (c.last_bound-bound.ensures.bounds c.args.context.now.arena.now) (c.last_bound-bound.ensures.last c.args.context.now.arena.now) in
     left.bound
 
@@ -77,7 +78,7 @@ lay_out_seen-requires-clause-bounds c =
     let v = c.loop-number.invariant in
     let changed = c.change_of-change.ensures in
     let left =
-    run_bounds c.args.context.now.arena.now c.loop-number.number c.loop-number.known.bounds.items c.last_bound-bound.new.bounds.items c.change_of-change.result.first c.last_bound-bound.result.item c.last_bound-bound.result.told c.last_bound-bound.result.inside v.bounds v.none changed.before
+    run_bounds c.args.context.now.arena.now c.loop-number.number c.loop-number.known.bounds.items c.last_bound-bound.new.bounds.items c.change_of-change.result.first c.last_bound-bound.result.item c.last_bound-bound.result.told (place_in c.last_bound-bound.result.inside) v.bounds v.none changed.before
     c.last_bound-bound.ensures.low (c.last_bound-bound.ensures.bounds c.args.context.now.arena.now) (c.last_bound-bound.ensures.last c.args.context.now.arena.now) in
     left.bounds
 
@@ -86,7 +87,7 @@ lay_out_seen-requires-clause-before c =
     let v = c.loop-number.invariant in
     let changed = c.change_of-change.ensures in
     let left =
-    run_bounds c.args.context.now.arena.now c.loop-number.number c.loop-number.known.bounds.items c.last_bound-bound.new.bounds.items c.change_of-change.result.first c.last_bound-bound.result.item c.last_bound-bound.result.told c.last_bound-bound.result.inside v.bounds v.none changed.before
+    run_bounds c.args.context.now.arena.now c.loop-number.number c.loop-number.known.bounds.items c.last_bound-bound.new.bounds.items c.change_of-change.result.first c.last_bound-bound.result.item c.last_bound-bound.result.told (place_in c.last_bound-bound.result.inside) v.bounds v.none changed.before
     c.last_bound-bound.ensures.low (c.last_bound-bound.ensures.bounds c.args.context.now.arena.now) (c.last_bound-bound.ensures.last c.args.context.now.arena.now) in
     λ id early sees.
     before_change c.args.context.now.arena.now c.loop-number.made.plan c.loop-number.number c.change_of-change.result.first v.seen changed.first changed.before id (omega (arith, early, left.bound.order, c.last_bound-bound.ensures.low)) sees

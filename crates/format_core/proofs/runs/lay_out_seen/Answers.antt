@@ -6,7 +6,8 @@ use Rattle.branch_runs.specs.declared.mark.Mark.{Mark}
 use Rattle.branch_runs.specs.Anew.{items_between}
 use Rattle.branch_runs.specs.Reading.{read}
 use Rattle.branch_runs.specs.Runs.{view_of}
-use Rattle.view_parts.specs.declared.walk.BodyPlace.{BodyPlace}
+use Rattle.view_parts.specs.declared.bodies.BodyPlace.{BodyPlace}
+use Rattle.view_parts.specs.Places.{place_in}
 use Rattle.view_parts.specs.Parts.{StandsBefore}
 use Rattle.format_core.specs.Bounds.{BeginTold}
 use Rattle.format_core.specs.PartByPart.{GoesOnFrom}
@@ -26,7 +27,7 @@ loop-window-init c =
     let increase = seen_increases arena number in
     let seen = seen_by arena number in
     let most : c.len-items.result ≤ 8388608 = c.len-items.ensures.most in
-    let placed = bound_placed arena seen bound.item bound.told bound.inside increase c.requires.bound.begin in
+    let placed = bound_placed arena seen bound.item bound.told (place_in bound.inside) increase c.requires.bound.begin in
     record {
       order = omega (arith, c.max-end.ensures);
       new = omega (arith, c.max-end.ensures, c.min.ensures, c.saturating_add.ensures, c.requires.new, c.len-items.ensures.count, most);
@@ -35,16 +36,16 @@ loop-window-init c =
       state = c.requires.state;
       begin = λ later. c.requires.bound.begin;
       begins = placed.before;
-      items = placed_has (λ id. id < length arena.tokens) seen 0 bound.inside (length (items_between 0 bound.item seen)) (seen_within arena number) placed;
-      decided = bound_decided arena c.args.made.now.plan seen bound.item bound.told bound.inside increase c.requires.bound.begin c.requires.before;
+      items = placed_has (λ id. id < length arena.tokens) seen 0 (place_in bound.inside) (length (items_between 0 bound.item seen)) (seen_within arena number) placed;
+      decided = bound_decided arena c.args.made.now.plan seen bound.item bound.told (place_in bound.inside) increase c.requires.bound.begin c.requires.before;
       bounds = c.requires.bounds;
-      on = from_bound c.args.context.now.style.now c.args.context.now.budget arena number c.args.made.now.plan seen c.args.made.now.tally bound.item bound.told bound.inside increase c.requires.bound.begin c.requires.before;
+      on = from_bound c.args.context.now.style.now c.args.context.now.budget arena number c.args.made.now.plan seen c.args.made.now.tally bound.item bound.told (place_in bound.inside) increase c.requires.bound.begin c.requires.before;
     }
 
 pub lay_out_window-requires-clause-begins : goal.lay_out_window-requires-clause-begins
 lay_out_window-requires-clause-begins c =
     let seen = seen_by c.args.context.now.arena.now c.args.turn.now.number in
-    subst (λ (b : Option BodyPlace). ForSome b (λ place. StandsBefore place (get_or seen (length (items_between 0 c.loop-window.first seen)) 0))) (sym c.start-way.ensures.inside) c.loop-window.invariant.begins
+    subst (λ (b : Option BodyPlace). ForSome (place_in b) (λ place. StandsBefore place (get_or seen (length (items_between 0 c.loop-window.first seen)) 0))) (sym c.start-way.ensures.inside) c.loop-window.invariant.begins
 
 pub lay_out_window-requires-clause-room : goal.lay_out_window-requires-clause-room
 lay_out_window-requires-clause-room c =
@@ -64,11 +65,11 @@ returns-in_default-clause-told c =
     let fits = window_fits first end seen (seen_increases arena number) v.order in
     let as_many : length c.in_ok-view_between.field-0 ≡ length (items_between first end seen) = ap (λ (xs : List ℕ). length xs) is in
     let inside : length (items_between 0 first seen) + c.lay_out_window.new.way.first ≤ length seen = omega (arith, fits, as_many, laid.inside) in
-    let on : GoesOnFrom c.args.context.now.style.now c.args.context.now.budget arena number c.args.made.now.plan seen c.args.made.now.tally c.loop-window.made.plan c.start-way.result.inside (length (items_between 0 first seen)) c.loop-window.made.tally =
-    subst (λ (b : Option BodyPlace). GoesOnFrom c.args.context.now.style.now c.args.context.now.budget arena number c.args.made.now.plan seen c.args.made.now.tally c.loop-window.made.plan b (length (items_between 0 first seen)) c.loop-window.made.tally)
+    let on : GoesOnFrom c.args.context.now.style.now c.args.context.now.budget arena number c.args.made.now.plan seen c.args.made.now.tally c.loop-window.made.plan (place_in c.start-way.result.inside) (length (items_between 0 first seen)) c.loop-window.made.tally =
+    subst (λ (b : Option BodyPlace). GoesOnFrom c.args.context.now.style.now c.args.context.now.budget arena number c.args.made.now.plan seen c.args.made.now.tally c.loop-window.made.plan (place_in b) (length (items_between 0 first seen)) c.loop-window.made.tally)
     (sym c.start-way.ensures.inside) v.on in
     behind_new c.args.context.now.style.now c.args.context.now.budget arena number c.args.made.now.plan seen c.args.made.now.tally c.lay_out_window.new.made.tally c.lay_out_window.new.made.plan
-    c.lay_out_window.new.way.inside (length (items_between 0 first seen) + c.lay_out_window.new.way.first) c.args.turn.now.new_end inside (laid.done c.in_default.is) c.requires.behind laid.decided laid.place (seen_increases arena number) (laid.on c.args.made.now.plan c.args.made.now.tally on)
+    (place_in c.lay_out_window.new.way.inside) (length (items_between 0 first seen) + c.lay_out_window.new.way.first) c.args.turn.now.new_end inside (laid.done c.in_default.is) c.requires.behind laid.decided laid.place (seen_increases arena number) (laid.on c.args.made.now.plan c.args.made.now.tally on)
 
 pub returns-in_default-clause-room : goal.returns-in_default-clause-room
 returns-in_default-clause-room c =
@@ -122,10 +123,10 @@ loop-window-preserved c =
     let is : c.in_ok-view_between.field-0 ≡ items_between first end seen = c.in_ok-view_between.ensures.view ∙ ap (λ (tree : List Mark). items_between first end (view_of (read tree) number)) c.requires.tree.marks in
     let next = next_window first end seen c.in_ok-view_between.field-0 c.lay_out_window.new.way.first c.in-Some.id.0 (seen_increases arena number) c.loop-window.invariant.order is (subst (λ (o : Option TokenId). IfSome o (λ id. id.0 ≡ get_or c.in_ok-view_between.field-0 c.lay_out_window.new.way.first 0)) c.in-Some.is laid.stopped) (subst (λ (o : Option TokenId). IfSome o (λ id. c.lay_out_window.new.way.first < length c.in_ok-view_between.field-0)) c.in-Some.is laid.here) in
     let short : end < length arena.tokens = (subst (λ (o : Option TokenId). IfSome o (λ id. end < length arena.tokens)) c.in-Some.is laid.short) in
-    let begin : IsTrue c.args.turn.now.later → BeginTold arena (items_between 0 c.lay_out_window.new.way.told seen) (length (items_between 0 first seen) + c.lay_out_window.new.way.first) c.lay_out_window.new.way.inside =
-    subst (λ (o : Option TokenId). IfSome o (λ id. IsTrue c.args.turn.now.later → BeginTold arena (items_between 0 c.lay_out_window.new.way.told seen) (length (items_between 0 first seen) + c.lay_out_window.new.way.first) c.lay_out_window.new.way.inside)) c.in-Some.is laid.begin in
-    let on : GoesOnFrom c.args.context.now.style.now c.args.context.now.budget arena number c.args.made.now.plan seen c.args.made.now.tally c.loop-window.made.plan c.start-way.result.inside (length (items_between 0 first seen)) c.loop-window.made.tally =
-    subst (λ (b : Option BodyPlace). GoesOnFrom c.args.context.now.style.now c.args.context.now.budget arena number c.args.made.now.plan seen c.args.made.now.tally c.loop-window.made.plan b (length (items_between 0 first seen)) c.loop-window.made.tally)
+    let begin : IsTrue c.args.turn.now.later → BeginTold arena (items_between 0 c.lay_out_window.new.way.told seen) (length (items_between 0 first seen) + c.lay_out_window.new.way.first) (place_in c.lay_out_window.new.way.inside) =
+    subst (λ (o : Option TokenId). IfSome o (λ id. IsTrue c.args.turn.now.later → BeginTold arena (items_between 0 c.lay_out_window.new.way.told seen) (length (items_between 0 first seen) + c.lay_out_window.new.way.first) (place_in c.lay_out_window.new.way.inside))) c.in-Some.is laid.begin in
+    let on : GoesOnFrom c.args.context.now.style.now c.args.context.now.budget arena number c.args.made.now.plan seen c.args.made.now.tally c.loop-window.made.plan (place_in c.start-way.result.inside) (length (items_between 0 first seen)) c.loop-window.made.tally =
+    subst (λ (b : Option BodyPlace). GoesOnFrom c.args.context.now.style.now c.args.context.now.budget arena number c.args.made.now.plan seen c.args.made.now.tally c.loop-window.made.plan (place_in b) (length (items_between 0 first seen)) c.loop-window.made.tally)
     (sym c.start-way.ensures.inside) v.on in
     record {
       order = omega (arith, next.before, short, c.min-end.ensures, c.len-items.ensures.count);
@@ -133,11 +134,11 @@ loop-window-preserved c =
       place = front_short c.in-Some.id.0 seen (seen_increases arena number);
       room = omega (arith, v.room, laid.room, next.stands);
       state = laid.state;
-      begin = λ later. subst (λ k. BeginTold arena (items_between 0 c.lay_out_window.new.way.told seen) k c.lay_out_window.new.way.inside) (sym next.stands) (begin later);
-      begins = subst (λ k. ForSome c.lay_out_window.new.way.inside (λ place. StandsBefore place (get_or seen k 0))) (sym next.stands) laid.place;
+      begin = λ later. subst (λ k. BeginTold arena (items_between 0 c.lay_out_window.new.way.told seen) k (place_in c.lay_out_window.new.way.inside)) (sym next.stands) (begin later);
+      begins = subst (λ k. ForSome (place_in c.lay_out_window.new.way.inside) (λ place. StandsBefore place (get_or seen k 0))) (sym next.stands) laid.place;
       items = laid.items;
       decided = laid.decided;
       bounds = laid.bounds;
-      on = subst (λ k. GoesOnFrom c.args.context.now.style.now c.args.context.now.budget arena number c.args.made.now.plan seen c.args.made.now.tally c.lay_out_window.new.made.plan c.lay_out_window.new.way.inside k c.lay_out_window.new.made.tally) (sym next.stands)
+      on = subst (λ k. GoesOnFrom c.args.context.now.style.now c.args.context.now.budget arena number c.args.made.now.plan seen c.args.made.now.tally c.lay_out_window.new.made.plan (place_in c.lay_out_window.new.way.inside) k c.lay_out_window.new.made.tally) (sym next.stands)
           (laid.on c.args.made.now.plan c.args.made.now.tally on);
     }

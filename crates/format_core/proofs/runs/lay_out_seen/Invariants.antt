@@ -3,6 +3,7 @@ use Rattle.std.specs.Prelude.{All, IsSome, IsTrue}
 use Rattle.std.specs.Option.{ForSome}
 use Rattle.branch_runs.specs.Anew.{items_between}
 use Rattle.view_parts.specs.Parts.{StandsBefore, items_before}
+use Rattle.view_parts.specs.Places.{place_in}
 use Rattle.replacements.specs.Decisions.{slot_of}
 use Rattle.format_core.specs.Bounds.{AreBounds, BeginTold}
 use Rattle.format_core.specs.PartByPart.{GoesOnFrom}
@@ -17,12 +18,12 @@ invariant-loop-window l = record {
   place : place_before l.context.arena.now l.turn.number l.first ≤ length (seen_by l.context.arena.now l.turn.number);
   room : l.made.tally.searched ≤ l.initial.made.tally.searched + 67 * place_before l.context.arena.now l.turn.number l.first;
   state : AreInStep l.context.arena.now l.made l.known.ends.now l.known.spans.spans.items;
-  begin : IsTrue l.turn.later → BeginTold l.context.arena.now (items_between 0 l.told (seen_by l.context.arena.now l.turn.number)) (place_before l.context.arena.now l.turn.number l.first) l.inside;
-  begins : ForSome l.inside (λ place. StandsBefore place (get_or (seen_by l.context.arena.now l.turn.number) (place_before l.context.arena.now l.turn.number l.first) 0));
-  items : All (λ id. id < length l.context.arena.now.tokens) (items_before l.inside);
-  decided : All (λ id. IsSome (slot_of l.made.plan id)) (items_before l.inside);
+  begin : IsTrue l.turn.later → BeginTold l.context.arena.now (items_between 0 l.told (seen_by l.context.arena.now l.turn.number)) (place_before l.context.arena.now l.turn.number l.first) (place_in l.inside);
+  begins : ForSome (place_in l.inside) (λ place. StandsBefore place (get_or (seen_by l.context.arena.now l.turn.number) (place_before l.context.arena.now l.turn.number l.first) 0));
+  items : All (λ id. id < length l.context.arena.now.tokens) (items_before (place_in l.inside));
+  decided : All (λ id. IsSome (slot_of l.made.plan id)) (items_before (place_in l.inside));
   bounds : AreBounds l.context.arena.now (seen_by l.context.arena.now l.turn.number) l.known.bounds.items l.told;
-  on : GoesOnFrom l.context.style.now l.context.budget l.context.arena.now l.turn.number l.initial.made.plan (seen_by l.context.arena.now l.turn.number) l.initial.made.tally l.made.plan l.inside (place_before l.context.arena.now l.turn.number l.first) l.made.tally;
+  on : GoesOnFrom l.context.style.now l.context.budget l.context.arena.now l.turn.number l.initial.made.plan (seen_by l.context.arena.now l.turn.number) l.initial.made.tally l.made.plan (place_in l.inside) (place_before l.context.arena.now l.turn.number l.first) l.made.tally;
 }
 
 abbrev pub decreases-loop-window : goal.decreases-loop-window

@@ -3,6 +3,7 @@ use Rattle.std.specs.Prelude.{All, IsSome, IsTrue}
 use Rattle.std.specs.Option.{ForSome}
 use Rattle.branch_runs.specs.Anew.{items_between}
 use Rattle.view_parts.specs.Parts.{StandsBefore, items_before}
+use Rattle.view_parts.specs.Places.{place_in}
 use Rattle.replacements.specs.Decisions.{slot_of}
 use Rattle.replacements.specs.declared.slot.Slot.{Slot}
 use Rattle.run_layout.specs.declared.report.Tally.{Tally}
@@ -17,14 +18,14 @@ invariant-loop-way l = record {
   inside : l.way.first ≤ length l.window.view;
   room : l.made.tally.searched ≤ l.initial.made.tally.searched + 67 * l.way.first;
   state : AreInStep l.context.arena.now l.made l.known.ends.now l.known.spans.spans.items;
-  begin : IsTrue l.window.later → l.way.first < length l.window.view → BeginTold l.context.arena.now (items_between 0 l.way.told (seen_by l.context.arena.now l.window.number)) (place_before l.context.arena.now l.window.number l.window.first + l.way.first) l.way.inside;
-  begins : ForSome l.way.inside (λ place. StandsBefore place (get_or (seen_by l.context.arena.now l.window.number) (place_before l.context.arena.now l.window.number l.window.first + l.way.first) 0));
-  items : All (λ id. id < length l.context.arena.now.tokens) (items_before l.way.inside);
-  decided : All (λ id. IsSome (slot_of l.made.plan id)) (items_before l.way.inside);
+  begin : IsTrue l.window.later → l.way.first < length l.window.view → BeginTold l.context.arena.now (items_between 0 l.way.told (seen_by l.context.arena.now l.window.number)) (place_before l.context.arena.now l.window.number l.window.first + l.way.first) (place_in l.way.inside);
+  begins : ForSome (place_in l.way.inside) (λ place. StandsBefore place (get_or (seen_by l.context.arena.now l.window.number) (place_before l.context.arena.now l.window.number l.window.first + l.way.first) 0));
+  items : All (λ id. id < length l.context.arena.now.tokens) (items_before (place_in l.way.inside));
+  decided : All (λ id. IsSome (slot_of l.made.plan id)) (items_before (place_in l.way.inside));
   bounds : AreBounds l.context.arena.now (seen_by l.context.arena.now l.window.number) l.known.bounds.items l.way.told;
   on : (plan : List (Option Slot)) (before : Tally)
-      → GoesOnFrom l.context.style.now l.context.budget l.context.arena.now l.window.number plan (seen_by l.context.arena.now l.window.number) before l.initial.made.plan l.initial.way.inside (place_before l.context.arena.now l.window.number l.window.first) l.initial.made.tally
-      → GoesOnFrom l.context.style.now l.context.budget l.context.arena.now l.window.number plan (seen_by l.context.arena.now l.window.number) before l.made.plan l.way.inside (place_before l.context.arena.now l.window.number l.window.first + l.way.first) l.made.tally;
+      → GoesOnFrom l.context.style.now l.context.budget l.context.arena.now l.window.number plan (seen_by l.context.arena.now l.window.number) before l.initial.made.plan (place_in l.initial.way.inside) (place_before l.context.arena.now l.window.number l.window.first) l.initial.made.tally
+      → GoesOnFrom l.context.style.now l.context.budget l.context.arena.now l.window.number plan (seen_by l.context.arena.now l.window.number) before l.made.plan (place_in l.way.inside) (place_before l.context.arena.now l.window.number l.window.first + l.way.first) l.made.tally;
 }
 
 abbrev pub decreases-loop-way : goal.decreases-loop-way

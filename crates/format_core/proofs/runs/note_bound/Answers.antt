@@ -2,6 +2,7 @@ use Rattle.std.proofs.Common.{◌+◌, ◌-◌, ◌<◌, List, get_or, length, s
 use Rattle.format_core.specs.declared.bounds.KnownBound.{KnownBound}
 use Rattle.format_core.specs.Bounds.{AreBounds, BeginTold, IsBound}
 use Rattle.branch_runs.specs.Anew.{items_between}
+use Rattle.view_parts.specs.Places.{place_in}
 use Rattle.format_core.specs.Runs.{seen_by}
 use Rattle.format_core.specs.Windows.{place_before}
 use Rattle.format_core.proofs.BoundsNoted.{window_bound, window_told}
@@ -18,7 +19,7 @@ pub returns-clause-begin : goal.returns-clause-begin
 returns-clause-begin c = λ later inside.
     let w = c.args.window.now in
     let told = c.in-Some.told in
-    window_told c.args.arena.now w.number w.view w.first w.end c.args.begins c.args.parts.inside c.args.first c.args.parts.end told c.args.way.now.told c.max-way.result c.requires.window (c.requires.told told c.in-Some.is) c.requires.some
+    window_told c.args.arena.now w.number w.view w.first w.end (place_in c.args.begins) (place_in c.args.parts.inside) c.args.first c.args.parts.end told c.args.way.now.told c.max-way.result c.requires.window (c.requires.told told c.in-Some.is) c.requires.some
     (omega (arith, c.max-way.ensures)) (omega (arith, c.max-way.ensures, c.at_near-last.ensures 0)) (c.requires.begin later)
 
 pub returns-clause-bounds : goal.returns-clause-bounds
@@ -31,11 +32,11 @@ returns-clause-bounds c =
     let now = c.max-way.result in
     let tell = c.requires.told told c.in-Some.is in
     let last : get_or w.view (told - 1) 0 < now = omega (arith, c.max-way.ensures, c.at_near-last.ensures 0) in
-    let begun : BeginTold arena (items_between 0 now ids) (place_before arena w.number w.first + end) c.args.parts.inside =
-    window_told arena w.number w.view w.first w.end c.args.begins c.args.parts.inside c.args.first end told c.args.way.now.told now c.requires.window tell c.requires.some (omega (arith, c.max-way.ensures)) last (c.requires.begin c.if-not-window.false) in
-    let is : IsBound arena ids c.at_near-item.result.0 now c.args.parts.inside =
-    subst (λ item. IsBound arena ids item now c.args.parts.inside) (c.at_near-item.ensures 0)
-    (window_bound arena w.number w.view w.first w.end end c.args.parts.inside (told - 1) now c.requires.window (omega (arith, tell.later)) (omega (arith, tell.later, tell.below)) last begun) in
+    let begun : BeginTold arena (items_between 0 now ids) (place_before arena w.number w.first + end) (place_in c.args.parts.inside) =
+    window_told arena w.number w.view w.first w.end (place_in c.args.begins) (place_in c.args.parts.inside) c.args.first end told c.args.way.now.told now c.requires.window tell c.requires.some (omega (arith, c.max-way.ensures)) last (c.requires.begin c.if-not-window.false) in
+    let is : IsBound arena ids c.at_near-item.result.0 now (place_in c.args.parts.inside) =
+    subst (λ item. IsBound arena ids item now (place_in c.args.parts.inside)) (c.at_near-item.ensures 0)
+    (window_bound arena w.number w.view w.first w.end end (place_in c.args.parts.inside) (told - 1) now c.requires.window (omega (arith, tell.later)) (omega (arith, tell.later, tell.below)) last begun) in
     let bound : KnownBound = record { item = c.at_near-item.result.0; told = now; inside = c.args.parts.inside } in
     subst (λ (bounds : List KnownBound). AreBounds arena ids bounds now) (sym c.in_ok-push.ensures.items)
     (bound_noted arena ids c.args.bounds.now.items c.args.way.now.told bound (omega (arith, c.max-way.ensures)) is c.requires.bounds)

@@ -1,15 +1,14 @@
-use Rattle.std.proofs.Common.{◌≡◌, ◌≤◌, ◌-◌, ◌+◌, drop, reverse}
-use Rattle.token_classes.specs.Partners.{count_braces, StandBefore}
+use Rattle.std.proofs.Common.{◌≡◌, ◌-◌, ◌+◌, reverse}
+use Rattle.view_parts.specs.Parts.{around_of}
+use Rattle.view_parts.specs.Places.{place_in}
 use Rattle.view_parts.specs.Rows.{IsRow}
-use Rattle.view_parts.proofs.Walked.{Passes}
+use Rattle.view_parts.proofs.PartEnds.{IsRead}
 use Rattle.view_parts.proofs.ends.part_end.Given as goal
 
 abbrev pub invariant-loop-walk : goal.invariant-loop-walk
 invariant-loop-walk l = record {
-  on : Passes l.arena l.fn.begins (drop l.first l.view) l.walk (reverse l.waiting.items);
-  count : l.braces ≡ count_braces (reverse l.waiting.items);
-  small : l.braces ≤ l.walk.place + 1;
-  before : StandBefore (l.walk.place + 1) (reverse l.waiting.items);
+  read : IsRead l.arena (place_in l.fn.begins) l.view l.first l.walk (reverse l.bodies.items) (reverse l.waiting.items) l.braces;
+  stands : l.stands ≡ around_of (reverse l.bodies.items) (reverse l.waiting.items);
   row : IsRow l.view (l.first + l.walk.place) l.row;
 }
 

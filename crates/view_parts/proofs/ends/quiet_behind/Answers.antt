@@ -2,9 +2,9 @@ use Rattle.std.proofs.Common.{◌≡◌, ◌∙◌, ◌<◌, ◌≤◌, ◌+◌,
 use Rattle.std.proofs.lemmas.List.{get_or-drop, get_or-take}
 use Rattle.token_classes.specs.declared.class.TokenClass.{TokenClass}
 use Rattle.view_parts.specs.declared.walk.Around.{Around}
-use Rattle.view_parts.specs.declared.walk.Around.TheVariants.{Group}
-use Rattle.view_parts.specs.Walk.{is_quiet}
-use Rattle.view_parts.proofs.ends.quiet_behind.Goals.{in-Group, in_default}
+use Rattle.view_parts.specs.declared.walk.Around.TheVariants.{Body, Group}
+use Rattle.view_parts.specs.Steps.{is_quiet}
+use Rattle.view_parts.proofs.ends.quiet_behind.Goals.{in-Outside, in-Body, in-Group}
 use Rattle.view_parts.proofs.ends.quiet_behind.Goals as goal
 
 -- so many tokens of a stretch, as those of the whole
@@ -19,18 +19,19 @@ of_stretch stands all next far count within quiet k d after before =
 pub returns-clause-quiet : goal.returns-clause-quiet
 returns-clause-quiet c =
     let all = c.args.all.now in
-    let place = c.args.place in
+    let place = c.args.first + c.args.place in
     let shift = c.args.row.now.shift in
     let next = place + 1 + shift in
-    let far = c.args.row.now.end + shift in
     let count = c.match-around.count in
     let quiet : (k : ℕ) → (d : TokenClass) → next ≤ k → k < next + count → is_quiet c.args.around (get_or all k d) ≡ true = elim c.match-around.branch [
-      | in-Group w ↦ λ k d after before.
+      | in-Outside w ↦ λ k d after before. absurd (omega (arith, after, before, w.count-is))
+      | in-Body w ↦ λ k d after before.
           let told = w.quiet_count-count.ensures in
+          ap (λ (a : Around). is_quiet a (get_or all k d)) w.in-Body.is
+          ∙ of_stretch Body all next _ w.quiet_count-count.result (omega (arith, told.within)) told.quiet k d after (omega (arith, before, w.count-is))
+      | in-Group w ↦ λ k d after before.
+          let told = w.quiet_count-count-in-Group.ensures in
           ap (λ (a : Around). is_quiet a (get_or all k d)) w.in-Group.is
-          ∙ of_stretch Group all next far w.quiet_count-count.result (omega (arith, told.within)) told.quiet k d after (omega (arith, before, w.count-is))
-      | in_default w ↦ λ k d after before.
-          let told = w.quiet_count-count-in_default.ensures in
-          of_stretch c.args.around all next far w.quiet_count-count-in_default.result (omega (arith, told.within)) told.quiet k d after (omega (arith, before, w.count-is))
+          ∙ of_stretch Group all next _ w.quiet_count-count-in-Group.result (omega (arith, told.within)) told.quiet k d after (omega (arith, before, w.count-is))
     ] in
     λ k d after upto. quiet (k + shift) d (omega (arith, after)) (omega (arith, upto))

@@ -1,0 +1,372 @@
+-- Tokens in a row that tell nothing.
+use Rattle.std.proofs.Common.{◌≡◌, ◌∙◌, ◌⊎◌, inl, inr, ℕ, zero, suc, ◌+◌, ◌-◌, ◌<◌, ◌≤◌, Bool, true, false, ◌==◌, nat_le, nat_lt, not, ◌&&◌, ◌||◌, Option, Some, None, List, [], length, drop, get_or, refl, sym, ap, subst, arith}
+use Rattle.std.specs.Prelude.{if◌then◌else◌}
+use Rattle.std.proofs.lemmas.Bool.Decides.{nat_tests}
+use Rattle.std.proofs.lemmas.List.{get_or-drop, length-drop}
+use Rattle.token_arena.specs.Gaps.{Contents}
+use Rattle.token_classes.specs.declared.class.TokenClass.{TokenClass}
+use Rattle.token_classes.specs.declared.class.TokenClass.TheVariants.{OpenRound, CloseRound, OpenSquare, CloseSquare, OpenBrace, CloseBrace, Else}
+use Rattle.token_classes.specs.Classes.{is_bracket, is_comment, is_control, is_else, is_open_brace, is_open_round, is_semicolon}
+use Rattle.token_classes.specs.Viewed.{AreWithin, item_class, item_classes}
+use Rattle.token_classes.proofs.ItemClasses.{class_at}
+use Rattle.token_classes.specs.declared.pairing.Opener.{Opener}
+use Rattle.token_classes.specs.Partners.{Matching}
+use Rattle.token_classes.proofs.BracketLemmas.{other_step}
+use Rattle.view_parts.specs.declared.walk.Around.{Around}
+use Rattle.view_parts.specs.declared.walk.Around.TheVariants as around
+use Rattle.view_parts.specs.declared.walk.Begun.{Begun}
+use Rattle.view_parts.specs.declared.walk.Begun.TheVariants.{Unknown, With, Behind}
+use Rattle.view_parts.specs.declared.bodies.Head.{Head}
+use Rattle.view_parts.specs.declared.walk.Headed.{Headed}
+use Rattle.view_parts.specs.declared.walk.LastToken.{LastToken}
+use Rattle.view_parts.specs.declared.walk.Walk.{Walk}
+use Rattle.view_parts.specs.Places.{Place}
+use Rattle.view_parts.specs.Reading.{Reading, GoesOn}
+use Rattle.view_parts.specs.Steps.{is_group, is_quiet, is_telling, may_end, passed, tells_end}
+use Rattle.view_parts.specs.Walk.{begins_behind, begins_block, begun_before, body_kind, end_in_body, ends_apart, ends_in_row, ends_inside_or, goes_on_with, head_of_kind, headed_by, heads_len, in_body, in_group, is_apart, is_body, is_label, is_leading, is_record, kept_begun, next_begun, next_last, opened_head, parts_statements, past_bracket, past_comment, reading}
+use Rattle.view_parts.specs.Parts.{around_of, bodies_behind, is_left, left_innermost, waiting_behind, walk_behind, without_innermost}
+use Rattle.view_parts.proofs.Walked.{Passes, goes_on}
+
+differ : true ≡ false → ⊥
+differ e = cc
+
+or_none : (b x : Bool) → b ≡ b || (false && x)
+or_none true x = refl
+or_none false x = refl
+
+or_false : (b : Bool) → b ≡ b || false
+or_false true = refl
+or_false false = refl
+
+quiet_waits : (class : TokenClass) (place : ℕ) (waiting : List Opener) → is_bracket class ≡ false → waiting ≡ waiting_behind class place waiting
+quiet_waits class place waiting is =
+    ap (λ (m : Matching). m.open_brackets)
+    (other_step class (place + 1) (record { open_brackets = waiting; partners = [] }) (λ e. none OpenRound e refl) (λ e. none CloseRound e refl) (λ e. none OpenSquare e refl) (λ e. none CloseSquare e refl) (λ e. none OpenBrace e refl)
+    (λ e. none CloseBrace e refl))
+  where
+    none : (kind : TokenClass) → class ≡ kind → is_bracket kind ≡ true → ⊥
+    none kind e bracket = differ (sym bracket ∙ (ap (λ (c : TokenClass). is_bracket c) (sym e) ∙ is))
+
+-- ## Their classes
+
+-- a token of a body that tells nothing
+record IsPlain (class : TokenClass) : Type 0 where
+  label : is_label class ≡ false
+  control : is_control class ≡ false
+  record_word : is_record class ≡ false
+  round : is_open_round class ≡ false
+  brace : is_open_brace class ≡ false
+
+no_round : (class : TokenClass) → is_bracket class ≡ false → is_open_round class ≡ false
+no_round OpenRound never = cc
+no_round _ never = refl
+
+no_brace : (class : TokenClass) → is_bracket class ≡ false → is_open_brace class ≡ false
+no_brace OpenBrace never = cc
+no_brace _ never = refl
+
+plain_of : (class : TokenClass) → is_bracket class ≡ false → not (is_telling class) ≡ true → IsPlain class
+plain_of class flat quiet = (let none = none_told (is_label class) (is_control class) (is_record class) quiet in record { label = none.0; control = none.1; record_word = none.2; round = no_round class flat; brace = no_brace class flat })
+  where
+    none_told : (label control word : Bool) → not (label || control || word) ≡ true → (label ≡ false) × (control ≡ false) × (word ≡ false)
+    none_told false false false e = (refl, refl, refl)
+    none_told true control word e = cc
+    none_told false true word e = cc
+    none_told false false true e = cc
+
+-- ## In a body
+
+-- what is known where no token may tell the end by its class
+record IsHeld (walk : Walk) (id : ℕ) : Type 0 where
+  row : not (id == walk.behind) ≡ false
+  apart : walk.last.apart ≡ false
+  held : nat_lt 0 walk.last.held ≡ false
+  low : nat_le 512 walk.place ≡ false
+
+held_of : (walk : Walk) (id : ℕ) → tells_end walk id ≡ false → IsHeld walk id
+held_of walk id never = (let all = all_false (not (id == walk.behind)) walk.last.apart (nat_lt 0 walk.last.held) (nat_le 512 walk.place) never in record { row = all.0; apart = all.1; held = all.2; low = all.3 })
+  where
+    all_false : (a b c d : Bool) → a || b || c || d ≡ false → (a ≡ false) × (b ≡ false) × (c ≡ false) × (d ≡ false)
+    all_false false false false false e = (refl, refl, refl, refl)
+    all_false true b c d e = cc
+    all_false false true c d e = cc
+    all_false false false true d e = cc
+    all_false false false false true e = cc
+
+none_false : (a b c d : Bool) → a ≡ false → b ≡ false → c ≡ false → d ≡ false → a || b || c || d ≡ false
+none_false false false false false e f g h = refl
+none_false true b c d e f g h = cc
+none_false false true c d e f g h = cc
+none_false false false true d e f g h = cc
+none_false false false false true e f g h = cc
+
+-- `else` is the word of a control statement
+no_else : (class : TokenClass) → is_control class ≡ false → is_else class ≡ false
+no_else Else e = cc
+no_else _ e = refl
+
+quiet_begun : (walk : Walk) (id : ℕ) (class : TokenClass) → IsPlain class → walk.begun ≡ next_begun walk id class
+quiet_begun walk id class plain = by_begins (begins_behind walk.last) (is_leading class) leads_none
+  where
+    by_word : (control other word brace : Bool) → control ≡ false → word ≡ false → brace ≡ false → ((control && not other) || (word || brace)) ≡ false
+    by_word false other false false e f g = refl
+    by_word true other word brace e f g = absurd (differ e)
+    by_word false other true brace e f g = absurd (differ f)
+    by_word false other false true e f g = absurd (differ g)
+
+    leads_none : is_leading class ≡ false
+    leads_none = by_word (is_control class) (is_else class) (is_record class) (is_open_brace class) plain.control plain.record_word plain.brace
+
+    by_kind : (leads other goes : Bool) (head : Head) → leads ≡ false → other ≡ false → Behind head ≡ (if (leads || other) && not goes then Unknown else Behind head)
+    by_kind true other goes head e f = absurd (differ e)
+    by_kind false true goes head e f = absurd (differ f)
+    by_kind false false goes head e f = refl
+
+    kept : (begun : Begun) → begun ≡ kept_begun walk.last class begun
+    kept Unknown = refl
+    kept (With token) = refl
+    kept (Behind head) = by_kind (is_leading class) (is_else class) (goes_on_with walk.last class) head leads_none (no_else class plain.control)
+
+    by_begins : (begins leads : Bool) → leads ≡ false → walk.begun ≡ (if begins && leads then With (record { id = id; place = walk.place }) else kept_begun walk.last class walk.begun)
+    by_begins true true e = absurd (differ e)
+    by_begins true false e = kept walk.begun
+    by_begins false leads e = kept walk.begun
+
+quiet_last : (walk : Walk) (id : ℕ) (class : TokenClass) → IsPlain class → IsHeld walk id → record walk.last { class = class; id = id } ≡ next_last walk.place walk.last id class
+quiet_last walk id class plain is =
+    let last = walk.last in
+    ap (λ b. made b last.commented last.headed last.block last.structure last.held) is.apart
+    ∙ (ap (λ b. made false b last.headed last.block last.structure last.held) (commented (nat_le 512 walk.place) is.low)
+    ∙ (ap (λ (h : Headed). made false (last.commented && not (nat_le 512 walk.place && begins_behind last)) h last.block last.structure last.held) (headed (is_open_round class) plain.round)
+    ∙ (ap (λ (o : Option ℕ). made false (last.commented && not (nat_le 512 walk.place && begins_behind last)) (if is_open_round class then headed_by last.class else last.headed) o last.structure last.held) (block (is_open_brace class) plain.brace)
+    ∙ (ap (λ (o : Option ℕ). made false (last.commented && not (nat_le 512 walk.place && begins_behind last)) (if is_open_round class then headed_by last.class else last.headed)
+    (if is_open_brace class then (if begins_block last then Some id else None) else last.block) o last.held) (structure (is_record class) plain.record_word)
+    ∙ ap (λ n. made false (last.commented && not (nat_le 512 walk.place && begins_behind last)) (if is_open_round class then headed_by last.class else last.headed)
+    (if is_open_brace class then (if begins_block last then Some id else None) else last.block) (if is_record class then Some id else last.structure) n) (held (is_semicolon class) (is_label class) plain.label)))))
+  where
+    made : Bool → Bool → Headed → Option ℕ → Option ℕ → ℕ → LastToken
+    made apart commented headed block structure held = record { class = class; id = id; apart = apart; commented = commented; headed = headed; block = block; structure = structure; held = held }
+
+    commented : (far : Bool) → far ≡ false → walk.last.commented ≡ walk.last.commented && not (far && begins_behind walk.last)
+    commented true e = absurd (differ e)
+    commented false e = by_test walk.last.commented
+      where
+        by_test : (b : Bool) → b ≡ b && true
+        by_test true = refl
+        by_test false = refl
+
+    headed : (round : Bool) → round ≡ false → walk.last.headed ≡ (if round then headed_by walk.last.class else walk.last.headed)
+    headed true e = absurd (differ e)
+    headed false e = refl
+
+    block : (brace : Bool) → brace ≡ false → walk.last.block ≡ (if brace then (if begins_block walk.last then Some id else None) else walk.last.block)
+    block true e = absurd (differ e)
+    block false e = refl
+
+    structure : (word : Bool) → word ≡ false → walk.last.structure ≡ (if word then Some id else walk.last.structure)
+    structure true e = absurd (differ e)
+    structure false e = refl
+
+    held : (semicolon label : Bool) → label ≡ false → walk.last.held ≡ (if semicolon then walk.last.held - 1 else (if label then 3 else walk.last.held))
+    held true label e = (let none : walk.last.held ≡ 0 = grind (arith, nat_tests, is.held) in omega (arith, none))
+    held false true e = absurd (differ e)
+    held false false e = refl
+
+quiet_body : (walk : Walk) (id : ℕ) (class : TokenClass) → IsPlain class → IsHeld walk id → passed walk around.Body (walk.place + 1) id class ≡ in_body walk id class
+quiet_body walk id class plain is =
+    ap (λ (b : Begun). made b (record walk.last { class = class; id = id })) (quiet_begun walk id class plain) ∙ ap (λ (l : LastToken). made (next_begun walk id class) l) (quiet_last walk id class plain is)
+  where
+    made : Begun → LastToken → Walk
+    made begun last = record walk { place = walk.place + 1; asked = None; begun = begun; behind = id + 1; last = last }
+
+quiet_end : (walk : Walk) (id : ℕ) (class : TokenClass) → IsHeld walk id → end_in_body walk id class ≡ None
+quiet_end walk id class is = by_parts (parts_statements walk class) (is_apart walk id) (by_apart walk.last.apart (not (id == walk.behind)) is.apart is.row)
+  where
+    by_apart : (apart gap : Bool) → apart ≡ false → gap ≡ false → apart || gap ≡ false
+    by_apart false false e f = refl
+    by_apart true gap e f = absurd (differ e)
+    by_apart false true e f = absurd (differ f)
+
+    by_far : (far next silent : Bool) → far ≡ false → (if far && next && silent then Some walk.place else None) ≡ None
+    by_far true next silent e = absurd (differ e)
+    by_far false next silent e = refl
+
+    by_parts : (parts apart : Bool) → apart ≡ false → (if parts then (if apart then ends_apart walk else ends_in_row walk id) else None) ≡ None
+    by_parts false apart e = refl
+    by_parts true true e = absurd (differ e)
+    by_parts true false e = by_far (nat_le 512 walk.place) (id == walk.last.id + 1) (not walk.last.commented) is.low
+
+-- ## In a group
+
+quiet_group : (walk : Walk) (id : ℕ) (class : TokenClass) → is_bracket class ≡ false → is_comment class ≡ false → passed walk around.Group (walk.place + 1) id class ≡ in_group walk id class
+quiet_group walk id class flat silent = by_kind (is_bracket class) (is_comment class) flat silent
+  where
+    made : Bool → Bool → Walk
+    made outer inner = record walk { place = walk.place + 1; declaration = record walk.declaration { commented = outer }; last = record walk.last { commented = inner } }
+
+    by_kind : (bracket comment : Bool) → bracket ≡ false → comment ≡ false
+        → made walk.declaration.commented walk.last.commented
+        ≡ (if bracket then past_bracket walk id class else made (walk.declaration.commented || (comment && not (is_body walk.declaration.before))) (walk.last.commented || comment))
+    by_kind true comment e f = absurd (differ e)
+    by_kind false true e f = absurd (differ f)
+    by_kind false false e f =
+        ap (λ b. made b walk.last.commented) (or_none walk.declaration.commented (not (is_body walk.declaration.before)))
+        ∙ ap (λ b. made (walk.declaration.commented || (false && not (is_body walk.declaration.before))) b) (or_false walk.last.commented)
+
+-- ## Behind them
+
+none_of : (a b c : Bool) → not a && not b && c ≡ true → (a ≡ false) × (b ≡ false) × (c ≡ true)
+none_of true true c e = cc
+none_of true false c e = cc
+none_of false true c e = cc
+none_of false false c e = (refl, refl, e)
+
+quiet_reading : (arena : Contents) (walk : Walk) (stands : Around) (id : ℕ) (class : TokenClass) → may_end walk stands id ≡ false → is_bracket class ≡ false → is_comment class ≡ false → is_group stands || not (is_telling class) ≡ true
+    → GoesOn (passed walk stands (walk.place + 1) id class) ≡ reading arena walk stands id class
+quiet_reading arena walk around.Outside id class never flat silent word = absurd (differ never)
+quiet_reading arena walk around.Group id class never flat silent word = ap (λ (w : Walk). GoesOn w) (quiet_group walk id class flat silent)
+quiet_reading arena walk around.Body id class never flat silent word =
+    let is = held_of walk id never in
+    ap (λ (w : Walk). GoesOn w) (quiet_body walk id class (plain_of class flat word) is)
+    ∙ (ap (λ (ends : Option ℕ). ends_inside_or ends (in_body walk id class)) (sym (quiet_end walk id class is))
+    ∙ ap (λ b. if b then GoesOn (past_comment arena walk id) else ends_inside_or (end_in_body walk id class) (in_body walk id class)) (sym silent))
+
+opens_none : (walk : Walk) (stands : Around) (bodies : List Head) (id : ℕ) (class : TokenClass) → is_bracket class ≡ false → opened_head walk stands bodies id class ≡ None
+opens_none walk stands bodies id class flat = by_brace (is_open_brace class) (no_brace class flat)
+  where
+    by_brace : (brace : Bool) → brace ≡ false → (if brace then head_of_kind (body_kind walk stands) (begun_before walk stands id) walk.place id (heads_len bodies) else None) ≡ None
+    by_brace true e = absurd (differ e)
+    by_brace false e = refl
+
+-- behind a token that is no bracket
+pub flat_passes : (arena : Contents) (begins : Option Place) (ids : List ℕ) (walk next : Walk) (bodies : List Head) (waiting : List Opener) (read : Reading) → walk.place < length ids → next.place ≡ walk.place + 1 → read ≡ GoesOn next
+    → read ≡ reading arena walk (around_of bodies waiting) (get_or ids walk.place 0) (item_class arena (get_or ids walk.place 0)) → is_bracket (item_class arena (get_or ids walk.place 0)) ≡ false → is_left bodies waiting ≡ false
+    → Passes arena begins ids walk bodies waiting → Passes arena begins ids next bodies waiting
+flat_passes arena begins ids walk next bodies waiting read below one made is flat stays on =
+    let stands = around_of bodies waiting in
+    let number = get_or ids walk.place 0 in
+    let head = opened_head walk stands bodies number (item_class arena number) in
+    let past = goes_on arena begins ids walk next bodies waiting waiting read below one made is (quiet_waits (item_class arena number) walk.place waiting flat) on in
+    let opens : head ≡ None = opens_none walk stands bodies number (item_class arena number) flat in
+    let unopened : Passes arena begins ids (walk_behind next bodies waiting None number) (bodies_behind bodies waiting None) waiting =
+    subst (λ (o : Option Head). Passes arena begins ids (walk_behind next bodies waiting o number) (bodies_behind bodies waiting o) waiting) opens past in
+    subst (λ b. Passes arena begins ids (if b then left_innermost next bodies number else next) (if b then without_innermost bodies else bodies) waiting) stays unopened
+
+-- behind one of them
+quiet_passes : (arena : Contents) (begins : Option Place) (ids : List ℕ) (walk : Walk) (bodies : List Head) (waiting : List Opener) (id : ℕ) (class : TokenClass) → walk.place < length ids → get_or ids walk.place 0 ≡ id → class ≡ item_class arena id
+    → is_left bodies waiting ≡ false → may_end walk (around_of bodies waiting) id ≡ false → is_quiet (around_of bodies waiting) class ≡ true → Passes arena begins ids walk bodies waiting
+    → Passes arena begins ids (passed walk (around_of bodies waiting) (walk.place + 1) id class) bodies waiting
+quiet_passes arena begins ids walk bodies waiting id class below at told stays never quiet on =
+    let stands = around_of bodies waiting in
+    let number = get_or ids walk.place 0 in
+    let none = none_of (is_bracket class) (is_comment class) (is_group stands || not (is_telling class)) quiet in
+    let next = passed walk stands (walk.place + 1) id class in
+    let same : item_class arena number ≡ class = ap (λ n. item_class arena n) at ∙ sym told in
+    let reads_so : GoesOn next ≡ reading arena walk stands number (item_class arena number) =
+    quiet_reading arena walk stands id class never none.0 none.1 none.2
+    ∙ (ap (λ n. reading arena walk stands n class) (sym at) ∙ ap (λ (c : TokenClass). reading arena walk stands number c) (sym same)) in
+    let flat : is_bracket (item_class arena number) ≡ false = ap (λ (c : TokenClass). is_bracket c) same ∙ none.0 in
+    flat_passes arena begins ids walk next bodies waiting (GoesOn next) below (one stands) refl reads_so flat stays on
+  where
+    one : (stands : Around) → (passed walk stands (walk.place + 1) id class).place ≡ walk.place + 1
+    one around.Outside = refl
+    one around.Body = refl
+    one around.Group = refl
+
+-- Tokens from the next one on, so many of them, tell nothing.
+abbrev pub AreQuiet : Contents → Around → List ℕ → ℕ → ℕ → Type 0
+AreQuiet arena stands ids place n = (k : ℕ) → k < n → (place + k < length ids) × (is_quiet stands (item_class arena (get_or ids (place + k) 0)) ≡ true)
+
+next_may : (walk : Walk) (stands : Around) (id first place last : ℕ) (class : TokenClass) → (stands ≡ around.Body → place < 512) → may_end walk stands first ≡ false → id ≡ last + 1 → may_end (passed walk stands place last class) stands id ≡ false
+next_may walk around.Outside id first place last class low never e = never
+next_may walk around.Group id first place last class low never e = refl
+next_may walk around.Body id first place last class low never e =
+    let is = held_of walk first never in
+    let few = low refl in
+    none_false (not (id == last + 1)) walk.last.apart (nat_lt 0 walk.last.held) (nat_le 512 place) (no_gap) is.apart is.held (near few)
+  where
+    no_gap : not (id == last + 1) ≡ false
+    no_gap = grind (arith, nat_tests, e)
+
+    near : place < 512 → nat_le 512 place ≡ false
+    near few = grind (arith, nat_tests, few)
+
+passed_twice : (walk : Walk) (stands : Around) (place last later behind : ℕ) (old class : TokenClass) → passed (passed walk stands place last old) stands later behind class ≡ passed walk stands later behind class
+passed_twice walk around.Outside place last later behind old class = refl
+passed_twice walk around.Group place last later behind old class = refl
+passed_twice walk around.Body place last later behind old class = refl
+
+-- behind all of them
+pub quiet_row : (arena : Contents) (begins : Option Place) (ids : List ℕ) (walk next : Walk) (bodies : List Head) (waiting : List Opener) (stands : Around) (id n : ℕ) (class : TokenClass) → stands ≡ around_of bodies waiting
+    → is_left bodies waiting ≡ false → may_end walk (around_of bodies waiting) id ≡ false → (stands ≡ around.Body → walk.place + n < 512)
+    → AreQuiet arena stands ids walk.place (1 + n) → ((k : ℕ) → k ≤ n → get_or ids (walk.place + k) 0 ≡ id + k) → class ≡ item_class arena (id + n) → next ≡ passed walk stands (walk.place + n + 1) (id + n) class
+    → Passes arena begins ids walk bodies waiting → Passes arena begins ids next bodies waiting
+quiet_row arena begins ids walk next bodies waiting stands id n class here stays never low quiet row told is on =
+    subst (λ (w : Walk). Passes arena begins ids w bodies waiting) (sym (is ∙ ap (λ (a : Around). passed walk a (walk.place + n + 1) (id + n) class) here))
+    (by_count n class (λ e. low (here ∙ e)) (subst (λ (a : Around). AreQuiet arena a ids walk.place (1 + n)) here quiet) row told)
+  where
+    around_it : Around
+    around_it = around_of bodies waiting
+
+    by_count : (n : ℕ) (class : TokenClass) → (around_it ≡ around.Body → walk.place + n < 512) → AreQuiet arena around_it ids walk.place (1 + n) → ((k : ℕ) → k ≤ n → get_or ids (walk.place + k) 0 ≡ id + k) → class ≡ item_class arena (id + n)
+        → Passes arena begins ids (passed walk around_it (walk.place + n + 1) (id + n) class) bodies waiting
+    by_count zero class low quiet row told =
+        let here = quiet 0 (omega arith) in
+        let p : walk.place + 0 ≡ walk.place = omega arith in
+        let q : id + 0 ≡ id = omega arith in
+        let at : get_or ids walk.place 0 ≡ id = ap (λ k. get_or ids k 0) (sym p) ∙ (row 0 (omega arith) ∙ q) in
+        let class_is : class ≡ item_class arena id = told ∙ ap (λ k. item_class arena k) q in
+        let same : item_class arena (get_or ids (walk.place + 0) 0) ≡ class = ap (λ k. item_class arena k) (row 0 (omega arith)) ∙ sym told in
+        let silent = ap (λ (c : TokenClass). is_quiet around_it c) (sym same) ∙ here.1 in
+        let one = quiet_passes arena begins ids walk bodies waiting id class (omega (arith, here.0)) at class_is stays never silent on in
+        subst (λ k. Passes arena begins ids (passed walk around_it (k + 1) (id + 0) class) bodies waiting) (sym p) (subst (λ k. Passes arena begins ids (passed walk around_it (walk.place + 1) k class) bodies waiting) (sym q) one)
+    by_count (suc n) class low quiet row told =
+        let old = item_class arena (id + n) in
+        let less : around_it ≡ around.Body → walk.place + n < 512 = λ e. (let few = low e in omega (arith, few)) in
+        let near : around_it ≡ around.Body → walk.place + n + 1 < 512 = λ e. (let few = low e in omega (arith, few)) in
+        let earlier = by_count n old less (λ k below. quiet k (omega (arith, below))) (λ k low. row k (omega (arith, low))) refl in
+        let before = passed walk around_it (walk.place + n + 1) (id + n) old in
+        let here = quiet (suc n) (omega arith) in
+        let p : walk.place + suc n ≡ walk.place + n + 1 = omega arith in
+        let q : id + suc n ≡ id + n + 1 = omega arith in
+        let at : get_or ids (walk.place + n + 1) 0 ≡ id + suc n = ap (λ k. get_or ids k 0) (sym p) ∙ row (suc n) (omega arith) in
+        let same : item_class arena (get_or ids (walk.place + suc n) 0) ≡ class = ap (λ k. item_class arena k) (row (suc n) (omega arith)) ∙ sym told in
+        let silent = ap (λ (c : TokenClass). is_quiet around_it c) (sym same) ∙ here.1 in
+        let may = next_may walk around_it (id + suc n) id (walk.place + n + 1) (id + n) old near never q in
+        let stood : before.place ≡ walk.place + n + 1 = placed around_it (walk.place + n + 1) (id + n) old in
+        let inside : before.place < length ids = omega (arith, here.0, stood) in
+        let found : get_or ids before.place 0 ≡ id + suc n = ap (λ k. get_or ids k 0) stood ∙ at in
+        let one = quiet_passes arena begins ids before bodies waiting (id + suc n) class inside found told stays may silent earlier in
+        let two : Passes arena begins ids (passed walk around_it (before.place + 1) (id + suc n) class) bodies waiting =
+        subst (λ (w : Walk). Passes arena begins ids w bodies waiting) (passed_twice walk around_it (walk.place + n + 1) (id + n) (before.place + 1) (id + suc n) old class) one in
+        let three : Passes arena begins ids (passed walk around_it (walk.place + n + 1 + 1) (id + suc n) class) bodies waiting =
+        subst (λ k. Passes arena begins ids (passed walk around_it (k + 1) (id + suc n) class) bodies waiting) stood two in
+        subst (λ k. Passes arena begins ids (passed walk around_it (k + 1) (id + suc n) class) bodies waiting) (sym p) three
+      where
+        placed : (stands : Around) (place last : ℕ) (old : TokenClass) → (passed walk stands place last old).place ≡ place
+        placed around.Outside place last old = refl
+        placed around.Body place last old = refl
+        placed around.Group place last old = refl
+
+-- the next one and those behind it, as the code tells it
+pub all_quiet : (arena : Contents) (stands : Around) (view : List ℕ) (all : List TokenClass) (first place n : ℕ) (class : TokenClass) → AreWithin arena view → all ≡ item_classes arena → first + place + n < length view
+    → class ≡ item_class arena (get_or (drop first view) place 0) → is_quiet stands class ≡ true
+    → ((k : ℕ) → (d : TokenClass) → first + place < k → k ≤ first + place + n → is_quiet stands (get_or all (get_or view k 0) d) ≡ true)
+    → AreQuiet arena stands (drop first view) place (1 + n)
+all_quiet arena stands view all first place n class within told inside is here behind k below = (
+  omega (arith, length-drop first view, below, inside),
+  elim (here_or_behind k) [
+    | inl e ↦
+        let same : class ≡ item_class arena (get_or (drop first view) (place + k) 0) = is ∙ ap (λ j. item_class arena (get_or (drop first view) j 0)) (omega (arith, e)) in
+        ap (λ (c : TokenClass). is_quiet stands c) (sym same) ∙ here
+    | inr after ↦
+        let at : get_or (drop first view) (place + k) 0 ≡ get_or view (first + place + k) 0 = get_or-drop first view (place + k) 0 ∙ ap (λ j. get_or view j 0) (omega arith) in
+        let stored : get_or view (first + place + k) 0 < length arena.tokens = within (first + place + k) 0 (omega (arith, below, inside)) in
+        let class_is : get_or all (get_or view (first + place + k) 0) class ≡ item_class arena (get_or view (first + place + k) 0) = ap (λ (cs : List TokenClass). get_or cs (get_or view (first + place + k) 0) class) told ∙ class_at arena (get_or view (first + place + k) 0) class stored in
+        let same = class_is ∙ ap (λ id. item_class arena id) (sym at) in
+        ap (λ (c : TokenClass). is_quiet stands c) (sym same) ∙ behind (first + place + k) class (omega (arith, after)) (omega (arith, below))
+  ],
+)
+  where
+    here_or_behind : (k : ℕ) → (k ≡ 0) ⊎ (0 < k)
+    here_or_behind k = grind arith

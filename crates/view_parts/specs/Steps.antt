@@ -1,0 +1,67 @@
+-- What the code keeps on the way along the items of a part.
+use Rattle.std.specs.Prelude.{◌≡◌, ◌<◌, ⊤, ℕ, suc, ◌+◌, ◌-◌, ◌==◌, nat_lt, nat_le, Bool, true, false, ◌&&◌, ◌||◌, not, None, List, [], ◌∷◌}
+use Rattle.token_classes.specs.declared.class.TokenClass.{TokenClass}
+use Rattle.token_classes.specs.declared.class.TokenClass.TheVariants.{OpenBrace, CloseBrace}
+use Rattle.token_classes.specs.Classes.{is_bracket, is_comment, is_control}
+use Rattle.view_parts.specs.declared.walk.Around.{Around}
+use Rattle.view_parts.specs.declared.walk.Around.TheVariants as around
+use Rattle.view_parts.specs.declared.walk.Outcome.{Outcome}
+use Rattle.view_parts.specs.declared.walk.Outcome.TheVariants as outcome
+use Rattle.view_parts.specs.declared.walk.Walk.{Walk}
+use Rattle.view_parts.specs.Reading.{Reading, EndsOutside, EndsInBody, Never, GoesOn}
+use Rattle.view_parts.specs.declared.bodies.Head.{Head}
+use Rattle.view_parts.specs.Walk.{is_label, is_record, left}
+
+-- a token of a body may tell where the part ends, or changes what is known in another way than by its class
+abbrev pub tells_end : Walk → ℕ → Bool
+tells_end walk id = not (id == walk.behind) || walk.last.apart || nat_lt 0 walk.last.held || nat_le 512 walk.place
+
+-- The same, by what an item stands in.
+abbrev pub may_end : Walk → Around → ℕ → Bool
+may_end walk around.Outside id = true
+may_end walk around.Body id = tells_end walk id
+may_end walk around.Group id = false
+
+abbrev pub is_group : Around → Bool
+is_group around.Group = true
+is_group _ = false
+
+-- a token of a body changes what is known by its class
+abbrev pub is_telling : TokenClass → Bool
+is_telling class = is_label class || is_control class || is_record class
+
+-- a token that tells nothing, by what it stands in
+abbrev pub is_quiet : Around → TokenClass → Bool
+is_quiet stands class = not (is_bracket class) && not (is_comment class) && (is_group stands || not (is_telling class))
+
+-- at this place, behind tokens in a row that tell nothing, by what they stand in: the last one has this number and class
+abbrev pub passed : Walk → Around → ℕ → ℕ → TokenClass → Walk
+passed walk around.Group place last class = record walk { place = place }
+passed walk stands place last class = record walk { place = place; asked = None; behind = last + 1; last = record walk.last { class = class; id = last } }
+
+-- so many braces are open behind this token
+abbrev pub depth_behind : ℕ → TokenClass → ℕ
+depth_behind depth OpenBrace = suc depth
+depth_behind depth CloseBrace = depth - 1
+depth_behind depth _ = depth
+
+-- these tokens close so many braces, and not before the last of them
+abbrev pub Closes : ℕ → List TokenClass → Type 0
+Closes depth [] = depth ≡ 0
+Closes depth (class ∷ classes) = (0 < depth) × Closes (depth_behind depth class) classes
+
+-- behind a body in a row whose `}` this is, at this place
+abbrev pub body_passed : Walk → Head → ℕ → ℕ → Walk
+body_passed walk head place id = left (record walk { place = place; behind = id + 1 }) head id
+
+-- what comes of an item that tells this, and behind which the way goes on so
+abbrev pub read_so : Outcome → Walk → Reading
+read_so (outcome.EndsOutside count) next = EndsOutside count
+read_so (outcome.EndsInBody count) next = EndsInBody count
+read_so outcome.Never next = Never
+read_so outcome.GoesOn next = GoesOn next
+
+-- the way stays before an item that ends a part in a body
+abbrev pub StaysWhereItEnds : Outcome → Walk → Walk → Type 0
+StaysWhereItEnds (outcome.EndsInBody count) old new = new ≡ old
+StaysWhereItEnds _ old new = ⊤
