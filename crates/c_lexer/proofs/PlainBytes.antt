@@ -1,23 +1,23 @@
 -- Characters that are bytes of their text by themselves, and those of items.
 use Rattle.std.proofs.Common.{◌≡◌, ◌==◌, ◌&&◌, ◌∙◌, Bool, true, false, not, ℕ, zero, suc, ◌+◌, ◌-◌, ◌<◌, ◌≤◌, List, [], ◌∷◌, ◌++◌, length, take, drop, get_or, refl, sym, ap, subst, arith}
-use Rattle.std.specs.Prelude.{⊤, Some, None, Option, IfSome, slice_get}
+use Rattle.std.specs.Prelude.{⊤, Some, None, Option, IfSome, slice_get, codes, if◌then◌else◌}
 use Rattle.std.specs.Int.{is_in_range}
 use Rattle.std.specs.List.{list_all}
 use Rattle.std.proofs.lemmas.Bool.{and_from, and_parts, not-true}
 use Rattle.std.proofs.lemmas.Bool.Decides.{nat_tests}
 use Rattle.std.proofs.lemmas.List.{drop-drop, drop_more}
-use Rattle.c_chars.specs.Characters.{placed, replaced, with_lines, spliced, phase_1, logical, mark_len, is_trigraph, is_word_byte, trigraph}
+use Rattle.c_chars.specs.Characters.{placed, replaced, with_lines, spliced, phase_1, logical, mark_len, is_plain, is_trigraph, is_word_byte, trigraph}
 use Rattle.c_chars.specs.Coming.{Coming, AreBetween, AreBytesPassed, passed, behind}
 use Rattle.c_chars.specs.declared.Dialect.{Dialect}
 use Rattle.c_chars.specs.declared.Dialect.TheVariants.{C11, C23}
 use Rattle.c_chars.specs.declared.LogicalChar.{LogicalChar}
-use Rattle.c_grammar.specs.Grammar.{is_digit, is_letter}
+use Rattle.c_grammar.specs.Grammar.{is_digit, is_letter, is_of}
 use Rattle.c_grammar.specs.Bytes.{begins_punctuator}
 use Rattle.c_grammar.specs.Place.{IsSpanned}
 use Rattle.c_chars.proofs.Steps.{onwards}
 use Rattle.c_lexer.specs.Class.{is_lone_mark}
-use Rattle.c_lexer.specs.Reading.{AreItemBytes, AreRaw, BeforeLeft, ends_in_backslash, is_item_byte}
-use Rattle.c_lexer.specs.Run.{is_pair_mark}
+use Rattle.c_lexer.specs.Reading.{AreOwnBytes, AreRaw, BeforeLeft, ends_in_backslash, is_own_byte}
+use Rattle.c_lexer.specs.Run.{begins_long, is_pair_mark}
 use Rattle.c_lexer.proofs.Backslashes.{by_test}
 use Rattle.c_lexer.proofs.Stepping.{behind_chars}
 
@@ -147,66 +147,81 @@ next_one p x y e first from to holds y_is =
     let left = y_is ∙ next.1 in
     one_passed p x y y e (next.0 ∙ ap (λ s. e ∷ s) (sym (ap (λ z. z.chars) left))) (ap (λ z. z.at) left) from to holds (none_passed p y)
 
--- Characters of items: printable, and no backslash.
+-- Characters of items: printable, and each by itself.
 
-pub letter_item : (b : ℕ) → is_letter b ≡ true → is_item_byte b ≡ true
-unfolding is_letter is_item_byte
+pub letter_item : (b : ℕ) → is_letter b ≡ true → is_own_byte b ≡ true
+unfolding is_letter is_own_byte
 letter_item b h = grind (arith, nat_tests)
 
-pub digit_item : (b : ℕ) → is_digit b ≡ true → is_item_byte b ≡ true
-unfolding is_digit is_item_byte
+pub digit_item : (b : ℕ) → is_digit b ≡ true → is_own_byte b ≡ true
+unfolding is_digit is_own_byte
 digit_item b h = grind (arith, nat_tests)
 
-pub lone_item : (b : ℕ) → is_lone_mark b ≡ true → is_item_byte b ≡ true
-unfolding is_lone_mark is_item_byte
+pub lone_item : (b : ℕ) → is_lone_mark b ≡ true → is_own_byte b ≡ true
+unfolding is_lone_mark is_own_byte
 lone_item b h = grind (arith, nat_tests)
 
-pub mark_item : (b : ℕ) → begins_punctuator b ≡ true → is_item_byte b ≡ true
-unfolding begins_punctuator is_item_byte
+pub mark_item : (b : ℕ) → begins_long b ≡ true → is_own_byte b ≡ true
+unfolding begins_long is_own_byte
 mark_item b h = grind (arith, nat_tests)
 
-pub second_item : (a b : ℕ) → is_pair_mark a b ≡ true → is_item_byte b ≡ true
-unfolding is_pair_mark is_item_byte
-second_item a b h = grind (arith, nat_tests)
+-- what longer punctuators begin with begins a punctuator
+pub long_mark : (b : ℕ) → begins_long b ≡ true → begins_punctuator b ≡ true
+unfolding begins_long begins_punctuator
+long_mark b h = grind (arith, nat_tests)
 
-word_item : (b : ℕ) → is_word_byte b ≡ true → is_item_byte b ≡ true
-unfolding is_word_byte is_item_byte
+-- whatever the first byte has to be
+second_of : (b : ℕ) (p q r : Bool) → (if b == 61 then p else (if b == 62 then q else (is_of (codes "&+|-#") b && r))) ≡ true → is_own_byte b ≡ true
+unfolding is_own_byte
+second_of b p q r h = grind (arith, nat_tests)
+
+pub second_item : (a b : ℕ) → is_pair_mark a b ≡ true → is_own_byte b ≡ true
+unfolding is_pair_mark
+second_item a b h = second_of b (is_of (codes "=!+<>-|&*/%^") a) (a == 45) (a == b) h
+
+word_item : (b : ℕ) → is_word_byte b ≡ true → is_own_byte b ≡ true
+unfolding is_word_byte is_own_byte
 word_item b h = grind (arith, nat_tests)
 
-pub words_items : (x y : Coming) → AreBytesPassed is_word_byte x y → AreBytesPassed is_item_byte x y
+pub words_items : (x y : Coming) → AreBytesPassed is_word_byte x y → AreBytesPassed is_own_byte x y
 words_items x y r = record {
   bytes = r.bytes;
-  all = each is_word_byte is_item_byte r.bytes word_item r.all;
+  all = each is_word_byte is_own_byte r.bytes word_item r.all;
   chars_are = r.chars_are;
   at_is = r.at_is;
 }
 
-pub digits_items : (first : LogicalChar) (y : Coming) (o : Option Coming) → is_digit first.byte ≡ true → IfSome o (λ left. AreBytesPassed is_word_byte y left) → IfSome o (λ left. AreItemBytes first y left)
+pub digits_items : (first : LogicalChar) (y : Coming) (o : Option Coming) → is_digit first.byte ≡ true → IfSome o (λ left. AreBytesPassed is_word_byte y left) → IfSome o (λ left. AreOwnBytes first y left)
 digits_items first y None digit h = h
 digits_items first y (Some left) digit h = record { first_is = digit_item first.byte digit; rest_are = words_items y left h }
 
-item_printable : (b : ℕ) → is_item_byte b ≡ true → is_in_range 0x20 0x7E b ≡ true
-unfolding is_item_byte
-item_printable b h = (and_parts (is_in_range 0x20 0x7E b) (not (b == 92)) h).0
+pub item_printable : (b : ℕ) → is_own_byte b ≡ true → is_in_range 0x20 0x7E b ≡ true
+unfolding is_own_byte
+item_printable b h = (and_parts (is_in_range 0x20 0x7E b) (is_plain b) h).0
 
-item_other : (b : ℕ) → is_item_byte b ≡ true → (b == 92) ≡ false
-unfolding is_item_byte
-item_other b h = not-true (b == 92) (and_parts (is_in_range 0x20 0x7E b) (not (b == 92)) h).1
+pub item_plain : (b : ℕ) → is_own_byte b ≡ true → is_plain b ≡ true
+unfolding is_own_byte
+item_plain b h = (and_parts (is_in_range 0x20 0x7E b) (is_plain b) h).1
+
+item_other : (b : ℕ) → is_own_byte b ≡ true → (b == 92) ≡ false
+item_other b h =
+    let other = and_parts (not (b == 63)) (not (b == 13) && not (b == 92)) (item_plain b h) in
+    not-true (b == 92) (and_parts (not (b == 13)) (not (b == 92)) other.1).1
 
 -- an item's characters, each a byte by itself
-items_passed : (x y left : Coming) (first : LogicalChar) → x.chars ≡ first ∷ y.chars → y.at ≡ first.to → first.from ≡ x.at → first.to ≡ x.at + 1 → AreItemBytes first y left → AreBytesPassed is_item_byte x left
-items_passed x y left first chars at from to items = one_passed is_item_byte x y left first chars at from to items.first_is items.rest_are
+items_passed : (x y left : Coming) (first : LogicalChar) → x.chars ≡ first ∷ y.chars → y.at ≡ first.to → first.from ≡ x.at → first.to ≡ x.at + 1 → AreOwnBytes first y left → AreBytesPassed is_own_byte x left
+items_passed x y left first chars at from to items = one_passed is_own_byte x y left first chars at from to items.first_is items.rest_are
 
--- an item of printable characters has printable bytes
-pub raw_printable : (text : List ℕ) (x y left : Coming) (first : LogicalChar) → AreRaw text x.chars → left.at ≤ length text → x.chars ≡ first ∷ y.chars → y.at ≡ first.to → first.from ≡ x.at → first.to ≡ x.at + 1
-    → AreItemBytes first y left → list_all (is_in_range 0x20 0x7E) (take (left.at - first.from) (drop first.from text)) ≡ true
-raw_printable text x y left first raw within chars at from to items =
-    let all : AreBytesPassed is_item_byte x left = items_passed x y left first chars at from to items in
+-- what holds of each character of an item holds of its bytes
+pub raw_each : (p : ℕ → Bool) (text : List ℕ) (x y left : Coming) (first : LogicalChar) → AreRaw text x.chars → left.at ≤ length text → x.chars ≡ first ∷ y.chars → y.at ≡ first.to → first.from ≡ x.at → first.to ≡ x.at + 1
+    → AreOwnBytes first y left → ((b : ℕ) → is_own_byte b ≡ true → p b ≡ true) → list_all p (take (left.at - first.from) (drop first.from text)) ≡ true
+raw_each p text x y left first raw within chars at from to items holds =
+    let all : AreBytesPassed is_own_byte x left = items_passed x y left first chars at from to items in
     let there : left.at ≡ x.at + length all.bytes = all.at_is in
     let len : left.at - first.from ≡ length all.bytes = omega (arith, there, from) in
     let bytes : take (length all.bytes) (drop x.at text) ≡ all.bytes = placed_there text x.at all.bytes left.chars (subst (AreRaw text) all.chars_are raw) (omega (arith, there, within)) in
-    ap (λ k. list_all (is_in_range 0x20 0x7E) (take k (drop first.from text))) len
-    ∙ (ap (λ k. list_all (is_in_range 0x20 0x7E) (take (length all.bytes) (drop k text))) from ∙ (ap (list_all (is_in_range 0x20 0x7E)) bytes ∙ each is_item_byte (is_in_range 0x20 0x7E) all.bytes item_printable all.all))
+    ap (λ k. list_all p (take k (drop first.from text))) len
+    ∙ (ap (λ k. list_all p (take (length all.bytes) (drop k text))) from ∙ (ap (list_all p) bytes ∙ each is_own_byte p all.bytes holds all.all))
 
 -- no backslash is the last of them
 
@@ -214,7 +229,7 @@ back_behind : (c : LogicalChar) (s : List LogicalChar) → (c.byte == 92) ≡ fa
 back_behind c [] h rest = h
 back_behind c (e ∷ s) h rest = rest
 
-none_back : (d : Dialect) (at high n : ℕ) (bytes : List ℕ) (rest : List LogicalChar) → AreBetween at (placed at bytes ++ rest) high → list_all is_item_byte bytes ≡ true → n ≤ length (placed at bytes ++ rest)
+none_back : (d : Dialect) (at high n : ℕ) (bytes : List ℕ) (rest : List LogicalChar) → AreBetween at (placed at bytes ++ rest) high → list_all is_own_byte bytes ≡ true → n ≤ length (placed at bytes ++ rest)
     → (passed d at (placed at bytes ++ rest) n).at ≡ at + length bytes → ends_in_backslash (take n (placed at bytes ++ rest)) ≡ false
 none_back d at high zero bytes rest between items within there = refl
 none_back d at high (suc n) [] [] between items within there = absurd (omega (arith, within))
@@ -224,12 +239,12 @@ none_back d at high (suc n) [] (c ∷ rest) between items within there =
     let some : c.from < c.to = between.1 in
     absurd (omega (arith, on, first, some, there))
 none_back d at high (suc n) (b ∷ bytes) rest between items within there =
-    let parts = and_parts (is_item_byte b) (list_all is_item_byte bytes) items in
+    let parts = and_parts (is_own_byte b) (list_all is_own_byte bytes) items in
     let far : (passed d (at + 1) (placed (at + 1) bytes ++ rest) n).at ≡ (at + 1) + length bytes = omega (arith, there) in
     back_behind (record { byte = b; from = at; to = at + 1 }) (take n (placed (at + 1) bytes ++ rest)) (item_other b parts.0)
     (none_back d (at + 1) high n bytes rest between.2 parts.1 (omega (arith, within)) far)
 
-pub items_told : (x y left : Coming) (first : LogicalChar) → IsSpanned x → x.chars ≡ first ∷ y.chars → y.at ≡ first.to → first.from ≡ x.at → first.to ≡ x.at + 1 → AreItemBytes first y left
+pub items_told : (x y left : Coming) (first : LogicalChar) → IsSpanned x → x.chars ≡ first ∷ y.chars → y.at ≡ first.to → first.from ≡ x.at → first.to ≡ x.at + 1 → AreOwnBytes first y left
     → BeforeLeft x left (λ s. ends_in_backslash s ≡ false)
 items_told x y left first spanned chars at from to items = λ n within left_is.
     let all = items_passed x y left first chars at from to items in

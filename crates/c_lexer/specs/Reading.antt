@@ -2,7 +2,7 @@
 use Rattle.std.specs.Prelude.{◌≡◌, ◌≤◌, ◌==◌, ◌||◌, ◌&&◌, not, ℕ, ◌+◌, ◌-◌, Bool, false, List, [], ◌∷◌, ⊤, length, take, get_or, sum_by, count_by, IsTrue}
 use Rattle.std.specs.Int.{is_in_range}
 use Rattle.std.specs.List.{prefix_len}
-use Rattle.c_chars.specs.Characters.{bytes_of}
+use Rattle.c_chars.specs.Characters.{bytes_of, is_plain}
 use Rattle.c_chars.specs.Coming.{Coming, AreBytesPassed, behind}
 use Rattle.c_chars.specs.declared.Dialect.{Dialect}
 use Rattle.c_chars.specs.declared.LogicalChar.{LogicalChar}
@@ -55,14 +55,14 @@ pub record IsBegun (text : Coming) (first : LogicalChar) (left : Coming) : Type 
   pub at_is : left.at ≡ first.to
   pub dialect_is : left.dialect ≡ text.dialect
 
--- a printable character of ASCII that is no backslash
-unfoldable pub is_item_byte : ℕ → Bool
-is_item_byte b = is_in_range 0x20 0x7E b && not (b == 92)
+-- a printable character of ASCII that is a character by itself, whatever stands behind it
+unfoldable pub is_own_byte : ℕ → Bool
+is_own_byte b = is_in_range 0x20 0x7E b && is_plain b
 
 -- An item begins with this character, goes on behind it up to what is left, and is of such characters; those behind the first are bytes by themselves.
-pub record AreItemBytes (first : LogicalChar) (behind left : Coming) : Type 0 where
-  pub first_is : IsTrue (is_item_byte first.byte)
-  pub rest_are : AreBytesPassed is_item_byte behind left
+pub record AreOwnBytes (first : LogicalChar) (behind left : Coming) : Type 0 where
+  pub first_is : IsTrue (is_own_byte first.byte)
+  pub rest_are : AreBytesPassed is_own_byte behind left
 
 -- The next item of the text is this one, and this is what its characters and those of its gap tell.
 pub record IsNextLexeme (old new : Reading) (lexeme : Lexeme) : Type 0 where

@@ -4,7 +4,6 @@ ghost use Rattle.std.specs.Prelude.{◌≡◌};
 ghost use Rattle.c_lexer.specs.Class.{ends_word, ends_number, is_lone_mark, ends_mark};
 ghost use Rattle.c_lexer.specs.Unit.{is_pair, is_single};
 
-use crate::punctuator;
 use c_chars::Dialect;
 use c_grammar::bytes;
 
@@ -81,13 +80,34 @@ pub(crate) fn is_lone_mark(byte: u8) -> bool
     c_chars::told(&LONE_MARKS, byte)
 }
 
+/// Of each byte, whether it ends a punctuator of one byte.
+const ENDS_MARK: [bool; 256] = [
+    true, true, true, true, true, true, true, true, true, true, true, true, true, true, true, true,
+    true, true, true, true, true, true, true, true, true, true, true, true, true, true, true, true,
+    true, true, true, false, true, false, false, true, true, true, false, false, true, false,
+    false, false, false, false, false, false, false, false, false, false, false, false, false,
+    true, false, false, false, true, true, true, true, true, true, true, true, true, true, true,
+    true, true, true, true, true, true, true, true, true, true, true, true, true, true, true, true,
+    true, true, true, true, true, true, true, true, true, true, true, true, true, true, true, true,
+    true, true, true, true, true, true, true, true, true, true, true, true, true, true, true, true,
+    true, true, false, true, true, true, true, true, true, true, true, true, true, true, true,
+    true, true, true, true, true, true, true, true, true, true, true, true, true, true, true, true,
+    true, true, true, true, true, true, true, true, true, true, true, true, true, true, true, true,
+    true, true, true, true, true, true, true, true, true, true, true, true, true, true, true, true,
+    true, true, true, true, true, true, true, true, true, true, true, true, true, true, true, true,
+    true, true, true, true, true, true, true, true, true, true, true, true, true, true, true, true,
+    true, true, true, true, true, true, true, true, true, true, true, true, true, true, true, true,
+    true, true, true, true, true, true, true, true, true, true, true, true, true, true, true, true,
+    true, true, true, true, true, true, true,
+];
+
 /// What ends a punctuator of one byte that stands before it: it goes on with none, and neither a number
 /// nor a comment is begun.
 #[inline(always)]
 pub(crate) fn ends_mark(byte: u8) -> bool
     ensures { result ≡ ends_mark byte }
 {
-    !(punctuator::goes_on_long(byte) || (bytes::is_digit(byte) || (byte == b'/' || byte == b'*')))
+    c_chars::told(&ENDS_MARK, byte)
 }
 
 /// Whether a number goes on with both of these as one unit (C11 6.4.8).

@@ -14,7 +14,7 @@ ghost use Rattle.c_grammar.specs.declared.ItemKind.TheVariants.{Identifier, Numb
 ghost use Rattle.c_grammar.specs.declared.ItemKind.TheVariants.{StrayQuote, LineComment, BlockComment};
 ghost use Rattle.c_lexer.specs.Cut.{IsCutOff, IsStop};
 ghost use Rattle.c_grammar.specs.Bytes.{begins_punctuator, is_quote_mark, IsFirst};
-ghost use Rattle.c_lexer.specs.Reading.{AreItemBytes, IsBegun};
+ghost use Rattle.c_lexer.specs.Reading.{AreOwnBytes, IsBegun};
 ghost use Rattle.c_lexer.specs.Run.{begins_number, head_len};
 ghost use Rattle.c_lexer.specs.Unit.{BeginsUnit, is_rare_unit};
 ghost use Rattle.unicode_ident.specs.Ident.{is_xid_start};
@@ -174,23 +174,23 @@ fn behind_plain_mark<'s>(dialect: Dialect, begun: &Begun<'s>) -> Option<Chars<'s
     requires dialect { dialect ≡ begun.now.text.dialect }
     requires begun { IsBegun begun.now.text begun.now.first begun.now.behind }
     ensures off { IfSome result (λ left. IsCutOff begun.now.text left Punct) }
-    ensures plain { IfSome result (λ left. AreItemBytes begun.now.first begun.now.behind left) }
+    ensures plain { IfSome result (λ left. AreOwnBytes begun.now.first begun.now.behind left) }
 {
     let first = begun.first.byte;
     let left = begun.behind.ahead();
     if class::is_lone_mark(first) {
         return Some(left);
     }
-    if !bytes::begins_punctuator(first) {
+    if !punctuator::begins_long(first) {
         return None;
     }
     match left.peek_plain() {
         Some(second) => {
-            if punctuator::is_pair(first, second.byte) {
-                return Some(front::behind(&left, 1));
-            }
             if class::ends_mark(second.byte) {
-                Some(left)
+                return Some(left);
+            }
+            if punctuator::is_pair(first, second.byte) {
+                Some(front::behind(&left, 1))
             } else {
                 None
             }
@@ -207,7 +207,7 @@ fn behind_plain_number<'s>(dialect: Dialect, begun: &Begun<'s>) -> Option<Chars<
     requires begun { IsBegun begun.now.text begun.now.first begun.now.behind }
     requires digit { IsTrue (is_digit begun.now.first.byte) }
     ensures off { IfSome result (λ left. IsCutOff begun.now.text left Number) }
-    ensures plain { IfSome result (λ left. AreItemBytes begun.now.first begun.now.behind left) }
+    ensures plain { IfSome result (λ left. AreOwnBytes begun.now.first begun.now.behind left) }
 {
     unit::behind_plain_number(dialect, &begun.behind)
 }
@@ -219,7 +219,7 @@ pub(crate) fn cut_plain<'s>(dialect: Dialect, begun: &Begun<'s>) -> Option<(Item
     requires dialect { dialect ≡ begun.now.text.dialect }
     requires begun { IsBegun begun.now.text begun.now.first begun.now.behind }
     ensures off { IfSome result (λ r. IsCutOff begun.now.text r.1 r.0) }
-    ensures plain { IfSome result (λ r. AreItemBytes begun.now.first begun.now.behind r.1) }
+    ensures plain { IfSome result (λ r. AreOwnBytes begun.now.first begun.now.behind r.1) }
 {
     if bytes::is_letter(begun.first.byte) {
         return match word::behind_plain_word(begun) {

@@ -5,7 +5,7 @@ ghost use Rattle.std.specs.Prelude.{IfOk, IfErr, MatchOption, ⊤};
 ghost use Rattle.std.specs.Int.{is_in_range};
 ghost use Rattle.std.specs.List.{list_all};
 ghost use Rattle.c_grammar.specs.Items.{is_gap, LineStart};
-ghost use Rattle.c_chars.specs.Characters.{logical, bytes_of};
+ghost use Rattle.c_chars.specs.Characters.{logical, bytes_of, is_plain};
 ghost use Rattle.c_grammar.specs.Place.{IsSpanned, place_of};
 ghost use Rattle.c_lexer.specs.Reading.{IsNextItem, IsNextLexeme, AreSlashed, BeforeLeft, ends_backslash};
 ghost use Rattle.c_lexer.specs.Reading.{ends_in_backslash};
@@ -155,6 +155,7 @@ impl<'s> Lexer<'s> {
         ensures dialect { self.new.dialect ≡ self.old.dialect }
         ensures some { IfSome result (λ lexeme. IsNextLexeme self.old self.new lexeme) }
         ensures plain { IfSome result (λ lexeme. IsFalse again → IsTrue (list_all (is_in_range 0x20 0x7E) lexeme.item.raw.now)) }
+        ensures itself { IfSome result (λ lexeme. IsFalse again → IsTrue (list_all is_plain lexeme.item.raw.now)) }
         ensures none { IfNone result (self.new ≡ self.old) }
     {
         let Some(begun) = line::begin_plain(&self.chars) else {
@@ -250,14 +251,15 @@ impl<'s> Lexer<'s> {
     }
 
     /// The next item, with what it and its gap tell, where it is a word, a number or a punctuator that plain bytes
-    /// tell at once, each of them a printable character of ASCII; none elsewhere, where the reader stays. It calls
-    /// nothing.
+    /// tell at once, each of them a printable character of ASCII that nothing behind it can change; none elsewhere,
+    /// where the reader stays. It calls nothing.
     #[inline(always)]
     pub fn next_plain_lexeme(&mut self) -> Option<Lexeme<'s>>
         ensures text { self.new.text ≡ self.old.text }
         ensures dialect { self.new.dialect ≡ self.old.dialect }
         ensures some { IfSome result (λ lexeme. IsNextLexeme self.old self.new lexeme) }
         ensures plain { IfSome result (λ lexeme. IsTrue (list_all (is_in_range 0x20 0x7E) lexeme.item.raw.now)) }
+        ensures itself { IfSome result (λ lexeme. IsTrue (list_all is_plain lexeme.item.raw.now)) }
         ensures none { IfNone result (self.new ≡ self.old) }
     {
         self.next_plain(false)

@@ -10,7 +10,7 @@ ghost use Rattle.c_grammar.specs.Bytes.{IsFirst};
 ghost use Rattle.c_lexer.specs.Cut.{IsCutOff, IsStop};
 ghost use Rattle.c_lexer.specs.Next.{IsCutNext};
 ghost use Rattle.c_grammar.specs.Place.{place_of};
-ghost use Rattle.c_lexer.specs.Reading.{AreItemBytes, IsBegun};
+ghost use Rattle.c_lexer.specs.Reading.{AreOwnBytes, IsBegun};
 
 use crate::cut::{self, Stop};
 use crate::line::Begun;
@@ -86,7 +86,7 @@ fn cut_off<'s>(any: bool, dialect: Dialect, begun: &Begun<'s>) -> Option<(ItemKi
     requires begun { IsBegun begun.now.text begun.now.first begun.now.behind }
     requires ink { IsFalse (is_white begun.now.first.byte || is_new_line begun.now.first.byte) }
     ensures off { IfSome result (λ r. IsCutOff begun.now.text r.1 r.0) }
-    ensures plain { IfSome result (λ r. IsFalse any → AreItemBytes begun.now.first begun.now.behind r.1) }
+    ensures plain { IfSome result (λ r. IsFalse any → AreOwnBytes begun.now.first begun.now.behind r.1) }
 {
     if let Some((kind, left)) = cut::cut_plain(dialect, begun) {
         return Some((kind, left));
@@ -107,7 +107,7 @@ pub(crate) fn cut_begun<'s>(
     requires begun { IsBegun begun.now.text begun.now.first begun.now.behind }
     requires ink { IsFalse (is_white begun.now.first.byte || is_new_line begun.now.first.byte) }
     ensures next { IfSome result (λ r. IsCutNext (place_of standing) begun.now.text r.1 r.0) }
-    ensures plain { IfSome result (λ r. IsFalse any → AreItemBytes begun.now.first begun.now.behind r.1) }
+    ensures plain { IfSome result (λ r. IsFalse any → AreOwnBytes begun.now.first begun.now.behind r.1) }
 {
     if is_behind_include(standing) {
         return None;

@@ -16,29 +16,36 @@ const LONG: [&[u8]; 29] = [
     b"%>", b"%:%:", b"%:",
 ];
 
+/// Of each byte, whether some punctuator of two bytes and more begins with it.
+const BEGINS_LONG: [bool; 256] = [
+    false, false, false, false, false, false, false, false, false, false, false, false, false,
+    false, false, false, false, false, false, false, false, false, false, false, false, false,
+    false, false, false, false, false, false, false, true, false, true, false, true, true, false,
+    false, false, true, true, false, true, true, true, false, false, false, false, false, false,
+    false, false, false, false, true, false, true, true, true, false, false, false, false, false,
+    false, false, false, false, false, false, false, false, false, false, false, false, false,
+    false, false, false, false, false, false, false, false, false, false, false, false, false,
+    true, false, false, false, false, false, false, false, false, false, false, false, false,
+    false, false, false, false, false, false, false, false, false, false, false, false, false,
+    false, false, false, false, true, false, false, false, false, false, false, false, false,
+    false, false, false, false, false, false, false, false, false, false, false, false, false,
+    false, false, false, false, false, false, false, false, false, false, false, false, false,
+    false, false, false, false, false, false, false, false, false, false, false, false, false,
+    false, false, false, false, false, false, false, false, false, false, false, false, false,
+    false, false, false, false, false, false, false, false, false, false, false, false, false,
+    false, false, false, false, false, false, false, false, false, false, false, false, false,
+    false, false, false, false, false, false, false, false, false, false, false, false, false,
+    false, false, false, false, false, false, false, false, false, false, false, false, false,
+    false, false, false, false, false, false, false, false, false, false, false, false, false,
+    false, false, false, false, false, false,
+];
+
 /// Whether some punctuator of two bytes and more begins with this one.
-#[tactic(auto, unfolding(crate::specs::Run::begins_long))]
 #[inline(always)]
 pub(crate) fn begins_long(byte: u8) -> bool
     ensures { result ≡ begins_long byte }
 {
-    matches!(
-        byte,
-        b'-' | b'='
-            | b'&'
-            | b'+'
-            | b'|'
-            | b'!'
-            | b'<'
-            | b'>'
-            | b'*'
-            | b'/'
-            | b'%'
-            | b'^'
-            | b'.'
-            | b'#'
-            | b':'
-    )
+    c_chars::told(&BEGINS_LONG, byte)
 }
 
 /// Whether some punctuator has this second byte.
@@ -59,15 +66,16 @@ pub(crate) fn goes_on_long(byte: u8) -> bool
 pub(crate) fn is_pair(first: u8, second: u8) -> bool
     ensures { result ≡ is_pair_mark first second }
 {
-    match second {
-        b'=' => matches!(
+    if second == b'=' {
+        return matches!(
             first,
             b'=' | b'!' | b'+' | b'<' | b'>' | b'-' | b'|' | b'&' | b'*' | b'/' | b'%' | b'^'
-        ),
-        b'>' => first == b'-',
-        b'&' | b'+' | b'|' | b'-' | b'#' => first == second,
-        _ => false,
+        );
     }
+    if second == b'>' {
+        return first == b'-';
+    }
+    matches!(second, b'&' | b'+' | b'|' | b'-' | b'#') && first == second
 }
 
 /// The length of the longest punctuator of C23 that the text begins with, otherwise 1.

@@ -10,7 +10,7 @@ ghost use Rattle.c_grammar.specs.declared.ItemKind.TheVariants.{CharConst, Ident
 ghost use Rattle.c_grammar.specs.Bytes.{is_quote_mark};
 ghost use Rattle.c_lexer.specs.Cut.{IsCutOff};
 ghost use Rattle.c_lexer.specs.Literal.{is_string_at, is_constant_at, is_literal, begins_literal};
-ghost use Rattle.c_lexer.specs.Reading.{AreItemBytes, IsBegun};
+ghost use Rattle.c_lexer.specs.Reading.{AreOwnBytes, IsBegun};
 ghost use Rattle.c_lexer.specs.Unit.{BeginsUnit, IsRunOff};
 
 use crate::line::Begun;
@@ -165,7 +165,7 @@ pub(crate) fn behind_plain_word<'s>(begun: &Begun<'s>) -> Option<Chars<'s>>
     requires begun { IsBegun begun.now.text begun.now.first begun.now.behind }
     requires letter { IsTrue (is_letter begun.now.first.byte) }
     ensures off { IfSome result (λ left. IsCutOff begun.now.text left Identifier) }
-    ensures plain { IfSome result (λ left. AreItemBytes begun.now.first begun.now.behind left) }
+    ensures plain { IfSome result (λ left. AreOwnBytes begun.now.first begun.now.behind left) }
 {
     let mut left = begun.behind.ahead();
     left.pass_word();

@@ -3,6 +3,7 @@ use Rattle.std.specs.Prelude.{slice_get}
 use Rattle.std.proofs.lemmas.Bool.{not-true}
 use Rattle.std.specs.Int.{is_in_range}
 use Rattle.std.specs.List.{list_all}
+use Rattle.c_chars.specs.Characters.{is_plain}
 use Rattle.c_grammar.specs.Place.{place_of}
 use Rattle.c_lexer.specs.Reading.{Reading, IsNextItem, IsNextLexeme}
 use Rattle.c_lexer.specs.declared.item.Lexeme.{Lexeme}
@@ -10,7 +11,7 @@ use Rattle.c_lexer.proofs.Backslashes.{slashed_rest}
 use Rattle.c_lexer.proofs.Gaps.{gap_lines}
 use Rattle.c_lexer.proofs.Lexemes.{lexeme_there, some_before}
 use Rattle.c_lexer.proofs.Plains.{begun_first}
-use Rattle.c_lexer.proofs.PlainBytes.{items_told, raw_printable, raw_rest}
+use Rattle.c_lexer.proofs.PlainBytes.{item_plain, item_printable, items_told, raw_each, raw_rest}
 use Rattle.c_lexer.proofs.NextItems.{spanned, gap_of, at_rest, bounds, next_there}
 use Rattle.c_lexer.proofs.lexer.Lexer.next_plain.Goals as goal
 
@@ -82,8 +83,18 @@ returns-clause-plain c = λ once.
     (bounds c.self.inside.text.now c.self.inside.dialect (place_of c.past_gap-standing.result) c.in-Some.begun.text c.in-Some-cut_begun.left c.in-Some-cut_begun.kind c.in-Some.begun.first rest (ap (λ z. slice_get z 0) c.in-Some.ensures.begun.chars_are) c.in-Some-cut_begun.ensures.next).1 in
     let raw = raw_rest c.self.inside.text.now c.self.inside.chars c.in-Some.begun.text (gap_of c.self.inside.chars) c.self.invariant.2 c.in-Some.ensures.gap.rest_is in
     ap (list_all (is_in_range 0x20 0x7E)) (c.between-raw.ensures ∙ ap (λ k. take (k - c.in-Some.begun.first.from) (drop c.in-Some.begun.first.from c.self.inside.text.now)) c.at.ensures)
-    ∙ raw_printable c.self.inside.text.now c.in-Some.begun.text c.in-Some.begun.behind c.in-Some-cut_begun.left c.in-Some.begun.first raw within c.in-Some.ensures.begun.chars_are c.in-Some.ensures.begun.at_is
-    c.in-Some.ensures.plain.0 c.in-Some.ensures.plain.1 (c.in-Some-cut_begun.ensures.plain once)
+    ∙ raw_each (is_in_range 0x20 0x7E) c.self.inside.text.now c.in-Some.begun.text c.in-Some.begun.behind c.in-Some-cut_begun.left c.in-Some.begun.first raw within c.in-Some.ensures.begun.chars_are c.in-Some.ensures.begun.at_is
+    c.in-Some.ensures.plain.0 c.in-Some.ensures.plain.1 (c.in-Some-cut_begun.ensures.plain once) item_printable
+
+pub returns-clause-itself : goal.returns-clause-itself
+returns-clause-itself c = λ once.
+    let rest = at_rest c.self.inside.text.now c.self.inside.dialect c.self.inside.chars c.in-Some.begun.text (gap_of c.self.inside.chars) c.self.invariant.0 c.in-Some.ensures.gap.rest_is in
+    let within =
+    (bounds c.self.inside.text.now c.self.inside.dialect (place_of c.past_gap-standing.result) c.in-Some.begun.text c.in-Some-cut_begun.left c.in-Some-cut_begun.kind c.in-Some.begun.first rest (ap (λ z. slice_get z 0) c.in-Some.ensures.begun.chars_are) c.in-Some-cut_begun.ensures.next).1 in
+    let raw = raw_rest c.self.inside.text.now c.self.inside.chars c.in-Some.begun.text (gap_of c.self.inside.chars) c.self.invariant.2 c.in-Some.ensures.gap.rest_is in
+    ap (list_all is_plain) (c.between-raw.ensures ∙ ap (λ k. take (k - c.in-Some.begun.first.from) (drop c.in-Some.begun.first.from c.self.inside.text.now)) c.at.ensures)
+    ∙ raw_each is_plain c.self.inside.text.now c.in-Some.begun.text c.in-Some.begun.behind c.in-Some-cut_begun.left c.in-Some.begun.first raw within c.in-Some.ensures.begun.chars_are c.in-Some.ensures.begun.at_is
+    c.in-Some.ensures.plain.0 c.in-Some.ensures.plain.1 (c.in-Some-cut_begun.ensures.plain once) item_plain
 
 pub past_begun-requires-clause-spans : goal.past_begun-requires-clause-spans
 past_begun-requires-clause-spans c =
