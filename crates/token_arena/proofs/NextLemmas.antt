@@ -1,7 +1,5 @@
 -- The next item that the lexer gives, and the entry that is made of it.
-use Rattle.std.proofs.Common.{◌≡◌, ◌==◌, ◌∙◌, ℕ, ◌+◌, ◌-◌, ◌≤◌, Bool, true, List, [], ◌∷◌, ◌++◌, length, take, drop, sym, ap, subst, arith}
-use Rattle.std.specs.Int.{is_in_range}
-use Rattle.std.specs.List.{list_all}
+use Rattle.std.proofs.Common.{◌≡◌, ◌==◌, ◌∙◌, ℕ, ◌+◌, ◌-◌, ◌≤◌, List, [], ◌∷◌, ◌++◌, length, take, drop, sym, ap, subst, arith}
 use Rattle.std.specs.Prelude.{Option, Some, None, MatchOption}
 use Rattle.c_chars.specs.declared.Dialect.{Dialect}
 use Rattle.c_grammar.specs.Text.{IsStep, start_of, end_of, raw_of}
@@ -13,11 +11,12 @@ use Rattle.c_lexer.specs.Reading.{Reading, IsNextLexeme}
 use Rattle.c_lexer.specs.declared.fault.LexFault.TheVariants.{UnterminatedComment}
 use Rattle.c_lexer.specs.declared.item.Lexeme.{Lexeme}
 use Rattle.token_arena.specs.Stored.{Stored, stored_of}
-use Rattle.token_arena.specs.Entries.{kept_by, entry_of, IsPlain}
+use Rattle.token_arena.specs.Entries.{kept_by, entry_of, IsPlain, IsSpelled, IsTold}
 use Rattle.token_arena.specs.declared.arena.Entry.{Entry}
+use Rattle.token_arena.specs.declared.facts.Told.{Told}
 use Rattle.token_arena.proofs.KeptLemmas.{IsKeptUpTo, kept_step}
 use Rattle.token_arena.proofs.Spans.{IsSpanned, spanned_step, step_shorter}
-use Rattle.token_arena.proofs.StepLemmas.{length-raw, entry_told, plain_printable}
+use Rattle.token_arena.proofs.StepLemmas.{length-raw, entry_told, spelled_told}
 
 -- The item is in the text, behind what was read.
 pub record IsBehind (text : List ℕ) (at start : ℕ) (raw : List ℕ) : Type 0 where
@@ -47,24 +46,24 @@ next_behind d text old new entries at lexeme text_is before next =
 
 pub next_kept : (d : Dialect) (text : List ℕ) (old new : Reading) (entries : List Entry) (at : ℕ) (lexeme : Lexeme)
     → old.text ≡ text → old.dialect ≡ d → IsKeptUpTo d text old.left entries at → IsNextLexeme old new lexeme
-    → (printable : Bool) → (printable ≡ true → list_all (is_in_range 0x20 0x7E) lexeme.item.raw.now ≡ true)
-    → (entry : Entry) → entry ≡ entry_of lexeme at printable
+    → (told : Told) → IsTold told lexeme.item.raw.now
+    → (entry : Entry) → entry ≡ entry_of lexeme at told
     → IsKeptUpTo d text new.left (entries ++ entry ∷ []) (entry.start + entry.len)
-next_kept d text old new entries at lexeme text_is dialect_is before next printable holds entry entry_is =
-    let made : Entry = entry_of lexeme at printable in
+next_kept d text old new entries at lexeme text_is dialect_is before next told holds entry entry_is =
+    let made : Entry = entry_of lexeme at told in
     let span : IsSpanned at (length text) next.next.read new.left.chars = span_of d text old new entries at lexeme before next in
     let behind : IsBehind text at lexeme.item.start lexeme.item.raw.now = next_behind d text old new entries at lexeme text_is before next in
     let start_is : lexeme.item.start ≡ start_of next.next.read = next.next.start_is in
     let len : length lexeme.item.raw.now ≡ end_of next.next.read - start_of next.next.read =
     ap length (next.next.raw_is ∙ ap (λ t. raw_of t next.next.read) text_is) ∙ length-raw text at next.next.read new.left.chars span in
-    let told : kept_by text (length entries == 0) made ≡ stored_of text (length entries == 0) at next.next.read =
-    entry_told text at (length entries == 0) printable old new lexeme new.left.chars text_is next span in
+    let same : kept_by text (length entries == 0) made ≡ stored_of text (length entries == 0) at next.next.read =
+    entry_told text at (length entries == 0) told old new lexeme new.left.chars text_is next span in
     let raws : take made.len (drop made.start text) ≡ lexeme.item.raw.now =
-    ap (λ (t : Stored). t.raw) told ∙ sym (next.next.raw_is ∙ ap (λ t. raw_of t next.next.read) text_is) in
-    let plain : IsPlain text made = λ is_plain. ap (list_all (is_in_range 0x20 0x7E)) raws ∙ holds (plain_printable lexeme.back printable is_plain) in
+    ap (λ (t : Stored). t.raw) same ∙ sym (next.next.raw_is ∙ ap (λ t. raw_of t next.next.read) text_is) in
+    let plain : IsPlain text made = subst (IsSpelled made.spelled) (sym raws) (spelled_told lexeme.back told lexeme.item.raw.now holds) in
     let stops : made.start + made.len ≡ end_of next.next.read = omega (arith, start_is, len, span.some) in
     let all : IsKeptUpTo d text new.left (entries ++ made ∷ []) (made.start + made.len) =
-    kept_step d text old.left new.left entries made at (made.start + made.len) next.next.read before (step_of d old new lexeme dialect_is next) span told behind.within plain stops in
+    kept_step d text old.left new.left entries made at (made.start + made.len) next.next.read before (step_of d old new lexeme dialect_is next) span same behind.within plain stops in
     subst (λ (e : Entry). IsKeptUpTo d text new.left (entries ++ e ∷ []) (e.start + e.len)) (sym entry_is) all
 
 -- an open comment behind the items that were read

@@ -1,13 +1,15 @@
--- The rows of the item at a place, from what its entry says.
+-- The rows and the bytes of the item at a place, from what its entry says.
 use Rattle.std.proofs.Common.{◌≡◌, ◌∙◌, ◌==◌, ℕ, ◌+◌, ◌-◌, ◌<◌, ◌≤◌, true, List, length, take, drop, get_or, refl, sym, ap, arith}
 use Rattle.std.specs.Int.{is_in_range}
 use Rattle.std.specs.List.{list_all}
 use Rattle.std.proofs.lemmas.List.{length-drop, length-take-le}
 use Rattle.std.proofs.lemmas.List.Elements.{All-get_or}
+use Rattle.c_chars.specs.Characters.{is_plain}
 use Rattle.token_arena.specs.Stored.{Stored, rows_of, first_row, last_row, width_of}
-use Rattle.token_arena.specs.Entries.{AllWithin, ArePlain, IsPlain, kept_by, kept_by_all}
+use Rattle.token_arena.specs.Entries.{AllWithin, ArePlain, IsPlain, IsSpelled, is_itself, is_printable, kept_by, kept_by_all}
 use Rattle.token_arena.specs.declared.arena.Entry.{Entry}
-use Rattle.token_arena.specs.declared.arena.Spelled.TheVariants.{Plain}
+use Rattle.token_arena.specs.declared.arena.Spelled.{Spelled}
+use Rattle.token_arena.specs.declared.arena.Spelled.TheVariants.{Itself, Plain, Backslash, Other}
 use Rattle.token_arena.proofs.EntryLemmas.{kept_there}
 use Rattle.token_arena.proofs.RowLemmas.{first-printable, last-printable, rows-printable}
 
@@ -29,13 +31,33 @@ any_rows text entries place d raw token within raw_is =
       last_is = ap (λ r. width_of (last_row r)) raw_is ∙ ap (λ (t : Stored). t.last_width) (sym there);
     }
 
+printable_spelled : (spelled : Spelled) (raw : List ℕ) → is_printable spelled ≡ true → IsSpelled spelled raw → list_all (is_in_range 0x20 0x7E) raw ≡ true
+printable_spelled Itself raw is told = told.0
+printable_spelled Plain raw is told = told
+printable_spelled Backslash raw is told = cc
+printable_spelled Other raw is told = cc
+
+itself_spelled : (spelled : Spelled) (raw : List ℕ) → is_itself spelled ≡ true → IsSpelled spelled raw → list_all is_plain raw ≡ true
+itself_spelled Itself raw is told = told.1
+itself_spelled Plain raw is told = cc
+itself_spelled Backslash raw is told = cc
+itself_spelled Other raw is told = cc
+
+-- each byte of an item is a character by itself where its entry says so
+pub itself_bytes : (text : List ℕ) (entries : List Entry) (place : ℕ) (d : Entry) (token : Stored) → place < length entries → ArePlain text entries
+    → is_itself (get_or entries place d).spelled ≡ true → list_all is_plain (get_or (kept_by_all text entries) place token).raw ≡ true
+itself_bytes text entries place d token below plain is =
+    let entry : Entry = get_or entries place d in
+    ap (λ (t : Stored). list_all is_plain t.raw) (kept_there text entries place d token below)
+    ∙ itself_spelled entry.spelled (take entry.len (drop entry.start text)) is (All-get_or (IsPlain text) entries place d below plain)
+
 -- printable ASCII is one row, as wide as it is long
 pub plain_rows : (text : List ℕ) (entries : List Entry) (place : ℕ) (d : Entry) (token : Stored) → place < length entries → AllWithin text entries → ArePlain text entries
-    → (get_or entries place d).spelled ≡ Plain → HasRows (get_or (kept_by_all text entries) place token) 1 (get_or entries place d).len (get_or entries place d).len
-plain_rows text entries place d token below within plain is_plain =
+    → is_printable (get_or entries place d).spelled ≡ true → HasRows (get_or (kept_by_all text entries) place token) 1 (get_or entries place d).len (get_or entries place d).len
+plain_rows text entries place d token below within plain is =
     let entry : Entry = get_or entries place d in
     let raw : List ℕ = take entry.len (drop entry.start text) in
-    let printable : list_all (is_in_range 0x20 0x7E) raw ≡ true = All-get_or (IsPlain text) entries place d below plain is_plain in
+    let printable : list_all (is_in_range 0x20 0x7E) raw ≡ true = printable_spelled entry.spelled raw is (All-get_or (IsPlain text) entries place d below plain) in
     let room : entry.start + entry.len ≤ length text = All-get_or (λ (e : Entry). e.start + e.len ≤ length text) entries place d below within in
     let rest : length (drop entry.start text) ≡ length text - entry.start = length-drop entry.start text in
     let len : length raw ≡ entry.len = length-take-le entry.len (drop entry.start text) (omega (arith, rest, room)) in

@@ -10,8 +10,8 @@ use Rattle.c_lexer.specs.Reading.{Reading, IsNextLexeme, new_lines, bytes_in, en
 use Rattle.c_lexer.specs.declared.item.Lexeme.{Lexeme}
 use Rattle.line_tokens.specs.declared.GapFacts.{GapFacts}
 use Rattle.token_arena.specs.Stored.{Stored, stored_of, gap_facts, line_at, rows_of, first_row, last_row, width_of}
-use Rattle.token_arena.specs.Entries.{kept_by, gap_kept, entry_of, is_back, spelled}
-use Rattle.token_arena.specs.declared.arena.Spelled.TheVariants.{Plain}
+use Rattle.token_arena.specs.Entries.{IsSpelled, IsTold, kept_by, gap_kept, entry_of, is_back, spelled}
+use Rattle.token_arena.specs.declared.facts.Told.{Told}
 use Rattle.token_arena.proofs.Spans.{IsSpanned}
 
 -- an item has the bytes between where it begins and where it ends
@@ -55,21 +55,23 @@ gap_made : (lines lines2 : ℕ) (empty empty2 white white2 splice splice2 began 
     → ◌≡◌ {A = GapFacts} (record { lines = lines; empty = empty; white = white; splice = splice; began = began }) (record { lines = lines2; empty = empty2; white = white2; splice = splice2; began = began2 })
 gap_made lines lines2 empty empty2 white white2 splice splice2 began began2 a b c e f = cc
 
-back_spelled : (back printable : Bool) → is_back (spelled back printable) ≡ back
-back_spelled true printable = refl
-back_spelled false true = refl
-back_spelled false false = refl
+back_spelled : (back : Bool) (told : Told) → is_back (spelled back told) ≡ back
+back_spelled true told = refl
+back_spelled false Told.Itself = refl
+back_spelled false Told.Printable = refl
+back_spelled false Told.Nothing = refl
 
--- an item is spelled plainly only where its bytes are told to be printable
-pub plain_printable : (back printable : Bool) → spelled back printable ≡ Plain → printable ≡ true
-plain_printable true printable h = cc
-plain_printable false true h = refl
-plain_printable false false h = cc
+-- how an item is spelled says no more than what is told of its bytes
+pub spelled_told : (back : Bool) (told : Told) (raw : List ℕ) → IsTold told raw → IsSpelled (spelled back told) raw
+spelled_told true told raw h = tt
+spelled_told false Told.Itself raw h = h
+spelled_told false Told.Printable raw h = h
+spelled_told false Told.Nothing raw h = tt
 
 -- what the entry says of a gap is what its characters tell
-told_gap : (old new : Reading) (lexeme : Lexeme) (is_first : Bool) (at : ℕ) (printable : Bool) → (next : IsNextLexeme old new lexeme) → at + length next.next.read.gap ≤ start_of next.next.read
-    → gap_kept is_first (entry_of lexeme at printable) ≡ gap_facts is_first at next.next.read
-told_gap old new lexeme is_first at printable next wide =
+told_gap : (old new : Reading) (lexeme : Lexeme) (is_first : Bool) (at : ℕ) (told : Told) → (next : IsNextLexeme old new lexeme) → at + length next.next.read.gap ≤ start_of next.next.read
+    → gap_kept is_first (entry_of lexeme at told) ≡ gap_facts is_first at next.next.read
+told_gap old new lexeme is_first at told next wide =
     let gap : List LogicalChar = next.next.read.gap in
     let start : ℕ = start_of next.next.read in
     let lines : lexeme.lines ≡ new_lines gap = next.lines_are in
@@ -91,10 +93,10 @@ stored_made : (kind kind2 : ItemKind) (start start2 : ℕ) (raw raw2 : List ℕ)
 stored_made kind kind2 start start2 raw raw2 gap gap2 line line2 rows rows2 first first2 last last2 back back2 a b c e f g h i j = cc
 
 -- The entry that is made of what the lexer tells keeps what the definitions say of the item.
-pub entry_told : (text : List ℕ) (at : ℕ) (is_first printable : Bool) (old new : Reading) (lexeme : Lexeme) (rest : List LogicalChar) → old.text ≡ text → (next : IsNextLexeme old new lexeme)
+pub entry_told : (text : List ℕ) (at : ℕ) (is_first : Bool) (told : Told) (old new : Reading) (lexeme : Lexeme) (rest : List LogicalChar) → old.text ≡ text → (next : IsNextLexeme old new lexeme)
     → IsSpanned at (length text) next.next.read rest
-    → kept_by text is_first (entry_of lexeme at printable) ≡ stored_of text is_first at next.next.read
-entry_told text at is_first printable old new lexeme rest text_is next span =
+    → kept_by text is_first (entry_of lexeme at told) ≡ stored_of text is_first at next.next.read
+entry_told text at is_first told old new lexeme rest text_is next span =
     let read : ReadItem = next.next.read in
     let raw : List ℕ = lexeme.item.raw.now in
     let start : ℕ = lexeme.item.start in
@@ -103,9 +105,9 @@ entry_told text at is_first printable old new lexeme rest text_is next span =
     let len : length raw ≡ end_of read - start_of read = ap length raw_is ∙ length-raw text at read rest span in
     let taken : take (length raw) (drop start text) ≡ raw_of text read =
     ap (λ k. take k (drop start text)) len ∙ ap (λ k. take (end_of read - start_of read) (drop k text)) start_is in
-    stored_made lexeme.item.kind read.kind start (start_of read) (take (length raw) (drop start text)) (raw_of text read) (gap_kept is_first (entry_of lexeme at printable)) (gap_facts is_first at read)
+    stored_made lexeme.item.kind read.kind start (start_of read) (take (length raw) (drop start text)) (raw_of text read) (gap_kept is_first (entry_of lexeme at told)) (gap_facts is_first at read)
     (line_at text start) (line_at text (start_of read)) (rows_of (take (length raw) (drop start text))) (rows_of (raw_of text read))
     (width_of (first_row (take (length raw) (drop start text)))) (width_of (first_row (raw_of text read)))
     (width_of (last_row (take (length raw) (drop start text)))) (width_of (last_row (raw_of text read)))
-    (is_back (spelled lexeme.back printable)) (ends_in_backslash read.chars)
-    next.next.kind_is start_is taken (told_gap old new lexeme is_first at printable next span.wide) (ap (line_at text) start_is) (ap rows_of taken) (ap (λ r. width_of (first_row r)) taken) (ap (λ r. width_of (last_row r)) taken) (back_spelled lexeme.back printable ∙ next.back_is)
+    (is_back (spelled lexeme.back told)) (ends_in_backslash read.chars)
+    next.next.kind_is start_is taken (told_gap old new lexeme is_first at told next span.wide) (ap (line_at text) start_is) (ap rows_of taken) (ap (λ r. width_of (first_row r)) taken) (ap (λ r. width_of (last_row r)) taken) (back_spelled lexeme.back told ∙ next.back_is)

@@ -1,29 +1,47 @@
 -- How the items lie in memory.
-use Rattle.std.specs.Prelude.{◌≡◌, ◌==◌, ◌||◌, ◌≤◌, ◌+◌, ◌-◌, not, ℕ, Bool, true, false, List, [], ◌∷◌, All, length, take, drop, count_by, IsTrue}
+use Rattle.std.specs.Prelude.{◌==◌, ◌||◌, ◌≤◌, ◌+◌, ◌-◌, not, ℕ, Bool, true, false, List, [], ◌∷◌, ⊤, All, length, take, drop, count_by, IsTrue}
 use Rattle.std.specs.Int.{is_in_range}
 use Rattle.std.specs.List.{list_all}
 use Rattle.token_arena.specs.Gaps.{Contents}
 use Rattle.token_arena.specs.Holds.{IsSound}
+use Rattle.c_chars.specs.Characters.{is_plain}
 use Rattle.c_chars.specs.declared.Dialect.{Dialect}
 use Rattle.c_lexer.specs.declared.item.Lexeme.{Lexeme}
 use Rattle.line_tokens.specs.declared.GapFacts.{GapFacts}
 use Rattle.token_arena.specs.Stored.{Stored, is_line_feed, line_at, rows_of, first_row, last_row, width_of}
 use Rattle.token_arena.specs.declared.arena.Entry.{Entry}
 use Rattle.token_arena.specs.declared.arena.Spelled.{Spelled}
-use Rattle.token_arena.specs.declared.arena.Spelled.TheVariants.{Plain, Backslash, Other}
+use Rattle.token_arena.specs.declared.arena.Spelled.TheVariants.{Itself, Plain, Backslash, Other}
 use Rattle.token_arena.specs.declared.arena.Token.{Token}
+use Rattle.token_arena.specs.declared.facts.Told.{Told}
 
 -- a backslash is the last character of an item that is spelled so
 abbrev pub is_back : Spelled → Bool
+is_back Itself = false
 is_back Plain = false
 is_back Backslash = true
 is_back Other = false
 
--- how an item is spelled, where a backslash is its last character or not, and its bytes are told to be printable ASCII or not
-abbrev pub spelled : Bool → Bool → Spelled
-spelled true printable = Backslash
-spelled false true = Plain
-spelled false false = Other
+-- an item that is spelled so is known to have bytes of printable ASCII alone
+abbrev pub is_printable : Spelled → Bool
+is_printable Itself = true
+is_printable Plain = true
+is_printable Backslash = false
+is_printable Other = false
+
+-- each byte of an item that is spelled so is known to be a character by itself
+abbrev pub is_itself : Spelled → Bool
+is_itself Itself = true
+is_itself Plain = false
+is_itself Backslash = false
+is_itself Other = false
+
+-- how an item is spelled, where a backslash is its last character or not, and this is told of its bytes
+abbrev pub spelled : Bool → Told → Spelled
+spelled true told = Backslash
+spelled false Told.Itself = Itself
+spelled false Told.Printable = Plain
+spelled false Told.Nothing = Other
 
 -- what an entry says of the gap of its item, which is the first of its text or not: without a character and a splice it is empty
 abbrev pub gap_kept : Bool → Entry → GapFacts
@@ -76,11 +94,24 @@ told_by token = record {
 abbrev pub AllWithin : List ℕ → List Entry → Type 0
 AllWithin text entries = All (λ entry. entry.start + entry.len ≤ length text) entries
 
--- an entry that says so has bytes of printable ASCII alone
-abbrev pub IsPlain : List ℕ → Entry → Type 0
-IsPlain text entry = entry.spelled ≡ Plain → IsTrue (list_all (is_in_range 0x20 0x7E) (take entry.len (drop entry.start text)))
+-- what is told of an item's bytes
+abbrev pub IsTold : Told → List ℕ → Type 0
+IsTold Told.Itself raw = IsTrue (list_all (is_in_range 0x20 0x7E) raw) × IsTrue (list_all is_plain raw)
+IsTold Told.Printable raw = IsTrue (list_all (is_in_range 0x20 0x7E) raw)
+IsTold Told.Nothing raw = ⊤
 
--- each entry that says so
+-- what an item that is spelled so has: bytes of printable ASCII alone, each of them a character by itself or not
+abbrev pub IsSpelled : Spelled → List ℕ → Type 0
+IsSpelled Itself raw = IsTrue (list_all (is_in_range 0x20 0x7E) raw) × IsTrue (list_all is_plain raw)
+IsSpelled Plain raw = IsTrue (list_all (is_in_range 0x20 0x7E) raw)
+IsSpelled Backslash raw = ⊤
+IsSpelled Other raw = ⊤
+
+-- the bytes of an entry's item are what it says
+abbrev pub IsPlain : List ℕ → Entry → Type 0
+IsPlain text entry = IsSpelled entry.spelled (take entry.len (drop entry.start text))
+
+-- those of each
 abbrev pub ArePlain : List ℕ → List Entry → Type 0
 ArePlain text entries = All (IsPlain text) entries
 
@@ -94,14 +125,14 @@ pub record AreEntries (text : List ℕ) (dialect : Dialect) (entries : List Entr
   pub plain : ArePlain text entries
   pub sound : IsSound (contents_of text dialect entries)
 
--- the entry of this item, whose bytes are told to be printable ASCII or not, behind a gap that begins at this offset: a spliced line end is in no character
-abbrev pub entry_of : Lexeme → ℕ → Bool → Entry
-entry_of lexeme gap printable = record {
+-- the entry of this item, of whose bytes this is told, behind a gap that begins at this offset: a spliced line end is in no character
+abbrev pub entry_of : Lexeme → ℕ → Told → Entry
+entry_of lexeme gap told = record {
   start = lexeme.item.start;
   len = length lexeme.item.raw.now;
   lines = lexeme.lines;
   kind = lexeme.item.kind;
   white = lexeme.white;
   splice = not (lexeme.bytes == lexeme.item.start - gap);
-  spelled = spelled lexeme.back printable;
+  spelled = spelled lexeme.back told;
 }

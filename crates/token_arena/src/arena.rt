@@ -1,12 +1,13 @@
 //! The store of items, and what it answers.
 
 ghost use Rattle.std.specs.Prelude.{◌≡◌, ◌==◌, ◌<◌, ◌≤◌, ◌+◌, ◌^◌, length, take, drop, Some, get_or, slice_get};
-ghost use Rattle.std.specs.Prelude.{if◌then◌else◌};
-ghost use Rattle.c_chars.specs.Characters.{mark_len};
+ghost use Rattle.std.specs.Prelude.{if◌then◌else◌, IsTrue};
+ghost use Rattle.std.specs.List.{list_all};
+ghost use Rattle.c_chars.specs.Characters.{is_plain, mark_len};
 ghost use Rattle.c_chars.specs.declared.TheConstants.{LIMIT};
 ghost use Rattle.token_arena.specs.Gaps.{gap_of, gap_start, gap_end, joined, StandFrom};
 ghost use Rattle.token_arena.specs.Holds.{HoldsItems};
-ghost use Rattle.token_arena.specs.Entries.{told_by, AreEntries, contents_of, gap_kept, is_back};
+ghost use Rattle.token_arena.specs.Entries.{told_by, AreEntries, contents_of, gap_kept, is_back, is_itself, is_printable};
 ghost use Rattle.token_arena.specs.Stored.{Stored};
 
 use crate::facts::{Rows, line_feeds, one_row, rows_of, rows_of_any};
@@ -54,6 +55,8 @@ impl Token<'_> {
 /// What is known of an item's bytes.
 #[derive(Clone, Copy)]
 pub(crate) enum Spelled {
+    /// They are printable ASCII, each is a character by itself, and no backslash is the last of them.
+    Itself,
     /// They are printable ASCII, and no backslash is the last character.
     Plain,
     /// A backslash is the last character.
@@ -68,6 +71,22 @@ fn is_back(spelled: Spelled) -> bool
     ensures { result ≡ is_back spelled }
 {
     matches!(spelled, Spelled::Backslash)
+}
+
+/// Whether an item that is spelled so is known to have bytes of printable ASCII alone.
+#[inline(always)]
+fn is_printable(spelled: Spelled) -> bool
+    ensures { result ≡ is_printable spelled }
+{
+    matches!(spelled, Spelled::Itself | Spelled::Plain)
+}
+
+/// Whether each byte of an item that is spelled so is known to be a character by itself.
+#[inline(always)]
+fn is_itself(spelled: Spelled) -> bool
+    ensures { result ≡ is_itself spelled }
+{
+    matches!(spelled, Spelled::Itself)
 }
 
 /// An item as it lies in memory; its bytes are those of the text from `start` on. It has `lines` new-lines before it,
@@ -194,12 +213,21 @@ impl<'a, 's> TokenArena<'a, 's> {
         ensures last { (no_token : Stored) → result.last_width ≡ (get_or self.now.tokens id.0 no_token).last_width }
     {
         let entry = self.entries[id.0 as usize];
-        match entry.spelled {
-            Spelled::Plain => one_row(entry.len),
-            Spelled::Backslash | Spelled::Other => {
-                rows_of_any(bytes_of(self.text, entry.start, entry.len))
-            }
+        if is_printable(entry.spelled) {
+            return one_row(entry.len);
         }
+        rows_of_any(bytes_of(self.text, entry.start, entry.len))
+    }
+
+    /// Whether the item with this number is known to be spelled by its bytes as they are: none of them begins a
+    /// trigraph, a splice or a line end.
+    #[inline(always)]
+    #[tactic(auto, using(crate::proofs::EntryLemmas::length_kept))]
+    pub fn is_itself(&self, id: TokenId) -> bool
+        requires { id.0 < length self.now.tokens }
+        ensures { (no_token : Stored) → IsTrue result → IsTrue (list_all is_plain (get_or self.now.tokens id.0 no_token).raw) }
+    {
+        is_itself(self.entries[id.0 as usize].spelled)
     }
 
     /// The bytes before the item with this number, or after the last item. The mark is in no gap.

@@ -6,7 +6,7 @@ ghost use Rattle.std.specs.List.{list_all, position_or_len, suffix_len};
 ghost use Rattle.std.specs.Io.BufRead.{strip_last};
 ghost use Rattle.token_arena.specs.Stored.{is_line_feed, rows_of, first_row, last_row, width_of};
 ghost use Rattle.token_arena.specs.Eight.{unprintable};
-ghost use Rattle.token_arena.specs.Entries.{entry_of, spelled};
+ghost use Rattle.token_arena.specs.Entries.{IsTold, entry_of, spelled};
 
 use crate::arena::{Entry, Spelled};
 use c_lexer::Lexeme;
@@ -231,28 +231,51 @@ pub(crate) fn rows_of(raw: &[u8]) -> Rows
     rows_of_any(raw)
 }
 
-/// How an item is spelled, where a backslash is its last character or not, and its bytes are told to be printable
-/// ASCII or not.
+/// What is told of an item's bytes.
+#[derive(Clone, Copy)]
+pub(crate) enum Told {
+    /// They are printable ASCII, and each is a character by itself.
+    Itself,
+    /// They are printable ASCII.
+    Printable,
+    /// Nothing.
+    Nothing,
+}
+
+/// What the bytes of an item tell, looked at eight at a time.
 #[inline(always)]
-fn spelled(back: bool, printable: bool) -> Spelled
-    ensures { result ≡ spelled back printable }
+pub(crate) fn told_by_bytes(raw: &[u8]) -> Told
+    ensures { IsTold result raw.now }
 {
-    if back {
-        Spelled::Backslash
-    } else if printable {
-        Spelled::Plain
+    if looks_printable(raw) {
+        Told::Printable
     } else {
-        Spelled::Other
+        Told::Nothing
     }
 }
 
-/// The entry of an item, whose bytes are told to be printable ASCII or not, behind a gap that begins at this offset.
-/// Spliced line ends are bytes of no character.
+/// How an item is spelled, where a backslash is its last character or not, and this is told of its bytes.
 #[inline(always)]
-pub(crate) fn entry_of(lexeme: &Lexeme<'_>, gap: u32, printable: bool) -> Entry
+fn spelled(back: bool, told: Told) -> Spelled
+    ensures { result ≡ spelled back told }
+{
+    if back {
+        return Spelled::Backslash;
+    }
+    match told {
+        Told::Itself => Spelled::Itself,
+        Told::Printable => Spelled::Plain,
+        Told::Nothing => Spelled::Other,
+    }
+}
+
+/// The entry of an item, of whose bytes this is told, behind a gap that begins at this offset. Spliced line ends are
+/// bytes of no character.
+#[inline(always)]
+pub(crate) fn entry_of(lexeme: &Lexeme<'_>, gap: u32, told: Told) -> Entry
     requires fits { length lexeme.now.item.raw.now < 2 ^ 31 }
     requires order { gap ≤ lexeme.now.item.start }
-    ensures { result ≡ entry_of lexeme.now gap printable }
+    ensures { result ≡ entry_of lexeme.now gap told }
 {
     let item = &lexeme.item;
     Entry {
@@ -262,6 +285,6 @@ pub(crate) fn entry_of(lexeme: &Lexeme<'_>, gap: u32, printable: bool) -> Entry
         kind: item.kind,
         white: lexeme.white,
         splice: lexeme.bytes != item.start - gap,
-        spelled: spelled(lexeme.back, printable),
+        spelled: spelled(lexeme.back, told),
     }
 }

@@ -7,7 +7,7 @@ ghost use Rattle.token_arena.specs.Building.{IsArenaOf, IsCause};
 ghost use Rattle.token_arena.specs.Entries.{AreEntries};
 
 use crate::arena::{Entry, MARK, TokenArena};
-use crate::facts::{entry_of, looks_printable};
+use crate::facts::{Told, entry_of, told_by_bytes};
 use crate::fault::ArenaFault;
 use bumpalo::Bump;
 use bumpalo::collections::into_bump_slice;
@@ -36,14 +36,14 @@ fn entries_of<'a>(bump: &'a Bump, text: &[u8], dialect: Dialect) -> Result<&'a [
     let mut at = mark_len(text);
     loop {
         if let Some(lexeme) = lexer.next_plain_lexeme() {
-            let entry = entry_of(&lexeme, at, true);
+            let entry = entry_of(&lexeme, at, Told::Itself);
             entries.push(entry)?;
             at = entry.start + entry.len;
             continue;
         }
         match lexer.next_any() {
             Ok(Some(lexeme)) => {
-                let entry = entry_of(&lexeme, at, looks_printable(lexeme.item.raw));
+                let entry = entry_of(&lexeme, at, told_by_bytes(lexeme.item.raw));
                 entries.push(entry)?;
                 at = entry.start + entry.len;
             }

@@ -1,5 +1,6 @@
-use Rattle.std.proofs.Common.{◌≡◌, ◌∙◌, ◌<◌, true, length, sym, subst, ap, arith}
+use Rattle.std.proofs.Common.{◌≡◌, ◌∙◌, ◌<◌, length, sym, subst, ap, arith}
 use Rattle.c_lexer.specs.Reading.{Reading}
+use Rattle.token_arena.specs.declared.facts.Told.{Told}
 use Rattle.token_arena.proofs.KeptLemmas.{IsKeptUpTo, kept_begun, kept_ended}
 use Rattle.token_arena.proofs.NextLemmas.{next_behind, next_kept, at_some, at_none}
 use Rattle.token_arena.proofs.Spans.{step_shorter}
@@ -38,7 +39,7 @@ loop-lexeme-preserved-in-Some c = record {
   dialect_stays = c.in-Some.ensures.dialect ∙ c.loop-lexeme.invariant.dialect_stays;
   kept =
       rw c.in_ok-push.ensures.items
-      (next_kept _ _ _ _ _ _ c.in-Some.lexeme c.loop-lexeme.invariant.text_stays c.loop-lexeme.invariant.dialect_stays c.loop-lexeme.invariant.kept c.in-Some.ensures.some true (λ told. c.in-Some.ensures.plain) _ c.entry_of-entry.ensures);
+      (next_kept _ _ _ _ _ _ c.in-Some.lexeme c.loop-lexeme.invariant.text_stays c.loop-lexeme.invariant.dialect_stays c.loop-lexeme.invariant.kept c.in-Some.ensures.some Told.Itself (c.in-Some.ensures.plain, c.in-Some.ensures.itself) _ c.entry_of-entry.ensures);
 }
 
 -- any other item: the reader stands where it stood
@@ -84,7 +85,7 @@ loop-lexeme-preserved c =
     record {
       text_stays = c.in-Ok-Some.ensures.text ∙ text_is;
       dialect_stays = c.in-Ok-Some.ensures.dialect ∙ dialect_is;
-      kept = rw c.in_ok-push-in-Ok-Some.ensures.items (next_kept _ _ _ _ _ _ c.in-Ok-Some.lexeme text_is dialect_is kept next c.looks_printable.result c.looks_printable.ensures _ c.entry_of-entry-in-Ok-Some.ensures);
+      kept = rw c.in_ok-push-in-Ok-Some.ensures.items (next_kept _ _ _ _ _ _ c.in-Ok-Some.lexeme text_is dialect_is kept next c.told_by_bytes.result c.told_by_bytes.ensures _ c.entry_of-entry-in-Ok-Some.ensures);
     }
 
 pub returns-in-Ok-None-clause-entries : goal.returns-in-Ok-None-clause-entries

@@ -1,9 +1,8 @@
-use Rattle.std.proofs.Common.{◌≡◌, ◌∙◌, ◌+◌, ◌-◌, ◌++◌, ◌<◌, ℕ, suc, List, [], ◌∷◌, map, length, take, drop, get_or, refl, sym, ap, subst, arith}
+use Rattle.std.proofs.Common.{◌≡◌, ◌∙◌, ◌+◌, ◌++◌, ℕ, List, [], ◌∷◌, map, drop, get_or, sym, ap, subst, arith}
 use Rattle.std.proofs.lemmas.List.{map-append}
 use Rattle.std.specs.Prelude.{slice_range, IfOk}
-use Rattle.token_arena.specs.declared.view.Segment.{Segment}
 use Rattle.token_arena.specs.declared.view.Stretch.{Stretch}
-use Rattle.token_arena.specs.Segments.{segment_bounds, ids_of, AscendFrom, bounds_of, no_segment}
+use Rattle.token_arena.specs.Segments.{ids_of, AscendFrom, bounds_of, no_segment}
 use Rattle.token_arena.proofs.SegmentLemmas.{well}
 use Rattle.token_arena.proofs.Parts.{between_of, bounds_between, between_ascend, items_of_part, before_first, goes_on, none_left, none_more, all_taken, taken}
 use Rattle.token_arena.proofs.view.View.part.Goals.{else-loop-number-test, then-loop-number-test+then-end-segment}

@@ -1,4 +1,4 @@
-use Rattle.std.proofs.Common.{◌≡◌, ◌≤◌, ◌++◌, map, drop}
+use Rattle.std.proofs.Common.{◌≡◌, ◌++◌, map, drop}
 use Rattle.token_arena.specs.Segments.{bounds_of}
 use Rattle.token_arena.proofs.Parts.{between_of}
 use Rattle.token_arena.proofs.view.View.part.Given as goal
