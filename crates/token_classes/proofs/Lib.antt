@@ -6,3 +6,4 @@ pub mod BracketLemmas
 pub mod KeptLemmas
 pub mod KeptPlaces
 pub mod KeptSteps
+pub mod ListedLemmas

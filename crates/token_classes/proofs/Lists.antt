@@ -1,6 +1,6 @@
 -- Lists.
 use Rattle.token_arena.specs.Ids.{IncreaseFrom}
-use Rattle.std.proofs.Common.{◌≡◌, ℕ, suc, ◌+◌, ◌-◌, ◌<◌, ◌≤◌, All, arith, List, [], ◌∷◌, ◌++◌, length, take, get_or, map, refl, ap, ◌∙◌}
+use Rattle.std.proofs.Common.{◌≡◌, ℕ, suc, ◌+◌, ◌-◌, ◌<◌, ◌≤◌, All, arith, List, [], ◌∷◌, ◌++◌, length, take, get_or, map, ap, ◌∙◌}
 use Rattle.std.proofs.lemmas.List.{take_more, map-append}
 
 -- what a function makes of one more element

@@ -1,4 +1,4 @@
--- A word is looked for among the words with its first character alone.
+-- Words are looked for among all of them, and punctuators among those with their first character alone.
 use Rattle.std.proofs.Common.{◌≡◌, ◌≢◌, ◌∙◌, ◌==◌, ◌||◌, ℕ, zero, suc, ◌<◌, Bool, true, false, cond, List, [], ◌∷◌, ◌++◌, length, get_or, filter, refl, sym, ap, arith, eq-eqb, bytes_eq}
 use Rattle.std.specs.List.{list_all, list_any}
 use Rattle.std.proofs.lemmas.Bool.{and_parts, eqb-true, ne_eqb, false_from_ne_true, false≢true}
@@ -26,14 +26,6 @@ none_begins b ls (row ∷ rows) o h =
     let parts = and_parts (list_any (λ l. l == get_or row.0 0 0) ls) (list_all (λ r. list_any (λ l. l == get_or r.0 0 0) ls) rows) h in
     rw (ne_eqb b (get_or row.0 0 0) (not_among b (get_or row.0 0 0) ls o parts.0)) (none_begins b ls rows o parts.1)
 
--- the characters that words of the language begin with
-abbrev pub first_letters : List ℕ
-first_letters = 95 ∷ 97 ∷ 98 ∷ 99 ∷ 100 ∷ 101 ∷ 102 ∷ 103 ∷ 105 ∷ 108 ∷ 114 ∷ 115 ∷ 116 ∷ 117 ∷ 118 ∷ 119 ∷ []
-
--- no word of the language begins with another character
-pub no_other : (b : ℕ) → Outside b first_letters → filter (begins b) words ≡ []
-no_other b o = none_begins b first_letters words o refl
-
 class_in-append : (rows more : List (List ℕ × TokenClass)) (s : List ℕ) (named : TokenClass) → class_in (rows ++ more) s named ≡ class_in rows s (class_in more s named)
 class_in-append [] more s named = refl
 class_in-append (row ∷ rows) more s named = ap (λ (class : TokenClass). cond (bytes_eq s row.0) row.1 class) (class_in-append rows more s named)
@@ -50,15 +42,11 @@ class_in-begins b s (row ∷ rows) named = by_test (begins b row) refl (class_in
         false_from_ne_true _ (λ e. false≢true (sym is ∙ eq-eqb b (get_or row.0 0 0) (ap (λ (w : List ℕ). get_or w 0 0) ((bytes_eq-Decides (b ∷ s) row.0).0 e)))) in
         rw (is, differs) rest
 
--- a word's class is told by the words with its first character
-pub word_class_begins : (b : ℕ) (s : List ℕ) → 0 < length s → b ≡ get_or s 0 0 → class_in (filter (begins b) words) s (named_class s) ≡ word_class s
-word_class_begins b [] some first = absurd (omega arith)
-word_class_begins b (x ∷ s) some first =
-    let other = named_class (x ∷ s) in
-    ap (λ (y : ℕ). class_in (filter (begins y) words) (x ∷ s) other) first
-    ∙ class_in-begins x s words other
-    ∙ class_in-append statement_words (call_words ++ type_words) (x ∷ s) other
-    ∙ ap (λ (class : TokenClass). class_in statement_words (x ∷ s) class) (class_in-append call_words type_words (x ∷ s) other)
+-- a word's class is that among all words of the language
+pub word_class_words : (s : List ℕ) → class_in words s (named_class s) ≡ word_class s
+word_class_words s =
+    class_in-append statement_words (call_words ++ type_words) s (named_class s)
+    ∙ ap (λ (class : TokenClass). class_in statement_words s class) (class_in-append call_words type_words s (named_class s))
 
 -- the characters that punctuators with a class of their own begin with
 abbrev pub first_marks : List ℕ

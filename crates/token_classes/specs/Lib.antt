@@ -4,3 +4,4 @@ pub mod Words
 pub mod Kept
 pub mod Partner
 pub mod Partners
+pub mod Listed

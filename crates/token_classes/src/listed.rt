@@ -1,309 +1,116 @@
-//! The words of the language, by the letters that they begin with.
-//!
-//! Each is compared byte by byte where its length fits, with no table and no call.
+//! The words of the language, each found by its first and last letters and its length.
 
-ghost use Rattle.std.specs.Prelude.{◌≡◌, bytes_eq, filter};
-ghost use Rattle.token_classes.specs.Words.{class_in, words, begins};
+ghost use Rattle.std.specs.Prelude.{◌≡◌, ◌∷◌, ◌<◌, ℕ, List, [], get_or, length, map};
+ghost use Rattle.token_classes.specs.Listed.{key_of, no_row};
+ghost use Rattle.token_classes.specs.Words.{class_in, words};
+ghost use Rattle.token_classes.specs.declared.class.TokenClass.{TokenClass};
 
 use crate::class::TokenClass;
 
-/// Whether the bytes are this word.
+/// The words of the language, behind a row that no word has.
+const ROWS: [(&[u8], TokenClass); 50] = [
+    (b"", TokenClass::Other),
+    (b"if", TokenClass::If),
+    (b"else", TokenClass::Else),
+    (b"for", TokenClass::For),
+    (b"while", TokenClass::While),
+    (b"do", TokenClass::Do),
+    (b"switch", TokenClass::Switch),
+    (b"case", TokenClass::Case),
+    (b"default", TokenClass::Default),
+    (b"return", TokenClass::Return),
+    (b"goto", TokenClass::Goto),
+    (b"break", TokenClass::Jump),
+    (b"continue", TokenClass::Jump),
+    (b"struct", TokenClass::Struct),
+    (b"union", TokenClass::Union),
+    (b"enum", TokenClass::Enum),
+    (b"extern", TokenClass::Extern),
+    (b"sizeof", TokenClass::SizeWord),
+    (b"_Alignof", TokenClass::SizeWord),
+    (b"_Alignas", TokenClass::CallWord),
+    (b"_Generic", TokenClass::CallWord),
+    (b"_Static_assert", TokenClass::CallWord),
+    (b"typeof", TokenClass::CallWord),
+    (b"__typeof__", TokenClass::CallWord),
+    (b"__attribute__", TokenClass::CallWord),
+    (b"asm", TokenClass::AsmWord),
+    (b"__asm__", TokenClass::AsmWord),
+    (b"__asm", TokenClass::AsmWord),
+    (b"void", TokenClass::TypeWord),
+    (b"char", TokenClass::TypeWord),
+    (b"short", TokenClass::TypeWord),
+    (b"int", TokenClass::TypeWord),
+    (b"long", TokenClass::TypeWord),
+    (b"float", TokenClass::TypeWord),
+    (b"double", TokenClass::TypeWord),
+    (b"signed", TokenClass::TypeWord),
+    (b"unsigned", TokenClass::TypeWord),
+    (b"_Bool", TokenClass::TypeWord),
+    (b"_Complex", TokenClass::TypeWord),
+    (b"const", TokenClass::TypeWord),
+    (b"volatile", TokenClass::Volatile),
+    (b"restrict", TokenClass::TypeWord),
+    (b"static", TokenClass::TypeWord),
+    (b"typedef", TokenClass::TypeWord),
+    (b"register", TokenClass::TypeWord),
+    (b"inline", TokenClass::Inline),
+    (b"auto", TokenClass::TypeWord),
+    (b"_Atomic", TokenClass::TypeWord),
+    (b"_Noreturn", TokenClass::TypeWord),
+    (b"_Thread_local", TokenClass::TypeWord),
+];
+
+/// Of each key, the row of the word that has it: the first where none has. No two words of the language have the
+/// same.
+const ROW_OF_KEY: [u8; 256] = [
+    0, 0, 0, 0, 44, 0, 41, 0, 0, 0, 0, 0, 0, 0, 0, 0, 0, 48, 0, 0, 0, 0, 0, 1, 0, 0, 0, 5, 0, 0, 0,
+    0, 0, 0, 0, 0, 0, 0, 23, 0, 0, 0, 0, 0, 0, 0, 0, 0, 0, 0, 0, 0, 0, 0, 0, 0, 0, 0, 25, 0, 0, 0,
+    0, 0, 0, 0, 0, 0, 3, 0, 0, 0, 0, 31, 0, 0, 0, 0, 0, 0, 0, 0, 0, 0, 0, 0, 0, 0, 7, 0, 2, 0, 0,
+    0, 0, 0, 46, 0, 15, 32, 0, 29, 10, 0, 0, 0, 28, 0, 0, 0, 0, 0, 0, 0, 0, 0, 0, 0, 0, 0, 0, 0, 0,
+    0, 0, 0, 0, 37, 27, 11, 0, 0, 0, 0, 0, 0, 0, 0, 0, 39, 0, 0, 33, 0, 4, 0, 24, 0, 0, 0, 0, 14,
+    0, 0, 0, 30, 0, 0, 0, 49, 0, 34, 0, 0, 0, 0, 45, 0, 0, 0, 0, 16, 0, 0, 42, 35, 0, 17, 22, 6, 0,
+    0, 0, 0, 9, 0, 26, 0, 0, 0, 47, 13, 0, 0, 0, 0, 0, 0, 0, 0, 0, 0, 0, 21, 0, 0, 0, 0, 0, 0, 0,
+    0, 8, 0, 43, 0, 0, 0, 0, 0, 0, 0, 0, 0, 0, 0, 20, 0, 0, 18, 0, 0, 12, 0, 0, 0, 0, 0, 0, 0, 0,
+    0, 19, 0, 0, 0, 0, 38, 0, 36, 0, 40, 0, 0, 0, 0,
+];
+
+/// What a word is looked for by.
 #[inline(always)]
-fn is_word(spelled: &[u8], word: &[u8]) -> bool
-    ensures { result ≡ bytes_eq spelled.now word.now }
+fn key_of(spelled: &[u8]) -> usize
+    requires { 0 < length spelled.now }
+    ensures value { result ≡ key_of spelled.now }
+    ensures small { result < 256 }
 {
-    if spelled.len() != word.len() {
-        return false;
-    }
-    for i in 0..word.len() {
-        if spelled[i] != word[i] {
-            return false;
-        }
-    }
-    true
+    let first = spelled[0] as usize;
+    let last = spelled[spelled.len() - 1] as usize;
+    (first + last + spelled.len() % 16 * 36) % 256
 }
 
-/// The class of a word of the language that begins with `_`.
+/// The row that a table tells of a key.
 #[inline(always)]
-fn class_from_underscore(spelled: &[u8], other: TokenClass) -> TokenClass
-    ensures { result ≡ class_in (filter (begins 95) words) spelled.now other }
+fn row_of(rows: &[u8; 256], key: usize) -> usize
+    requires { key < 256 }
+    ensures { result ≡ get_or rows.now key 0 }
 {
-    if is_word(spelled, b"_Alignof") {
-        TokenClass::SizeWord
-    } else if is_word(spelled, b"_Alignas") {
-        TokenClass::CallWord
-    } else if is_word(spelled, b"_Generic") {
-        TokenClass::CallWord
-    } else if is_word(spelled, b"_Static_assert") {
-        TokenClass::CallWord
-    } else if is_word(spelled, b"__typeof__") {
-        TokenClass::CallWord
-    } else if is_word(spelled, b"__attribute__") {
-        TokenClass::CallWord
-    } else if is_word(spelled, b"__asm__") {
-        TokenClass::AsmWord
-    } else if is_word(spelled, b"__asm") {
-        TokenClass::AsmWord
-    } else if is_word(spelled, b"_Bool") {
-        TokenClass::TypeWord
-    } else if is_word(spelled, b"_Complex") {
-        TokenClass::TypeWord
-    } else if is_word(spelled, b"_Atomic") {
-        TokenClass::TypeWord
-    } else if is_word(spelled, b"_Noreturn") {
-        TokenClass::TypeWord
-    } else if is_word(spelled, b"_Thread_local") {
-        TokenClass::TypeWord
-    } else {
-        other
-    }
+    rows[key] as usize
 }
 
-/// The class of a word of the language that begins with `a`.
+/// The word and the class of a row.
 #[inline(always)]
-fn class_from_a(spelled: &[u8], other: TokenClass) -> TokenClass
-    ensures { result ≡ class_in (filter (begins 97) words) spelled.now other }
+fn row_at<'w>(rows: &[(&'w [u8], TokenClass); 50], row: usize) -> (&'w [u8], TokenClass)
+    requires { row < 50 }
+    ensures { (s : List ℕ) (other : TokenClass) →
+        class_in (get_or (map (λ r. (r.0.now, r.1)) rows.now) row no_row ∷ []) s other ≡ class_in ((result.0.now, result.1) ∷ []) s other }
 {
-    if is_word(spelled, b"asm") {
-        TokenClass::AsmWord
-    } else if is_word(spelled, b"auto") {
-        TokenClass::TypeWord
-    } else {
-        other
-    }
+    rows[row]
 }
 
-/// The class of a word of the language that begins with `b`.
+/// The only word of the language that these bytes can be, with its class.
 #[inline(always)]
-fn class_from_b(spelled: &[u8], other: TokenClass) -> TokenClass
-    ensures { result ≡ class_in (filter (begins 98) words) spelled.now other }
+pub(crate) fn candidate(spelled: &[u8]) -> (&'static [u8], TokenClass)
+    requires { 0 < length spelled.now }
+    ensures { (other : TokenClass) → class_in ((result.0.now, result.1) ∷ []) spelled.now other ≡ class_in words spelled.now other }
 {
-    if is_word(spelled, b"break") {
-        TokenClass::Jump
-    } else {
-        other
-    }
-}
-
-/// The class of a word of the language that begins with `c`.
-#[inline(always)]
-fn class_from_c(spelled: &[u8], other: TokenClass) -> TokenClass
-    ensures { result ≡ class_in (filter (begins 99) words) spelled.now other }
-{
-    if is_word(spelled, b"case") {
-        TokenClass::Case
-    } else if is_word(spelled, b"continue") {
-        TokenClass::Jump
-    } else if is_word(spelled, b"char") {
-        TokenClass::TypeWord
-    } else if is_word(spelled, b"const") {
-        TokenClass::TypeWord
-    } else {
-        other
-    }
-}
-
-/// The class of a word of the language that begins with `d`.
-#[inline(always)]
-fn class_from_d(spelled: &[u8], other: TokenClass) -> TokenClass
-    ensures { result ≡ class_in (filter (begins 100) words) spelled.now other }
-{
-    if is_word(spelled, b"do") {
-        TokenClass::Do
-    } else if is_word(spelled, b"default") {
-        TokenClass::Default
-    } else if is_word(spelled, b"double") {
-        TokenClass::TypeWord
-    } else {
-        other
-    }
-}
-
-/// The class of a word of the language that begins with `e`.
-#[inline(always)]
-fn class_from_e(spelled: &[u8], other: TokenClass) -> TokenClass
-    ensures { result ≡ class_in (filter (begins 101) words) spelled.now other }
-{
-    if is_word(spelled, b"else") {
-        TokenClass::Else
-    } else if is_word(spelled, b"enum") {
-        TokenClass::Enum
-    } else if is_word(spelled, b"extern") {
-        TokenClass::Extern
-    } else {
-        other
-    }
-}
-
-/// The class of a word of the language that begins with `f`.
-#[inline(always)]
-fn class_from_f(spelled: &[u8], other: TokenClass) -> TokenClass
-    ensures { result ≡ class_in (filter (begins 102) words) spelled.now other }
-{
-    if is_word(spelled, b"for") {
-        TokenClass::For
-    } else if is_word(spelled, b"float") {
-        TokenClass::TypeWord
-    } else {
-        other
-    }
-}
-
-/// The class of a word of the language that begins with `g`.
-#[inline(always)]
-fn class_from_g(spelled: &[u8], other: TokenClass) -> TokenClass
-    ensures { result ≡ class_in (filter (begins 103) words) spelled.now other }
-{
-    if is_word(spelled, b"goto") {
-        TokenClass::Goto
-    } else {
-        other
-    }
-}
-
-/// The class of a word of the language that begins with `i`.
-#[inline(always)]
-fn class_from_i(spelled: &[u8], other: TokenClass) -> TokenClass
-    ensures { result ≡ class_in (filter (begins 105) words) spelled.now other }
-{
-    if is_word(spelled, b"if") {
-        TokenClass::If
-    } else if is_word(spelled, b"int") {
-        TokenClass::TypeWord
-    } else if is_word(spelled, b"inline") {
-        TokenClass::Inline
-    } else {
-        other
-    }
-}
-
-/// The class of a word of the language that begins with `l`.
-#[inline(always)]
-fn class_from_l(spelled: &[u8], other: TokenClass) -> TokenClass
-    ensures { result ≡ class_in (filter (begins 108) words) spelled.now other }
-{
-    if is_word(spelled, b"long") {
-        TokenClass::TypeWord
-    } else {
-        other
-    }
-}
-
-/// The class of a word of the language that begins with `r`.
-#[inline(always)]
-fn class_from_r(spelled: &[u8], other: TokenClass) -> TokenClass
-    ensures { result ≡ class_in (filter (begins 114) words) spelled.now other }
-{
-    if is_word(spelled, b"return") {
-        TokenClass::Return
-    } else if is_word(spelled, b"restrict") {
-        TokenClass::TypeWord
-    } else if is_word(spelled, b"register") {
-        TokenClass::TypeWord
-    } else {
-        other
-    }
-}
-
-/// The class of a word of the language that begins with `s`.
-#[inline(always)]
-fn class_from_s(spelled: &[u8], other: TokenClass) -> TokenClass
-    ensures { result ≡ class_in (filter (begins 115) words) spelled.now other }
-{
-    if is_word(spelled, b"switch") {
-        TokenClass::Switch
-    } else if is_word(spelled, b"struct") {
-        TokenClass::Struct
-    } else if is_word(spelled, b"sizeof") {
-        TokenClass::SizeWord
-    } else if is_word(spelled, b"short") {
-        TokenClass::TypeWord
-    } else if is_word(spelled, b"signed") {
-        TokenClass::TypeWord
-    } else if is_word(spelled, b"static") {
-        TokenClass::TypeWord
-    } else {
-        other
-    }
-}
-
-/// The class of a word of the language that begins with `t`.
-#[inline(always)]
-fn class_from_t(spelled: &[u8], other: TokenClass) -> TokenClass
-    ensures { result ≡ class_in (filter (begins 116) words) spelled.now other }
-{
-    if is_word(spelled, b"typeof") {
-        TokenClass::CallWord
-    } else if is_word(spelled, b"typedef") {
-        TokenClass::TypeWord
-    } else {
-        other
-    }
-}
-
-/// The class of a word of the language that begins with `u`.
-#[inline(always)]
-fn class_from_u(spelled: &[u8], other: TokenClass) -> TokenClass
-    ensures { result ≡ class_in (filter (begins 117) words) spelled.now other }
-{
-    if is_word(spelled, b"union") {
-        TokenClass::Union
-    } else if is_word(spelled, b"unsigned") {
-        TokenClass::TypeWord
-    } else {
-        other
-    }
-}
-
-/// The class of a word of the language that begins with `v`.
-#[inline(always)]
-fn class_from_v(spelled: &[u8], other: TokenClass) -> TokenClass
-    ensures { result ≡ class_in (filter (begins 118) words) spelled.now other }
-{
-    if is_word(spelled, b"void") {
-        TokenClass::TypeWord
-    } else if is_word(spelled, b"volatile") {
-        TokenClass::Volatile
-    } else {
-        other
-    }
-}
-
-/// The class of a word of the language that begins with `w`.
-#[inline(always)]
-fn class_from_w(spelled: &[u8], other: TokenClass) -> TokenClass
-    ensures { result ≡ class_in (filter (begins 119) words) spelled.now other }
-{
-    if is_word(spelled, b"while") {
-        TokenClass::While
-    } else {
-        other
-    }
-}
-
-/// The class of a word of the language that begins with this byte, and `other` where it is none.
-#[tactic(none)]
-#[inline(always)]
-pub(crate) fn listed_class(first: u8, spelled: &[u8], other: TokenClass) -> TokenClass
-    ensures { result ≡ class_in (filter (begins first) words) spelled.now other }
-{
-    match first {
-        b'_' => class_from_underscore(spelled, other),
-        b'a' => class_from_a(spelled, other),
-        b'b' => class_from_b(spelled, other),
-        b'c' => class_from_c(spelled, other),
-        b'd' => class_from_d(spelled, other),
-        b'e' => class_from_e(spelled, other),
-        b'f' => class_from_f(spelled, other),
-        b'g' => class_from_g(spelled, other),
-        b'i' => class_from_i(spelled, other),
-        b'l' => class_from_l(spelled, other),
-        b'r' => class_from_r(spelled, other),
-        b's' => class_from_s(spelled, other),
-        b't' => class_from_t(spelled, other),
-        b'u' => class_from_u(spelled, other),
-        b'v' => class_from_v(spelled, other),
-        b'w' => class_from_w(spelled, other),
-        _ => other,
-    }
+    row_at(&ROWS, row_of(&ROW_OF_KEY, key_of(spelled)))
 }

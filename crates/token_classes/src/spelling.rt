@@ -21,7 +21,7 @@ fn is_itself(byte: u8) -> bool
 
 /// Whether each byte is a character by itself.
 #[inline(always)]
-pub(crate) fn are_themselves(raw: &[u8]) -> bool
+fn are_themselves(raw: &[u8]) -> bool
     ensures { result ≡ list_all is_itself raw.now }
 {
     raw.iter().all(|byte| is_itself(*byte))
@@ -29,7 +29,7 @@ pub(crate) fn are_themselves(raw: &[u8]) -> bool
 
 /// The characters of an item's bytes, written one after another.
 #[inline(never)]
-pub(crate) fn joined<'t>(dialect: Dialect, raw: &[u8], run: &'t Bump) -> Result<&'t [u8], NoMemory>
+fn joined<'t>(dialect: Dialect, raw: &[u8], run: &'t Bump) -> Result<&'t [u8], NoMemory>
     ensures { IfOk result (λ spelled. spelled.now ≡ read_alone dialect raw.now) }
 {
     let mut spelled = Vec::new(run);

@@ -1,10 +1,11 @@
 //! The classes of the places of a view.
 
-ghost use Rattle.std.specs.Prelude.{◌≡◌, ◌<◌, ◌≤◌, length, IfOk};
+ghost use Rattle.std.specs.Prelude.{◌≡◌, ◌<◌, ◌≤◌, ℕ, List, length, IfOk, IsTrue};
+ghost use Rattle.std.specs.List.{list_all};
 ghost use Rattle.c_chars.specs.declared.TheConstants.{LIMIT};
 ghost use Rattle.c_grammar.specs.declared.ItemKind.{ItemKind};
 ghost use Rattle.c_grammar.specs.Rewritten.{read_alone};
-ghost use Rattle.token_classes.specs.Words.{class_spelled};
+ghost use Rattle.token_classes.specs.Words.{class_spelled, is_itself};
 ghost use Rattle.token_classes.specs.Viewed.{AreWithin, item_class, item_classes, classes_of};
 
 use crate::class::TokenClass;
@@ -15,36 +16,71 @@ use c_chars::Dialect;
 use line_tokens::{NoMemory, TokenId};
 use token_arena::{ItemKind, TokenArena, View};
 
-/// The class of a punctuator. One of a single byte is spelled by that byte, whichever it is.
+/// The class of a punctuator, which is known to be spelled by its bytes as they are, or isn't. One of a single byte
+/// is spelled by that byte, whichever it is.
 #[inline(always)]
-fn punctuator_class(dialect: Dialect, raw: &[u8], run: &Bump) -> Result<TokenClass, NoMemory>
+fn punctuator_class(
+    dialect: Dialect,
+    raw: &[u8],
+    itself: bool,
+    run: &Bump,
+) -> Result<TokenClass, NoMemory>
+    requires { IsTrue itself → IsTrue (list_all is_itself raw.now) }
     ensures { IfOk result (λ class. class ≡ class_spelled ItemKind.Punct (read_alone dialect raw.now)) }
 {
     if let [mark] = raw {
         return Ok(words::mark_class(*mark));
     }
+    if itself {
+        return Ok(words::punctuator_class(raw));
+    }
     let spelled = spelling::spelling(dialect, raw, run)?;
     Ok(words::punctuator_class(spelled))
 }
 
-/// The class of a word that is not spelled by its bytes as they are, as where a splice stands in it.
+/// The class of a word that may not be spelled by its bytes as they are, as where a splice stands in it.
 #[inline(never)]
-fn joined_word_class(dialect: Dialect, raw: &[u8], run: &Bump) -> Result<TokenClass, NoMemory>
+fn read_word_class(dialect: Dialect, raw: &[u8], run: &Bump) -> Result<TokenClass, NoMemory>
     ensures { IfOk result (λ class. class ≡ class_spelled ItemKind.Identifier (read_alone dialect raw.now)) }
 {
-    let spelled = spelling::joined(dialect, raw, run)?;
+    let spelled = spelling::spelling(dialect, raw, run)?;
     Ok(words::word_class(spelled))
 }
 
-/// The class of a word.
+/// The class of a word, which is known to be spelled by its bytes as they are, or isn't.
 #[inline(always)]
-fn word_class(dialect: Dialect, raw: &[u8], run: &Bump) -> Result<TokenClass, NoMemory>
+fn word_class(
+    dialect: Dialect,
+    raw: &[u8],
+    itself: bool,
+    run: &Bump,
+) -> Result<TokenClass, NoMemory>
+    requires { IsTrue itself → IsTrue (list_all is_itself raw.now) }
     ensures { IfOk result (λ class. class ≡ class_spelled ItemKind.Identifier (read_alone dialect raw.now)) }
 {
-    if spelling::are_themselves(raw) {
+    if itself {
         return Ok(words::word_class(raw));
     }
-    joined_word_class(dialect, raw, run)
+    read_word_class(dialect, raw, run)
+}
+
+/// The class of an item that is neither a word nor a punctuator. Apart, so that the kinds of most items are told by
+/// two comparisons.
+#[inline(never)]
+fn class_of_kind(kind: ItemKind) -> TokenClass
+    requires word { kind ≡ ItemKind.Identifier → ⊥ }
+    requires mark { kind ≡ ItemKind.Punct → ⊥ }
+    ensures { (s : List ℕ) → class_spelled kind s ≡ result }
+{
+    match kind {
+        ItemKind::StringLit => TokenClass::Text,
+        ItemKind::LineComment => TokenClass::LineComment,
+        ItemKind::BlockComment => TokenClass::BlockComment,
+        ItemKind::Number | ItemKind::CharConst | ItemKind::HeaderName => TokenClass::Literal,
+        ItemKind::Identifier | ItemKind::Punct | ItemKind::StrayQuote | ItemKind::Other => {
+            TokenClass::Other
+        }
+    }
 }
 
 /// The class of an item.
@@ -59,13 +95,13 @@ pub fn item_class(
 {
     let token = arena.get(id);
     match token.item.kind {
-        ItemKind::Identifier => word_class(arena.dialect(), token.item.raw, run),
-        ItemKind::Punct => punctuator_class(arena.dialect(), token.item.raw, run),
-        ItemKind::StringLit => Ok(TokenClass::Text),
-        ItemKind::LineComment => Ok(TokenClass::LineComment),
-        ItemKind::BlockComment => Ok(TokenClass::BlockComment),
-        ItemKind::Number | ItemKind::CharConst | ItemKind::HeaderName => Ok(TokenClass::Literal),
-        ItemKind::StrayQuote | ItemKind::Other => Ok(TokenClass::Other),
+        ItemKind::Identifier => {
+            word_class(arena.dialect(), token.item.raw, arena.is_itself(id), run)
+        },
+        ItemKind::Punct => {
+            punctuator_class(arena.dialect(), token.item.raw, arena.is_itself(id), run)
+        },
+        kind => Ok(class_of_kind(kind)),
     }
 }
 

@@ -1,14 +1,14 @@
 //! The class of a token by its spelling.
 
-ghost use Rattle.std.specs.Prelude.{◌≡◌, ◌∷◌, [], nat_eq, codes, filter, map};
+ghost use Rattle.std.specs.Prelude.{◌≡◌, ◌∷◌, ◌<◌, [], nat_eq, codes, filter, get_or, map};
 ghost use Rattle.std.specs.List.{ends_with, list_any};
 ghost use Rattle.std.specs.Char.{is_ascii_lowercase};
-ghost use Rattle.token_classes.specs.Words.{class_in, words, begins, is_in_capitals, named_class, word_class};
+ghost use Rattle.token_classes.specs.Words.{class_in, begins, is_in_capitals, named_class, word_class};
 ghost use Rattle.token_classes.specs.Words.{punctuators};
 ghost use Rattle.token_classes.specs.declared.class.TokenClass.TheVariants.{Other};
 
 use crate::class::TokenClass;
-use crate::listed::listed_class;
+use crate::listed::candidate;
 
 /// The class in the first row with this spelling, and `other` where none has it.
 #[inline(always)]
@@ -36,8 +36,10 @@ fn has_small_letter(spelled: &[u8]) -> bool
 fn is_in_capitals(spelled: &[u8]) -> bool
     ensures { result ≡ is_in_capitals spelled.now }
 {
-    let long = spelled.len() >= 2;
-    long && !has_small_letter(spelled)
+    let [first, rest @ ..] = spelled else {
+        return false;
+    };
+    !first.is_ascii_lowercase() && !rest.is_empty() && !has_small_letter(rest)
 }
 
 /// Whether it ends as the names of types do.
@@ -45,7 +47,7 @@ fn is_in_capitals(spelled: &[u8]) -> bool
 fn ends_as_type(spelled: &[u8]) -> bool
     ensures { result ≡ ends_with nat_eq spelled.now (codes "_t") }
 {
-    spelled.ends_with(b"_t")
+    spelled.last() == Some(&b't') && spelled.ends_with(b"_t")
 }
 
 /// The class of a word that is in no table.
@@ -62,16 +64,19 @@ fn named_class(spelled: &[u8]) -> TokenClass
     }
 }
 
-/// The class of a word, which is looked for among the words with its first byte.
+/// The class of a word, which is compared with the only word of the language that it can be.
 #[inline(always)]
 pub(crate) fn word_class(spelled: &[u8]) -> TokenClass
     ensures { result ≡ word_class spelled.now }
 {
-    let other = named_class(spelled);
     if spelled.is_empty() {
-        return other;
+        return named_class(spelled);
     }
-    listed_class(spelled[0], spelled, other)
+    let (word, class) = candidate(spelled);
+    if spelled == word {
+        return class;
+    }
+    named_class(spelled)
 }
 
 /// The class of a punctuator that begins with this byte and has a class of its own, and `other` where it has none.
@@ -209,37 +214,66 @@ pub(crate) fn punctuator_class(spelled: &[u8]) -> TokenClass
     listed_mark(spelled[0], spelled, TokenClass::Other)
 }
 
+/// The classes of punctuators of one character, behind that of what is none.
+const MARK_CLASSES: [TokenClass; 22] = [
+    TokenClass::Other,
+    TokenClass::Not,
+    TokenClass::Hash,
+    TokenClass::Divide,
+    TokenClass::Ampersand,
+    TokenClass::OpenRound,
+    TokenClass::CloseRound,
+    TokenClass::Star,
+    TokenClass::Sign,
+    TokenClass::Comma,
+    TokenClass::Point,
+    TokenClass::Colon,
+    TokenClass::Semicolon,
+    TokenClass::Relation,
+    TokenClass::Equals,
+    TokenClass::Question,
+    TokenClass::OpenSquare,
+    TokenClass::CloseSquare,
+    TokenClass::Caret,
+    TokenClass::OpenBrace,
+    TokenClass::Bar,
+    TokenClass::CloseBrace,
+];
+
+/// Of each byte, where its class stands among those.
+const CLASS_OF_MARK: [u8; 256] = [
+    0, 0, 0, 0, 0, 0, 0, 0, 0, 0, 0, 0, 0, 0, 0, 0, 0, 0, 0, 0, 0, 0, 0, 0, 0, 0, 0, 0, 0, 0, 0, 0,
+    0, 1, 0, 2, 0, 3, 4, 0, 5, 6, 7, 8, 9, 8, 10, 3, 0, 0, 0, 0, 0, 0, 0, 0, 0, 0, 11, 12, 13, 14,
+    13, 15, 0, 0, 0, 0, 0, 0, 0, 0, 0, 0, 0, 0, 0, 0, 0, 0, 0, 0, 0, 0, 0, 0, 0, 0, 0, 0, 0, 16, 0,
+    17, 18, 0, 0, 0, 0, 0, 0, 0, 0, 0, 0, 0, 0, 0, 0, 0, 0, 0, 0, 0, 0, 0, 0, 0, 0, 0, 0, 0, 0, 19,
+    20, 21, 1, 0, 0, 0, 0, 0, 0, 0, 0, 0, 0, 0, 0, 0, 0, 0, 0, 0, 0, 0, 0, 0, 0, 0, 0, 0, 0, 0, 0,
+    0, 0, 0, 0, 0, 0, 0, 0, 0, 0, 0, 0, 0, 0, 0, 0, 0, 0, 0, 0, 0, 0, 0, 0, 0, 0, 0, 0, 0, 0, 0, 0,
+    0, 0, 0, 0, 0, 0, 0, 0, 0, 0, 0, 0, 0, 0, 0, 0, 0, 0, 0, 0, 0, 0, 0, 0, 0, 0, 0, 0, 0, 0, 0, 0,
+    0, 0, 0, 0, 0, 0, 0, 0, 0, 0, 0, 0, 0, 0, 0, 0, 0, 0, 0, 0, 0, 0, 0, 0, 0, 0, 0, 0, 0, 0, 0, 0,
+    0, 0, 0, 0, 0,
+];
+
+/// Where the class of a byte stands.
+#[inline(always)]
+fn place_of_mark(places: &[u8; 256], mark: u8) -> usize
+    ensures { result ≡ get_or places.now mark 0 }
+{
+    places[mark as usize] as usize
+}
+
+/// The class that stands at this place.
+#[inline(always)]
+fn class_at(classes: &[TokenClass; 22], place: usize) -> TokenClass
+    requires { place < 22 }
+    ensures { result ≡ get_or classes.now place Other }
+{
+    classes[place]
+}
+
 /// The class of a punctuator of one character.
 #[inline(always)]
 pub(crate) fn mark_class(mark: u8) -> TokenClass
     ensures { result ≡ class_in punctuators (mark ∷ []) Other }
 {
-    match mark {
-        b'!' => TokenClass::Not,
-        b'#' => TokenClass::Hash,
-        b'%' => TokenClass::Divide,
-        b'&' => TokenClass::Ampersand,
-        b'(' => TokenClass::OpenRound,
-        b')' => TokenClass::CloseRound,
-        b'*' => TokenClass::Star,
-        b'+' => TokenClass::Sign,
-        b',' => TokenClass::Comma,
-        b'-' => TokenClass::Sign,
-        b'.' => TokenClass::Point,
-        b'/' => TokenClass::Divide,
-        b':' => TokenClass::Colon,
-        b';' => TokenClass::Semicolon,
-        b'<' => TokenClass::Relation,
-        b'=' => TokenClass::Equals,
-        b'>' => TokenClass::Relation,
-        b'?' => TokenClass::Question,
-        b'[' => TokenClass::OpenSquare,
-        b']' => TokenClass::CloseSquare,
-        b'^' => TokenClass::Caret,
-        b'{' => TokenClass::OpenBrace,
-        b'|' => TokenClass::Bar,
-        b'}' => TokenClass::CloseBrace,
-        b'~' => TokenClass::Not,
-        _ => TokenClass::Other,
-    }
+    class_at(&MARK_CLASSES, place_of_mark(&CLASS_OF_MARK, mark))
 }
