@@ -60,7 +60,7 @@ enters arena walk next around.Body id apart is = by_end (end_in_body walk id Ope
     by_end (Some count) is = cc
 enters arena walk next around.Group id apart is = absurd (apart refl)
 
-brace_of : (class : TokenClass) → is_open_brace class ≡ true → class ≡ OpenBrace
+pub brace_of : (class : TokenClass) → is_open_brace class ≡ true → class ≡ OpenBrace
 brace_of OpenBrace is = refl
 brace_of _ is = cc
 

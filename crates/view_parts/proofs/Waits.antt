@@ -63,6 +63,12 @@ pub more_before : (n later : ℕ) (waiting : List Opener) → n ≤ later → St
 more_before n later [] low stand = tt
 more_before n later (o ∷ waiting) low stand = (let q = stand.0 in omega (arith, q, low), more_before n later waiting low stand.1)
 
+-- the slices that the code reads hold what was kept
+pub stands_so : (stands : Around) (heads bodies : List Head) (openers waiting : List Opener) → stands ≡ around_of (reverse heads) (reverse openers) → heads ≡ bodies → openers ≡ waiting
+    → stands ≡ around_of (reverse bodies) (reverse waiting)
+stands_so stands heads bodies openers waiting is same all =
+    is ∙ (ap (λ (hs : List Head). around_of (reverse hs) (reverse openers)) same ∙ ap (λ (os : List Opener). around_of (reverse bodies) (reverse os)) all)
+
 -- ## The `{` of bodies
 
 -- below the others wait the `{` of so many bodies

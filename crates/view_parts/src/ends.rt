@@ -1,16 +1,13 @@
 //! Where the parts of a view end.
 
-ghost use Rattle.std.specs.Prelude.{true, ◌≡◌, ◌<◌, ◌≤◌, ◌+◌, ◌-◌, ◌^◌, ℕ, length, drop, take, get_or, reverse, slice_range};
-ghost use Rattle.std.specs.Prelude.{IfOk, List, OnOk, []};
+ghost use Rattle.std.specs.Prelude.{true, ◌≡◌, ◌<◌, ◌≤◌, ◌+◌, ◌-◌, ◌^◌, ℕ, length, drop, take, get_or, slice_range};
+ghost use Rattle.std.specs.Prelude.{IfOk, None, Some};
 ghost use Rattle.std.specs.Option.{ForNone, ForSome};
 ghost use Rattle.token_classes.specs.declared.class.TokenClass.{TokenClass};
 ghost use Rattle.token_classes.specs.Viewed.{AreWithin, item_classes};
 ghost use Rattle.token_arena.specs.Ids.{Increase};
-ghost use Rattle.token_classes.specs.declared.pairing.Opener.{Opener};
-ghost use Rattle.token_classes.specs.Partners.{count_braces, StandBefore};
 ghost use Rattle.view_parts.specs.declared.walk.Around.TheVariants.{Body};
-ghost use Rattle.view_parts.specs.Parts.{around_of, bodies_behind, braces_of, heads_at, part_inside, part_len};
-ghost use Rattle.view_parts.specs.Parts.{waiting_behind, walk_behind};
+ghost use Rattle.view_parts.specs.Parts.{part_inside, part_len};
 ghost use Rattle.view_parts.specs.Parts.{EndsBehind, StandsBefore};
 ghost use Rattle.view_parts.specs.Places.{place_in};
 ghost use Rattle.view_parts.specs.Rows.{IsRow};
@@ -18,13 +15,12 @@ ghost use Rattle.view_parts.specs.declared.walk.Before.TheVariants as Before;
 ghost use Rattle.view_parts.specs.Steps.{Closes, is_quiet, is_telling, may_end};
 
 use crate::bodies::{BodyPlace, Head, opened_head, place_behind};
-use crate::walk::{
-    Around, Declaration, LEAST_IN_ROW, Outcome, Walk, is_label, is_record, read, start,
-};
+use crate::brackets::OpenBrackets;
+use crate::walk::{Around, LEAST_IN_ROW, Outcome, Walk, is_label, is_record, read, start};
 use bumpalo::Bump;
 use line_tokens::{NoMemory, TokenId};
 use token_arena::{TokenArena, View};
-use token_classes::{Opener, TokenClass, waiting_step};
+use token_classes::TokenClass;
 
 /// Where a part ends.
 #[derive(Clone, Copy)]
@@ -35,6 +31,36 @@ pub struct PartEnd<'k> {
     pub seen: Option<u32>,
     /// Where that is in a body, if it is in one.
     pub inside: Option<BodyPlace<'k>>,
+}
+
+impl<'k> PartEnd<'k> {
+    /// Behind so many items of the part that begins at `first`, as the item at this place of it tells.
+    fn told(first: u32, count: u32, place: u32, inside: Option<BodyPlace<'k>>) -> PartEnd<'k>
+        requires within { first + count < 2 ^ 32 }
+        requires here { first + place + 1 < 2 ^ 32 }
+        ensures end { result.end ≡ first + count }
+        ensures seen { result.seen ≡ Some (first + place + 1) }
+        ensures inside { place_in result.inside ≡ place_in inside.entry }
+    {
+        PartEnd {
+            end: first + count,
+            seen: Some(first + place + 1),
+            inside,
+        }
+    }
+
+    /// With a view of so many items.
+    fn with_view(count: u32) -> PartEnd<'k>
+        ensures end { result.end ≡ count }
+        ensures seen { result.seen ≡ None }
+        ensures inside { place_in result.inside ≡ None }
+    {
+        PartEnd {
+            end: count,
+            seen: None,
+            inside: None,
+        }
+    }
 }
 
 /// Whether a token of a body changes what is known by its class.
@@ -165,43 +191,35 @@ fn closing_len(classes: &[TokenClass]) -> Option<usize>
     None
 }
 
-/// How many items stand behind the `{` of a body at a place of a part up to its `}`, if no part ends in it: they stand
-/// in its row, before the place from which a part may end there. `declaration` is that outside brackets.
+/// The head of the body that a `{` at a place of a part opens, and how many items stand behind that up to its `}`, if it
+/// opens one and no part ends in it: they stand in its row, before the place from which a part may end there.
+/// `walk` is behind the `{`.
 #[inline(never)]
-fn body_len(
-    declaration: Declaration,
+fn passed_body(
+    walk: &Walk,
+    opened: Option<Head>,
     all: &[TokenClass],
     first: u32,
     place: u32,
     row: &Row,
-) -> Option<u32>
+) -> Option<(Head, u32)>
     requires here { first + place < row.now.end }
     requires within { row.now.end + row.now.shift ≤ length all.now }
-    ensures before { ForSome result (λ len. declaration.before ≡ Before.Body) }
-    ensures within { ForSome result (λ len. first + place + len < row.now.end) }
-    ensures low { ForSome result (λ len. place + 1 + len ≤ 512) }
-    ensures closes { ForSome result (λ len. Closes 1 (take len (drop (first + place + 1 + row.now.shift) all.now))) }
+    ensures opened { ForSome result (λ body. opened ≡ Some body.0) }
+    ensures before { ForSome result (λ body. walk.now.declaration.before ≡ Before.Body) }
+    ensures within { ForSome result (λ body. first + place + body.1 < row.now.end) }
+    ensures low { ForSome result (λ body. place + 1 + body.1 ≤ 512) }
+    ensures closes { ForSome result (λ body. Closes 1 (take body.1 (drop (first + place + 1 + row.now.shift) all.now))) }
 {
-    if place >= LEAST_IN_ROW || !declaration.is_behind_body() {
+    let head = opened?;
+    if place >= LEAST_IN_ROW || !walk.declaration.is_behind_body() {
         return None;
     }
     let shift = row.shift as usize;
     let next = (first + place) as usize + 1 + shift;
     let end = row.end.min(first.saturating_add(LEAST_IN_ROW));
     let count = closing_len(&all[next..end as usize + shift])?;
-    Some(count as u32)
-}
-
-/// What the next item stands in, where these openers wait and these bodies are open, the innermost of each last.
-#[inline(always)]
-fn around(waiting: &[Opener], bodies: &[Head]) -> Around
-    ensures { result ≡ around_of (reverse bodies.now) (reverse waiting.now) }
-{
-    match waiting.len() {
-        0 => Around::Outside,
-        count if count == bodies.len() => Around::Body,
-        _ => Around::Group,
-    }
+    Some((head, count as u32))
 }
 
 /// Whether an item may tell where the part ends, by what it stands in.
@@ -216,91 +234,12 @@ fn may_end(walk: &Walk, around: Around, id: TokenId) -> bool
     }
 }
 
-/// The bodies that are open where a part begins, and their `{`, which wait. None were kept before.
-fn begin_bodies(
-    begins: Option<BodyPlace<'_>>,
-    bodies: &mut Vec<Head, &Bump>,
-    waiting: &mut Vec<Opener, &Bump>,
-) -> Result<(), NoMemory>
-    requires bodies { bodies.old.items ≡ [] }
-    requires waiting { waiting.old.items ≡ [] }
-    ensures bodies { OnOk result (bodies.new.items ≡ heads_at (place_in begins.entry)) }
-    ensures waiting { OnOk result (waiting.new.items ≡ braces_of (heads_at (place_in begins.entry))) }
-{
-    if let Some(place) = begins {
-        bodies.extend_from_slice(place.heads)?;
-        for _ in place.heads {
-            waiting.push(Opener {
-                place: 0,
-                kind: TokenClass::OpenBrace,
-            })?;
-        }
-    }
-    Ok(())
-}
-
-/// Goes on with the openers that wait behind a token at a place of a part. `braces` says how many of them are a `{`.
-#[inline(always)]
-fn pass_bracket(
-    waiting: &mut Vec<Opener, &Bump>,
-    braces: &mut usize,
-    place: u32,
-    id: TokenId,
-    class: TokenClass,
-) -> Result<(), NoMemory>
-    requires count { braces.old ≡ count_braces (reverse waiting.old.items) }
-    requires small { braces.old ≤ id.0 + 1 }
-    requires before { StandBefore (id.0 + 1) (reverse waiting.old.items) }
-    requires low { place ≤ id.0 }
-    requires room { id.0 < 4294967295 }
-    ensures waiting { OnOk result (reverse waiting.new.items ≡ waiting_behind class place (reverse waiting.old.items)) }
-    ensures count { OnOk result (braces.new ≡ count_braces (reverse waiting.new.items)) }
-    ensures small { OnOk result (braces.new ≤ id.0 + 2) }
-    ensures before { OnOk result (StandBefore (id.0 + 2) (reverse waiting.new.items)) }
-{
-    if class.is_opener() {
-        if class.is_open_brace() {
-            *braces += 1;
-        }
-        waiting.push(Opener {
-            place: place + 1,
-            kind: class,
-        })?;
-    } else {
-        waiting_step(waiting, braces, id.0 + 1, class)?;
-    }
-    Ok(())
-}
-
-/// Goes on with the bodies that are open behind a token: one that it opens, with this head, or all but the innermost,
-/// where fewer openers wait behind it.
-#[inline(always)]
-fn pass_brace(
-    walk: &mut Walk,
-    bodies: &mut Vec<Head, &Bump>,
-    waiting: usize,
-    opened: Option<Head>,
-    id: TokenId,
-) -> Result<(), NoMemory>
-    ensures walk { OnOk result ((openers : List Opener) → length openers ≡ waiting → walk.new ≡ walk_behind walk.old (reverse bodies.old.items) openers opened id.0) }
-    ensures bodies { OnOk result ((openers : List Opener) → length openers ≡ waiting → reverse bodies.new.items ≡ bodies_behind (reverse bodies.old.items) openers opened) }
-{
-    if let Some(head) = opened {
-        bodies.push(head)?;
-        walk.enter(id);
-    } else if waiting < bodies.len() {
-        if let Some(head) = bodies.pop() {
-            walk.leave(head, id);
-        }
-    }
-    Ok(())
-}
-
 /// Where the part of a view ends that begins at a place. `all` are the classes of all items of the text. `segment` is
 /// kept from one place of a view to the next, and starts at 0.
 ///
 /// `docs/PROFILE.md` says under "Parts" which these are. Items before the place aren't looked at, nor those behind the
-/// first token of the next part. Want of memory, for brackets that are open, is the only error.
+/// first token of the next part. Want of memory is the only error: in `room` for brackets that are open, and in `keep`
+/// for the heads of the bodies in which the next part begins.
 #[inline(never)]
 pub fn part_end<'k>(
     arena: &TokenArena<'_, '_>,
@@ -327,44 +266,37 @@ pub fn part_end<'k>(
     ensures whole { IfOk result (λ part. ForNone part.seen (part.end ≡ length view.now)) }
 {
     let count = view.len();
-    let mut waiting: Vec<Opener, &Bump> = Vec::new(room);
-    let mut bodies: Vec<Head, &Bump> = Vec::new(room);
-    begin_bodies(begins, &mut bodies, &mut waiting)?;
-    let mut braces = waiting.len();
+    let mut brackets = OpenBrackets::start(begins, room)?;
     let mut walk = start(begins);
     let mut row = Row { shift: 0, end: 0 };
-    let mut stands = around(&waiting, &bodies);
     let items = arena.len();
     while walk.place < count - first {
         let place = walk.place;
         let id = item_at(view, first + place, &mut row, segment);
         prove!(id.0 < items);
         let class = all[id.0 as usize];
+        let stands = brackets.around;
         if !may_end(&walk, stands, id) && is_quiet(stands, class) {
             let quiet = quiet_behind(stands, all, first, place, &row);
-            let last = id.0 + quiet;
-            walk.pass_quiet(stands, place + quiet + 1, TokenId(last), all[last as usize]);
+            let last = TokenId(id.0 + quiet);
+            walk.pass_quiet(stands, place + quiet + 1, last, all[last.0 as usize]);
             continue;
         }
-        let opened = if class.is_open_brace() {
-            opened_head(&walk, stands, &bodies, id)
-        } else {
-            None
-        };
-        match read(arena, &mut walk, stands, id, class) {
-            Outcome::EndsOutside(ended) => {
-                return Ok(PartEnd {
-                    end: first + ended,
-                    seen: Some(first + place + 1),
-                    inside: None,
-                });
+        if class.is_open_brace() {
+            let opened = opened_head(&walk, stands, &brackets.bodies, id);
+            walk.pass_open_brace(stands, id);
+            if let Some((head, len)) = passed_body(&walk, opened, all, first, place, &row) {
+                walk.pass_body(head, place + 1 + len, TokenId(id.0 + len));
+                continue;
             }
+            brackets.pass(&mut walk, place, opened, id, class)?;
+            continue;
+        }
+        match read(arena, &mut walk, stands, id, class) {
+            Outcome::EndsOutside(ended) => return Ok(PartEnd::told(first, ended, place, None)),
             Outcome::EndsInBody(ended) => {
-                return Ok(PartEnd {
-                    end: first + ended,
-                    seen: Some(first + place + 1),
-                    inside: Some(place_behind(&walk, &bodies, begins, keep)?),
-                });
+                let inside = place_behind(&walk, &brackets.bodies, begins, keep)?;
+                return Ok(PartEnd::told(first, ended, place, Some(inside)));
             }
             Outcome::Never => break,
             Outcome::GoesOn => {}
@@ -372,19 +304,7 @@ pub fn part_end<'k>(
         if !class.is_bracket() {
             continue;
         }
-        if let Some(head) = opened {
-            if let Some(len) = body_len(walk.declaration, all, first, place, &row) {
-                walk.pass_body(head, place + 1 + len, TokenId(id.0 + len));
-                continue;
-            }
-        }
-        pass_bracket(&mut waiting, &mut braces, place, id, class)?;
-        pass_brace(&mut walk, &mut bodies, waiting.len(), opened, id)?;
-        stands = around(&waiting, &bodies);
+        brackets.pass(&mut walk, place, None, id, class)?;
     }
-    Ok(PartEnd {
-        end: count,
-        seen: None,
-        inside: None,
-    })
+    Ok(PartEnd::with_view(count))
 }

@@ -7,6 +7,7 @@
 
 mod bodies;
 mod body;
+mod brackets;
 mod ends;
 mod joined;
 mod known;

@@ -1,9 +1,11 @@
 //! The way along the items of a part.
 
 ghost use Rattle.std.specs.Prelude.{◌≡◌, ◌<◌, ◌||◌, not, length};
-ghost use Rattle.token_arena.specs.Gaps.{item_began};
+ghost use Rattle.token_arena.specs.Gaps.{Contents, item_began};
+ghost use Rattle.token_classes.specs.declared.class.TokenClass.TheVariants.{OpenBrace};
 ghost use Rattle.view_parts.specs.declared.walk.Around.TheVariants.{Outside, Body};
 ghost use Rattle.view_parts.specs.Places.{place_in};
+ghost use Rattle.view_parts.specs.Reading.{GoesOn};
 ghost use Rattle.view_parts.specs.Steps.{body_passed, passed, read_so, tells_end, StaysWhereItEnds};
 ghost use Rattle.view_parts.specs.Walk.{behind_group, behind, is_end, is_between, is_lost};
 ghost use Rattle.view_parts.specs.Walk.{asked_at, asked_in_body, is_apart, is_body, is_commented, next_declaration};
@@ -608,6 +610,20 @@ impl Walk {
             self.behind = last.0 + 1;
             self.last.class = class;
             self.last.id = last.0;
+        }
+    }
+
+    /// Passes the next token, which is a `{`: no part ends there.
+    #[inline(always)]
+    pub(crate) fn pass_open_brace(&mut self, around: Around, id: TokenId)
+        requires small { id.0 < 4294967295 }
+        requires room { self.old.place < 4294967295 }
+        ensures { (arena : Contents) → GoesOn self.new ≡ reading arena self.old around id.0 OpenBrace }
+    {
+        match around {
+            Around::Outside => self.pass_outside(id, TokenClass::OpenBrace, None),
+            Around::Body => self.pass_in_body(id, TokenClass::OpenBrace),
+            Around::Group => self.pass_in_group(id, TokenClass::OpenBrace),
         }
     }
 

@@ -2,7 +2,7 @@ use Rattle.std.proofs.Common.{◌∙◌, ◌++◌, List, [], ◌∷◌, ap}
 use Rattle.token_classes.specs.declared.pairing.Opener.{Opener}
 use Rattle.token_classes.specs.declared.class.TokenClass.TheVariants.{OpenBrace}
 use Rattle.view_parts.proofs.Waits.{braces_more}
-use Rattle.view_parts.proofs.ends.begin_bodies.Goals as goal
+use Rattle.view_parts.proofs.brackets.begin_bodies.Goals as goal
 
 pub loop-preserved : goal.loop-preserved
 loop-preserved c =
