@@ -35,7 +35,6 @@ pub mod LastToken
 pub mod RolesStay
 pub mod SameKinds
 pub mod SameSteps
-pub mod BodiesWait
 pub mod PartSteps
 pub mod DeclarationsStay
 pub mod DeclarationsFollow

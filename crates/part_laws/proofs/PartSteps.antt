@@ -20,9 +20,9 @@ use Rattle.view_parts.specs.Walk.{start as part_start, reading as part_reading, 
 use Rattle.view_parts.specs.Parts.{Ended, around_of, bodies_behind, braces_of, end_of_part, is_left, left_innermost, place_behind, walk_behind, waiting_at, waiting_behind as part_waiting_behind, next_end as part_next_end}
 use Rattle.part_laws.specs.Declarations.{Ends, Never, GoesOn, Walk, start, is_lost, ends_or, outside, inside, waiting_behind, is_open, next_end}
 use Rattle.part_laws.proofs.FirstPart.{by_reading}
-use Rattle.part_laws.proofs.SameKinds.{SameKinds, same_kinds, same_behind, same_ends}
+use Rattle.part_laws.proofs.SameKinds.{SameKinds, kinds_of_braces, same_kinds, same_behind, same_ends}
 use Rattle.part_laws.proofs.SameSteps.{later, along, at_place, asked_told, outside_told, inside_told, code_keeps, bracket_is_code, IsCommented, commented_stays, comment_told}
-use Rattle.part_laws.proofs.BodiesWait.{OnBraces, all_braces, bodies_wait, braces_wait, kinds_of_braces}
+use Rattle.view_parts.proofs.Waits.{BodiesWaitBelow, all_braces, holds_on, holds_start}
 
 -- ## What is told
 
@@ -60,7 +60,7 @@ NotYet walk waiting = walk.place ≡ 0 → (is_open waiting ≡ false → part_i
 
 record Goes (arena : Contents) (end : Option ℕ) (k : ℕ) (ids : List ℕ) (walk : PartWalk) (bodies : List Head) (waiting : List Opener) (rest : List ℕ) : Type 0 where
   pub way : Along arena end k ids walk.place walk.declaration walk.asked waiting rest
-  pub waits : OnBraces (length bodies) waiting
+  pub waits : BodiesWaitBelow (length bodies) waiting
   pub first : NotYet walk waiting
 
 -- what comes of a part whose next item is read so, in these bodies
@@ -101,7 +101,7 @@ goes_on arena end k ids walk next bodies waiting id rest goes one way on =
     on (walk_behind next bodies after opened id) (bodies_behind bodies after opened)
     (record {
       way = unmoved (λ place declaration asked. Along arena end k ids place declaration asked after rest) next bodies after opened id way;
-      waits = bodies_wait walk bodies waiting id class goes.waits;
+      waits = holds_on walk bodies waiting id class goes.waits;
       first = λ none. absurd (unmoved (λ place declaration asked. place ≡ 0 → ⊥) next bodies after opened id (λ none. omega (arith, none, one)) none);
     })
   where
@@ -409,7 +409,7 @@ tells_place arena end k ids walk bodies opener below id rest goes alone =
 
     kinds : SameKinds (opener ∷ below) (braces_of (reverse bodies))
     kinds = kinds_of_braces (opener ∷ below) (reverse bodies)
-        (all_braces (opener ∷ below) (subst (λ (count : ℕ). OnBraces count (opener ∷ below)) (sym alone) goes.waits)) (alone ∙ sym many)
+        (all_braces (opener ∷ below) (subst (λ (count : ℕ). BodiesWaitBelow count (opener ∷ below)) (sym alone) goes.waits)) (alone ∙ sym many)
 
     at : (count : ℕ) → 0 < count → count ≤ walk.place → end ≡ next_end arena (at_place (k + count) walk.declaration) waiting (drop count ids)
         → TellsPlace arena end k ids walk bodies (Some count)
@@ -515,7 +515,7 @@ tells_outer arena ids =
     tells arena (next_end arena start [] ids) 0 ids ids (part_start None) [] []
     (record {
       way = record { whole = omega arith; left = refl; fits = tt; same = refl };
-      waits = braces_wait [];
+      waits = holds_start [];
       first = λ none. (λ outside. refl, refl);
     })
 
@@ -525,7 +525,7 @@ tells_inner arena end k place ids from =
     tells arena end k ids ids (part_start (Some place)) (reverse place.heads) (braces_of place.heads)
     (record {
       way = record { whole = omega arith; left = refl; fits = tt; same = from.1 ∙ ap (λ (w : Walk). next_end arena w (braces_of place.heads) ids) (here (opens place.heads from.0)) };
-      waits = subst (λ (count : ℕ). OnBraces count (braces_of place.heads)) (sym (length-reverse place.heads)) (braces_wait place.heads);
+      waits = holds_start place.heads;
       first = λ none. (λ outside. absurd (let both : true ≡ false = sym (opens place.heads from.0) ∙ outside in cc), refl);
     })
   where

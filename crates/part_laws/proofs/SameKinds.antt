@@ -1,5 +1,5 @@
 -- Where declarations end depends on the kinds of the openers that wait, and not on their places.
-use Rattle.std.proofs.Common.{◌≡◌, ◌∙◌, ℕ, Bool, true, false, Option, Some, None, List, [], ◌∷◌, refl, ap}
+use Rattle.std.proofs.Common.{◌≡◌, ◌∙◌, ℕ, Bool, true, false, Option, Some, None, List, [], ◌∷◌, length, refl, ap, arith}
 use Rattle.std.specs.Prelude.{⊤}
 use Rattle.token_arena.specs.Gaps.{Contents}
 use Rattle.token_classes.specs.declared.class.TokenClass.{TokenClass}
@@ -9,7 +9,10 @@ use Rattle.token_classes.specs.declared.pairing.Opener.{Opener}
 use Rattle.token_classes.specs.Partners.{Nearest, is_brace, is_round, is_square, nearest_brace, topmost, closed}
 use Rattle.part_laws.specs.Declarations.{Reading, Ends, Never, GoesOn, Walk, reading, waiting_behind, is_open, next_end}
 use Rattle.part_laws.proofs.FirstPart.{by_reading}
+use Rattle.view_parts.specs.declared.bodies.Head.{Head}
+use Rattle.view_parts.specs.Parts.{braces_of}
 use Rattle.view_parts.proofs.BodiesPassed.{waits_so}
+use Rattle.view_parts.proofs.Waits.{AreBraces}
 
 -- these openers are of the same kinds, one by one
 abbrev pub SameKinds : List Opener → List Opener → Type 0
@@ -114,3 +117,17 @@ same_ends arena walk waiting others (id ∷ ids) same =
     by_read (Ends count) on = refl
     by_read Never on = refl
     by_read (GoesOn next) on = on next
+
+-- ## Braces
+
+brace_kind : (place : ℕ) (kind : TokenClass) → is_brace (record { place = place; kind = kind }) ≡ true → kind ≡ OpenBrace
+brace_kind place OpenBrace brace = refl
+brace_kind place _ brace = cc
+
+-- openers that are all a `{` are of the same kinds as those of as many heads
+pub kinds_of_braces : (waiting : List Opener) (heads : List Head) → AreBraces waiting → length waiting ≡ length heads → SameKinds waiting (braces_of heads)
+kinds_of_braces [] [] braces same = tt
+kinds_of_braces [] (head ∷ heads) braces same = absurd (omega (arith, same))
+kinds_of_braces (opener ∷ waiting) [] braces same = absurd (omega (arith, same))
+kinds_of_braces (opener ∷ waiting) (head ∷ heads) braces same =
+    (brace_kind opener.place opener.kind braces.0, kinds_of_braces waiting heads braces.1 (omega (arith, same)))

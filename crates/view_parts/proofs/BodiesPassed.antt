@@ -1,13 +1,13 @@
 -- Bodies in which no part ends: those that end in the row of their `{`, before the place from which a part may end anywhere.
 use Rattle.std.proofs.Common.{◌≡◌, ◌∙◌, ◌⊎◌, inl, inr, ℕ, zero, suc, ◌+◌, ◌-◌, ◌<◌, ◌≤◌, ◌==◌, Bool, true, false, not, ◌&&◌, ◌||◌, Option, Some, None, List, [], ◌∷◌, ◌++◌, length, map, refl, sym, ap, subst, arith}
-use Rattle.std.specs.Prelude.{⊤, if◌then◌else◌}
+use Rattle.std.specs.Prelude.{if◌then◌else◌}
 use Rattle.std.specs.List.{range_with_len}
 use Rattle.std.proofs.lemmas.Bool.{eqb-true, eq-eqb, le-ltb, lt-ltb, lt-leb}
 use Rattle.std.proofs.lemmas.List.{length-append}
 use Rattle.token_arena.specs.Gaps.{Contents}
 use Rattle.token_classes.specs.declared.class.TokenClass.{TokenClass}
 use Rattle.token_classes.specs.declared.class.TokenClass.TheVariants.{OpenRound, CloseRound, OpenSquare, CloseSquare, OpenBrace, CloseBrace, LineComment, BlockComment}
-use Rattle.token_classes.specs.Classes.{is_bracket, is_comment, is_open_brace}
+use Rattle.token_classes.specs.Classes.{is_bracket, is_comment}
 use Rattle.token_classes.specs.Viewed.{item_class}
 use Rattle.token_classes.specs.declared.pairing.Opener.{Opener}
 use Rattle.token_classes.specs.Partners.{Matching, Nearest, count_braces, is_brace, is_round, is_square, nearest_brace, topmost, closed}
@@ -18,9 +18,10 @@ use Rattle.view_parts.specs.declared.walk.Declaration.{Declaration}
 use Rattle.view_parts.specs.declared.walk.Walk.{Walk}
 use Rattle.view_parts.specs.declared.bodies.Head.{Head}
 use Rattle.view_parts.specs.Reading.{Reading, EndsOutside, EndsInBody, Never, GoesOn}
-use Rattle.view_parts.specs.Walk.{reading, begun_before, body_kind, head_of_kind, heads_len, opened_head, opening, begun_behind, block_behind, entered, left, is_apart, is_body, end_in_body, ends_apart, ends_in_row, ends_inside_or, parts_statements, in_body, past_bracket, past_comment, past_other}
+use Rattle.view_parts.specs.Walk.{reading, opened_head, opening, begun_behind, block_behind, entered, left, is_apart, is_body, end_in_body, ends_apart, ends_in_row, ends_inside_or, parts_statements, in_body, past_bracket, past_comment, past_other}
 use Rattle.view_parts.specs.Parts.{Ended, around_of, bodies_behind, left_innermost, next_end, place_behind, waiting_behind, walk_behind, without_innermost}
 use Rattle.view_parts.specs.Steps.{Closes, body_passed, depth_behind}
+use Rattle.view_parts.proofs.Waits.{AreBraces, opens_so}
 
 -- behind the body with this head, whose `}` is the last token that was read
 abbrev behind_body : Declaration → Head → ℕ → ℕ → Walk
@@ -175,27 +176,6 @@ pub square_is_no_brace : (place : ℕ) (kind : TokenClass) → is_square (record
     → is_brace (record { place = place; kind = kind }) ≡ true → ⊥
 square_is_no_brace place OpenSquare square brace = cc
 square_is_no_brace place _ square brace = cc
-
-abbrev pub AreBraces : List Opener → Type 0
-AreBraces [] = ⊤
-AreBraces (opener ∷ below) = (is_brace opener ≡ true) × AreBraces below
-
--- a body is opened by a `{` that stands in no other group
-pub opens_so : (walk : Walk) (stands : Around) (bodies : List Head) (id : ℕ) (class : TokenClass) (head : Head) → opened_head walk stands bodies id class ≡ Some head
-    → (is_open_brace class ≡ true) × (stands ≡ around.Group → ⊥)
-opens_so walk stands bodies id class head is = by_brace (is_open_brace class) refl is
-  where
-    by_stands : (stands : Around) → head_of_kind (body_kind walk stands) (begun_before walk stands id) walk.place id (heads_len bodies) ≡ Some head
-        → stands ≡ around.Group → ⊥
-    by_stands around.Outside is group = cc
-    by_stands around.Body is group = cc
-    by_stands around.Group is group = cc
-
-    by_brace : (brace : Bool) → is_open_brace class ≡ brace
-        → (if brace then head_of_kind (body_kind walk stands) (begun_before walk stands id) walk.place id (heads_len bodies) else None) ≡ Some head
-        → (is_open_brace class ≡ true) × (stands ≡ around.Group → ⊥)
-    by_brace true brace is = (brace, by_stands stands is)
-    by_brace false brace is = cc
 
 -- the topmost of these is a brace
 abbrev pub OnBrace : List Opener → Type 0

@@ -22,9 +22,9 @@ use Rattle.view_parts.specs.Reading.{Reading, GoesOn}
 use Rattle.view_parts.specs.Steps.{Closes, body_passed}
 use Rattle.view_parts.specs.Walk.{reading, opened_head, asked_at, end_in_body, ends_or, ends_inside_or, in_body, outside}
 use Rattle.view_parts.specs.Parts.{around_of, bodies_behind, end_of_part, next_end, waiting_behind, walk_behind}
-use Rattle.view_parts.proofs.BodiesPassed.{body_passes, opens_so}
+use Rattle.view_parts.proofs.BodiesPassed.{body_passes}
 use Rattle.view_parts.proofs.Walked.{Passes, by_reading, IsNext}
-use Rattle.view_parts.proofs.Waits.{HoldsBodies, opens_within}
+use Rattle.view_parts.proofs.Waits.{BodiesWaitBelow, opens_so, opens_within}
 
 -- items in a row
 row_range : (ids : List ℕ) (place id n : ℕ) → place + n ≤ length ids → ((k : ℕ) → k < n → get_or ids (place + k) 0 ≡ id + k) → take n (drop place ids) ≡ range_with_len id n
@@ -68,7 +68,7 @@ brace_of _ is = cc
 body_row : (arena : Contents) (begins : Option Place) (ids : List ℕ) (walk next after : Walk) (bodies : List Head) (waiting : List Opener) (read : Reading) (all : List TokenClass) (id len : ℕ) (class : TokenClass) (head : Head)
     → walk.place + len < length ids → ((k : ℕ) → k ≤ len → get_or ids (walk.place + k) 0 ≡ id + k) → id + 1 + len ≤ length arena.tokens → all ≡ item_classes arena
     → class ≡ item_class arena id → read ≡ GoesOn next → read ≡ reading arena walk (around_of bodies waiting) id class → Some head ≡ opened_head walk (around_of bodies waiting) bodies id class
-    → HoldsBodies (length bodies) waiting → next.declaration.before ≡ Body → walk.place + 1 + len ≤ 512 → Closes 1 (take len (drop (id + 1) all))
+    → BodiesWaitBelow (length bodies) waiting → next.declaration.before ≡ Body → walk.place + 1 + len ≤ 512 → Closes 1 (take len (drop (id + 1) all))
     → after ≡ body_passed next head (walk.place + 1 + len) (id + len)
     → Passes arena begins ids walk bodies waiting → Passes arena begins ids after bodies waiting
 body_row arena begins ids walk next after bodies waiting read all id len class head within row stored all_is class_is made is opened holds before low closes passed on =

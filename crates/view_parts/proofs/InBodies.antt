@@ -28,9 +28,10 @@ use Rattle.view_parts.specs.Walk.{start, reading, asked_at, begins_behind, begin
 use Rattle.view_parts.specs.Parts.{Ended, around_of, bodies_behind, count_or, end_of_part, head_items, heads_end, inside_of, is_left, items_before, items_of_place, left_innermost, next_end, opened_items, part_inside, part_len, place_behind, waiting_at, waiting_behind, walk_behind, without_innermost, StandsBefore}
 use Rattle.view_parts.proofs.Heads.{BodiesStand, IsHead, bodies_end, bodies_so, end_low, head_before, heads_len-reverse, reversed_end, reversed_have, reversed_stand, stand_before}
 use Rattle.view_parts.proofs.InOrder.{HasHeads, IsEnd, end_fits, inside_headed}
-use Rattle.view_parts.proofs.OpenBodies.{Cover, cover_len, covers_first, covers_on, left_at}
+use Rattle.view_parts.proofs.Quiet.{quiet_waits}
 use Rattle.view_parts.proofs.RowParts.{some_is}
 use Rattle.view_parts.proofs.Rows.{row_item}
+use Rattle.view_parts.proofs.Waits.{BodiesWaitBelow, holds_on, holds_start, none_left}
 use Rattle.view_parts.proofs.Walked.{behind_place, bodies_past, by_reading, walk_past}
 
 -- ## What is kept of the items that were read
@@ -199,14 +200,13 @@ opened_on P all walk stands bodies id low class head after is keeps e =
     by_kind None e = absurd (none_some head e)
     by_kind (Some k) e = head_on P all bodies (begun_before walk stands id) walk.place id k head is (began stands) e
 
--- only the `{` of bodies wait there
-opened_waits : (walk : Walk) (bodies : List Head) (waiting : List Opener) (id : ℕ) (class : TokenClass) (head : Head) → Cover (length bodies) waiting → opened_head walk (around_of bodies waiting) bodies id class ≡ Some head → length waiting ≡ length bodies
-opened_waits walk bodies [] id class head c e = (let enough = cover_len (length bodies) [] c in omega (arith, enough))
-opened_waits walk bodies (opener ∷ waiting) id class head c e = by_same (length (opener ∷ waiting) == length bodies) (λ s. eqb-true (length (opener ∷ waiting)) (length bodies) s) e
+-- only behind a bracket a body is left
+left_at : (class : TokenClass) (place : ℕ) (bodies : List Head) (waiting : List Opener) → BodiesWaitBelow (length bodies) waiting → is_left bodies (waiting_behind class place waiting) ≡ true → is_bracket class ≡ true
+left_at class place bodies waiting holds gone = by_bracket (is_bracket class) refl
   where
-    by_same : (same : Bool) → (same ≡ true → length (opener ∷ waiting) ≡ length bodies) → opened_head walk (if same then around.Body else around.Group) bodies id class ≡ Some head → length (opener ∷ waiting) ≡ length bodies
-    by_same true len e = len refl
-    by_same false len e = absurd (none_some head (if_some (is_open_brace class) None head e).1)
+    by_bracket : (bracket : Bool) → is_bracket class ≡ bracket → bracket ≡ true
+    by_bracket true e = refl
+    by_bracket false e = absurd (false_true (sym (none_left bodies waiting holds) ∙ (ap (λ (openers : List Opener). is_left bodies openers) (quiet_waits class place waiting e) ∙ gone)))
 
 -- ## The last token
 
@@ -483,9 +483,9 @@ reads_on P arena all walk stands bodies id low class after has at keeps = by_sta
     by_stands around.Body = by_comment (is_comment class) refl
 
 told_on : (P : ℕ → Type 0) (arena : Contents) (all ids : List ℕ) (walk : Walk) (bodies : List Head) (waiting : List Opener) (low : ℕ) → Increase all → All P all → walk.place + length ids ≤ length all → IncreaseFrom low ids
-    → ((k : ℕ) → k < length ids → get_or ids k 0 ≡ get_or all (walk.place + k) 0) → Cover (length bodies) waiting → Keeps P all walk bodies low → EndsAtPlace P all (next_end arena walk bodies waiting ids)
-told_on P arena all [] walk bodies waiting low whole have within increase same cover keeps = tt
-told_on P arena all (id ∷ ids) walk bodies waiting low whole have within increase same cover keeps =
+    → ((k : ℕ) → k < length ids → get_or ids k 0 ≡ get_or all (walk.place + k) 0) → BodiesWaitBelow (length bodies) waiting → Keeps P all walk bodies low → EndsAtPlace P all (next_end arena walk bodies waiting ids)
+told_on P arena all [] walk bodies waiting low whole have within increase same holds keeps = tt
+told_on P arena all (id ∷ ids) walk bodies waiting low whole have within increase same holds keeps =
     let class = item_class arena id in
     let stands = around_of bodies waiting in
     let after = waiting_behind class walk.place waiting in
@@ -501,8 +501,8 @@ told_on P arena all (id ∷ ids) walk bodies waiting low whole have within incre
     let place : past.place ≡ walk.place + 1 = behind_place next bodies after opened id ∙ one in
     told_on P arena all ids past (bodies_behind bodies after opened) after (id + 1) whole have (omega (arith, place, within)) increase.1
     (λ k below. let e : walk.place + suc k ≡ past.place + k = omega (arith, place) in same (suc k) (omega (arith, below)) ∙ ap (λ j. get_or all j 0) e)
-    (covers_on class walk.place bodies waiting opened cover (λ head e. ((opens head e).0, opened_waits walk bodies waiting id class head cover e)))
-    (past_on P all next bodies after opened id low increase.0 has (λ gone. none (left_at class walk.place bodies waiting cover gone)) keeps.stand (λ head e. (opens head e).1) on))
+    (holds_on walk bodies waiting id class holds)
+    (past_on P all next bodies after opened id low increase.0 has (λ gone. none (left_at class walk.place bodies waiting holds gone)) keeps.stand (λ head e. (opens head e).1) on))
   where
     by_reads : (read : Reading) → Reads P all walk bodies id (item_class arena id) read
         → ((next : Walk) → next.place ≡ walk.place + 1 → Keeps P all next bodies (id + 1) → (is_bracket (item_class arena id) ≡ true → next.asked ≡ None)
@@ -537,7 +537,7 @@ increase_from low d (id ∷ ids) after increase = (omega (arith, after), increas
 
 -- a part that begins with these items ends in no body, or at a place of one
 place_told : (P : ℕ → Type 0) (arena : Contents) (begins : Option Place) (ids : List ℕ) (d : ℕ) → Increase ids → ForSome begins (λ place. StandsBefore place (get_or ids 0 d)) → All P (items_before begins) → All P ids → EndsAtPlace P ids (end_of_part arena begins ids)
-place_told P arena None ids d increase stands before have = told_on P arena ids ids (start None) [] [] 0 increase have (omega arith) increase (λ k below. ap (λ j. get_or ids j 0) (omega arith)) (covers_first []) (record {
+place_told P arena None ids d increase stands before have = told_on P arena ids ids (start None) [] [] 0 increase have (omega arith) increase (λ k below. ap (λ j. get_or ids j 0) (omega arith)) (holds_start []) (record {
   begun = tt;
   stand = tt;
   few = omega arith;
@@ -552,7 +552,7 @@ place_told P arena (Some place) ids d increase stands before have =
     let bodies = reverse place.heads in
     let stand = bodies_so P place.heads is.stand (first_have P (head_items place.heads) (opened_items place.opened ++ place.ended ∷ []) before) in
     let low = end_low P bodies (heads_end 0 place.heads) stand in
-    told_on P arena ids ids (start (Some place)) bodies (waiting_at (Some place)) (place.ended + 1) increase have (omega arith) (increase_from place.ended d ids is.before increase) (λ k below. ap (λ j. get_or ids j 0) (omega arith)) (covers_first place.heads) (record {
+    told_on P arena ids ids (start (Some place)) bodies (waiting_at (Some place)) (place.ended + 1) increase have (omega arith) (increase_from place.ended d ids is.before increase) (λ k below. ap (λ j. get_or ids j 0) (omega arith)) (holds_start place.heads) (record {
       begun = tt;
       stand = stand_before P bodies (heads_end 0 place.heads) (place.ended + 1) (omega (arith, low, end)) stand;
       few = omega (arith, few, len);

@@ -1,6 +1,5 @@
 pub mod Heads
 pub mod Waits
-pub mod OpenBodies
 pub mod Walked
 pub mod Quiet
 pub mod InOrder

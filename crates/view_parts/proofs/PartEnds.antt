@@ -20,7 +20,7 @@ use Rattle.view_parts.proofs.Heads.{heads_len-reverse}
 use Rattle.view_parts.proofs.InOrder.{HasHeads, told_within}
 use Rattle.view_parts.proofs.Quiet.{flat_passes}
 use Rattle.view_parts.proofs.Rows.{at_least}
-use Rattle.view_parts.proofs.Waits.{HoldsBodies, braces_before, braces_count, few_on, heads_before, holds_on, holds_start, more_before, none_left}
+use Rattle.view_parts.proofs.Waits.{BodiesWaitBelow, braces_before, braces_count, few_on, heads_before, holds_on, holds_start, more_before, none_left}
 use Rattle.view_parts.proofs.Walked.{IsNext, Passes, behind_place, ends_so, inside_behind, len_behind, next_passes, next_place, seen_end, starts_so, told_by, whole_end}
 
 -- ## On the way
@@ -28,7 +28,7 @@ use Rattle.view_parts.proofs.Walked.{IsNext, Passes, behind_place, ends_so, insi
 -- so far the part of a view is read that begins at a place; these bodies are bodies_are, the innermost first, and these openers wait, so many of them a `{`
 pub record IsRead (arena : Contents) (begins : Option Place) (view : List ℕ) (first : ℕ) (walk : Walk) (bodies : List Head) (waiting : List Opener) (braces : ℕ) : Type 0 where
   pub on : Passes arena begins (drop first view) walk bodies waiting
-  pub holds : HoldsBodies (length bodies) waiting
+  pub holds : BodiesWaitBelow (length bodies) waiting
   pub few : heads_len bodies ≤ 64
   pub count : braces ≡ count_braces waiting
   pub small : first + walk.place < length view → braces ≤ get_or view (first + walk.place) 0 + 1
@@ -71,7 +71,7 @@ read_first arena begins view first walk bodies waiting braces starts bodies_are 
       on = subst (λ (w : Walk). Passes arena begins (drop first view) w bodies waiting) (sym starts)
           (subst (λ (hs : List Head). Passes arena begins (drop first view) (start begins) hs waiting) (sym bodies_are)
           (subst (λ (os : List Opener). Passes arena begins (drop first view) (start begins) (reverse heads) os) (sym waits) (starts_so arena begins (drop first view))));
-      holds = subst (λ (hs : List Head). HoldsBodies (length hs) waiting) (sym bodies_are) (subst (λ (os : List Opener). HoldsBodies (length (reverse heads)) os) (sym waits) (holds_start heads));
+      holds = subst (λ (hs : List Head). BodiesWaitBelow (length hs) waiting) (sym bodies_are) (subst (λ (os : List Opener). BodiesWaitBelow (length (reverse heads)) os) (sym waits) (holds_start heads));
       few = (let same = ap (λ (hs : List Head). heads_len hs) bodies_are ∙ heads_len-reverse heads in omega (arith, same, few));
       count = many ∙ sym (ap (λ (os : List Opener). count_braces os) waits ∙ braces_count heads);
       small = λ below. omega (arith, many, low, id);
@@ -126,15 +126,15 @@ read_on arena begins view first walk after next bodies later waiting new braces 
     let place : next.place ≡ walk.place + 1 = ap (λ (w : Walk). w.place) walk_is ∙ (behind_place after bodies new opened id ∙ one) in
     let past = next_passes arena begins ids walk after bodies waiting new opened read id class item goes one waits opens was.on in
     let head = opened_head walk (around_of bodies waiting) bodies id class in
-    let held : HoldsBodies (length (bodies_behind bodies new opened)) new =
-    subst (λ (o : Option Head). HoldsBodies (length (bodies_behind bodies new o)) new) (sym opens)
-    (subst (λ (os : List Opener). HoldsBodies (length (bodies_behind bodies os head)) os) (sym waits) (holds_on walk bodies waiting id class was.holds)) in
+    let held : BodiesWaitBelow (length (bodies_behind bodies new opened)) new =
+    subst (λ (o : Option Head). BodiesWaitBelow (length (bodies_behind bodies new o)) new) (sym opens)
+    (subst (λ (os : List Opener). BodiesWaitBelow (length (bodies_behind bodies os head)) os) (sym waits) (holds_on walk bodies waiting id class was.holds)) in
     let few : heads_len (bodies_behind bodies new opened) ≤ 64 = subst (λ (o : Option Head). heads_len (bodies_behind bodies new o) ≤ 64) (sym opens) (few_on walk (around_of bodies waiting) bodies id class new was.few) in
     let rises : first + next.place < length view → id < get_or view (first + next.place) 0 =
     λ below. subst (λ n. n < get_or view (first + next.place) 0) at (items_rise 0 view (first + walk.place) (first + next.place) increase (omega (arith, place)) below) in
     record {
       on = subst (λ (w : Walk). Passes arena begins ids w later new) (sym walk_is) (subst (λ (hs : List Head). Passes arena begins ids (walk_behind after bodies new opened id) hs new) (sym bodies_are) past);
-      holds = subst (λ (hs : List Head). HoldsBodies (length hs) new) (sym bodies_are) held;
+      holds = subst (λ (hs : List Head). BodiesWaitBelow (length hs) new) (sym bodies_are) held;
       few = subst (λ (hs : List Head). heads_len hs ≤ 64) (sym bodies_are) few;
       count = count;
       small = λ below. (let up = rises below in omega (arith, up, small));

@@ -38,7 +38,7 @@ or_false : (b : Bool) → b ≡ b || false
 or_false true = refl
 or_false false = refl
 
-quiet_waits : (class : TokenClass) (place : ℕ) (waiting : List Opener) → is_bracket class ≡ false → waiting ≡ waiting_behind class place waiting
+pub quiet_waits : (class : TokenClass) (place : ℕ) (waiting : List Opener) → is_bracket class ≡ false → waiting ≡ waiting_behind class place waiting
 quiet_waits class place waiting is =
     ap (λ (m : Matching). m.open_brackets)
     (other_step class (place + 1) (record { open_brackets = waiting; partners = [] }) (λ e. none OpenRound e refl) (λ e. none CloseRound e refl) (λ e. none OpenSquare e refl) (λ e. none CloseSquare e refl) (λ e. none OpenBrace e refl)

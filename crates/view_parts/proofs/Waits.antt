@@ -71,13 +71,17 @@ stands_so stands heads bodies openers waiting is same all =
 
 -- ## The `{` of bodies
 
--- below the others wait the `{` of so many bodies
-abbrev pub HoldsBodies : ℕ → List Opener → Type 0
-HoldsBodies zero waiting = ⊤
-HoldsBodies (suc n) [] = ⊥
-HoldsBodies (suc n) (o ∷ below) = HoldsBodies (suc n) below ⊎ ((is_brace o ≡ true) × (length below ≡ n) × HoldsBodies n below)
+abbrev pub AreBraces : List Opener → Type 0
+AreBraces [] = ⊤
+AreBraces (opener ∷ below) = (is_brace opener ≡ true) × AreBraces below
 
-holds_many : (n : ℕ) (waiting : List Opener) → HoldsBodies n waiting → n ≤ length waiting
+-- the `{` of so many bodies wait below all other openers
+abbrev pub BodiesWaitBelow : ℕ → List Opener → Type 0
+BodiesWaitBelow zero waiting = ⊤
+BodiesWaitBelow (suc n) [] = ⊥
+BodiesWaitBelow (suc n) (o ∷ below) = BodiesWaitBelow (suc n) below ⊎ ((is_brace o ≡ true) × (length below ≡ n) × BodiesWaitBelow n below)
+
+holds_many : (n : ℕ) (waiting : List Opener) → BodiesWaitBelow n waiting → n ≤ length waiting
 holds_many zero waiting holds = omega arith
 holds_many (suc n) [] holds = absurd holds
 holds_many (suc n) (o ∷ below) holds =
@@ -86,11 +90,11 @@ holds_many (suc n) (o ∷ below) holds =
       | inr at ↦ (let many = at.1 in omega (arith, many))
     ]
 
-holds_pushed : (n : ℕ) (o : Opener) (waiting : List Opener) → HoldsBodies n waiting → HoldsBodies n (o ∷ waiting)
+holds_pushed : (n : ℕ) (o : Opener) (waiting : List Opener) → BodiesWaitBelow n waiting → BodiesWaitBelow n (o ∷ waiting)
 holds_pushed zero o waiting holds = tt
 holds_pushed (suc n) o waiting holds = inl holds
 
-holds_below : (n : ℕ) (o : Opener) (below : List Opener) → is_brace o ≡ false → HoldsBodies n (o ∷ below) → HoldsBodies n below
+holds_below : (n : ℕ) (o : Opener) (below : List Opener) → is_brace o ≡ false → BodiesWaitBelow n (o ∷ below) → BodiesWaitBelow n below
 holds_below zero o below other holds = tt
 holds_below (suc n) o below other holds =
     elim holds [
@@ -106,28 +110,28 @@ below_is a b e = ap (λ (o : Nearest). o.below) (same a b e)
 
 -- behind a token: all of them wait, or all but one
 abbrev Leaves : ℕ → List Opener → Type 0
-Leaves n after = ((n ≤ length after) × HoldsBodies n after) ⊎ ((length after < n) × HoldsBodies (n - 1) after)
+Leaves n after = ((n ≤ length after) × BodiesWaitBelow n after) ⊎ ((length after < n) × BodiesWaitBelow (n - 1) after)
 
-leaves_all : (n : ℕ) (after : List Opener) → HoldsBodies n after → Leaves n after
+leaves_all : (n : ℕ) (after : List Opener) → BodiesWaitBelow n after → Leaves n after
 leaves_all n after holds = inl (holds_many n after holds, holds)
 
-leaves_nearest : (n : ℕ) (waiting below : List Opener) (place : ℕ) → nearest_brace waiting ≡ Some (record { place = place; below = below }) → HoldsBodies n waiting → Leaves n below
+leaves_nearest : (n : ℕ) (waiting below : List Opener) (place : ℕ) → nearest_brace waiting ≡ Some (record { place = place; below = below }) → BodiesWaitBelow n waiting → Leaves n below
 leaves_nearest zero waiting below place is holds = inl (omega arith, tt)
 leaves_nearest (suc n) [] below place is holds = absurd holds
 leaves_nearest (suc n) (o ∷ rest) below place is holds = by_kind (is_brace o) refl is (λ found up. leaves_nearest (suc n) rest below place found up)
   where
     by_kind : (brace : Bool) → is_brace o ≡ brace
         → ◌≡◌ {A = Option Nearest} (elim brace [ true ↦ Some (record { place = o.place; below = rest }) | false ↦ nearest_brace rest ]) (Some (record { place = place; below = below }))
-        → (nearest_brace rest ≡ Some (record { place = place; below = below }) → HoldsBodies (suc n) rest → Leaves (suc n) below) → Leaves (suc n) below
+        → (nearest_brace rest ≡ Some (record { place = place; below = below }) → BodiesWaitBelow (suc n) rest → Leaves (suc n) below) → Leaves (suc n) below
     by_kind true e found on =
         let same : rest ≡ below = below_is _ _ found in
         elim holds [
-          | inl up ↦ leaves_all (suc n) below (subst (λ (os : List Opener). HoldsBodies (suc n) os) same up)
+          | inl up ↦ leaves_all (suc n) below (subst (λ (os : List Opener). BodiesWaitBelow (suc n) os) same up)
           | inr at ↦
               let many = at.1 in
               let less : length below ≡ n = ap (λ (os : List Opener). length os) (sym same) ∙ many in
               let one : n ≡ suc n - 1 = omega arith in
-              inr (omega (arith, less), subst (λ k. HoldsBodies k below) one (subst (λ (os : List Opener). HoldsBodies n os) same at.2))
+              inr (omega (arith, less), subst (λ k. BodiesWaitBelow k below) one (subst (λ (os : List Opener). BodiesWaitBelow n os) same at.2))
         ]
     by_kind false e found on =
         elim holds [
@@ -135,17 +139,17 @@ leaves_nearest (suc n) (o ∷ rest) below place is holds = by_kind (is_brace o) 
           | inr at ↦ absurd (differ (sym at.0 ∙ e))
         ]
 
-leaves_topmost : (fits : Opener → Bool) → ((o : Opener) → fits o ≡ true → is_brace o ≡ false) → (n : ℕ) (waiting below : List Opener) (place : ℕ) → topmost fits waiting ≡ Some (record { place = place; below = below }) → HoldsBodies n waiting → Leaves n below
+leaves_topmost : (fits : Opener → Bool) → ((o : Opener) → fits o ≡ true → is_brace o ≡ false) → (n : ℕ) (waiting below : List Opener) (place : ℕ) → topmost fits waiting ≡ Some (record { place = place; below = below }) → BodiesWaitBelow n waiting → Leaves n below
 leaves_topmost fits none n [] below place is holds = cc
 leaves_topmost fits none n (o ∷ rest) below place is holds = by_kind (fits o) refl is
   where
     by_kind : (fit : Bool) → fits o ≡ fit → ◌≡◌ {A = Option Nearest} (elim fit [ true ↦ Some (record { place = o.place; below = rest }) | false ↦ None ]) (Some (record { place = place; below = below })) → Leaves n below
     by_kind true e found =
         let same : rest ≡ below = below_is _ _ found in
-        leaves_all n below (subst (λ (os : List Opener). HoldsBodies n os) same (holds_below n o rest (none o e) holds))
+        leaves_all n below (subst (λ (os : List Opener). BodiesWaitBelow n os) same (holds_below n o rest (none o e) holds))
     by_kind false e found = cc
 
-leaves_step : (class : TokenClass) (place n : ℕ) (waiting : List Opener) → HoldsBodies n waiting → Leaves n (waiting_behind class place waiting)
+leaves_step : (class : TokenClass) (place n : ℕ) (waiting : List Opener) → BodiesWaitBelow n waiting → Leaves n (waiting_behind class place waiting)
 leaves_step class place n waiting holds = by_class class
   where
     before : Matching
@@ -179,18 +183,18 @@ leaves_step class place n waiting holds = by_class class
     by_class _ = leaves_all n waiting holds
 
 -- the body that is left is the innermost
-settled : (bodies : List Head) (after : List Opener) → Leaves (length bodies) after → HoldsBodies (length (if is_left bodies after then without_innermost bodies else bodies)) after
+settled : (bodies : List Head) (after : List Opener) → Leaves (length bodies) after → BodiesWaitBelow (length (if is_left bodies after then without_innermost bodies else bodies)) after
 settled bodies after leaves = by_test (is_left bodies after) refl leaves
   where
     fewer : (bodies : List Head) → length bodies - 1 ≡ length (without_innermost bodies)
     fewer [] = omega arith
     fewer (head ∷ bodies) = omega arith
 
-    by_test : (gone : Bool) → is_left bodies after ≡ gone → Leaves (length bodies) after → HoldsBodies (length (if gone then without_innermost bodies else bodies)) after
+    by_test : (gone : Bool) → is_left bodies after ≡ gone → Leaves (length bodies) after → BodiesWaitBelow (length (if gone then without_innermost bodies else bodies)) after
     by_test true e leaves =
         elim leaves [
           | inl all ↦ (let less = ltb-true (length after) (length bodies) e in let many = all.0 in absurd (omega (arith, less, many)))
-          | inr one ↦ subst (λ n. HoldsBodies n after) (fewer bodies) one.1
+          | inr one ↦ subst (λ n. BodiesWaitBelow n after) (fewer bodies) one.1
         ]
     by_test false e leaves =
         elim leaves [
@@ -200,43 +204,55 @@ settled bodies after leaves = by_test (is_left bodies after) refl leaves
 
 -- ## Bodies that begin
 
-opens_brace : (walk : Walk) (stands : Around) (bodies : List Head) (id : ℕ) (class : TokenClass) (head : Head) → opened_head walk stands bodies id class ≡ Some head → is_open_brace class ≡ true
-opens_brace walk stands bodies id class head is = by_brace (is_open_brace class) is
+-- a body is opened by a `{` that stands in no other group
+pub opens_so : (walk : Walk) (stands : Around) (bodies : List Head) (id : ℕ) (class : TokenClass) (head : Head) → opened_head walk stands bodies id class ≡ Some head
+    → (is_open_brace class ≡ true) × (stands ≡ around.Group → ⊥)
+opens_so walk stands bodies id class head is = by_brace (is_open_brace class) refl is
   where
-    by_brace : (brace : Bool) → (if brace then head_of_kind (body_kind walk stands) (begun_before walk stands id) walk.place id (heads_len bodies) else None) ≡ Some head → brace ≡ true
-    by_brace true e = refl
-    by_brace false e = cc
+    by_stands : (stands : Around) → head_of_kind (body_kind walk stands) (begun_before walk stands id) walk.place id (heads_len bodies) ≡ Some head
+        → stands ≡ around.Group → ⊥
+    by_stands around.Outside is group = cc
+    by_stands around.Body is group = cc
+    by_stands around.Group is group = cc
 
-opens_none : (walk : Walk) (bodies : List Head) (id : ℕ) (class : TokenClass) (head : Head) → opened_head walk around.Group bodies id class ≡ Some head → ⊥
-opens_none walk bodies id class head is = by_brace (is_open_brace class) is
-  where
-    by_brace : (brace : Bool) → (if brace then head_of_kind (body_kind walk around.Group) (begun_before walk around.Group id) walk.place id (heads_len bodies) else None) ≡ Some head → ⊥
-    by_brace true e = cc
-    by_brace false e = cc
+    by_brace : (brace : Bool) → is_open_brace class ≡ brace
+        → (if brace then head_of_kind (body_kind walk stands) (begun_before walk stands id) walk.place id (heads_len bodies) else None) ≡ Some head
+        → (is_open_brace class ≡ true) × (stands ≡ around.Group → ⊥)
+    by_brace true brace is = (brace, by_stands stands is)
+    by_brace false brace is = cc
 
-pub opens_within : (walk : Walk) (bodies : List Head) (waiting : List Opener) (id : ℕ) (class : TokenClass) (head : Head) → HoldsBodies (length bodies) waiting → opened_head walk (around_of bodies waiting) bodies id class ≡ Some head
+pub opens_within : (walk : Walk) (bodies : List Head) (waiting : List Opener) (id : ℕ) (class : TokenClass) (head : Head) → BodiesWaitBelow (length bodies) waiting → opened_head walk (around_of bodies waiting) bodies id class ≡ Some head
     → length waiting ≡ length bodies
 opens_within walk bodies [] id class head holds is = (let many = holds_many (length bodies) [] holds in omega (arith, many))
 opens_within walk bodies (o ∷ waiting) id class head holds is = by_test (suc (length waiting) == length bodies) refl is
   where
     by_test : (same : Bool) → (suc (length waiting) == length bodies) ≡ same → opened_head walk (if same then around.Body else around.Group) bodies id class ≡ Some head → suc (length waiting) ≡ length bodies
     by_test true e is = eqb-true (suc (length waiting)) (length bodies) e
-    by_test false e is = absurd (opens_none walk bodies id class head is)
+    by_test false e is = absurd ((opens_so walk around.Group bodies id class head is).1 refl)
 
 -- the `{` of the bodies that are open wait below the others
-pub holds_on : (walk : Walk) (bodies : List Head) (waiting : List Opener) (id : ℕ) (class : TokenClass) → HoldsBodies (length bodies) waiting
-    → HoldsBodies (length (bodies_behind bodies (waiting_behind class walk.place waiting) (opened_head walk (around_of bodies waiting) bodies id class))) (waiting_behind class walk.place waiting)
+pub holds_on : (walk : Walk) (bodies : List Head) (waiting : List Opener) (id : ℕ) (class : TokenClass) → BodiesWaitBelow (length bodies) waiting
+    → BodiesWaitBelow (length (bodies_behind bodies (waiting_behind class walk.place waiting) (opened_head walk (around_of bodies waiting) bodies id class))) (waiting_behind class walk.place waiting)
 holds_on walk bodies waiting id class holds = by_opened (opened_head walk (around_of bodies waiting) bodies id class) refl
   where
-    of_brace : (class : TokenClass) → is_open_brace class ≡ true → length waiting ≡ length bodies → HoldsBodies (suc (length bodies)) (waiting_behind class walk.place waiting)
+    of_brace : (class : TokenClass) → is_open_brace class ≡ true → length waiting ≡ length bodies → BodiesWaitBelow (suc (length bodies)) (waiting_behind class walk.place waiting)
     of_brace OpenBrace e many = inr (refl, many, holds)
     of_brace _ e many = cc
 
-    by_opened : (opened : Option Head) → opened_head walk (around_of bodies waiting) bodies id class ≡ opened → HoldsBodies (length (bodies_behind bodies (waiting_behind class walk.place waiting) opened)) (waiting_behind class walk.place waiting)
+    by_opened : (opened : Option Head) → opened_head walk (around_of bodies waiting) bodies id class ≡ opened → BodiesWaitBelow (length (bodies_behind bodies (waiting_behind class walk.place waiting) opened)) (waiting_behind class walk.place waiting)
     by_opened None is = settled bodies (waiting_behind class walk.place waiting) (leaves_step class walk.place (length bodies) waiting holds)
-    by_opened (Some head) is = of_brace class (opens_brace walk (around_of bodies waiting) bodies id class head is) (opens_within walk bodies waiting id class head holds is)
+    by_opened (Some head) is = of_brace class (opens_so walk (around_of bodies waiting) bodies id class head is).0 (opens_within walk bodies waiting id class head holds is)
 
-pub none_left : (bodies : List Head) (waiting : List Opener) → HoldsBodies (length bodies) waiting → is_left bodies waiting ≡ false
+-- where they alone wait, all are a `{`
+pub all_braces : (waiting : List Opener) → BodiesWaitBelow (length waiting) waiting → AreBraces waiting
+all_braces [] holds = tt
+all_braces (o ∷ below) holds =
+    elim holds [
+      | inl up ↦ (let many = holds_many (suc (length below)) below up in absurd (omega (arith, many)))
+      | inr at ↦ (at.0, all_braces below at.2)
+    ]
+
+pub none_left : (bodies : List Head) (waiting : List Opener) → BodiesWaitBelow (length bodies) waiting → is_left bodies waiting ≡ false
 none_left bodies waiting holds = by_test (is_left bodies waiting) refl
   where
     by_test : (gone : Bool) → is_left bodies waiting ≡ gone → gone ≡ false
@@ -341,12 +357,12 @@ pub braces_before : (n : ℕ) (heads : List Head) → 0 < n → StandBefore n (b
 braces_before n [] some = tt
 braces_before n (head ∷ heads) some = (some, braces_before n heads some)
 
-holds_first : (heads : List Head) → HoldsBodies (length heads) (braces_of heads)
+holds_first : (heads : List Head) → BodiesWaitBelow (length heads) (braces_of heads)
 holds_first [] = tt
 holds_first (head ∷ heads) = inr (refl, braces_many heads, holds_first heads)
 
-pub holds_start : (heads : List Head) → HoldsBodies (length (reverse heads)) (braces_of heads)
-holds_start heads = subst (λ n. HoldsBodies n (braces_of heads)) (sym (length-reverse heads)) (holds_first heads)
+pub holds_start : (heads : List Head) → BodiesWaitBelow (length (reverse heads)) (braces_of heads)
+holds_start heads = subst (λ n. BodiesWaitBelow n (braces_of heads)) (sym (length-reverse heads)) (holds_first heads)
 
 -- each head has an item
 heads_low : (low : ℕ) (heads : List Head) → Stand low heads → low + length heads ≤ heads_end low heads

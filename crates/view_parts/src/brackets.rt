@@ -62,7 +62,7 @@ fn begin_bodies(
 }
 
 /// Goes on with the openers that wait behind a token at a place of a part. `braces` says how many of them are a `{`. It
-/// lets an opener wait itself: braces of the bodies where the part begins may be more than its places.
+/// pushes openers itself: `waiting_step` asks for no more braces than places, and a part may begin in more bodies.
 #[inline(always)]
 fn pass_bracket(
     waiting: &mut Vec<Opener, &Bump>,
