@@ -118,6 +118,10 @@ const PARTS_IN_BLOCKS: &[(&str, &[(u32, u32)])] = &[
         "switch (a) {\ncase 1:\nb;\n#if A\ncase 2:\nc;\n#endif\n}\n}",
         &[(73, 73), (80, 19)],
     ),
+    (
+        "switch (a) {\ncase 1:\nb;\n// one\n#if A\ncase 2:\nc;\n#endif\n}\n}",
+        &[(81, 81)],
+    ),
 ];
 
 /// Pieces of a text, each so many times, and the same of that text.
