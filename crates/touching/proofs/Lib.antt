@@ -9,3 +9,4 @@ pub mod Cuts
 mod Nearer
 pub mod TakenAway
 pub mod Edges
+pub mod EdgeTables

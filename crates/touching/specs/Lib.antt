@@ -2,3 +2,4 @@ pub mod Spelling
 pub mod TakingAway
 pub mod Near
 pub mod Edges
+pub mod EdgeTables

@@ -3,11 +3,14 @@
 //! An [`Edge`] is told once for an item; [`touch_of`] tells from two of them whether the items may touch, for most
 //! items.
 
-ghost use Rattle.std.specs.Prelude.{◌≡◌, ◌==◌};
-ghost use Rattle.touching.specs.declared.edge.Edge.TheVariants.{Quiet};
-ghost use Rattle.touching.specs.Edges.{is_name_byte, is_number_byte, is_operator, byte_edge, punct_edge, begins_with};
-ghost use Rattle.touching.specs.Edges.{known, edge_of, touch_of};
+ghost use Rattle.std.specs.Prelude.{◌≡◌, ◌<◌, [], None, get_or, if◌then◌else◌};
+ghost use Rattle.touching.specs.declared.edge.Edge.TheVariants.{Name};
+ghost use Rattle.touching.specs.declared.edge.First.TheVariants.{Other};
+ghost use Rattle.touching.specs.Edges.{is_operator, known, edge_of, touch_of};
+ghost use Rattle.touching.specs.EdgeTables.{kind_number, first_number, edge_number, first_of, edge_by, long_edge};
 
+use Edge::{Comment, Ending, Name, Number, Operator, Quiet, Text, Unknown};
+use First::{Apostrophe, Digit, Letter, Mark, Other, QuietMark, Quote, Slash};
 use line_tokens::ItemKind;
 
 /// What an item is to the items beside it.
@@ -31,50 +34,210 @@ pub enum Edge {
     Unknown,
 }
 
-/// Whether a byte is a letter of ASCII or `_`.
-#[inline(always)]
-fn is_name_byte(byte: u8) -> bool
-    ensures { result ≡ is_name_byte byte }
-{
-    byte.is_ascii_alphabetic() || byte == b'_'
+/// What an item's first byte is.
+#[derive(Clone, Copy)]
+enum First {
+    /// A letter of ASCII or `_`.
+    Letter,
+    /// A digit.
+    Digit,
+    /// One of `(),;[]{}`.
+    QuietMark,
+    /// A character of the other punctuators, but for `.`, `?` and `/`.
+    Mark,
+    /// `/`
+    Slash,
+    /// `"`
+    Quote,
+    /// `'`
+    Apostrophe,
+    /// Any other byte.
+    Other,
 }
 
-/// Whether a byte is a digit.
+/// Of each byte, what it is as the first of an item.
+const FIRSTS: [First; 256] = [
+    Other, Other, Other, Other, Other, Other, Other, Other, Other, Other, Other, Other, Other,
+    Other, Other, Other, Other, Other, Other, Other, Other, Other, Other, Other, Other, Other,
+    Other, Other, Other, Other, Other, Other, Other, Mark, Quote, Mark, Other, Mark, Mark,
+    Apostrophe, QuietMark, QuietMark, Mark, Mark, QuietMark, Mark, Other, Slash, Digit, Digit,
+    Digit, Digit, Digit, Digit, Digit, Digit, Digit, Digit, Mark, QuietMark, Mark, Mark, Mark,
+    Other, Other, Letter, Letter, Letter, Letter, Letter, Letter, Letter, Letter, Letter, Letter,
+    Letter, Letter, Letter, Letter, Letter, Letter, Letter, Letter, Letter, Letter, Letter, Letter,
+    Letter, Letter, Letter, Letter, QuietMark, Other, QuietMark, Mark, Letter, Other, Letter,
+    Letter, Letter, Letter, Letter, Letter, Letter, Letter, Letter, Letter, Letter, Letter, Letter,
+    Letter, Letter, Letter, Letter, Letter, Letter, Letter, Letter, Letter, Letter, Letter, Letter,
+    Letter, QuietMark, Mark, QuietMark, Mark, Other, Other, Other, Other, Other, Other, Other,
+    Other, Other, Other, Other, Other, Other, Other, Other, Other, Other, Other, Other, Other,
+    Other, Other, Other, Other, Other, Other, Other, Other, Other, Other, Other, Other, Other,
+    Other, Other, Other, Other, Other, Other, Other, Other, Other, Other, Other, Other, Other,
+    Other, Other, Other, Other, Other, Other, Other, Other, Other, Other, Other, Other, Other,
+    Other, Other, Other, Other, Other, Other, Other, Other, Other, Other, Other, Other, Other,
+    Other, Other, Other, Other, Other, Other, Other, Other, Other, Other, Other, Other, Other,
+    Other, Other, Other, Other, Other, Other, Other, Other, Other, Other, Other, Other, Other,
+    Other, Other, Other, Other, Other, Other, Other, Other, Other, Other, Other, Other, Other,
+    Other, Other, Other, Other, Other, Other, Other, Other, Other, Other, Other, Other, Other,
+    Other, Other, Other, Other, Other,
+];
+
+/// Of each kind in its order, the edges of items of one byte and those of longer ones, by the first byte. Those of
+/// longer punctuators are told by their second byte too.
+const EDGES: [[[Edge; 8]; 2]; 10] = [
+    [
+        [
+            Name, Unknown, Unknown, Unknown, Unknown, Unknown, Unknown, Unknown,
+        ],
+        [
+            Name, Unknown, Unknown, Unknown, Unknown, Unknown, Unknown, Unknown,
+        ],
+    ],
+    [
+        [
+            Unknown, Number, Unknown, Unknown, Unknown, Unknown, Unknown, Unknown,
+        ],
+        [
+            Unknown, Number, Unknown, Unknown, Unknown, Unknown, Unknown, Unknown,
+        ],
+    ],
+    [
+        [
+            Unknown, Unknown, Unknown, Unknown, Unknown, Unknown, Text, Unknown,
+        ],
+        [
+            Unknown, Unknown, Unknown, Unknown, Unknown, Unknown, Text, Unknown,
+        ],
+    ],
+    [
+        [
+            Unknown, Unknown, Unknown, Unknown, Unknown, Text, Unknown, Unknown,
+        ],
+        [
+            Unknown, Unknown, Unknown, Unknown, Unknown, Text, Unknown, Unknown,
+        ],
+    ],
+    [
+        [
+            Unknown, Unknown, Quiet, Operator, Operator, Unknown, Unknown, Unknown,
+        ],
+        [
+            Unknown, Unknown, Unknown, Unknown, Unknown, Unknown, Unknown, Unknown,
+        ],
+    ],
+    [
+        [
+            Unknown, Unknown, Unknown, Unknown, Unknown, Unknown, Unknown, Unknown,
+        ],
+        [
+            Unknown, Unknown, Unknown, Unknown, Unknown, Unknown, Unknown, Unknown,
+        ],
+    ],
+    [
+        [
+            Unknown, Unknown, Unknown, Unknown, Unknown, Unknown, Unknown, Unknown,
+        ],
+        [
+            Unknown, Unknown, Unknown, Unknown, Unknown, Unknown, Unknown, Unknown,
+        ],
+    ],
+    [
+        [
+            Unknown, Unknown, Unknown, Unknown, Unknown, Unknown, Unknown, Unknown,
+        ],
+        [
+            Unknown, Unknown, Unknown, Unknown, Unknown, Unknown, Unknown, Unknown,
+        ],
+    ],
+    [
+        [
+            Unknown, Unknown, Unknown, Unknown, Comment, Unknown, Unknown, Unknown,
+        ],
+        [
+            Unknown, Unknown, Unknown, Unknown, Comment, Unknown, Unknown, Unknown,
+        ],
+    ],
+    [
+        [
+            Unknown, Unknown, Unknown, Unknown, Ending, Unknown, Unknown, Unknown,
+        ],
+        [
+            Unknown, Unknown, Unknown, Unknown, Ending, Unknown, Unknown, Unknown,
+        ],
+    ],
+];
+
+/// The two items may not touch.
+const APART: Option<bool> = Some(false);
+
+/// They may.
+const CLOSE: Option<bool> = Some(true);
+
+/// Whether two items may touch, by the edge of the left one and that of the right one, where these tell it.
+const TOUCHES: [[Option<bool>; 8]; 8] = [
+    [APART, APART, CLOSE, CLOSE, None, CLOSE, CLOSE, None],
+    [APART, APART, CLOSE, None, None, CLOSE, CLOSE, None],
+    [CLOSE, CLOSE, CLOSE, CLOSE, CLOSE, CLOSE, CLOSE, None],
+    [CLOSE, CLOSE, CLOSE, None, CLOSE, None, None, None],
+    [CLOSE, CLOSE, CLOSE, CLOSE, CLOSE, CLOSE, CLOSE, None],
+    [CLOSE, CLOSE, CLOSE, CLOSE, CLOSE, CLOSE, CLOSE, None],
+    [APART, APART, APART, APART, APART, APART, APART, None],
+    [None, None, None, None, None, None, None, None],
+];
+
 #[inline(always)]
-fn is_number_byte(byte: u8) -> bool
-    ensures { result ≡ is_number_byte byte }
+fn told_first(firsts: &[First; 256], byte: u8) -> First
+    ensures { result ≡ get_or firsts.now byte Other }
 {
-    byte.is_ascii_digit()
+    firsts[byte as usize]
 }
 
-/// What a punctuator of one byte is to the items beside it.
+/// What a byte is as the first of an item.
 #[inline(always)]
-fn byte_edge(byte: u8) -> Edge
-    ensures { result ≡ byte_edge byte }
+fn first_of(byte: u8) -> First
+    ensures { result ≡ first_of byte }
 {
-    // Every fifth item is one of these two.
-    if matches!(byte, b'(' | b')') {
-        return Edge::Quiet;
-    }
-    match byte {
-        b',' | b';' | b'[' | b']' | b'{' | b'}' => Edge::Quiet,
-        b'!'
-        | b'#'
-        | b'%'
-        | b'&'
-        | b'*'
-        | b'+'
-        | b'-'
-        | b'/'
-        | b':'
-        | b'<'
-        | b'='
-        | b'>'
-        | b'^'
-        | b'|'
-        | b'~' => Edge::Operator,
-        _ => Edge::Unknown,
-    }
+    told_first(&FIRSTS, byte)
+}
+
+/// The row of a kind.
+#[inline(always)]
+fn kind_number(kind: ItemKind) -> usize
+    ensures number { result ≡ kind_number kind }
+    ensures few { result < 10 }
+{
+    kind as usize
+}
+
+/// The column of a first byte.
+#[inline(always)]
+fn first_number(first: First) -> usize
+    ensures number { result ≡ first_number first }
+    ensures few { result < 8 }
+{
+    first as usize
+}
+
+/// The place of an edge.
+#[inline(always)]
+fn edge_number(edge: Edge) -> usize
+    ensures number { result ≡ edge_number edge }
+    ensures few { result < 8 }
+{
+    edge as usize
+}
+
+#[inline(always)]
+fn told_edge(edges: &[[[Edge; 8]; 2]; 10], kind: ItemKind, long: bool, first: First) -> Edge
+    ensures { result ≡ get_or (get_or (get_or edges.now (kind_number kind) []) (if long then 1 else 0) []) (first_number first) Name }
+{
+    edges[kind_number(kind)][long as usize][first_number(first)]
+}
+
+/// What an item of this kind is to the items beside it, as far as its first byte tells it, and whether it is longer.
+#[inline(always)]
+fn edge_by(kind: ItemKind, long: bool, first: First) -> Edge
+    ensures { result ≡ edge_by kind long first }
+{
+    told_edge(&EDGES, kind, long, first)
 }
 
 /// Whether a byte is an operator by itself.
@@ -82,23 +245,7 @@ fn byte_edge(byte: u8) -> Edge
 fn is_operator(byte: u8) -> bool
     ensures { result ≡ is_operator byte }
 {
-    matches!(
-        byte,
-        b'!' | b'#'
-            | b'%'
-            | b'&'
-            | b'*'
-            | b'+'
-            | b'-'
-            | b'/'
-            | b':'
-            | b'<'
-            | b'='
-            | b'>'
-            | b'^'
-            | b'|'
-            | b'~'
-    )
+    matches!(first_of(byte), Mark | Slash)
 }
 
 /// An edge, where that is known.
@@ -106,108 +253,51 @@ fn is_operator(byte: u8) -> bool
 fn known(edge: Edge, is: bool) -> Edge
     ensures { result ≡ known edge is }
 {
-    if is { edge } else { Edge::Unknown }
+    if is { edge } else { Unknown }
 }
 
-/// What a punctuator with these bytes is to the items beside it.
-#[inline(always)]
-fn punct_edge(raw: &[u8]) -> Edge
-    ensures { result ≡ punct_edge raw.now }
+/// What an item is to the items beside it, where its first byte doesn't tell it.
+#[inline(never)]
+fn long_edge(kind: ItemKind, raw: &[u8]) -> Edge
+    ensures { result ≡ long_edge kind raw.now }
 {
-    match raw {
-        [b] => byte_edge(*b),
-        [a, b] => known(Edge::Operator, is_operator(*a) && is_operator(*b)),
-        _ => Edge::Unknown,
+    match kind {
+        ItemKind::Punct => match raw {
+            [one, two] => known(Operator, is_operator(*one) && is_operator(*two)),
+            _ => Unknown,
+        },
+        _ => Unknown,
     }
 }
 
-/// Whether the first byte is this one.
-#[inline(always)]
-fn begins_in(byte: u8, raw: &[u8]) -> bool
-    ensures { result ≡ begins_with (λ a. a == byte) raw.now }
-{
-    match raw {
-        [a, ..] => *a == byte,
-        _ => false,
-    }
-}
-
-/// Whether the first byte is a letter of ASCII or `_`.
-#[inline(always)]
-fn begins_name(raw: &[u8]) -> bool
-    ensures { result ≡ begins_with is_name_byte raw.now }
-{
-    match raw {
-        [a, ..] => is_name_byte(*a),
-        _ => false,
-    }
-}
-
-/// Whether the first byte is a digit.
-#[inline(always)]
-fn begins_number(raw: &[u8]) -> bool
-    ensures { result ≡ begins_with is_number_byte raw.now }
-{
-    match raw {
-        [a, ..] => is_number_byte(*a),
-        _ => false,
-    }
-}
-
-/// What an item of this kind with these bytes is to the items beside it.
+/// What an item of this kind with these bytes is to the items beside it. The first byte tells it of most.
 #[inline(always)]
 pub fn edge_of(kind: ItemKind, raw: &[u8]) -> Edge
     ensures { result ≡ edge_of kind raw.now }
 {
-    match kind {
-        ItemKind::Identifier => known(Edge::Name, begins_name(raw)),
-        ItemKind::Number => known(Edge::Number, begins_number(raw)),
-        ItemKind::Punct => punct_edge(raw),
-        ItemKind::StringLit => known(Edge::Text, begins_in(b'"', raw)),
-        ItemKind::CharConst => known(Edge::Text, begins_in(b'\'', raw)),
-        ItemKind::BlockComment => known(Edge::Comment, begins_in(b'/', raw)),
-        ItemKind::LineComment => known(Edge::Ending, begins_in(b'/', raw)),
-        _ => Edge::Unknown,
+    match raw {
+        [] => Unknown,
+        [first, ..] => {
+            let edge = edge_by(kind, raw.len() > 1, first_of(*first));
+            match edge {
+                Unknown => long_edge(kind, raw),
+                _ => edge,
+            }
+        }
     }
 }
 
-/// Whether an item may touch one behind it with which nothing goes on, where what it is tells that.
 #[inline(always)]
-fn touch_of_quiet(left: Edge) -> Option<bool>
-    ensures { result ≡ touch_of left Quiet }
+fn told_touch(touches: &[[Option<bool>; 8]; 8], left: Edge, right: Edge) -> Option<bool>
+    ensures { result ≡ get_or (get_or touches.now (edge_number left) []) (edge_number right) None }
 {
-    match left {
-        Edge::Ending => Some(false),
-        Edge::Unknown => None,
-        _ => Some(true),
-    }
+    touches[edge_number(left)][edge_number(right)]
 }
 
 /// Whether two items may touch, where what they are to one another tells it.
-///
-/// It asks for the second first, which its reader has just told.
 #[inline(always)]
 pub fn touch_of(left: Edge, right: Edge) -> Option<bool>
     ensures { result ≡ touch_of left right }
 {
-    match right {
-        Edge::Name | Edge::Number => match left {
-            Edge::Name | Edge::Number => Some(false),
-            _ => touch_of_quiet(left),
-        },
-        Edge::Quiet => touch_of_quiet(left),
-        Edge::Operator => match left {
-            Edge::Number | Edge::Operator => None,
-            _ => touch_of_quiet(left),
-        },
-        Edge::Text => match left {
-            Edge::Name | Edge::Number => None,
-            _ => touch_of_quiet(left),
-        },
-        Edge::Comment | Edge::Ending => match left {
-            Edge::Operator => None,
-            _ => touch_of_quiet(left),
-        },
-        Edge::Unknown => None,
-    }
+    told_touch(&TOUCHES, left, right)
 }
