@@ -1,14 +1,12 @@
 //! Items whose first bytes tell whether they may touch, as those of most do.
 
-ghost use Rattle.std.specs.Prelude.{◌≡◌, ◌==◌, ◌<◌, ◌&&◌, ◌||◌, ◌∷◌, [], codes, length, map, IfSome};
-ghost use Rattle.std.specs.List.{list_any};
+ghost use Rattle.std.specs.Prelude.{◌≡◌, ◌==◌, ◌<◌, ◌&&◌, ◌||◌, ◌∷◌, [], codes, length, IfSome};
 ghost use Rattle.c_grammar.specs.Grammar.{is_of, is_sign};
-ghost use Rattle.c_grammar.specs.Touch.{is_front, is_identifier, is_number, is_other_kind, is_punct, may_touch};
+ghost use Rattle.c_grammar.specs.Touch.{is_identifier, is_number, is_other_kind, may_touch};
 ghost use Rattle.c_grammar.specs.Touch.{punct_goes_on, takes_line, word_by_word};
-ghost use Rattle.touching.specs.Near.{is_plain, pair_goes_on, seconds, thirds};
+ghost use Rattle.touching.specs.Near.{is_plain, pair_goes_on, thirds};
 ghost use Rattle.touching.specs.Spelling.{spelling};
 
-use crate::touch::GOING_ON;
 use c_chars::Dialect;
 use c_grammar::{ItemKind, bytes};
 
@@ -71,44 +69,37 @@ fn keeps_apart(left: ItemKind, right: ItemKind) -> bool
 
 /// Whether a byte is one of these.
 #[inline(always)]
-fn is_second(right: u8) -> bool
-    ensures { result ≡ is_of seconds right }
-{
-    matches!(
-        right,
-        b':' | b'/' | b'*' | b'>' | b'+' | b'-' | b'<' | b'=' | b'&' | b'|' | b'#' | b'%' | b'.'
-    )
-}
-
-/// Whether a byte is one of these.
-#[inline(always)]
 fn is_third(right: u8) -> bool
     ensures { result ≡ is_of thirds right }
 {
     matches!(right, b'=' | b'.' | b'%')
 }
 
-/// Whether a word begins with these two.
+/// Whether a punctuator begins with this byte and a `=`.
 #[inline(always)]
-fn begins_with(left: u8, right: u8, word: &[u8]) -> bool
-    ensures { result ≡ is_front (left ∷ right ∷ []) word.now }
+fn is_before_equals(left: u8) -> bool
+    ensures { result ≡ is_of (codes "*/%+-<>&^|=!") left }
 {
-    match word {
-        [a, b, ..] => left == *a && right == *b,
-        _ => false,
-    }
+    matches!(
+        left,
+        b'*' | b'/' | b'%' | b'+' | b'-' | b'<' | b'>' | b'&' | b'^' | b'|' | b'=' | b'!'
+    )
 }
 
-/// Whether a word of this table begins with these two.
-fn some_begins(left: u8, right: u8, table: &[&[u8]]) -> bool
-    ensures { result ≡ list_any (is_front (left ∷ right ∷ [])) (map (λ p. p.now) table.now) }
+/// Whether a punctuator begins with this byte and a `>`.
+#[inline(always)]
+fn is_before_greater(left: u8) -> bool
+    ensures { result ≡ is_of (codes "->:%") left }
 {
-    for word in table {
-        if begins_with(left, right, word) {
-            return true;
-        }
-    }
-    false
+    matches!(left, b'-' | b'>' | b':' | b'%')
+}
+
+/// Whether a punctuator, or `::`, begins with this byte and a `:`.
+#[inline(always)]
+fn is_before_colon(left: u8) -> bool
+    ensures { result ≡ is_of (codes ":<%") left }
+{
+    matches!(left, b':' | b'<' | b'%')
 }
 
 /// Whether a punctuator or a comment begins with these two.
@@ -116,10 +107,15 @@ fn some_begins(left: u8, right: u8, table: &[&[u8]]) -> bool
 fn pair_goes_on(left: u8, right: u8) -> bool
     ensures { result ≡ pair_goes_on left right }
 {
-    if !is_second(right) {
-        return false;
+    match right {
+        b'=' => is_before_equals(left),
+        b'>' => is_before_greater(left),
+        b':' => is_before_colon(left),
+        b'*' => left == b'/',
+        b'%' => left == b'<',
+        b'/' | b'+' | b'-' | b'<' | b'&' | b'|' | b'#' | b'.' => left == right,
+        _ => false,
     }
-    some_begins(left, right, &GOING_ON)
 }
 
 /// Whether a punctuator goes on with a character, where its bytes tell it.

@@ -16,7 +16,7 @@ use c_grammar::{ItemKind, bytes};
 use c_lexer::Item;
 
 /// `::`, the two that begin a comment, and the punctuators of C11 6.4.6.
-pub(crate) const GOING_ON: [&[u8]; 57] = [
+const GOING_ON: [&[u8]; 57] = [
     b"::", b"//", b"/*", b"[", b"]", b"(", b")", b"{", b"}", b".", b"->", b"++", b"--", b"&", b"*",
     b"+", b"-", b"~", b"!", b"/", b"%", b"<<", b">>", b"<", b">", b"<=", b">=", b"==", b"!=", b"^",
     b"|", b"&&", b"||", b"?", b":", b";", b"...", b"=", b"*=", b"/=", b"%=", b"+=", b"-=", b"<<=",
