@@ -1,5 +1,5 @@
 -- The tables of edges tell what the edges are.
-use Rattle.std.proofs.Common.{◌≡◌, ◌<◌, ◌≤◌, ◌∙◌, ◌∷◌, [], ℕ, ◌+◌, Bool, true, false, Option, None, List, refl, sym, ap, get_or, length, map, nat_lt, arith}
+use Rattle.std.proofs.Common.{◌≡◌, ◌==◌, ◌<◌, ◌≤◌, ◌∙◌, ◌∷◌, [], ℕ, ◌+◌, Bool, true, false, Option, None, List, refl, sym, ap, get_or, length, map, nat_lt, arith}
 use Rattle.std.specs.Prelude.{if◌then◌else◌}
 use Rattle.std.specs.List.{range_with_len}
 use Rattle.std.proofs.lemmas.Bool.{lt-ltb}
@@ -8,10 +8,10 @@ use Rattle.std.proofs.lemmas.List.FromFn.{get_or-range_with_len, length-range_wi
 use Rattle.c_grammar.specs.declared.ItemKind.{ItemKind}
 use Rattle.c_grammar.specs.declared.ItemKind.TheVariants.{Identifier, Number as NumberKind, CharConst, StringLit, Punct, HeaderName, StrayQuote, Other as OtherKind, BlockComment, LineComment}
 use Rattle.touching.specs.declared.edge.Edge.{Edge}
-use Rattle.touching.specs.declared.edge.Edge.TheVariants.{Name, Number, Quiet, Operator, Text, Comment, Ending, Unknown}
+use Rattle.touching.specs.declared.edge.Edge.TheVariants.{Name, Number, Quiet, Operator, Text, Comment, Ending, Point, Unknown}
 use Rattle.touching.specs.declared.edge.First.{First}
 use Rattle.touching.specs.declared.edge.First.TheVariants.{Letter, Digit, QuietMark, Mark, Slash, Quote, Apostrophe, Other}
-use Rattle.touching.specs.Edges.{edge_of, touch_of}
+use Rattle.touching.specs.Edges.{known, edge_of, touch_of}
 use Rattle.touching.specs.EdgeTables.{kind_number, first_number, edge_number, first_of, edge_by, long_edge}
 
 -- ## Bytes
@@ -50,7 +50,7 @@ abbrev firsts : List First
 firsts = Letter ∷ Digit ∷ QuietMark ∷ Mark ∷ Slash ∷ Quote ∷ Apostrophe ∷ Other ∷ []
 
 abbrev edges : List Edge
-edges = Name ∷ Number ∷ Quiet ∷ Operator ∷ Text ∷ Comment ∷ Ending ∷ Unknown ∷ []
+edges = Name ∷ Number ∷ Quiet ∷ Operator ∷ Text ∷ Comment ∷ Ending ∷ Point ∷ Unknown ∷ []
 
 in_kinds : (p : ItemKind → List (List Edge)) (kind : ItemKind) → get_or (map p kinds) (kind_number kind) [] ≡ p kind
 in_kinds p Identifier = refl
@@ -86,6 +86,7 @@ in_lefts p Operator = refl
 in_lefts p Text = refl
 in_lefts p Comment = refl
 in_lefts p Ending = refl
+in_lefts p Point = refl
 in_lefts p Unknown = refl
 
 in_rights : (p : Edge → Option Bool) (edge : Edge) → get_or (map p edges) (edge_number edge) None ≡ p edge
@@ -96,6 +97,7 @@ in_rights p Operator = refl
 in_rights p Text = refl
 in_rights p Comment = refl
 in_rights p Ending = refl
+in_rights p Point = refl
 in_rights p Unknown = refl
 
 abbrev by_first : ItemKind → Bool → List Edge
@@ -127,7 +129,7 @@ one_told Identifier b h = edges_agree (λ n. or_else (edge_by Identifier false (
 one_told NumberKind b h = edges_agree (λ n. or_else (edge_by NumberKind false (first_of n)) Unknown) (λ n. edge_of NumberKind (n ∷ [])) refl b h
 one_told CharConst b h = edges_agree (λ n. or_else (edge_by CharConst false (first_of n)) Unknown) (λ n. edge_of CharConst (n ∷ [])) refl b h
 one_told StringLit b h = edges_agree (λ n. or_else (edge_by StringLit false (first_of n)) Unknown) (λ n. edge_of StringLit (n ∷ [])) refl b h
-one_told Punct b h = edges_agree (λ n. or_else (edge_by Punct false (first_of n)) Unknown) (λ n. edge_of Punct (n ∷ [])) refl b h
+one_told Punct b h = edges_agree (λ n. or_else (edge_by Punct false (first_of n)) (known Point (n == 46))) (λ n. edge_of Punct (n ∷ [])) refl b h
 one_told BlockComment b h = edges_agree (λ n. or_else (edge_by BlockComment false (first_of n)) Unknown) (λ n. edge_of BlockComment (n ∷ [])) refl b h
 one_told LineComment b h = edges_agree (λ n. or_else (edge_by LineComment false (first_of n)) Unknown) (λ n. edge_of LineComment (n ∷ [])) refl b h
 one_told HeaderName b h = refl
@@ -170,6 +172,7 @@ or_else_known Operator behind not = refl
 or_else_known Text behind not = refl
 or_else_known Comment behind not = refl
 or_else_known Ending behind not = refl
+or_else_known Point behind not = refl
 
 -- where it does
 pub known_first : (kind : ItemKind) (raw : List ℕ) (edge : Edge) → 1 ≤ length raw → get_or raw 0 0 < 256

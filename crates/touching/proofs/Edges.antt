@@ -12,8 +12,8 @@ use Rattle.touching.specs.Near.{is_plain, seconds, thirds, going_on}
 use Rattle.touching.specs.Spelling.{spelling}
 use Rattle.touching.proofs.PlainBytes.{near_is, one_goes_on, two_stay, pair_stays}
 use Rattle.touching.specs.declared.edge.Edge.{Edge}
-use Rattle.touching.specs.declared.edge.Edge.TheVariants.{Name, Number, Quiet, Operator, Text, Comment, Ending, Unknown}
-use Rattle.touching.specs.Edges.{is_name_byte, is_number_byte, is_quiet, is_operator, punct_edge, begins_with, known, edge_of, touch_of_name, touch_of_number, touch_of_operator, touch_behind, touch_of}
+use Rattle.touching.specs.declared.edge.Edge.TheVariants.{Name, Number, Quiet, Operator, Text, Comment, Ending, Point, Unknown}
+use Rattle.touching.specs.Edges.{is_name_byte, is_number_byte, is_quiet, is_operator, punct_edge, begins_with, known, edge_of, touch_of_name, touch_of_number, touch_of_operator, touch_of_point, touch_behind, touch_of}
 
 -- ## Bytes
 
@@ -145,6 +145,12 @@ slash_sign : (b : ℕ) → (b == 47) ≡ true → signs b ≡ false
 unfolding is_sign
 slash_sign b h = subst (λ x. signs x ≡ false) (sym (eqb-true b 47 h)) refl
 
+point_plain : (b : ℕ) → (b == 46) ≡ true → is_plain b ≡ true
+point_plain b h = subst (λ x. is_plain x ≡ true) (sym (eqb-true b 46 h)) refl
+
+point_quote : (b : ℕ) → (b == 46) ≡ true → is_of quotes b ≡ false
+point_quote b h = subst (λ x. is_of quotes x ≡ false) (sym (eqb-true b 46 h)) refl
+
 -- ## Edges
 
 record Begins (test : ℕ → Bool) (s : List ℕ) : Type 0 where
@@ -170,16 +176,19 @@ Facts Operator k s = (k ≡ Punct) × ((length s ≡ 1) ⊎ ((length s ≡ 2) ×
 Facts Text k s = IsApart k × (is_punct k ≡ false) × Begins (is_of quotes) s
 Facts Comment k s = (k ≡ BlockComment) × Begins (λ b. b == 47) s
 Facts Ending k s = (k ≡ LineComment) × Begins (λ b. b == 47) s
+Facts Point k s = (k ≡ Punct) × (length s ≡ 1) × Begins (λ b. b == 46) s
 Facts Unknown k s = Unit {0}
 
 known_facts : (edge : Edge) (is : Bool) (k : ItemKind) (s : List ℕ) → (is ≡ true → Facts edge k s) → Facts (known edge is) k s
 known_facts edge true k s f = f refl
 known_facts edge false k s f = tt
 
-one_facts : (a : ℕ) (q o : Bool) → is_quiet a ≡ q → is_operator a ≡ o → Facts (if q then Quiet else (if o then Operator else Unknown)) Punct (a ∷ [])
-one_facts a true o hq ho = (refl, refl, record { some = omega arith; first = hq })
-one_facts a false true hq ho = (refl, inl refl, record { some = omega arith; first = ho })
-one_facts a false false hq ho = tt
+one_facts : (a : ℕ) (q o p : Bool) → is_quiet a ≡ q → is_operator a ≡ o → (a == 46) ≡ p
+    → Facts (if q then Quiet else (if o then Operator else (if p then Point else Unknown))) Punct (a ∷ [])
+one_facts a true o p hq ho hp = (refl, refl, record { some = omega arith; first = hq })
+one_facts a false true p hq ho hp = (refl, inl refl, record { some = omega arith; first = ho })
+one_facts a false false true hq ho hp = (refl, refl, record { some = omega arith; first = hp })
+one_facts a false false false hq ho hp = tt
 
 two_facts : (a b : ℕ) → (is_operator a && is_operator b) ≡ true → Facts Operator Punct (a ∷ b ∷ [])
 two_facts a b h =
@@ -188,7 +197,7 @@ two_facts a b h =
 
 punct_facts : (s : List ℕ) → Facts (punct_edge s) Punct s
 punct_facts [] = tt
-punct_facts (a ∷ []) = one_facts a (is_quiet a) (is_operator a) refl refl
+punct_facts (a ∷ []) = one_facts a (is_quiet a) (is_operator a) (a == 46) refl refl refl
 punct_facts (a ∷ b ∷ []) = known_facts Operator (is_operator a && is_operator b) Punct (a ∷ b ∷ []) (two_facts a b)
 punct_facts (a ∷ b ∷ c ∷ s) = tt
 
@@ -233,6 +242,7 @@ sound_of Operator k t said touch f h = is_sound k Punct t f.0 refl f.2.some (ope
 sound_of Text k t said touch f h = record { some = f.2.some; plain = (quote_closed (get_or t 0 0) f.2.first).plain; other = f.0.other }
 sound_of Comment k t said touch f h = is_sound k BlockComment t f.0 refl f.1.some (slash_soft (get_or t 0 0) f.1.first).plain
 sound_of Ending k t said touch f h = is_sound k LineComment t f.0 refl f.1.some (slash_soft (get_or t 0 0) f.1.first).plain
+sound_of Point k t said touch f h = is_sound k Punct t f.0 refl f.2.some (point_plain (get_or t 0 0) f.2.first)
 sound_of Unknown k t said touch f h = absurd (no_some touch h)
 
 some_is : (a b : Bool) → Some a ≡ Some b → b ≡ a
@@ -246,6 +256,7 @@ said_is Operator said touch h = some_is said touch h
 said_is Text said touch h = some_is said touch h
 said_is Comment said touch h = some_is said touch h
 said_is Ending said touch h = some_is said touch h
+said_is Point said touch h = some_is said touch h
 said_is Unknown said touch h = absurd (no_some touch h)
 
 -- what stands behind a word tells whether it goes on with it
@@ -268,6 +279,8 @@ behind_name Comment k t touch f h =
     (record { words = false; sound = sound_of Comment k t true true f refl; is = rw f.0 refl; told = some_is true touch h }, (slash_soft (get_or t 0 0) f.1.first).quote)
 behind_name Ending k t touch f h =
     (record { words = false; sound = sound_of Ending k t true true f refl; is = rw f.0 refl; told = some_is true touch h }, (slash_soft (get_or t 0 0) f.1.first).quote)
+behind_name Point k t touch f h =
+    (record { words = false; sound = sound_of Point k t true true f refl; is = rw f.0 refl; told = some_is true touch h }, point_quote (get_or t 0 0) f.2.first)
 behind_name Text k t touch f h = absurd (no_some touch h)
 behind_name Unknown k t touch f h = absurd (no_some touch h)
 
@@ -278,6 +291,7 @@ behind_number Quiet k t touch f h = ((behind_name Quiet k t touch f h).0, (quiet
 behind_number Comment k t touch f h = ((behind_name Comment k t touch f h).0, slash_sign (get_or t 0 0) f.1.first)
 behind_number Ending k t touch f h = ((behind_name Ending k t touch f h).0, slash_sign (get_or t 0 0) f.1.first)
 behind_number Operator k t touch f h = absurd (no_some touch h)
+behind_number Point k t touch f h = absurd (no_some touch h)
 behind_number Text k t touch f h = absurd (no_some touch h)
 behind_number Unknown k t touch f h = absurd (no_some touch h)
 
@@ -304,6 +318,7 @@ behind_operator Text k t touch f h =
 behind_operator Operator k t touch f h = absurd (no_some touch h)
 behind_operator Comment k t touch f h = absurd (no_some touch h)
 behind_operator Ending k t touch f h = absurd (no_some touch h)
+behind_operator Point k t touch f h = absurd (no_some touch h)
 behind_operator Unknown k t touch f h = absurd (no_some touch h)
 
 -- ## Quiet punctuators
@@ -383,6 +398,27 @@ by_quiet d rk s t one first sound =
     by_punct d rk s t first.some b.plain b.point sound
     (sym (none_of (get_or s 0 0) (get_or t 0 0) going_on first.first refl) ∙ one_goes_on d Punct s (get_or t 0 0) refl one b.plain)
 
+by_point : (d : Dialect) (rk : ItemKind) (s t : List ℕ) → length s ≡ 1 → Begins (λ b. b == 46) s → rk ≡ Identifier → Begins is_name_byte t
+    → true ≡ may_touch Punct (spelling d s) rk (spelling d t)
+by_point d rk s t one first kind name =
+    let b = name_still (get_or t 0 0) name.first in
+    let plain = point_plain (get_or s 0 0) first.first in
+    let stays : false ≡ punct_goes_on Punct (spelling d s) (get_or t 0 0 ∷ []) = sym (pair_stays (get_or s 0 0) (get_or t 0 0) b.second) ∙ one_goes_on d Punct s (get_or t 0 0) refl one plain in
+    near_is d Punct rk s t false false first.some name.some plain b.plain refl refl (and_right (get_or s 0 0 == 46) (is_number rk) (ap is_number kind))
+    (or_from (is_other_kind rk) false (ap is_other_kind kind) refl) refl stays
+
+behind_point : (r : Edge) (d : Dialect) (rk : ItemKind) (s t : List ℕ) (touch : Bool) → length s ≡ 1 → Begins (λ b. b == 46) s → Facts r rk t → touch_of_point r ≡ Some touch
+    → touch ≡ may_touch Punct (spelling d s) rk (spelling d t)
+behind_point Name d rk s t touch one first g h = some_is true touch h ∙ by_point d rk s t one first g.0 g.1
+behind_point Number d rk s t touch one first g h = absurd (no_some touch h)
+behind_point Quiet d rk s t touch one first g h = absurd (no_some touch h)
+behind_point Operator d rk s t touch one first g h = absurd (no_some touch h)
+behind_point Text d rk s t touch one first g h = absurd (no_some touch h)
+behind_point Comment d rk s t touch one first g h = absurd (no_some touch h)
+behind_point Ending d rk s t touch one first g h = absurd (no_some touch h)
+behind_point Point d rk s t touch one first g h = absurd (no_some touch h)
+behind_point Unknown d rk s t touch one first g h = absurd (no_some touch h)
+
 -- an item that takes its line
 taken : (x : Bool) → not (x || true) ≡ false
 taken true = refl
@@ -416,6 +452,8 @@ facts_tell Comment r d lk rk s t touch f g h =
     (by_kind d BlockComment rk s t (record { identifier = refl; number = refl; other = refl; line = refl }) refl f.1.some b.plain b.point (sound_of r rk t true touch g h))
 facts_tell Ending r d lk rk s t touch f g h =
     said_is r false touch h ∙ subst (λ (k : ItemKind). false ≡ may_touch k (spelling d s) rk (spelling d t)) (sym f.0) (sym (line_ends (spelling d s) rk (spelling d t)))
+facts_tell Point r d lk rk s t touch f g h =
+    subst (λ (k : ItemKind). touch ≡ may_touch k (spelling d s) rk (spelling d t)) (sym f.0) (behind_point r d rk s t touch f.1 f.2 g h)
 facts_tell Unknown r d lk rk s t touch f g h = absurd (no_some touch h)
 
 -- what two edges tell is so

@@ -3,7 +3,7 @@ use Rattle.std.specs.Prelude.{◌==◌, ℕ, Bool, true, false, if◌then◌else
 use Rattle.c_grammar.specs.declared.ItemKind.{ItemKind}
 use Rattle.c_grammar.specs.declared.ItemKind.TheVariants.{Identifier, Number as NumberKind, CharConst, StringLit, Punct, HeaderName, StrayQuote, Other as OtherKind, BlockComment, LineComment}
 use Rattle.touching.specs.declared.edge.Edge.{Edge}
-use Rattle.touching.specs.declared.edge.Edge.TheVariants.{Name, Number, Quiet, Operator, Text, Comment, Ending, Unknown}
+use Rattle.touching.specs.declared.edge.Edge.TheVariants.{Name, Number, Quiet, Operator, Text, Comment, Ending, Point, Unknown}
 use Rattle.touching.specs.declared.edge.First.{First}
 use Rattle.touching.specs.declared.edge.First.TheVariants.{Letter, Digit, QuietMark, Mark, Slash, Quote, Apostrophe, Other}
 use Rattle.touching.specs.Edges.{is_name_byte, is_number_byte, is_quiet, is_operator, known}
@@ -41,7 +41,8 @@ edge_number Operator = 3
 edge_number Text = 4
 edge_number Comment = 5
 edge_number Ending = 6
-edge_number Unknown = 7
+edge_number Point = 7
+edge_number Unknown = 8
 
 -- what a byte is as the first of an item
 abbrev pub first_of : ℕ → First
@@ -76,5 +77,6 @@ edge_by _ long first = Unknown
 
 -- what an item is to the items beside it, where its first byte doesn't tell it
 abbrev pub long_edge : ItemKind → List ℕ → Edge
+long_edge Punct (a ∷ []) = known Point (a == 46)
 long_edge Punct (a ∷ b ∷ []) = known Operator (is_operator a && is_operator b)
 long_edge kind raw = Unknown

@@ -4,7 +4,7 @@ use Rattle.c_grammar.specs.Grammar.{is_of}
 use Rattle.c_grammar.specs.declared.ItemKind.{ItemKind}
 use Rattle.c_grammar.specs.declared.ItemKind.TheVariants.{Identifier, Number as NumberKind, Punct, StringLit, CharConst, BlockComment, LineComment}
 use Rattle.touching.specs.declared.edge.Edge.{Edge}
-use Rattle.touching.specs.declared.edge.Edge.TheVariants.{Name, Number, Quiet, Operator, Text, Comment, Ending, Unknown}
+use Rattle.touching.specs.declared.edge.Edge.TheVariants.{Name, Number, Quiet, Operator, Text, Comment, Ending, Point, Unknown}
 
 -- a letter of ASCII or `_`
 abbrev pub is_name_byte : ℕ → Bool
@@ -28,7 +28,7 @@ known edge is = if is then edge else Unknown
 
 -- what a punctuator of one byte is to the items beside it
 abbrev pub byte_edge : ℕ → Edge
-byte_edge b = if is_quiet b then Quiet else (if is_operator b then Operator else Unknown)
+byte_edge b = if is_quiet b then Quiet else (if is_operator b then Operator else (if b == 46 then Point else Unknown))
 
 -- what a punctuator with these bytes is to the items beside it
 abbrev pub punct_edge : List ℕ → Edge
@@ -68,6 +68,7 @@ touch_of_number Name = Some false
 touch_of_number Number = Some false
 touch_of_number Operator = None
 touch_of_number Text = None
+touch_of_number Point = None
 touch_of_number _ = Some true
 
 -- behind an operator
@@ -76,7 +77,13 @@ touch_of_operator Unknown = None
 touch_of_operator Operator = None
 touch_of_operator Comment = None
 touch_of_operator Ending = None
+touch_of_operator Point = None
 touch_of_operator _ = Some true
+
+-- behind a point
+abbrev pub touch_of_point : Edge → Option Bool
+touch_of_point Name = Some true
+touch_of_point _ = None
 
 -- behind an item with which nothing goes on
 abbrev pub touch_behind : Bool → Edge → Option Bool
@@ -92,4 +99,5 @@ touch_of Operator right = touch_of_operator right
 touch_of Text right = touch_behind true right
 touch_of Comment right = touch_behind true right
 touch_of Ending right = touch_behind false right
+touch_of Point right = touch_of_point right
 touch_of Unknown right = None

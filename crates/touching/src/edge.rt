@@ -9,7 +9,7 @@ ghost use Rattle.touching.specs.declared.edge.First.TheVariants.{Other};
 ghost use Rattle.touching.specs.Edges.{is_operator, known, edge_of, touch_of};
 ghost use Rattle.touching.specs.EdgeTables.{kind_number, first_number, edge_number, first_of, edge_by, long_edge};
 
-use Edge::{Comment, Ending, Name, Number, Operator, Quiet, Text, Unknown};
+use Edge::{Comment, Ending, Name, Number, Operator, Point, Quiet, Text, Unknown};
 use First::{Apostrophe, Digit, Letter, Mark, Other, QuietMark, Quote, Slash};
 use line_tokens::ItemKind;
 
@@ -30,6 +30,8 @@ pub enum Edge {
     Comment,
     /// A comment that ends with its line.
     Ending,
+    /// A `.` by itself.
+    Point,
     /// Any other item, or none.
     Unknown,
 }
@@ -172,15 +174,16 @@ const APART: Option<bool> = Some(false);
 const CLOSE: Option<bool> = Some(true);
 
 /// Whether two items may touch, by the edge of the left one and that of the right one, where these tell it.
-const TOUCHES: [[Option<bool>; 8]; 8] = [
-    [APART, APART, CLOSE, CLOSE, None, CLOSE, CLOSE, None],
-    [APART, APART, CLOSE, None, None, CLOSE, CLOSE, None],
-    [CLOSE, CLOSE, CLOSE, CLOSE, CLOSE, CLOSE, CLOSE, None],
-    [CLOSE, CLOSE, CLOSE, None, CLOSE, None, None, None],
-    [CLOSE, CLOSE, CLOSE, CLOSE, CLOSE, CLOSE, CLOSE, None],
-    [CLOSE, CLOSE, CLOSE, CLOSE, CLOSE, CLOSE, CLOSE, None],
-    [APART, APART, APART, APART, APART, APART, APART, None],
-    [None, None, None, None, None, None, None, None],
+const TOUCHES: [[Option<bool>; 9]; 9] = [
+    [APART, APART, CLOSE, CLOSE, None, CLOSE, CLOSE, CLOSE, None],
+    [APART, APART, CLOSE, None, None, CLOSE, CLOSE, None, None],
+    [CLOSE, CLOSE, CLOSE, CLOSE, CLOSE, CLOSE, CLOSE, CLOSE, None],
+    [CLOSE, CLOSE, CLOSE, None, CLOSE, None, None, None, None],
+    [CLOSE, CLOSE, CLOSE, CLOSE, CLOSE, CLOSE, CLOSE, CLOSE, None],
+    [CLOSE, CLOSE, CLOSE, CLOSE, CLOSE, CLOSE, CLOSE, CLOSE, None],
+    [APART, APART, APART, APART, APART, APART, APART, APART, None],
+    [CLOSE, None, None, None, None, None, None, None, None],
+    [None, None, None, None, None, None, None, None, None],
 ];
 
 #[inline(always)]
@@ -220,7 +223,7 @@ fn first_number(first: First) -> usize
 #[inline(always)]
 fn edge_number(edge: Edge) -> usize
     ensures number { result ≡ edge_number edge }
-    ensures few { result < 8 }
+    ensures few { result < 9 }
 {
     edge as usize
 }
@@ -263,6 +266,7 @@ fn long_edge(kind: ItemKind, raw: &[u8]) -> Edge
 {
     match kind {
         ItemKind::Punct => match raw {
+            [one] => known(Point, *one == b'.'),
             [one, two] => known(Operator, is_operator(*one) && is_operator(*two)),
             _ => Unknown,
         },
@@ -288,7 +292,7 @@ pub fn edge_of(kind: ItemKind, raw: &[u8]) -> Edge
 }
 
 #[inline(always)]
-fn told_touch(touches: &[[Option<bool>; 8]; 8], left: Edge, right: Edge) -> Option<bool>
+fn told_touch(touches: &[[Option<bool>; 9]; 9], left: Edge, right: Edge) -> Option<bool>
     ensures { result ≡ get_or (get_or touches.now (edge_number left) []) (edge_number right) None }
 {
     touches[edge_number(left)][edge_number(right)]
