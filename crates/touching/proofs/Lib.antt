@@ -9,4 +9,4 @@ pub mod Cuts
 mod Nearer
 pub mod TakenAway
 pub mod Edges
-pub mod EdgeTables
+mod EdgeTables
