@@ -12,3 +12,4 @@ pub mod PlainLemmas
 pub mod NumberLemmas
 pub mod SegmentLemmas
 pub mod Passed
+pub mod CommentParts

@@ -1,9 +1,9 @@
 -- Tokens inside a line begin none.
-use Rattle.std.proofs.Common.{◌≡◌, ◌∙◌, ℕ, suc, ◌+◌, ◌<◌, Bool, true, false, not, nat_eq, Option, None, Some, List, ◌∷◌, ◌++◌, length, drop, get_or, slice_get, arith, ap}
-use Rattle.std.proofs.Math.Seq.{drop-cons}
-use Rattle.unwrapped_lines.specs.Comments.{Tree, is_between, between_at, is_begun, begin_of, begins_line, new_begin, next_marks, list_of, begins_from}
+use Rattle.std.proofs.Common.{◌≡◌, ◌≢◌, ◌∙◌, ℕ, zero, suc, ◌+◌, ◌-◌, ◌<◌, ◌≤◌, Bool, true, false, not, nat_eq, nat_lt, Option, None, Some, List, [], ◌∷◌, ◌++◌, slice_get, length, drop, arith, ap, sym, refl}
+use Rattle.unwrapped_lines.specs.Comments.{Tree, is_between, between_at, is_begun, begin_of, begins_line, new_begin, next_marks, list_of, begins_from, parts_with, token_follows, FollowFrom}
 use Rattle.unwrapped_lines.specs.declared.part.Part.{Part}
-use Rattle.unwrapped_lines.specs.declared.part.Part.TheVariants.{Token}
+use Rattle.unwrapped_lines.specs.declared.part.ViewComment.{ViewComment}
+use Rattle.unwrapped_lines.specs.declared.part.Part.TheVariants.{Token, Inner}
 use Rattle.unwrapped_lines.specs.declared.part.Run.TheVariants.{Apart}
 use Rattle.unwrapped_lines.specs.declared.part.Marks.{Marks}
 use Rattle.unwrapped_lines.specs.declared.part.Begin.{Begin}
@@ -21,17 +21,102 @@ on_inside t ps m inside =
     let behind : Bool → Marks = λ b. record { seen = m.seen + 1; begun = elim b [ true ↦ m.begun + 1 | false ↦ m.begun ]; run = Apart } in
     ap behind inside
 
+pub drop_none : {A : Type 0} (xs : List A) (i : ℕ) → length xs ≤ i → drop i xs ≡ []
+drop_none [] zero h = refl
+drop_none [] (suc i) h = refl
+drop_none (x ∷ xs) zero h = absurd (omega (arith, h))
+drop_none (x ∷ xs) (suc i) h = drop_none xs i (omega (arith, h))
+
+pub follow_less : (k more : ℕ) (comments : List ViewComment) → k ≤ more → FollowFrom more comments → FollowFrom k comments
+follow_less k more [] le h = tt
+follow_less k more (c ∷ comments) le h = omega (arith, le, h)
+
+elsewhere : (a b : ℕ) → a < b → nat_eq b a ≡ false
+elsewhere a b h = grind arith
+
+pub token_first : (n k : ℕ) (comments : List ViewComment) → FollowFrom (k + 1) comments → parts_with (suc n) k comments ≡ Token ∷ parts_with n (k + 1) comments
+token_first n k [] h = refl
+token_first n k (c ∷ comments) h = rw (elsewhere k c.place (omega (arith, h)), parts_with) refl
+
+abbrev marks : ℕ → ℕ → Marks
+marks seen begun = record { seen = seen; begun = begun; run = Apart }
+
 -- what is told of the places from one on that is a token inside a line is what is told behind it
-pub inside_step : (t : Tree) (parts : List Part) (k : ℕ) (m : Marks) (d : Part) → k < length parts → get_or parts k d ≡ Token → is_between t m ≡ false
-    → begins_from t (drop k parts) k m ≡ begins_from t (drop (k + 1) parts) (k + 1) (record { seen = m.seen + 1; begun = m.begun; run = Apart })
-inside_step t parts k m d within token inside =
-    let one : suc k ≡ k + 1 = omega arith in
-    let behind : List Part = drop (k + 1) parts in
-    let split : drop k parts ≡ Token ∷ behind =
-    drop-cons parts k d within ∙ (ap (λ (p : Part). p ∷ drop (suc k) parts) token ∙ ap (λ n. Token ∷ drop n parts) one) in
-    ap (λ (ps : List Part). begins_from t ps k m) split
+inside_step : (t : Tree) (n k : ℕ) (comments : List ViewComment) (m : Marks) → FollowFrom (k + 1) comments → is_between t m ≡ false
+    → begins_from t (parts_with (suc n) k comments) k m ≡ begins_from t (parts_with n (k + 1) comments) (k + 1) (marks (m.seen + 1) m.begun)
+inside_step t n k comments m follow inside =
+    let behind : List Part = parts_with n (k + 1) comments in
+    ap (λ (ps : List Part). begins_from t ps k m) (token_first n k comments follow)
     ∙ (ap (λ (o : Option Begin). list_of o ++ begins_from t behind (k + 1) (next_marks t Token behind m)) (no_begin t k behind m inside)
     ∙ ap (λ (x : Marks). begins_from t behind (k + 1) x) (on_inside t behind m inside))
+
+-- up to so many tokens passed, no line begins
+abbrev pub AreInside : Tree → ℕ → ℕ → Type 0
+AreInside t next begun = (passed : ℕ) → passed < next → between_at t.total passed (slice_get t.lines begun) ≡ false
+
+inside_steps : (d n left k : ℕ) (t : Tree) (comments : List ViewComment) (seen begun next : ℕ) → left ≡ d + n → FollowFrom (k + d) comments → seen + d ≤ next → AreInside t next begun
+    → begins_from t (parts_with left k comments) k (marks seen begun) ≡ begins_from t (parts_with n (k + d) comments) (k + d) (marks (seen + d) begun)
+inside_steps zero n left k t comments seen begun next all follow most inside =
+    let same : left ≡ n = omega (arith, all) in
+    let place : k ≡ k + 0 = omega arith in
+    let passed : seen ≡ seen + 0 = omega arith in
+    ap (λ x. begins_from t (parts_with x k comments) k (marks seen begun)) same
+    ∙ (ap (λ x. begins_from t (parts_with n x comments) x (marks seen begun)) place ∙ ap (λ x. begins_from t (parts_with n (k + 0) comments) (k + 0) (marks x begun)) passed)
+inside_steps (suc d) n left k t comments seen begun next all follow most inside =
+    let one : left ≡ suc (d + n) = omega (arith, all) in
+    let place : k + 1 + d ≡ k + suc d = omega arith in
+    let passed : seen + 1 + d ≡ seen + suc d = omega arith in
+    let later : FollowFrom (k + 1 + d) comments = follow_less (k + 1 + d) (k + suc d) comments (omega arith) follow in
+    ap (λ x. begins_from t (parts_with x k comments) k (marks seen begun)) one
+    ∙ (inside_step t (d + n) k comments (marks seen begun) (follow_less (k + 1) (k + suc d) comments (omega arith) follow) (inside seen (omega (arith, most)))
+    ∙ (inside_steps d n (d + n) (k + 1) t comments (seen + 1) begun next refl later (omega (arith, most)) inside
+    ∙ (ap (λ x. begins_from t (parts_with n x comments) x (marks (seen + 1 + d) begun)) place ∙ ap (λ x. begins_from t (parts_with n (k + suc d) comments) (k + suc d) (marks x begun)) passed)))
+
+-- what is told from a place on, behind which so many tokens stand inside a line, is what is told behind them
+pub inside_row : (d : ℕ) (t : Tree) (count k : ℕ) (comments : List ViewComment) (m : Marks) (next : ℕ) → 0 < d → k + d ≤ count → FollowFrom (k + d) comments → m.seen + d ≤ next → AreInside t next m.begun
+    → begins_from t (parts_with (count - (k + d)) (k + d) comments) (k + d) (marks (m.seen + d) m.begun) ≡ begins_from t (parts_with (count - k) k comments) k m
+inside_row zero t count k comments m next some few follow most inside = absurd (omega (arith, some))
+inside_row (suc d) t count k comments m next some few follow most inside =
+    let n = count - (k + suc d) in
+    let left : count - k ≡ suc (d + n) = omega (arith, few) in
+    let place : k + 1 + d ≡ k + suc d = omega arith in
+    let passed : m.seen + 1 + d ≡ m.seen + suc d = omega arith in
+    let later : FollowFrom (k + 1 + d) comments = follow_less (k + 1 + d) (k + suc d) comments (omega arith) follow in
+    sym (ap (λ x. begins_from t (parts_with x k comments) k m) left
+    ∙ (inside_step t (d + n) k comments m (follow_less (k + 1) (k + suc d) comments (omega arith) follow) (inside m.seen (omega (arith, most)))
+    ∙ (inside_steps d n (d + n) (k + 1) t comments (m.seen + 1) m.begun next refl later (omega (arith, most)) inside
+    ∙ (ap (λ x. begins_from t (parts_with n x comments) x (marks (m.seen + 1 + d) m.begun)) place ∙ ap (λ x. begins_from t (parts_with n (k + suc d) comments) (k + suc d) (marks x m.begun)) passed))))
+
+-- ## The part at a place
+
+one_left : (count k : ℕ) → k < count → count - k ≡ suc (count - (k + 1))
+one_left count k h = omega (arith, h)
+
+pub part_none : (count k : ℕ) → k < count → parts_with (count - k) k [] ≡ Token ∷ parts_with (count - (k + 1)) (k + 1) []
+part_none count k h = ap (λ n. parts_with n k []) (one_left count k h)
+
+pub part_first : (count k : ℕ) (c : ViewComment) (comments : List ViewComment) → k < count → c.place ≡ k → parts_with (count - k) k (c ∷ comments) ≡ c.part ∷ parts_with (count - (k + 1)) (k + 1) comments
+part_first count k c comments h here =
+    let same : nat_eq c.place k ≡ true = grind (arith, here) in
+    ap (λ n. parts_with n k (c ∷ comments)) (one_left count k h) ∙ rw (same, parts_with) refl
+
+pub part_other : (count k : ℕ) (c : ViewComment) (comments : List ViewComment) → k < count → c.place ≢ k → parts_with (count - k) k (c ∷ comments) ≡ Token ∷ parts_with (count - (k + 1)) (k + 1) (c ∷ comments)
+part_other count k c comments h other =
+    let apart : nat_eq c.place k ≡ false = grind (arith, other) in
+    ap (λ n. parts_with n k (c ∷ comments)) (one_left count k h) ∙ rw (apart, parts_with) refl
+
+-- ## A token behind inner comments
+
+pub follows_none : (count k : ℕ) → token_follows (parts_with (count - k) k []) ≡ nat_lt k count
+follows_none count k = elim (nat_lt k count) as (λ x. nat_lt k count ≡ x → token_follows (parts_with (count - k) k []) ≡ x) [
+  | true ↦ λ e. ap token_follows (part_none count k (grind (arith, e)))
+  | false ↦ λ e. let none : count - k ≡ 0 = grind (arith, e) in ap (λ n. token_follows (parts_with n k [])) none
+] refl
+
+pub follows_behind : (count k : ℕ) (c : ViewComment) (comments : List ViewComment) → k < count → c.place ≡ k → c.part ≡ Inner
+    → token_follows (parts_with (count - (k + 1)) (k + 1) comments) ≡ token_follows (parts_with (count - k) k (c ∷ comments))
+follows_behind count k c comments h here inner =
+    sym (ap token_follows (part_first count k c comments h here) ∙ ap (λ (p : Part). token_follows (p ∷ parts_with (count - (k + 1)) (k + 1) comments)) inner)
 
 at_first : (t : Tree) (m : Marks) (l : Line) → slice_get t.lines m.begun ≡ Some l → nat_eq l.first m.seen ≡ true → is_between t m ≡ true
 at_first t m l found first = ap (between_at t.total m.seen) found ∙ first

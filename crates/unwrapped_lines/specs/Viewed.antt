@@ -1,5 +1,5 @@
 -- A view as a list of tokens and comments.
-use Rattle.std.specs.Prelude.{◌≡◌, ◌≤◌, ◌-◌, ◌++◌, drop, ◌&&◌, ◌||◌, not, ℕ, ◌+◌, nat_le, Bool, false, Option, Some, None, List, [], ◌∷◌, length, map, get_or, slice_get, if◌then◌else◌}
+use Rattle.std.specs.Prelude.{◌≡◌, ◌≤◌, nat_lt, ◌-◌, ◌++◌, drop, ◌&&◌, ◌||◌, not, ℕ, ◌+◌, nat_le, Bool, false, Option, Some, None, List, [], ◌∷◌, length, map, get_or, slice_get, if◌then◌else◌}
 use Rattle.token_arena.specs.declared.view.Segment.{Segment}
 use Rattle.token_arena.specs.Gaps.{Contents, item_began}
 use Rattle.token_arena.specs.Stored.{Stored}
@@ -9,6 +9,7 @@ use Rattle.token_classes.specs.Classes.{is_colon, is_comment, is_line_comment}
 use Rattle.token_classes.specs.Viewed.{item_class}
 use Rattle.unwrapped_lines.specs.declared.token.CodeToken.{CodeToken}
 use Rattle.unwrapped_lines.specs.declared.part.Part.{Part}
+use Rattle.unwrapped_lines.specs.declared.part.ViewComment.{ViewComment}
 use Rattle.unwrapped_lines.specs.declared.part.Part.TheVariants.{Token, Own, Trailing, Inner}
 
 -- ## The gaps of the file
@@ -88,3 +89,14 @@ parts_from arena ids k started (c ∷ cs) = part_of arena (get_or ids k 0) start
 -- the parts of a view
 abbrev pub parts_of : Contents → List ℕ → List TokenClass → List Part
 parts_of arena ids classes = parts_from arena ids 0 false classes
+
+-- the comments of a view from a place on, before which so many stand
+abbrev pub comments_from : Contents → List ℕ → ℕ → ℕ → List TokenClass → List ViewComment
+comments_from arena ids k n [] = []
+comments_from arena ids k n (c ∷ cs) =
+    if is_comment c then record { place = k; part = part_of arena (get_or ids k 0) (nat_lt n k) c } ∷ comments_from arena ids (k + 1) (n + 1) cs
+    else comments_from arena ids (k + 1) n cs
+
+-- the comments of a view
+abbrev pub comments_of : Contents → List ℕ → List TokenClass → List ViewComment
+comments_of arena ids classes = comments_from arena ids 0 0 classes

@@ -107,12 +107,13 @@ fn all_colons<'r>(tokens: &[CodeToken], run: &'r Bump) -> Result<Vec<u32, &'r Bu
 /// The colon of each place, or nothing where each `case` has its colon near it: then that is found sooner than kept.
 pub(crate) fn colons<'r>(
     tokens: &[CodeToken],
+    has_case: bool,
     run: &'r Bump,
 ) -> Result<Vec<u32, &'r Bump>, NoMemory>
     requires few { length tokens.now < 2 ^ 30 }
     ensures { IfOk result (λ colons. AreCaseColons colons.items tokens.now) }
 {
-    if has_far_case(tokens) {
+    if has_case && has_far_case(tokens) {
         all_colons(tokens, run)
     } else {
         Ok(Vec::new(run))

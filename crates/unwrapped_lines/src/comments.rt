@@ -1,33 +1,36 @@
 //! Where the lines of a view with its comments begin.
 
-ghost use Rattle.std.specs.Prelude.{◌≡◌, ◌<◌, ◌≤◌, ◌+◌, ◌^◌, ◌++◌, false, drop, length, IfOk, IfSome, Some, List};
+ghost use Rattle.std.specs.Prelude.{◌≡◌, ◌<◌, ◌≤◌, ◌+◌, ◌-◌, ◌^◌, ◌∷◌, ◌++◌, false, length, IfOk, IfSome, Some, List};
 ghost use Rattle.std.specs.Prelude.{slice_get, ℕ};
 ghost use Rattle.unwrapped_lines.specs.declared.part.Part.{Part};
 ghost use Rattle.unwrapped_lines.specs.declared.part.Run.TheVariants.{Apart};
 ghost use Rattle.unwrapped_lines.specs.Comments.{token_follows, between_at, is_between, new_begin, next_marks};
-ghost use Rattle.unwrapped_lines.specs.Comments.{begins_from, no_marks, list_of, begins_line, inner_run};
+ghost use Rattle.unwrapped_lines.specs.Comments.{begins_from, no_marks, list_of, begins_line, inner_run, parts_with, FollowFrom};
 
 use crate::line::Line;
-use crate::part::{Begin, Marks, Part, Run};
+use crate::part::{Begin, Marks, Part, Run, ViewComment};
 use bumpalo::Bump;
 use line_tokens::{LineKind, NoMemory};
 
-/// Whether a token comes after the inner comments at a place.
+/// Whether a token comes after the inner comments at a place, where these comments follow.
 #[inline(never)]
-fn token_follows(parts: &[Part], from: usize) -> bool
-    requires { from ≤ length parts.now }
-    ensures { result ≡ token_follows (drop from parts.now) }
+#[tactic(auto, using(crate::proofs::Passed::follows_none, crate::proofs::Passed::follows_behind))]
+fn token_follows(comments: &[ViewComment], count: usize, from: usize) -> bool
+    ensures { result ≡ token_follows (parts_with (count - from) from comments.now) }
 {
-    let mut i = from;
-    while i < parts.len() {
-        match parts[i] {
+    let mut place = from;
+    for comment in comments {
+        if count <= place || comment.place as usize != place {
+            return place < count;
+        }
+        match comment.part {
             Part::Token => return true,
             Part::Inner => {}
             Part::Own | Part::Trailing => return false,
         }
-        i += 1;
+        place += 1;
     }
-    false
+    place < count
 }
 
 /// Whether no line goes on at a place.
@@ -42,31 +45,36 @@ fn is_between(lines: &[Line], total: usize, end_level: u32, marks: Marks) -> boo
 }
 
 #[inline(always)]
-fn begins_line(parts: &[Part], index: usize, part: Part, marks: Marks) -> bool
-    requires { index < length parts.now }
-    ensures { result ≡ begins_line part (drop (index + 1) parts.now) marks }
+fn begins_line(
+    comments: &[ViewComment],
+    count: usize,
+    behind: usize,
+    part: Part,
+    marks: Marks,
+) -> bool
+    ensures { result ≡ begins_line part (parts_with (count - behind) behind comments.now) marks }
 {
     match part {
         Part::Token => marks.run != Run::Begun,
         Part::Own | Part::Trailing => false,
-        Part::Inner => marks.run == Run::Apart && token_follows(parts, index + 1),
+        Part::Inner => marks.run == Run::Apart && token_follows(comments, count, behind),
     }
 }
 
-/// The line that begins at a place.
+/// The line that begins at a place, behind which these comments follow.
 #[inline(always)]
 fn new_begin(
     lines: &[Line],
     total: usize,
     end_level: u32,
-    parts: &[Part],
+    comments: &[ViewComment],
+    count: usize,
     index: usize,
     part: Part,
     marks: Marks,
 ) -> Option<Begin>
-    requires here { index < length parts.now }
-    requires few { length parts.now < 2 ^ 32 }
-    ensures { result ≡ new_begin (record { lines = lines.now; total = total; end_level = end_level }) index part (drop (index + 1) parts.now) marks }
+    requires few { index < 2 ^ 32 }
+    ensures { result ≡ new_begin (record { lines = lines.now; total = total; end_level = end_level }) index part (parts_with (count - (index + 1)) (index + 1) comments.now) marks }
 {
     if !is_between(lines, total, end_level, marks) {
         return None;
@@ -82,7 +90,7 @@ fn new_begin(
             kind: LineKind::Comment,
         });
     }
-    if begins_line(parts, index, part, marks) {
+    if begins_line(comments, count, index + 1, part, marks) {
         match lines.get(marks.begun) {
             Some(l) => Some(Begin {
                 first: index as u32,
@@ -97,12 +105,11 @@ fn new_begin(
 }
 
 #[inline(always)]
-fn inner_run(between: bool, parts: &[Part], index: usize, run: Run) -> Run
-    requires { index < length parts.now }
-    ensures { result ≡ inner_run between (drop (index + 1) parts.now) run }
+fn inner_run(between: bool, comments: &[ViewComment], count: usize, behind: usize, run: Run) -> Run
+    ensures { result ≡ inner_run between (parts_with (count - behind) behind comments.now) run }
 {
     if between && run == Run::Apart {
-        if token_follows(parts, index + 1) {
+        if token_follows(comments, count, behind) {
             Run::Begun
         } else {
             Run::Joined
@@ -117,15 +124,16 @@ fn next_marks(
     lines: &[Line],
     total: usize,
     end_level: u32,
-    parts: &[Part],
+    comments: &[ViewComment],
+    count: usize,
     index: usize,
     part: Part,
     marks: Marks,
 ) -> Marks
-    requires here { index < length parts.now }
+    requires few { index < 2 ^ 32 }
     requires seen { marks.seen < 2 ^ 40 }
     requires begun { marks.begun < 2 ^ 40 }
-    ensures same { result ≡ next_marks (record { lines = lines.now; total = total; end_level = end_level }) part (drop (index + 1) parts.now) marks }
+    ensures same { result ≡ next_marks (record { lines = lines.now; total = total; end_level = end_level }) part (parts_with (count - (index + 1)) (index + 1) comments.now) marks }
     ensures seen { result.seen ≤ marks.seen + 1 }
     ensures begun { result.begun ≤ marks.begun + 1 }
 {
@@ -153,7 +161,7 @@ fn next_marks(
         Part::Inner => Marks {
             seen: marks.seen,
             begun: marks.begun,
-            run: inner_run(between, parts, index, marks.run),
+            run: inner_run(between, comments, count, index + 1, marks.run),
         },
     }
 }
@@ -176,34 +184,71 @@ struct Walk {
     marks: Marks,
 }
 
-/// Passes tokens inside a line, as most are. What is told of the places behind them is all that is told.
+/// Where the first of these comments stands, or so many places where none does.
 #[inline(always)]
-fn pass_tokens(lines: &[Line], total: usize, end_level: u32, parts: &[Part], from: Walk) -> Walk
-    requires most { from.index ≤ length parts.now }
-    requires few { length parts.now < 2 ^ 32 }
+fn next_comment(comments: &[ViewComment], count: usize) -> usize
+    ensures follow { (k : ℕ) → k ≤ result → FollowFrom k comments.now }
+    ensures most { result ≤ count }
+{
+    match comments {
+        [] => count,
+        [comment, ..] => (comment.place as usize).min(count),
+    }
+}
+
+/// Passes tokens inside a line up to the next comment. What is told of the places behind them is all that is told.
+#[inline(always)]
+fn pass_tokens(
+    lines: &[Line],
+    total: usize,
+    end_level: u32,
+    comments: &[ViewComment],
+    count: usize,
+    from: Walk,
+) -> Walk
+    requires most { from.index ≤ count }
+    requires few { count < 2 ^ 32 }
     requires seen { from.marks.seen ≤ from.index }
-    ensures same { begins_from (record { lines = lines.now; total = total; end_level = end_level }) (drop result.index parts.now) result.index result.marks
-        ≡ begins_from (record { lines = lines.now; total = total; end_level = end_level }) (drop from.index parts.now) from.index from.marks }
-    ensures most { result.index ≤ length parts.now }
+    ensures same { begins_from (record { lines = lines.now; total = total; end_level = end_level }) (parts_with (count - result.index) result.index comments.now) result.index result.marks
+        ≡ begins_from (record { lines = lines.now; total = total; end_level = end_level }) (parts_with (count - from.index) from.index comments.now) from.index from.marks }
+    ensures most { result.index ≤ count }
     ensures on { from.index ≤ result.index }
     ensures seen { result.marks.seen ≤ result.index }
     ensures begun { result.marks.begun ≡ from.marks.begun }
 {
-    let next = next_first(lines, total, from.marks.begun);
-    let begun = from.marks.begun;
-    let Walk {
-        mut index,
-        mut marks,
-    } = from;
-    while index < parts.len() && marks.seen < next && parts[index] == Part::Token {
-        marks = Marks {
-            seen: marks.seen + 1,
-            begun,
-            run: Run::Apart,
-        };
-        index += 1;
+    let end = next_comment(comments, count);
+    let inside = next_first(lines, total, from.marks.begun).saturating_sub(from.marks.seen);
+    let passed = inside.min(end.saturating_sub(from.index));
+    if passed == 0 {
+        return from;
     }
-    Walk { index, marks }
+    Walk {
+        index: from.index + passed,
+        marks: Marks {
+            seen: from.marks.seen + passed,
+            begun: from.marks.begun,
+            run: Run::Apart,
+        },
+    }
+}
+
+/// What stands at a place, where these comments follow, and those that follow behind it.
+#[inline(always)]
+#[tactic(auto, using(crate::proofs::Passed::part_first, crate::proofs::Passed::part_none, crate::proofs::Passed::part_other))]
+fn part_at(comments: &[ViewComment], count: usize, index: usize) -> (Part, &[ViewComment])
+    requires { index < count }
+    ensures { parts_with (count - index) index comments.now ≡ result.0 ∷ parts_with (count - (index + 1)) (index + 1) result.1.now }
+{
+    match comments {
+        [] => (Part::Token, comments),
+        [comment, behind @ ..] => {
+            if comment.place as usize == index {
+                (comment.part, behind)
+            } else {
+                (Part::Token, comments)
+            }
+        }
+    }
 }
 
 /// The line whose first token stands at a place, as nearly every line begins: no inner comments before it have begun
@@ -226,16 +271,63 @@ fn starting(lines: &[Line], total: usize, end_level: u32, part: Part, marks: Mar
     }
 }
 
-/// Where each line of a view begins.
+/// What a place is to the lines: which begins there, and how they stand behind it.
+#[derive(Clone, Copy, Drop)]
+struct Step {
+    begin: Option<Begin>,
+    marks: Marks,
+}
+
+/// One place, behind which these comments follow.
+#[inline(always)]
+fn pass_place(
+    lines: &[Line],
+    total: usize,
+    end_level: u32,
+    comments: &[ViewComment],
+    count: usize,
+    index: usize,
+    part: Part,
+    marks: Marks,
+) -> Step
+    requires few { index < 2 ^ 32 }
+    requires seen { marks.seen ≤ index }
+    requires begun { marks.begun ≤ index }
+    ensures told { list_of result.begin ++ begins_from (record { lines = lines.now; total = total; end_level = end_level }) (parts_with (count - (index + 1)) (index + 1) comments.now) (index + 1) result.marks ≡ begins_from (record { lines = lines.now; total = total; end_level = end_level }) (part ∷ parts_with (count - (index + 1)) (index + 1) comments.now) index marks }
+    ensures seen { result.marks.seen ≤ index + 1 }
+    ensures begun { result.marks.begun ≤ index + 1 }
+{
+    if let Some(line) = starting(lines, total, end_level, part, marks) {
+        return Step {
+            begin: Some(Begin {
+                first: index as u32,
+                level: line.level,
+                kind: line.kind,
+            }),
+            marks: Marks {
+                seen: marks.seen + 1,
+                begun: marks.begun + 1,
+                run: Run::Apart,
+            },
+        };
+    }
+    Step {
+        begin: new_begin(lines, total, end_level, comments, count, index, part, marks),
+        marks: next_marks(lines, total, end_level, comments, count, index, part, marks),
+    }
+}
+
+/// Where each line of a view begins that has so many places and these comments.
 pub fn begins<'r>(
     lines: &[Line],
     total: usize,
     end_level: u32,
-    parts: &[Part],
+    comments: &[ViewComment],
+    count: usize,
     run: &'r Bump,
 ) -> Result<Vec<Begin, &'r Bump>, NoMemory>
-    requires { length parts.now < 2 ^ 32 }
-    ensures { IfOk result (λ r. r.items ≡ begins_from (record { lines = lines.now; total = total; end_level = end_level }) parts.now 0 no_marks) }
+    requires { count < 2 ^ 32 }
+    ensures { IfOk result (λ r. r.items ≡ begins_from (record { lines = lines.now; total = total; end_level = end_level }) (parts_with count 0 comments.now) 0 no_marks) }
 {
     let mut out = Vec::with_capacity(run, lines.len())?;
     let mut marks = Marks {
@@ -244,29 +336,19 @@ pub fn begins<'r>(
         run: Run::Apart,
     };
     let mut index = 0;
-    while index < parts.len() {
-        let behind = pass_tokens(lines, total, end_level, parts, Walk { index, marks });
+    let mut rest = comments;
+    while index < count {
+        let behind = pass_tokens(lines, total, end_level, rest, count, Walk { index, marks });
         index = behind.index;
         marks = behind.marks;
-        if index < parts.len() {
-            let part = parts[index];
-            if let Some(line) = starting(lines, total, end_level, part, marks) {
-                out.push(Begin {
-                    first: index as u32,
-                    level: line.level,
-                    kind: line.kind,
-                })?;
-                marks = Marks {
-                    seen: marks.seen + 1,
-                    begun: marks.begun + 1,
-                    run: Run::Apart,
-                };
-            } else {
-                if let Some(b) = new_begin(lines, total, end_level, parts, index, part, marks) {
-                    out.push(b)?;
-                }
-                marks = next_marks(lines, total, end_level, parts, index, part, marks);
+        if index < count {
+            let (part, follow) = part_at(rest, count, index);
+            rest = follow;
+            let stepped = pass_place(lines, total, end_level, rest, count, index, part, marks);
+            if let Some(begin) = stepped.begin {
+                out.push(begin)?;
             }
+            marks = stepped.marks;
             index += 1;
         }
     }

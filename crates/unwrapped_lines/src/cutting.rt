@@ -13,7 +13,7 @@ use crate::ending::end_level;
 use crate::line::Line;
 use crate::part::Begin;
 use crate::tree::tree_lines;
-use crate::viewed::{code_tokens, parts};
+use crate::viewed::{code_tokens, notes_of};
 use bumpalo::Bump;
 use bumpalo::collections::into_bump_slice;
 use line_tokens::{NoMemory, ULine};
@@ -79,15 +79,22 @@ fn read_lines<'r>(
     let items = arena.len();
     prove!(count <= items);
     let braces = braces_of(style);
+    let noted = notes_of(arena, view, classes, run)?;
     let tokens = code_tokens(arena, view, classes, partners, run)?;
-    let colons = colons(&tokens, run)?;
+    let colons = colons(&tokens, noted.has_case, run)?;
     let tree = tree_lines(&braces, &tokens, &colons, run)?;
     if tokens.len() == count as usize {
         return token_lines(&tree, run);
     }
-    let parts = parts(arena, view, classes, run)?;
     let level = end_level(&braces, &tokens, &colons, run)?;
-    let begins = begins(&tree, tokens.len(), level, &parts, run)?;
+    let begins = begins(
+        &tree,
+        tokens.len(),
+        level,
+        &noted.comments,
+        count as usize,
+        run,
+    )?;
     lines_between(count, &begins, run)
 }
 

@@ -15,6 +15,15 @@ pub enum Part {
     Inner,
 }
 
+/// A comment of a view.
+#[derive(Clone, Copy, Drop)]
+pub struct ViewComment {
+    /// Its place.
+    pub place: u32,
+    /// Which of the three kinds it is.
+    pub part: Part,
+}
+
 /// The inner comments directly before a place: none, or they begin a line, or they belong to the line before.
 #[derive(Clone, Copy, PartialEq, Eq)]
 pub enum Run {

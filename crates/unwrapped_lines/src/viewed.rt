@@ -1,17 +1,18 @@
 //! A view as a list of tokens and comments.
 
-ghost use Rattle.std.specs.Prelude.{◌≡◌, ◌&&◌, ◌<◌, ◌≤◌, ◌+◌, ◌^◌, length, map, get_or, slice_get, vec_capacity, IfOk};
-ghost use Rattle.std.specs.Prelude.{OnOk, Some, true};
+ghost use Rattle.std.specs.Prelude.{◌≡◌, ◌&&◌, ◌∷◌, [], ◌++◌, ◌<◌, ◌≤◌, ◌+◌, ◌^◌, nat_lt, length, map, get_or, slice_get, vec_capacity, IfOk};
+ghost use Rattle.std.specs.Prelude.{OnOk, Some, true, false};
 ghost use Rattle.token_classes.specs.Viewed.{AreWithin, classes_of};
 ghost use Rattle.token_classes.specs.Classes.{is_colon, is_comment};
 ghost use Rattle.token_classes.specs.declared.class.TokenClass.TheVariants.{Nothing};
 ghost use Rattle.unwrapped_lines.specs.Viewed.{line_ends_behind, colon_touches, numbers_of, AreTokensBefore};
-ghost use Rattle.unwrapped_lines.specs.Viewed.{segment_stop, partner_number, token_at, code_tokens, part_of, parts_of};
+ghost use Rattle.unwrapped_lines.specs.Viewed.{segment_stop, partner_number, token_at, code_tokens, comments_of, part_of, parts_of};
+ghost use Rattle.unwrapped_lines.specs.Comments.{parts_with};
 ghost use Rattle.token_arena.specs.Gaps.{item_began};
 ghost use Rattle.token_arena.specs.Segments.{ids_of, segment_bounds, AreSegments, no_segment};
 ghost use Rattle.c_chars.specs.declared.TheConstants.{LIMIT};
 
-use crate::part::Part;
+use crate::part::{Part, ViewComment};
 use crate::token::CodeToken;
 use bumpalo::Bump;
 use line_tokens::{NoMemory, TokenId};
@@ -215,31 +216,73 @@ pub fn comment_part(arena: &TokenArena<'_, '_>, id: u32, started: bool, class: T
     Part::Inner
 }
 
-/// The parts of a view.
-pub(crate) fn parts<'r>(
+/// The comments of a view, and whether it has a `case`.
+#[derive(Drop)]
+pub(crate) struct Noted<'r> {
+    pub(crate) comments: Vec<ViewComment, &'r Bump>,
+    pub(crate) has_case: bool,
+}
+
+/// Whether an item of this class is noted.
+#[inline(always)]
+fn is_noted(class: TokenClass) -> bool
+    ensures { is_comment class ≡ true → result ≡ true }
+{
+    class.is_comment() || class.is_case()
+}
+
+/// Notes the item at a place, of this class.
+#[inline(never)]
+fn note(
+    arena: &TokenArena<'_, '_>,
+    view: &View<'_>,
+    place: u32,
+    class: TokenClass,
+    segment: &mut usize,
+    noted: &mut Noted<'_>,
+) -> Result<(), NoMemory>
+    requires within { AreWithin arena.now view.now }
+    requires place { place < length view.now }
+    ensures other { IfOk result (λ u. is_comment class ≡ false → noted.new.comments.items ≡ noted.old.comments.items) }
+    ensures comment { IfOk result (λ u. is_comment class ≡ true → noted.new.comments.items ≡ noted.old.comments.items ++ record { place = place; part = part_of arena.now (get_or view.now place 0) (nat_lt (length noted.old.comments.items) place) class } ∷ []) }
+{
+    if !class.is_comment() {
+        noted.has_case = true;
+        return Ok(());
+    }
+    let id = view.at_near(place, segment);
+    let started = noted.comments.len() < place as usize;
+    noted.comments.push(ViewComment {
+        place,
+        part: comment_part(arena, id.0, started, class),
+    })?;
+    Ok(())
+}
+
+/// The comments of a view, and whether it has a `case`.
+#[inline(never)]
+pub(crate) fn notes_of<'r>(
     arena: &TokenArena<'_, '_>,
     view: &View<'_>,
     classes: &[TokenClass],
     run: &'r Bump,
-) -> Result<Vec<Part, &'r Bump>, NoMemory>
+) -> Result<Noted<'r>, NoMemory>
     requires within { AreWithin arena.now view.now }
     requires places { length classes.now ≡ length view.now }
     requires few { length classes.now ≤ LIMIT }
-    ensures parts { IfOk result (λ parts. parts.items ≡ parts_of arena.now view.now classes.now) }
-    ensures few { IfOk result (λ parts. length parts.items ≤ LIMIT) }
+    ensures comments { IfOk result (λ noted. noted.comments.items ≡ comments_of arena.now view.now classes.now) }
+    ensures parts { IfOk result (λ noted. parts_with (length view.now) 0 noted.comments.items ≡ parts_of arena.now view.now classes.now) }
 {
-    let mut parts = Vec::with_capacity(run, classes.len())?;
+    let mut noted = Noted {
+        comments: Vec::new(run),
+        has_case: false,
+    };
     let mut segment = 0;
-    let mut started = false;
-    for k in 0..classes.len() {
-        let class = classes[k];
-        if class.is_comment() {
-            let id = view.at_near(k as u32, &mut segment);
-            parts.push_reserved(comment_part(arena, id.0, started, class));
-        } else {
-            parts.push_reserved(Part::Token);
-            started = true;
+    for place in 0..classes.len() {
+        let class = classes[place];
+        if is_noted(class) {
+            note(arena, view, place as u32, class, &mut segment, &mut noted)?;
         }
     }
-    Ok(parts)
+    Ok(noted)
 }

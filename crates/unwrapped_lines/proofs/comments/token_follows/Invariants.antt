@@ -1,12 +1,7 @@
-use Rattle.std.proofs.Common.{◌≡◌, ◌≤◌, ◌-◌, length, drop}
-use Rattle.unwrapped_lines.specs.Comments.{token_follows}
+use Rattle.std.proofs.Common.{◌≡◌, ◌-◌, drop}
+use Rattle.unwrapped_lines.specs.Comments.{token_follows, parts_with}
 use Rattle.unwrapped_lines.proofs.comments.token_follows.Given as goal
 
-abbrev pub invariant-loop-i : goal.invariant-loop-i
-invariant-loop-i l = record {
-  same : token_follows (drop l.i l.parts) ≡ token_follows (drop l.from l.parts);
-  most : l.i ≤ length l.parts;
-}
-
-abbrev pub decreases-loop-i : goal.decreases-loop-i
-decreases-loop-i l = length l.parts - l.i
+abbrev pub invariant-loop-comment : goal.invariant-loop-comment
+invariant-loop-comment l =
+    token_follows (parts_with (l.count - l.place) l.place (drop l.comment-index l.comments)) ≡ token_follows (parts_with (l.count - l.from) l.from l.comments)
