@@ -1,5 +1,5 @@
 -- Tokens inside a line begin none.
-use Rattle.std.proofs.Common.{◌≡◌, ◌≢◌, ◌∙◌, ℕ, zero, suc, ◌+◌, ◌-◌, ◌<◌, ◌≤◌, Bool, true, false, not, nat_eq, nat_lt, Option, None, Some, List, [], ◌∷◌, ◌++◌, slice_get, length, drop, arith, ap, sym, refl}
+use Rattle.std.proofs.Common.{◌≡◌, ◌≢◌, ◌∙◌, ℕ, zero, suc, ◌+◌, ◌-◌, ◌<◌, ◌≤◌, Bool, true, false, not, nat_eq, nat_lt, Option, None, Some, List, [], ◌∷◌, ◌++◌, slice_get, length, drop, arith, ap, sym, refl, subst}
 use Rattle.unwrapped_lines.specs.Comments.{Tree, is_between, between_at, is_begun, begin_of, begins_line, new_begin, next_marks, list_of, begins_from, parts_with, token_follows, FollowFrom}
 use Rattle.unwrapped_lines.specs.declared.part.Part.{Part}
 use Rattle.unwrapped_lines.specs.declared.part.ViewComment.{ViewComment}
@@ -136,3 +136,38 @@ pub line_begun : (t : Tree) (p : Part) (m : Marks) (l : Line) → p ≡ Token �
 line_begun t p m l token found first ps =
     let behind : Bool → Marks = λ b. record { seen = m.seen + 1; begun = elim b [ true ↦ m.begun + 1 | false ↦ m.begun ]; run = Apart } in
     ap (λ (q : Part). next_marks t q ps m) token ∙ ap behind (at_first t m l found first)
+
+token_at : (count k : ℕ) (comments : List ViewComment) → k < count → FollowFrom (k + 1) comments → parts_with (count - k) k comments ≡ Token ∷ parts_with (count - (k + 1)) (k + 1) comments
+token_at count k comments h follow = ap (λ n. parts_with n k comments) (one_left count k h) ∙ token_first (count - (k + 1)) k comments follow
+
+line_here : (t : Tree) (count k : ℕ) (comments : List ViewComment) (m : Marks) (l : Line) → slice_get t.lines m.begun ≡ Some l → l.first ≡ m.seen → is_begun m.run ≡ false → k < count → FollowFrom (k + 1) comments
+    → begins_from t (parts_with (count - k) k comments) k m
+    ≡ record { first = k; level = l.level; kind = l.kind } ∷ begins_from t (parts_with (count - (k + 1)) (k + 1) comments) (k + 1) (marks (m.seen + 1) (m.begun + 1))
+line_here t count k comments m l found same run few follow =
+    let behind : List Part = parts_with (count - (k + 1)) (k + 1) comments in
+    let first : nat_eq l.first m.seen ≡ true = grind (arith, same) in
+    ap (λ (ps : List Part). begins_from t ps k m) (token_at count k comments few follow)
+    ∙ (ap (λ (o : Option Begin). list_of o ++ begins_from t behind (k + 1) (next_marks t Token behind m)) (line_begins t Token m l refl run found first k behind)
+    ∙ ap (λ (x : Marks). record { first = k; level = l.level; kind = l.kind } ∷ begins_from t behind (k + 1) x) (line_begun t Token m l refl found first behind))
+
+inside_before : (t : Tree) (begun : ℕ) (l : Line) → slice_get t.lines begun ≡ Some l → AreInside t l.first begun
+inside_before t begun l found passed h = ap (between_at t.total passed) found ∙ elsewhere passed l.first h
+
+-- what is told from a place on, behind which so many tokens stand inside a line and then another line begins
+pub line_row : (d : ℕ) (t : Tree) (count k : ℕ) (comments : List ViewComment) (m : Marks) (l : Line) → slice_get t.lines m.begun ≡ Some l → l.first ≡ m.seen + d → is_begun m.run ≡ false → k + d < count → FollowFrom (k + d + 1) comments
+    → begins_from t (parts_with (count - k) k comments) k m
+    ≡ record { first = k + d; level = l.level; kind = l.kind } ∷ begins_from t (parts_with (count - (k + d + 1)) (k + d + 1) comments) (k + d + 1) (marks (l.first + 1) (m.begun + 1))
+line_row zero t count k comments m l found same run few follow =
+    let place : k ≡ k + 0 = omega arith in
+    let seen : m.seen + 1 ≡ l.first + 1 = omega (arith, same) in
+    let P : ℕ → Type 0 = λ x. begins_from t (parts_with (count - k) k comments) k m
+    ≡ record { first = x; level = l.level; kind = l.kind } ∷ begins_from t (parts_with (count - (x + 1)) (x + 1) comments) (x + 1) (marks (l.first + 1) (m.begun + 1)) in
+    subst P place
+    (line_here t count k comments m l found (omega (arith, same)) run (omega (arith, few)) (follow_less (k + 1) (k + 0 + 1) comments (omega arith) follow)
+    ∙ ap (λ x. record { first = k; level = l.level; kind = l.kind } ∷ begins_from t (parts_with (count - (k + 1)) (k + 1) comments) (k + 1) (marks x (m.begun + 1))) seen)
+line_row (suc d) t count k comments m l found same run few follow =
+    let passed : Marks = marks (m.seen + suc d) m.begun in
+    let seen : m.seen + suc d + 1 ≡ l.first + 1 = omega (arith, same) in
+    sym (inside_row (suc d) t count k comments m l.first (omega arith) (omega (arith, few)) (follow_less (k + suc d) (k + suc d + 1) comments (omega arith) follow) (omega (arith, same)) (inside_before t m.begun l found))
+    ∙ (line_here t count (k + suc d) comments passed l found same refl few follow
+    ∙ ap (λ x. record { first = k + suc d; level = l.level; kind = l.kind } ∷ begins_from t (parts_with (count - (k + suc d + 1)) (k + suc d + 1) comments) (k + suc d + 1) (marks x (m.begun + 1))) seen)

@@ -196,6 +196,61 @@ fn next_comment(comments: &[ViewComment], count: usize) -> usize
     }
 }
 
+/// Passes the lines that begin before the next comment, as most do. What is told of them and of the places behind
+/// them is all that is told.
+#[inline(always)]
+fn pass_lines(
+    lines: &[Line],
+    total: usize,
+    end_level: u32,
+    comments: &[ViewComment],
+    count: usize,
+    from: Walk,
+    out: &mut Vec<Begin, &Bump>,
+) -> Result<Walk, NoMemory>
+    requires most { from.index ≤ count }
+    requires few { count < 2 ^ 32 }
+    requires seen { from.marks.seen ≤ from.index }
+    requires begun { from.marks.begun ≤ from.index }
+    ensures same { IfOk result (λ walk. out.new.items ++ begins_from (record { lines = lines.now; total = total; end_level = end_level }) (parts_with (count - walk.index) walk.index comments.now) walk.index walk.marks
+        ≡ out.old.items ++ begins_from (record { lines = lines.now; total = total; end_level = end_level }) (parts_with (count - from.index) from.index comments.now) from.index from.marks) }
+    ensures most { IfOk result (λ walk. walk.index ≤ count) }
+    ensures on { IfOk result (λ walk. from.index ≤ walk.index) }
+    ensures seen { IfOk result (λ walk. walk.marks.seen ≤ walk.index) }
+    ensures begun { IfOk result (λ walk. walk.marks.begun ≤ walk.index) }
+{
+    let end = next_comment(comments, count);
+    let mut walk = from;
+    if walk.marks.run == Run::Begun {
+        return Ok(walk);
+    }
+    while walk.marks.begun < lines.len() {
+        let line = &lines[walk.marks.begun];
+        let first = line.first as usize;
+        if first < walk.marks.seen {
+            break;
+        }
+        let place = walk.index + (first - walk.marks.seen);
+        if end <= place {
+            break;
+        }
+        out.push(Begin {
+            first: place as u32,
+            level: line.level,
+            kind: line.kind,
+        })?;
+        walk = Walk {
+            index: place + 1,
+            marks: Marks {
+                seen: first + 1,
+                begun: walk.marks.begun + 1,
+                run: Run::Apart,
+            },
+        };
+    }
+    Ok(walk)
+}
+
 /// Passes tokens inside a line up to the next comment. What is told of the places behind them is all that is told.
 #[inline(always)]
 fn pass_tokens(
@@ -338,7 +393,9 @@ pub fn begins<'r>(
     let mut index = 0;
     let mut rest = comments;
     while index < count {
-        let behind = pass_tokens(lines, total, end_level, rest, count, Walk { index, marks });
+        let from = Walk { index, marks };
+        let walk = pass_lines(lines, total, end_level, rest, count, from, &mut out)?;
+        let behind = pass_tokens(lines, total, end_level, rest, count, walk);
         index = behind.index;
         marks = behind.marks;
         if index < count {
