@@ -74,6 +74,14 @@ at_item n segments j k id rule all h low high place =
       within = omega (arith, fits.end, high);
     }
 
+-- the same of a place between the segment's first and the first behind it
+pub at_place : (n : ℕ) (segments : List Segment) (j k id : ℕ) → AreSegments segments → All (λ i. i < n) (ids_of (map segment_bounds segments)) → j < length segments
+    → (get_or segments j no_segment).before ≤ k → k < segment_stop (get_or segments j no_segment) → k + (get_or segments j no_segment).first ≡ (get_or segments j no_segment).before + id
+    → IsAt n (ids_of (map segment_bounds segments)) k id
+at_place n segments j k id rule all h low high place =
+    let up = in_order n segments j rule all h in
+    at_item n segments j k id rule all h (omega (arith, low, place)) (omega (arith, up, low, high, place)) place
+
 -- ## One place
 
 pub comment_step : (f : ℕ → CodeToken) (classes : List TokenClass) (k : ℕ) (c : TokenClass) (tokens whole : List CodeToken) → k < length classes → is_comment (get_or classes k c) ≡ true

@@ -42,6 +42,10 @@ partner_number numbers None = None
 partner_number numbers (Some None) = None
 partner_number numbers (Some (Some place)) = slice_get numbers place
 
+-- those of the partners at all places, and behind them none
+abbrev pub partner_numbers : List TokenClass → List (Option ℕ)
+partner_numbers classes = map (λ n. Some n) (numbers_of classes) ++ None ∷ []
+
 -- the token at a place
 abbrev pub token_at : Contents → List ℕ → List TokenClass → List (Option ℕ) → ℕ → CodeToken
 token_at arena ids classes partners k =

@@ -1,12 +1,12 @@
 //! A view as a list of tokens and comments.
 
-ghost use Rattle.std.specs.Prelude.{◌≡◌, ◌&&◌, ◌∷◌, [], ◌++◌, ◌<◌, ◌≤◌, ◌+◌, ◌^◌, nat_lt, length, map, get_or, slice_get, vec_capacity, IfOk};
+ghost use Rattle.std.specs.Prelude.{◌≡◌, ◌&&◌, ◌∷◌, [], ◌++◌, ◌<◌, ◌≤◌, ◌+◌, ◌-◌, ◌^◌, nat_lt, length, map, get_or, slice_get, vec_capacity, IfOk};
 ghost use Rattle.std.specs.Prelude.{OnOk, Some, true, false};
 ghost use Rattle.token_classes.specs.Viewed.{AreWithin, classes_of};
 ghost use Rattle.token_classes.specs.Classes.{is_colon, is_comment};
 ghost use Rattle.token_classes.specs.declared.class.TokenClass.TheVariants.{Nothing};
 ghost use Rattle.unwrapped_lines.specs.Viewed.{line_ends_behind, colon_touches, numbers_of, AreTokensBefore};
-ghost use Rattle.unwrapped_lines.specs.Viewed.{segment_stop, partner_number, token_at, code_tokens, comments_of, part_of, parts_of};
+ghost use Rattle.unwrapped_lines.specs.Viewed.{segment_stop, partner_number, partner_numbers, token_at, code_tokens, comments_of, part_of, parts_of};
 ghost use Rattle.unwrapped_lines.specs.Comments.{parts_with};
 ghost use Rattle.token_arena.specs.Gaps.{item_began};
 ghost use Rattle.token_arena.specs.Segments.{ids_of, segment_bounds, AreSegments, no_segment};
@@ -62,53 +62,51 @@ fn colon_touches(arena: &TokenArena<'_, '_>, id: u32, run: &Bump) -> Result<bool
     Ok(class.is_colon())
 }
 
-/// How many tokens that are no comments stand before each place.
-fn numbers<'r>(classes: &[TokenClass], run: &'r Bump) -> Result<Vec<u32, &'r Bump>, NoMemory>
+/// How many tokens that are no comments stand before each place; and behind all of these, no number.
+#[inline(never)]
+fn numbers<'r>(classes: &[TokenClass], run: &'r Bump) -> Result<Vec<Partner, &'r Bump>, NoMemory>
     requires { length classes.now ≤ LIMIT }
-    ensures { IfOk result (λ numbers. numbers.items ≡ numbers_of classes.now) }
+    ensures { IfOk result (λ numbers. numbers.items ≡ partner_numbers classes.now) }
 {
-    let mut numbers = Vec::with_capacity(run, classes.len())?;
+    let mut numbers = Vec::with_capacity(run, classes.len() + 1)?;
     let mut number: u32 = 0;
     for class in classes {
-        numbers.push_reserved(number);
+        numbers.push_reserved(Partner::at(number));
         if !class.is_comment() {
             number += 1;
         }
     }
+    numbers.push_reserved(Partner::none());
     Ok(numbers)
 }
 
-/// The place of a partner, counted over the tokens that are no comments.
+/// The number of a partner, counted over the tokens that are no comments, by those of all places.
 #[inline(always)]
-fn number_at(classes: &[TokenClass], numbers: &[u32], place: u32) -> Partner
+fn number_at(classes: &[TokenClass], numbers: &[Partner], partner: Partner) -> Partner
     requires few { length classes.now ≤ LIMIT }
-    requires numbers { numbers.now ≡ numbers_of classes.now }
-    ensures { result ≡ slice_get (numbers_of classes.now) place }
+    requires numbers { numbers.now ≡ partner_numbers classes.now }
+    ensures { result ≡ partner_number (numbers_of classes.now) (Some partner) }
 {
-    let k = place as usize;
-    if k >= classes.len() {
-        return Partner::none();
-    }
-    Partner::at(numbers[k])
+    let last = numbers.len() - 1;
+    // Where there is no partner, the last entry tells that too.
+    let place = partner.place().unwrap_or(u32::MAX) as usize;
+    numbers[place.min(last)]
 }
 
-/// A partner, counted over the tokens that are no comments.
+/// The number of the partner at a place, if it has one.
 #[inline(always)]
-fn partner_number(
+fn partner_at(
     classes: &[TokenClass],
-    numbers: &[u32],
+    numbers: &[Partner],
     partners: &[Partner],
-    index: usize,
+    place: usize,
 ) -> Partner
     requires few { length classes.now ≤ LIMIT }
-    requires numbers { numbers.now ≡ numbers_of classes.now }
-    ensures { result ≡ partner_number (numbers_of classes.now) (slice_get partners.now index) }
+    requires numbers { numbers.now ≡ partner_numbers classes.now }
+    ensures { result ≡ partner_number (numbers_of classes.now) (slice_get partners.now place) }
 {
-    match partners.get(index) {
-        Some(partner) => match partner.place() {
-            Some(place) => number_at(classes, numbers, place),
-            None => Partner::none(),
-        },
+    match partners.get(place) {
+        Some(partner) => number_at(classes, numbers, *partner),
         None => Partner::none(),
     }
 }
@@ -127,45 +125,203 @@ fn touched(
     Ok(class.is_colon() && colon_touches(arena, id, run)?)
 }
 
-/// Appends the tokens of the segment with a number that are no comments, with their partners.
+/// Whether an item of this class is a comment or a colon.
 #[inline(always)]
-fn push_segment(
+fn is_other(class: TokenClass) -> bool
+    ensures comment { result ≡ false → is_comment class ≡ false }
+    ensures colon { result ≡ false → is_colon class ≡ false }
+{
+    class.is_comment() || class.is_colon()
+}
+
+/// Tokens, and the first place behind those that were gone over.
+#[derive(Drop)]
+struct Pushed<'r> {
+    tokens: Vec<CodeToken, &'r Bump>,
+    place: usize,
+}
+
+/// Appends the tokens from a place of a segment to before another, or to before a comment or a colon. Most are
+/// appended here.
+#[inline(never)]
+fn push_plain<'r>(
     arena: &TokenArena<'_, '_>,
     segments: &[Segment],
     number: usize,
+    from: usize,
+    end: usize,
     classes: &[TokenClass],
-    numbers: &[u32],
+    numbers: &[Partner],
     partners: &[Partner],
-    tokens: &mut Vec<CodeToken, &Bump>,
-    run: &Bump,
-) -> Result<(), NoMemory>
+    tokens: Vec<CodeToken, &'r Bump>,
+) -> Pushed<'r>
     requires rule { AreSegments segments.now }
     requires number { number < length segments.now }
     requires within { AreWithin arena.now (ids_of (map segment_bounds segments.now)) }
     requires places { length classes.now ≡ length (ids_of (map segment_bounds segments.now)) }
     requires few { length classes.now ≤ LIMIT }
-    requires numbers { numbers.now ≡ numbers_of classes.now }
-    requires room { length classes.now ≤ vec_capacity tokens.old }
-    requires before { AreTokensBefore arena.now (ids_of (map segment_bounds segments.now)) classes.now partners.now (get_or segments.now number no_segment).before tokens.old.items }
-    ensures tokens { IfOk result (λ u. AreTokensBefore arena.now (ids_of (map segment_bounds segments.now)) classes.now partners.now (segment_stop (get_or segments.now number no_segment)) tokens.new.items) }
-    ensures room { OnOk result (vec_capacity tokens.new ≡ vec_capacity tokens.old) }
+    requires items { length arena.now.tokens ≤ LIMIT }
+    requires numbers { numbers.now ≡ partner_numbers classes.now }
+    requires room { length classes.now ≤ vec_capacity tokens }
+    requires from { (get_or segments.now number no_segment).before ≤ from }
+    requires here { from ≤ segment_stop (get_or segments.now number no_segment) }
+    requires end { end ≤ segment_stop (get_or segments.now number no_segment) }
+    requires partners { end ≤ length partners.now }
+    requires before { AreTokensBefore arena.now (ids_of (map segment_bounds segments.now)) classes.now partners.now from tokens.items }
+    ensures tokens { AreTokensBefore arena.now (ids_of (map segment_bounds segments.now)) classes.now partners.now result.place result.tokens.items }
+    ensures room { vec_capacity result.tokens ≡ vec_capacity tokens.entry }
+    ensures least { from ≤ result.place }
+    ensures most { result.place ≤ from + (end - from) }
 {
     let segment = segments[number];
-    let mut k = segment.before as usize;
-    for id in segment.first..segment.end {
-        let class = classes[k];
-        if !class.is_comment() {
-            let touched = touched(arena, id, class, run)?;
-            tokens.push_reserved(CodeToken {
-                class,
-                began: began(arena, id),
-                touched,
-                partner: partner_number(classes, numbers, partners, k),
-            });
+    let first = segment.first + (from as u32 - segment.before);
+    let mut tokens = tokens;
+    let mut place = from;
+    for id in first..first + end.saturating_sub(from) as u32 {
+        let class = classes[place];
+        if is_other(class) {
+            break;
         }
-        k += 1;
+        tokens.push_reserved(CodeToken {
+            class,
+            began: began(arena, id),
+            touched: false,
+            partner: number_at(classes, numbers, partners[place]),
+        });
+        place += 1;
     }
-    Ok(())
+    Pushed { tokens, place }
+}
+
+/// Appends the token at a place of a segment, unless a comment stands there.
+#[inline(never)]
+fn push_other<'r>(
+    arena: &TokenArena<'_, '_>,
+    segments: &[Segment],
+    number: usize,
+    place: usize,
+    classes: &[TokenClass],
+    numbers: &[Partner],
+    partners: &[Partner],
+    tokens: Vec<CodeToken, &'r Bump>,
+    run: &Bump,
+) -> Result<Vec<CodeToken, &'r Bump>, NoMemory>
+    requires rule { AreSegments segments.now }
+    requires number { number < length segments.now }
+    requires within { AreWithin arena.now (ids_of (map segment_bounds segments.now)) }
+    requires places { length classes.now ≡ length (ids_of (map segment_bounds segments.now)) }
+    requires few { length classes.now ≤ LIMIT }
+    requires items { length arena.now.tokens ≤ LIMIT }
+    requires numbers { numbers.now ≡ partner_numbers classes.now }
+    requires room { length classes.now ≤ vec_capacity tokens }
+    requires from { (get_or segments.now number no_segment).before ≤ place }
+    requires end { place < segment_stop (get_or segments.now number no_segment) }
+    requires before { AreTokensBefore arena.now (ids_of (map segment_bounds segments.now)) classes.now partners.now place tokens.items }
+    ensures tokens { IfOk result (λ made. AreTokensBefore arena.now (ids_of (map segment_bounds segments.now)) classes.now partners.now (place + 1) made.items) }
+    ensures room { IfOk result (λ made. vec_capacity made ≡ vec_capacity tokens.entry) }
+{
+    let class = classes[place];
+    if class.is_comment() {
+        return Ok(tokens);
+    }
+    let segment = segments[number];
+    let id = segment.first + (place as u32 - segment.before);
+    let touched = touched(arena, id, class, run)?;
+    let partner = partner_at(classes, numbers, partners, place);
+    let mut tokens = tokens;
+    tokens.push_reserved(CodeToken {
+        class,
+        began: began(arena, id),
+        touched,
+        partner,
+    });
+    Ok(tokens)
+}
+
+/// Goes over one place of a segment at least, and appends the tokens there that are no comments.
+#[inline(always)]
+fn push_more<'r>(
+    arena: &TokenArena<'_, '_>,
+    segments: &[Segment],
+    number: usize,
+    classes: &[TokenClass],
+    numbers: &[Partner],
+    partners: &[Partner],
+    pushed: Pushed<'r>,
+    run: &Bump,
+) -> Result<Pushed<'r>, NoMemory>
+    requires rule { AreSegments segments.now }
+    requires number { number < length segments.now }
+    requires within { AreWithin arena.now (ids_of (map segment_bounds segments.now)) }
+    requires places { length classes.now ≡ length (ids_of (map segment_bounds segments.now)) }
+    requires few { length classes.now ≤ LIMIT }
+    requires items { length arena.now.tokens ≤ LIMIT }
+    requires numbers { numbers.now ≡ partner_numbers classes.now }
+    requires room { length classes.now ≤ vec_capacity pushed.tokens }
+    requires from { (get_or segments.now number no_segment).before ≤ pushed.place }
+    requires end { pushed.place < segment_stop (get_or segments.now number no_segment) }
+    requires before { AreTokensBefore arena.now (ids_of (map segment_bounds segments.now)) classes.now partners.now pushed.place pushed.tokens.items }
+    ensures tokens { IfOk result (λ made. AreTokensBefore arena.now (ids_of (map segment_bounds segments.now)) classes.now partners.now made.place made.tokens.items) }
+    ensures room { IfOk result (λ made. vec_capacity made.tokens ≡ vec_capacity pushed.entry.tokens) }
+    ensures least { IfOk result (λ made. pushed.entry.place < made.place) }
+    ensures most { IfOk result (λ made. made.place ≤ segment_stop (get_or segments.now number no_segment)) }
+{
+    let segment = segments[number];
+    let end = (segment.before + (segment.end - segment.first)) as usize;
+    let Pushed { tokens, place } = pushed;
+    let near = end.min(partners.len());
+    let plain = push_plain(
+        arena, segments, number, place, near, classes, numbers, partners, tokens,
+    );
+    if end <= plain.place {
+        return Ok(plain);
+    }
+    let Pushed { tokens, place } = plain;
+    let tokens = push_other(
+        arena, segments, number, place, classes, numbers, partners, tokens, run,
+    )?;
+    Ok(Pushed {
+        tokens,
+        place: place + 1,
+    })
+}
+
+/// Appends the tokens of the segment with a number that are no comments, with their partners.
+#[inline(always)]
+fn push_segment<'r>(
+    arena: &TokenArena<'_, '_>,
+    segments: &[Segment],
+    number: usize,
+    classes: &[TokenClass],
+    numbers: &[Partner],
+    partners: &[Partner],
+    tokens: Vec<CodeToken, &'r Bump>,
+    run: &Bump,
+) -> Result<Vec<CodeToken, &'r Bump>, NoMemory>
+    requires rule { AreSegments segments.now }
+    requires number { number < length segments.now }
+    requires within { AreWithin arena.now (ids_of (map segment_bounds segments.now)) }
+    requires places { length classes.now ≡ length (ids_of (map segment_bounds segments.now)) }
+    requires few { length classes.now ≤ LIMIT }
+    requires items { length arena.now.tokens ≤ LIMIT }
+    requires numbers { numbers.now ≡ partner_numbers classes.now }
+    requires room { length classes.now ≤ vec_capacity tokens }
+    requires before { AreTokensBefore arena.now (ids_of (map segment_bounds segments.now)) classes.now partners.now (get_or segments.now number no_segment).before tokens.items }
+    ensures tokens { IfOk result (λ made. AreTokensBefore arena.now (ids_of (map segment_bounds segments.now)) classes.now partners.now (segment_stop (get_or segments.now number no_segment)) made.items) }
+    ensures room { IfOk result (λ made. vec_capacity made ≡ vec_capacity tokens.entry) }
+{
+    let segment = segments[number];
+    let end = (segment.before + (segment.end - segment.first)) as usize;
+    let mut pushed = Pushed {
+        tokens,
+        place: segment.before as usize,
+    };
+    while pushed.place < end {
+        pushed = push_more(
+            arena, segments, number, classes, numbers, partners, pushed, run,
+        )?;
+    }
+    Ok(pushed.tokens)
 }
 
 /// The tokens of a view that are no comments, with their partners.
@@ -179,6 +335,7 @@ pub(crate) fn code_tokens<'r>(
     requires within { AreWithin arena.now view.now }
     requires places { length classes.now ≡ length view.now }
     requires few { length classes.now ≤ LIMIT }
+    requires items { length arena.now.tokens ≤ LIMIT }
     ensures tokens { IfOk result (λ tokens. tokens.items ≡ code_tokens arena.now view.now classes.now partners.now) }
     ensures few { IfOk result (λ tokens. length tokens.items ≤ LIMIT) }
 {
@@ -187,15 +344,8 @@ pub(crate) fn code_tokens<'r>(
     let numbers = numbers(classes, run)?;
     let segments = view.segments();
     for number in 0..segments.len() {
-        push_segment(
-            arena,
-            segments,
-            number,
-            classes,
-            &numbers,
-            partners,
-            &mut tokens,
-            run,
+        tokens = push_segment(
+            arena, segments, number, classes, &numbers, partners, tokens, run,
         )?;
     }
     Ok(tokens)

@@ -22,9 +22,9 @@ pub loop-number-preserved : goal.loop-number-preserved
 loop-number-preserved c =
     let segments = c.segments-segments.result.now in
     record {
-      tokens = next_tokens c.args.arena.now (ids_of (map segment_bounds segments)) c.args.classes.now c.args.partners.now segments c.loop-number.number c.push_segment.new.tokens.items
-          c.segments-segments.ensures.rule.counts c.loop-number-test.true c.in_ok-push_segment.ensures.tokens;
-      room = omega (arith, c.in_ok-push_segment.ensures.room, c.loop-number.invariant.room);
+      tokens = next_tokens c.args.arena.now (ids_of (map segment_bounds segments)) c.args.classes.now c.args.partners.now segments c.loop-number.number c.in_ok-tokens-2.tokens.items
+          c.segments-segments.ensures.rule.counts c.loop-number-test.true c.in_ok-tokens-2.ensures.tokens;
+      room = omega (arith, c.in_ok-tokens-2.ensures.room, c.loop-number.invariant.room);
     }
 
 pub returns-clause-tokens : goal.returns-clause-tokens

@@ -1,0 +1,79 @@
+use Rattle.std.proofs.Common.{◌≡◌, ◌∙◌, ◌<◌, ◌+◌, ◌-◌, List, Bool, true, false, ap, length, map, get_or, arith, subst, sym}
+use Rattle.token_arena.specs.Gaps.{item_began}
+use Rattle.token_arena.specs.Segments.{ids_of, segment_bounds, no_segment}
+use Rattle.token_classes.specs.Classes.{is_comment}
+use Rattle.token_classes.specs.declared.class.TokenClass.TheVariants.{If}
+use Rattle.unwrapped_lines.specs.Viewed.{AreTokensBefore, token_at}
+use Rattle.unwrapped_lines.specs.declared.token.CodeToken.{CodeToken}
+use Rattle.unwrapped_lines.proofs.SegmentLemmas.{IsAt, at_place, comment_before, token_before, token_same}
+use Rattle.unwrapped_lines.proofs.viewed.push_other.Goals as goal
+
+pub bounds-classes-place : goal.bounds-classes-place
+bounds-classes-place c =
+    let id = (get_or c.args.segments.now c.args.number no_segment).first + (c.args.place - (get_or c.args.segments.now c.args.number no_segment).before) in
+    let at : IsAt (length c.args.arena.now.tokens) (ids_of (map segment_bounds c.args.segments.now)) c.args.place id =
+    at_place (length c.args.arena.now.tokens) c.args.segments.now c.args.number c.args.place id c.requires.rule c.requires.within c.requires.number c.requires.from c.requires.end (omega (arith, c.requires.from)) in
+    omega (arith, at.place, c.requires.places)
+
+pub overflow_cast-id : goal.overflow_cast-id
+overflow_cast-id c =
+    let id = (get_or c.args.segments.now c.args.number no_segment).first + (c.args.place - (get_or c.args.segments.now c.args.number no_segment).before) in
+    let at : IsAt (length c.args.arena.now.tokens) (ids_of (map segment_bounds c.args.segments.now)) c.args.place id =
+    at_place (length c.args.arena.now.tokens) c.args.segments.now c.args.number c.args.place id c.requires.rule c.requires.within c.requires.number c.requires.from c.requires.end (omega (arith, c.requires.from)) in
+    omega (arith, at.place, c.requires.places, c.requires.few)
+
+pub touched-requires : goal.touched-requires
+touched-requires c =
+    let id = (get_or c.args.segments.now c.args.number no_segment).first + (c.args.place - (get_or c.args.segments.now c.args.number no_segment).before) in
+    let at : IsAt (length c.args.arena.now.tokens) (ids_of (map segment_bounds c.args.segments.now)) c.args.place id =
+    at_place (length c.args.arena.now.tokens) c.args.segments.now c.args.number c.args.place id c.requires.rule c.requires.within c.requires.number c.requires.from c.requires.end (omega (arith, c.requires.from)) in
+    at.within
+
+pub began-requires : goal.began-requires
+began-requires c =
+    let id = (get_or c.args.segments.now c.args.number no_segment).first + (c.args.place - (get_or c.args.segments.now c.args.number no_segment).before) in
+    let at : IsAt (length c.args.arena.now.tokens) (ids_of (map segment_bounds c.args.segments.now)) c.args.place id =
+    at_place (length c.args.arena.now.tokens) c.args.segments.now c.args.number c.args.place id c.requires.rule c.requires.within c.requires.number c.requires.from c.requires.end (omega (arith, c.requires.from)) in
+    at.within
+
+pub push_reserved-requires : goal.push_reserved-requires
+push_reserved-requires c =
+    let id = (get_or c.args.segments.now c.args.number no_segment).first + (c.args.place - (get_or c.args.segments.now c.args.number no_segment).before) in
+    let at : IsAt (length c.args.arena.now.tokens) (ids_of (map segment_bounds c.args.segments.now)) c.args.place id =
+    at_place (length c.args.arena.now.tokens) c.args.segments.now c.args.number c.args.place id c.requires.rule c.requires.within c.requires.number c.requires.from c.requires.end (omega (arith, c.requires.from)) in
+    omega (arith, c.args.tokens.ok.0, c.requires.before.few, at.place, c.requires.places, c.requires.room)
+
+pub returns-clause-tokens : goal.returns-clause-tokens
+returns-clause-tokens c =
+    let arena = c.args.arena.now in
+    let segments = c.args.segments.now in
+    let ids = ids_of (map segment_bounds segments) in
+    let classes = c.args.classes.now in
+    let partners = c.args.partners.now in
+    let k = c.args.place in
+    let id = (get_or c.args.segments.now c.args.number no_segment).first + (c.args.place - (get_or c.args.segments.now c.args.number no_segment).before) in
+    let at : IsAt (length c.args.arena.now.tokens) (ids_of (map segment_bounds c.args.segments.now)) c.args.place id =
+    at_place (length c.args.arena.now.tokens) c.args.segments.now c.args.number c.args.place id c.requires.rule c.requires.within c.requires.number c.requires.from c.requires.end (omega (arith, c.requires.from)) in
+    let here : k < length classes = omega (arith, at.place, c.requires.places) in
+    let class = get_or classes k If in
+    let is : is_comment class ≡ false = sym c.is_comment.ensures ∙ c.if-is_comment.false in
+    let make : Bool → Bool → CodeToken = λ b t. record { class = class; began = b; touched = t; partner = c.partner_at-partner.result } in
+    let token : CodeToken = make c.began.result c.in_ok-touched.touched in
+    let same : token ≡ token_at arena ids classes partners k =
+    ap (λ b. make b c.in_ok-touched.touched) c.began.ensures ∙ (ap (make (item_began arena id)) c.in_ok-touched.ensures ∙ token_same arena ids classes partners k id If c.partner_at-partner.result here at.item c.partner_at-partner.ensures) in
+    let P : List CodeToken → Type 0 = λ tokens. AreTokensBefore arena ids classes partners (k + 1) tokens in
+    subst P (sym c.push_reserved.ensures.items) (token_before arena ids classes partners k If c.args.tokens.items token c.requires.before here is same)
+
+pub returns-then-is_comment-clause-tokens : goal.returns-then-is_comment-clause-tokens
+returns-then-is_comment-clause-tokens c =
+    let arena = c.args.arena.now in
+    let segments = c.args.segments.now in
+    let ids = ids_of (map segment_bounds segments) in
+    let classes = c.args.classes.now in
+    let partners = c.args.partners.now in
+    let id = (get_or c.args.segments.now c.args.number no_segment).first + (c.args.place - (get_or c.args.segments.now c.args.number no_segment).before) in
+    let at : IsAt (length c.args.arena.now.tokens) (ids_of (map segment_bounds c.args.segments.now)) c.args.place id =
+    at_place (length c.args.arena.now.tokens) c.args.segments.now c.args.number c.args.place id c.requires.rule c.requires.within c.requires.number c.requires.from c.requires.end (omega (arith, c.requires.from)) in
+    let here : c.args.place < length classes = omega (arith, at.place, c.requires.places) in
+    let is : is_comment (get_or classes c.args.place If) ≡ true = sym c.is_comment.ensures ∙ c.if-is_comment.true in
+    comment_before arena ids classes partners c.args.place If c.args.tokens.items c.requires.before here is
