@@ -13,3 +13,4 @@ pub mod NumberLemmas
 pub mod SegmentLemmas
 pub mod Passed
 pub mod CommentParts
+pub mod EndsWithToken

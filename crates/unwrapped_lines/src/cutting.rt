@@ -1,17 +1,23 @@
 //! The unwrapped lines of a view.
 
-ghost use Rattle.std.specs.Prelude.{◌≡◌, ◌<◌, ◌≤◌, ◌^◌, length, map, IfOk};
+ghost use Rattle.std.specs.Prelude.{◌≡◌, ◌<◌, ◌≤◌, ◌^◌, List, length, map, IfOk};
 ghost use Rattle.token_classes.specs.Viewed.{AreWithin, classes_of};
 ghost use Rattle.line_tokens.specs.Lines.{CutPlaces};
 ghost use Rattle.unwrapped_lines.specs.Lines.{lines_between, line_up_to, tree_of, unwrapped_lines_of, view_line};
+ghost use Rattle.unwrapped_lines.specs.Colons.{AreCaseColons};
+ghost use Rattle.unwrapped_lines.specs.Comments.{begins_from, no_marks};
 ghost use Rattle.unwrapped_lines.specs.Stack.{IsCut};
+ghost use Rattle.unwrapped_lines.specs.Tree.{end_level};
+ghost use Rattle.unwrapped_lines.specs.Viewed.{code_places_from, parts_of};
+ghost use Rattle.unwrapped_lines.specs.declared.line.Line.{Line};
 
-use crate::braces::braces_of;
+use crate::braces::{Braces, braces_of};
 use crate::colons::colons;
 use crate::comments::begins;
 use crate::ending::end_level;
 use crate::line::Line;
 use crate::part::Begin;
+use crate::token::CodeToken;
 use crate::tree::tree_lines;
 use crate::viewed::{code_tokens, notes_of};
 use bumpalo::Bump;
@@ -61,6 +67,29 @@ fn token_lines<'r>(lines: &[Line], run: &'r Bump) -> Result<Vec<ULine, &'r Bump>
     Ok(view_lines)
 }
 
+/// The level at a view's end, as far as the lines depend on it: where a token stands last, they don't.
+#[inline(always)]
+fn level_behind(
+    braces: &Braces,
+    arena: &TokenArena<'_, '_>,
+    view: &View<'_>,
+    classes: &[TokenClass],
+    tokens: &[CodeToken],
+    colons: &[u32],
+    run: &Bump,
+) -> Result<u32, NoMemory>
+    requires few { length tokens.now < 2 ^ 30 }
+    requires colons { AreCaseColons colons.now tokens.now }
+    requires tokens { length tokens.now ≡ length (code_places_from 0 classes.now) }
+    ensures { IfOk result (λ level. (lines : List Line) → begins_from (record { lines = lines; total = length tokens.now; end_level = level }) (parts_of arena.now view.now classes.now) 0 no_marks ≡ begins_from (record { lines = lines; total = length tokens.now; end_level = end_level braces.now tokens.now }) (parts_of arena.now view.now classes.now) 0 no_marks) }
+{
+    let count = classes.len();
+    if count > 0 && !classes[count - 1].is_comment() {
+        return Ok(0);
+    }
+    end_level(braces, tokens, colons, run)
+}
+
 /// The lines, and that those of the tokens that are no comments cut these.
 fn read_lines<'r>(
     style: &Style,
@@ -86,7 +115,7 @@ fn read_lines<'r>(
     if tokens.len() == count as usize {
         return token_lines(&tree, run);
     }
-    let level = end_level(&braces, &tokens, &colons, run)?;
+    let level = level_behind(&braces, arena, view, classes, &tokens, &colons, run)?;
     let begins = begins(
         &tree,
         tokens.len(),
