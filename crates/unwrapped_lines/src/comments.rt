@@ -1,11 +1,12 @@
 //! Where the lines of a view with its comments begin.
 
-ghost use Rattle.std.specs.Prelude.{◌≡◌, ◌<◌, ◌≤◌, ◌+◌, ◌-◌, ◌^◌, ◌∷◌, ◌++◌, false, length, IfOk, IfSome, Some, List};
+ghost use Rattle.std.specs.Prelude.{◌≡◌, ◌<◌, ◌≤◌, ◌+◌, ◌-◌, ◌^◌, ◌∷◌, ◌++◌, false, IfOk, IfSome, Some, List};
 ghost use Rattle.std.specs.Prelude.{slice_get, ℕ};
 ghost use Rattle.unwrapped_lines.specs.declared.part.Part.{Part};
 ghost use Rattle.unwrapped_lines.specs.declared.part.Run.TheVariants.{Apart};
 ghost use Rattle.unwrapped_lines.specs.Comments.{token_follows, between_at, is_between, new_begin, next_marks};
-ghost use Rattle.unwrapped_lines.specs.Comments.{begins_from, no_marks, list_of, begins_line, inner_run, parts_with, FollowFrom};
+ghost use Rattle.unwrapped_lines.specs.Comments.{begins_from, no_marks, list_of, begins_line, inner_run, parts_with};
+ghost use Rattle.unwrapped_lines.specs.Comments.{FollowFrom};
 
 use crate::line::Line;
 use crate::part::{Begin, Marks, Part, Run, ViewComment};

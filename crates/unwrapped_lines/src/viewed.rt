@@ -1,12 +1,13 @@
 //! A view as a list of tokens and comments.
 
-ghost use Rattle.std.specs.Prelude.{◌≡◌, ◌&&◌, ◌∷◌, [], ◌++◌, ◌<◌, ◌≤◌, ◌+◌, ◌-◌, ◌^◌, nat_lt, length, map, get_or, slice_get, vec_capacity, IfOk};
-ghost use Rattle.std.specs.Prelude.{OnOk, Some, true, false};
+ghost use Rattle.std.specs.Prelude.{◌≡◌, ◌&&◌, ◌∷◌, [], ◌++◌, ◌<◌, ◌≤◌, ◌+◌, ◌-◌, ◌^◌, nat_lt, length, map, get_or};
+ghost use Rattle.std.specs.Prelude.{slice_get, vec_capacity, IfOk, Some, true, false};
 ghost use Rattle.token_classes.specs.Viewed.{AreWithin, classes_of};
 ghost use Rattle.token_classes.specs.Classes.{is_colon, is_comment};
 ghost use Rattle.token_classes.specs.declared.class.TokenClass.TheVariants.{Nothing};
 ghost use Rattle.unwrapped_lines.specs.Viewed.{line_ends_behind, colon_touches, numbers_of, AreTokensBefore};
-ghost use Rattle.unwrapped_lines.specs.Viewed.{segment_stop, partner_number, partner_numbers, token_at, code_tokens, comments_of, part_of, parts_of};
+ghost use Rattle.unwrapped_lines.specs.Viewed.{segment_stop, partner_number, partner_numbers, token_at, code_tokens};
+ghost use Rattle.unwrapped_lines.specs.Viewed.{comments_of, part_of, parts_of};
 ghost use Rattle.unwrapped_lines.specs.Comments.{parts_with};
 ghost use Rattle.token_arena.specs.Gaps.{item_began};
 ghost use Rattle.token_arena.specs.Segments.{ids_of, segment_bounds, AreSegments, no_segment};
