@@ -1,3 +1,3 @@
 pub mod Apart
-pub mod NoRow
+pub mod Groups
 pub mod Needs

@@ -11,7 +11,8 @@ use style_table::Style;
 pub fn start_column(style: &Style, line: &ULine) -> u32
     ensures { result ≡ start_column style.now line.now }
 {
-    line.level.saturating_mul(style.indent_width)
+    let columns = u64::from(line.level) * u64::from(style.indent_width);
+    columns.min(u64::from(u32::MAX)) as u32
 }
 
 /// Whether it is the line of a block's `}`.

@@ -9,7 +9,7 @@ ghost use Rattle.std.specs.Prelude.{◌≡◌, ◌≤◌};
 ghost use Rattle.style_table.specs.Range.{IsInRange};
 ghost use Rattle.layout_tables.specs.Spaces.{as_before, one_if, is_attached, is_line_comment, is_never, is_always};
 ghost use Rattle.layout_tables.specs.Spaces.{is_left, is_right, spaces_by_table, spaces_before};
-ghost use Rattle.layout_tables.specs.Told.{left_tells, right_tells};
+ghost use Rattle.layout_tables.specs.Told.{TellBlanks, group_before, group_behind};
 
 pub use laws::keeps_apart;
 use line_tokens::{ItemKind, LineTok, Role};
@@ -114,66 +114,63 @@ fn by_table(style: &Style, left: &LineTok, right: &LineTok) -> u8
     }
 }
 
-/// Whether a row may hold behind a token with this role, whatever follows. Of most roles none does.
+/// The rows of the table fall into ten groups, in order. This is the first one of which a row may hold behind a token
+/// with this role, whatever follows.
 #[inline(always)]
-fn left_tells(left: Role) -> bool
-    ensures { result ≡ left_tells left }
+fn group_behind(left: Role) -> u8
+    ensures is { result ≡ group_behind left }
+    ensures few { result ≤ 9 }
 {
-    matches!(
-        left,
+    match left {
         Role::CtrlOpen
-            | Role::CallOpen
-            | Role::CastOpen
-            | Role::DeclOpen
-            | Role::GroupOpen
-            | Role::IndexOpen
-            | Role::DesigOpen
-            | Role::ListOpen
-            | Role::Inner
-            | Role::Stray
-            | Role::Unary
-            | Role::Prefix
-            | Role::Member
-            | Role::DesigDot
-            | Role::CastClose
-            | Role::Pointer
-    )
+        | Role::CallOpen
+        | Role::CastOpen
+        | Role::DeclOpen
+        | Role::GroupOpen
+        | Role::IndexOpen
+        | Role::DesigOpen => 1,
+        Role::ListOpen => 2,
+        Role::Inner | Role::Stray => 3,
+        Role::Unary | Role::Prefix | Role::Member | Role::DesigDot => 6,
+        Role::CastClose => 7,
+        Role::Pointer => 8,
+        _ => 9,
+    }
 }
 
-/// Whether a row may hold before a token with this role, where none holds behind the other.
+/// The first group of which a row may hold before a token with this role, whatever stands before it. That is 0 where
+/// the roles don't tell the blanks.
 #[inline(always)]
-fn right_tells(right: Role) -> bool
-    ensures { result ≡ right_tells right }
+fn group_before(right: Role) -> u8
+    ensures is { result ≡ group_before right }
+    ensures few { result ≤ 9 }
 {
-    matches!(
-        right,
+    match right {
         Role::Trailing
-            | Role::Comma
-            | Role::Semi
-            | Role::CtrlClose
-            | Role::CallClose
-            | Role::CastClose
-            | Role::DeclClose
-            | Role::GroupClose
-            | Role::IndexClose
-            | Role::DesigClose
-            | Role::ListClose
-            | Role::BlockClose
-            | Role::Inner
-            | Role::Stray
-            | Role::CtrlOpen
-            | Role::CallOpen
-            | Role::DeclOpen
-            | Role::IndexOpen
-            | Role::Postfix
-            | Role::LabelColon
-            | Role::Member
-            | Role::Pointer
-            | Role::AsmColon
-    )
+        | Role::ListClose
+        | Role::BlockClose
+        | Role::Inner
+        | Role::Stray
+        | Role::Pointer
+        | Role::AsmColon => 0,
+        Role::Comma
+        | Role::Semi
+        | Role::CtrlClose
+        | Role::CallClose
+        | Role::CastClose
+        | Role::DeclClose
+        | Role::GroupClose
+        | Role::IndexClose
+        | Role::DesigClose => 1,
+        Role::CtrlOpen => 4,
+        Role::CallOpen | Role::DeclOpen => 5,
+        Role::IndexOpen | Role::Postfix | Role::LabelColon | Role::Member => 6,
+        _ => 9,
+    }
 }
 
 /// The blanks before the right token, by the table. A gap that had bytes keeps one where the two tokens may not touch.
+#[inline(never)]
 fn by_rows(style: &Style, left: &LineTok, right: &LineTok) -> u8
     requires { IsInRange style.now }
     ensures table { result ≡ spaces_before style.now left.now right.now }
@@ -187,6 +184,57 @@ fn by_rows(style: &Style, left: &LineTok, right: &LineTok) -> u8
     }
 }
 
+/// What the groups of rows say; more than one blank where that isn't known, and the table is read.
+#[derive(Clone, Copy)]
+pub struct RowBlanks {
+    /// The blanks of each group.
+    pub of_group: [u8; 10],
+}
+
+/// What the groups say in each style.
+const IN_EACH_STYLE: RowBlanks = RowBlanks {
+    of_group: [2, 0, 2, 2, 2, 2, 0, 2, 2, 1],
+};
+
+impl RowBlanks {
+    /// What the groups say in a style, told once for many gaps.
+    pub fn of(style: &Style) -> RowBlanks
+        ensures { TellBlanks style.now result.of_group }
+    {
+        RowBlanks {
+            of_group: [
+                2,
+                0,
+                one_if(!style.cpp11_braced_list_style),
+                2,
+                one_if(!is_never(style.space_before_parens)),
+                one_if(is_always(style.space_before_parens)),
+                0,
+                one_if(style.space_after_c_style_cast),
+                one_if(!is_right(style.pointer_alignment)),
+                1,
+            ],
+        }
+    }
+
+    /// The blanks before the right token, as [`spaces_before`] tells them. For most pairs the groups tell them, and the
+    /// table isn't read.
+    #[inline(always)]
+    pub fn before(&self, style: &Style, left: &LineTok, right: &LineTok) -> u8
+        requires range { IsInRange style.now }
+        requires tell { TellBlanks style.now self.now.of_group }
+        ensures table { result ≡ spaces_before style.now left.now right.now }
+        ensures few { result ≤ 16 }
+    {
+        let group = group_behind(left.role).min(group_before(right.role));
+        let blanks = self.of_group[group as usize];
+        if blanks > 1 {
+            return by_rows(style, left, right);
+        }
+        blanks | one_if(!right.gap.empty & !right.touch)
+    }
+}
+
 /// The blanks before the right token, in columns, where the gap between the two doesn't break. At most 16.
 ///
 /// A gap that had bytes keeps a blank where the two tokens without one could be read as something else.
@@ -196,9 +244,5 @@ pub fn spaces_before(style: &Style, left: &LineTok, right: &LineTok) -> u8
     ensures table { result ≡ spaces_before style.now left.now right.now }
     ensures few { result ≤ 16 }
 {
-    // For most pairs no row holds, and the table isn't read.
-    if !left_tells(left.role) && !right_tells(right.role) {
-        return 1;
-    }
-    by_rows(style, left, right)
+    IN_EACH_STYLE.before(style, left, right)
 }
