@@ -30,3 +30,4 @@ pub mod NewText
 pub mod Rewritten
 pub mod FirstMark
 pub mod Breaking
+pub mod StandingBlanks

@@ -1,12 +1,12 @@
 -- Decided gaps that the input has as they are decided.
-use Rattle.std.specs.Prelude.{◌≡◌, ℕ, Bool, false, List, ◌∷◌}
+use Rattle.std.specs.Prelude.{◌≡◌, ◌==◌, ℕ, Bool, false, List, ◌∷◌, if◌then◌else◌}
 use Rattle.c_chars.specs.declared.Dialect.{Dialect}
 use Rattle.token_arena.specs.Stored.{Stored}
 use Rattle.token_arena.specs.Gaps.{Contents}
 use Rattle.style_table.specs.declared.style.Style.{Style}
 use Rattle.replacements.specs.declared.gap_text.Decision.{Decision}
 use Rattle.replacements.specs.Guards.{guard_before}
-use Rattle.replacements.specs.Stances.{hash_comes}
+use Rattle.replacements.specs.Stances.{hash_comes, may_begin_hash}
 use Rattle.replacements.specs.Written.{bytes_between, planned_gap}
 use Rattle.replacements.specs.declared.stance.Stance.{Stance}
 
@@ -19,3 +19,7 @@ abbrev pub IsSame : Style → Bool → Contents → ℕ → ℕ → Decision →
 IsSame style crlf arena at place decision token =
     (stance : Stance) (tokens : List Stored)
     → planned_gap style crlf arena (guard_before arena.tokens place) at place stance decision token tokens ≡ bytes_between arena.text at token.start
+
+-- one more than the blanks that stand before an item behind this byte, the first behind the item before it: one blank where it is a blank, and none where it spells no `#`
+abbrev pub standing : ℕ → ℕ
+standing b = if b == 32 then 2 else if may_begin_hash b then 0 else 1

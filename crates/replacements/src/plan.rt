@@ -162,6 +162,9 @@ impl<'a> Plan<'a> {
         requires within { place < length self.now }
         ensures { result ≡ fixed_by arena.now place (slot_of self.now place) }
     {
+        if !self.is_decided(place) {
+            return None;
+        }
         let slot = self.slot(place)?;
         Some(Fixed {
             column: slot.end,

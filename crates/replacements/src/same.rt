@@ -1,15 +1,18 @@
 //! Gaps that the input has as they are decided.
 
-ghost use Rattle.std.specs.Prelude.{◌≡◌, ◌≤◌, ℕ, Bool, true, length, IsTrue};
-ghost use Rattle.replacements.specs.GapText.{blanks};
+ghost use Rattle.std.specs.Prelude.{◌≡◌, ◌<◌, ◌≤◌, ℕ, Bool, true, length, IsTrue};
+ghost use Rattle.c_grammar.specs.Fitting.{is_comment};
+ghost use Rattle.token_arena.specs.Gaps.{Stands};
 ghost use Rattle.replacements.specs.declared.gap_text.Decision.TheVariants.{Lines, Spaces};
 ghost use Rattle.style_table.specs.declared.style.Style.{Style};
 ghost use Rattle.token_arena.specs.Entries.{told_by};
-ghost use Rattle.replacements.specs.Same.{ComesNoHash, IsSame};
-ghost use Rattle.replacements.specs.Written.{bytes_between, is_old};
+ghost use Rattle.replacements.specs.Same.{ComesNoHash, IsSame, standing};
+ghost use Rattle.replacements.specs.Written.{bytes_between, decision_at, is_old};
 
 use crate::guard::{guard_before, is_free};
 use crate::hash::begins_no_hash;
+use crate::plan::Plan;
+use crate::written::decision_at;
 use crate::{Decision, short_lines};
 use c_grammar::ItemKind;
 use style_table::Style;
@@ -25,18 +28,6 @@ pub(crate) fn between(text: &[u8], from: usize, to: usize) -> &[u8]
     &text[from..to]
 }
 
-/// Whether a gap is so many blanks; told for up to one, as most are decided.
-#[inline(always)]
-fn is_blank(gap: &[u8], count: u32) -> bool
-    ensures { IsTrue result → gap.now ≡ blanks count }
-{
-    match gap {
-        [] => count == 0,
-        [blank] => count == 1 && *blank == b' ',
-        _ => false,
-    }
-}
-
 /// Whether its kind and its first byte tell that no `#` comes from a token on. They do for most tokens.
 #[inline(always)]
 pub(crate) fn comes_no_hash(token: &Token<'_>) -> bool
@@ -50,7 +41,34 @@ pub(crate) fn comes_no_hash(token: &Token<'_>) -> bool
     }
 }
 
-/// Whether so many blanks that are decided before an item stand there in the input.
+/// Of each byte, two for a blank and one where no `#` may be spelled from it on, and otherwise none. That is one more
+/// than the blanks that stand in a gap of at most one byte, where the byte is the first behind the item before it.
+const STANDING: [u8; 256] = [
+    1, 1, 1, 1, 1, 1, 1, 1, 1, 1, 1, 1, 1, 0, 1, 1, 1, 1, 1, 1, 1, 1, 1, 1, 1, 1, 1, 1, 1, 1, 1, 1,
+    2, 1, 1, 0, 1, 0, 1, 1, 1, 1, 1, 1, 1, 1, 1, 1, 1, 1, 1, 1, 1, 1, 1, 1, 1, 1, 1, 1, 1, 1, 1, 0,
+    1, 1, 1, 1, 1, 1, 1, 1, 1, 1, 1, 1, 1, 1, 1, 1, 1, 1, 1, 1, 1, 1, 1, 1, 1, 1, 1, 1, 0, 1, 1, 1,
+    1, 1, 1, 1, 1, 1, 1, 1, 1, 1, 1, 1, 1, 1, 1, 1, 1, 1, 1, 1, 1, 1, 1, 1, 1, 1, 1, 1, 1, 1, 1, 1,
+    1, 1, 1, 1, 1, 1, 1, 1, 1, 1, 1, 1, 1, 1, 1, 1, 1, 1, 1, 1, 1, 1, 1, 1, 1, 1, 1, 1, 1, 1, 1, 1,
+    1, 1, 1, 1, 1, 1, 1, 1, 1, 1, 1, 1, 1, 1, 1, 1, 1, 1, 1, 1, 1, 1, 1, 1, 1, 1, 1, 1, 1, 1, 1, 1,
+    1, 1, 1, 1, 1, 1, 1, 1, 1, 1, 1, 1, 1, 1, 1, 1, 1, 1, 1, 1, 1, 1, 1, 1, 1, 1, 1, 1, 1, 1, 1, 1,
+    1, 1, 1, 1, 1, 1, 1, 1, 1, 1, 1, 1, 1, 1, 1, 1, 1, 1, 1, 1, 1, 1, 1, 1, 1, 1, 1, 1, 1, 1, 1, 1,
+];
+
+/// What [`STANDING`] tells of a byte.
+#[inline(always)]
+fn standing(byte: u8) -> u8
+    ensures { result ≡ standing byte }
+{
+    STANDING[byte as usize]
+}
+
+fn is_comment(kind: ItemKind) -> bool
+    ensures { result ≡ is_comment kind }
+{
+    matches!(kind, ItemKind::BlockComment | ItemKind::LineComment)
+}
+
+/// Whether so many blanks that are decided before an item stand there in the input; told for up to one, as most are.
 ///
 /// Before a `#` stands one blank, whatever is decided, and before the first item of a text no decision counts.
 #[inline(always)]
@@ -61,20 +79,20 @@ fn are_same_blanks(
     token: &Token<'_>,
     count: u32,
 ) -> bool
-    requires later { at ≤ token.now.item.start }
-    requires within { token.now.item.start ≤ length arena.now.text }
+    requires stands { Stands arena.now.text at (told_by token.now) }
     ensures { IsTrue result → (style : Style) (crlf : Bool) → IsSame style crlf arena.now at place (Spaces count) (told_by token.now) }
 {
-    if !is_blank(between(arena.text(), at, token.item.start as usize), count) {
+    if token.item.start as usize - at != count as usize {
         return false;
     }
     if place == 0 {
         return false;
     }
-    if count == 1 {
-        return true;
+    if is_comment(token.item.kind) && count == 0 {
+        return false;
     }
-    comes_no_hash(token)
+    let byte = arena.text()[at];
+    usize::from(standing(byte)) == count as usize + 1
 }
 
 /// Whether bytes are the same.
@@ -120,6 +138,15 @@ fn are_same_lines(
     false
 }
 
+/// Whether the input's bytes stay in a gap, as in few that are decided.
+#[inline(never)]
+fn stays(plan: &Plan<'_>, place: u32) -> bool
+    requires { place < length plan.now }
+    ensures { result ≡ is_old (decision_at plan.now place) }
+{
+    matches!(decision_at(plan, place), Decision::Old)
+}
+
 /// Whether what is decided before an item stands there in the input, so that nothing has to be written. It does where
 /// the input's bytes stay.
 #[inline(always)]
@@ -130,20 +157,19 @@ pub(crate) fn is_same(
     at: usize,
     place: u32,
     token: &Token<'_>,
-    decision: Decision,
+    plan: &Plan<'_>,
 ) -> bool
-    requires later { at ≤ token.now.item.start }
-    requires within { token.now.item.start ≤ length arena.now.text }
+    requires whole { place < length plan.now }
+    requires stands { Stands arena.now.text at (told_by token.now) }
     requires here { place ≤ length arena.now.tokens }
-    ensures same { IsTrue result → IsSame style.now crlf arena.now at place decision (told_by token.now) }
-    ensures old { is_old decision ≡ true → IsTrue result }
+    ensures same { IsTrue result → IsSame style.now crlf arena.now at place (decision_at plan.now place) (told_by token.now) }
+    ensures old { is_old (decision_at plan.now place) ≡ true → IsTrue result }
 {
-    match decision {
-        Decision::Old => true,
+    match decision_at(plan, place) {
         Decision::Spaces(count) => are_same_blanks(arena, at, place, token, count),
         Decision::Lines { count, column, .. } => {
             are_same_lines(style, crlf, arena, at, place, token, count, column)
         }
-        Decision::Splice { .. } => false,
+        Decision::Old | Decision::Splice { .. } => stays(plan, place),
     }
 }

@@ -14,7 +14,7 @@ ghost use Rattle.replacements.specs.Written.{bytes_between, decision_at, first_g
 ghost use Rattle.replacements.specs.Written.{mark_bytes, planned_gap, written, written_from};
 ghost use Rattle.replacements.specs.declared.guard.Guard.TheVariants.{Free};
 
-use crate::guard::{Guard, guard_before, guard_for, guard_text, guarded_ends};
+use crate::guard::{Guard, guard_before, guard_for, guard_text, guarded_ends, is_free};
 use crate::hash::{HashRun, hash_comes};
 use crate::plan::Plan;
 use crate::same::{between, comes_no_hash, is_same};
@@ -43,7 +43,7 @@ struct Walk {
 
 /// What a plan decides for a gap: that it stays, where nothing else is decided.
 #[inline(always)]
-fn decision_at(plan: &Plan<'_>, place: u32) -> Decision
+pub(crate) fn decision_at(plan: &Plan<'_>, place: u32) -> Decision
     requires { place < length plan.now }
     ensures { result ≡ decision_at plan.now place }
 {
@@ -95,9 +95,9 @@ fn blank_comes(
     }
 }
 
-/// Writes the bytes of a decision behind an item that leaves a guard.
-#[inline(always)]
-fn write_guarded<K: Sink>(
+/// Writes the bytes of a decision, and before them what stands before a line end.
+#[inline(never)]
+fn write_with_guard<K: Sink>(
     style: &Style,
     crlf: bool,
     guard: Guard,
@@ -113,6 +113,28 @@ fn write_guarded<K: Sink>(
     let needed = guard_for(guard, decision);
     write_all(sink, guard_text(crlf, needed))?;
     write_gap(style, guarded_ends(crlf, needed), decision, old, sink)
+}
+
+/// Writes the bytes of a decision behind an item that leaves a guard.
+#[inline(always)]
+fn write_guarded<K: Sink>(
+    style: &Style,
+    crlf: bool,
+    guard: Guard,
+    decision: Decision,
+    old: &[u8],
+    sink: &mut K,
+) -> Result<(), Failed>
+    requires { 1 ≤ style.now.tab_width }
+    ensures ok { OnOk result (Appends (K.taken sink.old) (K.taken sink.new) (guarded_text style.now crlf guard decision old.now)) }
+    ensures part { AppendsPart (K.taken sink.old) (K.taken sink.new) (guarded_text style.now crlf guard decision old.now) }
+    ensures counts { Counts (K.faults sink.old) (K.faults sink.new) result }
+{
+    // Behind most items nothing has to stand.
+    if is_free(guard_for(guard, decision)) {
+        return write_gap(style, crlf, decision, old, sink);
+    }
+    write_with_guard(style, crlf, guard, decision, old, sink)
 }
 
 /// Writes what is decided before an item, where its gap doesn't stay.
@@ -276,8 +298,7 @@ fn pass_same(
     let mut here = *at;
     for next in place..count {
         let token = arena.get(TokenId(next));
-        let decision = decision_at(plan, next);
-        if !is_same(style, crlf, arena, here, next, &token, decision) {
+        if !is_same(style, crlf, arena, here, next, &token, plan) {
             *at = here;
             return next;
         }

@@ -22,10 +22,9 @@ pub is_same-requires : goal.is_same-requires
 is_same-requires c =
     let arena = c.args.arena.now in
     let token = told_by c.get-token.result in
-    let stands : Stands arena.text c.loop-next.here token = rw c.loop-next.invariant.at (stands_at arena.text (mark_len arena.text) arena.tokens c.loop-next.next token c.len-count.ensures.stand c.get-token.ensures) in
     record {
-      later = stands.later;
-      within = omega (arith, stands.within);
+      whole = omega (arith, c.requires.whole, c.len-count.ensures.count, c.loop-next-test.true);
+      stands = rw c.loop-next.invariant.at (stands_at arena.text (mark_len arena.text) arena.tokens c.loop-next.next token c.len-count.ensures.stand c.get-token.ensures);
       here = omega (arith, c.len-count.ensures.count, c.loop-next-test.true);
     }
 
@@ -40,5 +39,5 @@ loop-next-preserved c =
       at = sym start;
       on = omega (arith, c.loop-next.invariant.on, stands.later);
       same = λ sections. passed_more c.args.style.now c.args.crlf arena sections c.args.plan.now at c.loop-next.next c.args.at.now token _ stands c.loop-next.invariant.on c.get-token.ensures
-          (rw c.decision_at-decision.ensures at c.is_same.ensures.same (search rules)) (c.loop-next.invariant.same sections);
+          (c.is_same.ensures.same (search rules)) (c.loop-next.invariant.same sections);
     }

@@ -2,7 +2,7 @@ use Rattle.std.proofs.Common.{◌≡◌, ◌∙◌, List, ℕ, refl, ap}
 use Rattle.fmt_ports.proofs.Parts.{part_of_front, part_of_rest}
 use Rattle.replacements.specs.GapText.{gap_text}
 use Rattle.replacements.specs.Guards.{guard_for, guard_text, guarded_ends}
-use Rattle.replacements.proofs.written.write_guarded.Goals as goal
+use Rattle.replacements.proofs.written.write_with_guard.Goals as goal
 
 pub returns-in_err-write_all-clause-part : goal.returns-in_err-write_all-clause-part
 returns-in_err-write_all-clause-part g c =
