@@ -20,3 +20,5 @@ pub mod LineOutcomes
 pub mod RunSteps
 pub mod WaitingComments
 pub mod Views
+pub mod Inside
+pub mod FixedGaps

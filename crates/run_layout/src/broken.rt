@@ -164,16 +164,16 @@ pub(crate) fn fixed_of<'r>(
     ensures { IfOk result (λ fixed. fixed.now ≡ map (fixed_of_token arena.now plan.now) tokens.now) }
 {
     let count = arena.len();
+    let open = all_open(tokens.len(), run)?;
     if are_open(plan, tokens) {
-        let fixed = all_open(tokens.len(), run)?;
-        return Ok(fixed);
+        return Ok(open);
     }
-    let mut fixed = Vec::with_capacity(run, tokens.len())?;
-    for token in tokens {
-        fixed.push(plan.fixed_of(arena, token.id.0))?;
+    let fixed = run.try_alloc_slice_copy(open)?;
+    for at in 0..tokens.len() {
+        fixed[at] = plan.fixed_of(arena, token_at(tokens, at).id.0);
     }
     let _ = count;
-    Ok(into_bump_slice(fixed))
+    Ok(&*fixed)
 }
 
 /// Decides the open gaps of a line, by admissible choices.

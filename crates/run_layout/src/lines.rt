@@ -12,7 +12,8 @@ ghost use Rattle.replacements.specs.Decisions.{decided_all};
 ghost use Rattle.run_layout.specs.Counted.{IsCounted};
 ghost use Rattle.run_layout.specs.Broken.{broken_line, broken_made, of_line};
 ghost use Rattle.run_layout.specs.InputColumns.{input_before};
-ghost use Rattle.run_layout.specs.OneRow.{AreOpenInside, IsRow, stays};
+ghost use Rattle.layout_tables.specs.Told.{TellBlanks};
+ghost use Rattle.run_layout.specs.OneRow.{IsRow, stays};
 ghost use Rattle.run_layout.specs.OpenGaps.{AreDecided, IsOpen};
 ghost use Rattle.line_tokens.specs.Lines.{CutPlaces};
 ghost use Rattle.run_layout.specs.RunsLaid.{IsRunLaid};
@@ -24,11 +25,11 @@ use crate::first::decide_first;
 use crate::laid::Laid;
 use crate::report::{Tally, note_line};
 use crate::reported::{InputCursor, report_line};
-use crate::row::{end_of, first_start, is_row, token_at, write_row};
+use crate::row::{end_of, first_start, is_open_row, token_at, write_row};
 use crate::view_layout::ViewLayout;
 use break_search::{Outcome, least_breaks, search};
 use bumpalo::Bump;
-use layout_tables::start_column;
+use layout_tables::{RowBlanks, start_column};
 use line_tokens::{LineTok, NoMemory, ULine};
 use replacements::Plan;
 
@@ -42,23 +43,15 @@ fn tokens_of_line<'v>(toks: &'v [LineTok], line: &ULine) -> &'v [LineTok]
     &toks[line.first as usize..line.last as usize + 1]
 }
 
-/// Whether the gaps inside a line with these tokens are open.
-#[inline(always)]
-fn are_open_inside(plan: &Plan<'_>, tokens: &[LineTok]) -> bool
-    requires { All (λ token. token.id.0 < length plan.now) tokens.now }
-    ensures { IsTrue result → AreOpenInside plan.now tokens.now }
-{
-    for at in 1..tokens.len() {
-        if plan.slot(token_at(tokens, at).id.0).is_some() {
-            return false;
-        }
-    }
-    true
-}
-
 /// Lays out a line whose inner gaps are open, if it stays on one row. Otherwise nothing is decided. It takes no memory.
-fn lay_out_row(layout: &ViewLayout<'_>, line: &ULine, plan: &mut Plan<'_>) -> bool
+fn lay_out_row(
+    layout: &ViewLayout<'_>,
+    line: &ULine,
+    blanks: &RowBlanks,
+    plan: &mut Plan<'_>,
+) -> bool
     requires ready { IsReady layout.now }
+    requires tell { TellBlanks layout.now.style.now blanks.now.of_group }
     requires some { line.now.first ≤ line.now.last }
     requires places { line.now.last < length layout.now.view.now }
     requires whole { length plan.old ≡ length layout.now.arena.now.tokens + 1 }
@@ -72,7 +65,7 @@ fn lay_out_row(layout: &ViewLayout<'_>, line: &ULine, plan: &mut Plan<'_>) -> bo
     let arena = layout.arena;
     let items = arena.len();
     let tokens = tokens_of_line(layout.tokens, line);
-    if style.column_limit == 0 || !are_open_inside(plan, tokens) {
+    if style.column_limit == 0 {
         return false;
     }
     let token = token_at(tokens, 0);
@@ -80,12 +73,12 @@ fn lay_out_row(layout: &ViewLayout<'_>, line: &ULine, plan: &mut Plan<'_>) -> bo
     prove!(id < items);
     let first = plan.fixed_of(arena, id);
     let column = start_column(style, line);
-    if !is_row(style, tokens, column, first, layout.budget) {
+    if !is_open_row(style, tokens, column, first, layout.budget, plan) {
         return false;
     }
     let behind = end_of(token, first_start(column, first));
     decide_first(layout, line, id, plan);
-    write_row(style, tokens, behind, plan);
+    write_row(style, blanks, tokens, behind, plan);
     true
 }
 
@@ -162,12 +155,14 @@ fn is_line_decided(
 fn lay_out_line(
     layout: &ViewLayout<'_>,
     line: &ULine,
+    blanks: &RowBlanks,
     segment: &mut usize,
     cursor: &mut InputCursor,
     plan: &mut Plan<'_>,
     run: &Bump,
 ) -> Result<Laid, NoMemory>
     requires ready { IsReady layout.now }
+    requires tell { TellBlanks layout.now.style.now blanks.now.of_group }
     requires some { line.now.first ≤ line.now.last }
     requires places { line.now.last < length layout.now.view.now }
     requires whole { length plan.old ≡ length layout.now.arena.now.tokens + 1 }
@@ -181,7 +176,7 @@ fn lay_out_line(
     if is_line_decided(layout, line, plan, segment) {
         return Ok(Laid::Unsearched);
     }
-    if lay_out_row(layout, line, plan) {
+    if lay_out_row(layout, line, blanks, plan) {
         return Ok(Laid::Least { cost: 0 });
     }
     lay_out_searched(layout, line, cursor, plan, run)
@@ -219,8 +214,9 @@ pub fn lay_out_lines(
         place: 0,
         column: 0,
     };
+    let blanks = RowBlanks::of(layout.style);
     for line in lines {
-        let laid = lay_out_line(layout, line, &mut segment, &mut cursor, plan, run)?;
+        let laid = lay_out_line(layout, line, &blanks, &mut segment, &mut cursor, plan, run)?;
         let id = token_at(layout.tokens, line.first as usize).id.0;
         note_line(layout.arena, number, id, laid, tally)?;
     }

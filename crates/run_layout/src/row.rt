@@ -10,9 +10,10 @@ ghost use Rattle.line_state.specs.Line.{Line};
 ghost use Rattle.line_tokens.specs.Tokens.{no_token};
 ghost use Rattle.replacements.specs.declared.gap_text.Decision.TheVariants.{Spaces};
 ghost use Rattle.replacements.specs.Decisions.{decided, decided_all};
-ghost use Rattle.run_layout.specs.OneRow.{Fits, IsRow, IsRowLine, most_behind, open_behind, row_made};
+ghost use Rattle.layout_tables.specs.Told.{TellBlanks};
+ghost use Rattle.run_layout.specs.OneRow.{AreOpenInside, Fits, IsRow, IsRowLine, most_behind, open_behind, row_made};
 
-use layout_tables::{must_break, spaces_before};
+use layout_tables::{RowBlanks, must_break, spaces_before, stands_behind};
 use line_tokens::{Fixed, LineTok};
 use replacements::{Decision, Plan};
 use style_table::Style;
@@ -86,7 +87,7 @@ fn first_fits(style: &Style, token: &LineTok, start: u32, first: Option<Fixed>) 
     }
 }
 
-/// Whether a line stays on one row as [`is_row`] says it, told by the blanks that stand in its gaps.
+/// Whether a line stays on one row as [`is_open_row`] says it, told by the blanks that stand in its gaps.
 fn is_row_by_table(
     style: &Style,
     tokens: &[LineTok],
@@ -159,19 +160,22 @@ fn most_behind(token: &LineTok, most: u64) -> u64
     }
 }
 
-/// Whether a line stays on one row as [`is_row`] says it, told by one blank in each of its gaps: the table has no more
-/// but before trailing comments.
+/// Whether a line stays on one row as [`is_open_row`] says it and the gaps inside it are open, told by one blank in each
+/// of them: the table has no more but before trailing comments.
 #[inline(always)]
-fn is_row_by_most(
+fn is_open_row_by_most(
     style: &Style,
     tokens: &[LineTok],
     column: u32,
     first: Option<Fixed>,
     budget: u64,
+    plan: &Plan<'_>,
 ) -> bool
     requires range { IsInRange style.now }
     requires some { 0 < length tokens.now }
-    ensures { IsTrue result → (l : Line) → IsRowLine l style.now column tokens.now first → IsRow l budget }
+    requires within { All (λ token. token.id.0 < length plan.now) tokens.now }
+    ensures inside { IsTrue result → AreOpenInside plan.now tokens.now }
+    ensures row { IsTrue result → (l : Line) → IsRowLine l style.now column tokens.now first → IsRow l budget }
 {
     if style.column_limit == 0 || !are_few(tokens, budget) {
         return false;
@@ -184,11 +188,10 @@ fn is_row_by_most(
     let mut most = u64::from(end_of(left, start));
     for at in 1..tokens.len() {
         let right = token_at(tokens, at);
-        let must = must_break(style, left, right);
-        if must {
+        if !stands_behind(left, right) {
             return false;
         }
-        if right.role.is_trailing() {
+        if plan.slot(right.id.0).is_some() {
             return false;
         }
         if !fits_from(style, right, most + 1) {
@@ -200,23 +203,42 @@ fn is_row_by_most(
     true
 }
 
-/// Whether a line stays on one row that doesn't pass the limit, within the budget. Of its gaps only the first may be
-/// decided.
-pub(crate) fn is_row(
+/// Whether the gaps inside a line with these tokens are open.
+#[inline(always)]
+fn are_open_inside(plan: &Plan<'_>, tokens: &[LineTok]) -> bool
+    requires { All (λ token. token.id.0 < length plan.now) tokens.now }
+    ensures { IsTrue result → AreOpenInside plan.now tokens.now }
+{
+    for at in 1..tokens.len() {
+        if plan.slot(token_at(tokens, at).id.0).is_some() {
+            return false;
+        }
+    }
+    true
+}
+
+/// Whether the gaps inside a line are open, and it stays on one row that doesn't pass the limit, within the budget.
+pub(crate) fn is_open_row(
     style: &Style,
     tokens: &[LineTok],
     column: u32,
     first: Option<Fixed>,
     budget: u64,
+    plan: &Plan<'_>,
 ) -> bool
     requires range { IsInRange style.now }
     requires some { 0 < length tokens.now }
     requires budget { budget ≤ 16000000 }
-    ensures { IsTrue result → (l : Line) → IsRowLine l style.now column tokens.now first → IsRow l budget }
+    requires within { All (λ token. token.id.0 < length plan.now) tokens.now }
+    ensures inside { IsTrue result → AreOpenInside plan.now tokens.now }
+    ensures row { IsTrue result → (l : Line) → IsRowLine l style.now column tokens.now first → IsRow l budget }
 {
     // Most lines are far from the limit, and the table of blanks isn't read.
-    if is_row_by_most(style, tokens, column, first, budget) {
+    if is_open_row_by_most(style, tokens, column, first, budget, plan) {
         return true;
+    }
+    if !are_open_inside(plan, tokens) {
+        return false;
     }
     is_row_by_table(style, tokens, column, first, budget)
 }
@@ -234,8 +256,15 @@ fn write_stay(token: &LineTok, spaces: u32, start: u32, plan: &mut Plan<'_>)
 }
 
 /// Decides the gaps inside a line that stays on one row, whose first token ends at a column. Trailing comments wait.
-pub(crate) fn write_row(style: &Style, tokens: &[LineTok], column: u32, plan: &mut Plan<'_>)
+pub(crate) fn write_row(
+    style: &Style,
+    blanks: &RowBlanks,
+    tokens: &[LineTok],
+    column: u32,
+    plan: &mut Plan<'_>,
+)
     requires range { IsInRange style.now }
+    requires tell { TellBlanks style.now blanks.now.of_group }
     requires some { 0 < length tokens.now }
     requires within { All (λ token. token.id.0 < length plan.old) tokens.now }
     ensures plan { plan.new ≡ decided_all plan.old (row_made style.now column (get_or tokens.now 0 no_token) (drop 1 tokens.now)) }
@@ -245,7 +274,7 @@ pub(crate) fn write_row(style: &Style, tokens: &[LineTok], column: u32, plan: &m
     let mut column = column;
     for at in 1..tokens.len() {
         let right = token_at(tokens, at);
-        let spaces = u32::from(spaces_before(style, left, right));
+        let spaces = u32::from(blanks.before(style, left, right));
         let start = column.saturating_add(spaces);
         write_stay(right, spaces, start, plan);
         column = end_of(right, start);

@@ -3,8 +3,8 @@ use Rattle.std.proofs.lemmas.Option.{slice_get_within}
 use Rattle.run_layout.proofs.RowLines.{tokens_within, first_number, row_here, row_plan}
 use Rattle.run_layout.proofs.lines.lay_out_row.Goals as goal
 
-pub are_open_inside-requires : goal.are_open_inside-requires
-are_open_inside-requires c =
+pub is_open_row-requires-clause-within : goal.is_open_row-requires-clause-within
+is_open_row-requires-clause-within c =
     tokens_within c.args.layout.now.arena.now c.args.layout.now.view.now c.args.layout.now.tokens.now c.tokens_of_line-tokens.result.now c.args.line.now (length c.args.plan.now) c.requires.ready.within c.requires.ready.tell c.requires.places c.requires.whole c.tokens_of_line-tokens.ensures
 
 pub prove-unreachable-requires : goal.prove-unreachable-requires
@@ -25,7 +25,7 @@ write_row-requires-clause-within c =
 pub returns-clause-row : goal.returns-clause-row
 returns-clause-row c =
     row_here c.args.layout.now.style.now c.args.layout.now.arena.now c.args.layout.now.view.now c.args.layout.now.tokens.now c.args.plan.now c.args.line.now c.args.layout.now.budget c.start_column-column.result c.tokens_of_line-tokens.result.now c.fixed_of-first.result c.token_at-token.result.now
-    c.requires.ready.tell c.tokens_of_line-tokens.ensures c.token_at-token.ensures (c.are_open_inside.ensures c.if-not-are_open_inside.false) c.start_column-column.ensures c.fixed_of-first.ensures (c.is_row.ensures c.if-not-is_row.false)
+    c.requires.ready.tell c.tokens_of_line-tokens.ensures c.token_at-token.ensures (c.is_open_row.ensures.inside c.if-not-is_open_row.false) c.start_column-column.ensures c.fixed_of-first.ensures (c.is_open_row.ensures.row c.if-not-is_open_row.false)
 
 pub returns-clause-plan : goal.returns-clause-plan
 returns-clause-plan c =
@@ -37,11 +37,11 @@ returns-clause-plan c =
     let line = c.args.line.now in
     let tokens = c.tokens_of_line-tokens.result.now in
     let token = c.token_at-token.result.now in
-    let inside = c.are_open_inside.ensures c.if-not-are_open_inside.false in
+    let inside = c.is_open_row.ensures.inside c.if-not-is_open_row.false in
     let number = first_number arena ids toks tokens line token c.requires.ready.tell c.requires.some c.tokens_of_line-tokens.ensures c.token_at-token.ensures in
     let row =
     row_here style arena ids toks plan line c.args.layout.now.budget c.start_column-column.result tokens c.fixed_of-first.result token
-    c.requires.ready.tell c.tokens_of_line-tokens.ensures c.token_at-token.ensures inside c.start_column-column.ensures c.fixed_of-first.ensures (c.is_row.ensures c.if-not-is_row.false) in
+    c.requires.ready.tell c.tokens_of_line-tokens.ensures c.token_at-token.ensures inside c.start_column-column.ensures c.fixed_of-first.ensures (c.is_open_row.ensures.row c.if-not-is_open_row.false) in
     row_plan style arena ids toks plan line c.args.layout.now.budget c.start_column-column.result tokens c.fixed_of-first.result token
     c.requires.ready.tell c.tokens_of_line-tokens.ensures c.token_at-token.ensures inside c.start_column-column.ensures c.fixed_of-first.ensures
     c.first_start.result c.end_of-behind.result c.decide_first.new.plan c.write_row.new.plan (slice_get_within tokens 0 token c.token_at-token.ensures) number row c.first_start.ensures c.end_of-behind.ensures c.decide_first.ensures.plan c.write_row.ensures.plan

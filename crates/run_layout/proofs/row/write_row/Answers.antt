@@ -9,6 +9,6 @@ loop-at-preserved c =
       left = ap (λ i. slice_get c.args.tokens.now i) here ∙ c.token_at-right.ensures;
       len = c.write_stay.ensures.len ∙ c.loop-at.invariant.len;
       rest = row_written c.args.style.now c.loop-at.plan c.write_stay.new.plan c.args.tokens.now c.loop-at.column c.loop-at.at c.from-spaces.result c.saturating_add-start.result c.end_of-column.result c.loop-at.left.now c.token_at-right.result.now
-          c.token_at-right.ensures (c.from-spaces.ensures ∙ c.spaces_before.ensures.table) c.saturating_add-start.ensures c.end_of-column.ensures c.write_stay.ensures.plan
+          c.token_at-right.ensures (c.from-spaces.ensures ∙ c.before-in-loop-at.ensures.table) c.saturating_add-start.ensures c.end_of-column.ensures c.write_stay.ensures.plan
           ∙ c.loop-at.invariant.rest;
     }
