@@ -1,10 +1,23 @@
 //! How a plan lies in memory.
 
-ghost use Rattle.std.specs.Prelude.{◌≡◌, ◌↔◌, Some, IsSome, IsTrue};
+ghost use Rattle.std.specs.Prelude.{◌≡◌, ◌↔◌, Some, IfSome, IsSome, IsTrue};
 ghost use Rattle.replacements.specs.Entries.{slot_in};
+ghost use Rattle.replacements.specs.Written.{decision_of};
+ghost use Rattle.replacements.specs.declared.gap_text.Decision.TheVariants.{Lines, Spaces};
 
 use crate::Decision;
 use crate::slot::Slot;
+
+/// Line ends and indentation.
+#[derive(Clone, Copy)]
+pub(crate) struct LineGap {
+    /// How many line ends.
+    pub count: u32,
+    /// The column up to which the indentation goes.
+    pub column: u32,
+    /// The level of the line that begins there.
+    pub level: u32,
+}
 
 /// What a plan has for a gap: that it is open, or the decision and the column at which the item behind the gap
 /// starts. It takes less room than an `Option<Slot>`.
@@ -97,6 +110,37 @@ impl Entry {
             Entry::Open => return None,
         };
         Some(Slot { decision, end })
+    }
+
+    /// How many blanks are decided, where it is blanks.
+    #[inline(always)]
+    pub(crate) fn blanks(self) -> Option<u32>
+        ensures { IfSome result (λ count. decision_of (slot_in self) ≡ Spaces count) }
+    {
+        match self {
+            Entry::Spaces { count, .. } => Some(count),
+            _ => None,
+        }
+    }
+
+    /// The line ends and the indentation that are decided, where it is lines.
+    #[inline(always)]
+    pub(crate) fn lines(self) -> Option<LineGap>
+        ensures { IfSome result (λ gap. decision_of (slot_in self) ≡ Lines gap.count gap.column gap.level) }
+    {
+        match self {
+            Entry::Lines {
+                count,
+                column,
+                level,
+                ..
+            } => Some(LineGap {
+                count,
+                column,
+                level,
+            }),
+            _ => None,
+        }
     }
 
     /// Whether something is decided.

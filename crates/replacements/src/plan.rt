@@ -1,6 +1,8 @@
 //! The decisions for the gaps of a text.
 
-ghost use Rattle.std.specs.Prelude.{◌≡◌, ◌<◌, ◌≤◌, ◌+◌, ◌↔◌, ℕ, None, length, replicate, IfOk, IsSome, IsTrue};
+ghost use Rattle.std.specs.Prelude.{◌≡◌, ◌<◌, ◌≤◌, ◌+◌, ◌↔◌, ℕ, None, length, replicate, IfOk, IfSome, IsSome, IsTrue};
+ghost use Rattle.replacements.specs.declared.gap_text.Decision.TheVariants.{Lines, Spaces};
+ghost use Rattle.replacements.specs.Written.{decision_at};
 ghost use Rattle.std.specs.Bool.{OnFalse, OnTrue};
 ghost use Rattle.c_chars.specs.declared.TheConstants.{LIMIT};
 ghost use Rattle.replacements.specs.declared.slot.Decided.TheVariants as Decided;
@@ -9,7 +11,7 @@ ghost use Rattle.replacements.specs.Breaks.{fixed_by, has_line_end, has_new_line
 ghost use Rattle.replacements.specs.Entries.{slots_in};
 
 use crate::Decision;
-use crate::entry::Entry;
+use crate::entry::{Entry, LineGap};
 use crate::reading::has_new_line_at;
 use crate::slot::{Decided, Slot};
 use bumpalo::Bump;
@@ -142,6 +144,26 @@ impl<'a> Plan<'a> {
     {
         let entries = &*self.entries;
         all_decided(&entries[first as usize..end as usize])
+    }
+
+    /// How many blanks are decided for a gap, where it is blanks.
+    #[inline(always)]
+    pub(crate) fn blanks(&self, place: u32) -> Option<u32>
+        requires { place < length self.now }
+        ensures { IfSome result (λ count. decision_at self.now place ≡ Spaces count) }
+    {
+        let entries = &*self.entries;
+        entries[place as usize].blanks()
+    }
+
+    /// The line ends and the indentation that are decided for a gap, where it is lines.
+    #[inline(always)]
+    pub(crate) fn lines(&self, place: u32) -> Option<LineGap>
+        requires { place < length self.now }
+        ensures { IfSome result (λ gap. decision_at self.now place ≡ Lines gap.count gap.column gap.level) }
+    {
+        let entries = &*self.entries;
+        entries[place as usize].lines()
     }
 
     /// What is decided for a gap.

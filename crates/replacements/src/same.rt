@@ -165,11 +165,11 @@ pub(crate) fn is_same(
     ensures same { IsTrue result → IsSame style.now crlf arena.now at place (decision_at plan.now place) (told_by token.now) }
     ensures old { is_old (decision_at plan.now place) ≡ true → IsTrue result }
 {
-    match decision_at(plan, place) {
-        Decision::Spaces(count) => are_same_blanks(arena, at, place, token, count),
-        Decision::Lines { count, column, .. } => {
-            are_same_lines(style, crlf, arena, at, place, token, count, column)
-        }
-        Decision::Old | Decision::Splice { .. } => stays(plan, place),
+    if let Some(count) = plan.blanks(place) {
+        return are_same_blanks(arena, at, place, token, count);
     }
+    if let Some(gap) = plan.lines(place) {
+        return are_same_lines(style, crlf, arena, at, place, token, gap.count, gap.column);
+    }
+    stays(plan, place)
 }
