@@ -5,7 +5,6 @@ mod Queue
 mod Nodes
 mod Jumping
 mod Striding
-mod Grouping
 mod WayBack
 mod Relaxing
 mod LineFacts

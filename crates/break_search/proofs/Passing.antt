@@ -1,5 +1,5 @@
 -- A settled vertex that another one passes needs not be followed.
-use Rattle.std.proofs.Common.{◌≡◌, ◌≢◌, ℕ, ◌<◌, ◌≤◌, Bool, true, Option, Some, None, List, [], ◌∷◌, length, refl, arith, sym, ◌∙◌, slice_get, zero, suc}
+use Rattle.std.proofs.Common.{◌≡◌, ◌≢◌, ℕ, ◌<◌, ◌≤◌, true, Option, Some, None, List, [], ◌∷◌, length, refl, arith, slice_get, zero, suc}
 use Rattle.line_state.proofs.Ways.{rank, AtMost}
 use Rattle.line_state.proofs.Dominance.{Dominates}
 use Rattle.line_state.proofs.Table.{Vertex, path, IsTable, Nothing}
@@ -47,10 +47,10 @@ ahead_level table v w levels in_v in_w differ ahead =
     let a : StandsAhead x.0.state y.0.state = ahead x.0 y.0 x.1 y.1 in
     record { one = x.0; other = y.0; at_one = x.1; at_other = y.1; level = omega (arith, levels v x.0 x.1, levels w y.0 y.1, a.index); differ = differ; in_one = in_v; in_other = in_w }
 
-pub passes_by : (table : List (Vertex Layout)) (v w : ℕ) → v < length table → v ≢ w → (settled : Bool) → ((x : Vertex Layout) → slice_get table v ≡ Some x → settled ≡ x.settled) → settled ≡ true → IsAhead table v w → IsBetter table v w → Passes table v w
-passes_by table v w in_v differ settled flag is ahead better =
+pub passes_by : (table : List (Vertex Layout)) (v w : ℕ) → v < length table → v ≢ w → ((x : Vertex Layout) → slice_get table v ≡ Some x → x.settled ≡ true) → IsAhead table v w → IsBetter table v w → Passes table v w
+passes_by table v w in_v differ settled ahead better =
     let x = vertex_at table v in_v in
-    record { node = x.0; at = x.1; differ = differ; settled = sym (flag x.0 x.1) ∙ is; ahead = ahead; better = better }
+    record { node = x.0; at = x.1; differ = differ; settled = settled x.0 x.1; ahead = ahead; better = better }
 
 module _ (line : Line) (some : 0 < length line.tokens) (narrow : IsNarrow line) (budget : ℕ) (table : List (Vertex Layout)) (entries : List Entry) (cells : ℕ) (best : Option ℕ) (w : ℕ) (k : IsSettled line table entries cells best w) where
   passed_table : (v : ℕ) → Passes table v w → IsTable (Step line) (least_ahead line) (first_layout line) (gaps line) table Nothing
@@ -79,4 +79,4 @@ module _ (line : Line) (some : 0 < length line.tokens) (narrow : IsNarrow line) 
   -- the search goes on without following it
   pub passed_runs : (v : ℕ) → Passes table v w → cells ≤ budget → k.node.depth < gaps line → IsRunning line budget table entries cells best
   passed_runs v p small more = inner_runs line budget table table entries entries cells best w k small more
-      (record { table = passed_table v p; waits = k.search.waits; cheap = k.search.cheap; known = k.search.known }) keeps
+      (record { table = passed_table v p; waits = k.search.waits; cheap = k.search.cheap; known = k.search.known; enough = k.search.enough }) keeps

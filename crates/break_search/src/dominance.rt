@@ -33,13 +33,11 @@ fn passes(table: &Table<'_>, first: usize, second: usize) -> bool
     requires parents { HaveParents table.now }
     requires apart { HavePaths table.now }
     requires levels { HaveLevels table.now }
+    requires first { first < length table.now }
     requires second { second < length table.now }
     ensures { OnTrue result (Passes table.now first second) }
 {
-    if first >= table.len() || first == second {
-        return false;
-    }
-    if !table.is_settled(first) || !table.is_ahead(first, second) {
+    if first == second || !table.is_ahead(first, second) {
         return false;
     }
     is_better(table, first, second)
@@ -53,12 +51,15 @@ fn is_passed(table: &Table<'_>, at: usize) -> bool
     requires at { at < length table.now }
     ensures { OnTrue result ((v : ℕ) × Passes table.now v at) }
 {
-    let links = table.listed_with(at);
-    let from = links.len().saturating_sub(MOST_COMPARED);
-    for link in &links[from..] {
-        if passes(table, link.number as usize, at) {
+    let mut end = table.last_end(at);
+    'back: for compared in 0..MOST_COMPARED {
+        if end == 0 || end > table.len() {
+            return false;
+        }
+        if passes(table, end - 1, at) {
             return true;
         }
+        end = table.end_before(end - 1);
     }
     false
 }

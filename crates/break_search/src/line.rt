@@ -1,12 +1,12 @@
 //! A line that is searched.
 
-ghost use Rattle.std.specs.Prelude.{◌≡◌, ℕ, ◌+◌, ◌-◌, ◌*◌, ◌<◌, ◌≤◌, Some, length, slice_get, IfOk, IfSome, OnOk};
+ghost use Rattle.std.specs.Prelude.{◌≡◌, ℕ, List, ◌+◌, ◌-◌, ◌*◌, ◌<◌, ◌≤◌, Some, length, slice_get, IfOk, IfSome, OnOk};
 ghost use Rattle.std.specs.Bool.{OnTrue, OnFalse};
 ghost use Rattle.style_table.specs.Range.{IsInRange};
 ghost use Rattle.line_tokens.specs.declared.LineTok.{LineTok};
 ghost use Rattle.line_tokens.specs.Columns.{stored_or};
 ghost use Rattle.line_state.specs.Layout.{Layout, AreRules, layout_of};
-ghost use Rattle.line_state.specs.Store.{layout_in, state_in, IsIn, IsGrown};
+ghost use Rattle.line_state.specs.Store.{FrameList, layout_in, state_in, IsIn, IsGrown};
 ghost use Rattle.line_state.specs.Line.{gaps, first_layout, first_cost, decision_at, joined};
 ghost use Rattle.break_search.specs.Ahead.{least_ahead};
 ghost use Rattle.break_search.specs.Outcome.{IsSearchable, line_of};
@@ -20,8 +20,8 @@ use crate::outcome::Saturation;
 use bumpalo::Bump;
 use bumpalo::collections::into_bump_slice;
 use line_state::{
-    FrameStore, GapRules, NoMemory, NodeState, State, advance, allowed_by, gap_rules, start,
-    start_in, step_in, try_step_by,
+    FrameStore, GapRules, NoMemory, NodeState, State, advance, allowed_by, gap_rules, refused_by,
+    start, start_in, step_in, try_step_by,
 };
 use line_tokens::{Fixed, LineTok};
 use std::alloc::Global;
@@ -322,6 +322,22 @@ impl<'a> SearchedLine<'a> {
         let rules = self.rules_before(at);
         let next = try_step_by(store, self.style, state, left, right, fixed, rules, brk)?;
         Ok(next)
+    }
+
+    /// Whether a choice isn't admissible, whatever frames are open.
+    #[inline(always)]
+    pub fn refuses(&self, state: &NodeState, brk: bool) -> bool
+        requires line { IsSearchable self.now }
+        requires some { 0 < state.now.index }
+        requires next { state.now.index < length self.now.tokens }
+        ensures { OnTrue result ((lists : List FrameList) → LeadsNowhere self.now (layout_in lists state.now) brk) }
+    {
+        let at = state.index as usize;
+        let left = self.token(at - 1);
+        let right = self.token(at);
+        let fixed = self.decision(at);
+        let rules = self.rules_before(at);
+        refused_by(self.style, state, left, right, fixed, rules, brk)
     }
 
     /// The state of the first token.

@@ -4,6 +4,7 @@
 //! for a thing walks along the chain of its digest, and compares with what the numbers there stand for.
 
 ghost use Rattle.std.specs.Prelude.{◌≡◌, ℕ, ◌<◌, List, [], length, slice_get, Some, IfOk, OnOk};
+ghost use Rattle.std.specs.Vec.{vec_len, vec_capacity};
 ghost use Rattle.line_state.specs.declared.group.Link.{Link};
 ghost use Rattle.line_state.specs.Chains.{Chained, slot_of, IsListed, IsOnChain, IsTold, IsLinked, Lists};
 
@@ -83,8 +84,33 @@ fn link_of(digest: u64, number: usize, before: usize) -> Result<Link, AllocError
     })
 }
 
-/// Puts a link behind a slot's chain.
+/// Puts a link behind a slot's chain, where there is room for it.
 #[inline(always)]
+fn list_in_room(
+    ends: &mut Vec<u32, &Bump>,
+    links: &mut Vec<Link, &Bump>,
+    slot: usize,
+    digest: u64,
+    number: usize,
+) -> Result<(), AllocError>
+    requires slot { slot < length ends.old.items }
+    requires room { vec_len links.old < vec_capacity links.old }
+    ensures kept { (i d u : ℕ) → IsListed ends.old.items links.old.items i d u → IsListed ends.new.items links.new.items i d u }
+    ensures len { length ends.new.items ≡ length ends.old.items }
+    ensures added { OnOk result (IsListed ends.new.items links.new.items slot digest number) }
+{
+    let count = links.len();
+    if count >= MOST {
+        return Err(AllocError);
+    }
+    let before = (ends[slot] as usize).min(count);
+    let link = link_of(digest, number, before)?;
+    links.push_reserved(link);
+    ends[slot] = count as u32 + 1;
+    Ok(())
+}
+
+/// Puts a link behind a slot's chain.
 fn list(
     ends: &mut Vec<u32, &Bump>,
     links: &mut Vec<Link, &Bump>,
@@ -97,14 +123,8 @@ fn list(
     ensures len { length ends.new.items ≡ length ends.old.items }
     ensures added { OnOk result (IsListed ends.new.items links.new.items slot digest number) }
 {
-    let count = links.len();
-    if count >= MOST {
-        return Err(AllocError);
-    }
-    let before = (ends[slot] as usize).min(count);
-    links.push(link_of(digest, number, before)?)?;
-    ends[slot] = count as u32 + 1;
-    Ok(())
+    links.reserve(1)?;
+    list_in_room(ends, links, slot, digest, number)
 }
 
 /// Puts a link behind the only chain.
@@ -152,6 +172,19 @@ impl<'r> Group<'r> {
         }
     }
 
+    /// Nothing is listed, with so many slots, and room for as many links.
+    ///
+    /// # Errors
+    ///
+    /// `AllocError` where memory ran out.
+    pub fn with_slots(run: &'r Bump, count: usize) -> Result<Self, AllocError>
+        ensures { IfOk result (λ group. group.links ≡ []) }
+    {
+        let ends = vec![in run; 0; count]?;
+        let links = Vec::with_capacity(run, count)?;
+        Ok(Group { ends, links })
+    }
+
     /// The links of all chains.
     pub fn links(&self) -> &[Link]
         ensures { result.now ≡ self.now.links }
@@ -172,8 +205,7 @@ impl<'r> Group<'r> {
         Ok(())
     }
 
-    /// Lists a number under a digest, in the chain of its slot.
-    #[inline(never)]
+    /// Lists a number under a digest, in the chain of its slot, once there are slots enough.
     fn add_to_slot(&mut self, digest: u64, number: usize) -> Result<(), AllocError>
         ensures kept { (d u : ℕ) → Lists self.old d u → Lists self.new d u }
         ensures added { OnOk result (Lists self.new digest number) }
@@ -183,9 +215,9 @@ impl<'r> Group<'r> {
         list(&mut self.ends, &mut self.links, slot, digest, number)
     }
 
-    /// Lists a number under a digest.
-    #[inline(always)]
-    pub fn add(&mut self, digest: u64, number: usize) -> Result<(), AllocError>
+    /// Lists a number under a digest where there may be no room.
+    #[inline(never)]
+    fn add_to_full(&mut self, digest: u64, number: usize) -> Result<(), AllocError>
         ensures kept { (d u : ℕ) → Lists self.old d u → Lists self.new d u }
         ensures added { OnOk result (Lists self.new digest number) }
     {
@@ -193,6 +225,21 @@ impl<'r> Group<'r> {
             return chain(&mut self.links, digest, number);
         }
         self.add_to_slot(digest, number)
+    }
+
+    /// Lists a number under a digest.
+    #[inline(always)]
+    pub fn add(&mut self, digest: u64, number: usize) -> Result<(), AllocError>
+        ensures kept { (d u : ℕ) → Lists self.old d u → Lists self.new d u }
+        ensures added { OnOk result (Lists self.new digest number) }
+    {
+        let count = self.ends.len();
+        let many = self.links.len();
+        if many >= count || many >= self.links.capacity() {
+            return self.add_to_full(digest, number);
+        }
+        let slot = slot(digest, count);
+        list_in_room(&mut self.ends, &mut self.links, slot, digest, number)
     }
 
     /// Where the chain ends that has the numbers of a digest.

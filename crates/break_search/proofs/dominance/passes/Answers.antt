@@ -1,12 +1,11 @@
-use Rattle.std.proofs.Common.{arith}
 use Rattle.break_search.proofs.Forks.{on_true_at, on_true_then}
 use Rattle.break_search.proofs.Passing.{ahead_level, passes_by}
 use Rattle.break_search.proofs.dominance.passes.Goals as goal
 
 pub is_better-requires-clause-level : goal.is_better-requires-clause-level
-is_better-requires-clause-level c = ahead_level _ _ _ c.requires.levels (omega (arith, c.if-first-len.false, c.len.ensures)) c.requires.second c.if-first-second.false (on_true_at _ _ c.if-not-is_ahead.false c.is_ahead.ensures)
+is_better-requires-clause-level c = ahead_level _ _ _ c.requires.levels c.requires.first c.requires.second c.if-first-second.false (on_true_at _ _ c.if-not-is_ahead.false c.is_ahead.ensures.ahead)
 
 pub returns : goal.returns
 returns c =
     on_true_then _ _ _ c.is_better.ensures
-    (λ better. passes_by _ _ _ (omega (arith, c.if-first-len.false, c.len.ensures)) c.if-first-second.false _ c.is_settled.ensures c.if-not-is_settled.false (on_true_at _ _ c.if-not-is_ahead.false c.is_ahead.ensures) better)
+    (λ better. passes_by _ _ _ c.requires.first c.if-first-second.false (on_true_at _ _ c.if-not-is_ahead.false c.is_ahead.ensures.settled) (on_true_at _ _ c.if-not-is_ahead.false c.is_ahead.ensures.ahead) better)
