@@ -5,6 +5,7 @@ mod Queue
 mod Nodes
 mod Jumping
 mod Striding
+mod Grouping
 mod WayBack
 mod Relaxing
 mod LineFacts

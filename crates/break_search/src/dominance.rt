@@ -37,7 +37,7 @@ fn passes(table: &Table<'_>, first: usize, second: usize) -> bool
     requires second { second < length table.now }
     ensures { OnTrue result (Passes table.now first second) }
 {
-    if first == second || !table.is_ahead(first, second) {
+    if !table.is_ahead(first, second) {
         return false;
     }
     is_better(table, first, second)
