@@ -1,5 +1,5 @@
 -- Tokens that leave the frames as they are.
-use Rattle.std.proofs.Common.{◌≡◌, ℕ, ◌+◌, ◌-◌, ◌≤◌, Bool, true, false, ◌&&◌, ◌==◌, not, nat_le, if◌then◌else◌, Option, None, List, [], ◌∷◌, ◌++◌, length, slice_set, refl, ap, sym, ◌∙◌}
+use Rattle.std.proofs.Common.{◌≡◌, ℕ, ◌+◌, ◌-◌, ◌≤◌, Bool, true, false, ◌&&◌, ◌==◌, not, nat_le, if◌then◌else◌, Option, None, List, [], ◌∷◌, ◌++◌, length, refl, ap, sym, ◌∙◌}
 use Rattle.std.specs.Bool.{OnTrue}
 use Rattle.std.proofs.lemmas.List.{set-get_or}
 use Rattle.line_tokens.specs.Columns.{columns, end_of}
@@ -11,7 +11,7 @@ use Rattle.style_table.specs.declared.style.Style.{Style}
 use Rattle.line_state.specs.declared.frames.Frame.{Frame}
 use Rattle.line_state.specs.declared.gap.Gap.{Gap}
 use Rattle.line_state.specs.Brackets.{opens_frame, binds_commas}
-use Rattle.line_state.specs.Layout.{Layout, gap_before, topmost, with_topmost, open_frames, is_after_opener, spot_of, is_free, opened_frame, comma_frame, placed_frame, placed_frames, with_opened, new_frame, frames_after, layout_after, start_at, start_of}
+use Rattle.line_state.specs.Layout.{Layout, gap_before, topmost, with_topmost, open_frames, is_after_opener, spot_of, is_free, opened_frame, comma_frame, placed_frame, placed_frames, new_frame, frames_after, layout_after, start_at, start_of}
 use Rattle.line_state.specs.Store.{FrameList}
 use Rattle.line_state.proofs.Lists.{all_taken}
 
