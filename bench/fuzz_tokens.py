@@ -20,6 +20,8 @@ OFF = re.compile(rb"clang-format off(?::.*)?", re.S)
 ON = re.compile(rb"clang-format on(?::.*)?", re.S)
 # What the compilers read otherwise than C11: a late splice, and for clang a return alone.
 OTHERWISE = re.compile(rb"(?:\\|\?\?/)[ \t\v\f\0]+\r?\n|\r(?!\n)|\n\r")
+# The marks of other encodings than UTF-8, with which clang reads no text.
+MARKED = re.compile(rb"\xfe\xff|\xff\xfe|\0\0\xfe\xff|\+/v|\xf7dL|\xddsfs|\x0e\xfe\xff|\xfb\xee\(|\x841\x953")
 # What keeps bytes of the input, so that a column of it counts.
 STAYS = re.compile(rb"clang-|#[ \t]*if[ \t]+0")
 NO_SPLICE = rb"(?<!\\\n)(?<!\\\r\n)(?<!\?\?/\n)(?<!\?\?/\r\n)"
@@ -47,7 +49,7 @@ def may_turn_its_line_ends(text, once):
 
 def is_read_otherwise(text):
     """Whether the compilers read it otherwise than C11, whatever its tokens are."""
-    return bool(OTHERWISE.search(text))
+    return bool(OTHERWISE.search(text) or MARKED.match(text))
 
 
 def behind_row(text):
@@ -160,11 +162,12 @@ class Tokens:
 
 
 def cut(folder, texts):
-    """The tokens of each text, by its name."""
+    """The tokens of each text, by its name; none of one that clang doesn't read."""
     for name, text in texts.items():
         with open(os.path.join(folder, name), "wb") as file:
             file.write(text)
-    words = ["clang", "-cc1", "-std=c11", "-ftrigraphs", "-dump-raw-tokens", *texts]
+    read = [name for name, text in texts.items() if not MARKED.match(text)]
+    words = ["clang", "-cc1", "-std=c11", "-ftrigraphs", "-dump-raw-tokens", *read]
     ran = subprocess.run(words, cwd=folder, capture_output=True)
     found = {name: Tokens(text) for name, text in texts.items()}
     for kind, spelling, flags, raw, name, line, column in TOKEN.findall(ran.stderr):
