@@ -7,4 +7,4 @@ pub returns-in-Some : goal.returns-in-Some
 returns-in-Some c =
     let some : 0 < c.args.id = omega (arith, c.if-id-eq0.false) in
     c.in-Some.ensures
-    ∙ touched c.args.arena.now c.args.id c.dialect.result (told_by c.item-left.result) (told_by c.item-token.result) some c.dialect.ensures c.item-left.ensures.is c.item-token.ensures.is
+    ∙ touched c.args.arena.now c.args.id c.dialect.result (told_by c.item_within-left.result) (told_by c.item_within-token.result) some c.dialect.ensures c.item_within-left.ensures.is c.item_within-token.ensures.is
