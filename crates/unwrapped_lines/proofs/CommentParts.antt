@@ -1,6 +1,7 @@
 -- The comments of a view tell its parts.
-use Rattle.std.proofs.Common.{◌≡◌, ◌∙◌, ℕ, suc, ◌+◌, ◌≤◌, Bool, true, false, not, nat_eq, nat_lt, ◌||◌, List, [], ◌∷◌, length, get_or, refl, arith, ap, sym}
+use Rattle.std.proofs.Common.{◌≡◌, ◌∙◌, ℕ, suc, ◌+◌, ◌<◌, ◌≤◌, Bool, true, false, not, nat_eq, nat_lt, ◌||◌, List, [], ◌∷◌, ◌++◌, length, length-append, drop, get_or, refl, arith, ap, sym}
 use Rattle.std.specs.Prelude.{if◌then◌else◌}
+use Rattle.std.proofs.lemmas.List.{append-nil, append_assoc, drop_more}
 use Rattle.token_arena.specs.Gaps.{Contents}
 use Rattle.token_classes.specs.declared.class.TokenClass.{TokenClass}
 use Rattle.token_classes.specs.Classes.{is_comment}
@@ -8,8 +9,8 @@ use Rattle.unwrapped_lines.specs.declared.part.Part.{Part}
 use Rattle.unwrapped_lines.specs.declared.part.Part.TheVariants.{Token}
 use Rattle.unwrapped_lines.specs.declared.part.ViewComment.{ViewComment}
 use Rattle.unwrapped_lines.specs.Comments.{parts_with, FollowFrom}
-use Rattle.unwrapped_lines.specs.Viewed.{comments_from, part_of, parts_from}
-use Rattle.unwrapped_lines.proofs.Passed.{follow_less, token_first}
+use Rattle.unwrapped_lines.specs.Viewed.{comments_from, comments_of, part_of, parts_from, AreCommentsBefore}
+use Rattle.unwrapped_lines.proofs.Passed.{drop_none, follow_less, token_first}
 
 comments_follow : (arena : Contents) (ids : List ℕ) (k n : ℕ) (cs : List TokenClass) → FollowFrom k (comments_from arena ids k n cs)
 comments_follow arena ids k n [] = tt
@@ -56,3 +57,36 @@ parts_same arena ids k n started (c ∷ cs) few e =
           ∙ (ap (λ (p : Part). p ∷ parts_with (length cs) (k + 1) later) part
           ∙ ap (λ (ps : List Part). part_of arena id started c ∷ ps) (parts_same arena ids (k + 1) n (started || not (is_comment c)) cs (omega (arith, few)) on)))
     ] refl
+
+-- ## One place
+
+pub comment_noted : (arena : Contents) (ids : List ℕ) (classes : List TokenClass) (k : ℕ) (c : TokenClass) (comments : List ViewComment) → AreCommentsBefore arena ids classes k comments
+    → k < length classes → is_comment (get_or classes k c) ≡ true
+    → AreCommentsBefore arena ids classes (k + 1) (comments ++ record { place = k; part = part_of arena (get_or ids k 0) (nat_lt (length comments) k) (get_or classes k c) } ∷ [])
+comment_noted arena ids classes k c comments h lt is =
+    let n = length comments in
+    let v : ViewComment = record { place = k; part = part_of arena (get_or ids k 0) (nat_lt n k) (get_or classes k c) } in
+    let later : List ViewComment = comments_from arena ids (k + 1) (n + 1) (drop (k + 1) classes) in
+    let one : comments_from arena ids k n (drop k classes) ≡ v ∷ later =
+    ap (comments_from arena ids k n) (drop_more classes k c lt)
+    ∙ ap (λ (x : Bool). if x then v ∷ later else comments_from arena ids (k + 1) n (drop (k + 1) classes)) is in
+    let more = length-append comments (v ∷ []) in
+    let count : length (comments ++ v ∷ []) ≡ n + 1 = omega (arith, more) in
+    ap (λ m. (comments ++ v ∷ []) ++ comments_from arena ids (k + 1) m (drop (k + 1) classes)) count
+    ∙ (append_assoc comments (v ∷ []) later ∙ (sym (ap (λ x. comments ++ x) one) ∙ h))
+
+pub token_noted : (arena : Contents) (ids : List ℕ) (classes : List TokenClass) (k : ℕ) (c : TokenClass) (comments : List ViewComment) → AreCommentsBefore arena ids classes k comments
+    → k < length classes → is_comment (get_or classes k c) ≡ false → AreCommentsBefore arena ids classes (k + 1) comments
+token_noted arena ids classes k c comments h lt is =
+    let n = length comments in
+    let v : ViewComment = record { place = k; part = part_of arena (get_or ids k 0) (nat_lt n k) (get_or classes k c) } in
+    let later : List ViewComment = comments_from arena ids (k + 1) n (drop (k + 1) classes) in
+    let one : comments_from arena ids k n (drop k classes) ≡ later =
+    ap (comments_from arena ids k n) (drop_more classes k c lt)
+    ∙ ap (λ (x : Bool). if x then v ∷ comments_from arena ids (k + 1) (n + 1) (drop (k + 1) classes) else later) is in
+    sym (ap (λ x. comments ++ x) one) ∙ h
+
+pub all_noted : (arena : Contents) (ids : List ℕ) (classes : List TokenClass) (k : ℕ) (comments : List ViewComment) → AreCommentsBefore arena ids classes k comments
+    → length classes ≤ k → comments ≡ comments_of arena ids classes
+all_noted arena ids classes k comments h e =
+    sym (append-nil comments) ∙ (ap (λ (cs : List TokenClass). comments ++ comments_from arena ids k (length comments) cs) (sym (drop_none classes k e)) ∙ h)

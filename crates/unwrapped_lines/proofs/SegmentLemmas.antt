@@ -129,7 +129,7 @@ token_same arena ids classes partners k id c p lt item e =
 
 -- ## All segments
 
-none_before : (n : ℕ) (segments : List Segment) → places_before n segments zero ≡ n
+pub none_before : (n : ℕ) (segments : List Segment) → places_before n segments zero ≡ n
 none_before n [] = refl
 none_before n (s ∷ segments) = refl
 
@@ -140,14 +140,8 @@ first_before arena ids classes partners segments tokens e =
     let Q : List CodeToken → Type 0 = λ ts. AreTokensBefore arena ids classes partners 0 ts in
     subst P (sym (none_before 0 segments)) (subst Q (sym e) (record { same = refl; few = omega arith }))
 
-pub next_tokens : (arena : Contents) (ids : List ℕ) (classes : List TokenClass) (partners : List (Option ℕ)) (segments : List Segment) (j : ℕ) (tokens : List CodeToken)
-    → CountFrom 0 segments → j < length segments → AreTokensBefore arena ids classes partners (segment_stop (get_or segments j no_segment)) tokens
-    → AreTokensBefore arena ids classes partners (places_before 0 segments (j + 1)) tokens
-next_tokens arena ids classes partners segments j tokens counted lt h =
-    let up : suc j ≡ j + 1 = omega arith in
-    let e : segment_stop (get_or segments j no_segment) ≡ places_before 0 segments (j + 1) = behind_segment 0 segments j counted lt ∙ ap (places_before 0 segments) up in
-    let P : ℕ → Type 0 = λ k. AreTokensBefore arena ids classes partners k tokens in
-    subst P e h
+pub next_before : (segments : List Segment) (j : ℕ) → CountFrom 0 segments → j < length segments → segment_stop (get_or segments j no_segment) ≡ places_before 0 segments (j + 1)
+next_before segments j counted lt = let up : suc j ≡ j + 1 = omega arith in behind_segment 0 segments j counted lt ∙ ap (places_before 0 segments) up
 
 none_left : (k : ℕ) (cs : List TokenClass) (i : ℕ) → length cs ≤ i → code_places_from k (drop i cs) ≡ []
 none_left k [] zero h = refl

@@ -1,5 +1,5 @@
 -- What the code's writes leave.
-use Rattle.std.proofs.Common.{◌≡◌, ℕ, ◌+◌, ◌*◌, ◌<◌, ◌≤◌, Bool, true, false, List, [], ◌∷◌, ◌++◌, length, reverse, Some, None, Result, Ok, Err, IfOk, ◌-◌, refl, arith, sym, ◌∙◌, subst}
+use Rattle.std.proofs.Common.{◌≡◌, ℕ, ◌+◌, ◌*◌, ◌<◌, ◌≤◌, Bool, true, false, List, [], ◌∷◌, ◌++◌, length, reverse, Some, None, Result, Ok, Err, IfOk, ◌-◌, refl, arith, sym, ◌∙◌, ap, subst}
 use Rattle.unwrapped_lines.specs.declared.token.CodeToken.{CodeToken}
 use Rattle.unwrapped_lines.specs.declared.line.Line.{Line}
 use Rattle.unwrapped_lines.specs.declared.braces.Braces.{Braces}
@@ -13,7 +13,7 @@ use Rattle.unwrapped_lines.specs.declared.form.Next.{Next}
 use Rattle.unwrapped_lines.specs.declared.form.Next.TheVariants.{Ends, Goes, Waits, Opens}
 use Rattle.unwrapped_lines.specs.Forms.{IsLow, StaysIn, form_of}
 use Rattle.unwrapped_lines.specs.Tree.{settled, Reading, line_of, head_lines, body_of, whole_file}
-use Rattle.unwrapped_lines.specs.Stack.{left, Stands}
+use Rattle.unwrapped_lines.specs.Stack.{left, Stands, LeavesOpen}
 use Rattle.unwrapped_lines.proofs.Lists.{reverse_snoc}
 use Rattle.unwrapped_lines.proofs.StackLemmas.{begins, stands_ends, stands_goes, stands_waits, stands_opens, stands_leaves, leaves, left_some, fits_within}
 
@@ -58,6 +58,36 @@ goes_turn braces tokens out0 out1 line o stack0 stack1 start g at f s lt e q sta
     let h = stays_at at o f (Goes g) q stay in
     let t = stands_goes braces tokens out0 o (reverse stack0) start at f g s lt e q h.0 h.1.0 (low_up at f.end g (let z : at < f.end = h.0 in omega arith) h.1.1) in
     put braces tokens _ out1 _ (reverse stack1) g f.end (pushed_line out0 out1 line (line_of o start at f) l eo) (sym (reverse_snoc stack0 stack1 o es)) t
+
+settled_block : (x : Bool) (tokens : List CodeToken) (at : ℕ) (o : Open) (os : List Open) → x ≡ true
+    → settled tokens at (record o { block = x } ∷ os) ≡ record { opens = record o { block = x } ∷ os; start = Fresh }
+settled_block true tokens at o os e = refl
+settled_block false tokens at o os e = cc
+
+-- a line that leaves the open lists as they are
+pub stays_turn : (braces : Braces) (tokens : List CodeToken) (out0 out1 : List Line) (line : Line) (o : Open) (os : List Open) (start s2 : Start) (at : ℕ) (f : Form) (n : Next)
+    → Stands braces tokens out0 (o ∷ os) start at → at < o.end → form_of braces tokens o start at ≡ f → f.next ≡ n → StaysIn at o f f.next → LeavesOpen o n s2
+    → line ≡ line_of o start at f → out1 ≡ out0 ++ line ∷ [] → Stands braces tokens out1 (o ∷ os) s2 f.end
+stays_turn braces tokens out0 out1 line o os start s2 at f Ends s lt e q stay leaves l eo =
+    let h = stays_at at o f Ends q stay in
+    let t = stands_ends braces tokens out0 o os start at f s lt e q h.0 h.1 in
+    let same : settled tokens f.end (o ∷ os) ≡ record { opens = o ∷ os; start = s2 } = settled_block o.block tokens f.end o os leaves.0 ∙ ap (λ x. record { opens = o ∷ os; start = x }) (sym leaves.1) in
+    put braces tokens _ out1 _ (o ∷ os) s2 f.end (pushed_line out0 out1 line (line_of o start at f) l eo) refl
+    (put_reading braces tokens (out0 ++ line_of o start at f ∷ []) (settled tokens f.end (o ∷ os)) (record { opens = o ∷ os; start = s2 }) f.end same t)
+stays_turn braces tokens out0 out1 line o os start s2 at f (Goes g) s lt e q stay leaves l eo =
+    let h = stays_at at o f (Goes g) q stay in
+    let t = stands_goes braces tokens out0 o os start at f g s lt e q h.0 h.1.0 (low_up at f.end g (let z : at < f.end = h.0 in omega arith) h.1.1) in
+    let P : Start → Type 0 = λ x. Stands braces tokens out1 (o ∷ os) x f.end in
+    subst P (sym leaves) (put braces tokens _ out1 _ (o ∷ os) g f.end (pushed_line out0 out1 line (line_of o start at f) l eo) refl t)
+stays_turn braces tokens out0 out1 line o os start s2 at f (Waits h) s lt e q stay leaves l eo = absurd leaves
+stays_turn braces tokens out0 out1 line o os start s2 at f (Opens w b) s lt e q stay leaves l eo = absurd leaves
+
+-- and is behind its first place
+pub stays_up : (at : ℕ) (o : Open) (f : Form) (n : Next) (s2 : Start) → f.next ≡ n → StaysIn at o f f.next → LeavesOpen o n s2 → at < f.end
+stays_up at o f Ends s2 q stay leaves = (stays_at at o f Ends q stay).0
+stays_up at o f (Goes g) s2 q stay leaves = (stays_at at o f (Goes g) q stay).0
+stays_up at o f (Waits h) s2 q stay leaves = absurd leaves
+stays_up at o f (Opens w b) s2 q stay leaves = absurd leaves
 
 pub waits_turn : (braces : Braces) (tokens : List CodeToken) (out0 out1 : List Line) (line : Line) (o b : Open) (stack0 stack1 stack2 : List Open) (start : Start) (at : ℕ) (f : Form) (h : Head)
     → Stands braces tokens out0 (o ∷ reverse stack0) start at → at < o.end → form_of braces tokens o start at ≡ f → f.next ≡ Waits h → StaysIn at o f f.next → f.level ≤ 2 * at
@@ -124,11 +154,11 @@ pub top_within : (braces : Braces) (tokens : List CodeToken) (out : List Line) (
 top_within braces tokens out o os start at s = fits_within (length tokens) at o.end os s.fits.1.1.1.1.1
 
 -- a line brings the end nearer
-pub turned : {E : Type 0} (r : Result Place E) (whole end at new old : ℕ) → at < end → end ≤ whole
+pub turned : {E : Type 0} (r : Result Place E) (whole end from at new first old : ℕ) → from ≤ at → old ≡ first → at < end → end ≤ whole
     → IfOk r (λ p. (at < p.at) × (new ≤ old + 2))
-    → IfOk r (λ p. 2 * (whole - p.at) + new < 2 * (whole - at) + old + 1)
-turned (Ok p) whole end at new old lt within h = let a = h.0 in let b = h.1 in omega arith
-turned (Err e) whole end at new old lt within h = tt
+    → IfOk r (λ p. 2 * (whole - p.at) + new < 2 * (whole - from) + first + 1)
+turned (Ok p) whole end from at new first old on same lt within h = let a = h.0 in let b = h.1 in omega arith
+turned (Err e) whole end from at new first old on same lt within h = tt
 
 -- ## The start
 

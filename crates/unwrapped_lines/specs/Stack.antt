@@ -5,7 +5,9 @@ use Rattle.unwrapped_lines.specs.declared.line.Line.{Line}
 use Rattle.unwrapped_lines.specs.declared.braces.Braces.{Braces}
 use Rattle.unwrapped_lines.specs.declared.open.Open.{Open}
 use Rattle.unwrapped_lines.specs.declared.open.Start.{Start}
-use Rattle.unwrapped_lines.specs.declared.open.Start.TheVariants.{Closing}
+use Rattle.unwrapped_lines.specs.declared.open.Start.TheVariants.{Fresh, Closing}
+use Rattle.unwrapped_lines.specs.declared.form.Next.{Next}
+use Rattle.unwrapped_lines.specs.declared.form.Next.TheVariants.{Ends, Goes, Waits, Opens}
 use Rattle.unwrapped_lines.specs.Forms.{IsLow}
 use Rattle.unwrapped_lines.specs.Tree.{end_level_from, end_level, lines_from, lines_of}
 
@@ -82,3 +84,12 @@ pub record LeadsToEnd (braces : Braces) (tokens : List CodeToken) (os : List Ope
   pub same : end_level_from fuel braces tokens os start at ≡ end_level braces tokens
   pub open_lists : OpenToEnd (length tokens) at os
   pub low : IsLow at start
+
+-- ## Lines within a list
+
+-- a line of this list after which this begins leaves all open lists as they are
+abbrev pub LeavesOpen : Open → Next → Start → Type 0
+LeavesOpen o Ends s = (o.block ≡ true) × (s ≡ Fresh)
+LeavesOpen o (Goes g) s = s ≡ g
+LeavesOpen o (Waits h) s = ⊥
+LeavesOpen o (Opens wrapped b) s = ⊥

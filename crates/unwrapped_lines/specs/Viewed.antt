@@ -104,3 +104,7 @@ comments_from arena ids k n (c ∷ cs) =
 -- the comments of a view
 abbrev pub comments_of : Contents → List ℕ → List TokenClass → List ViewComment
 comments_of arena ids classes = comments_from arena ids 0 0 classes
+
+-- these are the comments of a view that stand before a place
+abbrev pub AreCommentsBefore : Contents → List ℕ → List TokenClass → ℕ → List ViewComment → Type 0
+AreCommentsBefore arena ids classes k comments = comments ++ comments_from arena ids k (length comments) (drop k classes) ≡ comments_of arena ids classes

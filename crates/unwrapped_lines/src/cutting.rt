@@ -19,7 +19,7 @@ use crate::line::Line;
 use crate::part::Begin;
 use crate::token::CodeToken;
 use crate::tree::tree_lines;
-use crate::viewed::{code_tokens, notes_of};
+use crate::viewed::read_view;
 use bumpalo::Bump;
 use bumpalo::collections::into_bump_slice;
 use line_tokens::{NoMemory, ULine};
@@ -108,19 +108,18 @@ fn read_lines<'r>(
     let items = arena.len();
     prove!(count <= items);
     let braces = braces_of(style);
-    let noted = notes_of(arena, view, classes, run)?;
-    let tokens = code_tokens(arena, view, classes, partners, run)?;
-    let colons = colons(&tokens, noted.has_case, run)?;
-    let tree = tree_lines(&braces, &tokens, &colons, run)?;
-    if tokens.len() == count as usize {
+    let read = read_view(arena, view, classes, partners, run)?;
+    let colons = colons(&read.tokens, read.noted.has_case, run)?;
+    let tree = tree_lines(&braces, &read.tokens, &colons, run)?;
+    if read.tokens.len() == count as usize {
         return token_lines(&tree, run);
     }
-    let level = level_behind(&braces, arena, view, classes, &tokens, &colons, run)?;
+    let level = level_behind(&braces, arena, view, classes, &read.tokens, &colons, run)?;
     let begins = begins(
         &tree,
-        tokens.len(),
+        read.tokens.len(),
         level,
-        &noted.comments,
+        &read.noted.comments,
         count as usize,
         run,
     )?;

@@ -7,7 +7,7 @@ ghost use Rattle.unwrapped_lines.specs.Forms.{StaysIn, IsLow, form_of};
 ghost use Rattle.unwrapped_lines.specs.Tree.{settled, lines_of, whole_file, body_of, line_of, head_lines};
 ghost use Rattle.unwrapped_lines.specs.Tree.{comment_level, answers_else, answers_tail};
 ghost use Rattle.unwrapped_lines.specs.Colons.{AreCaseColons};
-ghost use Rattle.unwrapped_lines.specs.Stack.{Stands, IsCut, left};
+ghost use Rattle.unwrapped_lines.specs.Stack.{Stands, IsCut, LeavesOpen, left};
 
 use crate::braces::Braces;
 use crate::form::{Form, Next};
@@ -304,7 +304,25 @@ pub fn tree_lines<'r>(
     Ok(out)
 }
 
-/// One line, or the end of a list.
+/// What begins behind a line that leaves the innermost list and all below it as they are, as most lines do.
+#[inline(always)]
+fn start_behind(opened: Open, formed: Form) -> Option<Start>
+    ensures { IfSome result (λ s. LeavesOpen opened formed.next s) }
+{
+    match formed.next {
+        Next::Ends => {
+            if opened.block {
+                Some(Start::Fresh)
+            } else {
+                None
+            }
+        }
+        Next::Goes(start) => Some(start),
+        Next::Waits(_) | Next::Opens(_, _) => None,
+    }
+}
+
+/// Lines up to one that opens or ends a list, or the end of the innermost list.
 #[inline(always)]
 fn turn(
     braces: &Braces,
@@ -313,18 +331,25 @@ fn turn(
     out: &mut Vec<Line, &Bump>,
     stack: &mut Vec<Open, &Bump>,
     opened: Open,
-    place: Place,
+    from: Place,
 ) -> Result<Place, NoMemory>
     requires colons { AreCaseColons colons.now tokens.now }
     requires small { length tokens.now < 2 ^ 30 }
-    requires stands { Stands braces.now tokens.now out.old.items (opened ∷ reverse stack.old.items) place.start place.at }
+    requires stands { Stands braces.now tokens.now out.old.items (opened ∷ reverse stack.old.items) from.start from.at }
     ensures stands { IfOk result (λ p. Stands braces.now tokens.now out.new.items (reverse stack.new.items) p.start p.at) }
-    ensures up { IfOk result (λ p. 2 * (length tokens.now - p.at) + length stack.new.items < 2 * (length tokens.now - place.at) + length stack.old.items + 1) }
+    ensures up { IfOk result (λ p. 2 * (length tokens.now - p.at) + length stack.new.items < 2 * (length tokens.now - from.at) + length stack.old.items + 1) }
 {
-    if place.at < opened.end {
-        let f = form_of(braces, tokens, colons, opened, place.start, place.at);
-        take_line(braces, tokens, out, stack, opened, place, f)
-    } else {
-        Ok(leave_list(braces, tokens, out, stack, opened, place))
+    let mut place = from;
+    while place.at < opened.end {
+        let formed = form_of(braces, tokens, colons, opened, place.start, place.at);
+        let Some(start) = start_behind(opened, formed) else {
+            return take_line(braces, tokens, out, stack, opened, place, formed);
+        };
+        out.push(line_of(opened, place.start, place.at, formed))?;
+        place = Place {
+            start,
+            at: formed.end,
+        };
     }
+    Ok(leave_list(braces, tokens, out, stack, opened, place))
 }
