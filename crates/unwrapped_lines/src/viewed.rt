@@ -143,13 +143,14 @@ pub fn comment_part(arena: &TokenArena<'_, '_>, id: u32, started: bool, class: T
     Part::Inner
 }
 
-/// Whether an item of this class is a comment, a colon or a `case`.
+/// Whether the item with a number, of this class, is a comment, a colon, a `case` or the first of its text. Of any other
+/// item the new-lines before it alone tell whether it began its line.
 #[inline(always)]
-fn is_other(class: TokenClass) -> bool
+fn is_other(class: TokenClass, id: u32) -> bool
     ensures comment { result ≡ false → is_comment class ≡ false }
     ensures colon { result ≡ false → is_colon class ≡ false }
 {
-    class.is_comment() || class.is_colon() || class.is_case()
+    id == 0 || class.is_comment() || class.is_colon() || class.is_case()
 }
 
 /// The comments of a view, and whether it has a `case`.
@@ -248,7 +249,7 @@ fn push_segment<'r>(
     let mut place = from;
     for id in first..first + near.saturating_sub(from) as u32 {
         let class = classes[place];
-        if is_other(class) {
+        if is_other(class, id) {
             tokens = push_other(
                 arena, segments, number, place, classes, numbers, partners, tokens, noted, run,
             )?;
