@@ -184,6 +184,19 @@ impl<'a> SearchedLine<'a> {
         token_at(self.tokens, at)
     }
 
+    /// The token before a place that isn't the first one.
+    #[inline(always)]
+    fn token_before(&self, at: usize) -> &LineTok
+        requires some { 0 < at }
+        requires at { at < length self.now.tokens }
+        ensures { slice_get self.now.tokens (at - 1) ≡ Some result.now }
+    {
+        let Some(before) = at.checked_sub(1) else {
+            unreachable!()
+        };
+        self.token(before)
+    }
+
     /// The decision of the gap before the token at a place, if it has one.
     #[inline(always)]
     fn decision(&self, at: usize) -> Option<Fixed>
@@ -316,7 +329,7 @@ impl<'a> SearchedLine<'a> {
         ensures grown { IsGrown store.old store.new }
     {
         let at = state.index as usize;
-        let left = self.token(at - 1);
+        let left = self.token_before(at);
         let right = self.token(at);
         let fixed = self.decision(at);
         let rules = self.rules_before(at);
@@ -333,7 +346,7 @@ impl<'a> SearchedLine<'a> {
         ensures { OnTrue result ((lists : List FrameList) → LeadsNowhere self.now (layout_in lists state.now) brk) }
     {
         let at = state.index as usize;
-        let left = self.token(at - 1);
+        let left = self.token_before(at);
         let right = self.token(at);
         let fixed = self.decision(at);
         let rules = self.rules_before(at);
@@ -365,7 +378,7 @@ impl<'a> SearchedLine<'a> {
         ensures no { OnFalse result (LeadsNowhere self.now (layout_of state.now) brk) }
     {
         let at = state.index as usize;
-        let left = self.token(at - 1);
+        let left = self.token_before(at);
         let right = self.token(at);
         let fixed = self.decision(at);
         let rules = self.rules_before(at);
@@ -382,7 +395,7 @@ impl<'a> SearchedLine<'a> {
         ensures { OnOk result (IsNextState self.now (layout_of state.old) state.old.cost brk state.new) }
     {
         let at = state.index as usize;
-        let left = self.token(at - 1);
+        let left = self.token_before(at);
         let right = self.token(at);
         let fixed = self.decision(at);
         let rules = self.rules_before(at);
