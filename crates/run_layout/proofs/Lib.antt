@@ -18,6 +18,7 @@ pub mod RowLines
 pub mod Reporting
 pub mod LineOutcomes
 pub mod RunSteps
+pub mod ShortRows
 pub mod WaitingComments
 pub mod Views
 pub mod Inside

@@ -1,9 +1,10 @@
 -- Lines that stay on one row: nothing in them breaks, and no token goes past the limit. They need no search.
-use Rattle.std.specs.Prelude.{◌≡◌, ◌==◌, ◌<◌, ◌≤◌, ◌⊎◌, ◌+◌, ◌*◌, nat_lt, ℕ, suc, min, Bool, true, false, Option, Some, None, List, [], ◌∷◌, length, replicate, slice_get, if◌then◌else◌}
+use Rattle.std.specs.Prelude.{◌≡◌, ◌==◌, ◌<◌, ◌≤◌, ◌⊎◌, ◌+◌, ◌*◌, ◌-◌, ℕ, zero, suc, min, All, drop, get_or, Bool, true, false, Option, Some, None, List, [], ◌∷◌, length, replicate, slice_get, if◌then◌else◌}
 use Rattle.line_state.proofs.Thrift.{IsThrifty}
 use Rattle.line_tokens.specs.declared.LineTok.{LineTok}
 use Rattle.line_tokens.specs.declared.Fixed.{Fixed}
 use Rattle.line_tokens.specs.Roles.{is_trailing}
+use Rattle.line_tokens.specs.Tokens.{no_token}
 use Rattle.line_state.specs.Brackets.{opens_frame}
 use Rattle.line_tokens.specs.Columns.{columns, end_of}
 use Rattle.line_state.specs.Layout.{Layout}
@@ -52,10 +53,6 @@ pub record IsOneRow (l : Line) (n column frames count : ℕ) : Type 0 where
   pub base : (layout.base.comma == 2) ≡ false
   pub together : StayTogether layout.frames
 
--- the most that the column behind a token may be which starts here or before it
-abbrev pub most_behind : LineTok → ℕ → ℕ
-most_behind token most = if nat_lt 1 token.rows then token.last_width else most + token.last_width
-
 -- So it is up to here: behind this column at most, with no more frames and cells than so many tokens may have.
 pub record IsOneRowUpTo (l : Line) (n most : ℕ) : Type 0 where
   pub column : ℕ
@@ -78,6 +75,19 @@ row_made style column left (token ∷ tokens) =
     let start = stay_start style column left token in
     let later = row_made style (end_of token start) token tokens in
     if is_trailing token.role then later else (token.id.0, record { decision = Spaces (spaces_before style left token); end = start }) ∷ later
+
+-- how many columns the tokens behind the first take up to one of them, with one blank before each
+abbrev pub width_to : List LineTok → ℕ → ℕ
+width_to tokens zero = 0
+width_to tokens (suc i) = width_to tokens i + (1 + (get_or tokens (suc i) no_token).last_width)
+
+-- So many tokens of a line, whose first ends at a column, stand in its row, and behind them wait trailing comments alone.
+pub record IsShortRow (tokens : List LineTok) (behind count : ℕ) : Type 0 where
+  pub some : 0 < count
+  pub within : count ≤ length tokens
+  pub stand : (i : ℕ) (token : LineTok) → 0 < i → i < count → slice_get tokens i ≡ Some token → is_trailing token.role ≡ false
+  pub wait : All (λ token. is_trailing token.role ≡ true) (drop count tokens)
+  pub few : behind + width_to tokens (count - 1) ≤ 1000
 
 -- this is the line with these tokens, none of whose inner gaps is decided
 pub record IsRowLine (l : Line) (style : Style) (column : ℕ) (tokens : List LineTok) (first : Option Fixed) : Type 0 where

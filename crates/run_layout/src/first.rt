@@ -112,6 +112,7 @@ fn first_decision(layout: &ViewLayout<'_>, line: &ULine, id: u32) -> Decision
 }
 
 /// Decides the gap before the first item of a line, where it is open.
+#[inline(always)]
 pub(crate) fn decide_first(layout: &ViewLayout<'_>, line: &ULine, id: u32, plan: &mut Plan<'_>)
     requires classes { layout.now.classes.now ≡ classes_of layout.now.arena.now layout.now.view.now }
     requires place { line.now.first < length layout.now.view.now }

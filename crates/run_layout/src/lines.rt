@@ -25,7 +25,9 @@ use crate::first::decide_first;
 use crate::laid::Laid;
 use crate::report::{Tally, note_line};
 use crate::reported::{InputCursor, report_line};
-use crate::row::{end_of, first_start, is_open_row, token_at, write_row};
+use crate::row::{
+    end_of, first_start, is_open_row, short_row, token_at, write_row, write_short_row,
+};
 use crate::view_layout::ViewLayout;
 use break_search::{Outcome, least_breaks, search};
 use bumpalo::Bump;
@@ -43,7 +45,49 @@ fn tokens_of_line<'v>(toks: &'v [LineTok], line: &ULine) -> &'v [LineTok]
     &toks[line.first as usize..line.last as usize + 1]
 }
 
+/// Lays out a line whose inner gaps are open, if it is far from the limit, as most are. Otherwise nothing is decided. The
+/// table of blanks is read for few gaps.
+#[inline(always)]
+fn lay_out_short_row(
+    layout: &ViewLayout<'_>,
+    line: &ULine,
+    blanks: &RowBlanks,
+    plan: &mut Plan<'_>,
+) -> bool
+    requires ready { IsReady layout.now }
+    requires tell { TellBlanks layout.now.style.now blanks.now.of_group }
+    requires some { line.now.first ≤ line.now.last }
+    requires places { line.now.last < length layout.now.view.now }
+    requires whole { length plan.old ≡ length layout.now.arena.now.tokens + 1 }
+    ensures row { OnTrue result (IsRow (broken_line layout.now.style.now layout.now.arena.now layout.now.view.now layout.now.tokens.now plan.old line.now) layout.now.budget) }
+    ensures limit { OnTrue result (0 < layout.now.style.now.column_limit) }
+    ensures plan { OnTrue result (plan.new ≡ decided_all plan.old (broken_made layout.now.style.now layout.now.arena.now layout.now.view.now layout.now.tokens.now plan.old line.now (stays (gaps (broken_line layout.now.style.now layout.now.arena.now layout.now.view.now layout.now.tokens.now plan.old line.now))))) }
+    ensures same { OnFalse result (plan.new ≡ plan.old) }
+    ensures len { length plan.new ≡ length plan.old }
+{
+    let style = layout.style;
+    let arena = layout.arena;
+    let items = arena.len();
+    let tokens = tokens_of_line(layout.tokens, line);
+    if style.column_limit == 0 {
+        return false;
+    }
+    let token = token_at(tokens, 0);
+    let id = token.id.0;
+    prove!(id < items);
+    let first = plan.fixed_of(arena, id);
+    let column = start_column(style, line);
+    let Some(count) = short_row(style, tokens, column, first, layout.budget, plan) else {
+        return false;
+    };
+    let behind = end_of(token, first_start(column, first));
+    decide_first(layout, line, id, plan);
+    write_short_row(style, blanks, tokens, count, behind, plan);
+    true
+}
+
 /// Lays out a line whose inner gaps are open, if it stays on one row. Otherwise nothing is decided. It takes no memory.
+#[inline(never)]
 fn lay_out_row(
     layout: &ViewLayout<'_>,
     line: &ULine,
@@ -175,6 +219,9 @@ fn lay_out_line(
 {
     if is_line_decided(layout, line, plan, segment) {
         return Ok(Laid::Unsearched);
+    }
+    if lay_out_short_row(layout, line, blanks, plan) {
+        return Ok(Laid::Least { cost: 0 });
     }
     if lay_out_row(layout, line, blanks, plan) {
         return Ok(Laid::Least { cost: 0 });

@@ -1,6 +1,6 @@
 //! Lines that stay on one row. They need no search, and take no memory.
 
-ghost use Rattle.std.specs.Prelude.{◌≡◌, ◌+◌, ◌<◌, ◌≤◌, ◌^◌, All, IsTrue, None, Some, drop, get_or, length, slice_get};
+ghost use Rattle.std.specs.Prelude.{◌≡◌, ◌+◌, ◌<◌, ◌≤◌, ◌^◌, All, IfSome, IsTrue, None, Some, drop, false, get_or, length, slice_get, true};
 ghost use Rattle.std.specs.Prelude.{if◌then◌else◌};
 ghost use Rattle.line_tokens.specs.Roles.{is_trailing};
 ghost use Rattle.style_table.specs.Range.{IsInRange};
@@ -11,7 +11,8 @@ ghost use Rattle.line_tokens.specs.Tokens.{no_token};
 ghost use Rattle.replacements.specs.declared.gap_text.Decision.TheVariants.{Spaces};
 ghost use Rattle.replacements.specs.Decisions.{decided, decided_all};
 ghost use Rattle.layout_tables.specs.Told.{TellBlanks};
-ghost use Rattle.run_layout.specs.OneRow.{AreOpenInside, Fits, IsRow, IsRowLine, most_behind, open_behind, row_made};
+ghost use Rattle.run_layout.specs.OneRow.{AreOpenInside, Fits, IsRow, IsRowLine, IsShortRow, open_behind, row_made};
+ghost use Rattle.layout_tables.specs.Breaks.{gap_rule};
 
 use layout_tables::{RowBlanks, must_break, spaces_before, stands_behind};
 use line_tokens::{Fixed, LineTok};
@@ -137,70 +138,79 @@ fn are_few(tokens: &[LineTok], budget: u64) -> bool
     tokens.len() <= 1000 && budget >= 1_001_000
 }
 
-/// Whether the first row of a token that starts here or before it doesn't pass the limit.
+/// The most columns that the first row or the last of a token takes. For most tokens it is one row, and this its width.
 #[inline(always)]
-fn fits_from(style: &Style, token: &LineTok, most: u64) -> bool
-    requires { most ≤ 2 ^ 40 }
-    ensures { IsTrue result → most + token.now.first_width ≤ style.now.column_limit }
+fn most_width(token: &LineTok) -> u32
+    ensures first { token.now.first_width ≤ result }
+    ensures last { token.now.last_width ≤ result }
 {
-    most + u64::from(token.first_width) <= u64::from(style.column_limit)
+    token.first_width | token.last_width
 }
 
-/// The most that the column behind a token may be which starts here or before it.
+/// Whether the token at a place is a trailing comment that ends its line and stays behind another.
 #[inline(always)]
-fn most_behind(token: &LineTok, most: u64) -> u64
-    requires { most ≤ 2 ^ 40 }
-    ensures is { result ≡ most_behind token.now most }
-    ensures few { result ≤ most + 2 ^ 32 }
+fn ends_waiting(
+    style: &Style,
+    tokens: &[LineTok],
+    at: usize,
+    left: &LineTok,
+    right: &LineTok,
+) -> bool
+    requires { at < length tokens.now }
+    ensures last { IsTrue result → at + 1 ≡ length tokens.now }
+    ensures waits { IsTrue result → is_trailing right.now.role ≡ true }
+    ensures stays { IsTrue result → (gap_rule style.now left.now right.now).must ≡ false }
 {
-    if token.rows > 1 {
-        u64::from(token.last_width)
-    } else {
-        most + u64::from(token.last_width)
-    }
+    at + 1 == tokens.len() && right.role.is_trailing() && !must_break(style, left, right)
 }
 
-/// Whether a line stays on one row as [`is_open_row`] says it and the gaps inside it are open, told by one blank in each
-/// of them: the table has no more but before trailing comments.
+/// How many tokens of a line stand in its row before a trailing comment that ends it, where the line stays on one row as
+/// [`is_open_row`] says it and the gaps inside it are open. It is told by one blank in each gap: the table has no more but
+/// before trailing comments.
 #[inline(always)]
-fn is_open_row_by_most(
+pub(crate) fn short_row(
     style: &Style,
     tokens: &[LineTok],
     column: u32,
     first: Option<Fixed>,
     budget: u64,
     plan: &Plan<'_>,
-) -> bool
+) -> Option<usize>
     requires range { IsInRange style.now }
     requires some { 0 < length tokens.now }
     requires within { All (λ token. token.id.0 < length plan.now) tokens.now }
-    ensures inside { IsTrue result → AreOpenInside plan.now tokens.now }
-    ensures row { IsTrue result → (l : Line) → IsRowLine l style.now column tokens.now first → IsRow l budget }
+    ensures inside { IfSome result (λ count. AreOpenInside plan.now tokens.now) }
+    ensures row { IfSome result (λ count. (l : Line) → IsRowLine l style.now column tokens.now first → IsRow l budget) }
+    ensures short { IfSome result (λ count. IsShortRow tokens.now (end_of (get_or tokens.now 0 no_token) (stored_or first column)) count) }
 {
     if style.column_limit == 0 || !are_few(tokens, budget) {
-        return false;
+        return None;
     }
     let mut left = token_at(tokens, 0);
     let start = first_start(column, first);
     if !first_fits(style, left, start, first) {
-        return false;
+        return None;
     }
+    let limit = u64::from(style.column_limit);
     let mut most = u64::from(end_of(left, start));
     for at in 1..tokens.len() {
         let right = token_at(tokens, at);
-        if !stands_behind(left, right) {
-            return false;
-        }
         if plan.slot(right.id.0).is_some() {
-            return false;
+            return None;
         }
-        if !fits_from(style, right, most + 1) {
-            return false;
+        if !stands_behind(left, right) {
+            if most > limit || !ends_waiting(style, tokens, at, left, right) {
+                return None;
+            }
+            return Some(at);
         }
-        most = most_behind(right, most + 1);
+        most += 1 + u64::from(most_width(right));
         left = right;
     }
-    true
+    if most > limit {
+        return None;
+    }
+    Some(tokens.len())
 }
 
 /// Whether the gaps inside a line with these tokens are open.
@@ -233,10 +243,6 @@ pub(crate) fn is_open_row(
     ensures inside { IsTrue result → AreOpenInside plan.now tokens.now }
     ensures row { IsTrue result → (l : Line) → IsRowLine l style.now column tokens.now first → IsRow l budget }
 {
-    // Most lines are far from the limit, and the table of blanks isn't read.
-    if is_open_row_by_most(style, tokens, column, first, budget, plan) {
-        return true;
-    }
     if !are_open_inside(plan, tokens) {
         return false;
     }
@@ -252,6 +258,47 @@ fn write_stay(token: &LineTok, spaces: u32, start: u32, plan: &mut Plan<'_>)
 {
     if !token.role.is_trailing() {
         let _ = plan.decide(token.id.0, Decision::Spaces(spaces), start);
+    }
+}
+
+/// The column behind a token that starts at a column, where none passes the largest number.
+#[inline(always)]
+fn near_end_of(token: &LineTok, start: u32) -> u32
+    requires { start + token.now.last_width < 2 ^ 32 }
+    ensures { result ≡ end_of token.now start }
+{
+    if token.rows > 1 {
+        token.last_width
+    } else {
+        start + token.last_width
+    }
+}
+
+/// Decides the gaps inside a short line, whose first token ends at a column, up to a trailing comment that waits.
+pub(crate) fn write_short_row(
+    style: &Style,
+    blanks: &RowBlanks,
+    tokens: &[LineTok],
+    count: usize,
+    column: u32,
+    plan: &mut Plan<'_>,
+)
+    requires range { IsInRange style.now }
+    requires tell { TellBlanks style.now blanks.now.of_group }
+    requires short { IsShortRow tokens.now column count }
+    requires within { All (λ token. token.id.0 < length plan.old) tokens.now }
+    ensures plan { plan.new ≡ decided_all plan.old (row_made style.now column (get_or tokens.now 0 no_token) (drop 1 tokens.now)) }
+    ensures len { length plan.new ≡ length plan.old }
+{
+    let mut left = token_at(tokens, 0);
+    let mut column = column;
+    for at in 1..count {
+        let right = token_at(tokens, at);
+        let spaces = u32::from(blanks.before(style, left, right));
+        let start = column + spaces;
+        let _ = plan.decide(right.id.0, Decision::Spaces(spaces), start);
+        column = near_end_of(right, start);
+        left = right;
     }
 }
 

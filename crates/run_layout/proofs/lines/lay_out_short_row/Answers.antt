@@ -1,0 +1,47 @@
+use Rattle.std.proofs.Common.{◌∙◌, ◌<◌, length, get_or, arith}
+use Rattle.std.proofs.lemmas.Option.{slice_get_within}
+use Rattle.run_layout.proofs.RowLines.{tokens_within, first_number, row_here, row_plan}
+use Rattle.run_layout.proofs.lines.lay_out_short_row.Goals as goal
+
+pub short_row-requires-clause-within : goal.short_row-requires-clause-within
+short_row-requires-clause-within c =
+    tokens_within c.args.layout.now.arena.now c.args.layout.now.view.now c.args.layout.now.tokens.now c.tokens_of_line-tokens.result.now c.args.line.now (length c.args.plan.now) c.requires.ready.within c.requires.ready.tell c.requires.places c.requires.whole c.tokens_of_line-tokens.ensures
+
+pub prove-unreachable-requires : goal.prove-unreachable-requires
+prove-unreachable-requires c =
+    let number = first_number c.args.layout.now.arena.now c.args.layout.now.view.now c.args.layout.now.tokens.now c.tokens_of_line-tokens.result.now c.args.line.now c.token_at-token.result.now c.requires.ready.tell c.requires.some c.tokens_of_line-tokens.ensures c.token_at-token.ensures in
+    let small : get_or c.args.layout.now.view.now c.args.line.now.first 0 < length c.args.layout.now.arena.now.tokens = c.requires.ready.within c.args.line.now.first 0 (omega (arith, c.requires.some, c.requires.places)) in
+    omega (arith, number, small, c.if-prove.true, c.len-items.ensures.count)
+
+pub decide_first-requires-clause-id : goal.decide_first-requires-clause-id
+decide_first-requires-clause-id c =
+    first_number c.args.layout.now.arena.now c.args.layout.now.view.now c.args.layout.now.tokens.now c.tokens_of_line-tokens.result.now c.args.line.now c.token_at-token.result.now c.requires.ready.tell c.requires.some c.tokens_of_line-tokens.ensures c.token_at-token.ensures
+
+pub write_short_row-requires-clause-within : goal.write_short_row-requires-clause-within
+write_short_row-requires-clause-within c =
+    tokens_within c.args.layout.now.arena.now c.args.layout.now.view.now c.args.layout.now.tokens.now c.tokens_of_line-tokens.result.now c.args.line.now (length c.decide_first.new.plan) c.requires.ready.within c.requires.ready.tell c.requires.places
+    (c.decide_first.ensures.len ∙ c.requires.whole) c.tokens_of_line-tokens.ensures
+
+pub returns-clause-row : goal.returns-clause-row
+returns-clause-row c =
+    row_here c.args.layout.now.style.now c.args.layout.now.arena.now c.args.layout.now.view.now c.args.layout.now.tokens.now c.args.plan.now c.args.line.now c.args.layout.now.budget c.start_column-column.result c.tokens_of_line-tokens.result.now c.fixed_of-first.result c.token_at-token.result.now
+    c.requires.ready.tell c.tokens_of_line-tokens.ensures c.token_at-token.ensures (c.in-Some.ensures.inside) c.start_column-column.ensures c.fixed_of-first.ensures (c.in-Some.ensures.row)
+
+pub returns-clause-plan : goal.returns-clause-plan
+returns-clause-plan c =
+    let style = c.args.layout.now.style.now in
+    let arena = c.args.layout.now.arena.now in
+    let ids = c.args.layout.now.view.now in
+    let toks = c.args.layout.now.tokens.now in
+    let plan = c.args.plan.now in
+    let line = c.args.line.now in
+    let tokens = c.tokens_of_line-tokens.result.now in
+    let token = c.token_at-token.result.now in
+    let inside = c.in-Some.ensures.inside in
+    let number = first_number arena ids toks tokens line token c.requires.ready.tell c.requires.some c.tokens_of_line-tokens.ensures c.token_at-token.ensures in
+    let row =
+    row_here style arena ids toks plan line c.args.layout.now.budget c.start_column-column.result tokens c.fixed_of-first.result token
+    c.requires.ready.tell c.tokens_of_line-tokens.ensures c.token_at-token.ensures inside c.start_column-column.ensures c.fixed_of-first.ensures (c.in-Some.ensures.row) in
+    row_plan style arena ids toks plan line c.args.layout.now.budget c.start_column-column.result tokens c.fixed_of-first.result token
+    c.requires.ready.tell c.tokens_of_line-tokens.ensures c.token_at-token.ensures inside c.start_column-column.ensures c.fixed_of-first.ensures
+    c.first_start.result c.end_of-behind.result c.decide_first.new.plan c.write_short_row.new.plan (slice_get_within tokens 0 token c.token_at-token.ensures) number row c.first_start.ensures c.end_of-behind.ensures c.decide_first.ensures.plan c.write_short_row.ensures.plan
