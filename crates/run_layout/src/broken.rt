@@ -1,6 +1,6 @@
 //! Lines that are broken.
 
-ghost use Rattle.std.specs.Prelude.{◌≡◌, ◌||◌, ◌+◌, ◌<◌, ◌≤◌, ◌^◌, ◌∷◌, All, IfOk, IsTrue, None, OnOk, Some, length};
+ghost use Rattle.std.specs.Prelude.{◌≡◌, ◌||◌, ◌+◌, ◌<◌, ◌≤◌, ◌^◌, ◌∷◌, All, IfOk, IsTrue, None, OnOk, Some, length, ℕ};
 ghost use Rattle.std.specs.Prelude.{map, get_or, replicate, slice_get, if◌then◌else◌};
 ghost use Rattle.style_table.specs.Range.{IsInRange};
 ghost use Rattle.token_classes.specs.Viewed.{AreWithin, classes_of};
@@ -117,13 +117,45 @@ fn write_breaks(
     }
 }
 
+/// Whether the gaps before eight tokens from a place on are open.
+#[inline(always)]
+fn are_eight_open(plan: &Plan<'_>, tokens: &[LineTok], first: usize) -> bool
+    requires room { first + 8 ≤ length tokens.now }
+    requires within { All (λ token. token.id.0 < length plan.now) tokens.now }
+    ensures { IsTrue result → (i : ℕ) (d : LineTok) → first ≤ i → i < first + 8 → slot_of plan.now (get_or tokens.now i d).id.0 ≡ None }
+{
+    for at in first..first + 8 {
+        if plan.slot(token_at(tokens, at).id.0).is_some() {
+            return false;
+        }
+    }
+    true
+}
+
+/// A place up to which all gaps are open, looked at by eights.
+#[inline(always)]
+fn open_front(plan: &Plan<'_>, tokens: &[LineTok]) -> usize
+    requires { All (λ token. token.id.0 < length plan.now) tokens.now }
+    ensures within { result ≤ length tokens.now }
+    ensures open_gaps { (i : ℕ) (d : LineTok) → i < result → slot_of plan.now (get_or tokens.now i d).id.0 ≡ None }
+{
+    let mut first = 0;
+    while first + 8 <= tokens.len() {
+        if !are_eight_open(plan, tokens, first) {
+            return first;
+        }
+        first += 8;
+    }
+    first
+}
+
 /// Whether the gap before each of these tokens is open.
 fn are_open(plan: &Plan<'_>, tokens: &[LineTok]) -> bool
     requires { All (λ token. token.id.0 < length plan.now) tokens.now }
     ensures { IsTrue result → All (λ token. slot_of plan.now token.id.0 ≡ None) tokens.now }
 {
-    for token in tokens {
-        if plan.is_decided(token.id.0) {
+    for at in open_front(plan, tokens)..tokens.len() {
+        if plan.slot(token_at(tokens, at).id.0).is_some() {
             return false;
         }
     }

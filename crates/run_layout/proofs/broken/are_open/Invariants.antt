@@ -3,5 +3,5 @@ use Rattle.line_tokens.specs.declared.LineTok.{LineTok}
 use Rattle.replacements.specs.Decisions.{slot_of}
 use Rattle.run_layout.proofs.broken.are_open.Given as goal
 
-abbrev pub invariant-loop-token : goal.invariant-loop-token
-invariant-loop-token l = (i : ℕ) (d : LineTok) → i < l.token-index → slot_of l.plan (get_or l.tokens i d).id.0 ≡ None
+abbrev pub invariant-loop-at : goal.invariant-loop-at
+invariant-loop-at l = (i : ℕ) (d : LineTok) → i < l.at → slot_of l.plan (get_or l.tokens i d).id.0 ≡ None
