@@ -243,10 +243,7 @@ pub(crate) fn is_open_row(
     ensures inside { IsTrue result → AreOpenInside plan.now tokens.now }
     ensures row { IsTrue result → (l : Line) → IsRowLine l style.now column tokens.now first → IsRow l budget }
 {
-    if !are_open_inside(plan, tokens) {
-        return false;
-    }
-    is_row_by_table(style, tokens, column, first, budget)
+    is_row_by_table(style, tokens, column, first, budget) && are_open_inside(plan, tokens)
 }
 
 /// Decides the gap before a token that stays behind another; a trailing comment waits.
