@@ -45,8 +45,8 @@ fn tokens_of_line<'v>(toks: &'v [LineTok], line: &ULine) -> &'v [LineTok]
     &toks[line.first as usize..line.last as usize + 1]
 }
 
-/// Lays out a line whose inner gaps are open, if it is far from the limit, as most are. Otherwise nothing is decided. The
-/// table of blanks is read for few gaps.
+/// Lays out a line whose inner gaps are open, if it is far from the limit, as most are. Otherwise nothing is decided.
+/// The table of blanks is read for few gaps.
 #[inline(always)]
 fn lay_out_short_row(
     layout: &ViewLayout<'_>,

@@ -164,9 +164,9 @@ fn ends_waiting(
     at + 1 == tokens.len() && right.role.is_trailing() && !must_break(style, left, right)
 }
 
-/// How many tokens of a line stand in its row before a trailing comment that ends it, where the line stays on one row as
-/// [`is_open_row`] says it and the gaps inside it are open. It is told by one blank in each gap: the table has no more but
-/// before trailing comments.
+/// How many tokens of a line stand in its row before a trailing comment that ends it, where the line stays on one row
+/// as [`is_open_row`] says it and the gaps inside it are open. It is told by one blank in each gap: the table has no
+/// more but before trailing comments.
 #[inline(always)]
 pub(crate) fn short_row(
     style: &Style,
