@@ -227,6 +227,21 @@ fn are_open_inside(plan: &Plan<'_>, tokens: &[LineTok]) -> bool
     true
 }
 
+/// Whether a line passes the limit even with no blank in it, as most lines do that aren't short.
+fn passes_limit(style: &Style, tokens: &[LineTok], column: u32, first: Option<Fixed>) -> bool
+    requires { 0 < length tokens.now }
+{
+    let mut behind = end_of(token_at(tokens, 0), first_start(column, first));
+    for at in 1..tokens.len() {
+        let token = token_at(tokens, at);
+        if !fits(style, token, behind) {
+            return true;
+        }
+        behind = end_of(token, behind);
+    }
+    false
+}
+
 /// Whether the gaps inside a line are open, and it stays on one row that doesn't pass the limit, within the budget.
 pub(crate) fn is_open_row(
     style: &Style,
@@ -243,7 +258,9 @@ pub(crate) fn is_open_row(
     ensures inside { IsTrue result → AreOpenInside plan.now tokens.now }
     ensures row { IsTrue result → (l : Line) → IsRowLine l style.now column tokens.now first → IsRow l budget }
 {
-    is_row_by_table(style, tokens, column, first, budget) && are_open_inside(plan, tokens)
+    !passes_limit(style, tokens, column, first)
+        && is_row_by_table(style, tokens, column, first, budget)
+        && are_open_inside(plan, tokens)
 }
 
 /// Decides the gap before a token that stays behind another; a trailing comment waits.
