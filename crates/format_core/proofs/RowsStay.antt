@@ -17,7 +17,7 @@ use Rattle.view_parts.specs.Places.{Place}
 use Rattle.view_parts.specs.Parts.{StandsBefore, items_before, laid_items, part_inside}
 use Rattle.view_parts.specs.declared.known.KnownEnd.TheVariants.{Unknown}
 use Rattle.view_parts.specs.declared.known.KnownRow.{KnownRow}
-use Rattle.view_parts.specs.Known.{AreRowsFrom, HasNotedRow, HasRow, after_joined, behind_row, row_of}
+use Rattle.view_parts.specs.Known.{AreRowsFrom, HasNotedRow, HasRow, after_joined, row_of}
 use Rattle.view_parts.proofs.NotedRows.{joined_hold}
 use Rattle.format_core.specs.Runs.{AreDecided, AreRowsDecided}
 use Rattle.format_core.specs.RunsTold.{AreItemsTold}
@@ -90,14 +90,6 @@ both_decided plan a b c here later = λ gap low high.
 -- rows that are decided are so when two are joined
 pub joined_decided : (plan : List (Option Slot)) (knowns : List KnownEnd) (first next : ℕ) → AreRowsDecided plan knowns → AreRowsDecided plan (after_joined knowns first next)
 joined_decided plan knowns first next all = joined_hold (λ a b. IsRowDecided plan a b) knowns first next (both_decided plan) all
-
--- a row goes on behind what is noted at its first item
-pub behind_decided : (plan : List (Option Slot)) (knowns : List KnownEnd) (first end begun : ℕ) → begun ≡ behind_row knowns first → AreRowsDecided plan knowns → IsRowDecided plan begun end → IsRowDecided plan first end
-behind_decided plan knowns first end begun is all rest = by_row (row_of (get_or knowns first Unknown)) refl is
-  where
-    by_row : (row : Option KnownRow) → row_of (get_or knowns first Unknown) ≡ row → begun ≡ (elim row [ None ↦ first | Some row ↦ row.end ]) → IsRowDecided plan first end
-    by_row None was is = subst (λ n. IsRowDecided plan n end) is rest
-    by_row (Some row) was is = both_decided plan first row.end end (all first row was) (subst (λ n. IsRowDecided plan n end) is rest)
 
 -- ## What stands for the place behind a part
 

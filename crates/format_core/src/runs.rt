@@ -41,8 +41,8 @@ use token_arena::{Section, TokenArena, View};
 use token_classes::{bracket_facts, classes_among, item_classes};
 use unwrapped_lines::lines_of_classes;
 use view_parts::{
-    BodyPlace, KnownEnd, KnownSpans, PartsEnd, behind_row, join_rows, known_part_end,
-    known_parts_end, laid_view,
+    BodyPlace, KnownEnds, KnownSpans, PartsEnd, join_rows, known_part_end, known_parts_end,
+    laid_view,
 };
 
 /// How many items behind what is new in a run are looked at first at least. Most parts end within as many, and so do
@@ -114,16 +114,13 @@ fn lay_out_items(
     Ok(())
 }
 
-/// Whether the gap before each item of a view is decided. Parts that are noted in a row, with which a segment begins,
-/// aren't looked at.
-fn are_decided(view: &View<'_>, known: &[KnownEnd], plan: &Plan<'_>) -> bool
-    requires within { All (λ id. id < length plan.now) view.now }
-    requires rows { AreRowsDecided plan.now known.now }
+/// Whether the gap before each item of a view is decided.
+fn are_decided(view: &View<'_>, plan: &Plan<'_>) -> bool
+    requires { All (λ id. id < length plan.now) view.now }
     ensures { IsTrue result → AreDecided plan.now view.now }
 {
     for segment in view.segments() {
-        let begun = behind_row(known, TokenId(segment.first));
-        if !is_row_decided(plan, begun.0, segment.end) {
+        if !is_row_decided(plan, segment.first, segment.end) {
             return false;
         }
     }
@@ -215,7 +212,7 @@ fn lay_out_part(
         return Ok(());
     }
     let laid = laid_view(inside, view, first, end, room)?;
-    if are_decided(&laid, &[], &made.plan) {
+    if are_decided(&laid, &made.plan) {
         return Ok(());
     }
     lay_out_items(context, number, &laid, made, room)
@@ -271,7 +268,7 @@ fn pass_row(
     arena: &TokenArena<'_, '_>,
     view: &View<'_>,
     id: TokenId,
-    known: &mut [KnownEnd],
+    known: &mut KnownEnds<'_>,
     way: &mut Way<'_>,
 ) -> Option<PartsEnd<'static>>
     requires here { way.old.first < length view.now }
@@ -309,7 +306,7 @@ fn pass_part<'k>(
     arena: &TokenArena<'_, '_>,
     id: TokenId,
     part: PartsEnd<'k>,
-    known: &mut [KnownEnd],
+    known: &mut KnownEnds<'_>,
     way: &mut Way<'k>,
 )
     requires known { AreKnown arena.now known.old }
@@ -332,7 +329,7 @@ fn lay_out_next<'k>(
     context: &Context<'_>,
     window: &Window<'_>,
     id: TokenId,
-    known: &mut KnownParts<'_, 'k>,
+    known: &mut KnownParts<'k>,
     made: &mut Made<'_>,
     way: &mut Way<'k>,
     room: &Bump,
@@ -348,8 +345,8 @@ fn lay_out_next<'k>(
     requires items { All (λ id. id < length context.now.arena.now.tokens) (items_before (place_in way.old.inside)) }
     requires decided { All (λ id. IsSome (slot_of made.old.plan id)) (items_before (place_in way.old.inside)) }
     requires room { made.old.tally.searched + 67 * (length window.now.view - way.old.first) < 2 ^ 60 }
-    requires state { AreInStep context.now.arena.now made.old known.old.ends.now known.old.spans.spans.items }
-    ensures state { OnOk result (AreInStep context.now.arena.now made.new known.new.ends.now known.new.spans.spans.items) }
+    requires state { AreInStep context.now.arena.now made.old known.old.ends known.old.spans.spans.items }
+    ensures state { OnOk result (AreInStep context.now.arena.now made.new known.new.ends known.new.spans.spans.items) }
     ensures on { OnOk result ((plan : List (Option Slot)) (before : Tally) → GoesOnFrom context.now.style.now context.now.budget context.now.arena.now window.now.number plan (seen_by context.now.arena.now window.now.number) before made.old.plan (place_in way.old.inside) (place_before context.now.arena.now window.now.number window.now.first + way.old.first) made.old.tally → GoesOnFrom context.now.style.now context.now.budget context.now.arena.now window.now.number plan (seen_by context.now.arena.now window.now.number) before made.new.plan (place_in way.new.inside) (place_before context.now.arena.now window.now.number window.now.first + way.new.first) made.new.tally) }
     ensures room { OnOk result (made.new.tally.searched ≤ made.old.tally.searched + 67 * (way.new.first - way.old.first)) }
     ensures within { OnOk result (way.new.first ≤ length window.now.view) }
@@ -371,7 +368,7 @@ fn lay_out_next<'k>(
     let arena = context.arena;
     let view = &window.view;
     let inside = way.inside;
-    if let Some(parts) = pass_row(arena, view, id, known.ends, way) {
+    if let Some(parts) = pass_row(arena, view, id, &mut known.ends, way) {
         return Ok(Some(parts));
     }
     let classes = context.classes;
@@ -382,7 +379,7 @@ fn lay_out_next<'k>(
         classes,
         inside,
         first,
-        known.ends,
+        &mut known.ends,
         &mut known.spans,
         known.keep,
         near,
@@ -392,7 +389,7 @@ fn lay_out_next<'k>(
         return Ok(None);
     }
     lay_out_part(context, window, inside, first, part.end, made, begun, room)?;
-    pass_part(arena, id, part, known.ends, way);
+    pass_part(arena, id, part, &mut known.ends, way);
     Ok(Some(part))
 }
 
@@ -452,7 +449,7 @@ fn clear(room: &mut Bump, alloc: Global) {
 fn lay_out_window<'k>(
     context: &Context<'_>,
     window: &Window<'_>,
-    known: &mut KnownParts<'_, 'k>,
+    known: &mut KnownParts<'k>,
     made: &mut Made<'_>,
     way: &mut Way<'k>,
 ) -> Result<Option<TokenId>, NoMemory>
@@ -467,10 +464,10 @@ fn lay_out_window<'k>(
     requires items { All (λ id. id < length context.now.arena.now.tokens) (items_before (place_in way.old.inside)) }
     requires decided { All (λ id. IsSome (slot_of made.old.plan id)) (items_before (place_in way.old.inside)) }
     requires room { made.old.tally.searched ≤ 2 ^ 59 + 4294967296 }
-    requires state { AreInStep context.now.arena.now made.old known.old.ends.now known.old.spans.spans.items }
+    requires state { AreInStep context.now.arena.now made.old known.old.ends known.old.spans.spans.items }
     requires begin { IsTrue window.now.later → BeginTold context.now.arena.now (items_between 0 way.old.told (seen_by context.now.arena.now window.now.number)) (place_before context.now.arena.now window.now.number window.now.first) (place_in way.old.inside) }
     requires bounds { AreBounds context.now.arena.now (seen_by context.now.arena.now window.now.number) known.old.bounds.items way.old.told }
-    ensures state { OnOk result (AreInStep context.now.arena.now made.new known.new.ends.now known.new.spans.spans.items) }
+    ensures state { OnOk result (AreInStep context.now.arena.now made.new known.new.ends known.new.spans.spans.items) }
     ensures on { OnOk result ((plan : List (Option Slot)) (before : Tally) → GoesOnFrom context.now.style.now context.now.budget context.now.arena.now window.now.number plan (seen_by context.now.arena.now window.now.number) before made.old.plan (place_in way.old.inside) (place_before context.now.arena.now window.now.number window.now.first) made.old.tally → GoesOnFrom context.now.style.now context.now.budget context.now.arena.now window.now.number plan (seen_by context.now.arena.now window.now.number) before made.new.plan (place_in way.new.inside) (place_before context.now.arena.now window.now.number window.now.first + way.new.first) made.new.tally) }
     ensures room { OnOk result (made.new.tally.searched ≤ made.old.tally.searched + 67 * way.new.first) }
     ensures inside { OnOk result (way.new.first ≤ length window.now.view) }
@@ -522,7 +519,7 @@ fn lay_out_seen<'k>(
     context: &Context<'_>,
     tree: &CondTree<'_>,
     turn: &Turn<'k>,
-    known: &mut KnownParts<'_, 'k>,
+    known: &mut KnownParts<'k>,
     made: &mut Made<'_>,
     ahead: &mut u32,
     run: &Bump,
@@ -533,7 +530,7 @@ fn lay_out_seen<'k>(
     requires tree { IsTreeOf context.now.arena.now tree.now }
     requires number { turn.now.number < runs_of context.now.arena.now }
     requires room { made.old.tally.searched ≤ 2 ^ 59 }
-    requires state { AreInStep context.now.arena.now made.old known.old.ends.now known.old.spans.spans.items }
+    requires state { AreInStep context.now.arena.now made.old known.old.ends known.old.spans.spans.items }
     requires bound { IsBound context.now.arena.now (seen_by context.now.arena.now turn.now.number) turn.now.bound.item turn.now.bound.told (place_in turn.now.bound.inside) }
     requires bounds { AreBounds context.now.arena.now (seen_by context.now.arena.now turn.now.number) known.old.bounds.items turn.now.bound.told }
     requires new { turn.now.new_end ≤ length context.now.arena.now.tokens }
@@ -541,7 +538,7 @@ fn lay_out_seen<'k>(
     requires behind { (id : ℕ) → turn.now.new_end ≤ id → Contains (seen_by context.now.arena.now turn.now.number) id → IsSome (slot_of made.old.plan id) }
     ensures told { OnOk result (AreSeenTold context.now.style.now context.now.budget context.now.arena.now turn.now.number made.old.plan (seen_by context.now.arena.now turn.now.number) made.new.plan made.old.tally made.new.tally) }
     ensures room { OnOk result (made.new.tally.searched ≤ made.old.tally.searched + 4294967296) }
-    ensures state { OnOk result (AreInStep context.now.arena.now made.new known.new.ends.now known.new.spans.spans.items) }
+    ensures state { OnOk result (AreInStep context.now.arena.now made.new known.new.ends known.new.spans.spans.items) }
     ensures bounds { OnOk result ((told : ℕ) × AreBounds context.now.arena.now (seen_by context.now.arena.now turn.now.number) known.new.bounds.items told) }
 {
     let items = context.arena.len();

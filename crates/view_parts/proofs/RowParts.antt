@@ -2,7 +2,8 @@
 use Rattle.std.proofs.Common.{◌≡◌, ◌∙◌, ◌==◌, ◌⊎◌, inl, inr, Bool, true, false, max, ℕ, zero, suc, ◌+◌, ◌-◌, ◌<◌, ◌≤◌, Option, Some, None, List, [], ◌∷◌, ◌++◌, length, take, drop, get_or, append_assoc, refl, sym, ap, subst, arith}
 use Rattle.std.specs.Prelude.{if◌then◌else◌, slice_set}
 use Rattle.std.specs.List.{range_with_len}
-use Rattle.std.proofs.lemmas.Bool.{eqb-true}
+use Rattle.std.specs.Bool.{OnFalse, OnTrue}
+use Rattle.std.proofs.lemmas.Bool.{OnFalse_at, OnTrue_at, eqb-true}
 use Rattle.std.proofs.lemmas.List.{get_or_past, length-set}
 use Rattle.token_arena.specs.Gaps.{Contents}
 use Rattle.token_arena.specs.Ids.{Increase}
@@ -186,3 +187,18 @@ joined_known arena knowns first next made is all =
     let one = rows_joined arena first two.row two.behind seen (omega arith) (omega arith) are behind in
     let so : AreKnownRows arena first made = subst (λ (r : KnownRow). AreKnownRows arena first r) two.made_is one in
     noted_all arena knowns first (InRows made) so all (some_within knowns first two.row two.row_is) (length-set knowns first (InRows made))
+
+-- an item whose row is joined has something noted
+has_noted : (knowns : List KnownEnd) (first next : ℕ) (row : KnownRow) → joined (get_or knowns first Unknown) next (get_or knowns next Unknown) ≡ Some row → get_or knowns first Unknown ≡ Unknown → ⊥
+has_noted knowns first next made is unknown =
+    let two = of_joined (get_or knowns first Unknown) next (get_or knowns next Unknown) made is in
+    none two.row (sym (ap (λ (k : KnownEnd). row_of k) unknown) ∙ two.row_is)
+  where
+    none : (row : KnownRow) → None ≡ Some row → ⊥
+    none row e = cc
+
+-- so the joined row stands in its place
+pub joined_stands : (knowns later : List KnownEnd) (first next : ℕ) (row : KnownRow) (replaced : Bool) → joined (get_or knowns first Unknown) next (get_or knowns next Unknown) ≡ Some row
+    → OnTrue replaced (later ≡ slice_set knowns first (InRows row)) → OnFalse replaced (get_or knowns first Unknown ≡ Unknown) → later ≡ slice_set knowns first (InRows row)
+joined_stands knowns later first next row true is put lacks = OnTrue_at refl put
+joined_stands knowns later first next row false is put lacks = absurd (has_noted knowns first next row is (OnFalse_at refl lacks))

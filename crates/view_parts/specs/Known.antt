@@ -56,14 +56,6 @@ row_of (InRow known) = Some known
 row_of (InRows known) = Some known
 row_of (InSpan number) = None
 
--- the item behind the parts that are noted in a row at this one, or this one
-abbrev pub behind_row : List KnownEnd → ℕ → ℕ
-behind_row knowns id =
-    elim (row_of (get_or knowns id Unknown)) [
-      | None ↦ id
-      | Some row ↦ row.end
-    ]
-
 -- the items of a view at the places from one to before another are those of this row, which begins with this item
 pub record HasRow (view : List ℕ) (first end id : ℕ) (row : KnownRow) : Type 0 where
   pub some : id < row.end

@@ -3,11 +3,12 @@
 ghost use Rattle.std.specs.Prelude.{◌≡◌, ◌<◌, ◌≤◌, ◌-◌, ℕ, length, get_or, slice_range, IfSome, IsSome, None};
 ghost use Rattle.std.specs.Option.{ForNone, ForSome};
 ghost use Rattle.view_parts.specs.declared.known.KnownEnd.TheVariants.{Unknown};
-ghost use Rattle.view_parts.specs.Known.{AreKnown, HasNotedRow, after_joined, behind_row, item_of_row, joined, row_of};
+ghost use Rattle.view_parts.specs.Known.{AreKnown, HasNotedRow, after_joined, item_of_row, joined, row_of};
 ghost use Rattle.view_parts.specs.Parts.{ArePartsUpTo};
 ghost use Rattle.view_parts.specs.Told.{TellParts};
 
 use crate::known::{KnownEnd, KnownRow, PartsEnd};
+use crate::notes::KnownEnds;
 use line_tokens::TokenId;
 use token_arena::{TokenArena, View};
 
@@ -40,23 +41,12 @@ fn joined(first: KnownEnd, next: TokenId, later: KnownEnd) -> Option<KnownRow>
     })
 }
 
-/// What is noted for an item, or nothing.
-#[inline(always)]
-fn noted(known: &[KnownEnd], id: TokenId) -> KnownEnd
-    ensures { result ≡ get_or known.now id.0 Unknown }
-{
-    match known.get(id.0 as usize) {
-        Some(end) => *end,
-        None => KnownEnd::Unknown,
-    }
-}
-
 /// Notes the parts of the row that begins with the item `first`, and those of the row behind it that begins with
 /// `next`, as one row, where both are known. The result is the item with which the row begins that has those of `next`.
 #[inline(always)]
 pub fn join_rows(
     arena: &TokenArena<'_, '_>,
-    known: &mut [KnownEnd],
+    known: &mut KnownEnds<'_>,
     first: TokenId,
     next: TokenId,
 ) -> TokenId
@@ -65,23 +55,12 @@ pub fn join_rows(
     ensures joined { known.new ≡ after_joined known.old first.0 next.0 }
     ensures item { result.0 ≡ item_of_row known.old first.0 next.0 }
 {
-    match joined(noted(known, first), next, noted(known, next)) {
+    match joined(known.get(first), next, known.get(next)) {
         Some(row) => {
-            known[first.0 as usize] = KnownEnd::InRows(row);
+            known.replace(first, KnownEnd::InRows(row));
             first
         }
         None => next,
-    }
-}
-
-/// The item behind the parts that are noted in a row at this item, or this item.
-#[inline(always)]
-pub fn behind_row(known: &[KnownEnd], id: TokenId) -> TokenId
-    ensures { result.0 ≡ behind_row known.now id.0 }
-{
-    match noted(known, id).row() {
-        Some(row) => TokenId(row.end),
-        None => id,
     }
 }
 
@@ -93,7 +72,7 @@ pub fn known_parts_end(
     view: &View<'_>,
     first: u32,
     id: TokenId,
-    known: &[KnownEnd],
+    known: &KnownEnds<'_>,
     segment: &mut usize,
 ) -> Option<PartsEnd<'static>>
     requires here { first < length view.now }
@@ -110,7 +89,7 @@ pub fn known_parts_end(
     ensures always { IfSome result (λ parts. IsSome parts.told) }
     ensures whole { IfSome result (λ parts. ForNone parts.told (parts.end ≡ length view.now)) }
 {
-    let Some(row) = noted(known, id).row() else {
+    let Some(row) = known.get(id).row() else {
         return None;
     };
     let count = view.len();

@@ -11,6 +11,7 @@ ghost use Rattle.view_parts.specs.Told.{TellParts};
 
 use crate::bodies::BodyPlace;
 use crate::ends::part_end;
+use crate::notes::KnownEnds;
 use bumpalo::Bump;
 use line_tokens::{NoMemory, TokenId};
 use token_arena::{TokenArena, View};
@@ -325,7 +326,7 @@ pub fn known_part_end<'k>(
     all: &[TokenClass],
     begins: Option<BodyPlace<'k>>,
     first: u32,
-    known: &mut [KnownEnd],
+    known: &mut KnownEnds<'_>,
     spans: &mut KnownSpans<'k>,
     keep: &'k Bump,
     segment: &mut usize,
@@ -353,19 +354,19 @@ pub fn known_part_end<'k>(
 {
     let id = view.at_near(first, segment);
     let begun = *segment;
-    let number = id.0 as usize;
-    let kept = begins.is_none() && number < known.len();
+    let kept = begins.is_none() && known.has_place(id);
     if kept {
-        if let Some(part) = recalled(arena, view, first, id, known[number], spans, segment) {
+        if let Some(part) = recalled(arena, view, first, id, known.get(id), spans, segment) {
             return Ok(part);
         }
     }
     let part = part_end(arena, view, all, begins, first, segment, keep, room)?;
     if let Some(seen) = part.seen {
         if kept && part.inside.is_none() {
-            known[number] = noted_part(
+            let end = noted_part(
                 arena, view, first, id, part.end, seen, begun, spans, keep, segment,
             )?;
+            known.set(id, end)?;
         }
     }
     Ok(PartsEnd {

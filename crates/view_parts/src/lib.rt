@@ -11,11 +11,13 @@ mod brackets;
 mod ends;
 mod joined;
 mod known;
+mod notes;
 mod walk;
 
 pub use bodies::{BodyKind, BodyPlace, Head};
 pub use body::laid_view;
 pub use ends::{PartEnd, part_end};
-pub use joined::{behind_row, join_rows, known_parts_end};
+pub use joined::{join_rows, known_parts_end};
 pub use known::{KnownEnd, KnownRow, KnownSpan, KnownSpans, PartsEnd, known_part_end};
 pub use line_tokens::NoMemory;
+pub use notes::KnownEnds;

@@ -10,8 +10,8 @@ use Rattle.format_core.proofs.PlacesStand.{laid_few}
 use Rattle.format_core.proofs.RunsTold.{items_told_nothing}
 use Rattle.format_core.proofs.runs.lay_out_part.Goals as goal
 
-pub are_decided-requires-clause-within : goal.are_decided-requires-clause-within
-are_decided-requires-clause-within c =
+pub are_decided-requires : goal.are_decided-requires
+are_decided-requires c =
     let tokens = length c.args.context.now.arena.now.tokens in
     let all = laid_have (λ id. id < tokens) c.args.window.now.view (place_in c.args.inside) c.args.first c.args.end c.requires.items c.requires.within in
     subst (λ (ids : List ℕ). All (λ id. id < length c.args.made.now.plan) ids) (sym c.in_ok-laid.ensures.items) (λ k d below. (let low = all k d below in omega (arith, low, c.requires.whole)))

@@ -62,7 +62,7 @@ lay_out_seen-requires-clause-room c =
 
 pub lay_out_seen-requires-clause-state : goal.lay_out_seen-requires-clause-state
 lay_out_seen-requires-clause-state c =
-    subst (λ (kept : List KnownSpan). AreInStep c.args.context.now.arena.now c.loop-number.made c.loop-number.known.ends.now kept) (sym c.note_from.ensures.same) c.loop-number.invariant.state
+    subst (λ (kept : List KnownSpan). AreInStep c.args.context.now.arena.now c.loop-number.made c.loop-number.known.ends kept) (sym c.note_from.ensures.same) c.loop-number.invariant.state
 
 pub lay_out_seen-requires-clause-bound : goal.lay_out_seen-requires-clause-bound
 lay_out_seen-requires-clause-bound c =

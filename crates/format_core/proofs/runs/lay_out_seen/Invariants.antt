@@ -17,7 +17,7 @@ invariant-loop-window l = record {
   new : l.turn.new_end ≤ l.end;
   place : place_before l.context.arena.now l.turn.number l.first ≤ length (seen_by l.context.arena.now l.turn.number);
   room : l.made.tally.searched ≤ l.initial.made.tally.searched + 67 * place_before l.context.arena.now l.turn.number l.first;
-  state : AreInStep l.context.arena.now l.made l.known.ends.now l.known.spans.spans.items;
+  state : AreInStep l.context.arena.now l.made l.known.ends l.known.spans.spans.items;
   begin : IsTrue l.turn.later → BeginTold l.context.arena.now (items_between 0 l.told (seen_by l.context.arena.now l.turn.number)) (place_before l.context.arena.now l.turn.number l.first) (place_in l.inside);
   begins : ForSome (place_in l.inside) (λ place. StandsBefore place (get_or (seen_by l.context.arena.now l.turn.number) (place_before l.context.arena.now l.turn.number l.first) 0));
   items : All (λ id. id < length l.context.arena.now.tokens) (items_before (place_in l.inside));

@@ -17,7 +17,7 @@ abbrev pub invariant-loop-way : goal.invariant-loop-way
 invariant-loop-way l = record {
   inside : l.way.first ≤ length l.window.view;
   room : l.made.tally.searched ≤ l.initial.made.tally.searched + 67 * l.way.first;
-  state : AreInStep l.context.arena.now l.made l.known.ends.now l.known.spans.spans.items;
+  state : AreInStep l.context.arena.now l.made l.known.ends l.known.spans.spans.items;
   begin : IsTrue l.window.later → l.way.first < length l.window.view → BeginTold l.context.arena.now (items_between 0 l.way.told (seen_by l.context.arena.now l.window.number)) (place_before l.context.arena.now l.window.number l.window.first + l.way.first) (place_in l.way.inside);
   begins : ForSome (place_in l.way.inside) (λ place. StandsBefore place (get_or (seen_by l.context.arena.now l.window.number) (place_before l.context.arena.now l.window.number l.window.first + l.way.first) 0));
   items : All (λ id. id < length l.context.arena.now.tokens) (items_before (place_in l.way.inside));
