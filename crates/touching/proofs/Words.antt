@@ -1,20 +1,17 @@
 -- Characters beside a word, one after another.
-use Rattle.std.proofs.Common.{◌≡◌, ◌==◌, ◌<◌, ◌≤◌, ◌+◌, ℕ, Bool, true, false, List, [], ◌∷◌, ◌++◌, length, drop, get_or, map, refl, ◌∙◌, ap, arith, Option, Some, None, slice_get, inl, inr, Bor}
+use Rattle.std.proofs.Common.{◌≡◌, ◌==◌, ◌<◌, ◌≤◌, ◌+◌, ℕ, Bool, true, false, List, [], ◌∷◌, ◌++◌, length, drop, get_or, map, refl, ◌∙◌, ap, arith, Option, Some, None, slice_get, Bor}
 use Rattle.std.specs.Option.{option_to_list}
 use Rattle.std.specs.List.{list_any}
 use Rattle.std.proofs.lemmas.List.{drop_more, drop_all, get_or-map, length-map}
-use Rattle.std.proofs.lemmas.Bool.{and_left, cases_Bool, eqb-true}
+use Rattle.std.proofs.lemmas.Bool.{and_left, ne_eqb}
 use Rattle.c_chars.specs.Characters.{bytes_of}
 use Rattle.c_chars.specs.declared.LogicalChar.{LogicalChar}
 use Rattle.c_grammar.specs.Grammar.{is_same}
 use Rattle.c_grammar.specs.Touch.{is_front, first_of}
 
-apart : (a b : ℕ) → (a ≡ b → ⊥) → (a == b) ≡ false
-apart a b n = elim (cases_Bool (a == b)) [ inl y ↦ absurd (n (eqb-true a b y)) | inr f ↦ f ]
-
 -- another character stands there
 pub front_differs : (c : ℕ) (s w : List ℕ) (i : ℕ) → i < length w → (c ≡ get_or w i 0 → ⊥) → is_front (c ∷ s) (drop i w) ≡ false
-front_differs c s w i h n = ap (is_front (c ∷ s)) (drop_more w i 0 h) ∙ and_left (c == get_or w i 0) (is_front s (drop (i + 1) w)) (apart c (get_or w i 0) n)
+front_differs c s w i h n = ap (is_front (c ∷ s)) (drop_more w i 0 h) ∙ and_left (c == get_or w i 0) (is_front s (drop (i + 1) w)) (ne_eqb c (get_or w i 0) n)
 
 -- the characters are at their end
 pub front_last : (o : Option ℕ) (w : List ℕ) (i : ℕ) → i < length w → is_front (option_to_list o) (drop i w) ≡ is_front (option_to_list o) (get_or w i 0 ∷ [])
@@ -29,7 +26,7 @@ pub front_end : (s w : List ℕ) (i : ℕ) → length w ≤ i → is_front s (dr
 front_end s w i h = ap (is_front s) (drop_all i w (omega (arith, h)))
 
 pub same_differs : (c : ℕ) (s w : List ℕ) (i : ℕ) → i < length w → (c ≡ get_or w i 0 → ⊥) → is_same (c ∷ s) (drop i w) ≡ false
-same_differs c s w i h n = ap (is_same (c ∷ s)) (drop_more w i 0 h) ∙ and_left (c == get_or w i 0) (is_same s (drop (i + 1) w)) (apart c (get_or w i 0) n)
+same_differs c s w i h n = ap (is_same (c ∷ s)) (drop_more w i 0 h) ∙ and_left (c == get_or w i 0) (is_same s (drop (i + 1) w)) (ne_eqb c (get_or w i 0) n)
 
 pub same_short : (w : List ℕ) (i : ℕ) → i < length w → is_same [] (drop i w) ≡ false
 same_short w i h = ap (is_same []) (drop_more w i 0 h)
