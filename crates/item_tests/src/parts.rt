@@ -164,6 +164,46 @@ const PARTS_OF_PIECES: &[(&[(&str, usize)], &[(u32, u32)])] = &[
     ),
     (
         &[
+            ("extern \"C\" {\n", 1),
+            ("int a;\n", 21),
+            ("#if A\nint b;\n#endif\n}", 1),
+        ],
+        &[(66, 66), (70, 8)],
+    ),
+    (
+        &[
+            ("int \"C\" {\n", 1),
+            ("int a;\n", 21),
+            ("#if A\nint b;\n#endif\n}", 1),
+        ],
+        &[(70, 70)],
+    ),
+    (
+        &[
+            ("// one\n#if A\nextern \"C\" {\n#endif\n", 1),
+            ("int a;\n", 21),
+            ("#if B\nint b;\n#endif\n}", 1),
+        ],
+        &[(67, 67), (71, 8)],
+    ),
+    (
+        &[
+            ("// one\n#define A\nint f(void) {\n", 1),
+            (CALL, 3),
+            ("b;\n#if A\nc;\n#endif\n}", 1),
+        ],
+        &[(66, 66), (69, 10)],
+    ),
+    (
+        &[
+            ("int\n#define A\nf(void) {\n", 1),
+            (CALL, 3),
+            ("b;\n#if A\nc;\n#endif\n}", 1),
+        ],
+        &[(68, 68)],
+    ),
+    (
+        &[
             ("int f(void) {\n", 1),
             (CALL, 26),
             ("b;\n", 6),

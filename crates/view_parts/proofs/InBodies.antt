@@ -24,7 +24,7 @@ use Rattle.view_parts.specs.declared.walk.LastToken.{LastToken}
 use Rattle.view_parts.specs.declared.walk.Walk.{Walk}
 use Rattle.view_parts.specs.Places.{Place}
 use Rattle.view_parts.specs.Reading.{Reading, EndsOutside, EndsInBody, Never, GoesOn}
-use Rattle.view_parts.specs.Walk.{start, reading, asked_at, begins_behind, begins_block, begins_statement, begun_before, body_kind, end_in_body, ends_apart, ends_in_row, ends_inside_or, ends_or, ends_statement, entered, goes_on_with, head_from, head_of_kind, heads_len, in_body, in_group, is_apart, is_leading, is_lost, kept_begun, may_part, next_begun, next_last, opened_head, or_place, outside, parts_statements, past_bracket, past_comment, past_other}
+use Rattle.view_parts.specs.Walk.{start, reading, asked_at, begins_behind, begins_block, begins_outside, begins_statement, begun_before, body_kind, end_in_body, ends_apart, ends_in_row, ends_inside_or, ends_or, ends_statement, entered, goes_on_with, head_from, head_of_kind, heads_len, in_body, in_group, is_apart, is_leading, is_lost, kept_begun, may_part, next_begun, next_last, opened_head, or_place, outside, parts_statements, past_bracket, past_comment, past_other}
 use Rattle.view_parts.specs.Parts.{Ended, around_of, bodies_behind, count_or, end_of_part, head_items, heads_end, inside_of, is_left, items_before, items_of_place, left_innermost, next_end, opened_items, part_inside, part_len, place_behind, waiting_at, waiting_behind, walk_behind, without_innermost, StandsBefore}
 use Rattle.view_parts.proofs.Heads.{BodiesStand, IsHead, bodies_end, bodies_so, end_low, head_before, heads_len-reverse, reversed_end, reversed_have, reversed_stand, stand_before}
 use Rattle.view_parts.proofs.InOrder.{HasHeads, IsEnd, end_fits, inside_headed}
@@ -300,7 +300,7 @@ group_on P all walk bodies id low class after has keeps = by_bracket (is_bracket
 outside_on : (P : ℕ → Type 0) (all : List ℕ) (walk : Walk) (bodies : List Head) (id low : ℕ) (class : TokenClass) (asked : Option ℕ) → low ≤ id → P id → id ≡ get_or all walk.place 0 → Keeps P all walk bodies low
     → Keeps P all (outside walk id class asked) bodies (id + 1)
 outside_on P all walk bodies id low class asked after has at keeps = record {
-  begun = by_first (walk.place == 0) (λ zero. eqb-true walk.place 0 zero);
+  begun = by_begins (begins_outside walk id);
   stand = later_stand P bodies id low after keeps.stand;
   few = keeps.few;
   last = renamed_last P (bodies_end bodies) walk.last (outside walk id class asked).last low refl after inside has keeps.last;
@@ -310,9 +310,9 @@ outside_on P all walk bodies id low class asked after has at keeps = record {
     inside : bodies_end bodies ≤ id
     inside = (let end = end_low P bodies low keeps.stand in omega (arith, end, after))
 
-    by_first : (first : Bool) → (first ≡ true → walk.place ≡ 0) → IsBegun P all (bodies_end bodies) (id + 1) (if first then With (record { id = id; place = 0 }) else walk.begun)
-    by_first true none = (at ∙ ap (λ n. get_or all n 0) (none refl), inside)
-    by_first false none = begun_later P all (bodies_end bodies) low id walk.begun after keeps.begun
+    by_begins : (begins : Bool) → IsBegun P all (bodies_end bodies) (id + 1) (if begins then With (record { id = id; place = walk.place }) else walk.begun)
+    by_begins true = (at, inside)
+    by_begins false = begun_later P all (bodies_end bodies) low id walk.begun after keeps.begun
 
 -- ## Bodies that begin or end
 
@@ -352,6 +352,7 @@ left_on P all next (head ∷ bodies) id low after has none stand keeps =
     by_begun kind.Function = tt
     by_begun kind.Block = tt
     by_begun kind.Members = tt
+    by_begun kind.Linkage = tt
 
     block_is : (opened : ℕ) → ◌≡◌ {A = Option ℕ} (Some (head.end - 1)) (Some opened) → IsBlock P (bodies_end bodies) opened CloseBrace id (id + 1)
     block_is opened e = subst (λ n. IsBlock P (bodies_end bodies) n CloseBrace id (id + 1)) (some_is (head.end - 1) opened e) (record {
@@ -366,6 +367,7 @@ left_on P all next (head ∷ bodies) id low after has none stand keeps =
     by_block kind.If opened e = block_is opened e
     by_block kind.Function opened e = block_is opened e
     by_block kind.Block opened e = block_is opened e
+    by_block kind.Linkage opened e = block_is opened e
 
 -- behind a token that opens a body, or none, with this head
 past_on : (P : ℕ → Type 0) (all : List ℕ) (next : Walk) (bodies : List Head) (after : List Opener) (opened : Option Head) (id low : ℕ) → low ≤ id → P id → (is_left bodies after ≡ true → next.asked ≡ None) → BodiesStand P bodies low

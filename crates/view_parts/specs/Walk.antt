@@ -3,11 +3,11 @@ use Rattle.std.specs.Prelude.{ℕ, ◌+◌, ◌-◌, ◌==◌, nat_le, Bool, tru
 use Rattle.token_arena.specs.Gaps.{Contents, item_began}
 use Rattle.token_classes.specs.declared.class.TokenClass.{TokenClass}
 use Rattle.token_classes.specs.declared.class.TokenClass.TheVariants.{Nothing, OpenBrace, CloseBrace}
-use Rattle.token_classes.specs.Classes.{is_opener, is_open_round, is_close_round, is_open_brace, is_close_brace, is_semicolon, is_plain, is_assigning, is_control, is_case, is_default, is_bracket, is_comment, is_word, is_if, is_else, is_do, is_while, is_struct, is_union}
+use Rattle.token_classes.specs.Classes.{is_opener, is_open_round, is_close_round, is_open_brace, is_close_brace, is_semicolon, is_plain, is_extern, is_text, is_assigning, is_control, is_case, is_default, is_bracket, is_comment, is_word, is_if, is_else, is_do, is_while, is_struct, is_union}
 use Rattle.view_parts.specs.declared.walk.Around.{Around}
 use Rattle.view_parts.specs.declared.walk.Around.TheVariants as around
 use Rattle.view_parts.specs.declared.walk.Before.{Before}
-use Rattle.view_parts.specs.declared.walk.Before.TheVariants.{Name, Parameters, Semicolon, Body, Between, Other}
+use Rattle.view_parts.specs.declared.walk.Before.TheVariants.{Name, Parameters, Semicolon, Body, Between, Extern, Linkage, Other}
 use Rattle.view_parts.specs.declared.walk.Begun.{Begun}
 use Rattle.view_parts.specs.declared.walk.Begun.TheVariants.{Unknown, With, Behind}
 use Rattle.view_parts.specs.declared.bodies.BodyKind.{BodyKind}
@@ -45,13 +45,26 @@ is_between Body = true
 is_between Between = true
 is_between _ = false
 
+abbrev pub is_extern_word : Before → Bool
+is_extern_word Extern = true
+is_extern_word _ = false
+
+-- A linkage specification of C++ is `extern`, a string and a `{` directly behind one another: a header may have one around all its declarations.
+abbrev pub is_linkage : Before → Bool
+is_linkage Linkage = true
+is_linkage _ = false
+
+-- behind another token: `extern`, or the string of a linkage specification, or neither
+abbrev pub behind_other : Before → TokenClass → Before
+behind_other before class = if is_extern class then Extern else (if is_text class && is_extern_word before then Linkage else Other)
+
 -- what stands behind a token, or behind the group that it opens
 abbrev pub behind : Declaration → TokenClass → Before
 behind declaration class =
     if is_opener class then behind_group declaration class
     else (if is_semicolon class then Semicolon
     else (if is_comment class && is_between declaration.before then Between
-    else (if is_plain class then Name else Other)))
+    else (if is_plain class then Name else behind_other declaration.before class)))
 
 -- No part ends behind a word of a control statement or of a label that stands outside brackets.
 abbrev pub is_lost : TokenClass → Bool
@@ -282,13 +295,17 @@ past_other walk class = record walk {
 abbrev pub in_group : Walk → ℕ → TokenClass → Walk
 in_group walk id class = if is_bracket class then past_bracket walk id class else past_other walk class
 
+-- The part begins with its first item, and the head of a body in it with what stands behind the last directive, or branch that isn't seen, between two declarations: the comment at the top of a file stands in no row with a linkage or a function behind its `#include`s.
+abbrev pub begins_outside : Walk → ℕ → Bool
+begins_outside walk id = walk.place == 0 || (not (id == walk.behind) && is_between walk.declaration.before)
+
 -- behind the next token, which stands outside brackets
 abbrev pub outside : Walk → ℕ → TokenClass → Option ℕ → Walk
 outside walk id class asked = record {
   place = walk.place + 1;
   declaration = next_declaration walk.declaration class;
   asked = if is_comment class then asked else None;
-  begun = if walk.place == 0 then With (record { id = id; place = 0 }) else walk.begun;
+  begun = if begins_outside walk id then With (record { id = id; place = walk.place }) else walk.begun;
   behind = id + 1;
   last = record walk.last { class = class; id = id; structure = if is_record class then Some id else walk.last.structure };
 }
@@ -318,7 +335,8 @@ reading arena walk around.Group id class = GoesOn (in_group walk id class)
 abbrev pub body_kind : Walk → Around → Option BodyKind
 body_kind walk around.Outside =
     if is_body (behind walk.declaration OpenBrace) then Some kind.Function
-    else (if begins_members walk.last then Some kind.Members else None)
+    else (if is_linkage walk.declaration.before then Some kind.Linkage
+    else (if begins_members walk.last then Some kind.Members else None))
 body_kind walk around.Body =
     if is_behind_if walk.last then Some kind.If
     else (if begins_block walk.last && (begins_behind walk.last || not (is_close_brace walk.last.class)) then Some kind.Block

@@ -23,6 +23,8 @@ pub enum BodyKind {
     Block,
     /// A structure or union.
     Members,
+    /// A linkage specification of C++: `extern "C" {`.
+    Linkage,
 }
 
 /// The items up to the `{` of a body, from the first of the declaration or statement that it belongs to. They stand in
@@ -76,6 +78,9 @@ fn body_kind(walk: &Walk, around: Around) -> Option<BodyKind>
         Around::Outside => {
             if let Before::Body = walk.declaration.behind(TokenClass::OpenBrace) {
                 return Some(BodyKind::Function);
+            }
+            if walk.declaration.begins_linkage() {
+                return Some(BodyKind::Linkage);
             }
         }
         Around::Body => {

@@ -9,6 +9,7 @@ ghost use Rattle.view_parts.specs.Reading.{GoesOn};
 ghost use Rattle.view_parts.specs.Steps.{body_passed, passed, read_so, tells_end, StaysWhereItEnds};
 ghost use Rattle.view_parts.specs.Walk.{behind_group, behind, is_end, is_between, is_lost};
 ghost use Rattle.view_parts.specs.Walk.{asked_at, asked_in_body, is_apart, is_body, is_commented, next_declaration};
+ghost use Rattle.view_parts.specs.Walk.{begins_outside, is_linkage};
 ghost use Rattle.view_parts.specs.Walk.{opening, start};
 ghost use Rattle.view_parts.specs.Walk.{is_record, is_label, is_leading, begins_statement};
 ghost use Rattle.view_parts.specs.Walk.{begins_behind, begins_block, begins_members, ends_statement, is_behind_if};
@@ -34,6 +35,10 @@ pub enum Before {
     Body,
     /// Comments behind the end of a declaration, or nothing.
     Between,
+    /// The word `extern`.
+    Extern,
+    /// The string directly behind that word, as a linkage specification of C++ begins.
+    Linkage,
     /// Anything else.
     Other,
 }
@@ -122,7 +127,8 @@ pub struct Walk {
     pub declaration: Declaration,
     /// Behind so many items the part ends, if a declaration or statement begins with the next item that is no comment.
     pub asked: Option<u32>,
-    /// How the statement of the innermost body began that is read, or outside brackets the part.
+    /// How the statement of the innermost body began that is read, or outside brackets the part, or what stands behind
+    /// the last directive between two of its declarations.
     pub begun: Begun,
     /// The item behind the last one that was read. In a group it is the one behind its last bracket.
     pub behind: u32,
@@ -195,7 +201,12 @@ impl Declaration {
             return Before::Between;
         }
         if class.is_plain() {
-            Before::Name
+            return Before::Name;
+        }
+        if class.is_extern() {
+            Before::Extern
+        } else if class.is_text() && matches!(self.before, Before::Extern) {
+            Before::Linkage
         } else {
             Before::Other
         }
@@ -224,6 +235,13 @@ impl Declaration {
         ensures { result ≡ is_body self.now.before }
     {
         matches!(self.before, Before::Body)
+    }
+
+    /// Whether a `{` that stands behind it begins the declarations of a linkage specification.
+    pub(crate) fn begins_linkage(&self) -> bool
+        ensures { result ≡ is_linkage self.now.before }
+    {
+        matches!(self.before, Before::Linkage)
     }
 
     /// Behind the next token, which stands outside brackets.
@@ -571,6 +589,14 @@ impl Walk {
         }
     }
 
+    /// Whether the part, or a declaration behind a directive, begins with the next item, which stands outside brackets.
+    #[inline(always)]
+    fn begins_outside(&self, id: TokenId) -> bool
+        ensures { result ≡ begins_outside self.now id.0 }
+    {
+        self.place == 0 || (id.0 != self.behind && self.declaration.before.is_between())
+    }
+
     /// Passes the next token, which stands outside brackets.
     #[inline(always)]
     fn pass_outside(&mut self, id: TokenId, class: TokenClass, asked: Option<u32>)
@@ -578,11 +604,14 @@ impl Walk {
         requires room { self.old.place < 4294967295 }
         ensures { self.new ≡ outside self.old id.0 class asked }
     {
+        if self.begins_outside(id) {
+            self.begun = Begun::With(PartToken {
+                id: id.0,
+                place: self.place,
+            });
+        }
         self.declaration = self.declaration.next(class);
         self.asked = if class.is_comment() { asked } else { None };
-        if self.place == 0 {
-            self.begun = Begun::With(PartToken { id: id.0, place: 0 });
-        }
         self.place += 1;
         self.behind = id.0 + 1;
         self.last.class = class;
