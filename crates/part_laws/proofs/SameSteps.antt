@@ -4,12 +4,12 @@ use Rattle.std.specs.Prelude.{if◌then◌else◌}
 use Rattle.token_arena.specs.Gaps.{Contents, item_began}
 use Rattle.token_classes.specs.declared.class.TokenClass.{TokenClass}
 use Rattle.token_classes.specs.declared.class.TokenClass.TheVariants.{LineComment, BlockComment}
-use Rattle.token_classes.specs.Classes.{is_bracket, is_opener, is_open_round, is_open_brace, is_semicolon, is_plain, is_comment}
+use Rattle.token_classes.specs.Classes.{is_bracket, is_opener, is_open_round, is_open_brace, is_semicolon, is_plain, is_extern, is_text, is_comment}
 use Rattle.view_parts.specs.declared.walk.Before.{Before as PartBefore}
 use Rattle.view_parts.specs.declared.walk.Before.TheVariants as part
 use Rattle.view_parts.specs.declared.walk.Declaration.{Declaration}
 use Rattle.view_parts.specs.declared.walk.Walk.{Walk as PartWalk}
-use Rattle.view_parts.specs.Walk.{behind_group as part_behind_group, behind as part_behind, is_end as part_is_end, is_between as part_is_between, is_between_comments as part_is_between_comments, is_body as part_is_body, is_commented as part_is_commented, asked_behind as part_asked_behind, asked_at as part_asked_at, next_declaration, inside_declaration}
+use Rattle.view_parts.specs.Walk.{behind_group as part_behind_group, behind as part_behind, behind_other as part_behind_other, is_extern_word as part_is_extern_word, is_end as part_is_end, is_between as part_is_between, is_between_comments as part_is_between_comments, is_body as part_is_body, is_commented as part_is_commented, asked_behind as part_asked_behind, asked_at as part_asked_at, next_declaration, inside_declaration}
 use Rattle.view_parts.specs.Parts.{waiting_behind as part_waiting_behind}
 use Rattle.part_laws.specs.Declarations.{Before, Name, Parameters, Semicolon, Body, Between, Other, Walk, behind_group, behind, is_end, is_between, is_body, is_between_comments, asked_behind, asked_at, is_commented, inside, outside, is_open}
 
@@ -21,6 +21,8 @@ told part.Parameters = Parameters
 told part.Semicolon = Semicolon
 told part.Body = Body
 told part.Between = Between
+told part.Extern = Other
+told part.Linkage = Other
 told part.Other = Other
 
 -- behind so many items
@@ -57,6 +59,8 @@ told_end part.Parameters = refl
 told_end part.Semicolon = refl
 told_end part.Body = refl
 told_end part.Between = refl
+told_end part.Extern = refl
+told_end part.Linkage = refl
 told_end part.Other = refl
 
 told_between : (before : PartBefore) → is_between (told before) ≡ part_is_between before
@@ -65,6 +69,8 @@ told_between part.Parameters = refl
 told_between part.Semicolon = refl
 told_between part.Body = refl
 told_between part.Between = refl
+told_between part.Extern = refl
+told_between part.Linkage = refl
 told_between part.Other = refl
 
 told_body : (before : PartBefore) → is_body (told before) ≡ part_is_body before
@@ -73,6 +79,8 @@ told_body part.Parameters = refl
 told_body part.Semicolon = refl
 told_body part.Body = refl
 told_body part.Between = refl
+told_body part.Extern = refl
+told_body part.Linkage = refl
 told_body part.Other = refl
 
 told_between_comments : (before : PartBefore) → is_between_comments (told before) ≡ part_is_between_comments before
@@ -81,6 +89,8 @@ told_between_comments part.Parameters = refl
 told_between_comments part.Semicolon = refl
 told_between_comments part.Body = refl
 told_between_comments part.Between = refl
+told_between_comments part.Extern = refl
+told_between_comments part.Linkage = refl
 told_between_comments part.Other = refl
 
 told_if : (b : Bool) (x y : PartBefore) → (if b then told x else told y) ≡ told (if b then x else y)
@@ -100,7 +110,18 @@ group_told walk declaration part.Parameters opener assigned commented =
 group_told walk declaration part.Semicolon opener assigned commented = refl
 group_told walk declaration part.Body opener assigned commented = refl
 group_told walk declaration part.Between opener assigned commented = refl
+group_told walk declaration part.Extern opener assigned commented = refl
+group_told walk declaration part.Linkage opener assigned commented = refl
 group_told walk declaration part.Other opener assigned commented = refl
+
+-- `extern` and the string of a linkage specification are other tokens to declarations
+other_told : (before : PartBefore) (class : TokenClass) → told (part_behind_other before class) ≡ Other
+other_told before class = by_bits (is_extern class) (is_text class && part_is_extern_word before)
+  where
+    by_bits : (extern linkage : Bool) → told (if extern then part.Extern else (if linkage then part.Linkage else part.Other)) ≡ Other
+    by_bits true linkage = refl
+    by_bits false true = refl
+    by_bits false false = refl
 
 behind_told : (k : ℕ) (place : ℕ) (declaration : Declaration) (asked : Option ℕ) (class : TokenClass)
     → behind (along k false place declaration asked) class ≡ told (part_behind declaration class)
@@ -111,18 +132,22 @@ behind_told k place declaration asked class =
     walk : Walk
     walk = along k false place declaration asked
 
+    by_plain : (plain : Bool) → (if plain then Name else Other) ≡ told (if plain then part.Name else part_behind_other declaration.before class)
+    by_plain true = refl
+    by_plain false = sym (other_told declaration.before class)
+
     by_bits : (opener semicolon comment between same plain : Bool) → between ≡ same → behind_group walk class ≡ told (part_behind_group declaration class)
         → (if opener then behind_group walk class
         else (if semicolon then Semicolon else (if comment && between then Between else (if plain then Name else Other))))
         ≡ told (if opener then part_behind_group declaration class
-        else (if semicolon then part.Semicolon else (if comment && same then part.Between else (if plain then part.Name else part.Other))))
+        else (if semicolon then part.Semicolon else (if comment && same then part.Between else (if plain then part.Name else part_behind_other declaration.before class))))
     by_bits true semicolon comment between same plain e group = group
     by_bits false true comment between same plain e group = refl
     by_bits false false true true true plain e group = refl
     by_bits false false true true false plain e group = cc
     by_bits false false true false true plain e group = cc
-    by_bits false false true false false plain e group = told_if plain part.Name part.Other
-    by_bits false false false between same plain e group = told_if plain part.Name part.Other
+    by_bits false false true false false plain e group = by_plain plain
+    by_bits false false false between same plain e group = by_plain plain
 
 commented_told : (k : ℕ) (place : ℕ) (declaration : Declaration) (asked : Option ℕ) (class : TokenClass)
     → is_commented (along k false place declaration asked) (behind (along k false place declaration asked) class) class
