@@ -2,7 +2,7 @@
 use Rattle.std.proofs.Common.{◌≡◌, ◌∙◌, ◌==◌, Bool, true, false, ℕ, zero, suc, ◌+◌, ◌-◌, ◌<◌, ◌≤◌, Option, Some, None, List, [], ◌∷◌, ◌++◌, length, get_or, refl, sym, ap, arith}
 use Rattle.std.specs.Prelude.{if◌then◌else◌, nat_lt, replicate, slice_get, slice_set}
 use Rattle.std.specs.Bool.{OnFalse, OnTrue}
-use Rattle.std.proofs.lemmas.Bool.{OnFalse_from, OnTrue_from, eq-eqb, eqb-true}
+use Rattle.std.proofs.lemmas.Bool.{OnFalse_from, OnTrue_from, eq-eqb, ne_eqb}
 use Rattle.std.proofs.lemmas.Bool.Decides.{nat_tests}
 use Rattle.std.proofs.lemmas.List.{set-get_or}
 use Rattle.std.proofs.lemmas.Option.{slice_get_within}
@@ -11,20 +11,13 @@ use Rattle.view_parts.specs.declared.known.KnownEnd.TheVariants.{Unknown}
 use Rattle.view_parts.specs.declared.notes.Note.{Note}
 use Rattle.view_parts.specs.Notes.{ends_from, note_before, told_of}
 
-not_same : (a b : ℕ) → (a ≡ b → ⊥) → (a == b) ≡ false
-not_same a b other = by_test (a == b) refl
-  where
-    by_test : (same : Bool) → (a == b) ≡ same → (a == b) ≡ false
-    by_test true is = absurd (other (eqb-true a b is))
-    by_test false is = is
-
 -- ## What a note tells
 
 pub told_own : (id : ℕ) (note : Note) → note.id ≡ id → told_of id (Some note) ≡ note.end
 told_own id note is = ap (λ (same : Bool). if same then note.end else Unknown) (eq-eqb note.id id is)
 
 pub told_other : (id : ℕ) (note : Note) → (note.id ≡ id → ⊥) → told_of id (Some note) ≡ Unknown
-told_other id note other = ap (λ (same : Bool). if same then note.end else Unknown) (not_same note.id id other)
+told_other id note other = ap (λ (same : Bool). if same then note.end else Unknown) (ne_eqb note.id id other)
 
 -- one more note tells nothing of other items
 note_added : (notes : List Note) (note : Note) (id at : ℕ) → (note.id ≡ id → ⊥) → told_of id (slice_get (notes ++ note ∷ []) at) ≡ told_of id (slice_get notes at)
