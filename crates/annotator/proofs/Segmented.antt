@@ -1,5 +1,7 @@
 -- The tokens of a view, made segment by segment.
-use Rattle.std.proofs.Common.{◌≡◌, ◌∙◌, ℕ, zero, suc, ◌==◌, ◌+◌, ◌-◌, ◌<◌, ◌≤◌, Bool, true, false, ◌&&◌, not, nat_lt, List, [], ◌∷◌, ◌++◌, length, map, drop, get_or, append_assoc, length-append, refl, sym, ap, subst, arith, eq-eqb}
+use Rattle.std.proofs.Common.{◌≡◌, ◌∙◌, ℕ, zero, suc, ◌==◌, ◌+◌, ◌-◌, ◌<◌, ◌≤◌, Bool, true, false, ◌&&◌, not, nat_lt, Some, List, [], ◌∷◌, ◌++◌, length, map, drop, get_or, append_assoc, length-append, refl, sym, ap, subst, arith, eq-eqb}
+use Rattle.std.specs.Prelude.{slice_get}
+use Rattle.std.proofs.lemmas.Option.{get_or_from_slice_get}
 use Rattle.std.proofs.Math.ListN.{drop_of_length-le}
 use Rattle.std.proofs.Math.Seq.{drop-cons, get_or-append_seam}
 use Rattle.token_arena.specs.declared.view.Segment.{Segment}
@@ -8,7 +10,8 @@ use Rattle.token_arena.proofs.SegmentLemmas.{item_at_start, length_items}
 use Rattle.token_arena.specs.Gaps.{Contents}
 use Rattle.line_tokens.specs.declared.LineTok.{LineTok}
 use Rattle.annotator.specs.declared.mark.Mark.{Mark}
-use Rattle.annotator.specs.Held.{is_held, TellsHeld}
+use Rattle.annotator.specs.Classes.{is_hash}
+use Rattle.annotator.specs.Held.{is_held, is_inner, TellsHeld}
 use Rattle.annotator.specs.Left.{no_token, outside}
 use Rattle.annotator.specs.Tokens.{stands_apart, tok_of, toks_from, IsPushed}
 
@@ -123,3 +126,18 @@ told_on arena id apart marks toks after push d some =
     let last : length after - 1 ≡ k = omega (arith, longer toks after tok made) in
     let here : get_or after (length after - 1) d ≡ tok = ap (λ n. get_or after n d) last ∙ (ap (λ (xs : List LineTok). get_or xs k d) made ∙ get_or-append_seam toks tok [] d) in
     ap (λ (t : LineTok). t.held) here ∙ ap (λ n. is_held (drop n marks)) (sym last)
+
+not_held : (marks : List Mark) (k : ℕ) (mark : Mark) → slice_get marks k ≡ Some mark → is_inner mark.seen.role ≡ false → is_hash mark.seen.class ≡ false → false ≡ is_held (drop k marks)
+not_held [] k mark is inner hash = cc
+not_held (m ∷ marks) zero mark is inner hash =
+    let same : m ≡ mark = cc in
+    subst (λ (x : Mark). false ≡ is_held (x ∷ marks)) (sym same) (rw (hash, inner) refl)
+not_held (m ∷ marks) (suc k) mark is inner hash = not_held marks k mark is inner hash
+
+-- a token that is no inner comment and no `#` is the next one
+pub plain_pushed : (arena : Contents) (id : ℕ) (apart : Bool) (marks : List Mark) (toks after : List LineTok) (mark : Mark) → slice_get marks (length toks) ≡ Some mark
+    → is_inner mark.seen.role ≡ false → is_hash mark.seen.class ≡ false → after ≡ toks ++ tok_of arena id apart mark false ∷ [] → IsPushed arena id apart marks toks after
+plain_pushed arena id apart marks toks after mark is inner hash made d =
+    made
+    ∙ (ap (λ (held : Bool). toks ++ tok_of arena id apart mark held ∷ []) (not_held marks (length toks) mark is inner hash)
+    ∙ ap (λ (m : Mark). toks ++ tok_of arena id apart m (is_held (drop (length toks) marks)) ∷ []) (sym (get_or_from_slice_get marks (length toks) mark d is)))

@@ -13,7 +13,7 @@ loop-id-init c =
     let toks = c.args.toks.now.items in
     let none : length toks ≡ length toks + 0 = omega arith in
     let at : get_or ids (length toks) 0 ≡ first = ap (λ n. get_or ids n 0) none ∙ c.requires.items 0 (omega (arith, c.requires.some)) ∙ omega arith in
-    let places : c.len.result ≡ length toks = c.len.ensures ∙ c.args.toks.now.ok.0 in
+    let places : c.len-place.result ≡ length toks = c.len-place.ensures ∙ c.args.toks.now.ok.0 in
     record {
       from = omega arith;
       until = omega (arith, c.requires.some);
@@ -23,7 +23,7 @@ loop-id-init c =
       edge = c.edge_at-edge.ensures;
       left = subst (λ (e : Edge). TellsTouch arena first c.edge_before-left.result e) (sym c.edge_at-edge.ensures) c.edge_before-left.ensures;
       apart = c.stands_apart-apart.ensures
-          ∙ (apart_first ids c.len.result c.args.before first (ap (λ n. get_or ids n 0) places ∙ at)
+          ∙ (apart_first ids c.len-place.result c.args.before first (ap (λ n. get_or ids n 0) places ∙ at)
           (λ some. ap (λ n. get_or ids (n - 1) 0) places ∙ c.requires.before (subst (λ n. 0 < n) places some))
           ∙ ap (λ n. stands_apart ids n) places);
       told = c.requires.told;
