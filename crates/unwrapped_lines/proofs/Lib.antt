@@ -3,6 +3,7 @@ pub mod Examples
 pub mod ScanLemmas
 pub mod StackLemmas
 pub mod FormLemmas
+pub mod SimpleLemmas
 pub mod TurnLemmas
 pub mod EndLemmas
 pub mod CutLemmas

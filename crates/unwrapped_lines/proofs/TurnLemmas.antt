@@ -7,6 +7,7 @@ use Rattle.unwrapped_lines.specs.declared.open.Open.{Open}
 use Rattle.unwrapped_lines.specs.declared.open.Start.{Start}
 use Rattle.unwrapped_lines.specs.declared.open.Start.TheVariants.{Fresh, Tail, Closing}
 use Rattle.unwrapped_lines.specs.declared.form.Form.{Form}
+use Rattle.line_tokens.specs.declared.line.LineKind.TheVariants.{Simple}
 use Rattle.unwrapped_lines.specs.declared.open.Head.{Head}
 use Rattle.unwrapped_lines.specs.declared.tree.Place.{Place}
 use Rattle.unwrapped_lines.specs.declared.form.Next.{Next}
@@ -81,6 +82,15 @@ stays_turn braces tokens out0 out1 line o os start s2 at f (Goes g) s lt e q sta
     subst P (sym leaves) (put braces tokens _ out1 _ (o ∷ os) g f.end (pushed_line out0 out1 line (line_of o start at f) l eo) refl t)
 stays_turn braces tokens out0 out1 line o os start s2 at f (Waits h) s lt e q stay leaves l eo = absurd leaves
 stays_turn braces tokens out0 out1 line o os start s2 at f (Opens w b) s lt e q stay leaves l eo = absurd leaves
+
+-- as a simple line does
+pub simple_turn : (braces : Braces) (tokens : List CodeToken) (out0 out1 : List Line) (line : Line) (o : Open) (os : List Open) (start : Start) (at end : ℕ) (f : Form)
+    → Stands braces tokens out0 (o ∷ os) start at → at < o.end → form_of braces tokens o start at ≡ record { kind = Simple; level = o.level; end = end; next = Ends }
+    → f ≡ record { kind = Simple; level = o.level; end = end; next = Ends } → at < end → end ≤ o.end → o.block ≡ true
+    → line ≡ line_of o start at f → out1 ≡ out0 ++ line ∷ [] → Stands braces tokens out1 (o ∷ os) Fresh end
+simple_turn braces tokens out0 out1 line o os start at end f s lt e ef up within block l eo =
+    let g : Form = record { kind = Simple; level = o.level; end = end; next = Ends } in
+    stays_turn braces tokens out0 out1 line o os start Fresh at g Ends s lt e refl (up, within) (block, refl) (l ∙ ap (λ x. line_of o start at x) ef) eo
 
 -- and is behind its first place
 pub stays_up : (at : ℕ) (o : Open) (f : Form) (n : Next) (s2 : Start) → f.next ≡ n → StaysIn at o f f.next → LeavesOpen o n s2 → at < f.end

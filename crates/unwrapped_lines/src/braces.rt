@@ -1,7 +1,7 @@
 //! Where the braces of blocks stand, and how labels are indented.
 
 ghost use Rattle.std.specs.Prelude.{◌≡◌};
-ghost use Rattle.unwrapped_lines.specs.Wrapping.{always_wraps, plain_braces, custom_braces, braces_of};
+ghost use Rattle.unwrapped_lines.specs.Wrapping.{plain_braces, custom_braces, braces_of};
 
 use style_table::{BraceWrappingAfterControlStatement, BreakBeforeBraces, Style};
 
@@ -32,16 +32,6 @@ pub struct Braces {
     pub indent_goto_labels: bool,
 }
 
-/// Whether the key says that the `{` of a control statement begins a line.
-fn always_wraps(key: BraceWrappingAfterControlStatement) -> bool
-    ensures { result ≡ always_wraps key }
-{
-    match key {
-        BraceWrappingAfterControlStatement::Never => false,
-        BraceWrappingAfterControlStatement::Always => true,
-    }
-}
-
 /// No `{` begins a line; labels as the style has them.
 fn plain_braces(style: &Style) -> Braces
     ensures { result ≡ plain_braces style.now }
@@ -67,7 +57,10 @@ fn custom_braces(style: &Style) -> Braces
 {
     Braces {
         after_case_label: style.brace_wrapping_after_case_label,
-        after_control: always_wraps(style.brace_wrapping_after_control_statement),
+        after_control: matches!(
+            style.brace_wrapping_after_control_statement,
+            BraceWrappingAfterControlStatement::Always
+        ),
         after_enum: style.brace_wrapping_after_enum,
         after_extern: style.brace_wrapping_after_extern_block,
         after_function: style.brace_wrapping_after_function,

@@ -65,23 +65,15 @@ fn scan_colon(tokens: &[CodeToken], end: usize, at: usize) -> usize
     end
 }
 
-/// Whether the colon of the `case` at a place stands among the next few tokens, or no more of them follow.
-fn is_near(tokens: &[CodeToken], at: usize) -> bool
-    requires { at < length tokens.now }
-{
-    if tokens.len() - at <= NEAR {
-        return true;
-    }
-    let end = at + NEAR;
-    scan_colon(tokens, end, at) < end
-}
-
-/// Whether the colon of some `case` isn't near it.
+/// Whether the colon of some `case` doesn't stand among the next few tokens, though more of them follow.
 fn has_far_case(tokens: &[CodeToken]) -> bool {
     let mut i = 0;
     while i < tokens.len() {
-        if class_at(tokens, i).is_case() && !is_near(tokens, i) {
-            return true;
+        if class_at(tokens, i).is_case() && NEAR < tokens.len() - i {
+            let end = i + NEAR;
+            if scan_colon(tokens, end, i) == end {
+                return true;
+            }
         }
         i += 1;
     }

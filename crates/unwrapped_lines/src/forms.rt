@@ -454,7 +454,7 @@ fn other_form(
 
 /// A line alone.
 #[inline(always)]
-fn line_alone(kind: LineKind, level: u32, end: usize) -> Form
+pub fn line_alone(kind: LineKind, level: u32, end: usize) -> Form
     ensures { result ≡ record { kind = kind; level = level; end = end; next = Ends } }
 {
     Form {

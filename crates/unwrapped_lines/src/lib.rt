@@ -13,6 +13,7 @@ mod lookups;
 mod open;
 mod part;
 mod scans;
+mod simple;
 mod token;
 mod tree;
 mod viewed;

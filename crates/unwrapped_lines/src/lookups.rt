@@ -124,20 +124,13 @@ pub fn block_end(tokens: &[CodeToken], end: usize, place: usize) -> usize
 }
 
 #[inline(always)]
-pub fn class_before(tokens: &[CodeToken], place: usize) -> TokenClass
-    ensures { result ≡ class_before tokens.now place }
-{
-    if place > 0 {
-        class_at(tokens, place - 1)
-    } else {
-        TokenClass::Nothing
-    }
-}
-
-#[inline(always)]
 pub fn opens_list(tokens: &[CodeToken], assigned: bool, place: usize) -> bool
     ensures { result ≡ opens_list tokens.now assigned place }
 {
-    let before = class_before(tokens, place);
+    let before = if place > 0 {
+        class_at(tokens, place - 1)
+    } else {
+        TokenClass::Nothing
+    };
     before.is_before_list() || (before.is_close_round() && assigned)
 }

@@ -5,16 +5,16 @@ ghost use Rattle.std.specs.Prelude.{IfSome, IfNone, IfOk, ℕ};
 ghost use Rattle.unwrapped_lines.specs.declared.open.Start.TheVariants.{Fresh};
 ghost use Rattle.unwrapped_lines.specs.Forms.{StaysIn, IsLow, form_of};
 ghost use Rattle.unwrapped_lines.specs.Tree.{settled, lines_of, whole_file, body_of, line_of, head_lines};
-ghost use Rattle.unwrapped_lines.specs.Tree.{comment_level, answers_else, answers_tail};
 ghost use Rattle.unwrapped_lines.specs.Colons.{AreCaseColons};
 ghost use Rattle.unwrapped_lines.specs.Stack.{Stands, IsCut, LeavesOpen, left};
 
 use crate::braces::Braces;
 use crate::form::{Form, Next};
-use crate::forms::{form_of, tail_end};
+use crate::forms::{form_of, line_alone, tail_end};
 use crate::line::Line;
 use crate::lookups::seen;
 use crate::open::{Context, Head, Open, Start};
+use crate::simple::simple_end;
 use crate::token::CodeToken;
 use bumpalo::Bump;
 use line_tokens::{LineKind, NoMemory};
@@ -27,21 +27,6 @@ const TOKENS_IN_A_LINE: usize = 4;
 pub struct Place {
     pub start: Start,
     pub at: usize,
-}
-
-/// Whether an `else` goes on with the statement of a header.
-fn answers_else(tokens: &[CodeToken], opened: Open, at: usize) -> bool
-    ensures { result ≡ answers_else tokens.now opened at }
-{
-    opened.head.is_if() && seen(tokens, opened.end, at).is_else()
-}
-
-/// Whether the tail of a `do` goes on with the statement of a header.
-fn answers_tail(tokens: &[CodeToken], opened: Open, at: usize) -> bool
-    requires { at < 2 ^ 33 }
-    ensures { result ≡ answers_tail tokens.now opened at }
-{
-    opened.head.is_do() && at < tail_end(tokens, opened.end, at)
 }
 
 /// Ends the headers that waited for the statement that has ended.
@@ -61,10 +46,10 @@ pub(crate) fn settle(
             return Ok(Start::Fresh);
         }
         stack.pop();
-        if answers_else(tokens, o, at) {
+        if o.head.is_if() && seen(tokens, o.end, at).is_else() {
             return Ok(Start::Fresh);
         }
-        if answers_tail(tokens, o, at) {
+        if o.head.is_do() && at < tail_end(tokens, o.end, at) {
             return Ok(Start::Tail);
         }
     }
@@ -85,12 +70,15 @@ fn leave(stack: &mut Vec<Open, &Bump>) -> Option<Open>
     None
 }
 
-/// The level of an own comment before a line.
+/// The line at a place.
 #[inline(always)]
-fn comment_level(opened: Open, start: Start, form: Form) -> u32
-    ensures { result ≡ comment_level opened start form }
+fn line_of(opened: Open, start: Start, at: usize, form: Form) -> Line
+    requires begins { at < 2 ^ 32 }
+    requires ends { form.end < 2 ^ 32 }
+    ensures { result ≡ line_of opened start at form }
 {
-    match start {
+    // An own comment has the level of the line's list, but before a label that of the label.
+    let list_level = match start {
         Start::Fresh => {
             if form.kind.is_label() {
                 form.level
@@ -99,23 +87,14 @@ fn comment_level(opened: Open, start: Start, form: Form) -> u32
             }
         }
         Start::Tail => opened.level,
-        Start::Closing(b) => b.level,
-    }
-}
-
-/// The line at a place.
-#[inline(always)]
-fn line_of(opened: Open, start: Start, at: usize, form: Form) -> Line
-    requires begins { at < 2 ^ 32 }
-    requires ends { form.end < 2 ^ 32 }
-    ensures { result ≡ line_of opened start at form }
-{
+        Start::Closing(block) => block.level,
+    };
     Line {
         first: at as u32,
         end: form.end as u32,
         level: form.level,
         kind: form.kind,
-        list_level: comment_level(opened, start, form),
+        list_level,
     }
 }
 
@@ -133,8 +112,9 @@ fn push_head(
     requires ends { form.end + 1 < 2 ^ 32 }
     ensures { IfOk result (λ u. out.new.items ≡ out.old.items ++ head_lines opened start at form wrapped) }
 {
+    let line = line_of(opened, start, at, form);
     if wrapped {
-        out.push(line_of(opened, start, at, form))?;
+        out.push(line)?;
         out.push(Line {
             first: form.end as u32,
             end: form.end as u32 + 1,
@@ -144,11 +124,8 @@ fn push_head(
         })?;
     } else {
         out.push(Line {
-            first: at as u32,
-            end: form.end as u32 + 1,
-            level: form.level,
-            kind: form.kind,
-            list_level: comment_level(opened, start, form),
+            end: line.end + 1,
+            ..line
         })?;
     }
     Ok(())
@@ -341,6 +318,15 @@ fn turn(
 {
     let mut place = from;
     while place.at < opened.end {
+        if let Some(end) = simple_end(tokens, opened, place.start, place.at) {
+            let form = line_alone(LineKind::Simple, opened.level, end);
+            out.push(line_of(opened, place.start, place.at, form))?;
+            place = Place {
+                start: Start::Fresh,
+                at: end,
+            };
+            continue;
+        }
         let formed = form_of(braces, tokens, colons, opened, place.start, place.at);
         let Some(start) = start_behind(opened, formed) else {
             return take_line(braces, tokens, out, stack, opened, place, formed);

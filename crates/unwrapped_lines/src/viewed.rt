@@ -1,11 +1,12 @@
 //! A view as a list of tokens and comments.
 
-ghost use Rattle.std.specs.Prelude.{◌≡◌, ◌&&◌, ◌<◌, ◌≤◌, ◌+◌, length, map, get_or};
+ghost use Rattle.std.specs.Prelude.{◌≡◌, ◌&&◌, ◌<◌, ◌≤◌, ◌+◌, ◌^◌, [], ◌∷◌, ◌++◌, nat_lt, length, map, get_or};
 ghost use Rattle.std.specs.Prelude.{slice_get, vec_capacity, IfOk, Some, true, false};
 ghost use Rattle.token_classes.specs.Viewed.{AreWithin};
 ghost use Rattle.token_classes.specs.Classes.{is_colon, is_comment};
-ghost use Rattle.unwrapped_lines.specs.Viewed.{line_ends_behind, colon_touches, numbers_of, AreTokensBefore, AreCommentsBefore};
-ghost use Rattle.unwrapped_lines.specs.Viewed.{segment_stop, partner_number, partner_numbers, code_tokens};
+ghost use Rattle.unwrapped_lines.specs.Viewed.{line_ends_behind, colon_touches, numbers_of, AreTokensBefore};
+ghost use Rattle.unwrapped_lines.specs.Viewed.{AreCommentsBefore, segment_stop, partner_number, partner_numbers};
+ghost use Rattle.unwrapped_lines.specs.Viewed.{code_tokens};
 ghost use Rattle.unwrapped_lines.specs.Viewed.{comments_of, part_of, parts_of};
 ghost use Rattle.unwrapped_lines.specs.Comments.{parts_with};
 ghost use Rattle.token_arena.specs.Gaps.{item_began};
@@ -22,13 +23,6 @@ use token_classes::{Partner, TokenClass, item_class};
 /// So many tokens or more stand to a comment in most texts.
 const TOKENS_TO_A_COMMENT: usize = 16;
 
-/// Whether an item began its line.
-fn item_began(arena: &TokenArena<'_, '_>, id: u32) -> bool
-    ensures { result ≡ item_began arena.now id }
-{
-    id < arena.len() && arena.get(TokenId(id)).gap.began
-}
-
 /// Whether the item with a number began its line.
 #[inline(always)]
 fn began(arena: &TokenArena<'_, '_>, id: u32) -> bool
@@ -44,7 +38,7 @@ fn line_ends_behind(arena: &TokenArena<'_, '_>, id: u32) -> bool
     ensures { result ≡ line_ends_behind arena.now id }
 {
     let count = arena.len();
-    count <= id + 1 || item_began(arena, id + 1)
+    count <= id + 1 || began(arena, id + 1)
 }
 
 /// Whether a colon comes directly behind an item, with nothing between them.
@@ -134,7 +128,7 @@ pub fn comment_part(arena: &TokenArena<'_, '_>, id: u32, started: bool, class: T
     requires comment { is_comment class ≡ true }
     ensures { result ≡ part_of arena.now id started class }
 {
-    if !started || item_began(arena, id) {
+    if !started || began(arena, id) {
         return Part::Own;
     }
     if class.is_line_comment() || line_ends_behind(arena, id) {
@@ -143,14 +137,13 @@ pub fn comment_part(arena: &TokenArena<'_, '_>, id: u32, started: bool, class: T
     Part::Inner
 }
 
-/// Whether the item with a number, of this class, is a comment, a colon, a `case` or the first of its text. Of any other
-/// item the new-lines before it alone tell whether it began its line.
+/// Whether an item of this class is a comment, a colon or a `case`: of these more is told than of other items.
 #[inline(always)]
-fn is_other(class: TokenClass, id: u32) -> bool
+fn is_other(class: TokenClass) -> bool
     ensures comment { result ≡ false → is_comment class ≡ false }
     ensures colon { result ≡ false → is_colon class ≡ false }
 {
-    id == 0 || class.is_comment() || class.is_colon() || class.is_case()
+    class.is_comment() || class.is_colon() || class.is_case()
 }
 
 /// The comments of a view, and whether it has a `case`.
@@ -158,6 +151,28 @@ fn is_other(class: TokenClass, id: u32) -> bool
 pub(crate) struct Noted<'r> {
     pub(crate) comments: Vec<ViewComment, &'r Bump>,
     pub(crate) has_case: bool,
+}
+
+/// Notes the comment at a place, which is the item with this number.
+#[inline(never)]
+fn note_comment(
+    arena: &TokenArena<'_, '_>,
+    id: u32,
+    place: usize,
+    class: TokenClass,
+    noted: &mut Noted<'_>,
+) -> Result<(), NoMemory>
+    requires item { id < length arena.now.tokens }
+    requires comment { is_comment class ≡ true }
+    requires place { place < 2 ^ 32 }
+    ensures { IfOk result (λ u. noted.new.comments.items ≡ noted.old.comments.items ++ record { place = place; part = part_of arena.now id (nat_lt (length noted.old.comments.items) place) class } ∷ []) }
+{
+    let started = noted.comments.len() < place;
+    noted.comments.push(ViewComment {
+        place: place as u32,
+        part: comment_part(arena, id, started, class),
+    })?;
+    Ok(())
 }
 
 /// Appends the token at a place of a segment, or notes the comment there.
@@ -194,11 +209,7 @@ fn push_other<'r>(
     let segment = segments[number];
     let id = segment.first + (place as u32 - segment.before);
     if class.is_comment() {
-        let started = noted.comments.len() < place;
-        noted.comments.push(ViewComment {
-            place: place as u32,
-            part: comment_part(arena, id, started, class),
-        })?;
+        note_comment(arena, id, place, class, noted)?;
         return Ok(tokens);
     }
     noted.has_case |= class.is_case();
@@ -247,9 +258,21 @@ fn push_segment<'r>(
     let near = end.min(partners.len());
     let mut tokens = tokens;
     let mut place = from;
-    for id in first..first + near.saturating_sub(from) as u32 {
+    // The first item of a text began its line, whatever stands before it: of others the new-lines there tell.
+    if first == 0 {
+        tokens = push_other(
+            arena, segments, number, place, classes, numbers, partners, tokens, noted, run,
+        )?;
+        place += 1;
+    }
+    for id in first.max(1)..first + near.saturating_sub(from) as u32 {
         let class = classes[place];
-        if is_other(class, id) {
+        if is_other(class) {
+            if class.is_comment() {
+                note_comment(arena, id, place, class, noted)?;
+                place += 1;
+                continue;
+            }
             tokens = push_other(
                 arena, segments, number, place, classes, numbers, partners, tokens, noted, run,
             )?;
@@ -275,7 +298,7 @@ fn push_segment<'r>(
 
 /// A view's tokens that are no comments, with their partners, and what is noted of it.
 #[derive(Drop)]
-pub(crate) struct Read<'r> {
+pub(crate) struct ViewTokens<'r> {
     pub(crate) tokens: Vec<CodeToken, &'r Bump>,
     pub(crate) noted: Noted<'r>,
 }
@@ -287,7 +310,7 @@ pub(crate) fn read_view<'r>(
     classes: &[TokenClass],
     partners: &[Partner],
     run: &'r Bump,
-) -> Result<Read<'r>, NoMemory>
+) -> Result<ViewTokens<'r>, NoMemory>
     requires within { AreWithin arena.now view.now }
     requires places { length classes.now ≡ length view.now }
     requires few { length classes.now ≤ LIMIT }
@@ -311,5 +334,5 @@ pub(crate) fn read_view<'r>(
             arena, segments, number, classes, &numbers, partners, tokens, &mut noted, run,
         )?;
     }
-    Ok(Read { tokens, noted })
+    Ok(ViewTokens { tokens, noted })
 }

@@ -1,4 +1,4 @@
-use Rattle.std.proofs.Common.{◌≡◌, ◌≤◌, ◌+◌, ◌-◌, map, get_or}
+use Rattle.std.proofs.Common.{◌≡◌, ◌≤◌, ◌+◌, map, get_or}
 use Rattle.std.specs.Prelude.{vec_capacity}
 use Rattle.token_arena.specs.Segments.{ids_of, segment_bounds, no_segment}
 use Rattle.unwrapped_lines.specs.Viewed.{AreTokensBefore, AreCommentsBefore, segment_stop}
@@ -11,7 +11,7 @@ invariant-loop-id l = record {
   comments : AreCommentsBefore l.arena (ids_of (map segment_bounds l.segments)) l.classes l.place l.noted.comments.items;
   room : vec_capacity l.tokens ≡ vec_capacity l.fn.tokens;
   least : (get_or l.segments l.number no_segment).before ≤ l.place;
-  most : l.place ≤ (get_or l.segments l.number no_segment).before + (l.near - (get_or l.segments l.number no_segment).before);
+  most : l.place ≤ segment_stop (get_or l.segments l.number no_segment);
 }
 
 abbrev pub invariant-loop-far : goal.invariant-loop-far
