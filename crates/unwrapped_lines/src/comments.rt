@@ -5,7 +5,7 @@ ghost use Rattle.std.specs.Prelude.{slice_get, ℕ};
 ghost use Rattle.unwrapped_lines.specs.declared.part.Part.{Part};
 ghost use Rattle.unwrapped_lines.specs.declared.part.Run.TheVariants.{Apart};
 ghost use Rattle.unwrapped_lines.specs.Comments.{token_follows, between_at, is_between, new_begin, next_marks};
-ghost use Rattle.unwrapped_lines.specs.Comments.{begins_from, no_marks, list_of, begins_line, inner_run, parts_with};
+ghost use Rattle.unwrapped_lines.specs.Comments.{begins_from, no_marks, list_of, begins_line, parts_with};
 ghost use Rattle.unwrapped_lines.specs.Comments.{FollowFrom};
 
 use crate::line::Line;
@@ -106,21 +106,6 @@ fn new_begin(
 }
 
 #[inline(always)]
-fn inner_run(between: bool, comments: &[ViewComment], count: usize, behind: usize, run: Run) -> Run
-    ensures { result ≡ inner_run between (parts_with (count - behind) behind comments.now) run }
-{
-    if between && run == Run::Apart {
-        if token_follows(comments, count, behind) {
-            Run::Begun
-        } else {
-            Run::Joined
-        }
-    } else {
-        run
-    }
-}
-
-#[inline(always)]
 fn next_marks(
     lines: &[Line],
     total: usize,
@@ -162,7 +147,15 @@ fn next_marks(
         Part::Inner => Marks {
             seen: marks.seen,
             begun: marks.begun,
-            run: inner_run(between, comments, count, index + 1, marks.run),
+            run: if between && marks.run == Run::Apart {
+                if token_follows(comments, count, index + 1) {
+                    Run::Begun
+                } else {
+                    Run::Joined
+                }
+            } else {
+                marks.run
+            },
         },
     }
 }

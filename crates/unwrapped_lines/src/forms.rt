@@ -1,6 +1,6 @@
 //! The cases of a statement: what line begins at a place, where it ends, and what it leaves open.
 
-ghost use Rattle.std.specs.Prelude.{◌≡◌, ◌<◌, ◌≤◌, ◌+◌, ◌-◌, ◌*◌, ◌^◌, length, slice_get, Some, None, IfSome, true};
+ghost use Rattle.std.specs.Prelude.{◌≡◌, ◌<◌, ◌≤◌, ◌+◌, ◌-◌, ◌*◌, ◌^◌, length, Some, None, IfSome, true};
 ghost use Rattle.std.specs.Prelude.{false, ℕ};
 ghost use Rattle.unwrapped_lines.specs.declared.form.Next.TheVariants.{Ends, Opens};
 ghost use Rattle.unwrapped_lines.specs.declared.open.Context.TheVariants.{Code, File};
@@ -9,10 +9,10 @@ ghost use Rattle.unwrapped_lines.specs.declared.open.Head.TheVariants.{Plain};
 ghost use Rattle.std.specs.Bool.{OnTrue, OnFalse};
 ghost use Rattle.token_classes.specs.Classes.{is_open_brace};
 ghost use Rattle.unwrapped_lines.specs.Colons.{AreCaseColons};
-ghost use Rattle.unwrapped_lines.specs.Forms.{class_at, seen, partner_in, after_group, step_over, block_end, began_at};
-ghost use Rattle.unwrapped_lines.specs.Forms.{touched_at, has_no_partner, case_colon, enumerator_end, class_before};
-ghost use Rattle.unwrapped_lines.specs.Forms.{opens_list, statement_stop, call_opener, tag_before, block_at};
-ghost use Rattle.unwrapped_lines.specs.Forms.{label_form, goto_level, label, header_end, head_of, label_level};
+ghost use Rattle.unwrapped_lines.specs.Forms.{class_at, seen, after_group, block_end, began_at};
+ghost use Rattle.unwrapped_lines.specs.Forms.{touched_at, has_no_partner, enumerator_end};
+ghost use Rattle.unwrapped_lines.specs.Forms.{statement_stop, tag_before, block_at};
+ghost use Rattle.unwrapped_lines.specs.Forms.{label_form, goto_level, label, header_end, head_of};
 ghost use Rattle.unwrapped_lines.specs.Forms.{control_block, control_form, tail_end, ends_macro, macro_end};
 ghost use Rattle.unwrapped_lines.specs.Forms.{tagged_kind, wraps_tagged, tagged_context, tagged_head, behind_close};
 ghost use Rattle.unwrapped_lines.specs.Forms.{kind_or_close, is_member_word, other_form, unlabelled, statement};
@@ -208,18 +208,6 @@ fn head_of(tokens: &[CodeToken], end: usize, at: usize) -> Head
     }
 }
 
-fn label_level(braces: &Braces, level: u32) -> u32
-    requires { level < 2 ^ 31 }
-    ensures same { result ≡ label_level braces.now level }
-    ensures most { result ≤ level + 1 }
-{
-    if braces.indent_case_labels {
-        level + 1
-    } else {
-        level
-    }
-}
-
 #[inline(always)]
 fn control_block(
     braces: &Braces,
@@ -239,8 +227,12 @@ fn control_block(
     ensures case_level { result.case_level ≤ level + 2 }
     ensures head_level { result.head_level ≡ level }
 {
-    if head.is_switch() {
-        let case_level = label_level(braces, level);
+    if matches!(head, Head::Switch) {
+        let case_level = if braces.indent_case_labels {
+            level + 1
+        } else {
+            level
+        };
         Open {
             block: true,
             context: Context::Code,
@@ -618,7 +610,7 @@ pub fn close_form(
     ensures level { result.level ≤ 2 * at }
 {
     let level = around.head_level;
-    if around.head.is_tagged() {
+    if matches!(around.head, Head::Tagged) {
         return other_form(braces, tokens, opened, true, level, at, around.assigned);
     }
     let t = tail_end(tokens, opened.end, at + 1);

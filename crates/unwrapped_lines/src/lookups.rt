@@ -1,8 +1,8 @@
 //! What stands at a place of the tokens: its class, its group, its partner.
 
-ghost use Rattle.std.specs.Prelude.{◌≡◌, ◌<◌, ◌≤◌, ◌+◌, ◌-◌, length, slice_get, IfSome};
+ghost use Rattle.std.specs.Prelude.{◌≡◌, ◌<◌, ◌≤◌, ◌+◌, ◌-◌, length, IfSome};
 ghost use Rattle.unwrapped_lines.specs.Forms.{class_at, seen, partner_in, after_group, step_over, block_end, began_at};
-ghost use Rattle.unwrapped_lines.specs.Forms.{touched_at, has_no_partner, class_before, opens_list};
+ghost use Rattle.unwrapped_lines.specs.Forms.{touched_at, has_no_partner, opens_list};
 
 use crate::token::CodeToken;
 use token_classes::TokenClass;

@@ -1,8 +1,7 @@
 //! Open lists of statements.
 
 ghost use Rattle.std.specs.Prelude.{◌≡◌};
-ghost use Rattle.unwrapped_lines.specs.Forms.{is_code, is_enumerators, is_switch_head, is_if_head, is_do_head};
-ghost use Rattle.unwrapped_lines.specs.Forms.{is_tagged};
+ghost use Rattle.unwrapped_lines.specs.Forms.{is_code, is_enumerators, is_if_head, is_do_head};
 
 /// What a list holds.
 #[derive(Clone, Copy, PartialEq, Eq)]
@@ -61,20 +60,6 @@ impl Head {
         ensures { result ≡ is_do_head self }
     {
         matches!(self, Head::Do)
-    }
-
-    /// `switch`.
-    pub fn is_switch(self) -> bool
-        ensures { result ≡ is_switch_head self }
-    {
-        matches!(self, Head::Switch)
-    }
-
-    /// A struct, union or enum.
-    pub fn is_tagged(self) -> bool
-        ensures { result ≡ is_tagged self }
-    {
-        matches!(self, Head::Tagged)
     }
 }
 

@@ -1,11 +1,11 @@
 //! Scans outside brackets.
 
-ghost use Rattle.std.specs.Prelude.{◌≡◌, ◌<◌, ◌≤◌, ◌+◌, ◌-◌, ◌*◌, ◌^◌, length, slice_get, Some, None, IfSome, true};
+ghost use Rattle.std.specs.Prelude.{◌≡◌, ◌<◌, ◌≤◌, ◌+◌, ◌-◌, length, slice_get, Some, None, true};
 ghost use Rattle.std.specs.Bool.{OnFalse, OnTrue};
 ghost use Rattle.token_classes.specs.Classes.{is_open_brace};
 ghost use Rattle.token_classes.specs.declared.class.TokenClass.TheVariants.{Nothing};
 ghost use Rattle.unwrapped_lines.specs.Forms.{enumerator_end, statement_stop, call_opener, tag_before, behind};
-ghost use Rattle.unwrapped_lines.specs.Forms.{partner_of, opens_block, assigns, is_member_word, enum_or, class_at};
+ghost use Rattle.unwrapped_lines.specs.Forms.{partner_of, opens_block, is_member_word, class_at};
 
 use crate::form::Stop;
 use crate::lookups::{class_at, opens_list, step_over};
@@ -31,28 +31,16 @@ pub fn enumerator_end(tokens: &[CodeToken], end: usize, at: usize) -> usize
     end
 }
 
-fn opens_block(tokens: &[CodeToken], assigned: bool, place: usize) -> bool
-    ensures { result ≡ opens_block tokens.now assigned place }
-{
-    class_at(tokens, place).is_open_brace() && !opens_list(tokens, assigned, place)
-}
-
-fn assigns(tokens: &[CodeToken], assigned: bool, place: usize) -> bool
-    ensures { result ≡ assigns tokens.now assigned place }
-{
-    assigned || class_at(tokens, place).is_assigning()
-}
-
 pub fn is_member_word(class: TokenClass) -> bool
     ensures { result ≡ is_member_word class }
 {
     class.is_struct() || class.is_union()
 }
 
-fn enum_or(class: TokenClass, found: TokenClass) -> TokenClass
-    ensures { result ≡ enum_or class found }
+fn opens_block(tokens: &[CodeToken], assigned: bool, place: usize) -> bool
+    ensures { result ≡ opens_block tokens.now assigned place }
 {
-    if class.is_enum() { class } else { found }
+    class_at(tokens, place).is_open_brace() && !opens_list(tokens, assigned, place)
 }
 
 /// Where a statement that is no other case ends.
@@ -71,7 +59,8 @@ pub fn statement_stop(tokens: &[CodeToken], end: usize, from: usize, assigned: b
     let mut i = from;
     let mut assigned = assigned;
     while i < end {
-        if class_at(tokens, i).is_semicolon() {
+        let class = class_at(tokens, i);
+        if class.is_semicolon() {
             return Stop {
                 at: i + 1,
                 opens: false,
@@ -85,7 +74,7 @@ pub fn statement_stop(tokens: &[CodeToken], end: usize, from: usize, assigned: b
                 assigned,
             };
         }
-        assigned = assigns(tokens, assigned, i);
+        assigned |= class.is_assigning();
         i = step_over(tokens, end, i);
     }
     Stop {
@@ -145,7 +134,9 @@ pub fn tag_before(tokens: &[CodeToken], first: usize, brace: usize) -> TokenClas
             return c;
         }
         if c.is_word() {
-            found = enum_or(c, found);
+            if c.is_enum() {
+                found = c;
+            }
             i -= 1;
         } else {
             let o = call_opener(tokens, first, i);

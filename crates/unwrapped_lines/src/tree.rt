@@ -1,9 +1,9 @@
 //! The lines of a view, with a stack of open lists.
 
-ghost use Rattle.std.specs.Prelude.{◌≡◌, ◌<◌, ◌≤◌, ◌+◌, ◌-◌, ◌*◌, ◌^◌, ◌∷◌, [], ◌++◌, reverse, length, Some, None};
-ghost use Rattle.std.specs.Prelude.{IfSome, IfNone, IfOk, ℕ};
+ghost use Rattle.std.specs.Prelude.{◌≡◌, ◌<◌, ◌≤◌, ◌+◌, ◌-◌, ◌*◌, ◌^◌, ◌∷◌, ◌++◌, reverse, length, Some, None};
+ghost use Rattle.std.specs.Prelude.{IfSome, IfNone, IfOk};
 ghost use Rattle.unwrapped_lines.specs.declared.open.Start.TheVariants.{Fresh};
-ghost use Rattle.unwrapped_lines.specs.Forms.{StaysIn, IsLow, form_of};
+ghost use Rattle.unwrapped_lines.specs.Forms.{StaysIn, form_of};
 ghost use Rattle.unwrapped_lines.specs.Tree.{settled, lines_of, whole_file, body_of, line_of, head_lines};
 ghost use Rattle.unwrapped_lines.specs.Colons.{AreCaseColons};
 ghost use Rattle.unwrapped_lines.specs.Stack.{Stands, IsCut, LeavesOpen, left};

@@ -1,6 +1,6 @@
 //! A view as a list of tokens and comments.
 
-ghost use Rattle.std.specs.Prelude.{◌≡◌, ◌&&◌, ◌<◌, ◌≤◌, ◌+◌, ◌^◌, [], ◌∷◌, ◌++◌, nat_lt, length, map, get_or};
+ghost use Rattle.std.specs.Prelude.{◌≡◌, ◌&&◌, ◌<◌, ◌≤◌, ◌+◌, length, map, get_or};
 ghost use Rattle.std.specs.Prelude.{slice_get, vec_capacity, IfOk, Some, true, false};
 ghost use Rattle.token_classes.specs.Viewed.{AreWithin};
 ghost use Rattle.token_classes.specs.Classes.{is_colon, is_comment};
@@ -41,12 +41,20 @@ fn line_ends_behind(arena: &TokenArena<'_, '_>, id: u32) -> bool
     count <= id + 1 || began(arena, id + 1)
 }
 
-/// Whether a colon comes directly behind an item, with nothing between them.
+/// Whether the item with a number, of this class, is a colon that another colon touches.
 #[inline(never)]
-fn colon_touches(arena: &TokenArena<'_, '_>, id: u32, run: &Bump) -> Result<bool, NoMemory>
+fn touched(
+    arena: &TokenArena<'_, '_>,
+    id: u32,
+    class: TokenClass,
+    run: &Bump,
+) -> Result<bool, NoMemory>
     requires { id < length arena.now.tokens }
-    ensures { IfOk result (λ touches. touches ≡ colon_touches arena.now id) }
+    ensures { IfOk result (λ touched. touched ≡ (is_colon class && colon_touches arena.now id)) }
 {
+    if !class.is_colon() {
+        return Ok(false);
+    }
     let count = arena.len();
     if count <= id + 1 {
         return Ok(false);
@@ -55,8 +63,8 @@ fn colon_touches(arena: &TokenArena<'_, '_>, id: u32, run: &Bump) -> Result<bool
     if !arena.get(next).gap.empty {
         return Ok(false);
     }
-    let class = item_class(arena, next, run)?;
-    Ok(class.is_colon())
+    let behind = item_class(arena, next, run)?;
+    Ok(behind.is_colon())
 }
 
 /// How many tokens that are no comments stand before each place; and behind all of these, no number.
@@ -108,20 +116,6 @@ fn partner_at(
     }
 }
 
-/// Whether the item with a number, of this class, is a colon that another colon touches.
-#[inline(always)]
-fn touched(
-    arena: &TokenArena<'_, '_>,
-    id: u32,
-    class: TokenClass,
-    run: &Bump,
-) -> Result<bool, NoMemory>
-    requires { id < length arena.now.tokens }
-    ensures { IfOk result (λ touched. touched ≡ (is_colon class && colon_touches arena.now id)) }
-{
-    Ok(class.is_colon() && colon_touches(arena, id, run)?)
-}
-
 /// Which of three kinds a comment is.
 pub fn comment_part(arena: &TokenArena<'_, '_>, id: u32, started: bool, class: TokenClass) -> Part
     requires item { id < length arena.now.tokens }
@@ -151,28 +145,6 @@ fn is_other(class: TokenClass) -> bool
 pub(crate) struct Noted<'r> {
     pub(crate) comments: Vec<ViewComment, &'r Bump>,
     pub(crate) has_case: bool,
-}
-
-/// Notes the comment at a place, which is the item with this number.
-#[inline(never)]
-fn note_comment(
-    arena: &TokenArena<'_, '_>,
-    id: u32,
-    place: usize,
-    class: TokenClass,
-    noted: &mut Noted<'_>,
-) -> Result<(), NoMemory>
-    requires item { id < length arena.now.tokens }
-    requires comment { is_comment class ≡ true }
-    requires place { place < 2 ^ 32 }
-    ensures { IfOk result (λ u. noted.new.comments.items ≡ noted.old.comments.items ++ record { place = place; part = part_of arena.now id (nat_lt (length noted.old.comments.items) place) class } ∷ []) }
-{
-    let started = noted.comments.len() < place;
-    noted.comments.push(ViewComment {
-        place: place as u32,
-        part: comment_part(arena, id, started, class),
-    })?;
-    Ok(())
 }
 
 /// Appends the token at a place of a segment, or notes the comment there.
@@ -209,7 +181,11 @@ fn push_other<'r>(
     let segment = segments[number];
     let id = segment.first + (place as u32 - segment.before);
     if class.is_comment() {
-        note_comment(arena, id, place, class, noted)?;
+        let started = noted.comments.len() < place;
+        noted.comments.push(ViewComment {
+            place: place as u32,
+            part: comment_part(arena, id, started, class),
+        })?;
         return Ok(tokens);
     }
     noted.has_case |= class.is_case();
@@ -268,11 +244,6 @@ fn push_segment<'r>(
     for id in first.max(1)..first + near.saturating_sub(from) as u32 {
         let class = classes[place];
         if is_other(class) {
-            if class.is_comment() {
-                note_comment(arena, id, place, class, noted)?;
-                place += 1;
-                continue;
-            }
             tokens = push_other(
                 arena, segments, number, place, classes, numbers, partners, tokens, noted, run,
             )?;

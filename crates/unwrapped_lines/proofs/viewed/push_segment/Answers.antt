@@ -1,15 +1,14 @@
-use Rattle.std.proofs.Common.{◌≡◌, ◌∙◌, ◌<◌, ◌+◌, ◌&&◌, ◌∷◌, [], ◌++◌, List, Option, Some, Bool, ℕ, true, false, nat_lt, ap, length, map, get_or, slice_get, arith, subst, sym, refl}
+use Rattle.std.proofs.Common.{◌≡◌, ◌∙◌, ◌<◌, ◌+◌, ◌&&◌, List, Option, Some, Bool, ℕ, false, ap, length, map, get_or, slice_get, arith, subst, sym, refl}
 use Rattle.std.proofs.lemmas.Option.{slice_get-get_or}
 use Rattle.token_arena.specs.Gaps.{item_began}
 use Rattle.token_arena.specs.Segments.{ids_of, segment_bounds, no_segment}
 use Rattle.token_classes.specs.Classes.{is_colon, is_comment}
 use Rattle.token_classes.specs.declared.class.TokenClass.TheVariants.{If}
 use Rattle.token_classes.proofs.ItemClasses.{viewed_fits}
-use Rattle.unwrapped_lines.specs.Viewed.{AreTokensBefore, AreCommentsBefore, colon_touches, numbers_of, part_of, partner_number, segment_stop, token_at}
+use Rattle.unwrapped_lines.specs.Viewed.{AreTokensBefore, AreCommentsBefore, colon_touches, numbers_of, partner_number, segment_stop, token_at}
 use Rattle.unwrapped_lines.specs.declared.token.CodeToken.{CodeToken}
-use Rattle.unwrapped_lines.specs.declared.part.ViewComment.{ViewComment}
-use Rattle.unwrapped_lines.proofs.CommentParts.{comment_noted, token_noted}
-use Rattle.unwrapped_lines.proofs.SegmentLemmas.{IsAt, at_place, comment_before, in_order, stop_most, token_before, token_same}
+use Rattle.unwrapped_lines.proofs.CommentParts.{token_noted}
+use Rattle.unwrapped_lines.proofs.SegmentLemmas.{IsAt, at_place, in_order, stop_most, token_before, token_same}
 use Rattle.unwrapped_lines.proofs.viewed.push_segment.Goals as goal
 use Rattle.unwrapped_lines.proofs.viewed.push_segment.Goals.{then-first-eq0+in_ok-tokens, else-first-eq0}
 
@@ -58,15 +57,6 @@ push_other-requires-clause-end c =
 
 pub push_other-requires-then-is_other-clause-end : goal.push_other-requires-then-is_other-clause-end
 push_other-requires-then-is_other-clause-end c = omega (arith, c.loop-id.invariant.place, c.loop-id.invariant.least, c.loop-id-test.true, c.saturating_sub.ensures, c.min-near.ensures)
-
-pub note_comment-requires-clause-item : goal.note_comment-requires-clause-item
-note_comment-requires-clause-item c =
-    let at : IsAt (length c.args.arena.now.tokens) (ids_of (map segment_bounds c.args.segments.now)) c.loop-id.place c.loop-id.id =
-    at_place (length c.args.arena.now.tokens) c.args.segments.now c.args.number c.loop-id.place c.loop-id.id c.requires.rule c.requires.within c.requires.number
-    c.loop-id.invariant.least
-    (omega (arith, c.loop-id.invariant.place, c.loop-id.invariant.least, c.loop-id-test.true, c.saturating_sub.ensures, c.min-near.ensures))
-    c.loop-id.invariant.place in
-    at.within
 
 pub push_reserved-requires : goal.push_reserved-requires
 push_reserved-requires c =
@@ -121,34 +111,6 @@ loop-id-preserved-then-is_other c =
       tokens = c.in_ok-tokens-2.ensures.tokens;
       comments = c.in_ok-tokens-2.ensures.comments;
       room = c.in_ok-tokens-2.ensures.room ∙ c.loop-id.invariant.room;
-      least = omega (arith, c.loop-id.invariant.least);
-      most = omega (arith, c.loop-id.invariant.place, c.loop-id.invariant.least, c.loop-id-test.true, c.saturating_sub.ensures, c.min-near.ensures);
-    }
-
-pub loop-id-preserved-then-is_comment : goal.loop-id-preserved-then-is_comment
-loop-id-preserved-then-is_comment c =
-    let arena = c.args.arena.now in
-    let ids = ids_of (map segment_bounds c.args.segments.now) in
-    let classes = c.args.classes.now in
-    let k = c.loop-id.place in
-    let id = c.loop-id.id in
-    let old = c.loop-id.noted.comments.items in
-    let at : IsAt (length c.args.arena.now.tokens) (ids_of (map segment_bounds c.args.segments.now)) c.loop-id.place c.loop-id.id =
-    at_place (length c.args.arena.now.tokens) c.args.segments.now c.args.number c.loop-id.place c.loop-id.id c.requires.rule c.requires.within c.requires.number
-    c.loop-id.invariant.least
-    (omega (arith, c.loop-id.invariant.place, c.loop-id.invariant.least, c.loop-id-test.true, c.saturating_sub.ensures, c.min-near.ensures))
-    c.loop-id.invariant.place in
-    let here : k < length classes = omega (arith, at.place, c.requires.places) in
-    let class = get_or classes k If in
-    let is : is_comment class ≡ true = sym c.is_comment.ensures ∙ c.if-is_comment.true in
-    let P : List ViewComment → Type 0 = λ comments. AreCommentsBefore arena ids classes (k + 1) comments in
-    let noted : c.note_comment.new.noted.comments.items ≡ old ++ record { place = k; part = part_of arena (get_or ids k 0) (nat_lt (length old) k) class } ∷ [] =
-    c.in_ok-note_comment.ensures ∙ ap (λ i. old ++ record { place = k; part = part_of arena i (nat_lt (length old) k) class } ∷ []) (sym at.item) in
-    record {
-      place = omega (arith, c.loop-id.invariant.place);
-      tokens = comment_before arena ids classes c.args.partners.now k If c.loop-id.tokens.items c.loop-id.invariant.tokens here is;
-      comments = subst P (sym noted) (comment_noted arena ids classes k If old c.loop-id.invariant.comments here is);
-      room = c.loop-id.invariant.room;
       least = omega (arith, c.loop-id.invariant.least);
       most = omega (arith, c.loop-id.invariant.place, c.loop-id.invariant.least, c.loop-id-test.true, c.saturating_sub.ensures, c.min-near.ensures);
     }
