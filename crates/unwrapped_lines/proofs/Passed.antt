@@ -8,6 +8,9 @@ use Rattle.unwrapped_lines.specs.declared.part.Run.TheVariants.{Apart}
 use Rattle.unwrapped_lines.specs.declared.part.Marks.{Marks}
 use Rattle.unwrapped_lines.specs.declared.part.Begin.{Begin}
 use Rattle.unwrapped_lines.specs.declared.line.Line.{Line}
+use Rattle.line_tokens.specs.declared.line.ULine.{ULine}
+use Rattle.unwrapped_lines.specs.Lines.{lines_between}
+use Rattle.std.proofs.lemmas.List.{append_assoc}
 
 no_begin : (t : Tree) (k : ℕ) (ps : List Part) (m : Marks) → is_between t m ≡ false → new_begin t k Token ps m ≡ None
 no_begin t k ps m inside =
@@ -171,3 +174,22 @@ line_row (suc d) t count k comments m l found same run few follow =
     sym (inside_row (suc d) t count k comments m l.first (omega arith) (omega (arith, few)) (follow_less (k + suc d) (k + suc d + 1) comments (omega arith) follow) (omega (arith, same)) (inside_before t m.begun l found))
     ∙ (line_here t count (k + suc d) comments passed l found same refl few follow
     ∙ ap (λ x. record { first = k + suc d; level = l.level; kind = l.kind } ∷ begins_from t (parts_with (count - (k + suc d + 1)) (k + suc d + 1) comments) (k + suc d + 1) (marks x (m.begun + 1))) seen)
+
+-- ## Lines that end
+
+ended : (count : ℕ) (current : Option Begin) (begin : Begin) (behind : List Begin)
+    → lines_between begin.first (list_of current) ++ lines_between count (begin ∷ behind) ≡ lines_between count (list_of current ++ begin ∷ behind)
+ended count None begin behind = refl
+ended count (Some b) begin behind = refl
+
+-- where a line begins, the one before it ends
+pub lines_on : (count : ℕ) (old new : List ULine) (current : Option Begin) (begin : Begin) (behind : List Begin) → new ≡ old ++ lines_between begin.first (list_of current)
+    → new ++ lines_between count (begin ∷ behind) ≡ old ++ lines_between count (list_of current ++ begin ∷ behind)
+lines_on count old new current begin behind e =
+    ap (λ (x : List ULine). x ++ lines_between count (begin ∷ behind)) e
+    ∙ (append_assoc old (lines_between begin.first (list_of current)) (lines_between count (begin ∷ behind)) ∙ ap (λ (x : List ULine). old ++ x) (ended count current begin behind))
+
+-- and at the end the last
+pub lines_end : (count : ℕ) (old new : List ULine) (current : Option Begin) → new ≡ old ++ lines_between count (list_of current) → new ≡ old ++ lines_between count (list_of current ++ [])
+lines_end count old new None e = e
+lines_end count old new (Some b) e = e

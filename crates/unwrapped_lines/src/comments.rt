@@ -1,4 +1,4 @@
-//! Where the lines of a view with its comments begin.
+//! The lines of a view with its comments.
 
 ghost use Rattle.std.specs.Prelude.{◌≡◌, ◌<◌, ◌≤◌, ◌+◌, ◌-◌, ◌^◌, ◌∷◌, ◌++◌, false, IfOk, IfSome, Some, List};
 ghost use Rattle.std.specs.Prelude.{slice_get, ℕ};
@@ -7,11 +7,12 @@ ghost use Rattle.unwrapped_lines.specs.declared.part.Run.TheVariants.{Apart};
 ghost use Rattle.unwrapped_lines.specs.Comments.{token_follows, between_at, is_between, new_begin, next_marks};
 ghost use Rattle.unwrapped_lines.specs.Comments.{begins_from, no_marks, list_of, begins_line, parts_with};
 ghost use Rattle.unwrapped_lines.specs.Comments.{FollowFrom};
+ghost use Rattle.unwrapped_lines.specs.Lines.{lines_between};
 
 use crate::line::Line;
 use crate::part::{Begin, Marks, Part, Run, ViewComment};
 use bumpalo::Bump;
-use line_tokens::{LineKind, NoMemory};
+use line_tokens::{LineKind, NoMemory, ULine};
 
 /// Whether a token comes after the inner comments at a place, where these comments follow.
 #[inline(never)]
@@ -171,11 +172,13 @@ fn next_first(lines: &[Line], total: usize, begun: usize) -> usize
     }
 }
 
-/// How a walk over the parts of a view stands: at a place, behind what is marked.
+/// How a walk over the parts of a view stands: at a place, behind what is marked, in a line that began before or in
+/// none.
 #[derive(Clone, Copy)]
 struct Walk {
     index: usize,
     marks: Marks,
+    current: Option<Begin>,
 }
 
 /// Where the first of these comments stands, or so many places where none does.
@@ -190,6 +193,22 @@ fn next_comment(comments: &[ViewComment], count: usize) -> usize
     }
 }
 
+/// Ends the line that goes on up to a place, if there is one.
+#[inline(always)]
+fn end_line(lines: &mut Vec<ULine, &Bump>, current: Option<Begin>, end: u32) -> Result<(), NoMemory>
+    ensures { IfOk result (λ u. lines.new.items ≡ lines.old.items ++ lines_between end (list_of current)) }
+{
+    if let Some(begin) = current {
+        lines.push(ULine {
+            first: begin.first,
+            last: end.saturating_sub(1),
+            level: begin.level,
+            kind: begin.kind,
+        })?;
+    }
+    Ok(())
+}
+
 /// Passes the lines that begin before the next comment, as most do. What is told of them and of the places behind
 /// them is all that is told.
 #[inline(always)]
@@ -200,14 +219,14 @@ fn pass_lines(
     comments: &[ViewComment],
     count: usize,
     from: Walk,
-    out: &mut Vec<Begin, &Bump>,
+    out: &mut Vec<ULine, &Bump>,
 ) -> Result<Walk, NoMemory>
     requires most { from.index ≤ count }
     requires few { count < 2 ^ 32 }
     requires seen { from.marks.seen ≤ from.index }
     requires begun { from.marks.begun ≤ from.index }
-    ensures same { IfOk result (λ walk. out.new.items ++ begins_from (record { lines = lines.now; total = total; end_level = end_level }) (parts_with (count - walk.index) walk.index comments.now) walk.index walk.marks
-        ≡ out.old.items ++ begins_from (record { lines = lines.now; total = total; end_level = end_level }) (parts_with (count - from.index) from.index comments.now) from.index from.marks) }
+    ensures same { IfOk result (λ walk. out.new.items ++ lines_between count (list_of walk.current ++ begins_from (record { lines = lines.now; total = total; end_level = end_level }) (parts_with (count - walk.index) walk.index comments.now) walk.index walk.marks)
+        ≡ out.old.items ++ lines_between count (list_of from.current ++ begins_from (record { lines = lines.now; total = total; end_level = end_level }) (parts_with (count - from.index) from.index comments.now) from.index from.marks)) }
     ensures most { IfOk result (λ walk. walk.index ≤ count) }
     ensures on { IfOk result (λ walk. from.index ≤ walk.index) }
     ensures seen { IfOk result (λ walk. walk.marks.seen ≤ walk.index) }
@@ -228,11 +247,7 @@ fn pass_lines(
         if end <= place {
             break;
         }
-        out.push(Begin {
-            first: place as u32,
-            level: line.level,
-            kind: line.kind,
-        })?;
+        end_line(out, walk.current, place as u32)?;
         walk = Walk {
             index: place + 1,
             marks: Marks {
@@ -240,6 +255,11 @@ fn pass_lines(
                 begun: walk.marks.begun + 1,
                 run: Run::Apart,
             },
+            current: Some(Begin {
+                first: place as u32,
+                level: line.level,
+                kind: line.kind,
+            }),
         };
     }
     Ok(walk)
@@ -264,6 +284,7 @@ fn pass_tokens(
     ensures on { from.index ≤ result.index }
     ensures seen { result.marks.seen ≤ result.index }
     ensures begun { result.marks.begun ≡ from.marks.begun }
+    ensures current { result.current ≡ from.current }
 {
     let end = next_comment(comments, count);
     let inside = next_first(lines, total, from.marks.begun).saturating_sub(from.marks.seen);
@@ -278,6 +299,7 @@ fn pass_tokens(
             begun: from.marks.begun,
             run: Run::Apart,
         },
+        current: from.current,
     }
 }
 
@@ -366,17 +388,18 @@ fn pass_place(
     }
 }
 
-/// Where each line of a view begins that has so many places and these comments.
-pub fn begins<'r>(
+/// The lines of a view that has so many places and these comments.
+#[tactic(auto, using(crate::proofs::Passed::lines_on, crate::proofs::Passed::lines_end))]
+pub fn comment_lines<'r>(
     lines: &[Line],
     total: usize,
     end_level: u32,
     comments: &[ViewComment],
     count: usize,
     run: &'r Bump,
-) -> Result<Vec<Begin, &'r Bump>, NoMemory>
+) -> Result<Vec<ULine, &'r Bump>, NoMemory>
     requires { count < 2 ^ 32 }
-    ensures { IfOk result (λ r. r.items ≡ begins_from (record { lines = lines.now; total = total; end_level = end_level }) (parts_with count 0 comments.now) 0 no_marks) }
+    ensures { IfOk result (λ r. r.items ≡ lines_between count (begins_from (record { lines = lines.now; total = total; end_level = end_level }) (parts_with count 0 comments.now) 0 no_marks)) }
 {
     let mut out = Vec::with_capacity(run, lines.len())?;
     let mut marks = Marks {
@@ -384,24 +407,32 @@ pub fn begins<'r>(
         begun: 0,
         run: Run::Apart,
     };
+    let mut current = None;
     let mut index = 0;
     let mut rest = comments;
     while index < count {
-        let from = Walk { index, marks };
+        let from = Walk {
+            index,
+            marks,
+            current,
+        };
         let walk = pass_lines(lines, total, end_level, rest, count, from, &mut out)?;
         let behind = pass_tokens(lines, total, end_level, rest, count, walk);
         index = behind.index;
         marks = behind.marks;
+        current = behind.current;
         if index < count {
             let (part, follow) = part_at(rest, count, index);
             rest = follow;
             let stepped = pass_place(lines, total, end_level, rest, count, index, part, marks);
             if let Some(begin) = stepped.begin {
-                out.push(begin)?;
+                end_line(&mut out, current, begin.first)?;
+                current = stepped.begin;
             }
             marks = stepped.marks;
             index += 1;
         }
     }
+    end_line(&mut out, current, count as u32)?;
     Ok(out)
 }

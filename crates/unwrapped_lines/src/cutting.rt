@@ -13,10 +13,9 @@ ghost use Rattle.unwrapped_lines.specs.declared.line.Line.{Line};
 
 use crate::braces::{Braces, braces_of};
 use crate::colons::colons;
-use crate::comments::begins;
+use crate::comments::comment_lines;
 use crate::ending::end_level;
 use crate::line::Line;
-use crate::part::Begin;
 use crate::token::CodeToken;
 use crate::tree::tree_lines;
 use crate::viewed::read_view;
@@ -26,30 +25,6 @@ use line_tokens::{NoMemory, ULine};
 use style_table::Style;
 use token_arena::{TokenArena, View};
 use token_classes::{Partner, TokenClass, classes};
-
-/// The lines that begin at these places; the last goes up to `count`.
-fn lines_between<'r>(
-    count: u32,
-    begins: &[Begin],
-    run: &'r Bump,
-) -> Result<Vec<ULine, &'r Bump>, NoMemory>
-    ensures { IfOk result (λ lines. lines.items ≡ lines_between count begins.now) }
-{
-    let mut lines = Vec::with_capacity(run, begins.len())?;
-    for (j, begin) in begins.iter().enumerate() {
-        let end = match begins.get(j + 1) {
-            Some(next) => next.first,
-            None => count,
-        };
-        lines.push_reserved(ULine {
-            first: begin.first,
-            last: end.saturating_sub(1),
-            level: begin.level,
-            kind: begin.kind,
-        });
-    }
-    Ok(lines)
-}
 
 /// The lines of a view without comments: the number of a token is its place.
 fn token_lines<'r>(lines: &[Line], run: &'r Bump) -> Result<Vec<ULine, &'r Bump>, NoMemory>
@@ -115,15 +90,14 @@ fn read_lines<'r>(
         return token_lines(&tree, run);
     }
     let level = level_behind(&braces, arena, view, classes, &read.tokens, &colons, run)?;
-    let begins = begins(
+    comment_lines(
         &tree,
         read.tokens.len(),
         level,
         &read.noted.comments,
         count as usize,
         run,
-    )?;
-    lines_between(count, &begins, run)
+    )
 }
 
 /// The unwrapped lines of a view, whose tokens have these classes and whose brackets these partners.

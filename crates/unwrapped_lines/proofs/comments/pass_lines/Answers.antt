@@ -1,12 +1,12 @@
 use Rattle.std.proofs.Common.{◌≡◌, ◌≤◌, ◌+◌, ◌-◌, ◌++◌, ◌∷◌, ◌∙◌, [], List, Some, get_or, slice_get, arith, ap, sym, refl}
-use Rattle.std.proofs.lemmas.List.{append_assoc}
 use Rattle.std.proofs.lemmas.Option.{slice_get-get_or}
 use Rattle.line_tokens.specs.declared.line.LineKind.TheVariants.{Simple}
-use Rattle.unwrapped_lines.specs.Comments.{Tree, begins_from, parts_with}
+use Rattle.unwrapped_lines.specs.Comments.{Tree, begins_from, list_of, parts_with}
+use Rattle.unwrapped_lines.specs.Lines.{lines_between}
 use Rattle.unwrapped_lines.specs.declared.line.Line.{Line}
 use Rattle.unwrapped_lines.specs.declared.part.Begin.{Begin}
 use Rattle.unwrapped_lines.specs.declared.part.Run.TheVariants.{Apart}
-use Rattle.unwrapped_lines.proofs.Passed.{line_row}
+use Rattle.unwrapped_lines.proofs.Passed.{line_row, lines_on}
 use Rattle.unwrapped_lines.proofs.comments.pass_lines.Goals as goal
 
 pub loop-walk-preserved : goal.loop-walk-preserved
@@ -29,7 +29,7 @@ loop-walk-preserved c =
     let row : begins_from tree (parts_with (count - walk.index) walk.index comments) walk.index walk.marks ≡ begin ∷ behind =
     line_row inside tree count walk.index comments walk.marks line found same inv.run (omega (arith, near, c.next_comment-end.ensures.most)) (c.next_comment-end.ensures.follow (place + 1) near) in
     record {
-      same = ap (λ (items : List Begin). items ++ behind) c.in_ok-push.ensures.items ∙ (append_assoc c.loop-walk.out.items (begin ∷ []) behind ∙ (ap (λ (begins : List Begin). c.loop-walk.out.items ++ begins) (sym row) ∙ inv.same));
+      same = lines_on count c.loop-walk.out.items c.end_line.new.lines.items walk.current begin behind c.in_ok-end_line.ensures ∙ (ap (λ (begins : List Begin). c.loop-walk.out.items ++ lines_between count (list_of walk.current ++ begins)) (sym row) ∙ inv.same);
       most = omega (arith, near, c.next_comment-end.ensures.most);
       on = omega (arith, inv.on);
       seen = omega (arith, same, inv.seen);

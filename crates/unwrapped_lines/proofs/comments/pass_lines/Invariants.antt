@@ -1,11 +1,12 @@
 use Rattle.std.proofs.Common.{◌≡◌, ◌≤◌, ◌-◌, ◌++◌, length, false}
-use Rattle.unwrapped_lines.specs.Comments.{begins_from, is_begun, parts_with}
+use Rattle.unwrapped_lines.specs.Comments.{begins_from, is_begun, list_of, parts_with}
+use Rattle.unwrapped_lines.specs.Lines.{lines_between}
 use Rattle.unwrapped_lines.proofs.comments.pass_lines.Given as goal
 
 abbrev pub invariant-loop-walk : goal.invariant-loop-walk
 invariant-loop-walk l = record {
-  same : l.out.items ++ begins_from (record { lines = l.lines; total = l.total; end_level = l.end_level }) (parts_with (l.count - l.walk.index) l.walk.index l.comments) l.walk.index l.walk.marks
-      ≡ l.initial.out.items ++ begins_from (record { lines = l.lines; total = l.total; end_level = l.end_level }) (parts_with (l.count - l.fn.from.index) l.fn.from.index l.comments) l.fn.from.index l.fn.from.marks;
+  same : l.out.items ++ lines_between l.count (list_of l.walk.current ++ begins_from (record { lines = l.lines; total = l.total; end_level = l.end_level }) (parts_with (l.count - l.walk.index) l.walk.index l.comments) l.walk.index l.walk.marks)
+      ≡ l.initial.out.items ++ lines_between l.count (list_of l.fn.from.current ++ begins_from (record { lines = l.lines; total = l.total; end_level = l.end_level }) (parts_with (l.count - l.fn.from.index) l.fn.from.index l.comments) l.fn.from.index l.fn.from.marks);
   most : l.walk.index ≤ l.count;
   on : l.fn.from.index ≤ l.walk.index;
   seen : l.walk.marks.seen ≤ l.walk.index;
