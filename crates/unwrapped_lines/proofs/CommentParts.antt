@@ -8,8 +8,8 @@ use Rattle.token_classes.specs.Classes.{is_comment}
 use Rattle.unwrapped_lines.specs.declared.part.Part.{Part}
 use Rattle.unwrapped_lines.specs.declared.part.Part.TheVariants.{Token}
 use Rattle.unwrapped_lines.specs.declared.part.ViewComment.{ViewComment}
-use Rattle.unwrapped_lines.specs.Comments.{parts_with, FollowFrom}
-use Rattle.unwrapped_lines.specs.Viewed.{comments_from, comments_of, part_of, parts_from, AreCommentsBefore}
+use Rattle.unwrapped_lines.specs.Viewed.{part_of, parts_from}
+use Rattle.unwrapped_lines.specs.Inside.{parts_with, FollowFrom, comments_from, comments_of, AreCommentsBefore}
 use Rattle.unwrapped_lines.proofs.Passed.{drop_none, follow_less, token_first}
 
 comments_follow : (arena : Contents) (ids : List ℕ) (k n : ℕ) (cs : List TokenClass) → FollowFrom k (comments_from arena ids k n cs)

@@ -5,7 +5,8 @@ use Rattle.std.proofs.lemmas.List.{length-map}
 use Rattle.std.proofs.lemmas.Option.{slice_get_past}
 use Rattle.token_classes.specs.declared.class.TokenClass.{TokenClass}
 use Rattle.token_classes.specs.Classes.{is_comment}
-use Rattle.unwrapped_lines.specs.Viewed.{numbers_from, numbers_of, partner_number, partner_numbers}
+use Rattle.unwrapped_lines.specs.Viewed.{numbers_from, numbers_of, partner_number}
+use Rattle.unwrapped_lines.specs.Inside.{partner_numbers}
 
 pub numbers_count : (n : ℕ) (cs : List TokenClass) → length (numbers_from n cs) ≡ length cs
 numbers_count n [] = refl

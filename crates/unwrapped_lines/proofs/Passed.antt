@@ -1,6 +1,6 @@
 -- Tokens inside a line begin none.
 use Rattle.std.proofs.Common.{◌≡◌, ◌≢◌, ◌∙◌, ℕ, zero, suc, ◌+◌, ◌-◌, ◌<◌, ◌≤◌, Bool, true, false, not, nat_eq, nat_lt, Option, None, Some, List, [], ◌∷◌, ◌++◌, slice_get, length, drop, arith, ap, sym, refl, subst}
-use Rattle.unwrapped_lines.specs.Comments.{Tree, is_between, between_at, is_begun, begin_of, begins_line, new_begin, next_marks, list_of, begins_from, parts_with, token_follows, FollowFrom}
+use Rattle.unwrapped_lines.specs.Comments.{Tree, is_between, between_at, is_begun, begin_of, begins_line, new_begin, next_marks, list_of, begins_from, token_follows}
 use Rattle.unwrapped_lines.specs.declared.part.Part.{Part}
 use Rattle.unwrapped_lines.specs.declared.part.ViewComment.{ViewComment}
 use Rattle.unwrapped_lines.specs.declared.part.Part.TheVariants.{Token, Inner}
@@ -10,6 +10,7 @@ use Rattle.unwrapped_lines.specs.declared.part.Begin.{Begin}
 use Rattle.unwrapped_lines.specs.declared.line.Line.{Line}
 use Rattle.line_tokens.specs.declared.line.ULine.{ULine}
 use Rattle.unwrapped_lines.specs.Lines.{lines_between}
+use Rattle.unwrapped_lines.specs.Inside.{parts_with, FollowFrom}
 use Rattle.std.proofs.lemmas.List.{append_assoc}
 
 no_begin : (t : Tree) (k : ℕ) (ps : List Part) (m : Marks) → is_between t m ≡ false → new_begin t k Token ps m ≡ None

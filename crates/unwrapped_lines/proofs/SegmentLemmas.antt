@@ -13,7 +13,8 @@ use Rattle.std.proofs.lemmas.List.{get_or_default}
 use Rattle.std.specs.Prelude.{slice_get, Option, ◌&&◌}
 use Rattle.token_classes.specs.Classes.{is_colon}
 use Rattle.token_classes.specs.declared.class.TokenClass.TheVariants.{Nothing}
-use Rattle.unwrapped_lines.specs.Viewed.{segment_stop, code_places_from, AreTokensBefore, token_at, code_tokens, partner_number, numbers_of, colon_touches}
+use Rattle.unwrapped_lines.specs.Viewed.{code_places_from, token_at, code_tokens, partner_number, numbers_of, colon_touches}
+use Rattle.unwrapped_lines.specs.Inside.{segment_stop, AreTokensBefore}
 
 -- how many places stand before the segment with a number, where so many stand before the first
 abbrev pub places_before : ℕ → List Segment → ℕ → ℕ

@@ -1,10 +1,9 @@
 -- Lines of a view with its comments: where each begins.
-use Rattle.std.specs.Prelude.{ℕ, zero, suc, ◌+◌, ◌≤◌, nat_eq, nat_le, Bool, true, false, ◌&&◌, not, List, [], ◌∷◌, ◌++◌, Option, Some, None, slice_get}
+use Rattle.std.specs.Prelude.{ℕ, ◌+◌, nat_eq, nat_le, Bool, true, false, ◌&&◌, not, List, [], ◌∷◌, ◌++◌, Option, Some, None, slice_get}
 use Rattle.unwrapped_lines.specs.declared.line.Line.{Line}
 use Rattle.line_tokens.specs.declared.line.LineKind.TheVariants.{Comment}
 use Rattle.unwrapped_lines.specs.declared.part.Part.{Part}
 use Rattle.unwrapped_lines.specs.declared.part.Part.TheVariants.{Token, Own, Trailing, Inner}
-use Rattle.unwrapped_lines.specs.declared.part.ViewComment.{ViewComment}
 use Rattle.unwrapped_lines.specs.declared.part.Run.{Run}
 use Rattle.unwrapped_lines.specs.declared.part.Run.TheVariants.{Apart, Begun, Joined}
 use Rattle.unwrapped_lines.specs.declared.part.Marks.{Marks}
@@ -25,18 +24,6 @@ is_apart _ = false
 abbrev pub is_begun : Run → Bool
 is_begun Begun = true
 is_begun _ = false
-
--- the parts of so many places from one on, where these comments follow
-abbrev pub parts_with : ℕ → ℕ → List ViewComment → List Part
-parts_with zero k comments = []
-parts_with (suc n) k [] = Token ∷ parts_with n (k + 1) []
-parts_with (suc n) k (c ∷ comments) =
-    elim (nat_eq c.place k) [ true ↦ c.part ∷ parts_with n (k + 1) comments | false ↦ Token ∷ parts_with n (k + 1) (c ∷ comments) ]
-
--- the first of these comments stands at a place or behind it
-abbrev pub FollowFrom : ℕ → List ViewComment → Type 0
-FollowFrom k [] = Unit {0}
-FollowFrom k (c ∷ comments) = k ≤ c.place
 
 -- the lines of the tokens, their number, and the level at the view's end
 pub record Tree : Type 0 where

@@ -3,6 +3,7 @@ pub mod Tree
 pub mod Stack
 pub mod Comments
 pub mod Viewed
+pub mod Inside
 pub mod Wrapping
 pub mod Lines
 pub mod Colons

@@ -1,6 +1,5 @@
 -- A view as a list of tokens and comments.
-use Rattle.std.specs.Prelude.{◌≡◌, ◌≤◌, nat_lt, ◌-◌, ◌++◌, drop, ◌&&◌, ◌||◌, not, ℕ, ◌+◌, nat_le, Bool, false, Option, Some, None, List, [], ◌∷◌, length, map, get_or, slice_get, if◌then◌else◌}
-use Rattle.token_arena.specs.declared.view.Segment.{Segment}
+use Rattle.std.specs.Prelude.{◌&&◌, ◌||◌, not, ℕ, ◌+◌, nat_le, Bool, false, Option, Some, None, List, [], ◌∷◌, length, map, get_or, slice_get, if◌then◌else◌}
 use Rattle.token_arena.specs.Gaps.{Contents, item_began}
 use Rattle.token_arena.specs.Stored.{Stored}
 use Rattle.token_classes.specs.declared.class.TokenClass.{TokenClass}
@@ -9,7 +8,6 @@ use Rattle.token_classes.specs.Classes.{is_colon, is_comment, is_line_comment}
 use Rattle.token_classes.specs.Viewed.{item_class}
 use Rattle.unwrapped_lines.specs.declared.token.CodeToken.{CodeToken}
 use Rattle.unwrapped_lines.specs.declared.part.Part.{Part}
-use Rattle.unwrapped_lines.specs.declared.part.ViewComment.{ViewComment}
 use Rattle.unwrapped_lines.specs.declared.part.Part.TheVariants.{Token, Own, Trailing, Inner}
 
 -- ## The gaps of the file
@@ -42,10 +40,6 @@ partner_number numbers None = None
 partner_number numbers (Some None) = None
 partner_number numbers (Some (Some place)) = slice_get numbers place
 
--- those of the partners at all places, and behind them none
-abbrev pub partner_numbers : List TokenClass → List (Option ℕ)
-partner_numbers classes = map (λ n. Some n) (numbers_of classes) ++ None ∷ []
-
 -- the token at a place
 abbrev pub token_at : Contents → List ℕ → List TokenClass → List (Option ℕ) → ℕ → CodeToken
 token_at arena ids classes partners k =
@@ -66,15 +60,6 @@ code_places_from k (c ∷ cs) = if is_comment c then code_places_from (k + 1) cs
 abbrev pub code_tokens : Contents → List ℕ → List TokenClass → List (Option ℕ) → List CodeToken
 code_tokens arena ids classes partners = map (token_at arena ids classes partners) (code_places_from 0 classes)
 
--- these are the tokens of a view that stand before a place
-pub record AreTokensBefore (arena : Contents) (ids : List ℕ) (classes : List TokenClass) (partners : List (Option ℕ)) (k : ℕ) (tokens : List CodeToken) : Type 0 where
-  pub same : tokens ++ map (token_at arena ids classes partners) (code_places_from k (drop k classes)) ≡ code_tokens arena ids classes partners
-  pub few : length tokens ≤ k
-
--- the first place behind a segment
-abbrev pub segment_stop : Segment → ℕ
-segment_stop segment = segment.before + (segment.end - segment.first)
-
 -- ## Comments
 
 -- What an item of this class is, and whether a token that is no comment stands before it. At the view's start every
@@ -93,18 +78,3 @@ parts_from arena ids k started (c ∷ cs) = part_of arena (get_or ids k 0) start
 -- the parts of a view
 abbrev pub parts_of : Contents → List ℕ → List TokenClass → List Part
 parts_of arena ids classes = parts_from arena ids 0 false classes
-
--- the comments of a view from a place on, before which so many stand
-abbrev pub comments_from : Contents → List ℕ → ℕ → ℕ → List TokenClass → List ViewComment
-comments_from arena ids k n [] = []
-comments_from arena ids k n (c ∷ cs) =
-    if is_comment c then record { place = k; part = part_of arena (get_or ids k 0) (nat_lt n k) c } ∷ comments_from arena ids (k + 1) (n + 1) cs
-    else comments_from arena ids (k + 1) n cs
-
--- the comments of a view
-abbrev pub comments_of : Contents → List ℕ → List TokenClass → List ViewComment
-comments_of arena ids classes = comments_from arena ids 0 0 classes
-
--- these are the comments of a view that stand before a place
-abbrev pub AreCommentsBefore : Contents → List ℕ → List TokenClass → ℕ → List ViewComment → Type 0
-AreCommentsBefore arena ids classes k comments = comments ++ comments_from arena ids k (length comments) (drop k classes) ≡ comments_of arena ids classes

@@ -5,9 +5,9 @@ ghost use Rattle.std.specs.Prelude.{slice_get, ℕ};
 ghost use Rattle.unwrapped_lines.specs.declared.part.Part.{Part};
 ghost use Rattle.unwrapped_lines.specs.declared.part.Run.TheVariants.{Apart};
 ghost use Rattle.unwrapped_lines.specs.Comments.{token_follows, between_at, is_between, new_begin, next_marks};
-ghost use Rattle.unwrapped_lines.specs.Comments.{begins_from, no_marks, list_of, begins_line, parts_with};
-ghost use Rattle.unwrapped_lines.specs.Comments.{FollowFrom};
+ghost use Rattle.unwrapped_lines.specs.Comments.{begins_from, no_marks, list_of, begins_line};
 ghost use Rattle.unwrapped_lines.specs.Lines.{lines_between};
+ghost use Rattle.unwrapped_lines.specs.Inside.{parts_with, FollowFrom};
 
 use crate::line::Line;
 use crate::part::{Begin, Marks, Part, Run, ViewComment};

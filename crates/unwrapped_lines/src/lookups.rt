@@ -2,7 +2,7 @@
 
 ghost use Rattle.std.specs.Prelude.{◌≡◌, ◌<◌, ◌≤◌, ◌+◌, ◌-◌, length, IfSome};
 ghost use Rattle.unwrapped_lines.specs.Forms.{class_at, seen, partner_in, after_group, step_over, block_end, began_at};
-ghost use Rattle.unwrapped_lines.specs.Forms.{touched_at, has_no_partner, opens_list};
+ghost use Rattle.unwrapped_lines.specs.Forms.{touched_at, has_no_partner};
 
 use crate::token::CodeToken;
 use token_classes::TokenClass;
@@ -121,16 +121,4 @@ pub fn block_end(tokens: &[CodeToken], end: usize, place: usize) -> usize
         Some(p) => p,
         None => end,
     }
-}
-
-#[inline(always)]
-pub fn opens_list(tokens: &[CodeToken], assigned: bool, place: usize) -> bool
-    ensures { result ≡ opens_list tokens.now assigned place }
-{
-    let before = if place > 0 {
-        class_at(tokens, place - 1)
-    } else {
-        TokenClass::Nothing
-    };
-    before.is_before_list() || (before.is_close_round() && assigned)
 }

@@ -8,7 +8,7 @@ ghost use Rattle.unwrapped_lines.specs.Forms.{enumerator_end, statement_stop, ca
 ghost use Rattle.unwrapped_lines.specs.Forms.{partner_of, opens_block, is_member_word, class_at};
 
 use crate::form::Stop;
-use crate::lookups::{class_at, opens_list, step_over};
+use crate::lookups::{class_at, step_over};
 use crate::token::CodeToken;
 use token_classes::TokenClass;
 
@@ -40,7 +40,16 @@ pub fn is_member_word(class: TokenClass) -> bool
 fn opens_block(tokens: &[CodeToken], assigned: bool, place: usize) -> bool
     ensures { result ≡ opens_block tokens.now assigned place }
 {
-    class_at(tokens, place).is_open_brace() && !opens_list(tokens, assigned, place)
+    if !class_at(tokens, place).is_open_brace() {
+        return false;
+    }
+    let before = if place > 0 {
+        class_at(tokens, place - 1)
+    } else {
+        TokenClass::Nothing
+    };
+    let opens_list = before.is_before_list() || (before.is_close_round() && assigned);
+    !opens_list
 }
 
 /// Where a statement that is no other case ends.

@@ -4,11 +4,10 @@ ghost use Rattle.std.specs.Prelude.{◌≡◌, ◌&&◌, ◌<◌, ◌≤◌, ◌
 ghost use Rattle.std.specs.Prelude.{slice_get, vec_capacity, IfOk, Some, true, false};
 ghost use Rattle.token_classes.specs.Viewed.{AreWithin};
 ghost use Rattle.token_classes.specs.Classes.{is_colon, is_comment};
-ghost use Rattle.unwrapped_lines.specs.Viewed.{line_ends_behind, colon_touches, numbers_of, AreTokensBefore};
-ghost use Rattle.unwrapped_lines.specs.Viewed.{AreCommentsBefore, segment_stop, partner_number, partner_numbers};
-ghost use Rattle.unwrapped_lines.specs.Viewed.{code_tokens};
-ghost use Rattle.unwrapped_lines.specs.Viewed.{comments_of, part_of, parts_of};
-ghost use Rattle.unwrapped_lines.specs.Comments.{parts_with};
+ghost use Rattle.unwrapped_lines.specs.Viewed.{line_ends_behind, colon_touches, numbers_of, partner_number};
+ghost use Rattle.unwrapped_lines.specs.Viewed.{code_tokens, part_of, parts_of};
+ghost use Rattle.unwrapped_lines.specs.Inside.{partner_numbers, AreTokensBefore, AreCommentsBefore, segment_stop};
+ghost use Rattle.unwrapped_lines.specs.Inside.{comments_of, parts_with};
 ghost use Rattle.token_arena.specs.Gaps.{item_began};
 ghost use Rattle.token_arena.specs.Segments.{ids_of, segment_bounds, AreSegments, no_segment};
 ghost use Rattle.c_chars.specs.declared.TheConstants.{LIMIT};

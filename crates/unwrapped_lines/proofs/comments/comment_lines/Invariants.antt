@@ -1,6 +1,7 @@
 use Rattle.std.proofs.Common.{◌≡◌, ◌≤◌, ◌-◌, ◌++◌}
-use Rattle.unwrapped_lines.specs.Comments.{begins_from, list_of, no_marks, parts_with}
+use Rattle.unwrapped_lines.specs.Comments.{begins_from, list_of, no_marks}
 use Rattle.unwrapped_lines.specs.Lines.{lines_between}
+use Rattle.unwrapped_lines.specs.Inside.{parts_with}
 use Rattle.unwrapped_lines.proofs.comments.comment_lines.Given as goal
 
 abbrev pub invariant-loop-index : goal.invariant-loop-index

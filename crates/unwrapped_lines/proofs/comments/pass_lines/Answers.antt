@@ -1,11 +1,12 @@
-use Rattle.std.proofs.Common.{◌≡◌, ◌≤◌, ◌+◌, ◌-◌, ◌++◌, ◌∷◌, ◌∙◌, [], List, Some, get_or, slice_get, arith, ap, sym, refl}
+use Rattle.std.proofs.Common.{◌≡◌, ◌≤◌, ◌+◌, ◌-◌, ◌++◌, ◌∷◌, ◌∙◌, List, Some, get_or, slice_get, arith, ap, sym, refl}
 use Rattle.std.proofs.lemmas.Option.{slice_get-get_or}
 use Rattle.line_tokens.specs.declared.line.LineKind.TheVariants.{Simple}
-use Rattle.unwrapped_lines.specs.Comments.{Tree, begins_from, list_of, parts_with}
+use Rattle.unwrapped_lines.specs.Comments.{Tree, begins_from, list_of}
 use Rattle.unwrapped_lines.specs.Lines.{lines_between}
 use Rattle.unwrapped_lines.specs.declared.line.Line.{Line}
 use Rattle.unwrapped_lines.specs.declared.part.Begin.{Begin}
 use Rattle.unwrapped_lines.specs.declared.part.Run.TheVariants.{Apart}
+use Rattle.unwrapped_lines.specs.Inside.{parts_with}
 use Rattle.unwrapped_lines.proofs.Passed.{line_row, lines_on}
 use Rattle.unwrapped_lines.proofs.comments.pass_lines.Goals as goal
 

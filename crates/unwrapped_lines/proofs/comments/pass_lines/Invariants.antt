@@ -1,6 +1,7 @@
 use Rattle.std.proofs.Common.{◌≡◌, ◌≤◌, ◌-◌, ◌++◌, length, false}
-use Rattle.unwrapped_lines.specs.Comments.{begins_from, is_begun, list_of, parts_with}
+use Rattle.unwrapped_lines.specs.Comments.{begins_from, is_begun, list_of}
 use Rattle.unwrapped_lines.specs.Lines.{lines_between}
+use Rattle.unwrapped_lines.specs.Inside.{parts_with}
 use Rattle.unwrapped_lines.proofs.comments.pass_lines.Given as goal
 
 abbrev pub invariant-loop-walk : goal.invariant-loop-walk

@@ -1,5 +1,6 @@
 use Rattle.std.proofs.Common.{◌≡◌, ◌-◌, drop}
-use Rattle.unwrapped_lines.specs.Comments.{token_follows, parts_with}
+use Rattle.unwrapped_lines.specs.Comments.{token_follows}
+use Rattle.unwrapped_lines.specs.Inside.{parts_with}
 use Rattle.unwrapped_lines.proofs.comments.token_follows.Given as goal
 
 abbrev pub invariant-loop-comment : goal.invariant-loop-comment

@@ -1,8 +1,8 @@
 use Rattle.std.proofs.Common.{◌≡◌, ◌∙◌, ◌-◌, List, Option, length, min, get_or, arith, ap}
 use Rattle.std.specs.Prelude.{unwrap_or, ℕ}
-use Rattle.unwrapped_lines.specs.Viewed.{partner_numbers}
 use Rattle.unwrapped_lines.proofs.NumberLemmas.{number_told, numbers_told}
 use Rattle.unwrapped_lines.proofs.viewed.number_at.Goals as goal
+use Rattle.unwrapped_lines.specs.Inside.{partner_numbers}
 
 pub returns : goal.returns
 returns c =

@@ -5,8 +5,9 @@ use Rattle.token_arena.specs.Segments.{ids_of, segment_bounds, no_segment}
 use Rattle.token_classes.specs.Classes.{is_colon, is_comment}
 use Rattle.token_classes.specs.declared.class.TokenClass.TheVariants.{If}
 use Rattle.token_classes.proofs.ItemClasses.{viewed_fits}
-use Rattle.unwrapped_lines.specs.Viewed.{AreTokensBefore, AreCommentsBefore, colon_touches, numbers_of, partner_number, segment_stop, token_at}
+use Rattle.unwrapped_lines.specs.Viewed.{colon_touches, numbers_of, partner_number, token_at}
 use Rattle.unwrapped_lines.specs.declared.token.CodeToken.{CodeToken}
+use Rattle.unwrapped_lines.specs.Inside.{AreTokensBefore, AreCommentsBefore, segment_stop}
 use Rattle.unwrapped_lines.proofs.CommentParts.{token_noted}
 use Rattle.unwrapped_lines.proofs.SegmentLemmas.{IsAt, at_place, in_order, stop_most, token_before, token_same}
 use Rattle.unwrapped_lines.proofs.viewed.push_segment.Goals as goal

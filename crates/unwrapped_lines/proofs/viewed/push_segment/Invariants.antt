@@ -1,8 +1,8 @@
 use Rattle.std.proofs.Common.{◌≡◌, ◌≤◌, ◌+◌, map, get_or}
 use Rattle.std.specs.Prelude.{vec_capacity}
 use Rattle.token_arena.specs.Segments.{ids_of, segment_bounds, no_segment}
-use Rattle.unwrapped_lines.specs.Viewed.{AreTokensBefore, AreCommentsBefore, segment_stop}
 use Rattle.unwrapped_lines.proofs.viewed.push_segment.Given as goal
+use Rattle.unwrapped_lines.specs.Inside.{AreTokensBefore, AreCommentsBefore, segment_stop}
 
 abbrev pub invariant-loop-id : goal.invariant-loop-id
 invariant-loop-id l = record {

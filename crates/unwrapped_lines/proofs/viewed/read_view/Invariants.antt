@@ -1,9 +1,9 @@
 use Rattle.std.proofs.Common.{map, length, ◌≤◌}
 use Rattle.std.specs.Prelude.{vec_capacity}
 use Rattle.token_arena.specs.Segments.{ids_of, segment_bounds}
-use Rattle.unwrapped_lines.specs.Viewed.{AreTokensBefore, AreCommentsBefore}
 use Rattle.unwrapped_lines.proofs.SegmentLemmas.{places_before}
 use Rattle.unwrapped_lines.proofs.viewed.read_view.Given as goal
+use Rattle.unwrapped_lines.specs.Inside.{AreTokensBefore, AreCommentsBefore}
 
 abbrev pub invariant-loop-number : goal.invariant-loop-number
 invariant-loop-number l = record {
