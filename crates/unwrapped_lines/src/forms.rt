@@ -14,7 +14,7 @@ ghost use Rattle.unwrapped_lines.specs.Forms.{touched_at, has_no_partner, enumer
 ghost use Rattle.unwrapped_lines.specs.Forms.{statement_stop, tag_before, block_at};
 ghost use Rattle.unwrapped_lines.specs.Forms.{label_form, goto_level, label, header_end, head_of};
 ghost use Rattle.unwrapped_lines.specs.Forms.{control_block, control_form, tail_end, ends_macro, macro_end};
-ghost use Rattle.unwrapped_lines.specs.Forms.{tagged_kind, wraps_tagged, tagged_context, tagged_head, behind_close};
+ghost use Rattle.unwrapped_lines.specs.Forms.{tagged_kind, wraps_tagged, tagged_context, behind_close};
 ghost use Rattle.unwrapped_lines.specs.Forms.{kind_or_close, is_member_word, other_form, unlabelled, statement};
 ghost use Rattle.unwrapped_lines.specs.Forms.{close_form, form_of, StaysIn, IsLow};
 
@@ -382,16 +382,6 @@ fn tagged_context(class: TokenClass) -> Context
     }
 }
 
-fn tagged_head(class: TokenClass) -> Head
-    ensures { result ≡ tagged_head class }
-{
-    if class.is_struct() || class.is_union() || class.is_enum() {
-        Head::Tagged
-    } else {
-        Head::Plain
-    }
-}
-
 /// Any other statement, or what goes on behind the closing brace of a struct, union or enum.
 #[inline(always)]
 fn other_form(
@@ -416,6 +406,11 @@ fn other_form(
     let stop = scans::statement_stop(tokens, opened.end, from, assigned);
     if stop.opens {
         let tag = scans::tag_before(tokens, from, stop.at);
+        let head = if tag.is_struct() || tag.is_union() || tag.is_enum() {
+            Head::Tagged
+        } else {
+            Head::Plain
+        };
         Form {
             kind: kind_or_close(closes, tagged_kind(tag)),
             level,
@@ -428,7 +423,7 @@ fn other_form(
                     level: level + 1,
                     case_level: level + 1,
                     end: block_end(tokens, opened.end, stop.at),
-                    head: tagged_head(tag),
+                    head,
                     head_level: level,
                     assigned: stop.assigned,
                 },

@@ -5,7 +5,7 @@ ghost use Rattle.std.specs.Bool.{OnFalse, OnTrue};
 ghost use Rattle.token_classes.specs.Classes.{is_open_brace};
 ghost use Rattle.token_classes.specs.declared.class.TokenClass.TheVariants.{Nothing};
 ghost use Rattle.unwrapped_lines.specs.Forms.{enumerator_end, statement_stop, call_opener, tag_before, behind};
-ghost use Rattle.unwrapped_lines.specs.Forms.{partner_of, opens_block, is_member_word, class_at};
+ghost use Rattle.unwrapped_lines.specs.Forms.{partner_of, opens_block, assigns, is_member_word, class_at};
 
 use crate::form::Stop;
 use crate::lookups::{class_at, step_over};
@@ -29,6 +29,12 @@ pub fn enumerator_end(tokens: &[CodeToken], end: usize, at: usize) -> usize
         i = step_over(tokens, end, i);
     }
     end
+}
+
+fn assigns(tokens: &[CodeToken], assigned: bool, place: usize) -> bool
+    ensures { result ≡ assigns tokens.now assigned place }
+{
+    assigned || class_at(tokens, place).is_assigning()
 }
 
 pub fn is_member_word(class: TokenClass) -> bool
@@ -68,8 +74,7 @@ pub fn statement_stop(tokens: &[CodeToken], end: usize, from: usize, assigned: b
     let mut i = from;
     let mut assigned = assigned;
     while i < end {
-        let class = class_at(tokens, i);
-        if class.is_semicolon() {
+        if class_at(tokens, i).is_semicolon() {
             return Stop {
                 at: i + 1,
                 opens: false,
@@ -83,7 +88,7 @@ pub fn statement_stop(tokens: &[CodeToken], end: usize, from: usize, assigned: b
                 assigned,
             };
         }
-        assigned |= class.is_assigning();
+        assigned = assigns(tokens, assigned, i);
         i = step_over(tokens, end, i);
     }
     Stop {

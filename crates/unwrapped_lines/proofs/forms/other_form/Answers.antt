@@ -3,8 +3,8 @@ use Rattle.std.proofs.lemmas.Bool.{OnTrue_at}
 use Rattle.unwrapped_lines.proofs.FormLemmas.{moved}
 use Rattle.unwrapped_lines.proofs.forms.other_form.Goals as goal
 
-pub returns-then-stop-clause-stays : goal.returns-then-stop-clause-stays
-returns-then-stop-clause-stays c =
+pub returns-after-is_enum-clause-stays : goal.returns-after-is_enum-clause-stays
+returns-after-is_enum-clause-stays c =
     let within : c.statement_stop-stop.result.at < c.args.opened.end = OnTrue_at c.if-stop.true c.statement_stop-stop.ensures.brace in
     let up = moved c.args.closes c.args.tokens.now c.args.at _ c.statement_stop-stop.result.at c.behind_close-from.ensures.behind c.behind_close-from.ensures.here c.statement_stop-stop.ensures.least c.requires.first (OnTrue_at c.if-stop.true c.statement_stop-stop.ensures.open) in
     record {
