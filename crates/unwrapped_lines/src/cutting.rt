@@ -3,7 +3,7 @@
 ghost use Rattle.std.specs.Prelude.{◌≡◌, ◌<◌, ◌^◌, List, length, map, IfOk};
 ghost use Rattle.token_classes.specs.Viewed.{AreWithin, classes_of};
 ghost use Rattle.line_tokens.specs.Lines.{CutPlaces};
-ghost use Rattle.unwrapped_lines.specs.Lines.{lines_between, tree_of, unwrapped_lines_of, view_line};
+ghost use Rattle.unwrapped_lines.specs.Lines.{tree_of, unwrapped_lines_of, view_line};
 ghost use Rattle.unwrapped_lines.specs.Colons.{AreCaseColons};
 ghost use Rattle.unwrapped_lines.specs.Comments.{begins_from, no_marks};
 ghost use Rattle.unwrapped_lines.specs.Stack.{IsCut};
