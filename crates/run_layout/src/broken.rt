@@ -132,7 +132,8 @@ fn are_eight_open(plan: &Plan<'_>, tokens: &[LineTok], first: usize) -> bool
     true
 }
 
-/// A place up to which all gaps are open, looked at by eights.
+/// A place up to which the gaps before all tokens are open. They are looked at by eights, since that many take fewer
+/// steps at once than one by one.
 #[inline(always)]
 fn open_front(plan: &Plan<'_>, tokens: &[LineTok]) -> usize
     requires { All (λ token. token.id.0 < length plan.now) tokens.now }

@@ -1,7 +1,7 @@
 //! Lines that stay on one row. They need no search, and take no memory.
 
-ghost use Rattle.std.specs.Prelude.{◌≡◌, ◌+◌, ◌<◌, ◌≤◌, ◌^◌, All, IfSome, IsTrue, None, Some, drop, false, get_or, length, slice_get, true};
-ghost use Rattle.std.specs.Prelude.{if◌then◌else◌};
+ghost use Rattle.std.specs.Prelude.{◌≡◌, ◌+◌, ◌<◌, ◌≤◌, ◌^◌, All, IfSome, IsTrue, None, Some, drop, false};
+ghost use Rattle.std.specs.Prelude.{get_or, if◌then◌else◌, length, slice_get, true};
 ghost use Rattle.line_tokens.specs.Roles.{is_trailing};
 ghost use Rattle.style_table.specs.Range.{IsInRange};
 ghost use Rattle.line_state.specs.Brackets.{opens_frame};
@@ -138,7 +138,8 @@ fn are_few(tokens: &[LineTok], budget: u64) -> bool
     tokens.len() <= 1000 && budget >= 1_001_000
 }
 
-/// The most columns that the first row or the last of a token takes. For most tokens it is one row, and this its width.
+/// At least as many columns as the first row of a token takes, and as the last one: the bitwise or of two numbers has
+/// each bit that one of them has. For most tokens both are one row, and this is its width.
 #[inline(always)]
 fn most_width(token: &LineTok) -> u32
     ensures first { token.now.first_width ≤ result }
