@@ -51,8 +51,12 @@ fn is_passed(table: &Table<'_>, at: usize) -> bool
     requires at { at < length table.now }
     ensures { OnTrue result ((v : ℕ) × Passes table.now v at) }
 {
-    let mut end = table.last_end(at);
-    'back: for compared in 0..MOST_COMPARED {
+    let last = table.last_end(at);
+    // Most nodes are the last of their number of tokens, and aren't compared with themselves. (0 wraps to a number that
+    // no node has.)
+    let is_last = last.wrapping_sub(1) == at;
+    let mut end = if is_last { table.end_before(at) } else { last };
+    'back: for compared in usize::from(is_last)..MOST_COMPARED {
         if end == 0 || end > table.len() {
             return false;
         }
