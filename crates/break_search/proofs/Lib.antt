@@ -3,6 +3,7 @@ mod Orders
 mod Heaps
 mod Queue
 mod Nodes
+mod Ends
 mod Jumping
 mod Striding
 mod Grouping

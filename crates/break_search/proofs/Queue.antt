@@ -1,5 +1,5 @@
 -- An entry that stands beside the heap of the others.
-use Rattle.std.proofs.Common.{◌≡◌, ℕ, ◌+◌, ◌<◌, ◌≤◌, inl, inr, Option, Some, None, IfSome, List, [], ◌∷◌, drop, length, refl, ap, arith, slice_get, subst, suc, sym, zero}
+use Rattle.std.proofs.Common.{◌≡◌, ℕ, ◌+◌, ◌<◌, inl, inr, Option, Some, None, IfSome, List, [], ◌∷◌, drop, length, refl, ap, arith, slice_get, subst, suc, sym, zero}
 use Rattle.std.specs.BinaryHeap.{IsHeap}
 use Rattle.std.specs.List.Sorted.{IsPermutation}
 use Rattle.std.specs.List.{slice_index_or}
