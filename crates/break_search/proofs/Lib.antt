@@ -3,7 +3,7 @@ mod Orders
 mod Heaps
 mod Queue
 mod Nodes
-mod Ends
+mod Firsts
 mod Jumping
 mod Striding
 mod Grouping

@@ -52,10 +52,11 @@ fn is_passed(table: &Table<'_>, at: usize) -> bool
     ensures { OnTrue result ((v : ℕ) × Passes table.now v at) }
 {
     let last = table.last_end(at);
+    let before = table.end_before(at);
     // Most nodes are the last of their number of tokens, and aren't compared with themselves. (0 wraps to a number that
     // no node has.)
     let is_last = last.wrapping_sub(1) == at;
-    let mut end = if is_last { table.end_before(at) } else { last };
+    let mut end = if is_last { before } else { last };
     'back: for compared in usize::from(is_last)..MOST_COMPARED {
         if end == 0 || end > table.len() {
             return false;
