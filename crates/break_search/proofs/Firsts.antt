@@ -1,5 +1,5 @@
 -- The first node of each number of tokens.
-use Rattle.std.proofs.Common.{◌≡◌, ◌≢◌, ℕ, ◌<◌, ◌≤◌, ◌⊎◌, inl, inr, Option, Some, None, IfNone, List, [], ◌∷◌, ◌++◌, length, refl, arith, ap, suc, sym, ◌∙◌, subst, slice_get, slice_set, get_or, zero}
+use Rattle.std.proofs.Common.{◌≡◌, ℕ, ◌<◌, inl, inr, Option, Some, None, IfNone, List, [], ◌∷◌, ◌++◌, length, refl, arith, ap, suc, sym, ◌∙◌, subst, slice_get, slice_set, get_or}
 use Rattle.std.proofs.lemmas.Bool.{cases_eq}
 use Rattle.std.proofs.lemmas.Option.{slice_get_within, slice_get_read}
 use Rattle.line_state.specs.declared.node.NodeState.{NodeState}
@@ -9,30 +9,14 @@ use Rattle.line_state.proofs.Edits.{At, at_set, at_push}
 use Rattle.break_search.specs.declared.table.Node.{Node}
 use Rattle.break_search.specs.Groups.{HaveFirsts, IsGrouped, IsMet, IsPlaced, LacksPlace}
 
+-- what a look-up that found none tells
 pub if_none_then : (o : Option ℕ) {P Q : Type 0} → IfNone o P → (P → Q) → IfNone o Q
 if_none_then None h f = f h
 if_none_then (Some w) h f = tt
 
--- where none is told, no node stands at the state's place
-pub lacks_first : (nodes : List Node) (firsts : List ℕ) (state : NodeState) (end : ℕ) → HaveFirsts nodes firsts → slice_get firsts state.index ≡ Some end → end < 1 → (u : ℕ) → LacksPlace nodes u state
-lacks_first nodes firsts state end have told none u node at same = absurd (omega (arith, none, have u node end at (ap (λ (i : ℕ). slice_get firsts i) same.index ∙ told)))
-
-module _ (nodes : List Node) (groups : List Chained) (firsts : List ℕ) (state : NodeState) (listed : (u : ℕ) → IsPlaced groups state.index (state_digest state) u → LacksPlace nodes u state) where
-  -- .. nor where the one that is told doesn't, and none that is listed does
-  pub lacks_both : (first : ℕ) → slice_get firsts state.index ≡ Some (suc first) → LacksPlace nodes first state → (u : ℕ) → IsMet groups firsts state.index (state_digest state) u → LacksPlace nodes u state
-  lacks_both first told lacks u met = elim met [
-    | inl placed ↦ listed u placed
-    | inr is ↦
-        let both : Some (suc first) ≡ Some (suc u) = sym told ∙ is in
-        let same : suc first ≡ suc u = cc in
-        subst (λ (v : ℕ). LacksPlace nodes v state) (omega (arith, same)) lacks
-  ]
-
-  pub lacks_listed : slice_get firsts state.index ≡ None → (u : ℕ) → IsMet groups firsts state.index (state_digest state) u → LacksPlace nodes u state
-  lacks_listed past u met = elim met [
-    | inl placed ↦ listed u placed
-    | inr is ↦ (let both : None ≡ Some (suc u) = sym past ∙ is in absurd (cc))
-  ]
+-- where none is told of the state's number of tokens, the nodes with that number are listed
+pub lacks_listed : (nodes : List Node) (groups : List Chained) (firsts : List ℕ) (state : NodeState) → ((u : ℕ) → IsPlaced groups state.index (state_digest state) u → LacksPlace nodes u state) → slice_get firsts state.index ≡ None → (u : ℕ) → IsMet groups firsts state.index (state_digest state) u → LacksPlace nodes u state
+lacks_listed nodes groups firsts state listed past u met = elim met [ inl placed ↦ listed u placed | inr is ↦ (let both : None ≡ Some (suc u) = sym past ∙ is in absurd (cc)) ]
 
 pub none_have : (nodes : List Node) (firsts : List ℕ) → nodes ≡ [] → HaveFirsts nodes firsts
 none_have nodes firsts e = subst (λ (ns : List Node). HaveFirsts ns firsts) (sym e) (λ u node end at told. absurd (omega (arith, slice_get_within [] u node at)))
@@ -40,37 +24,6 @@ none_have nodes firsts e = subst (λ (ns : List Node). HaveFirsts ns firsts) (sy
 -- the number is listed
 pub listed_met : (groups fuller : List Chained) (firsts : List ℕ) → ((i d u : ℕ) → IsGrouped groups i d u → IsGrouped fuller i d u) → (i d u : ℕ) → IsMet groups firsts i d u → IsMet fuller firsts i d u
 listed_met groups fuller firsts kept i d u met = elim met [ inl placed ↦ inl (kept _ _ u placed) | inr is ↦ inr is ]
-
--- .. or told as the first one
-module _ (groups : List Chained) (old new : List ℕ) (index last end : ℕ) (none : slice_get old index ≡ Some 0) (sets : new ≡ slice_set old index end) (next : end ≡ suc last) where
-  edit_of : At old new index (suc last)
-  edit_of = subst (λ (n : ℕ). At old new index n) next (subst (λ (es : List ℕ). At old es index end) (sym sets) (at_set old index end (slice_get_within old index 0 none)))
-
-  pub first_met : (i d u : ℕ) → IsMet groups old i d u → IsMet groups new i d u
-  first_met i d u met = elim met [ inl placed ↦ inl placed | inr is ↦ inr (still is) ]
-    where
-      still : slice_get old i ≡ Some (suc u) → slice_get new i ≡ Some (suc u)
-      still is = elim (cases_eq i index) [
-        | inl e ↦ (let both : Some 0 ≡ Some (suc u) = sym none ∙ ap (λ (j : ℕ). slice_get old j) (sym e) ∙ is in let zero_is : 0 ≡ suc u = cc in absurd (omega (arith, zero_is)))
-        | inr ne ↦ edit_of.others i ne ∙ is
-      ]
-
-  pub first_added : (d : ℕ) → IsMet groups new index d last
-  first_added d = inr edit_of.here
-
-  pub first_has : (nodes : List Node) → HaveFirsts nodes old → HaveFirsts nodes new
-  first_has nodes have u node w at told = elim (cases_eq node.state.index index) [
-    | inl e ↦ (let both : Some w ≡ Some (suc last) = sym told ∙ ap (λ (i : ℕ). slice_get new i) e ∙ edit_of.here in let same : w ≡ suc last = cc in omega (arith, same))
-    | inr ne ↦ have u node w at (sym (edit_of.others node.state.index ne) ∙ told)
-  ]
-
-  pub first_told : (w : ℕ) → slice_get new index ≡ Some w → 0 < w
-  first_told w told = (let both : Some w ≡ Some (suc last) = sym told ∙ edit_of.here in let same : w ≡ suc last = cc in omega (arith, same))
-
--- a first one was told before
-pub told_before : (firsts : List ℕ) (index : ℕ) → (slice_get firsts index ≡ Some 0 → ⊥) → (end : ℕ) → slice_get firsts index ≡ Some end → 0 < end
-told_before firsts index some zero told = absurd (some told)
-told_before firsts index some (suc end) told = omega arith
 
 -- a node is added
 pub have_pushed : (nodes more : List Node) (node : Node) (firsts : List ℕ) → more ≡ nodes ++ node ∷ [] → ((end : ℕ) → slice_get firsts node.state.index ≡ Some end → 0 < end) → HaveFirsts nodes firsts → HaveFirsts more firsts
