@@ -1,6 +1,7 @@
 //! Lines that stay on one row. They need no search, and take no memory.
 
-ghost use Rattle.std.specs.Prelude.{◌≡◌, ◌+◌, ◌<◌, ◌≤◌, ◌^◌, All, IfSome, IsTrue, None, Some, drop, false};
+ghost use Rattle.std.specs.Prelude.{◌≡◌, ◌+◌, ◌<◌, ◌≤◌, ◌^◌};
+ghost use Rattle.std.specs.Prelude.{All, IfSome, IsTrue, None, Some, drop, false};
 ghost use Rattle.std.specs.Prelude.{get_or, if◌then◌else◌, length, slice_get, true};
 ghost use Rattle.line_tokens.specs.Roles.{is_trailing};
 ghost use Rattle.style_table.specs.Range.{IsInRange};

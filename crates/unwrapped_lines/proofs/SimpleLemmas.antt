@@ -1,5 +1,6 @@
 -- Statements whose first tokens tell that no case fits them but the last.
 use Rattle.std.proofs.Common.{◌≡◌, ◌∙◌, ℕ, ◌+◌, ◌<◌, ◌≤◌, ◌&&◌, ◌||◌, nat_lt, nat_le, Bool, true, false, List, length, None, refl, ap, arith}
+use Rattle.std.proofs.lemmas.Bool.{and_right, or_from}
 use Rattle.token_classes.specs.declared.class.TokenClass.{TokenClass}
 use Rattle.token_classes.specs.declared.class.TokenClass.TheVariants.{Semicolon, Nothing}
 use Rattle.token_classes.specs.Classes.{is_word, is_plain, is_control, is_capital, is_case, is_default, is_extern, is_open_round, is_open_brace, is_close_brace, is_colon, is_semicolon}
@@ -11,14 +12,6 @@ use Rattle.unwrapped_lines.specs.Forms.{class_at, seen, after_group, began_at, e
 
 lt_self : (k : ℕ) → nat_lt k k ≡ false
 lt_self k = grind arith
-
-and_no : (x y : Bool) → y ≡ false → (x && y) ≡ false
-and_no true y e = e
-and_no false y e = refl
-
-or_no : (x y : Bool) → x ≡ false → y ≡ false → (x || y) ≡ false
-or_no true y e f = cc
-or_no false y e f = f
 
 -- ## A `;`
 
@@ -47,8 +40,8 @@ no_macro tokens end i list h =
     let low : i < end = here.0 in
     let past : nat_le (length tokens) i ≡ false = grind (arith, low, list) in
     let class = class_at tokens i in
-    or_no (nat_le (length tokens) i) (began_at tokens i && (is_word class || is_close_brace class)) past
-    (and_no (began_at tokens i) (is_word class || is_close_brace class) (or_no (is_word class) (is_close_brace class) (semicolon_word class here.1) (semicolon_close class here.1)))
+    or_from (nat_le (length tokens) i) (began_at tokens i && (is_word class || is_close_brace class)) past
+    (and_right (began_at tokens i) (is_word class || is_close_brace class) (or_from (is_word class) (is_close_brace class) (semicolon_word class here.1) (semicolon_close class here.1)))
 
 -- ## Labels
 
@@ -75,7 +68,7 @@ unlabelled_rest : (braces : Braces) (tokens : List CodeToken) (o : Open) (at : �
     → is_open_brace (class_at tokens at) ≡ false → is_extern (class_at tokens at) ≡ false → macro_end tokens o.end at ≡ at
     → unlabelled braces tokens o at ≡ other_form braces tokens o false o.level at false
 unlabelled_rest braces tokens o at block brace extern macro =
-    rw (and_no (is_code o.context) (is_plain (class_at tokens at) && (nat_lt (at + 1) (after_group tokens o.end (at + 1)) && is_open_brace (seen tokens o.end (after_group tokens o.end (at + 1))))) block, brace, extern, macro, lt_self at, unlabelled) refl
+    rw (and_right (is_code o.context) (is_plain (class_at tokens at) && (nat_lt (at + 1) (after_group tokens o.end (at + 1)) && is_open_brace (seen tokens o.end (after_group tokens o.end (at + 1))))) block, brace, extern, macro, lt_self at, unlabelled) refl
 
 no_macro_end : (tokens : List CodeToken) (end at : ℕ)
     → (is_plain (class_at tokens at) && ((nat_lt (at + 1) (after_group tokens end (at + 1)) || is_capital (class_at tokens at)) && ends_macro tokens (after_group tokens end (at + 1)))) ≡ false
@@ -105,9 +98,9 @@ name_rest braces tokens o at statements control case extern brace close colon ro
     let here : g ≡ at + 1 = rw (round, after_group) refl in
     let none : nat_lt (at + 1) g ≡ false = ap (nat_lt (at + 1)) here ∙ lt_self (at + 1) in
     let plain = is_plain (class_at tokens at) in
-    let block = and_no plain (nat_lt (at + 1) g && is_open_brace (seen tokens o.end g)) (ap (λ x. x && is_open_brace (seen tokens o.end g)) none) in
-    let word = or_no (nat_lt (at + 1) g) (is_capital (class_at tokens at)) none capital in
-    let macro = no_macro_end tokens o.end at (and_no plain ((nat_lt (at + 1) g || is_capital (class_at tokens at)) && ends_macro tokens g) (ap (λ x. x && ends_macro tokens g) word)) in
+    let block = and_right plain (nat_lt (at + 1) g && is_open_brace (seen tokens o.end g)) (ap (λ x. x && is_open_brace (seen tokens o.end g)) none) in
+    let word = or_from (nat_lt (at + 1) g) (is_capital (class_at tokens at)) none capital in
+    let macro = no_macro_end tokens o.end at (and_right plain ((nat_lt (at + 1) g || is_capital (class_at tokens at)) && ends_macro tokens g) (ap (λ x. x && ends_macro tokens g) word)) in
     rest braces tokens o at (other_form braces tokens o false o.level at false) statements close (label_without braces tokens o at case colon) control
     (unlabelled_rest braces tokens o at block brace extern macro)
 
@@ -121,8 +114,8 @@ call_rest braces tokens o at statements control case extern brace close colon li
     let g = after_group tokens o.end (at + 1) in
     let plain = is_plain (class_at tokens at) in
     let none = no_macro tokens o.end g list semicolon in
-    let block = and_no plain (nat_lt (at + 1) g && is_open_brace (seen tokens o.end g)) (and_no (nat_lt (at + 1) g) (is_open_brace (seen tokens o.end g)) (semicolon_brace (seen tokens o.end g) semicolon)) in
+    let block = and_right plain (nat_lt (at + 1) g && is_open_brace (seen tokens o.end g)) (and_right (nat_lt (at + 1) g) (is_open_brace (seen tokens o.end g)) (semicolon_brace (seen tokens o.end g) semicolon)) in
     let call = nat_lt (at + 1) g || is_capital (class_at tokens at) in
-    let macro = no_macro_end tokens o.end at (and_no plain (call && ends_macro tokens g) (and_no call (ends_macro tokens g) none)) in
+    let macro = no_macro_end tokens o.end at (and_right plain (call && ends_macro tokens g) (and_right call (ends_macro tokens g) none)) in
     rest braces tokens o at (other_form braces tokens o false o.level at false) statements close (label_without braces tokens o at case colon) control
     (unlabelled_rest braces tokens o at block brace extern macro)

@@ -1,6 +1,7 @@
 //! The level at a view's end.
 
-ghost use Rattle.std.specs.Prelude.{◌≡◌, ◌<◌, ◌≤◌, ◌-◌, ◌*◌, ◌^◌, ◌∷◌, reverse, length, IfOk};
+ghost use Rattle.std.specs.Prelude.{◌≡◌, ◌<◌, ◌≤◌, ◌-◌, ◌*◌, ◌^◌, ◌∷◌};
+ghost use Rattle.std.specs.Prelude.{reverse, length, IfOk};
 ghost use Rattle.unwrapped_lines.specs.Forms.{StaysIn, form_of};
 ghost use Rattle.unwrapped_lines.specs.Tree.{end_level, level_of_list};
 ghost use Rattle.unwrapped_lines.specs.Colons.{AreCaseColons};

@@ -1,7 +1,7 @@
 //! The cases of a statement: what line begins at a place, where it ends, and what it leaves open.
 
-ghost use Rattle.std.specs.Prelude.{◌≡◌, ◌<◌, ◌≤◌, ◌+◌, ◌-◌, ◌*◌, ◌^◌, length, Some, None, IfSome, true};
-ghost use Rattle.std.specs.Prelude.{false, ℕ};
+ghost use Rattle.std.specs.Prelude.{◌≡◌, ◌<◌, ◌≤◌, ◌+◌, ◌-◌, ◌*◌, ◌^◌};
+ghost use Rattle.std.specs.Prelude.{length, Some, None, IfSome, true, false, ℕ};
 ghost use Rattle.unwrapped_lines.specs.declared.form.Next.TheVariants.{Ends, Opens};
 ghost use Rattle.unwrapped_lines.specs.declared.open.Context.TheVariants.{Code, File};
 ghost use Rattle.line_tokens.specs.declared.line.LineKind.TheVariants.{ExternHead};
