@@ -10,7 +10,7 @@ use Rattle.view_parts.specs.declared.walk.Outcome.TheVariants as outcome
 use Rattle.view_parts.specs.declared.walk.Walk.{Walk}
 use Rattle.view_parts.specs.Reading.{Reading, EndsOutside, EndsInBody, Never, GoesOn}
 use Rattle.view_parts.specs.declared.bodies.Head.{Head}
-use Rattle.view_parts.specs.Walk.{is_label, is_record, left}
+use Rattle.view_parts.specs.Walk.{end_in_body, is_label, is_record, is_some, left}
 
 -- a token of a body may tell where the part ends, or changes what is known in another way than by its class
 abbrev pub tells_end : Walk → ℕ → Bool
@@ -49,6 +49,11 @@ depth_behind depth _ = depth
 abbrev pub Closes : ℕ → List TokenClass → Type 0
 Closes depth [] = depth ≡ 0
 Closes depth (class ∷ classes) = (0 < depth) × Closes (depth_behind depth class) classes
+
+-- the part ends before a `{`, by what that stands in
+abbrev pub ends_before_brace : Walk → Around → ℕ → Bool
+ends_before_brace walk around.Body id = is_some (end_in_body walk id OpenBrace)
+ends_before_brace walk stands id = false
 
 -- behind a body in a row whose `}` this is, at this place
 abbrev pub body_passed : Walk → Head → ℕ → ℕ → Walk

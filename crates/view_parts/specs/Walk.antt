@@ -117,9 +117,9 @@ is_label class = is_case class || is_default class
 abbrev pub is_leading : TokenClass → Bool
 is_leading class = (is_control class && not (is_else class)) || (is_record class || is_open_brace class)
 
--- A statement may begin with such a token. An `else` or a `while` may go on with the one before.
+-- A statement may begin with such a token. An `else`, a `while` or a `;` may go on with the one before, and with a closing bracket none begins.
 abbrev pub begins_statement : TokenClass → Bool
-begins_statement class = is_word class && not (is_else class) && not (is_while class)
+begins_statement class = not (is_else class || is_while class || is_semicolon class) && (is_opener class || not (is_bracket class))
 
 abbrev pub is_some : Option ℕ → Bool
 is_some None = false

@@ -1,9 +1,10 @@
 //! Where the parts of a view end.
 
-ghost use Rattle.std.specs.Prelude.{true, ◌≡◌, ◌<◌, ◌≤◌, ◌+◌, ◌-◌, ◌^◌, ℕ, length, drop, take, get_or, slice_range};
+ghost use Rattle.std.specs.Prelude.{true, not, ◌&&◌, ◌≡◌, ◌<◌, ◌≤◌, ◌+◌, ◌-◌, ◌^◌, ℕ, length, drop, take, get_or, slice_range};
 ghost use Rattle.std.specs.Prelude.{IfOk, None, Some};
 ghost use Rattle.std.specs.Option.{ForNone, ForSome};
 ghost use Rattle.token_classes.specs.declared.class.TokenClass.{TokenClass};
+ghost use Rattle.token_classes.specs.Classes.{is_open_brace};
 ghost use Rattle.token_classes.specs.Viewed.{AreWithin, item_classes};
 ghost use Rattle.token_arena.specs.Ids.{Increase};
 ghost use Rattle.view_parts.specs.declared.walk.Around.TheVariants.{Body};
@@ -12,7 +13,7 @@ ghost use Rattle.view_parts.specs.Parts.{EndsBehind, StandsBefore};
 ghost use Rattle.view_parts.specs.Places.{place_in};
 ghost use Rattle.view_parts.specs.Rows.{IsRow};
 ghost use Rattle.view_parts.specs.declared.walk.Before.TheVariants as Before;
-ghost use Rattle.view_parts.specs.Steps.{Closes, is_quiet, is_telling, may_end};
+ghost use Rattle.view_parts.specs.Steps.{Closes, ends_before_brace, is_quiet, is_telling, may_end};
 
 use crate::bodies::{BodyPlace, Head, opened_head, place_behind};
 use crate::brackets::OpenBrackets;
@@ -234,6 +235,14 @@ fn may_end(walk: &Walk, around: Around, id: TokenId) -> bool
     }
 }
 
+/// Whether an item is a `{` before which no part ends, by what it stands in.
+#[inline(always)]
+fn passes_brace(walk: &Walk, around: Around, id: TokenId, class: TokenClass) -> bool
+    ensures { result ≡ (is_open_brace class && not (ends_before_brace walk.now around id.0)) }
+{
+    class.is_open_brace() && !walk.ends_before_brace(around, id)
+}
+
 /// Where the part of a view ends that begins at a place. `all` are the classes of all items of the text. `segment` is
 /// kept from one place of a view to the next, and starts at 0.
 ///
@@ -282,7 +291,7 @@ pub fn part_end<'k>(
             walk.pass_quiet(stands, place + quiet + 1, last, all[last.0 as usize]);
             continue;
         }
-        if class.is_open_brace() {
+        if passes_brace(&walk, stands, id, class) {
             let opened = opened_head(&walk, stands, &brackets.bodies, id);
             walk.pass_open_brace(stands, id);
             if let Some((head, len)) = passed_body(&walk, opened, all, first, place, &row) {

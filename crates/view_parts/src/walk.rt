@@ -1,12 +1,12 @@
 //! The way along the items of a part.
 
-ghost use Rattle.std.specs.Prelude.{◌≡◌, ◌<◌, ◌||◌, not, length};
+ghost use Rattle.std.specs.Prelude.{◌≡◌, ◌<◌, ◌||◌, false, not, length};
 ghost use Rattle.token_arena.specs.Gaps.{Contents, item_began};
 ghost use Rattle.token_classes.specs.declared.class.TokenClass.TheVariants.{OpenBrace};
 ghost use Rattle.view_parts.specs.declared.walk.Around.TheVariants.{Outside, Body};
 ghost use Rattle.view_parts.specs.Places.{place_in};
 ghost use Rattle.view_parts.specs.Reading.{GoesOn};
-ghost use Rattle.view_parts.specs.Steps.{body_passed, passed, read_so, tells_end, StaysWhereItEnds};
+ghost use Rattle.view_parts.specs.Steps.{body_passed, ends_before_brace, passed, read_so, tells_end, StaysWhereItEnds};
 ghost use Rattle.view_parts.specs.Walk.{behind_group, behind, is_end, is_between, is_lost};
 ghost use Rattle.view_parts.specs.Walk.{asked_at, asked_in_body, is_apart, is_body, is_commented, next_declaration};
 ghost use Rattle.view_parts.specs.Walk.{begins_outside, is_linkage};
@@ -288,11 +288,13 @@ fn is_leading(class: TokenClass) -> bool
     (class.is_control() && !class.is_else()) || is_record(class) || class.is_open_brace()
 }
 
-/// Whether a statement may begin with a token of this class: an `else` or a `while` may go on with the one before.
+/// Whether a statement may begin with a token of this class: an `else`, a `while` and a `;` may go on with the one
+/// before, and with a closing bracket none begins.
 fn begins_statement(class: TokenClass) -> bool
     ensures { result ≡ begins_statement class }
 {
-    class.is_word() && !class.is_else() && !class.is_while()
+    let goes_on = class.is_else() || class.is_while() || class.is_semicolon();
+    !goes_on && (class.is_opener() || !class.is_bracket())
 }
 
 /// How many items a part has at least that ends in a body behind which a directive stands.
@@ -642,11 +644,23 @@ impl Walk {
         }
     }
 
-    /// Passes the next token, which is a `{`: no part ends there.
+    /// Whether the part ends before a `{`, by what that stands in. Few are asked for, so it is a call of its own.
+    #[inline(never)]
+    pub(crate) fn ends_before_brace(&self, around: Around, id: TokenId) -> bool
+        ensures { result ≡ ends_before_brace self.now around id.0 }
+    {
+        match around {
+            Around::Body => self.end_in_body(id, TokenClass::OpenBrace).is_some(),
+            Around::Outside | Around::Group => false,
+        }
+    }
+
+    /// Passes the next token, which is a `{` before which no part ends.
     #[inline(always)]
     pub(crate) fn pass_open_brace(&mut self, around: Around, id: TokenId)
         requires small { id.0 < 4294967295 }
         requires room { self.old.place < 4294967295 }
+        requires on { ends_before_brace self.old around id.0 ≡ false }
         ensures { (arena : Contents) → GoesOn self.new ≡ reading arena self.old around id.0 OpenBrace }
     {
         match around {

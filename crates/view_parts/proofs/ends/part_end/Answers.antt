@@ -1,5 +1,7 @@
 use Rattle.std.proofs.Common.{◌≡◌, ◌∙◌, ◌+◌, ◌-◌, ◌<◌, ℕ, List, false, Some, None, length, drop, reverse, get_or, sym, ap, subst, arith, refl, take, Bool, true, Option}
-use Rattle.std.specs.Prelude.{slice_range, if◌then◌else◌}
+use Rattle.std.specs.Prelude.{◌&&◌, not, slice_range, if◌then◌else◌}
+use Rattle.std.proofs.lemmas.Bool.{and_parts}
+use Rattle.std.proofs.Math.Bool.{and-true}
 use Rattle.std.proofs.lemmas.List.{get_or-drop, length-drop, length-map}
 use Rattle.token_arena.specs.Gaps.{Contents}
 use Rattle.token_classes.specs.declared.class.TokenClass.{TokenClass}
@@ -15,8 +17,8 @@ use Rattle.view_parts.specs.declared.walk.Walk.{Walk}
 use Rattle.view_parts.specs.Places.{Place, place_in, place_of}
 use Rattle.view_parts.specs.Parts.{around_of, end_of_part, heads_at, part_len, place_behind, EndsBehind, StandsBefore}
 use Rattle.view_parts.specs.Reading.{GoesOn}
-use Rattle.view_parts.specs.Walk.{heads_len, opened_head, reading}
-use Rattle.view_parts.specs.Steps.{may_end, passed, read_so, Closes}
+use Rattle.view_parts.specs.Walk.{end_in_body, ends_inside_or, heads_len, in_body, is_some, opened_head, reading}
+use Rattle.view_parts.specs.Steps.{ends_before_brace, may_end, passed, read_so, Closes}
 use Rattle.view_parts.proofs.BodyRows.{brace_of, read_body}
 use Rattle.view_parts.proofs.Heads.{heads_len-reverse}
 use Rattle.view_parts.proofs.InBodies.{stands_before}
@@ -25,7 +27,7 @@ use Rattle.view_parts.proofs.Quiet.{AreQuiet, all_quiet, quiet_row}
 use Rattle.view_parts.proofs.Rows.{drop_increase, quiet_view, row_items, row_later, row_stored}
 use Rattle.view_parts.proofs.Waits.{braces_turned, none_left}
 use Rattle.view_parts.proofs.Walked.{all_read, behind_place, class_told, inside_at, never_ends, next_item, next_place, outside_at, told_by}
-use Rattle.view_parts.proofs.ends.part_end.Goals.{else-loop-walk-test, then-loop-walk-test+else-prove+else-not-may_end+else-is_open_brace+in-Never}
+use Rattle.view_parts.proofs.ends.part_end.Goals.{else-loop-walk-test, then-loop-walk-test+else-prove+else-not-may_end+else-passes_brace+in-Never}
 use Rattle.view_parts.proofs.ends.part_end.Goals as goal
 
 some_is : (n m k : ℕ) → Some n ≡ Some m → n ≡ k → m ≡ k
@@ -40,6 +42,18 @@ opened_brace walk stands heads bodies id class opened is same brace =
 
 opened_none : (walk : Walk) (stands : Around) (bodies : List Head) (id : ℕ) (class : TokenClass) → is_open_brace class ≡ false → opened_head walk stands bodies id class ≡ None
 opened_none walk stands bodies id class other = ap (λ (b : Bool). if b then opened_head walk stands bodies id OpenBrace else None) other
+
+-- behind a token that goes on and isn't passed as a `{` no `{` stands
+no_brace : (arena : Contents) (walk next : Walk) (stands : Around) (id : ℕ) (class : TokenClass) → is_open_brace class && not (ends_before_brace walk stands id) ≡ false → reading arena walk stands id class ≡ GoesOn next
+    → is_open_brace class ≡ false
+no_brace arena walk next around.Outside id class other goes = sym (and-true (is_open_brace class)) ∙ other
+no_brace arena walk next around.Group id class other goes = sym (and-true (is_open_brace class)) ∙ other
+no_brace arena walk next around.Body id OpenBrace other goes = absurd (ends (end_in_body walk id OpenBrace) other goes)
+  where
+    ends : (end : Option ℕ) → not (is_some end) ≡ false → ends_inside_or end (in_body walk id OpenBrace) ≡ GoesOn next → ⊥
+    ends None e on = cc
+    ends (Some count) e on = cc
+no_brace arena walk next around.Body id _ other goes = refl
 
 -- the part ends so as the code tells
 ended_so : (arena : Contents) (begins : Option Place) (ids : List ℕ) (first end told : ℕ) (inside place : Option Place) → end ≡ told → inside ≡ place
@@ -443,13 +457,13 @@ loop-walk-preserved c =
     let place : c.pass-in-loop-walk.new.walk.place ≡ walk.place + 1 = ap (λ (w : Walk). w.place) made.walk ∙ (behind_place after bodies (reverse later.waiting.items) None id ∙ one) in
     record {
       read = read_on arena begins view c.args.first walk after c.pass-in-loop-walk.new.walk bodies (reverse later.bodies.items) waiting (reverse later.waiting.items) c.loop-walk.brackets.braces later.braces None read c.loop-walk.brackets.around
-          bodies id _ c.len-count.ensures.increase (c.item_at-id.ensures.item 0) item goes (sym (opened_none walk c.loop-walk.brackets.around bodies id _ (sym c.is_open_brace.ensures ∙ c.if-is_open_brace.false))) here refl made.waiting made.walk made.bodies made.count made.small made.before c.loop-walk.invariant.read;
+          bodies id _ c.len-count.ensures.increase (c.item_at-id.ensures.item 0) item goes (sym (opened_none walk c.loop-walk.brackets.around bodies id _ (no_brace arena walk after c.loop-walk.brackets.around id _ (sym c.passes_brace.ensures ∙ c.if-passes_brace.false) (sym c.read.ensures.read ∙ goes)))) here refl made.waiting made.walk made.bodies made.count made.small made.before c.loop-walk.invariant.read;
       stands = made.around;
       row = row_later view _ (c.args.first + c.pass-in-loop-walk.new.walk.place) c.item_at-id.new.row (omega (arith, place)) c.item_at-id.ensures.row;
     }
 
-pub loop-walk-smaller-then-is_open_brace : goal.loop-walk-smaller-then-is_open_brace
-loop-walk-smaller-then-is_open_brace c =
+pub loop-walk-smaller-then-passes_brace : goal.loop-walk-smaller-then-passes_brace
+loop-walk-smaller-then-passes_brace c =
     let arena = c.args.arena.now in
     let view = c.args.view.now in
     let begins = place_in c.args.begins in
@@ -460,7 +474,7 @@ loop-walk-smaller-then-is_open_brace c =
     let id = c.item_at-id.result.0 in
     let after = c.pass_open_brace.new.self in
     let read = GoesOn after in
-    let brace = brace_of _ (sym c.is_open_brace.ensures ∙ c.if-is_open_brace.true) in
+    let brace = brace_of _ (and_parts _ _ (sym c.passes_brace.ensures ∙ c.if-passes_brace.true)).0 in
     let item = next_item arena view c.args.all.now c.args.first c.len-count.result walk bodies waiting read c.loop-walk.brackets.around id _ c.requires.within c.requires.all c.len-count.ensures.count c.loop-walk-test.true
     (c.item_at-id.ensures.item 0) here (c.pass_open_brace.ensures arena ∙ ap (λ (class : TokenClass). reading arena walk c.loop-walk.brackets.around id class) (sym brace)) in
     let made = c.in_ok-pass.ensures in
@@ -468,8 +482,8 @@ loop-walk-smaller-then-is_open_brace c =
     let place : c.pass.new.walk.place ≡ walk.place + 1 = ap (λ (w : Walk). w.place) made.walk ∙ (behind_place after bodies (reverse c.pass.new.self.waiting.items) c.opened_head-opened.result id ∙ one) in
     omega (arith, place, c.loop-walk-test.true)
 
-pub loop-walk-preserved-then-is_open_brace : goal.loop-walk-preserved-then-is_open_brace
-loop-walk-preserved-then-is_open_brace c =
+pub loop-walk-preserved-then-passes_brace : goal.loop-walk-preserved-then-passes_brace
+loop-walk-preserved-then-passes_brace c =
     let arena = c.args.arena.now in
     let view = c.args.view.now in
     let begins = place_in c.args.begins in
@@ -480,10 +494,10 @@ loop-walk-preserved-then-is_open_brace c =
     let id = c.item_at-id.result.0 in
     let after = c.pass_open_brace.new.self in
     let read = GoesOn after in
-    let brace = brace_of _ (sym c.is_open_brace.ensures ∙ c.if-is_open_brace.true) in
+    let brace = brace_of _ (and_parts _ _ (sym c.passes_brace.ensures ∙ c.if-passes_brace.true)).0 in
     let item = next_item arena view c.args.all.now c.args.first c.len-count.result walk bodies waiting read c.loop-walk.brackets.around id _ c.requires.within c.requires.all c.len-count.ensures.count c.loop-walk-test.true
     (c.item_at-id.ensures.item 0) here (c.pass_open_brace.ensures arena ∙ ap (λ (class : TokenClass). reading arena walk c.loop-walk.brackets.around id class) (sym brace)) in
-    let opened_told = opened_brace walk c.loop-walk.brackets.around _ _ id _ _ c.opened_head-opened.ensures c.deref.ensures.value (sym c.is_open_brace.ensures ∙ c.if-is_open_brace.true) in
+    let opened_told = opened_brace walk c.loop-walk.brackets.around _ _ id _ _ c.opened_head-opened.ensures c.deref.ensures.value (and_parts _ _ (sym c.passes_brace.ensures ∙ c.if-passes_brace.true)).0 in
     let made = c.in_ok-pass.ensures in
     let later = c.pass.new.self in
     let one = next_place arena (drop c.args.first view) walk after bodies waiting read _ _ item refl in
@@ -554,10 +568,10 @@ loop-walk-preserved-in-Some c =
     let id = c.item_at-id.result.0 in
     let after = c.pass_open_brace.new.self in
     let read = GoesOn after in
-    let brace = brace_of _ (sym c.is_open_brace.ensures ∙ c.if-is_open_brace.true) in
+    let brace = brace_of _ (and_parts _ _ (sym c.passes_brace.ensures ∙ c.if-passes_brace.true)).0 in
     let item = next_item arena view c.args.all.now c.args.first c.len-count.result walk bodies waiting read c.loop-walk.brackets.around id _ c.requires.within c.requires.all c.len-count.ensures.count c.loop-walk-test.true
     (c.item_at-id.ensures.item 0) here (c.pass_open_brace.ensures arena ∙ ap (λ (class : TokenClass). reading arena walk c.loop-walk.brackets.around id class) (sym brace)) in
-    let opened_told = opened_brace walk c.loop-walk.brackets.around _ _ id _ _ c.opened_head-opened.ensures c.deref.ensures.value (sym c.is_open_brace.ensures ∙ c.if-is_open_brace.true) in
+    let opened_told = opened_brace walk c.loop-walk.brackets.around _ _ id _ _ c.opened_head-opened.ensures c.deref.ensures.value (and_parts _ _ (sym c.passes_brace.ensures ∙ c.if-passes_brace.true)).0 in
     let row = c.item_at-id.ensures.row in
     let head = c.in-Some.head in
     let len = c.in-Some.len in
@@ -587,7 +601,7 @@ returns-clause-end c =
     let waiting = reverse c.loop-walk.brackets.waiting.items in
     let none : end_of_part arena begins (drop c.args.first view) ≡ None = elim c.loop-walk-test.branch [
       | else-loop-walk-test w ↦ all_read arena begins (drop c.args.first view) walk bodies waiting (omega (arith, length-drop c.args.first view, w.loop-walk-test.false, c.len-count.ensures.count)) c.loop-walk.invariant.read.on
-      | then-loop-walk-test+else-prove+else-not-may_end+else-is_open_brace+in-Never w ↦
+      | then-loop-walk-test+else-prove+else-not-may_end+else-passes_brace+in-Never w ↦
           let here = c.loop-walk.invariant.stands in
           let read = read_so w.read.result w.read.new.walk in
           let item = next_item arena view c.args.all.now c.args.first c.len-count.result walk bodies waiting read c.loop-walk.brackets.around w.item_at-id.result.0 _ c.requires.within c.requires.all c.len-count.ensures.count w.loop-walk-test.true
@@ -607,7 +621,7 @@ returns-clause-inside c =
     let waiting = reverse c.loop-walk.brackets.waiting.items in
     let none : end_of_part arena begins (drop c.args.first view) ≡ None = elim c.loop-walk-test.branch [
       | else-loop-walk-test w ↦ all_read arena begins (drop c.args.first view) walk bodies waiting (omega (arith, length-drop c.args.first view, w.loop-walk-test.false, c.len-count.ensures.count)) c.loop-walk.invariant.read.on
-      | then-loop-walk-test+else-prove+else-not-may_end+else-is_open_brace+in-Never w ↦
+      | then-loop-walk-test+else-prove+else-not-may_end+else-passes_brace+in-Never w ↦
           let here = c.loop-walk.invariant.stands in
           let read = read_so w.read.result w.read.new.walk in
           let item = next_item arena view c.args.all.now c.args.first c.len-count.result walk bodies waiting read c.loop-walk.brackets.around w.item_at-id.result.0 _ c.requires.within c.requires.all c.len-count.ensures.count w.loop-walk-test.true
