@@ -69,6 +69,7 @@ const PARTS_BEHIND_CALLS: &[(&str, &[(u32, u32)])] = &[
     ),
     ("{ b; }\n#if A\nc;\n#endif\n}", &[(67, 67), (70, 11)]),
     ("{ b; }\n#if A\n;\n#endif\n}", &[(69, 69)]),
+    ("a;\n#if A\n;\n#endif\n}", &[(65, 65), (67, 9)]),
     ("a;\n#if A\n*b;\n#endif\n}", &[(65, 65), (69, 11)]),
     ("a;\n#if A\n{ b; }\n#endif\n}", &[(65, 65), (70, 12)]),
     ("int a[] = { 1 }\n#if A\nc;\n#endif\n}", &[(74, 74)]),
@@ -108,6 +109,10 @@ const PARTS_IN_BLOCKS: &[(&str, &[(u32, u32)])] = &[
     (
         "struct g {\nint b;\n#if A\nint c;\n#endif\n} d;\n}",
         &[(69, 69), (76, 17)],
+    ),
+    (
+        "struct __attribute__((x)) g {\nint b;\n#if A\nint c;\n#endif\n} d;\n}",
+        &[(75, 75), (82, 23)],
     ),
     (
         "switch (a) {\ncase 1:\nb;\n#if A\nc;\n#endif\n}\n}",

@@ -396,7 +396,7 @@ tells_place : (arena : Contents) (end : Option ℕ) (k : ℕ) (ids : List ℕ) (
     → Goes arena end k ids walk bodies (opener ∷ below) (id ∷ rest) → length (opener ∷ below) ≡ length bodies
     → TellsPlace arena end k ids walk bodies (end_in_body walk id (item_class arena id))
 tells_place arena end k ids walk bodies opener below id rest goes alone =
-    by_end (ends_statement walk.last) (begins_statement class) (may_part walk class) refl
+    by_end (ends_statement walk.last) (begins_statement walk.last class) (may_part walk class) refl
   where
     class : TokenClass
     class = item_class arena id

@@ -426,7 +426,7 @@ ends_told : (P : ℕ → Type 0) (all : List ℕ) (walk : Walk) (bodies : List H
     → IsPlace P (place_behind walk bodies) (get_or all count 0)
 ends_told P all walk bodies id low count class after at keeps e =
     let test = if_some (parts_statements walk class) (if is_apart walk id then ends_apart walk else ends_in_row walk id) count e in
-    let ends = (by_three (ends_statement walk.last) (begins_statement class) (may_part walk class) test.0).0 in
+    let ends = (by_three (ends_statement walk.last) (begins_statement walk.last class) (may_part walk class) test.0).0 in
     place_so P all walk bodies low (get_or all count 0) keeps ends (by_apart ends (is_apart walk id) test.1)
   where
     here : ends_statement walk.last ≡ true → walk.place ≡ count → walk.last.id < get_or all count 0

@@ -6,7 +6,7 @@ use Rattle.std.proofs.lemmas.List.{get_or-drop, length-drop}
 use Rattle.token_arena.specs.Gaps.{Contents}
 use Rattle.token_classes.specs.declared.class.TokenClass.{TokenClass}
 use Rattle.token_classes.specs.declared.class.TokenClass.TheVariants.{OpenRound, CloseRound, OpenSquare, CloseSquare, OpenBrace, CloseBrace, Else}
-use Rattle.token_classes.specs.Classes.{is_bracket, is_comment, is_control, is_else, is_open_brace, is_open_round, is_semicolon}
+use Rattle.token_classes.specs.Classes.{is_bracket, is_call_word, is_comment, is_control, is_else, is_open_brace, is_open_round, is_semicolon, is_word}
 use Rattle.token_classes.specs.Viewed.{AreWithin, item_class, item_classes}
 use Rattle.token_classes.proofs.ItemClasses.{class_at}
 use Rattle.token_classes.specs.declared.pairing.Opener.{Opener}
@@ -23,7 +23,7 @@ use Rattle.view_parts.specs.declared.walk.Walk.{Walk}
 use Rattle.view_parts.specs.Places.{Place}
 use Rattle.view_parts.specs.Reading.{Reading, GoesOn}
 use Rattle.view_parts.specs.Steps.{is_group, is_quiet, is_telling, may_end, passed, tells_end}
-use Rattle.view_parts.specs.Walk.{begins_behind, begins_block, begun_before, body_kind, end_in_body, ends_apart, ends_in_row, ends_inside_or, goes_on_with, head_of_kind, headed_by, heads_len, in_body, in_group, is_apart, is_body, is_label, is_leading, is_record, kept_begun, next_begun, next_last, opened_head, parts_statements, past_bracket, past_comment, reading}
+use Rattle.view_parts.specs.Walk.{begins_behind, begins_block, begun_before, body_kind, end_in_body, ends_apart, ends_in_row, ends_inside_or, goes_on_with, head_of_kind, headed_by, heads_len, heads_structure, in_body, in_group, is_apart, is_body, is_label, is_leading, is_record, kept_begun, next_begun, next_last, opened_head, parts_statements, past_bracket, past_comment, reading}
 use Rattle.view_parts.specs.Parts.{around_of, bodies_behind, is_left, left_innermost, waiting_behind, walk_behind, without_innermost}
 use Rattle.view_parts.proofs.Walked.{Passes, goes_on}
 
@@ -82,23 +82,23 @@ record IsHeld (walk : Walk) (id : ℕ) : Type 0 where
   apart : walk.last.apart ≡ false
   held : nat_lt 0 walk.last.held ≡ false
   low : nat_le 512 walk.place ≡ false
+  structure : walk.last.structure ≡ false
 
 held_of : (walk : Walk) (id : ℕ) → tells_end walk id ≡ false → IsHeld walk id
-held_of walk id never = (let all = all_false (not (id == walk.behind)) walk.last.apart (nat_lt 0 walk.last.held) (nat_le 512 walk.place) never in record { row = all.0; apart = all.1; held = all.2; low = all.3 })
+held_of walk id never =
+    let all = all_false (not (id == walk.behind)) walk.last.apart (nat_lt 0 walk.last.held) (nat_le 512 walk.place) walk.last.structure never in
+    record { row = all.0; apart = all.1; held = all.2; low = all.3; structure = all.4 }
   where
-    all_false : (a b c d : Bool) → a || b || c || d ≡ false → (a ≡ false) × (b ≡ false) × (c ≡ false) × (d ≡ false)
-    all_false false false false false e = (refl, refl, refl, refl)
-    all_false true b c d e = cc
-    all_false false true c d e = cc
-    all_false false false true d e = cc
-    all_false false false false true e = cc
+    all_false : (a b c d e : Bool) → a || b || c || d || e ≡ false → (a ≡ false) × (b ≡ false) × (c ≡ false) × (d ≡ false) × (e ≡ false)
+    all_false false false false false false is = (refl, refl, refl, refl, refl)
+    all_false true b c d e is = cc
+    all_false false true c d e is = cc
+    all_false false false true d e is = cc
+    all_false false false false true e is = cc
+    all_false false false false false true is = cc
 
-none_false : (a b c d : Bool) → a ≡ false → b ≡ false → c ≡ false → d ≡ false → a || b || c || d ≡ false
-none_false false false false false e f g h = refl
-none_false true b c d e f g h = cc
-none_false false true c d e f g h = cc
-none_false false false true d e f g h = cc
-none_false false false false true e f g h = cc
+none_false : (a b c d e : Bool) → a ≡ false → b ≡ false → c ≡ false → d ≡ false → e ≡ false → a || b || c || d || e ≡ false
+none_false a b c d e f g h i j = cc
 
 -- `else` is the word of a control statement
 no_else : (class : TokenClass) → is_control class ≡ false → is_else class ≡ false
@@ -139,12 +139,12 @@ quiet_last walk id class plain is =
     ∙ (ap (λ b. made false b last.headed last.block last.structure last.held) (commented (nat_le 512 walk.place) is.low)
     ∙ (ap (λ (h : Headed). made false (last.commented && not (nat_le 512 walk.place && begins_behind last)) h last.block last.structure last.held) (headed (is_open_round class) plain.round)
     ∙ (ap (λ (o : Option ℕ). made false (last.commented && not (nat_le 512 walk.place && begins_behind last)) (if is_open_round class then headed_by last.class else last.headed) o last.structure last.held) (block (is_open_brace class) plain.brace)
-    ∙ (ap (λ (o : Option ℕ). made false (last.commented && not (nat_le 512 walk.place && begins_behind last)) (if is_open_round class then headed_by last.class else last.headed)
-    (if is_open_brace class then (if begins_block last then Some id else None) else last.block) o last.held) (structure (is_record class) plain.record_word)
+    ∙ (ap (λ (o : Bool). made false (last.commented && not (nat_le 512 walk.place && begins_behind last)) (if is_open_round class then headed_by last.class else last.headed)
+    (if is_open_brace class then (if begins_block last then Some id else None) else last.block) o last.held) (structure (is_record class) (is_word class || (is_open_round class && is_call_word last.class)) last.structure is.structure plain.record_word)
     ∙ ap (λ n. made false (last.commented && not (nat_le 512 walk.place && begins_behind last)) (if is_open_round class then headed_by last.class else last.headed)
-    (if is_open_brace class then (if begins_block last then Some id else None) else last.block) (if is_record class then Some id else last.structure) n) (held (is_semicolon class) (is_label class) plain.label)))))
+    (if is_open_brace class then (if begins_block last then Some id else None) else last.block) (heads_structure last class) n) (held (is_semicolon class) (is_label class) plain.label)))))
   where
-    made : Bool → Bool → Headed → Option ℕ → Option ℕ → ℕ → LastToken
+    made : Bool → Bool → Headed → Option ℕ → Bool → ℕ → LastToken
     made apart commented headed block structure held = record { class = class; id = id; apart = apart; commented = commented; headed = headed; block = block; structure = structure; held = held }
 
     commented : (far : Bool) → far ≡ false → walk.last.commented ≡ walk.last.commented && not (far && begins_behind walk.last)
@@ -163,9 +163,8 @@ quiet_last walk id class plain is =
     block true e = absurd (differ e)
     block false e = refl
 
-    structure : (word : Bool) → word ≡ false → walk.last.structure ≡ (if word then Some id else walk.last.structure)
-    structure true e = absurd (differ e)
-    structure false e = refl
+    structure : (begins in_head was : Bool) → was ≡ false → begins ≡ false → was ≡ begins || (was && in_head)
+    structure begins in_head was none e = cc
 
     held : (semicolon label : Bool) → label ≡ false → walk.last.held ≡ (if semicolon then walk.last.held - 1 else (if label then 3 else walk.last.held))
     held true label e = (let none : walk.last.held ≡ 0 = grind (arith, nat_tests, is.held) in omega (arith, none))
@@ -283,7 +282,7 @@ next_may walk around.Group id first place last class low never e = refl
 next_may walk around.Body id first place last class low never e =
     let is = held_of walk first never in
     let few = low refl in
-    none_false (not (id == last + 1)) walk.last.apart (nat_lt 0 walk.last.held) (nat_le 512 place) (no_gap) is.apart is.held (near few)
+    none_false (not (id == last + 1)) walk.last.apart (nat_lt 0 walk.last.held) (nat_le 512 place) walk.last.structure (no_gap) is.apart is.held (near few) is.structure
   where
     no_gap : not (id == last + 1) ≡ false
     no_gap = grind (arith, nat_tests, e)

@@ -14,7 +14,7 @@ use Rattle.view_parts.specs.Walk.{end_in_body, is_label, is_record, is_some, lef
 
 -- a token of a body may tell where the part ends, or changes what is known in another way than by its class
 abbrev pub tells_end : Walk → ℕ → Bool
-tells_end walk id = not (id == walk.behind) || walk.last.apart || nat_lt 0 walk.last.held || nat_le 512 walk.place
+tells_end walk id = not (id == walk.behind) || walk.last.apart || nat_lt 0 walk.last.held || nat_le 512 walk.place || walk.last.structure
 
 -- The same, by what an item stands in.
 abbrev pub may_end : Walk → Around → ℕ → Bool

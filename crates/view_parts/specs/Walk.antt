@@ -3,7 +3,7 @@ use Rattle.std.specs.Prelude.{ℕ, ◌+◌, ◌-◌, ◌==◌, nat_le, Bool, tru
 use Rattle.token_arena.specs.Gaps.{Contents, item_began}
 use Rattle.token_classes.specs.declared.class.TokenClass.{TokenClass}
 use Rattle.token_classes.specs.declared.class.TokenClass.TheVariants.{Nothing, OpenBrace, CloseBrace}
-use Rattle.token_classes.specs.Classes.{is_opener, is_open_round, is_close_round, is_open_brace, is_close_brace, is_semicolon, is_plain, is_extern, is_text, is_assigning, is_control, is_case, is_default, is_bracket, is_comment, is_word, is_if, is_else, is_do, is_while, is_struct, is_union}
+use Rattle.token_classes.specs.Classes.{is_opener, is_open_round, is_close_round, is_open_brace, is_close_brace, is_semicolon, is_plain, is_extern, is_text, is_assigning, is_control, is_case, is_default, is_bracket, is_comment, is_word, is_if, is_else, is_do, is_while, is_struct, is_union, is_call_word}
 use Rattle.view_parts.specs.declared.walk.Around.{Around}
 use Rattle.view_parts.specs.declared.walk.Around.TheVariants as around
 use Rattle.view_parts.specs.declared.walk.Before.{Before}
@@ -117,10 +117,6 @@ is_label class = is_case class || is_default class
 abbrev pub is_leading : TokenClass → Bool
 is_leading class = (is_control class && not (is_else class)) || (is_record class || is_open_brace class)
 
--- A statement may begin with such a token. An `else`, a `while` or a `;` may go on with the one before, and with a closing bracket none begins.
-abbrev pub begins_statement : TokenClass → Bool
-begins_statement class = not (is_else class || is_while class || is_semicolon class) && (is_opener class || not (is_bracket class))
-
 abbrev pub is_some : Option ℕ → Bool
 is_some None = false
 is_some (Some id) = true
@@ -145,17 +141,17 @@ is_headed_if _ = false
 abbrev pub is_behind_if : LastToken → Bool
 is_behind_if last = is_close_round last.class && is_headed_if last.headed
 
+-- A statement may begin with this token. An `else`, a `while`, or a `;` behind a `}`, may go on with the one before, and with a closing bracket none begins.
+abbrev pub begins_statement : LastToken → TokenClass → Bool
+begins_statement last class = not (is_else class || is_while class || (is_semicolon class && is_close_brace last.class)) && (is_opener class || not (is_bracket class))
+
 -- In a body a `{` begins a block behind a token that ends a statement or begins the body, and behind the head of a control statement.
 abbrev pub begins_block : LastToken → Bool
 begins_block last = is_semicolon last.class || is_open_brace last.class || is_close_brace last.class || is_else last.class || is_do last.class || (is_close_round last.class && is_headed last.headed)
 
--- The members of a structure or union stand directly behind its word or its tag.
-abbrev pub begins_members : LastToken → Bool
-begins_members last =
-    elim last.structure [
-      | None ↦ false
-      | Some word ↦ word == last.id || (is_plain last.class && last.id == word + 1)
-    ]
+-- With this token the head of a structure or union begins, or goes on: words stand in it, and groups directly behind words with a group.
+abbrev pub heads_structure : LastToken → TokenClass → Bool
+heads_structure last class = is_record class || (last.structure && (is_word class || (is_open_round class && is_call_word last.class)))
 
 -- what a `(` stands directly behind
 abbrev pub headed_by : TokenClass → Headed
@@ -186,7 +182,7 @@ next_last place last id class = record {
   commented = last.commented && not (nat_le 512 place && begins_behind last);
   headed = if is_open_round class then headed_by last.class else last.headed;
   block = if is_open_brace class then (if begins_block last then Some id else None) else last.block;
-  structure = if is_record class then Some id else last.structure;
+  structure = heads_structure last class;
   held = next_held last.held class;
 }
 
@@ -194,7 +190,7 @@ next_last place last id class = record {
 
 -- this token, where nothing is known of a statement
 abbrev pub opening : ℕ → TokenClass → LastToken
-opening id class = record { class = class; id = id; apart = false; commented = false; headed = headed.Other; block = None; structure = None; held = 0 }
+opening id class = record { class = class; id = id; apart = false; commented = false; headed = headed.Other; block = None; structure = false; held = 0 }
 
 abbrev pub is_outside : Option Place → Bool
 is_outside None = true
@@ -243,7 +239,7 @@ may_part walk class = walk.last.held == 0 || (is_label class && not (is_some wal
 
 -- a statement ends before this token of a body and one begins with it
 abbrev pub parts_statements : Walk → TokenClass → Bool
-parts_statements walk class = ends_statement walk.last && begins_statement class && may_part walk class
+parts_statements walk class = ends_statement walk.last && begins_statement walk.last class && may_part walk class
 
 -- behind how many items the part ends, where this token of a body tells so
 abbrev pub end_in_body : Walk → ℕ → TokenClass → Option ℕ
@@ -307,7 +303,7 @@ outside walk id class asked = record {
   asked = if is_comment class then asked else None;
   begun = if begins_outside walk id then With (record { id = id; place = walk.place }) else walk.begun;
   behind = id + 1;
-  last = record walk.last { class = class; id = id; structure = if is_record class then Some id else walk.last.structure };
+  last = record walk.last { class = class; id = id; structure = heads_structure walk.last class };
 }
 
 -- what comes of a token outside brackets, where the part is asked to end so; a declaration begins with a word
@@ -336,11 +332,11 @@ abbrev pub body_kind : Walk → Around → Option BodyKind
 body_kind walk around.Outside =
     if is_body (behind walk.declaration OpenBrace) then Some kind.Function
     else (if is_linkage walk.declaration.before then Some kind.Linkage
-    else (if begins_members walk.last then Some kind.Members else None))
+    else (if walk.last.structure then Some kind.Members else None))
 body_kind walk around.Body =
     if is_behind_if walk.last then Some kind.If
     else (if begins_block walk.last && (begins_behind walk.last || not (is_close_brace walk.last.class)) then Some kind.Block
-    else (if begins_members walk.last then Some kind.Members else None))
+    else (if walk.last.structure then Some kind.Members else None))
 body_kind walk around.Group = None
 
 -- how the statement or declaration began in which this `{` stands

@@ -92,7 +92,7 @@ fn body_kind(walk: &Walk, around: Around) -> Option<BodyKind>
             }
         }
     }
-    if last.begins_members() {
+    if last.structure {
         Some(BodyKind::Members)
     } else {
         None

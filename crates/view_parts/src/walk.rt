@@ -12,7 +12,7 @@ ghost use Rattle.view_parts.specs.Walk.{asked_at, asked_in_body, is_apart, is_bo
 ghost use Rattle.view_parts.specs.Walk.{begins_outside, is_linkage};
 ghost use Rattle.view_parts.specs.Walk.{opening, start};
 ghost use Rattle.view_parts.specs.Walk.{is_record, is_label, is_leading, begins_statement};
-ghost use Rattle.view_parts.specs.Walk.{begins_behind, begins_block, begins_members, ends_statement, is_behind_if};
+ghost use Rattle.view_parts.specs.Walk.{begins_behind, begins_block, ends_statement, heads_structure, is_behind_if};
 ghost use Rattle.view_parts.specs.Walk.{headed_by, goes_on_with, kept_begun, next_begun, next_last};
 ghost use Rattle.view_parts.specs.Walk.{end_in_body, may_part, past_comment, in_body, in_group, outside};
 ghost use Rattle.view_parts.specs.Walk.{reading, entered, left};
@@ -92,8 +92,8 @@ pub struct LastToken {
     pub headed: Headed,
     /// The last `{` of a body that began a block.
     pub block: Option<u32>,
-    /// The last `struct` or `union`.
-    pub structure: Option<u32>,
+    /// It is `struct` or `union`, or a later part of the head of one: a word, or a group directly behind a word with a group.
+    pub structure: bool,
     /// Behind so many statements more a part may end: a short label may take statements onto its row.
     pub held: u32,
 }
@@ -288,15 +288,6 @@ fn is_leading(class: TokenClass) -> bool
     (class.is_control() && !class.is_else()) || is_record(class) || class.is_open_brace()
 }
 
-/// Whether a statement may begin with a token of this class: an `else`, a `while` and a `;` may go on with the one
-/// before, and with a closing bracket none begins.
-fn begins_statement(class: TokenClass) -> bool
-    ensures { result ≡ begins_statement class }
-{
-    let goes_on = class.is_else() || class.is_while() || class.is_semicolon();
-    !goes_on && (class.is_opener() || !class.is_bracket())
-}
-
 /// How many items a part has at least that ends in a body behind which a directive stands.
 const LEAST_APART: u32 = 64;
 /// How many items a part has at least that ends anywhere else in a body.
@@ -315,7 +306,7 @@ fn opening(id: TokenId, class: TokenClass) -> LastToken
         commented: false,
         headed: Headed::Other,
         block: None,
-        structure: None,
+        structure: false,
         held: 0,
     }
 }
@@ -395,6 +386,16 @@ impl LastToken {
         self.is_end() || self.class.is_open_brace()
     }
 
+    /// Whether a statement may begin with the next token, which has this class: an `else`, a `while` and a `;` behind a `}`
+    /// may go on with the one before, and with a closing bracket none begins.
+    fn begins_statement(&self, class: TokenClass) -> bool
+        ensures { result ≡ begins_statement self.now class }
+    {
+        let tail = class.is_semicolon() && self.class.is_close_brace();
+        let goes_on = class.is_else() || class.is_while() || tail;
+        !goes_on && (class.is_opener() || !class.is_bracket())
+    }
+
     /// Whether a `{` of a body that stands behind it begins a block.
     pub(crate) fn begins_block(&self) -> bool
         ensures { result ≡ begins_block self.now }
@@ -414,16 +415,12 @@ impl LastToken {
         self.class.is_close_round() && matches!(self.headed, Headed::If)
     }
 
-    /// Whether a `{` that stands behind it begins the members of a structure or union.
-    pub(crate) fn begins_members(&self) -> bool
-        ensures { result ≡ begins_members self.now }
+    /// Whether this token goes on with the head of a structure or union, or begins one.
+    fn heads_structure(&self, class: TokenClass) -> bool
+        ensures { result ≡ heads_structure self.now class }
     {
-        match self.structure {
-            Some(word) => {
-                word == self.id || (self.class.is_plain() && word < self.id && self.id - word == 1)
-            }
-            None => false,
-        }
+        let in_head = class.is_word() || (class.is_open_round() && self.class.is_call_word());
+        is_record(class) || (self.structure && in_head)
     }
 
     /// Whether a statement that began behind the body of an `if` goes on so with a token.
@@ -434,10 +431,11 @@ impl LastToken {
             || (class.is_if() && self.class.is_else())
     }
 
-    /// Behind the next token of a body, which is no comment. So many items of the part were read before it.
+    /// Behind the next token of a body, which is no comment, but for what it is to the head of a structure. So many items
+    /// of the part were read before it.
     #[inline(always)]
     fn pass(&mut self, place: u32, id: TokenId, class: TokenClass)
-        ensures { self.new ≡ next_last place self.old id.0 class }
+        ensures { self.new ≡ record (next_last place self.old id.0 class) { structure = self.old.structure } }
     {
         if place >= LEAST_IN_ROW && self.is_begin() {
             self.commented = false;
@@ -454,8 +452,6 @@ impl LastToken {
             self.held = self.held.saturating_sub(1);
         } else if is_label(class) {
             self.held = HELD;
-        } else if is_record(class) {
-            self.structure = Some(id.0);
         }
         self.class = class;
         self.id = id.0;
@@ -489,7 +485,8 @@ impl Walk {
     pub(crate) fn may_end(&self, id: TokenId) -> bool
         ensures { result ≡ tells_end self.now id.0 }
     {
-        id.0 != self.behind || self.last.apart || self.last.held > 0 || self.place >= LEAST_IN_ROW
+        let near = id.0 == self.behind && self.place < LEAST_IN_ROW;
+        !near || self.last.apart || self.last.held > 0 || self.last.structure
     }
 
     /// Whether no label holds the part's end before this token: behind one, three statements end first, or the next one
@@ -505,7 +502,7 @@ impl Walk {
         ensures { result ≡ end_in_body self.now id.0 class }
     {
         let last = &self.last;
-        if !last.is_end() || !begins_statement(class) || !self.may_part(class) {
+        if !last.is_end() || !last.begins_statement(class) || !self.may_part(class) {
             return None;
         }
         if self.is_apart(id) {
@@ -565,7 +562,9 @@ impl Walk {
         ensures { self.new ≡ in_body self.old id.0 class }
     {
         self.begun = self.next_begun(id, class);
+        let structure = self.last.heads_structure(class);
         self.last.pass(self.place, id, class);
+        self.last.structure = structure;
         self.asked = None;
         self.place += 1;
         self.behind = id.0 + 1;
@@ -616,11 +615,9 @@ impl Walk {
         self.asked = if class.is_comment() { asked } else { None };
         self.place += 1;
         self.behind = id.0 + 1;
+        self.last.structure = self.last.heads_structure(class);
         self.last.class = class;
         self.last.id = id.0;
-        if is_record(class) {
-            self.last.structure = Some(id.0);
-        }
     }
 
     /// Passes tokens in a row that tell nothing, up to this place. The last one has this number and class.
