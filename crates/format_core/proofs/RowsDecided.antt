@@ -1,5 +1,5 @@
 -- Segments of a view all of whose gaps are decided.
-use Rattle.std.proofs.Common.{◌≡◌, ◌∙◌, ◌⊎◌, inl, inr, ℕ, suc, ◌+◌, ◌-◌, ◌<◌, ◌≤◌, Option, List, ◌∷◌, ◌++◌, length, length-append, get_or, take, drop, map, sym, ap, subst, arith}
+use Rattle.std.proofs.Common.{◌≡◌, ◌∙◌, ◌⊎◌, inl, inr, ℕ, suc, ◌+◌, ◌-◌, ◌<◌, ◌≤◌, Option, List, [], ◌∷◌, ◌++◌, length, append-nil, length-append, get_or, take, drop, map, sym, ap, subst, arith}
 use Rattle.std.specs.Prelude.{IsSome, slice_range}
 use Rattle.std.specs.List.{range_with_len}
 use Rattle.std.proofs.Math.Seq.{drop-cons}
@@ -7,7 +7,7 @@ use Rattle.std.proofs.lemmas.List.{get_or_append_left, get_or-append-add}
 use Rattle.std.proofs.lemmas.List.FromFn.{length-range_with_len, get_or-range_with_len}
 use Rattle.token_arena.specs.declared.view.Segment.{Segment}
 use Rattle.token_arena.specs.Ids.{Increase}
-use Rattle.token_arena.specs.Segments.{ids_of, segment_bounds}
+use Rattle.token_arena.specs.Segments.{AreSegments, ids_of, segment_bounds}
 use Rattle.replacements.specs.declared.slot.Slot.{Slot}
 use Rattle.replacements.specs.Decisions.{slot_of}
 use Rattle.run_layout.specs.OpenGaps.{IsRowDecided}
@@ -42,16 +42,31 @@ segment_first plan segments i d within row rest =
     let is : drop i segments ≡ segment ∷ drop (i + 1) segments = drop-cons segments i d within ∙ ap (λ j. segment ∷ drop j segments) e in
     subst (λ (s : List Segment). AreDecided plan (ids_of (map segment_bounds s))) (sym is) (row_first plan segment.first segment.end (ids_of (map segment_bounds (drop (i + 1) segments))) row rest)
 
--- a part that stands in a row
-pub row_part : (plan : List (Option Slot)) (view : List ℕ) (first end id last : ℕ) → Increase view → first < end → end ≤ length view → get_or view first 0 ≡ id → get_or view (end - 1) 0 ≡ last → id ≤ last → last - id ≡ end - 1 - first → IsRowDecided plan id (last + 1)
-    → AreDecided plan (slice_range view first end)
-row_part plan view first end id last increase some inside at at_last low is row = λ place below.
+-- the items of a part that stands in a row
+pub row_items : (view : List ℕ) (first end id last : ℕ) → Increase view → first < end → end ≤ length view → get_or view first 0 ≡ id → get_or view (end - 1) 0 ≡ last → id ≤ last → last - id ≡ end - 1 - first
+    → slice_range view first end ≡ range_with_len id ((last + 1) - id)
+row_items view first end id last increase some inside at at_last low is =
     let behind = end - 1 - first in
     let e : first + behind ≡ end - 1 = omega (arith, some) in
     let n : suc behind ≡ end - first = omega (arith, some) in
+    let m : suc behind ≡ (last + 1) - id = omega (arith, low, is) in
     let far : get_or view (first + behind) 0 ≡ id + behind = ap (λ k. get_or view k 0) e ∙ (at_last ∙ omega (arith, low, is)) in
-    let same : take (end - first) (drop first view) ≡ range_with_len id (end - first) = subst (λ k. take k (drop first view) ≡ range_with_len id k) n (row_from view first id behind increase (omega (arith, some, inside)) at far) in
-    let len : length (take (end - first) (drop first view)) ≡ end - first = ap (λ (ids : List ℕ). length ids) same ∙ length-range_with_len id (end - first) in
-    let short : place < end - first = omega (arith, below, len) in
-    let item : id + place ≡ get_or (take (end - first) (drop first view)) place 0 = sym (ap (λ (ids : List ℕ). get_or ids place 0) same ∙ get_or-range_with_len id (end - first) place 0 short) in
-    subst (λ k. IsSome (slot_of plan k)) item (row (id + place) (omega arith) (omega (arith, short, low, is)))
+    let same : take (end - first) (drop first view) ≡ range_with_len id (suc behind) = subst (λ k. take k (drop first view) ≡ range_with_len id (suc behind)) n (row_from view first id behind increase (omega (arith, some, inside)) at far) in
+    same ∙ ap (λ k. range_with_len id k) m
+
+-- all of them are decided
+pub row_decided : (plan : List (Option Slot)) (first end : ℕ) (ids : List ℕ) → ids ≡ range_with_len first (end - first) → IsRowDecided plan first end → AreDecided plan ids
+row_decided plan first end ids is row = λ place below.
+    let short : place < end - first = omega (arith, below, ap (λ (xs : List ℕ). length xs) is, length-range_with_len first (end - first)) in
+    let item : first + place ≡ get_or ids place 0 = sym (ap (λ (xs : List ℕ). get_or xs place 0) is ∙ get_or-range_with_len first (end - first) place 0 short) in
+    subst (λ k. IsSome (slot_of plan k)) item (row (first + place) (omega arith) (omega (arith, short)))
+
+-- the view of one segment that has them
+pub own_segment : (row : Segment) → row.first < row.end → row.before ≡ 0 → AreSegments (row ∷ [])
+own_segment row some before = record {
+  order = (omega arith, some, tt);
+  counts = (before, tt);
+}
+
+pub own_items : (row : Segment) (ids : List ℕ) → ids ≡ range_with_len row.first (row.end - row.first) → ids_of (map segment_bounds (row ∷ [])) ≡ ids
+own_items row ids is = append-nil (range_with_len row.first (row.end - row.first)) ∙ sym is

@@ -16,7 +16,7 @@ ghost use Rattle.view_parts.specs.Parts.{ArePartsUpTo, StandsBefore, items_befor
 ghost use Rattle.view_parts.specs.Places.{place_in};
 ghost use Rattle.format_core.specs.Runs.{AreDecided, AreRowsDecided, runs_of, seen_by};
 ghost use Rattle.std.specs.Prelude.{IsSome};
-ghost use Rattle.std.specs.List.{Contains};
+ghost use Rattle.std.specs.List.{Contains, range_with_len};
 ghost use Rattle.replacements.specs.Decisions.{slot_of};
 ghost use Rattle.format_core.specs.Bounds.{AreBounds, BeginTold, IsBound};
 ghost use Rattle.format_core.specs.Windows.{AreInStep, AreToldIn, IsWindow, place_before};
@@ -37,7 +37,7 @@ use replacements::Plan;
 use run_layout::{Tally, ViewLayout, is_row_decided, lay_out_view};
 use std::alloc::Global;
 use style_table::Style;
-use token_arena::{Section, TokenArena, View};
+use token_arena::{Section, Segment, TokenArena, View};
 use token_classes::{bracket_facts, classes_among, item_classes};
 use unwrapped_lines::lines_of_classes;
 use view_parts::{
@@ -127,34 +127,40 @@ fn are_decided(view: &View<'_>, plan: &Plan<'_>) -> bool
     true
 }
 
-/// Whether a part of a view stands in a row and the gap before each of its items is decided. Its first item is looked
-/// for in the segment with this number first.
+/// The items of a part of a view that begins with this item, as one segment, where they stand in a row. The last one is
+/// looked for in the segment with this number first.
 #[inline(always)]
-fn is_decided_row(
+fn row_of_part(
     arena: &TokenArena<'_, '_>,
     view: &View<'_>,
+    id: TokenId,
     first: u32,
     end: u32,
-    plan: &Plan<'_>,
     segment: usize,
-) -> bool
+) -> Option<Segment>
     requires within { AreWithin arena.now view.now }
     requires some { first < end }
     requires inside { end ≤ length view.now }
-    requires whole { length plan.now ≡ length arena.now.tokens + 1 }
-    ensures { IsTrue result → AreDecided plan.now (slice_range view.now first end) }
+    requires item { (d : ℕ) → get_or view.now first d ≡ id.0 }
+    ensures items { IfSome result (λ row. slice_range view.now first end ≡ range_with_len row.first (row.end - row.first)) }
+    ensures some { IfSome result (λ row. row.first < row.end) }
+    ensures below { IfSome result (λ row. row.end ≤ length arena.now.tokens) }
+    ensures before { IfSome result (λ row. row.before ≡ 0) }
 {
     let count = view.len();
     prove!(end <= count);
     let items = arena.len();
     let mut near = segment;
-    let id = view.at_near(first, &mut near);
     let last = view.at_near(end - 1, &mut near);
     prove!(last.0 < items);
     if last.0 < id.0 || last.0 - id.0 != end - 1 - first {
-        return false;
+        return None;
     }
-    is_row_decided(plan, id.0, last.0 + 1)
+    Some(Segment {
+        first: id.0,
+        end: last.0 + 1,
+        before: 0,
+    })
 }
 
 /// What a run sees of the items from one to before another.
@@ -174,11 +180,13 @@ struct Window<'r> {
     later: bool,
 }
 
-/// Decides the gaps of a part of a view, from one place to before another, where they are open. A part of which all
-/// gaps are decided, as an earlier run left it, isn't looked at.
+/// Decides the gaps of a part of a view that begins with this item, from one place to before another, where they are
+/// open. A part of which all gaps are decided, as an earlier run left it, isn't looked at. Most parts stand in a row
+/// outside bodies, and their views take no memory.
 fn lay_out_part(
     context: &Context<'_>,
     window: &Window<'_>,
+    id: TokenId,
     inside: Option<BodyPlace<'_>>,
     first: u32,
     end: u32,
@@ -192,6 +200,7 @@ fn lay_out_part(
     requires within { AreWithin context.now.arena.now window.now.view }
     requires some { first < end }
     requires inside { end ≤ length window.now.view }
+    requires item { (d : ℕ) → get_or window.now.view first d ≡ id.0 }
     requires whole { length made.old.plan ≡ length context.now.arena.now.tokens + 1 }
     requires begins { ForSome (place_in inside) (λ place. StandsBefore place (get_or window.now.view first 0)) }
     requires items { All (λ id. id < length context.now.arena.now.tokens) (items_before (place_in inside)) }
@@ -208,8 +217,15 @@ fn lay_out_part(
     let arena = context.arena;
     let number = window.number;
     let view = &window.view;
-    if number > 0 && is_decided_row(arena, view, first, end, &made.plan, segment) {
-        return Ok(());
+    if let Some(row) = row_of_part(arena, view, id, first, end, segment) {
+        if is_row_decided(&made.plan, row.first, row.end) {
+            return Ok(());
+        }
+        if inside.is_none() {
+            let segments = [row];
+            let own = View::from_segments(&segments);
+            return lay_out_items(context, number, &own, made, room);
+        }
     }
     let laid = laid_view(inside, view, first, end, room)?;
     if are_decided(&laid, &made.plan) {
@@ -388,7 +404,9 @@ fn lay_out_next<'k>(
     if part.told.is_none() && window.end < arena.len() {
         return Ok(None);
     }
-    lay_out_part(context, window, inside, first, part.end, made, begun, room)?;
+    lay_out_part(
+        context, window, id, inside, first, part.end, made, begun, room,
+    )?;
     pass_part(arena, id, part, &mut known.ends, way);
     Ok(Some(part))
 }
