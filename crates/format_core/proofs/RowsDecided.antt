@@ -1,10 +1,7 @@
--- Segments of a view all of whose gaps are decided.
-use Rattle.std.proofs.Common.{◌≡◌, ◌∙◌, ◌⊎◌, inl, inr, ℕ, suc, ◌+◌, ◌-◌, ◌<◌, ◌≤◌, Option, List, [], ◌∷◌, ◌++◌, length, append-nil, length-append, get_or, take, drop, map, sym, ap, subst, arith}
+-- Parts of a view that stand in a row, and parts of which all gaps are decided.
+use Rattle.std.proofs.Common.{◌≡◌, ◌∙◌, ◌⊎◌, inl, inr, ℕ, suc, ◌+◌, ◌-◌, ◌<◌, ◌≤◌, Option, List, [], ◌∷◌, length, append-nil, get_or, take, drop, map, sym, ap, subst, arith}
 use Rattle.std.specs.Prelude.{IsSome, slice_range}
 use Rattle.std.specs.List.{range_with_len}
-use Rattle.std.proofs.Math.Seq.{drop-cons}
-use Rattle.std.proofs.lemmas.List.{get_or_append_left, get_or-append-add}
-use Rattle.std.proofs.lemmas.List.FromFn.{length-range_with_len, get_or-range_with_len}
 use Rattle.token_arena.specs.declared.view.Segment.{Segment}
 use Rattle.token_arena.specs.Ids.{Increase}
 use Rattle.token_arena.specs.Segments.{AreSegments, ids_of, segment_bounds}
@@ -13,34 +10,9 @@ use Rattle.replacements.specs.Decisions.{slot_of}
 use Rattle.run_layout.specs.OpenGaps.{IsRowDecided}
 use Rattle.view_parts.proofs.Rows.{row_from}
 use Rattle.format_core.specs.Runs.{AreDecided}
+use Rattle.format_core.proofs.Parts.{part_item, part_length}
 
-in_or_past : (place n : ℕ) → (place < n) ⊎ (n ≤ place)
-in_or_past place n = grind arith
-
-row_first : (plan : List (Option Slot)) (first end : ℕ) (ids : List ℕ) → IsRowDecided plan first end → AreDecided plan ids → AreDecided plan (range_with_len first (end - first) ++ ids)
-row_first plan first end ids row rest place below =
-    let range = range_with_len first (end - first) in
-    let len : length range ≡ end - first = length-range_with_len first (end - first) in
-    let whole : length (range ++ ids) ≡ length range + length ids = length-append range ids in
-    elim (in_or_past place (length range)) [
-      | inl inside ↦
-          let short : place < end - first = omega (arith, inside, len) in
-          let at : first + place ≡ get_or (range ++ ids) place 0 = sym (get_or_append_left range ids 0 place inside ∙ get_or-range_with_len first (end - first) place 0 short) in
-          subst (λ id. IsSome (slot_of plan id)) at (row (first + place) (omega arith) (omega (arith, short)))
-      | inr past ↦
-          let e : length range + (place - length range) ≡ place = omega (arith, past) in
-          let at : get_or ids (place - length range) 0 ≡ get_or (range ++ ids) place 0 = sym (get_or-append-add range ids (place - length range) 0) ∙ ap (λ k. get_or (range ++ ids) k 0) e in
-          subst (λ id. IsSome (slot_of plan id)) at (rest (place - length range) (omega (arith, past, below, whole)))
-    ]
-
--- the segment with this number, and those behind it
-pub segment_first : (plan : List (Option Slot)) (segments : List Segment) (i : ℕ) (d : Segment) → i < length segments → IsRowDecided plan (get_or segments i d).first (get_or segments i d).end
-    → AreDecided plan (ids_of (map segment_bounds (drop (i + 1) segments))) → AreDecided plan (ids_of (map segment_bounds (drop i segments)))
-segment_first plan segments i d within row rest =
-    let e : suc i ≡ i + 1 = omega arith in
-    let segment = get_or segments i d in
-    let is : drop i segments ≡ segment ∷ drop (i + 1) segments = drop-cons segments i d within ∙ ap (λ j. segment ∷ drop j segments) e in
-    subst (λ (s : List Segment). AreDecided plan (ids_of (map segment_bounds s))) (sym is) (row_first plan segment.first segment.end (ids_of (map segment_bounds (drop (i + 1) segments))) row rest)
+-- ## A row
 
 -- the items of a part that stands in a row
 pub row_items : (view : List ℕ) (first end id last : ℕ) → Increase view → first < end → end ≤ length view → get_or view first 0 ≡ id → get_or view (end - 1) 0 ≡ last → id ≤ last → last - id ≡ end - 1 - first
@@ -54,14 +26,34 @@ row_items view first end id last increase some inside at at_last low is =
     let same : take (end - first) (drop first view) ≡ range_with_len id (suc behind) = subst (λ k. take k (drop first view) ≡ range_with_len id (suc behind)) n (row_from view first id behind increase (omega (arith, some, inside)) at far) in
     same ∙ ap (λ k. range_with_len id k) m
 
--- all of them are decided
-pub row_decided : (plan : List (Option Slot)) (first end : ℕ) (ids : List ℕ) → ids ≡ range_with_len first (end - first) → IsRowDecided plan first end → AreDecided plan ids
-row_decided plan first end ids is row = λ place below.
-    let short : place < end - first = omega (arith, below, ap (λ (xs : List ℕ). length xs) is, length-range_with_len first (end - first)) in
-    let item : first + place ≡ get_or ids place 0 = sym (ap (λ (xs : List ℕ). get_or xs place 0) is ∙ get_or-range_with_len first (end - first) place 0 short) in
-    subst (λ k. IsSome (slot_of plan k)) item (row (first + place) (omega arith) (omega (arith, short)))
+-- ## Decided gaps of a part
 
--- the view of one segment that has them
+-- so far the gaps of a view are decided
+abbrev pub IsDecidedUpTo : List (Option Slot) → List ℕ → ℕ → ℕ → Type 0
+IsDecidedUpTo plan view first place = (j : ℕ) → first ≤ j → j < place → IsSome (slot_of plan (get_or view j 0))
+
+before_or : (j place : ℕ) → (j < place) ⊎ (place ≤ j)
+before_or j place = grind arith
+
+-- and so are those of a row behind them
+pub row_further : (plan : List (Option Slot)) (view : List ℕ) (first place id behind : ℕ) → ((k : ℕ) → k ≤ behind → get_or view (place + k) 0 ≡ id + k) → IsRowDecided plan id (id + behind + 1)
+    → IsDecidedUpTo plan view first place → IsDecidedUpTo plan view first (place + (behind + 1))
+row_further plan view first place id behind follow row before j low high = elim (before_or j place) [
+  | inl early ↦ before j low early
+  | inr late ↦
+      let e : place + (j - place) ≡ j = omega (arith, late) in
+      let at : id + (j - place) ≡ get_or view j 0 = sym (follow (j - place) (omega (arith, late, high))) ∙ ap (λ k. get_or view k 0) e in
+      subst (λ k. IsSome (slot_of plan k)) at (row (id + (j - place)) (omega arith) (omega (arith, late, high)))
+]
+
+pub part_up_to : (plan : List (Option Slot)) (view : List ℕ) (first end place : ℕ) → end ≤ place → IsDecidedUpTo plan view first place → AreDecided plan (slice_range view first end)
+part_up_to plan view first end place past all = λ k below.
+    let few : k < end - first = omega (arith, below, part_length view first end) in
+    subst (λ id. IsSome (slot_of plan id)) (sym (part_item view first end k 0 below)) (all (first + k) (omega arith) (omega (arith, few, past)))
+
+-- ## A part that stands in a row
+
+-- the view of one segment that has its items
 pub own_segment : (row : Segment) → row.first < row.end → row.before ≡ 0 → AreSegments (row ∷ [])
 own_segment row some before = record {
   order = (omega arith, some, tt);

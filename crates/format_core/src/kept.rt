@@ -27,7 +27,7 @@ fn keep(plan: &mut Plan<'_>, id: TokenId, mark: bool, column: u32)
 fn some_marked(marks: &[bool]) -> bool
     ensures { result ≡ list_any (λ mark. mark) marks.now }
 {
-    marks.iter().any(|mark| *mark)
+    marks.contains(&true)
 }
 
 /// Keeps the bytes of the gaps of a view that are marked, where they are open.

@@ -16,6 +16,7 @@ mod known_parts;
 mod laid_text;
 mod laws;
 mod line_ends;
+mod part_rows;
 mod runs;
 
 pub use context::Context;

@@ -16,7 +16,7 @@ ghost use Rattle.view_parts.specs.Parts.{ArePartsUpTo, StandsBefore, items_befor
 ghost use Rattle.view_parts.specs.Places.{place_in};
 ghost use Rattle.format_core.specs.Runs.{AreDecided, AreRowsDecided, runs_of, seen_by};
 ghost use Rattle.std.specs.Prelude.{IsSome};
-ghost use Rattle.std.specs.List.{Contains, range_with_len};
+ghost use Rattle.std.specs.List.{Contains};
 ghost use Rattle.replacements.specs.Decisions.{slot_of};
 ghost use Rattle.format_core.specs.Bounds.{AreBounds, BeginTold, IsBound};
 ghost use Rattle.format_core.specs.Windows.{AreInStep, AreToldIn, IsWindow, place_before};
@@ -28,16 +28,17 @@ use crate::context::Context;
 use crate::decide_early;
 use crate::kept::keep_gaps;
 use crate::known_parts::KnownParts;
+use crate::part_rows::{is_part_decided, row_of_part};
 use annotator::roles_of_classes;
 use branch_runs::{Change, CondTree};
 use bumpalo::Bump;
 use line_tokens::{NoMemory, TokenId};
 use off_regions::Ranges;
 use replacements::Plan;
-use run_layout::{Tally, ViewLayout, is_row_decided, lay_out_view};
+use run_layout::{Tally, ViewLayout, lay_out_view};
 use std::alloc::Global;
 use style_table::Style;
-use token_arena::{Section, Segment, TokenArena, View};
+use token_arena::{Section, TokenArena, View};
 use token_classes::{bracket_facts, classes_among, item_classes};
 use unwrapped_lines::lines_of_classes;
 use view_parts::{
@@ -114,55 +115,6 @@ fn lay_out_items(
     Ok(())
 }
 
-/// Whether the gap before each item of a view is decided.
-fn are_decided(view: &View<'_>, plan: &Plan<'_>) -> bool
-    requires { All (λ id. id < length plan.now) view.now }
-    ensures { IsTrue result → AreDecided plan.now view.now }
-{
-    for segment in view.segments() {
-        if !is_row_decided(plan, segment.first, segment.end) {
-            return false;
-        }
-    }
-    true
-}
-
-/// The items of a part of a view that begins with this item, as one segment, where they stand in a row. The last one is
-/// looked for in the segment with this number first.
-#[inline(always)]
-fn row_of_part(
-    arena: &TokenArena<'_, '_>,
-    view: &View<'_>,
-    id: TokenId,
-    first: u32,
-    end: u32,
-    segment: usize,
-) -> Option<Segment>
-    requires within { AreWithin arena.now view.now }
-    requires some { first < end }
-    requires inside { end ≤ length view.now }
-    requires item { (d : ℕ) → get_or view.now first d ≡ id.0 }
-    ensures items { IfSome result (λ row. slice_range view.now first end ≡ range_with_len row.first (row.end - row.first)) }
-    ensures some { IfSome result (λ row. row.first < row.end) }
-    ensures below { IfSome result (λ row. row.end ≤ length arena.now.tokens) }
-    ensures before { IfSome result (λ row. row.before ≡ 0) }
-{
-    let count = view.len();
-    prove!(end <= count);
-    let items = arena.len();
-    let mut near = segment;
-    let last = view.at_near(end - 1, &mut near);
-    prove!(last.0 < items);
-    if last.0 < id.0 || last.0 - id.0 != end - 1 - first {
-        return None;
-    }
-    Some(Segment {
-        first: id.0,
-        end: last.0 + 1,
-        before: 0,
-    })
-}
-
 /// What a run sees of the items from one to before another.
 #[derive(Drop)]
 struct Window<'r> {
@@ -217,20 +169,17 @@ fn lay_out_part(
     let arena = context.arena;
     let number = window.number;
     let view = &window.view;
-    if let Some(row) = row_of_part(arena, view, id, first, end, segment) {
-        if is_row_decided(&made.plan, row.first, row.end) {
-            return Ok(());
-        }
-        if inside.is_none() {
+    if is_part_decided(arena, view, first, end, &made.plan, segment) {
+        return Ok(());
+    }
+    if inside.is_none() {
+        if let Some(row) = row_of_part(arena, view, id, first, end, segment) {
             let segments = [row];
             let own = View::from_segments(&segments);
             return lay_out_items(context, number, &own, made, room);
         }
     }
     let laid = laid_view(inside, view, first, end, room)?;
-    if are_decided(&laid, &made.plan) {
-        return Ok(());
-    }
     lay_out_items(context, number, &laid, made, room)
 }
 
@@ -441,9 +390,10 @@ fn note_bound<'k>(
     };
     let items = arena.len();
     let mut near = way.segment;
-    let item = window.view.at_near(parts.end, &mut near);
     let last = window.view.at_near(told - 1, &mut near);
     prove!(last.0 < items);
+    // The next part begins there, and its segment is found then.
+    let item = window.view.at_near(parts.end, &mut way.segment);
     way.told = way.told.max(last.0 + 1);
     bounds.push(KnownBound {
         item: item.0,

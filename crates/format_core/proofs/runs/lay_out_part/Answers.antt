@@ -1,25 +1,20 @@
-use Rattle.std.proofs.Common.{◌∙◌, ◌<◌, ℕ, Bool, List, length, subst, sym, ap, arith}
+use Rattle.std.proofs.Common.{◌∙◌, ◌<◌, ℕ, List, length, subst, sym, ap, arith}
 use Rattle.std.specs.Prelude.{All, slice_range}
-use Rattle.std.specs.Bool.{OnTrue}
 use Rattle.std.proofs.lemmas.Result.{on_ok_weaker}
-use Rattle.run_layout.specs.OpenGaps.{IsRowDecided}
 use Rattle.view_parts.specs.Parts.{items_before, laid_items}
 use Rattle.view_parts.specs.Places.{place_in}
-use Rattle.format_core.specs.Runs.{AreDecided}
 use Rattle.format_core.specs.RunsTold.{AreItemsTold}
 use Rattle.format_core.proofs.Parts.{all_decided_of, laid_decided, laid_have, part_within}
 use Rattle.format_core.proofs.PlacesStand.{laid_few}
-use Rattle.format_core.proofs.RowsDecided.{own_items, own_segment, row_decided}
+use Rattle.format_core.proofs.RowsDecided.{own_items, own_segment}
 use Rattle.format_core.proofs.RunsTold.{items_told_nothing}
 use Rattle.format_core.proofs.runs.lay_out_part.Goals as goal
 
-pub returns-then-is_row_decided-clause-told : goal.returns-then-is_row_decided-clause-told
-returns-then-is_row_decided-clause-told c =
+pub returns-then-is_part_decided-clause-told : goal.returns-then-is_part_decided-clause-told
+returns-then-is_part_decided-clause-told c =
     let plan = c.args.made.now.plan in
-    let row = c.in-Some.row in
-    let all : IsRowDecided plan row.first row.end = subst (λ (b : Bool). OnTrue b (IsRowDecided plan row.first row.end)) c.if-is_row_decided.true c.is_row_decided.ensures.yes in
     items_told_nothing c.args.context.now.style.now c.args.context.now.budget c.args.context.now.arena.now c.args.window.now.number plan (laid_items (place_in c.args.inside) c.args.window.now.view c.args.first c.args.end) c.args.made.now.tally
-    (laid_decided plan c.args.window.now.view (place_in c.args.inside) c.args.first c.args.end (all_decided_of plan (items_before (place_in c.args.inside)) c.requires.decided) (row_decided plan row.first row.end (slice_range c.args.window.now.view c.args.first c.args.end) c.in-Some.ensures.items all))
+    (laid_decided plan c.args.window.now.view (place_in c.args.inside) c.args.first c.args.end (all_decided_of plan (items_before (place_in c.args.inside)) c.requires.decided) (c.is_part_decided.ensures c.if-is_part_decided.true))
 
 pub from_segments-own-requires : goal.from_segments-own-requires
 from_segments-own-requires c = own_segment c.in-Some.row c.in-Some.ensures.some c.in-Some.ensures.before
@@ -29,18 +24,6 @@ lay_out_items-requires-clause-within c =
     let tokens = length c.args.context.now.arena.now.tokens in
     let own = own_items c.in-Some.row (slice_range c.args.window.now.view c.args.first c.args.end) c.in-Some.ensures.items in
     subst (λ (ids : List ℕ). All (λ id. id < tokens) ids) (sym (c.from_segments-own.ensures.items ∙ own)) (part_within c.args.window.now.view (λ id. id < tokens) c.args.first c.args.end c.requires.within)
-
-pub are_decided-requires : goal.are_decided-requires
-are_decided-requires c =
-    let tokens = length c.args.context.now.arena.now.tokens in
-    let all = laid_have (λ id. id < tokens) c.args.window.now.view (place_in c.args.inside) c.args.first c.args.end c.requires.items c.requires.within in
-    subst (λ (ids : List ℕ). All (λ id. id < length c.args.made.now.plan) ids) (sym c.in_ok-laid.ensures.items) (λ k d below. (let low = all k d below in omega (arith, low, c.requires.whole)))
-
-pub returns-then-are_decided-clause-told : goal.returns-then-are_decided-clause-told
-returns-then-are_decided-clause-told c =
-    let plan = c.args.made.now.plan in
-    items_told_nothing c.args.context.now.style.now c.args.context.now.budget c.args.context.now.arena.now c.args.window.now.number plan (laid_items (place_in c.args.inside) c.args.window.now.view c.args.first c.args.end) c.args.made.now.tally
-    (subst (λ (ids : List ℕ). AreDecided plan ids) c.in_ok-laid.ensures.items (c.are_decided.ensures c.if-are_decided.true))
 
 pub lay_out_items-requires-2-clause-within : goal.lay_out_items-requires-2-clause-within
 lay_out_items-requires-2-clause-within c =

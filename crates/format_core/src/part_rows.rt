@@ -1,0 +1,98 @@
+//! Rows of items in a part of a view.
+
+ghost use Rattle.std.specs.Prelude.{◌≡◌, ◌<◌, ◌≤◌, ◌+◌, ◌-◌, ◌^◌, ℕ, IfSome, IsTrue, get_or, length, slice_range};
+ghost use Rattle.std.specs.List.{range_with_len};
+ghost use Rattle.token_classes.specs.Viewed.{AreWithin};
+ghost use Rattle.format_core.specs.Runs.{AreDecided};
+
+use line_tokens::TokenId;
+use replacements::Plan;
+use run_layout::is_row_decided;
+use token_arena::{Segment, TokenArena, View};
+
+/// How many items follow the one at a place in its segment: none where `number` isn't that of its segment.
+#[inline(always)]
+fn row_behind(view: &View<'_>, place: u32, id: TokenId, number: usize) -> u32
+    requires here { place < length view.now }
+    requires item { get_or view.now place 0 ≡ id.0 }
+    ensures within { place + result < length view.now }
+    ensures row { (k : ℕ) → k ≤ result → get_or view.now (place + k) 0 ≡ id.0 + k }
+    ensures fits { id.0 + result < 2 ^ 32 }
+{
+    let segments = view.segments();
+    if number < segments.len() {
+        let segment = segments[number];
+        if segment.before <= place && place - segment.before < segment.end - segment.first {
+            return segment.end - 1 - id.0;
+        }
+    }
+    0
+}
+
+/// The items of a part of a view that begins with this item, as one segment, where they stand in the segment with this
+/// number.
+#[inline(always)]
+pub(crate) fn row_of_part(
+    arena: &TokenArena<'_, '_>,
+    view: &View<'_>,
+    id: TokenId,
+    first: u32,
+    end: u32,
+    number: usize,
+) -> Option<Segment>
+    requires within { AreWithin arena.now view.now }
+    requires some { first < end }
+    requires inside { end ≤ length view.now }
+    requires item { (d : ℕ) → get_or view.now first d ≡ id.0 }
+    ensures items { IfSome result (λ row. slice_range view.now first end ≡ range_with_len row.first (row.end - row.first)) }
+    ensures some { IfSome result (λ row. row.first < row.end) }
+    ensures before { IfSome result (λ row. row.before ≡ 0) }
+{
+    let count = view.len();
+    prove!(end <= count);
+    let items = arena.len();
+    let behind = end - 1 - first;
+    if row_behind(view, first, id, number) < behind {
+        return None;
+    }
+    let last = id.0 + behind;
+    prove!(last < items);
+    Some(Segment {
+        first: id.0,
+        end: last + 1,
+        before: 0,
+    })
+}
+
+/// Whether the gap before each item of a part of a view is decided. Its first item is looked for in the segment with
+/// this number first.
+pub(crate) fn is_part_decided(
+    arena: &TokenArena<'_, '_>,
+    view: &View<'_>,
+    first: u32,
+    end: u32,
+    plan: &Plan<'_>,
+    number: usize,
+) -> bool
+    requires within { AreWithin arena.now view.now }
+    requires inside { end ≤ length view.now }
+    requires whole { length plan.now ≡ length arena.now.tokens + 1 }
+    ensures { IsTrue result → AreDecided plan.now (slice_range view.now first end) }
+{
+    let items = arena.len();
+    let mut number = number;
+    let mut place = first;
+    while place < end {
+        let id = view.at_near(place, &mut number);
+        let behind = row_behind(view, place, id, number).min(end - 1 - place);
+        let last = id.0 + behind;
+        prove!(last < items);
+        if !is_row_decided(plan, id.0, last + 1) {
+            return false;
+        }
+        place += behind + 1;
+        // The next row is that of the next segment.
+        number = number.saturating_add(1);
+    }
+    true
+}
