@@ -2,6 +2,7 @@
 use Rattle.std.proofs.Common.{◌≡◌, ◌∙◌, ◌⊎◌, inl, inr, ℕ, suc, ◌+◌, ◌-◌, ◌<◌, ◌≤◌, Option, List, [], ◌∷◌, length, append-nil, get_or, take, drop, map, sym, ap, subst, arith}
 use Rattle.std.specs.Prelude.{IsSome, slice_range}
 use Rattle.std.specs.List.{range_with_len}
+use Rattle.std.proofs.lemmas.List.FromFn.{length-range_with_len, get_or-range_with_len}
 use Rattle.token_arena.specs.declared.view.Segment.{Segment}
 use Rattle.token_arena.specs.Ids.{Increase}
 use Rattle.token_arena.specs.Segments.{AreSegments, ids_of, segment_bounds}
@@ -52,6 +53,12 @@ part_up_to plan view first end place past all = λ k below.
     subst (λ id. IsSome (slot_of plan id)) (sym (part_item view first end k 0 below)) (all (first + k) (omega arith) (omega (arith, few, past)))
 
 -- ## A part that stands in a row
+
+pub row_decided : (plan : List (Option Slot)) (first end : ℕ) (ids : List ℕ) → ids ≡ range_with_len first (end - first) → IsRowDecided plan first end → AreDecided plan ids
+row_decided plan first end ids is row = λ place below.
+    let short : place < end - first = omega (arith, below, ap (λ (xs : List ℕ). length xs) is, length-range_with_len first (end - first)) in
+    let item : first + place ≡ get_or ids place 0 = sym (ap (λ (xs : List ℕ). get_or xs place 0) is ∙ get_or-range_with_len first (end - first) place 0 short) in
+    subst (λ k. IsSome (slot_of plan k)) item (row (first + place) (omega arith) (omega (arith, short)))
 
 -- the view of one segment that has its items
 pub own_segment : (row : Segment) → row.first < row.end → row.before ≡ 0 → AreSegments (row ∷ [])

@@ -46,6 +46,7 @@ pub(crate) fn row_of_part(
     requires item { (d : ℕ) → get_or view.now first d ≡ id.0 }
     ensures items { IfSome result (λ row. slice_range view.now first end ≡ range_with_len row.first (row.end - row.first)) }
     ensures some { IfSome result (λ row. row.first < row.end) }
+    ensures below { IfSome result (λ row. row.end ≤ length arena.now.tokens) }
     ensures before { IfSome result (λ row. row.before ≡ 0) }
 {
     let count = view.len();
@@ -66,6 +67,7 @@ pub(crate) fn row_of_part(
 
 /// Whether the gap before each item of a part of a view is decided. Its first item is looked for in the segment with
 /// this number first.
+#[inline(never)]
 pub(crate) fn is_part_decided(
     arena: &TokenArena<'_, '_>,
     view: &View<'_>,

@@ -35,7 +35,7 @@ use bumpalo::Bump;
 use line_tokens::{NoMemory, TokenId};
 use off_regions::Ranges;
 use replacements::Plan;
-use run_layout::{Tally, ViewLayout, lay_out_view};
+use run_layout::{Tally, ViewLayout, is_row_decided, lay_out_view};
 use std::alloc::Global;
 use style_table::Style;
 use token_arena::{Section, TokenArena, View};
@@ -169,15 +169,17 @@ fn lay_out_part(
     let arena = context.arena;
     let number = window.number;
     let view = &window.view;
-    if is_part_decided(arena, view, first, end, &made.plan, segment) {
-        return Ok(());
-    }
-    if inside.is_none() {
-        if let Some(row) = row_of_part(arena, view, id, first, end, segment) {
+    if let Some(row) = row_of_part(arena, view, id, first, end, segment) {
+        if is_row_decided(&made.plan, row.first, row.end) {
+            return Ok(());
+        }
+        if inside.is_none() {
             let segments = [row];
             let own = View::from_segments(&segments);
             return lay_out_items(context, number, &own, made, room);
         }
+    } else if is_part_decided(arena, view, first, end, &made.plan, segment) {
+        return Ok(());
     }
     let laid = laid_view(inside, view, first, end, room)?;
     lay_out_items(context, number, &laid, made, room)

@@ -1,12 +1,14 @@
-use Rattle.std.proofs.Common.{◌∙◌, ◌<◌, ℕ, List, length, subst, sym, ap, arith}
+use Rattle.std.proofs.Common.{◌∙◌, ◌<◌, ℕ, Bool, List, length, subst, sym, ap, arith}
 use Rattle.std.specs.Prelude.{All, slice_range}
+use Rattle.std.specs.Bool.{OnTrue}
 use Rattle.std.proofs.lemmas.Result.{on_ok_weaker}
+use Rattle.run_layout.specs.OpenGaps.{IsRowDecided}
 use Rattle.view_parts.specs.Parts.{items_before, laid_items}
 use Rattle.view_parts.specs.Places.{place_in}
 use Rattle.format_core.specs.RunsTold.{AreItemsTold}
 use Rattle.format_core.proofs.Parts.{all_decided_of, laid_decided, laid_have, part_within}
 use Rattle.format_core.proofs.PlacesStand.{laid_few}
-use Rattle.format_core.proofs.RowsDecided.{own_items, own_segment}
+use Rattle.format_core.proofs.RowsDecided.{own_items, own_segment, row_decided}
 use Rattle.format_core.proofs.RunsTold.{items_told_nothing}
 use Rattle.format_core.proofs.runs.lay_out_part.Goals as goal
 
@@ -15,6 +17,14 @@ returns-then-is_part_decided-clause-told c =
     let plan = c.args.made.now.plan in
     items_told_nothing c.args.context.now.style.now c.args.context.now.budget c.args.context.now.arena.now c.args.window.now.number plan (laid_items (place_in c.args.inside) c.args.window.now.view c.args.first c.args.end) c.args.made.now.tally
     (laid_decided plan c.args.window.now.view (place_in c.args.inside) c.args.first c.args.end (all_decided_of plan (items_before (place_in c.args.inside)) c.requires.decided) (c.is_part_decided.ensures c.if-is_part_decided.true))
+
+pub returns-then-is_row_decided-clause-told : goal.returns-then-is_row_decided-clause-told
+returns-then-is_row_decided-clause-told c =
+    let plan = c.args.made.now.plan in
+    let row = c.in-Some.row in
+    let all : IsRowDecided plan row.first row.end = subst (λ (b : Bool). OnTrue b (IsRowDecided plan row.first row.end)) c.if-is_row_decided.true c.is_row_decided.ensures.yes in
+    items_told_nothing c.args.context.now.style.now c.args.context.now.budget c.args.context.now.arena.now c.args.window.now.number plan (laid_items (place_in c.args.inside) c.args.window.now.view c.args.first c.args.end) c.args.made.now.tally
+    (laid_decided plan c.args.window.now.view (place_in c.args.inside) c.args.first c.args.end (all_decided_of plan (items_before (place_in c.args.inside)) c.requires.decided) (row_decided plan row.first row.end (slice_range c.args.window.now.view c.args.first c.args.end) c.in-Some.ensures.items all))
 
 pub from_segments-own-requires : goal.from_segments-own-requires
 from_segments-own-requires c = own_segment c.in-Some.row c.in-Some.ensures.some c.in-Some.ensures.before
