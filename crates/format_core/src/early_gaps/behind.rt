@@ -78,7 +78,16 @@ pub(crate) fn is_plain(behind: Behind) -> bool
     }
 }
 
-/// Whether no gap stays at a place behind a plain item, and the item there is plain too; its gap is frozen or not.
+/// Whether there is an item with this number that may be a backslash alone, as its kind tells.
+#[inline(always)]
+fn may_be_backslash(arena: &TokenArena<'_, '_>, id: u32) -> bool
+    ensures { result ≡ false → is_backslash (slice_get arena.now.tokens id) ≡ false }
+{
+    id < arena.len() && matches!(arena.get(TokenId(id)).item.kind, ItemKind::Other)
+}
+
+/// Whether no gap stays at a place behind a plain item, and the item there is plain too, as its kind tells; its gap is
+/// frozen or not.
 #[inline(always)]
 pub(crate) fn passes(
     arena: &TokenArena<'_, '_>,
@@ -89,10 +98,10 @@ pub(crate) fn passes(
     requires { IsTreeOf arena.now tree.now }
     ensures { IsTrue result → Passes arena.now frozen place }
 {
-    if frozen || is_dead_item(arena, tree, place) {
-        return false;
-    }
-    !is_backslash(arena, place)
+    // Both are looked up before the first branch: a loop of such looks finds out once where they are kept.
+    let dead = is_dead_item(arena, tree, place);
+    let backslash = may_be_backslash(arena, place);
+    !(frozen | dead | backslash)
 }
 
 /// Nothing stands before the first place.
