@@ -1,5 +1,5 @@
 -- The gaps of parts that are noted in a row are decided, and stay so.
-use Rattle.std.proofs.Common.{◌≡◌, ◌∙◌, inl, inr, ℕ, ◌+◌, ◌-◌, ◌<◌, ◌≤◌, Option, Some, None, List, length, length-append, drop, get_or, refl, sym, subst, arith}
+use Rattle.std.proofs.Common.{◌≡◌, ◌∙◌, inl, inr, ℕ, ◌+◌, ◌-◌, ◌<◌, ◌≤◌, Option, List, length, length-append, drop, get_or, sym, subst, arith}
 use Rattle.std.specs.Prelude.{All, IsSome, slice_range}
 use Rattle.std.specs.Option.{ForSome}
 use Rattle.std.proofs.lemmas.List.{get_or-drop, get_or_append_left, get_or_default, length-drop}
@@ -15,9 +15,8 @@ use Rattle.run_layout.proofs.MadeFor.{is_some-decided, decided-is_some}
 use Rattle.view_parts.specs.declared.known.KnownEnd.{KnownEnd}
 use Rattle.view_parts.specs.Places.{Place}
 use Rattle.view_parts.specs.Parts.{StandsBefore, items_before, laid_items, part_inside}
-use Rattle.view_parts.specs.declared.known.KnownEnd.TheVariants.{Unknown}
 use Rattle.view_parts.specs.declared.known.KnownRow.{KnownRow}
-use Rattle.view_parts.specs.Known.{AreRowsFrom, HasNotedRow, HasRow, after_joined, row_of}
+use Rattle.view_parts.specs.Known.{AreRowsFrom, HasNotedRow, HasRow, after_joined}
 use Rattle.view_parts.proofs.NotedRows.{joined_hold}
 use Rattle.format_core.specs.Runs.{AreDecided, AreRowsDecided}
 use Rattle.format_core.specs.RunsTold.{AreItemsTold}
