@@ -23,3 +23,4 @@ pub mod WaitingComments
 pub mod Views
 pub mod Inside
 pub mod FixedGaps
+pub mod FirstRows

@@ -1,5 +1,5 @@
 -- What stands before the items of a line whose breaks are known: docs/PROFILE.md, "Layout of lines".
-use Rattle.std.specs.Prelude.{ℕ, ◌+◌, ◌-◌, ◌||◌, ◌&&◌, not, Bool, Option, Some, None, List, [], ◌∷◌, get_or, map, take, drop, if◌then◌else◌}
+use Rattle.std.specs.Prelude.{ℕ, zero, suc, ◌+◌, ◌-◌, ◌||◌, ◌&&◌, not, Bool, Option, Some, None, List, [], ◌∷◌, get_or, map, take, drop, if◌then◌else◌}
 use Rattle.style_table.specs.declared.style.Style.{Style}
 use Rattle.line_tokens.specs.declared.LineTok.{LineTok}
 use Rattle.line_tokens.specs.declared.Fixed.{Fixed}
@@ -40,6 +40,12 @@ number token = token.id.0
 -- what is decided of the gap before a token
 abbrev pub fixed_of_token : Contents → List (Option Slot) → LineTok → Option Fixed
 fixed_of_token arena plan token = fixed_by arena token.id.0 (slot_of plan token.id.0)
+
+-- what is told of the gaps before these tokens, of which so many are looked at: before the others nothing yet
+abbrev pub fixed_up_to : (LineTok → Option Fixed) → List LineTok → ℕ → List (Option Fixed)
+fixed_up_to f [] n = []
+fixed_up_to f (token ∷ tokens) zero = None ∷ fixed_up_to f tokens zero
+fixed_up_to f (token ∷ tokens) (suc n) = f token ∷ fixed_up_to f tokens n
 
 -- ## The gap before its first item
 

@@ -12,7 +12,7 @@ ghost use Rattle.layout_tables.specs.Indents.{start_column};
 ghost use Rattle.replacements.specs.Decisions.{decided, decided_all, slot_of};
 ghost use Rattle.line_tokens.specs.declared.LineTok.{LineTok};
 ghost use Rattle.run_layout.specs.Broken.{decision_by, empty_inside, first_made, fixed_of_token, inside_made, number};
-ghost use Rattle.run_layout.specs.Broken.{waits};
+ghost use Rattle.run_layout.specs.Broken.{fixed_up_to, waits};
 
 use crate::first::decide_first;
 use crate::row::token_at;
@@ -150,12 +150,14 @@ fn open_front(plan: &Plan<'_>, tokens: &[LineTok]) -> usize
     first
 }
 
-/// Whether the gap before each of these tokens is open.
-fn are_open(plan: &Plan<'_>, tokens: &[LineTok]) -> bool
-    requires { All (λ token. token.id.0 < length plan.now) tokens.now }
+/// Whether the gap before each of these tokens is open, where those before so many are.
+#[inline(always)]
+fn are_open(plan: &Plan<'_>, tokens: &[LineTok], front: usize) -> bool
+    requires within { All (λ token. token.id.0 < length plan.now) tokens.now }
+    requires front { (i : ℕ) (d : LineTok) → i < front → slot_of plan.now (get_or tokens.now i d).id.0 ≡ None }
     ensures { IsTrue result → All (λ token. slot_of plan.now token.id.0 ≡ None) tokens.now }
 {
-    for at in open_front(plan, tokens)..tokens.len() {
+    for at in front..tokens.len() {
         if plan.slot(token_at(tokens, at).id.0).is_some() {
             return false;
         }
@@ -184,6 +186,51 @@ fn all_open<'r>(count: usize, run: &'r Bump) -> Result<&'r [Option<Fixed>], NoMe
     Ok(into_bump_slice(vec![in run; None; count]?))
 }
 
+/// Tells what is decided of the gaps before the tokens from one place up to another, where that is told up to the first
+/// of them.
+fn tell_decided(
+    arena: &TokenArena<'_, '_>,
+    tokens: &[LineTok],
+    plan: &Plan<'_>,
+    first: usize,
+    end: usize,
+    fixed: &mut [Option<Fixed>],
+)
+    requires whole { length plan.now ≡ length arena.now.tokens + 1 }
+    requires within { All (λ token. token.id.0 < length plan.now) tokens.now }
+    requires order { first ≤ end }
+    requires inside { end ≤ length tokens.now }
+    requires told { fixed.old ≡ fixed_up_to (fixed_of_token arena.now plan.now) tokens.now first }
+    ensures told { fixed.new ≡ fixed_up_to (fixed_of_token arena.now plan.now) tokens.now end }
+{
+    let count = arena.len();
+    for at in first..end {
+        fixed[at] = plan.fixed_of(arena, token_at(tokens, at).id.0);
+    }
+    let _ = count;
+}
+
+/// The same for eight tokens. Where their gaps are open there is nothing to tell.
+#[inline(always)]
+fn tell_eight(
+    arena: &TokenArena<'_, '_>,
+    tokens: &[LineTok],
+    plan: &Plan<'_>,
+    first: usize,
+    fixed: &mut [Option<Fixed>],
+)
+    requires whole { length plan.now ≡ length arena.now.tokens + 1 }
+    requires within { All (λ token. token.id.0 < length plan.now) tokens.now }
+    requires room { first + 8 ≤ length tokens.now }
+    requires told { fixed.old ≡ fixed_up_to (fixed_of_token arena.now plan.now) tokens.now first }
+    ensures told { fixed.new ≡ fixed_up_to (fixed_of_token arena.now plan.now) tokens.now (first + 8) }
+{
+    if are_eight_open(plan, tokens, first) {
+        return;
+    }
+    tell_decided(arena, tokens, plan, first, first + 8, fixed);
+}
+
 /// What is decided of the gaps before these tokens. Before those of a part of which no run has decided anything it is
 /// nothing, as the first run finds it in most parts.
 pub(crate) fn fixed_of<'r>(
@@ -196,16 +243,18 @@ pub(crate) fn fixed_of<'r>(
     requires within { All (λ token. token.id.0 < length plan.now) tokens.now }
     ensures { IfOk result (λ fixed. fixed.now ≡ map (fixed_of_token arena.now plan.now) tokens.now) }
 {
-    let count = arena.len();
     let open = all_open(tokens.len(), run)?;
-    if are_open(plan, tokens) {
+    let front = open_front(plan, tokens);
+    if are_open(plan, tokens, front) {
         return Ok(open);
     }
     let fixed = run.try_alloc_slice_copy(open)?;
-    for at in 0..tokens.len() {
-        fixed[at] = plan.fixed_of(arena, token_at(tokens, at).id.0);
+    let mut first = front;
+    while first + 8 <= tokens.len() {
+        tell_eight(arena, tokens, plan, first, fixed);
+        first += 8;
     }
-    let _ = count;
+    tell_decided(arena, tokens, plan, first, tokens.len(), fixed);
     Ok(&*fixed)
 }
 

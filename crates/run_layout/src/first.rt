@@ -1,11 +1,14 @@
 //! What stands before a line's first item.
 
-ghost use Rattle.std.specs.Prelude.{◌≡◌, ◌<◌, ◌+◌, length, get_or};
+ghost use Rattle.std.specs.Prelude.{◌≡◌, ◌==◌, ◌<◌, ◌≤◌, ◌+◌, IsTrue, false, length, get_or};
 ghost use Rattle.token_classes.specs.Viewed.{AreWithin, classes_of};
 ghost use Rattle.replacements.specs.Decisions.{decided};
 ghost use Rattle.run_layout.specs.Rows.{item_before, row_token, first_role, opens_before, empty_rows, first_of_line};
 ghost use Rattle.run_layout.specs.Rows.{first_decision};
 ghost use Rattle.run_layout.specs.Broken.{first_slot};
+ghost use Rattle.layout_tables.specs.Indents.{start_column};
+ghost use Rattle.annotator.specs.Tokens.{item_at};
+ghost use Rattle.replacements.specs.declared.gap_text.Decision.TheVariants.{Lines};
 
 use crate::columns::start_behind;
 use crate::item::item;
@@ -94,7 +97,31 @@ fn first_of_line(
     }
 }
 
-/// What stands before the first item of a line.
+/// Whether an item isn't the text's first one and its gap has no empty line.
+#[inline(always)]
+fn begins_next_row(arena: &TokenArena<'_, '_>, id: u32) -> bool
+    requires { id < length arena.now.tokens }
+    ensures later { IsTrue result → (id == 0) ≡ false }
+    ensures near { IsTrue result → (item_at arena.now id).gap.lines ≤ 1 }
+{
+    id != 0 && item(arena, id).gap.lines <= 1
+}
+
+/// What stands before such an item, where it begins a line.
+#[inline(always)]
+fn next_row(style: &Style, line: &ULine) -> Decision
+    ensures { result ≡ Lines 1 (start_column style.now line.now) line.now.level }
+{
+    Decision::Lines {
+        count: 1,
+        column: start_column(style, line),
+        level: line.level,
+    }
+}
+
+/// What stands before the first item of a line. Most gaps have no empty line, and what stands around them isn't looked
+/// at.
+#[inline(always)]
 fn first_decision(layout: &ViewLayout<'_>, line: &ULine, id: u32) -> Decision
     requires classes { layout.now.classes.now ≡ classes_of layout.now.arena.now layout.now.view.now }
     requires place { line.now.first < length layout.now.view.now }
@@ -106,6 +133,9 @@ fn first_decision(layout: &ViewLayout<'_>, line: &ULine, id: u32) -> Decision
     let count = classes.len();
     let k = line.first;
     prove!((k as usize) < count);
+    if begins_next_row(layout.arena, id) {
+        return next_row(layout.style, line);
+    }
     let opened = opens_before(classes, k);
     let class = classes[k as usize];
     first_of_line(layout.style, layout.arena, line, opened, class, id)

@@ -45,8 +45,8 @@ fn tokens_of_line<'v>(toks: &'v [LineTok], line: &ULine) -> &'v [LineTok]
     &toks[line.first as usize..line.last as usize + 1]
 }
 
-/// Lays out a line whose inner gaps are open, if it is far from the limit, as most are. Otherwise nothing is decided.
-/// The table of blanks is read for few gaps.
+/// Lays out a line whose gaps are open, if it is far from the limit, as most are. Otherwise nothing is decided. The
+/// table of blanks is read for few gaps.
 #[inline(always)]
 fn lay_out_short_row(
     layout: &ViewLayout<'_>,
@@ -60,6 +60,7 @@ fn lay_out_short_row(
     requires places { line.now.last < length layout.now.view.now }
     requires whole { length plan.old ≡ length layout.now.arena.now.tokens + 1 }
     ensures row { OnTrue result (IsRow (broken_line layout.now.style.now layout.now.arena.now layout.now.view.now layout.now.tokens.now plan.old line.now) layout.now.budget) }
+    ensures opens { OnTrue result (IsOpen plan.old layout.now.view.now line.now) }
     ensures limit { OnTrue result (0 < layout.now.style.now.column_limit) }
     ensures plan { OnTrue result (plan.new ≡ decided_all plan.old (broken_made layout.now.style.now layout.now.arena.now layout.now.view.now layout.now.tokens.now plan.old line.now (stays (gaps (broken_line layout.now.style.now layout.now.arena.now layout.now.view.now layout.now.tokens.now plan.old line.now))))) }
     ensures same { OnFalse result (plan.new ≡ plan.old) }
@@ -75,12 +76,14 @@ fn lay_out_short_row(
     let token = token_at(tokens, 0);
     let id = token.id.0;
     prove!(id < items);
-    let first = plan.fixed_of(arena, id);
+    if plan.slot(id).is_some() {
+        return false;
+    }
     let column = start_column(style, line);
-    let Some(count) = short_row(style, tokens, column, first, layout.budget, plan) else {
+    let Some(count) = short_row(style, tokens, column, layout.budget, plan) else {
         return false;
     };
-    let behind = end_of(token, first_start(column, first));
+    let behind = end_of(token, column);
     decide_first(layout, line, id, plan);
     write_short_row(style, blanks, tokens, count, behind, plan);
     true
@@ -194,9 +197,10 @@ fn is_line_decided(
     is_decided(layout.arena, layout.view, line, plan, segment)
 }
 
-/// Lays out a line: decides its open gaps, and tells what came of it. `segment` is the number of the view's segment
-/// that was looked into last.
-fn lay_out_line(
+/// Lays out a line that isn't open or isn't far from the limit: decides its open gaps, and tells what came of it.
+/// `segment` is the number of the view's segment that was looked into last.
+#[inline(never)]
+fn lay_out_other_line(
     layout: &ViewLayout<'_>,
     line: &ULine,
     blanks: &RowBlanks,
@@ -220,13 +224,40 @@ fn lay_out_line(
     if is_line_decided(layout, line, plan, segment) {
         return Ok(Laid::Unsearched);
     }
-    if lay_out_short_row(layout, line, blanks, plan) {
-        return Ok(Laid::Least { cost: 0 });
-    }
     if lay_out_row(layout, line, blanks, plan) {
         return Ok(Laid::Least { cost: 0 });
     }
     lay_out_searched(layout, line, cursor, plan, run)
+}
+
+/// Lays out a line: decides its open gaps, and tells what came of it. `segment` is the number of the view's segment
+/// that was looked into last.
+#[inline(always)]
+fn lay_out_line(
+    layout: &ViewLayout<'_>,
+    line: &ULine,
+    blanks: &RowBlanks,
+    segment: &mut usize,
+    cursor: &mut InputCursor,
+    plan: &mut Plan<'_>,
+    run: &Bump,
+) -> Result<Laid, NoMemory>
+    requires ready { IsReady layout.now }
+    requires tell { TellBlanks layout.now.style.now blanks.now.of_group }
+    requires some { line.now.first ≤ line.now.last }
+    requires places { line.now.last < length layout.now.view.now }
+    requires whole { length plan.old ≡ length layout.now.arena.now.tokens + 1 }
+    requires before { cursor.old.place ≤ line.now.first }
+    requires column { cursor.old.column ≡ input_before layout.now.style.now layout.now.arena.now layout.now.view.now cursor.old.place }
+    ensures laid { IfOk result (IsLaid layout.now.style.now layout.now.budget layout.now.arena.now layout.now.view.now layout.now.tokens.now plan.old line.now plan.new) }
+    ensures len { OnOk result (length plan.new ≡ length plan.old) }
+    ensures before { OnOk result (cursor.new.place ≤ line.now.last + 1) }
+    ensures column { OnOk result (cursor.new.column ≡ input_before layout.now.style.now layout.now.arena.now layout.now.view.now cursor.new.place) }
+{
+    if lay_out_short_row(layout, line, blanks, plan) {
+        return Ok(Laid::Least { cost: 0 });
+    }
+    lay_out_other_line(layout, line, blanks, segment, cursor, plan, run)
 }
 
 /// Lays out the lines of a run: decides the gap before each item of a view, which these lines cut, where it is open.

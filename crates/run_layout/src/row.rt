@@ -166,15 +166,14 @@ fn ends_waiting(
     at + 1 == tokens.len() && right.role.is_trailing() && !must_break(style, left, right)
 }
 
-/// How many tokens of a line stand in its row before a trailing comment that ends it, where the line stays on one row
-/// as [`is_open_row`] says it and the gaps inside it are open. It is told by one blank in each gap: the table has no
-/// more but before trailing comments.
+/// How many tokens of a line whose first gap is open stand in its row before a trailing comment that ends it, where the
+/// line stays on one row as [`is_open_row`] says it and the gaps inside it are open. It is told by one blank in each
+/// gap: the table has no more but before trailing comments.
 #[inline(always)]
 pub(crate) fn short_row(
     style: &Style,
     tokens: &[LineTok],
     column: u32,
-    first: Option<Fixed>,
     budget: u64,
     plan: &Plan<'_>,
 ) -> Option<usize>
@@ -182,19 +181,15 @@ pub(crate) fn short_row(
     requires some { 0 < length tokens.now }
     requires within { All (λ token. token.id.0 < length plan.now) tokens.now }
     ensures inside { IfSome result (λ count. AreOpenInside plan.now tokens.now) }
-    ensures row { IfSome result (λ count. (l : Line) → IsRowLine l style.now column tokens.now first → IsRow l budget) }
-    ensures short { IfSome result (λ count. IsShortRow tokens.now (end_of (get_or tokens.now 0 no_token) (stored_or first column)) count) }
+    ensures row { IfSome result (λ count. (l : Line) → IsRowLine l style.now column tokens.now None → IsRow l budget) }
+    ensures short { IfSome result (λ count. IsShortRow tokens.now (end_of (get_or tokens.now 0 no_token) column) count) }
 {
     if style.column_limit == 0 || !are_few(tokens, budget) {
         return None;
     }
-    let mut left = token_at(tokens, 0);
-    let start = first_start(column, first);
-    if !first_fits(style, left, start, first) {
-        return None;
-    }
     let limit = u64::from(style.column_limit);
-    let mut most = u64::from(end_of(left, start));
+    let mut left = token_at(tokens, 0);
+    let mut most = u64::from(column) + u64::from(most_width(left));
     for at in 1..tokens.len() {
         let right = token_at(tokens, at);
         if plan.slot(right.id.0).is_some() {

@@ -1,9 +1,12 @@
-use Rattle.std.proofs.Common.{◌≡◌, length, map, take}
-use Rattle.run_layout.specs.Broken.{fixed_of_token}
+use Rattle.std.proofs.Common.{◌≡◌, ◌≤◌, ◌-◌, length}
+use Rattle.run_layout.specs.Broken.{fixed_of_token, fixed_up_to}
 use Rattle.run_layout.proofs.broken.fixed_of.Given as goal
 
-abbrev pub invariant-loop-at : goal.invariant-loop-at
-invariant-loop-at l = record {
-  len : length l.fixed ≡ length l.tokens;
-  front : take l.at l.fixed ≡ map (fixed_of_token l.arena l.plan) (take l.at l.tokens);
+abbrev pub invariant-loop-first : goal.invariant-loop-first
+invariant-loop-first l = record {
+  within : l.first ≤ length l.tokens;
+  told : l.fixed ≡ fixed_up_to (fixed_of_token l.arena l.plan) l.tokens l.first;
 }
+
+abbrev pub decreases-loop-first : goal.decreases-loop-first
+decreases-loop-first l = length l.tokens - l.first

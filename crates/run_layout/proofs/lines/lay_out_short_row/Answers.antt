@@ -1,5 +1,9 @@
-use Rattle.std.proofs.Common.{◌∙◌, ◌<◌, length, get_or, arith}
+use Rattle.std.proofs.Common.{◌≡◌, ◌∙◌, ◌<◌, None, length, get_or, refl, sym, ap, arith}
 use Rattle.std.proofs.lemmas.Option.{slice_get_within}
+use Rattle.replacements.specs.Breaks.{fixed_by}
+use Rattle.replacements.specs.Decisions.{slot_of}
+use Rattle.run_layout.specs.Broken.{fixed_of_token}
+use Rattle.run_layout.proofs.Inside.{none_of}
 use Rattle.run_layout.proofs.RowLines.{tokens_within, first_number, row_here, row_plan}
 use Rattle.run_layout.proofs.lines.lay_out_short_row.Goals as goal
 
@@ -22,10 +26,26 @@ write_short_row-requires-clause-within c =
     tokens_within c.args.layout.now.arena.now c.args.layout.now.view.now c.args.layout.now.tokens.now c.tokens_of_line-tokens.result.now c.args.line.now (length c.decide_first.new.plan) c.requires.ready.within c.requires.ready.tell c.requires.places
     (c.decide_first.ensures.len ∙ c.requires.whole) c.tokens_of_line-tokens.ensures
 
+pub returns-clause-opens : goal.returns-clause-opens
+returns-clause-opens c =
+    let number = first_number c.args.layout.now.arena.now c.args.layout.now.view.now c.args.layout.now.tokens.now c.tokens_of_line-tokens.result.now c.args.line.now c.token_at-token.result.now c.requires.ready.tell c.requires.some c.tokens_of_line-tokens.ensures c.token_at-token.ensures in
+    let none : slot_of c.args.plan.now c.token_at-token.result.now.id.0 ≡ None = sym c.slot.ensures ∙ none_of c.slot.result (sym c.is_some.ensures ∙ c.if-is_some.false) in
+    record {
+      place = c.args.line.now.first;
+      from = omega arith;
+      within = omega (arith, c.requires.some);
+      open_gap = ap (slot_of c.args.plan.now) number ∙ none;
+    }
+
 pub returns-clause-row : goal.returns-clause-row
 returns-clause-row c =
-    row_here c.args.layout.now.style.now c.args.layout.now.arena.now c.args.layout.now.view.now c.args.layout.now.tokens.now c.args.plan.now c.args.line.now c.args.layout.now.budget c.start_column-column.result c.tokens_of_line-tokens.result.now c.fixed_of-first.result c.token_at-token.result.now
-    c.requires.ready.tell c.tokens_of_line-tokens.ensures c.token_at-token.ensures (c.in-Some.ensures.inside) c.start_column-column.ensures c.fixed_of-first.ensures (c.in-Some.ensures.row)
+    let arena = c.args.layout.now.arena.now in
+    let plan = c.args.plan.now in
+    let token = c.token_at-token.result.now in
+    let none : slot_of plan token.id.0 ≡ None = sym c.slot.ensures ∙ none_of c.slot.result (sym c.is_some.ensures ∙ c.if-is_some.false) in
+    let first : None ≡ fixed_of_token arena plan token = sym (ap (fixed_by arena token.id.0) none) in
+    row_here c.args.layout.now.style.now arena c.args.layout.now.view.now c.args.layout.now.tokens.now plan c.args.line.now c.args.layout.now.budget c.start_column-column.result c.tokens_of_line-tokens.result.now None token
+    c.requires.ready.tell c.tokens_of_line-tokens.ensures c.token_at-token.ensures (c.in-Some.ensures.inside) c.start_column-column.ensures first (c.in-Some.ensures.row)
 
 pub returns-clause-plan : goal.returns-clause-plan
 returns-clause-plan c =
@@ -38,10 +58,12 @@ returns-clause-plan c =
     let tokens = c.tokens_of_line-tokens.result.now in
     let token = c.token_at-token.result.now in
     let inside = c.in-Some.ensures.inside in
+    let none : slot_of plan token.id.0 ≡ None = sym c.slot.ensures ∙ none_of c.slot.result (sym c.is_some.ensures ∙ c.if-is_some.false) in
+    let first : None ≡ fixed_of_token arena plan token = sym (ap (fixed_by arena token.id.0) none) in
     let number = first_number arena ids toks tokens line token c.requires.ready.tell c.requires.some c.tokens_of_line-tokens.ensures c.token_at-token.ensures in
     let row =
-    row_here style arena ids toks plan line c.args.layout.now.budget c.start_column-column.result tokens c.fixed_of-first.result token
-    c.requires.ready.tell c.tokens_of_line-tokens.ensures c.token_at-token.ensures inside c.start_column-column.ensures c.fixed_of-first.ensures (c.in-Some.ensures.row) in
-    row_plan style arena ids toks plan line c.args.layout.now.budget c.start_column-column.result tokens c.fixed_of-first.result token
-    c.requires.ready.tell c.tokens_of_line-tokens.ensures c.token_at-token.ensures inside c.start_column-column.ensures c.fixed_of-first.ensures
-    c.first_start.result c.end_of-behind.result c.decide_first.new.plan c.write_short_row.new.plan (slice_get_within tokens 0 token c.token_at-token.ensures) number row c.first_start.ensures c.end_of-behind.ensures c.decide_first.ensures.plan c.write_short_row.ensures.plan
+    row_here style arena ids toks plan line c.args.layout.now.budget c.start_column-column.result tokens None token
+    c.requires.ready.tell c.tokens_of_line-tokens.ensures c.token_at-token.ensures inside c.start_column-column.ensures first (c.in-Some.ensures.row) in
+    row_plan style arena ids toks plan line c.args.layout.now.budget c.start_column-column.result tokens None token
+    c.requires.ready.tell c.tokens_of_line-tokens.ensures c.token_at-token.ensures inside c.start_column-column.ensures first
+    c.start_column-column.result c.end_of-behind.result c.decide_first.new.plan c.write_short_row.new.plan (slice_get_within tokens 0 token c.token_at-token.ensures) number row refl c.end_of-behind.ensures c.decide_first.ensures.plan c.write_short_row.ensures.plan

@@ -1,40 +1,43 @@
-use Rattle.std.proofs.Common.{get_or, ◌≤◌, ◌≡◌, ◌∙◌, ◌<◌, ◌+◌, ◌-◌, suc, slice_get, refl, sym, ap, subst, arith, length}
+use Rattle.std.proofs.Common.{inr, None, get_or, ◌≤◌, ◌≡◌, ◌∙◌, ◌<◌, ◌+◌, ◌-◌, suc, slice_get, refl, sym, ap, subst, arith, length}
 use Rattle.line_tokens.specs.declared.LineTok.{LineTok}
-use Rattle.line_tokens.specs.Columns.{end_of, stored_or}
+use Rattle.line_tokens.specs.Columns.{end_of}
 use Rattle.line_tokens.specs.Tokens.{no_token}
 use Rattle.run_layout.specs.OneRow.{IsOneRowUpTo, open_behind, width_to}
 use Rattle.run_layout.proofs.ShortRows.{none_wait, one_waits, stand_more, width_more}
 use Rattle.run_layout.proofs.RowSteps.{row_begins, row_begins_free, row_ends}
 use Rattle.std.proofs.lemmas.Option.{get_or_from_slice_get, slice_get_within}
 use Rattle.run_layout.proofs.Inside.{inside_more, none_of}
-use Rattle.run_layout.proofs.RowBounds.{comment_ends, frames_within, goes_on_up_to}
+use Rattle.run_layout.proofs.RowBounds.{comment_ends, end_within, frames_within, goes_on_up_to}
 use Rattle.run_layout.proofs.row.short_row.Goals as goal
 
 pub loop-at-init : goal.loop-at-init
 loop-at-init c =
     let left = c.token_at-left.result.now in
-    let ends : end_of (get_or c.args.tokens.now 0 no_token) (stored_or c.args.first c.args.column) ≡ c.end_of.result =
-    ap (λ (t : LineTok). end_of t (stored_or c.args.first c.args.column)) (get_or_from_slice_get c.args.tokens.now 0 left no_token c.token_at-left.ensures) ∙ (ap (λ x. end_of left x) (sym c.first_start-start.ensures) ∙ sym c.end_of.ensures) in
+    let column = c.args.column in
+    let most = column + c.most_width.result in
+    let token : get_or c.args.tokens.now 0 no_token ≡ left = get_or_from_slice_get c.args.tokens.now 0 left no_token c.token_at-left.ensures in
+    let ends : end_of (get_or c.args.tokens.now 0 no_token) column ≡ end_of left column = ap (λ (t : LineTok). end_of t column) token in
+    let wide : (get_or c.args.tokens.now 0 no_token).first_width ≡ left.first_width = ap (λ (t : LineTok). t.first_width) token in
+    let near : end_of left column ≤ most = end_within left column column most (omega arith) (omega (arith, c.most_width.ensures.last)) in
     let none : width_to c.args.tokens.now (1 - 1) ≡ 0 = refl in
     record {
       stand = λ i token some within. absurd (omega (arith, some, within));
-      widths = omega (arith, ends, none, c.from-most.ensures);
+      widths = omega (arith, ends, none, near, c.from.ensures, c.from-2.ensures);
       inside = λ i token some within. absurd (omega (arith, some, within));
       from = omega arith;
       left = c.token_at-left.ensures;
-      few = omega (arith, c.from-most.ensures);
+      few = omega (arith, c.from.ensures, c.from-2.ensures);
       row = λ line is fits. record {
-        column = c.end_of.result;
-        frames = open_behind 0 c.token_at-left.result.now;
-        count = open_behind 0 c.token_at-left.result.now + 1;
-        row = row_begins line c.args.style.now c.args.column c.args.tokens.now c.args.first is c.token_at-left.result.now c.first_start-start.result c.end_of.result (open_behind 0 c.token_at-left.result.now) _
-            c.requires.some c.token_at-left.ensures c.first_start-start.ensures c.end_of.ensures refl refl;
-        within = omega (arith, c.from-most.ensures);
-        few = omega (arith, frames_within 0 c.token_at-left.result.now);
-        cheap = omega (arith, frames_within 0 c.token_at-left.result.now);
+        column = end_of left column;
+        frames = open_behind 0 left;
+        count = open_behind 0 left + 1;
+        row = row_begins line c.args.style.now column c.args.tokens.now None is left column (end_of left column) (open_behind 0 left) _ c.requires.some c.token_at-left.ensures refl refl refl refl;
+        within = omega (arith, near, c.from.ensures, c.from-2.ensures);
+        few = omega (arith, frames_within 0 left);
+        cheap = omega (arith, frames_within 0 left);
       };
-      free = λ line is. row_begins_free line c.args.style.now c.args.column c.args.tokens.now c.args.first is c.token_at-left.result.now c.first_start-start.result c.requires.some c.token_at-left.ensures c.first_start-start.ensures
-          (c.first_fits.ensures c.if-not-first_fits.false);
+      first = omega (arith, wide, c.most_width.ensures.first, c.from.ensures, c.from-2.ensures);
+      free = λ line is fits. row_begins_free line c.args.style.now column c.args.tokens.now None is left column c.requires.some c.token_at-left.ensures refl (λ none. inr (omega (arith, wide, fits)));
     }
 
 pub loop-at-preserved : goal.loop-at-preserved
@@ -47,7 +50,7 @@ loop-at-preserved c =
     let stays = c.stands_behind.ensures.stays c.if-not-stands_behind.false in
     let places = c.stands_behind.ensures.places c.if-not-stands_behind.false in
     let limit : 0 < c.args.style.now.column_limit = omega (arith, c.if-style-eq0.false) in
-    let width = c.from.result in
+    let width = c.from-in-loop-at.result in
     let most = c.loop-at.most in
     record {
       from = omega arith;
@@ -55,14 +58,15 @@ loop-at-preserved c =
       few = omega (arith, v.few);
       row = λ line is fits.
           subst (λ n. IsOneRowUpTo line n (most + (1 + width))) placed
-          (goes_on_up_to line c.args.style.now c.args.column c.args.tokens.now c.args.first is (at - 1) most (most + (1 + width)) c.loop-at.left.now c.token_at-right.result.now (v.row line is (omega (arith, fits))) v.left
-          (ap (λ i. slice_get c.args.tokens.now i) next ∙ c.token_at-right.ensures) (stays c.args.style.now limit) places (omega (arith, fits, c.most_width.ensures.first, c.from.ensures))
-          (omega (arith, v.from, c.loop-at-test.true, c.are_few.ensures.few c.if-not-are_few.false)) (omega (arith, c.most_width.ensures.last, c.from.ensures)));
+          (goes_on_up_to line c.args.style.now c.args.column c.args.tokens.now None is (at - 1) most (most + (1 + width)) c.loop-at.left.now c.token_at-right.result.now (v.row line is (omega (arith, fits))) v.left
+          (ap (λ i. slice_get c.args.tokens.now i) next ∙ c.token_at-right.ensures) (stays c.args.style.now limit) places (omega (arith, fits, c.most_width-in-loop-at.ensures.first, c.from-in-loop-at.ensures))
+          (omega (arith, v.from, c.loop-at-test.true, c.are_few.ensures.few c.if-not-are_few.false)) (omega (arith, c.most_width-in-loop-at.ensures.last, c.from-in-loop-at.ensures)));
       inside = inside_more c.args.plan.now c.args.tokens.now at c.token_at-right.result.now v.inside c.token_at-right.ensures
           (sym c.slot.ensures ∙ none_of c.slot.result (sym c.is_some.ensures ∙ c.if-is_some.false));
       stand = stand_more c.args.tokens.now at c.token_at-right.result.now v.stand c.token_at-right.ensures places;
-      widths = width_more c.args.tokens.now (end_of (get_or c.args.tokens.now 0 no_token) (stored_or c.args.first c.args.column)) at most (most + (1 + width)) c.token_at-right.result.now v.from c.token_at-right.ensures v.widths
-          (omega (arith, c.most_width.ensures.last, c.from.ensures));
+      widths = width_more c.args.tokens.now (end_of (get_or c.args.tokens.now 0 no_token) c.args.column) at most (most + (1 + width)) c.token_at-right.result.now v.from c.token_at-right.ensures v.widths
+          (omega (arith, c.most_width-in-loop-at.ensures.last, c.from-in-loop-at.ensures));
+      first = omega (arith, v.first);
       free = v.free;
     }
 
@@ -75,8 +79,8 @@ returns-clause-row c = λ line is.
     let fits : c.loop-at.most ≤ c.args.style.now.column_limit = omega (arith, c.if-most-limit-2.false, c.from-limit.ensures) in
     let row = v.row line is fits in
     let all : suc (c.loop-at.at - 1) ≡ length c.args.tokens.now = omega (arith, v.from, c.loop-at-test.false, c.loop-at.auto.at-end c.requires.some) in
-    row_ends line c.args.style.now c.args.column c.args.tokens.now c.args.first is c.args.budget (c.loop-at.at - 1) row.column row.frames row.count row.row all
-    (omega (arith, row.cheap, all, c.are_few.ensures.few c.if-not-are_few.false, c.are_few.ensures.budget c.if-not-are_few.false)) (v.free line is)
+    row_ends line c.args.style.now c.args.column c.args.tokens.now None is c.args.budget (c.loop-at.at - 1) row.column row.frames row.count row.row all
+    (omega (arith, row.cheap, all, c.are_few.ensures.few c.if-not-are_few.false, c.are_few.ensures.budget c.if-not-are_few.false)) (v.free line is (omega (arith, v.first, fits)))
 
 pub returns-clause-short : goal.returns-clause-short
 returns-clause-short c =
@@ -99,9 +103,9 @@ returns-then-not-stands_behind-clause-row c = λ line is.
     let fits : c.loop-at.most ≤ c.args.style.now.column_limit = omega (arith, c.if-most-limit.false, c.from-limit.ensures) in
     let next : suc (at - 1) ≡ at = omega (arith, v.from) in
     let last : at + 1 ≡ length c.args.tokens.now = c.ends_waiting.ensures.last c.if-not-ends_waiting.false in
-    comment_ends line c.args.style.now c.args.column c.args.tokens.now c.args.first is c.args.budget (at - 1) c.loop-at.most c.loop-at.left.now c.token_at-right.result.now (v.row line is fits) v.left
+    comment_ends line c.args.style.now c.args.column c.args.tokens.now None is c.args.budget (at - 1) c.loop-at.most c.loop-at.left.now c.token_at-right.result.now (v.row line is fits) v.left
     (ap (λ i. slice_get c.args.tokens.now i) next ∙ c.token_at-right.ensures) (c.ends_waiting.ensures.stays c.if-not-ends_waiting.false) (c.ends_waiting.ensures.waits c.if-not-ends_waiting.false) (omega (arith, v.from, last))
-    (c.are_few.ensures.few c.if-not-are_few.false) (c.are_few.ensures.budget c.if-not-are_few.false) (v.free line is)
+    (c.are_few.ensures.few c.if-not-are_few.false) (c.are_few.ensures.budget c.if-not-are_few.false) (v.free line is (omega (arith, v.first, fits)))
 
 pub returns-then-not-stands_behind-clause-short : goal.returns-then-not-stands_behind-clause-short
 returns-then-not-stands_behind-clause-short c =

@@ -1,0 +1,32 @@
+-- What stands before the first item of a line whose gap has no empty line.
+use Rattle.std.proofs.Common.{◌≡◌, ◌==◌, ◌&&◌, ◌≤◌, ◌+◌, not, ℕ, Bool, true, false, Option, None, refl, sym, ap, arith}
+use Rattle.std.specs.Prelude.{if◌then◌else◌}
+use Rattle.style_table.specs.declared.style.Style.{Style}
+use Rattle.line_tokens.specs.declared.LineTok.{LineTok}
+use Rattle.line_tokens.specs.declared.line.ULine.{ULine}
+use Rattle.token_arena.specs.Gaps.{Contents}
+use Rattle.token_classes.specs.Viewed.{item_class}
+use Rattle.annotator.specs.Tokens.{item_at}
+use Rattle.layout_tables.specs.Indents.{keeps_none, start_column}
+use Rattle.replacements.specs.declared.gap_text.Decision.{Decision}
+use Rattle.replacements.specs.declared.gap_text.Decision.TheVariants.{Lines, Spaces}
+use Rattle.run_layout.specs.Rows.{empty_rows, first_decision, first_role, is_behind_brace, row_token}
+
+zero_either : (holds : Bool) (x : ℕ) → x ≡ 0 → (if holds then 0 else x) ≡ 0
+zero_either true x e = refl
+zero_either false x e = e
+
+no_empty_rows : (style : Style) (line : ULine) (opened : Bool) (token : LineTok) → token.gap.lines ≤ 1 → empty_rows style line opened token ≡ 0
+no_empty_rows style line opened token near =
+    zero_either (opened && not style.keep_empty_lines_at_the_start_of_blocks) _ (zero_either (keeps_none style None line token) _ (omega (arith, near)))
+
+by_first : (first : Bool) (rows column level : ℕ) → first ≡ false → rows ≡ 0 → Lines 1 column level ≡ (if first then Spaces 0 else Lines (1 + rows) column level)
+by_first true rows column level later none = cc
+by_first false rows column level later none = ap (λ n. Lines (1 + n) column level) (sym none)
+
+-- a row begins there at once, whatever stands around the gap
+pub row_at_once : (style : Style) (arena : Contents) (line : ULine) (before : Option ℕ) (id : ℕ) → (id == 0) ≡ false → (item_at arena id).gap.lines ≤ 1
+    → Lines 1 (start_column style line) line.level ≡ first_decision style arena line before id
+row_at_once style arena line before id later near =
+    by_first (id == 0) (empty_rows style line (is_behind_brace arena before) (row_token arena id (first_role (item_class arena id)))) (start_column style line) line.level later
+    (no_empty_rows style line (is_behind_brace arena before) (row_token arena id (first_role (item_class arena id))) near)

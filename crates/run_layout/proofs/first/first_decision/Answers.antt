@@ -1,0 +1,10 @@
+use Rattle.std.proofs.Common.{◌∙◌}
+use Rattle.run_layout.specs.Rows.{item_before}
+use Rattle.run_layout.proofs.FirstRows.{row_at_once}
+use Rattle.run_layout.proofs.first.first_decision.Goals as goal
+
+pub returns-then-begins_next_row : goal.returns-then-begins_next_row
+returns-then-begins_next_row c =
+    c.next_row.ensures
+    ∙ row_at_once c.args.layout.now.style.now c.args.layout.now.arena.now c.args.line.now (item_before c.args.layout.now.view.now c.args.line.now.first) c.args.id
+    (c.begins_next_row.ensures.later c.if-begins_next_row.true) (c.begins_next_row.ensures.near c.if-begins_next_row.true)
