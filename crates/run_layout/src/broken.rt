@@ -9,6 +9,7 @@ ghost use Rattle.line_state.specs.Line.{first_layout};
 ghost use Rattle.break_search.specs.Outcome.{line_of};
 ghost use Rattle.break_search.specs.Starts.{IsAdmissible, starts_of};
 ghost use Rattle.layout_tables.specs.Indents.{start_column};
+ghost use Rattle.layout_tables.specs.Told.{TellBlanks};
 ghost use Rattle.replacements.specs.Decisions.{decided, decided_all, slot_of};
 ghost use Rattle.line_tokens.specs.declared.LineTok.{LineTok};
 ghost use Rattle.run_layout.specs.Broken.{decision_by, empty_inside, first_made, fixed_of_token, inside_made, number};
@@ -20,7 +21,7 @@ use crate::view_layout::ViewLayout;
 use break_search::starts;
 use bumpalo::Bump;
 use bumpalo::collections::into_bump_slice;
-use layout_tables::{empty_lines, spaces_before, start_column};
+use layout_tables::{RowBlanks, empty_lines, start_column};
 use line_tokens::{Fixed, LineTok, NoMemory, ULine};
 use replacements::{Decision, Plan};
 use style_table::Style;
@@ -42,13 +43,15 @@ fn empty_inside(style: &Style, line: &ULine, token: &LineTok) -> u32
 /// What stands before a token inside a line, which starts at a column, where its gap breaks or stays.
 fn decision_by(
     style: &Style,
+    blanks: &RowBlanks,
     line: &ULine,
     left: &LineTok,
     right: &LineTok,
     brk: bool,
     start: u32,
 ) -> Decision
-    requires { IsInRange style.now }
+    requires range { IsInRange style.now }
+    requires tell { TellBlanks style.now blanks.now.of_group }
     ensures { result ≡ decision_by style.now line.now left.now right.now brk start }
 {
     if brk {
@@ -58,7 +61,7 @@ fn decision_by(
             level: line.level,
         }
     } else {
-        Decision::Spaces(u32::from(spaces_before(style, left, right)))
+        Decision::Spaces(u32::from(blanks.before(style, left, right)))
     }
 }
 
@@ -90,6 +93,7 @@ fn decide_open(
 /// Decides the open gaps inside a line, by admissible choices; `starts` are the columns at which its tokens then start.
 fn write_breaks(
     style: &Style,
+    blanks: &RowBlanks,
     line: &ULine,
     tokens: &[LineTok],
     fixed: &[Option<Fixed>],
@@ -98,6 +102,7 @@ fn write_breaks(
     plan: &mut Plan<'_>,
 )
     requires range { IsInRange style.now }
+    requires tell { TellBlanks style.now blanks.now.of_group }
     requires some { 0 < length tokens.now }
     requires even { length fixed.now ≡ length tokens.now }
     requires admissible { IsAdmissible (line_of style.now (start_column style.now line.now) tokens.now fixed.now) breaks.now }
@@ -112,7 +117,7 @@ fn write_breaks(
         let right = token_at(tokens, at + 1);
         let start = starts[at];
         let brk = breaks[at];
-        let decision = decision_by(style, line, left, right, brk, start);
+        let decision = decision_by(style, blanks, line, left, right, brk, start);
         decide_open(plan, fixed[at + 1], right, brk, decision, start);
     }
 }
@@ -262,6 +267,7 @@ pub(crate) fn fixed_of<'r>(
 pub(crate) fn write_broken(
     layout: &ViewLayout<'_>,
     line: &ULine,
+    blanks: &RowBlanks,
     tokens: &[LineTok],
     fixed: &[Option<Fixed>],
     breaks: &[bool],
@@ -269,6 +275,7 @@ pub(crate) fn write_broken(
     run: &Bump,
 ) -> Result<(), NoMemory>
     requires range { IsInRange layout.now.style.now }
+    requires tell { TellBlanks layout.now.style.now blanks.now.of_group }
     requires some { 0 < length tokens.now }
     requires short { length tokens.now < 4294967296 }
     requires even { length fixed.now ≡ length tokens.now }
@@ -286,6 +293,6 @@ pub(crate) fn write_broken(
     let column = start_column(style, line);
     let starts = starts(layout.alloc, style, tokens, column, fixed, breaks, run)?;
     decide_first(layout, line, token_at(tokens, 0).id.0, plan);
-    write_breaks(style, line, tokens, fixed, breaks, starts, plan);
+    write_breaks(style, blanks, line, tokens, fixed, breaks, starts, plan);
     Ok(())
 }

@@ -120,7 +120,7 @@ fn lay_out_row(
     prove!(id < items);
     let first = plan.fixed_of(arena, id);
     let column = start_column(style, line);
-    if !is_open_row(style, tokens, column, first, layout.budget, plan) {
+    if !is_open_row(style, blanks, tokens, column, first, layout.budget, plan) {
         return false;
     }
     let behind = end_of(token, first_start(column, first));
@@ -130,14 +130,17 @@ fn lay_out_row(
 }
 
 /// Lays out a line that has an open gap and doesn't stay on one row.
+#[inline(never)]
 fn lay_out_searched(
     layout: &ViewLayout<'_>,
     line: &ULine,
+    blanks: &RowBlanks,
     cursor: &mut InputCursor,
     plan: &mut Plan<'_>,
     run: &Bump,
 ) -> Result<Laid, NoMemory>
     requires ready { IsReady layout.now }
+    requires tell { TellBlanks layout.now.style.now blanks.now.of_group }
     requires some { line.now.first ≤ line.now.last }
     requires places { line.now.last < length layout.now.view.now }
     requires whole { length plan.old ≡ length layout.now.arena.now.tokens + 1 }
@@ -159,12 +162,12 @@ fn lay_out_searched(
     let column = start_column(style, line);
     if style.column_limit == 0 {
         let breaks = least_breaks(alloc, style, tokens, column, fixed, run)?;
-        write_broken(layout, line, tokens, fixed, breaks, plan, run)?;
+        write_broken(layout, line, blanks, tokens, fixed, breaks, plan, run)?;
         return Ok(Laid::Unsearched);
     }
     match search(alloc, style, tokens, column, fixed, budget, run)? {
         Outcome::Found { breaks, cost } => {
-            write_broken(layout, line, tokens, fixed, breaks, plan, run)?;
+            write_broken(layout, line, blanks, tokens, fixed, breaks, plan, run)?;
             Ok(Laid::Least { cost })
         }
         Outcome::OverBudget { cells } => {
@@ -199,7 +202,7 @@ fn is_line_decided(
 
 /// Lays out a line that isn't open or isn't far from the limit: decides its open gaps, and tells what came of it.
 /// `segment` is the number of the view's segment that was looked into last.
-#[inline(never)]
+#[inline(always)]
 fn lay_out_other_line(
     layout: &ViewLayout<'_>,
     line: &ULine,
@@ -227,7 +230,7 @@ fn lay_out_other_line(
     if lay_out_row(layout, line, blanks, plan) {
         return Ok(Laid::Least { cost: 0 });
     }
-    lay_out_searched(layout, line, cursor, plan, run)
+    lay_out_searched(layout, line, blanks, cursor, plan, run)
 }
 
 /// Lays out a line: decides its open gaps, and tells what came of it. `segment` is the number of the view's segment

@@ -15,7 +15,7 @@ ghost use Rattle.layout_tables.specs.Told.{TellBlanks};
 ghost use Rattle.run_layout.specs.OneRow.{AreOpenInside, Fits, IsRow, IsRowLine, IsShortRow, open_behind, row_made};
 ghost use Rattle.layout_tables.specs.Breaks.{gap_rule};
 
-use layout_tables::{RowBlanks, must_break, spaces_before, stands_behind};
+use layout_tables::{RowBlanks, must_break, stands_behind};
 use line_tokens::{Fixed, LineTok};
 use replacements::{Decision, Plan};
 use style_table::Style;
@@ -92,12 +92,14 @@ fn first_fits(style: &Style, token: &LineTok, start: u32, first: Option<Fixed>) 
 /// Whether a line stays on one row as [`is_open_row`] says it, told by the blanks that stand in its gaps.
 fn is_row_by_table(
     style: &Style,
+    blanks: &RowBlanks,
     tokens: &[LineTok],
     column: u32,
     first: Option<Fixed>,
     budget: u64,
 ) -> bool
     requires range { IsInRange style.now }
+    requires tell { TellBlanks style.now blanks.now.of_group }
     requires some { 0 < length tokens.now }
     requires budget { budget ≤ 16000000 }
     ensures { IsTrue result → (l : Line) → IsRowLine l style.now column tokens.now first → IsRow l budget }
@@ -115,7 +117,7 @@ fn is_row_by_table(
         if must_break(style, left, right) {
             return false;
         }
-        let start = behind.saturating_add(u32::from(spaces_before(style, left, right)));
+        let start = behind.saturating_add(u32::from(blanks.before(style, left, right)));
         frames = open_behind(frames, right);
         cells += frames + 1;
         if cells > budget {
@@ -224,24 +226,21 @@ fn are_open_inside(plan: &Plan<'_>, tokens: &[LineTok]) -> bool
     true
 }
 
-/// Whether a line passes the limit even with no blank in it, as most lines do that aren't short.
-fn passes_limit(style: &Style, tokens: &[LineTok], column: u32, first: Option<Fixed>) -> bool
-    requires { 0 < length tokens.now }
-{
-    let mut behind = end_of(token_at(tokens, 0), first_start(column, first));
+/// Whether a line that starts at a column seems to pass the limit even with no blank in it, as most lines do that aren't
+/// short. Of its last token, which may be a comment, nothing is counted.
+#[inline(always)]
+fn passes_limit(style: &Style, tokens: &[LineTok], column: u32) -> bool {
+    let mut widths = u64::from(column);
     for at in 1..tokens.len() {
-        let token = token_at(tokens, at);
-        if !fits(style, token, behind) {
-            return true;
-        }
-        behind = end_of(token, behind);
+        widths = widths.wrapping_add(u64::from(token_at(tokens, at - 1).last_width));
     }
-    false
+    widths > u64::from(style.column_limit)
 }
 
 /// Whether the gaps inside a line are open, and it stays on one row that doesn't pass the limit, within the budget.
 pub(crate) fn is_open_row(
     style: &Style,
+    blanks: &RowBlanks,
     tokens: &[LineTok],
     column: u32,
     first: Option<Fixed>,
@@ -249,14 +248,15 @@ pub(crate) fn is_open_row(
     plan: &Plan<'_>,
 ) -> bool
     requires range { IsInRange style.now }
+    requires tell { TellBlanks style.now blanks.now.of_group }
     requires some { 0 < length tokens.now }
     requires budget { budget ≤ 16000000 }
     requires within { All (λ token. token.id.0 < length plan.now) tokens.now }
     ensures inside { IsTrue result → AreOpenInside plan.now tokens.now }
     ensures row { IsTrue result → (l : Line) → IsRowLine l style.now column tokens.now first → IsRow l budget }
 {
-    !passes_limit(style, tokens, column, first)
-        && is_row_by_table(style, tokens, column, first, budget)
+    !passes_limit(style, tokens, column)
+        && is_row_by_table(style, blanks, tokens, column, first, budget)
         && are_open_inside(plan, tokens)
 }
 

@@ -31,7 +31,7 @@ loop-at-preserved c =
           (row_goes_on line c.args.style.now c.args.column c.args.tokens.now c.args.first is (at - 1) c.loop-at.behind c.loop-at.frames c.loop-at.cells c.saturating_add-start.result c.open_behind-frames-in-loop-at.result
           (c.loop-at.cells + (c.open_behind-frames-in-loop-at.result + 1)) c.end_of-behind-in-loop-at.result c.loop-at.left.now c.token_at-right.result.now (v.row line is) v.left
           (ap (λ i. slice_get c.args.tokens.now i) next ∙ c.token_at-right.ensures) (sym c.must_break.ensures ∙ c.if-must_break.false)
-          (c.saturating_add-start.ensures ∙ ap (λ x. columns c.loop-at.behind x) (c.from.ensures ∙ c.spaces_before.ensures.table)) (c.fits.ensures c.if-not-fits.false)
+          (c.saturating_add-start.ensures ∙ ap (λ x. columns c.loop-at.behind x) (c.from.ensures ∙ c.before-in-loop-at.ensures.table)) (c.fits.ensures c.if-not-fits.false)
           c.open_behind-frames-in-loop-at.ensures.is refl c.end_of-behind-in-loop-at.ensures);
       free = v.free;
     }
