@@ -26,7 +26,7 @@ use crate::laid::Laid;
 use crate::report::{Tally, note_line};
 use crate::reported::{InputCursor, report_line};
 use crate::row::{
-    end_of, first_start, is_open_row, short_row, token_at, write_row, write_short_row,
+    end_of, first_start, is_long, is_open_row, short_row, token_at, write_row, write_short_row,
 };
 use crate::view_layout::ViewLayout;
 use break_search::{Outcome, least_breaks, search};
@@ -80,6 +80,9 @@ fn lay_out_short_row(
         return false;
     }
     let column = start_column(style, line);
+    if is_long(style, tokens, column) {
+        return false;
+    }
     let Some(count) = short_row(style, tokens, column, layout.budget, plan) else {
         return false;
     };

@@ -168,6 +168,26 @@ fn ends_waiting(
     at + 1 == tokens.len() && right.role.is_trailing() && !must_break(style, left, right)
 }
 
+/// The column up to which a line that starts at a column seems to go with no blank in it. Of its last token, which may be
+/// a comment, nothing is counted.
+#[inline(always)]
+fn least_end(tokens: &[LineTok], column: u32) -> u64 {
+    let mut end = u64::from(column);
+    for at in 1..tokens.len() {
+        end = end.wrapping_add(u64::from(token_at(tokens, at - 1).last_width));
+    }
+    end
+}
+
+/// Whether a line seems too long for a short row. That is looked at first where it has many tokens, since their widths
+/// are told in few steps.
+#[inline(always)]
+pub(crate) fn is_long(style: &Style, tokens: &[LineTok], column: u32) -> bool {
+    let count = tokens.len();
+    count >= 16
+        && least_end(tokens, column).wrapping_add(count as u64) > u64::from(style.column_limit) + 2
+}
+
 /// How many tokens of a line whose first gap is open stand in its row before a trailing comment that ends it, where the
 /// line stays on one row as [`is_open_row`] says it and the gaps inside it are open. It is told by one blank in each
 /// gap: the table has no more but before trailing comments.
@@ -226,17 +246,6 @@ fn are_open_inside(plan: &Plan<'_>, tokens: &[LineTok]) -> bool
     true
 }
 
-/// Whether a line that starts at a column seems to pass the limit even with no blank in it, as most lines do that aren't
-/// short. Of its last token, which may be a comment, nothing is counted.
-#[inline(always)]
-fn passes_limit(style: &Style, tokens: &[LineTok], column: u32) -> bool {
-    let mut widths = u64::from(column);
-    for at in 1..tokens.len() {
-        widths = widths.wrapping_add(u64::from(token_at(tokens, at - 1).last_width));
-    }
-    widths > u64::from(style.column_limit)
-}
-
 /// Whether the gaps inside a line are open, and it stays on one row that doesn't pass the limit, within the budget.
 pub(crate) fn is_open_row(
     style: &Style,
@@ -255,7 +264,7 @@ pub(crate) fn is_open_row(
     ensures inside { IsTrue result → AreOpenInside plan.now tokens.now }
     ensures row { IsTrue result → (l : Line) → IsRowLine l style.now column tokens.now first → IsRow l budget }
 {
-    !passes_limit(style, tokens, column)
+    least_end(tokens, column) <= u64::from(style.column_limit)
         && is_row_by_table(style, blanks, tokens, column, first, budget)
         && are_open_inside(plan, tokens)
 }
