@@ -89,6 +89,12 @@ pub record IsShortRow (tokens : List LineTok) (behind count : ℕ) : Type 0 wher
   pub wait : All (λ token. is_trailing token.role ≡ true) (drop count tokens)
   pub few : behind + width_to tokens (count - 1) ≤ 1000
 
+-- Lines of at most so many tokens need no count of their cells, since so few have never more than the budget, and there is a limit of columns. Without one, or with a smaller budget, it is none.
+pub record NeedNoCount (style : Style) (budget few : ℕ) : Type 0 where
+  pub most : few ≤ 1000
+  pub limit : 0 < few → 0 < style.column_limit
+  pub rich : 0 < few → 1001000 ≤ budget
+
 -- this is the line with these tokens, none of whose inner gaps is decided
 pub record IsRowLine (l : Line) (style : Style) (column : ℕ) (tokens : List LineTok) (first : Option Fixed) : Type 0 where
   pub style_is : l.style ≡ style

@@ -13,7 +13,7 @@ ghost use Rattle.run_layout.specs.Counted.{IsCounted};
 ghost use Rattle.run_layout.specs.Broken.{broken_line, broken_made, of_line};
 ghost use Rattle.run_layout.specs.InputColumns.{input_before};
 ghost use Rattle.layout_tables.specs.Told.{TellBlanks};
-ghost use Rattle.run_layout.specs.OneRow.{IsRow, stays};
+ghost use Rattle.run_layout.specs.OneRow.{IsRow, NeedNoCount, stays};
 ghost use Rattle.run_layout.specs.OpenGaps.{AreDecided, IsOpen};
 ghost use Rattle.line_tokens.specs.Lines.{CutPlaces};
 ghost use Rattle.run_layout.specs.RunsLaid.{IsRunLaid};
@@ -26,7 +26,8 @@ use crate::laid::Laid;
 use crate::report::{Tally, note_line};
 use crate::reported::{InputCursor, report_line};
 use crate::row::{
-    end_of, first_start, is_long, is_open_row, short_row, token_at, write_row, write_short_row,
+    end_of, few_tokens, first_start, is_open_row, may_be_short, short_row, token_at, write_row,
+    write_short_row,
 };
 use crate::view_layout::ViewLayout;
 use break_search::{Outcome, least_breaks, search};
@@ -52,10 +53,12 @@ fn lay_out_short_row(
     layout: &ViewLayout<'_>,
     line: &ULine,
     blanks: &RowBlanks,
+    few: usize,
     plan: &mut Plan<'_>,
 ) -> bool
     requires ready { IsReady layout.now }
     requires tell { TellBlanks layout.now.style.now blanks.now.of_group }
+    requires few { NeedNoCount layout.now.style.now layout.now.budget few }
     requires some { line.now.first ≤ line.now.last }
     requires places { line.now.last < length layout.now.view.now }
     requires whole { length plan.old ≡ length layout.now.arena.now.tokens + 1 }
@@ -70,9 +73,6 @@ fn lay_out_short_row(
     let arena = layout.arena;
     let items = arena.len();
     let tokens = tokens_of_line(layout.tokens, line);
-    if style.column_limit == 0 {
-        return false;
-    }
     let token = token_at(tokens, 0);
     let id = token.id.0;
     prove!(id < items);
@@ -80,10 +80,10 @@ fn lay_out_short_row(
         return false;
     }
     let column = start_column(style, line);
-    if is_long(style, tokens, column) {
+    if !may_be_short(style, tokens, column, layout.budget, few) {
         return false;
     }
-    let Some(count) = short_row(style, tokens, column, layout.budget, plan) else {
+    let Some(count) = short_row(style, tokens, column, plan) else {
         return false;
     };
     let behind = end_of(token, column);
@@ -243,6 +243,7 @@ fn lay_out_line(
     layout: &ViewLayout<'_>,
     line: &ULine,
     blanks: &RowBlanks,
+    few: usize,
     segment: &mut usize,
     cursor: &mut InputCursor,
     plan: &mut Plan<'_>,
@@ -250,6 +251,7 @@ fn lay_out_line(
 ) -> Result<Laid, NoMemory>
     requires ready { IsReady layout.now }
     requires tell { TellBlanks layout.now.style.now blanks.now.of_group }
+    requires few { NeedNoCount layout.now.style.now layout.now.budget few }
     requires some { line.now.first ≤ line.now.last }
     requires places { line.now.last < length layout.now.view.now }
     requires whole { length plan.old ≡ length layout.now.arena.now.tokens + 1 }
@@ -260,7 +262,7 @@ fn lay_out_line(
     ensures before { OnOk result (cursor.new.place ≤ line.now.last + 1) }
     ensures column { OnOk result (cursor.new.column ≡ input_before layout.now.style.now layout.now.arena.now layout.now.view.now cursor.new.place) }
 {
-    if lay_out_short_row(layout, line, blanks, plan) {
+    if lay_out_short_row(layout, line, blanks, few, plan) {
         return Ok(Laid::Least { cost: 0 });
     }
     lay_out_other_line(layout, line, blanks, segment, cursor, plan, run)
@@ -299,8 +301,18 @@ pub fn lay_out_lines(
         column: 0,
     };
     let blanks = RowBlanks::of(layout.style);
+    let few = few_tokens(layout.style, layout.budget);
     for line in lines {
-        let laid = lay_out_line(layout, line, &blanks, &mut segment, &mut cursor, plan, run)?;
+        let laid = lay_out_line(
+            layout,
+            line,
+            &blanks,
+            few,
+            &mut segment,
+            &mut cursor,
+            plan,
+            run,
+        )?;
         let id = token_at(layout.tokens, line.first as usize).id.0;
         note_line(layout.arena, number, id, laid, tally)?;
     }

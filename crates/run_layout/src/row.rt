@@ -1,7 +1,7 @@
 //! Lines that stay on one row. They need no search, and take no memory.
 
 ghost use Rattle.std.specs.Prelude.{◌≡◌, ◌+◌, ◌<◌, ◌≤◌, ◌^◌};
-ghost use Rattle.std.specs.Prelude.{All, IfSome, IsTrue, None, Some, drop, false};
+ghost use Rattle.std.specs.Prelude.{All, IfSome, IsTrue, None, Some, drop, false, ℕ};
 ghost use Rattle.std.specs.Prelude.{get_or, if◌then◌else◌, length, slice_get, true};
 ghost use Rattle.line_tokens.specs.Roles.{is_trailing};
 ghost use Rattle.style_table.specs.Range.{IsInRange};
@@ -12,7 +12,8 @@ ghost use Rattle.line_tokens.specs.Tokens.{no_token};
 ghost use Rattle.replacements.specs.declared.gap_text.Decision.TheVariants.{Spaces};
 ghost use Rattle.replacements.specs.Decisions.{decided, decided_all};
 ghost use Rattle.layout_tables.specs.Told.{TellBlanks};
-ghost use Rattle.run_layout.specs.OneRow.{AreOpenInside, Fits, IsRow, IsRowLine, IsShortRow, open_behind, row_made};
+ghost use Rattle.run_layout.specs.OneRow.{AreOpenInside, Fits, IsRow, IsRowLine, IsShortRow, NeedNoCount};
+ghost use Rattle.run_layout.specs.OneRow.{open_behind, row_made};
 ghost use Rattle.layout_tables.specs.Breaks.{gap_rule};
 
 use layout_tables::{RowBlanks, must_break, stands_behind};
@@ -179,13 +180,44 @@ fn least_end(tokens: &[LineTok], column: u32) -> u64 {
     end
 }
 
-/// Whether a line seems too long for a short row. That is looked at first where it has many tokens, since their widths
-/// are told in few steps.
+/// How many tokens a line may have that needs no look at its length before it is tested for a short row.
+pub(crate) fn few_tokens(style: &Style, budget: u64) -> usize
+    ensures { NeedNoCount style.now budget result }
+{
+    if style.column_limit > 0 && budget >= 1_001_000 {
+        15
+    } else {
+        0
+    }
+}
+
+/// Whether a line doesn't seem too long for a short row. That is looked at first where it has many tokens, since their
+/// widths are told in few steps.
+fn seems_short(style: &Style, tokens: &[LineTok], column: u32, budget: u64) -> bool
+    ensures few { IsTrue result → length tokens.now ≤ 1000 }
+    ensures limit { IsTrue result → 0 < style.now.column_limit }
+    ensures budget { IsTrue result → 1001000 ≤ budget }
+{
+    let end = least_end(tokens, column).wrapping_add(tokens.len() as u64);
+    style.column_limit > 0 && are_few(tokens, budget) && end <= u64::from(style.column_limit) + 2
+}
+
+/// Whether a line is to be tested for a short row: it has few tokens, or doesn't seem too long.
 #[inline(always)]
-pub(crate) fn is_long(style: &Style, tokens: &[LineTok], column: u32) -> bool {
-    let count = tokens.len();
-    count >= 16
-        && least_end(tokens, column).wrapping_add(count as u64) > u64::from(style.column_limit) + 2
+pub(crate) fn may_be_short(
+    style: &Style,
+    tokens: &[LineTok],
+    column: u32,
+    budget: u64,
+    few: usize,
+) -> bool
+    requires some { 0 < length tokens.now }
+    requires few { NeedNoCount style.now budget few }
+    ensures few { IsTrue result → length tokens.now ≤ 1000 }
+    ensures limit { IsTrue result → 0 < style.now.column_limit }
+    ensures budget { IsTrue result → 1001000 ≤ budget }
+{
+    tokens.len() <= few || seems_short(style, tokens, column, budget)
 }
 
 /// How many tokens of a line whose first gap is open stand in its row before a trailing comment that ends it, where the
@@ -196,19 +228,17 @@ pub(crate) fn short_row(
     style: &Style,
     tokens: &[LineTok],
     column: u32,
-    budget: u64,
     plan: &Plan<'_>,
 ) -> Option<usize>
     requires range { IsInRange style.now }
+    requires limit { 0 < style.now.column_limit }
     requires some { 0 < length tokens.now }
+    requires few { length tokens.now ≤ 1000 }
     requires within { All (λ token. token.id.0 < length plan.now) tokens.now }
     ensures inside { IfSome result (λ count. AreOpenInside plan.now tokens.now) }
-    ensures row { IfSome result (λ count. (l : Line) → IsRowLine l style.now column tokens.now None → IsRow l budget) }
+    ensures row { IfSome result (λ count. (l : Line) (budget : ℕ) → 1001000 ≤ budget → IsRowLine l style.now column tokens.now None → IsRow l budget) }
     ensures short { IfSome result (λ count. IsShortRow tokens.now (end_of (get_or tokens.now 0 no_token) column) count) }
 {
-    if style.column_limit == 0 || !are_few(tokens, budget) {
-        return None;
-    }
     let limit = u64::from(style.column_limit);
     let mut left = token_at(tokens, 0);
     let mut most = u64::from(column) + u64::from(most_width(left));

@@ -45,7 +45,7 @@ returns-clause-row c =
     let none : slot_of plan token.id.0 ≡ None = sym c.slot.ensures ∙ none_of c.slot.result (sym c.is_some.ensures ∙ c.if-is_some.false) in
     let first : None ≡ fixed_of_token arena plan token = sym (ap (fixed_by arena token.id.0) none) in
     row_here c.args.layout.now.style.now arena c.args.layout.now.view.now c.args.layout.now.tokens.now plan c.args.line.now c.args.layout.now.budget c.start_column-column.result c.tokens_of_line-tokens.result.now None token
-    c.requires.ready.tell c.tokens_of_line-tokens.ensures c.token_at-token.ensures (c.in-Some.ensures.inside) c.start_column-column.ensures first (c.in-Some.ensures.row)
+    c.requires.ready.tell c.tokens_of_line-tokens.ensures c.token_at-token.ensures (c.in-Some.ensures.inside) c.start_column-column.ensures first (λ l is. c.in-Some.ensures.row l c.args.layout.now.budget (c.may_be_short.ensures.budget c.if-not-may_be_short.false) is)
 
 pub returns-clause-plan : goal.returns-clause-plan
 returns-clause-plan c =
@@ -63,7 +63,7 @@ returns-clause-plan c =
     let number = first_number arena ids toks tokens line token c.requires.ready.tell c.requires.some c.tokens_of_line-tokens.ensures c.token_at-token.ensures in
     let row =
     row_here style arena ids toks plan line c.args.layout.now.budget c.start_column-column.result tokens None token
-    c.requires.ready.tell c.tokens_of_line-tokens.ensures c.token_at-token.ensures inside c.start_column-column.ensures first (c.in-Some.ensures.row) in
+    c.requires.ready.tell c.tokens_of_line-tokens.ensures c.token_at-token.ensures inside c.start_column-column.ensures first (λ l is. c.in-Some.ensures.row l c.args.layout.now.budget (c.may_be_short.ensures.budget c.if-not-may_be_short.false) is) in
     row_plan style arena ids toks plan line c.args.layout.now.budget c.start_column-column.result tokens None token
     c.requires.ready.tell c.tokens_of_line-tokens.ensures c.token_at-token.ensures inside c.start_column-column.ensures first
     c.start_column-column.result c.end_of-behind.result c.decide_first.new.plan c.write_short_row.new.plan (slice_get_within tokens 0 token c.token_at-token.ensures) number row refl c.end_of-behind.ensures c.decide_first.ensures.plan c.write_short_row.ensures.plan

@@ -49,7 +49,7 @@ loop-at-preserved c =
     let placed : at - 1 + 1 ≡ at + 1 - 1 = omega (arith, v.from) in
     let stays = c.stands_behind.ensures.stays c.if-not-stands_behind.false in
     let places = c.stands_behind.ensures.places c.if-not-stands_behind.false in
-    let limit : 0 < c.args.style.now.column_limit = omega (arith, c.if-style-eq0.false) in
+    let limit : 0 < c.args.style.now.column_limit = c.requires.limit in
     let width = c.from-in-loop-at.result in
     let most = c.loop-at.most in
     record {
@@ -60,7 +60,7 @@ loop-at-preserved c =
           subst (λ n. IsOneRowUpTo line n (most + (1 + width))) placed
           (goes_on_up_to line c.args.style.now c.args.column c.args.tokens.now None is (at - 1) most (most + (1 + width)) c.loop-at.left.now c.token_at-right.result.now (v.row line is (omega (arith, fits))) v.left
           (ap (λ i. slice_get c.args.tokens.now i) next ∙ c.token_at-right.ensures) (stays c.args.style.now limit) places (omega (arith, fits, c.most_width-in-loop-at.ensures.first, c.from-in-loop-at.ensures))
-          (omega (arith, v.from, c.loop-at-test.true, c.are_few.ensures.few c.if-not-are_few.false)) (omega (arith, c.most_width-in-loop-at.ensures.last, c.from-in-loop-at.ensures)));
+          (omega (arith, v.from, c.loop-at-test.true, c.requires.few)) (omega (arith, c.most_width-in-loop-at.ensures.last, c.from-in-loop-at.ensures)));
       inside = inside_more c.args.plan.now c.args.tokens.now at c.token_at-right.result.now v.inside c.token_at-right.ensures
           (sym c.slot.ensures ∙ none_of c.slot.result (sym c.is_some.ensures ∙ c.if-is_some.false));
       stand = stand_more c.args.tokens.now at c.token_at-right.result.now v.stand c.token_at-right.ensures places;
@@ -74,13 +74,13 @@ pub returns-clause-inside : goal.returns-clause-inside
 returns-clause-inside c = λ i token some is. c.loop-at.invariant.inside i token some (omega (arith, c.loop-at-test.false, slice_get_within c.args.tokens.now i token is)) is
 
 pub returns-clause-row : goal.returns-clause-row
-returns-clause-row c = λ line is.
+returns-clause-row c = λ line budget rich is.
     let v = c.loop-at.invariant in
     let fits : c.loop-at.most ≤ c.args.style.now.column_limit = omega (arith, c.if-most-limit-2.false, c.from-limit.ensures) in
     let row = v.row line is fits in
     let all : suc (c.loop-at.at - 1) ≡ length c.args.tokens.now = omega (arith, v.from, c.loop-at-test.false, c.loop-at.auto.at-end c.requires.some) in
-    row_ends line c.args.style.now c.args.column c.args.tokens.now None is c.args.budget (c.loop-at.at - 1) row.column row.frames row.count row.row all
-    (omega (arith, row.cheap, all, c.are_few.ensures.few c.if-not-are_few.false, c.are_few.ensures.budget c.if-not-are_few.false)) (v.free line is (omega (arith, v.first, fits)))
+    row_ends line c.args.style.now c.args.column c.args.tokens.now None is budget (c.loop-at.at - 1) row.column row.frames row.count row.row all
+    (omega (arith, row.cheap, all, c.requires.few, rich)) (v.free line is (omega (arith, v.first, fits)))
 
 pub returns-clause-short : goal.returns-clause-short
 returns-clause-short c =
@@ -97,15 +97,15 @@ returns-clause-short c =
     }
 
 pub returns-then-not-stands_behind-clause-row : goal.returns-then-not-stands_behind-clause-row
-returns-then-not-stands_behind-clause-row c = λ line is.
+returns-then-not-stands_behind-clause-row c = λ line budget rich is.
     let v = c.loop-at.invariant in
     let at = c.loop-at.at in
     let fits : c.loop-at.most ≤ c.args.style.now.column_limit = omega (arith, c.if-most-limit.false, c.from-limit.ensures) in
     let next : suc (at - 1) ≡ at = omega (arith, v.from) in
     let last : at + 1 ≡ length c.args.tokens.now = c.ends_waiting.ensures.last c.if-not-ends_waiting.false in
-    comment_ends line c.args.style.now c.args.column c.args.tokens.now None is c.args.budget (at - 1) c.loop-at.most c.loop-at.left.now c.token_at-right.result.now (v.row line is fits) v.left
+    comment_ends line c.args.style.now c.args.column c.args.tokens.now None is budget (at - 1) c.loop-at.most c.loop-at.left.now c.token_at-right.result.now (v.row line is fits) v.left
     (ap (λ i. slice_get c.args.tokens.now i) next ∙ c.token_at-right.ensures) (c.ends_waiting.ensures.stays c.if-not-ends_waiting.false) (c.ends_waiting.ensures.waits c.if-not-ends_waiting.false) (omega (arith, v.from, last))
-    (c.are_few.ensures.few c.if-not-are_few.false) (c.are_few.ensures.budget c.if-not-are_few.false) (v.free line is (omega (arith, v.first, fits)))
+    c.requires.few rich (v.free line is (omega (arith, v.first, fits)))
 
 pub returns-then-not-stands_behind-clause-short : goal.returns-then-not-stands_behind-clause-short
 returns-then-not-stands_behind-clause-short c =
