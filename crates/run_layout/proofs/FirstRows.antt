@@ -8,7 +8,6 @@ use Rattle.token_arena.specs.Gaps.{Contents}
 use Rattle.token_classes.specs.Viewed.{item_class}
 use Rattle.annotator.specs.Tokens.{item_at}
 use Rattle.layout_tables.specs.Indents.{keeps_none, start_column}
-use Rattle.replacements.specs.declared.gap_text.Decision.{Decision}
 use Rattle.replacements.specs.declared.gap_text.Decision.TheVariants.{Lines, Spaces}
 use Rattle.run_layout.specs.Rows.{empty_rows, first_decision, first_role, is_behind_brace, row_token}
 

@@ -198,8 +198,10 @@ fn seems_short(style: &Style, tokens: &[LineTok], column: u32, budget: u64) -> b
     ensures limit { IsTrue result → 0 < style.now.column_limit }
     ensures budget { IsTrue result → 1001000 ≤ budget }
 {
-    let end = least_end(tokens, column).wrapping_add(tokens.len() as u64);
-    style.column_limit > 0 && are_few(tokens, budget) && end <= u64::from(style.column_limit) + 2
+    if style.column_limit == 0 || !are_few(tokens, budget) {
+        return false;
+    }
+    least_end(tokens, column).wrapping_add(tokens.len() as u64) <= u64::from(style.column_limit) + 2
 }
 
 /// Whether a line is to be tested for a short row: it has few tokens, or doesn't seem too long.

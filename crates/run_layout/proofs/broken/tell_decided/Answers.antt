@@ -1,6 +1,6 @@
 use Rattle.std.proofs.Common.{◌≡◌, ◌∙◌, ap, length, slice_set, List, Option, arith}
 use Rattle.line_tokens.specs.declared.Fixed.{Fixed}
-use Rattle.run_layout.specs.Broken.{fixed_of_token, fixed_up_to}
+use Rattle.run_layout.specs.Broken.{fixed_of_token}
 use Rattle.run_layout.proofs.FixedGaps.{length_told, told_more}
 use Rattle.run_layout.proofs.broken.tell_decided.Goals as goal
 
