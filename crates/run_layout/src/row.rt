@@ -169,8 +169,8 @@ fn ends_waiting(
     at + 1 == tokens.len() && right.role.is_trailing() && !must_break(style, left, right)
 }
 
-/// The column up to which a line that starts at a column seems to go with no blank in it. Of its last token, which may be
-/// a comment, nothing is counted.
+/// The column up to which a line that starts at a column seems to go with no blank in it. Of its last token, which may
+/// be a comment, nothing is counted.
 #[inline(always)]
 fn least_end(tokens: &[LineTok], column: u32) -> u64 {
     let mut end = u64::from(column);
