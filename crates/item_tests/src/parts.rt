@@ -115,6 +115,10 @@ const PARTS_IN_BLOCKS: &[(&str, &[(u32, u32)])] = &[
         &[(75, 75), (82, 23)],
     ),
     (
+        "struct __attribute__((x)) {\nint b;\n#if A\nint c;\n#endif\n} d;\n}",
+        &[(81, 81)],
+    ),
+    (
         "switch (a) {\ncase 1:\nb;\n#if A\nc;\n#endif\n}\n}",
         &[(77, 77)],
     ),
@@ -169,6 +173,22 @@ const PARTS_OF_PIECES: &[(&[(&str, usize)], &[(u32, u32)])] = &[
             ("#if A\nint b;\n#endif\n};", 1),
         ],
         &[(66, 66), (71, 9)],
+    ),
+    (
+        &[
+            ("struct __attribute__((x)) {\n", 1),
+            ("int a;\n", 20),
+            ("#if A\nint b;\n#endif\n};", 1),
+        ],
+        &[(68, 68), (73, 14)],
+    ),
+    (
+        &[
+            ("a = 1 struct __attribute__((x)) {\n", 1),
+            ("int a;\n", 20),
+            ("#if A\nint b;\n#endif\n};", 1),
+        ],
+        &[(76, 76)],
     ),
     (
         &[

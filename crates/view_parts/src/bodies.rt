@@ -73,7 +73,7 @@ fn body_kind(walk: &Walk, around: Around) -> Option<BodyKind>
     ensures { result ≡ body_kind walk.now around }
 {
     let last = &walk.last;
-    match around {
+    let assigned = match around {
         Around::Group => return None,
         Around::Outside => {
             if let Before::Body = walk.declaration.behind(TokenClass::OpenBrace) {
@@ -82,6 +82,7 @@ fn body_kind(walk: &Walk, around: Around) -> Option<BodyKind>
             if walk.declaration.begins_linkage() {
                 return Some(BodyKind::Linkage);
             }
+            walk.declaration.assigned
         }
         Around::Body => {
             if last.is_behind_if() {
@@ -90,9 +91,10 @@ fn body_kind(walk: &Walk, around: Around) -> Option<BodyKind>
             if last.begins_block() && (last.is_begin() || !last.class.is_close_brace()) {
                 return Some(BodyKind::Block);
             }
+            true
         }
-    }
-    if last.structure {
+    };
+    if last.begins_members(assigned) {
         Some(BodyKind::Members)
     } else {
         None
