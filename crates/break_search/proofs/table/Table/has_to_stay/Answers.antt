@@ -2,10 +2,10 @@ use Rattle.break_search.proofs.Reaching.{from_goes, refused_nowhere}
 use Rattle.break_search.proofs.table.Table.has_to_stay.Goals as goal
 
 pub refuses-requires-clause-some : goal.refuses-requires-clause-some
-refuses-requires-clause-some c = (from_goes _ _ _ _ _ c.self.view_is c.self.invariant.0 c.args.line.now _ _ c.index-node.ensures c.requires.at c.requires.on).0
+refuses-requires-clause-some c = (from_goes _ _ _ _ _ c.self.view_is c.self.invariant c.args.line.now _ _ c.index-node.ensures c.requires.at c.requires.on).0
 
 pub refuses-requires-clause-next : goal.refuses-requires-clause-next
-refuses-requires-clause-next c = (from_goes _ _ _ _ _ c.self.view_is c.self.invariant.0 c.args.line.now _ _ c.index-node.ensures c.requires.at c.requires.on).1
+refuses-requires-clause-next c = (from_goes _ _ _ _ _ c.self.view_is c.self.invariant c.args.line.now _ _ c.index-node.ensures c.requires.at c.requires.on).1
 
 pub returns : goal.returns
-returns c = refused_nowhere _ _ _ _ _ c.self.view_is c.self.invariant.0 c.args.line.now _ _ c.index-node.ensures c.requires.at _ _ c.refuses.ensures
+returns c = refused_nowhere _ _ _ _ _ c.self.view_is c.self.invariant c.args.line.now _ _ c.index-node.ensures c.requires.at _ _ c.refuses.ensures
