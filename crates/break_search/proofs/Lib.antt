@@ -3,7 +3,7 @@ mod Orders
 mod Heaps
 mod Queue
 mod Nodes
-mod Recent
+mod NodeChains
 mod Jumping
 mod Striding
 mod Grouping
