@@ -1,18 +1,22 @@
 -- Tokens that leave the frames as they are.
-use Rattle.std.proofs.Common.{◌≡◌, ℕ, ◌+◌, ◌-◌, ◌≤◌, Bool, true, false, ◌&&◌, ◌==◌, not, nat_le, if◌then◌else◌, Option, None, List, [], ◌∷◌, ◌++◌, length, refl, ap, sym, ◌∙◌}
+use Rattle.std.proofs.Common.{◌≡◌, ℕ, ◌+◌, ◌-◌, ◌*◌, ◌≤◌, Bool, true, false, ◌&&◌, ◌==◌, not, nat_le, if◌then◌else◌, Option, None, List, [], ◌∷◌, ◌++◌, length, refl, arith, ap, sym, ◌∙◌, subst}
 use Rattle.std.specs.Bool.{OnTrue}
 use Rattle.std.proofs.lemmas.List.{set-get_or}
 use Rattle.line_tokens.specs.Columns.{columns, end_of}
 use Rattle.line_tokens.specs.Roles.{is_comma}
 use Rattle.line_tokens.specs.declared.LineTok.{LineTok}
 use Rattle.line_tokens.specs.declared.Fixed.{Fixed}
+use Rattle.layout_tables.specs.declared.penalties.GapRule.{GapRule}
+use Rattle.layout_tables.specs.Breaks.{gap_rule}
 use Rattle.layout_tables.specs.Spaces.{spaces_before}
 use Rattle.style_table.specs.declared.style.Style.{Style}
 use Rattle.line_state.specs.declared.frames.Frame.{Frame}
 use Rattle.line_state.specs.declared.gap.Gap.{Gap}
-use Rattle.line_state.specs.Brackets.{opens_frame, binds_commas}
-use Rattle.line_state.specs.Layout.{Layout, gap_before, topmost, with_topmost, open_frames, is_after_opener, spot_of, is_free, opened_frame, comma_frame, placed_frame, placed_frames, new_frame, frames_after, layout_after, start_at, start_of}
+use Rattle.line_state.specs.declared.spot.Spot.{Spot}
+use Rattle.line_state.specs.Brackets.{opens_frame, binds_commas, binds_opening}
+use Rattle.line_state.specs.Layout.{Layout, gap_before, topmost, with_topmost, open_frames, is_after_opener, spot_of, is_free, opened_frame, comma_frame, placed_frame, placed_frames, new_frame, frames_after, layout_after, start_at, start_of, is_allowed, keeps_rules_at, cost_of}
 use Rattle.line_state.specs.Store.{FrameList}
+use Rattle.line_state.specs.Beside.{IsPlain, excess_beside}
 use Rattle.line_state.proofs.Lists.{all_taken}
 
 past_false : (a c : Bool) → (a && false && c) ≡ false
@@ -79,3 +83,67 @@ module _ (style : Style) (layout : Layout) (left right : LineTok) (fixed : Optio
   beside_layout same new e =
       e ∙ ap (λ (s : ℕ). let l : Layout = record { index = layout.index + 1; column = end_of right s; base = layout.base; frames = layout.frames } in l) beside_start
       ∙ ap (λ (fs : List Frame). let l : Layout = record { index = layout.index + 1; column = end_of right (start_of style layout (gap_before layout left right fixed) brk); base = layout.base; frames = fs } in l) (sym same)
+
+-- what a step by such a token tells
+pub record StepsBeside (style : Style) (layout : Layout) (gap : Gap) (brk : Bool) : Type 0 where
+  pub allowed : is_allowed style layout gap brk ≡ true
+  pub frames : frames_after style layout gap brk ≡ layout.frames
+  pub start : start_of style layout gap brk ≡ columns layout.column (spaces_before style gap.left gap.right)
+  pub cost : cost_of style layout gap brk ≡ style.penalty_excess_character * excess_beside style layout.column (columns layout.column (spaces_before style gap.left gap.right)) gap.right
+
+keeps_bool : (binds comma one two opening zero : Bool) → comma ≡ false → (not ((binds && comma) && one && false) && not ((binds && comma) && two && not false) && not (opening && zero && false)) ≡ true
+keeps_bool binds true one two opening zero e = absurd (true-false e)
+  where
+    true-false : true ≡ false → ⊥
+    true-false e = cc
+keeps_bool true false one two true true e = refl
+keeps_bool true false one two true false e = refl
+keeps_bool true false one two false zero e = refl
+keeps_bool false false one two true true e = refl
+keeps_bool false false one two true false e = refl
+keeps_bool false false one two false zero e = refl
+
+either_true : (b x : Bool) → x ≡ true → (if b then x else not false) ≡ true
+either_true true x e = e
+either_true false x e = refl
+
+none_more : (n : ℕ) → 0 + n ≡ n
+none_more n = omega arith
+
+no_break : (free : Bool) (cost : ℕ) → (if free && false then cost else 0) ≡ 0
+no_break true cost = refl
+no_break false cost = refl
+
+module _ (style : Style) (layout : Layout) (left right : LineTok) (may : (gap_rule style left right).must ≡ false) (left_opens : opens_frame left.role ≡ false) (right_opens : opens_frame right.role ≡ false) (comma : is_comma left.role ≡ false) (shallow : length layout.frames ≤ right.depth) where
+  abbrev here : Gap
+  here = record { left = left; right = right; fixed = None; first = false }
+
+  abbrev spot : Spot
+  spot = spot_of layout here
+
+  keeps : keeps_rules_at style spot here false ≡ true
+  keeps = keeps_bool (binds_commas style spot.top.opener) (is_comma left.role) (spot.top.comma == 1) (spot.top.comma == 2) (binds_opening style spot.top.opener && not spot.opened) (spot.top.opening == 0) comma
+
+  allowed_here : is_allowed style layout here false ≡ true
+  allowed_here = ap (λ (b : Bool). if b then false else (if (gap_rule style left right).can then keeps_rules_at style spot here false else not false)) may ∙ either_true (gap_rule style left right).can (keeps_rules_at style spot here false) keeps
+
+  cost_here : cost_of style layout here false ≡ style.penalty_excess_character * excess_beside style layout.column (columns layout.column (spaces_before style left right)) right
+  cost_here =
+      ap (λ (n : ℕ). n + style.penalty_excess_character * excess_beside style layout.column (columns layout.column (spaces_before style left right)) right) (no_break (is_free style here) (gap_rule style left right).cost)
+      ∙ none_more (style.penalty_excess_character * excess_beside style layout.column (columns layout.column (spaces_before style left right)) right)
+
+  steps_here : StepsBeside style layout here false
+  steps_here = record {
+    allowed = allowed_here;
+    frames = frames_stay style layout here false shallow left_opens right_opens (ap (λ (b : Bool). b && binds_commas style (topmost layout.base layout.frames).opener) comma);
+    start = refl;
+    cost = cost_here;
+  }
+
+pub steps_beside : (style : Style) (layout : Layout) (gap : Gap) (rule : GapRule) (brk : Bool) → rule ≡ gap_rule style gap.left gap.right → IsPlain layout gap rule brk → StepsBeside style layout gap brk
+steps_beside style layout gap rule brk is plain =
+    let may : (gap_rule style gap.left gap.right).must ≡ false = ap (λ (r : GapRule). r.must) (sym is) ∙ plain.may in
+    let steps = steps_here style layout gap.left gap.right may plain.left plain.right plain.comma plain.shallow in
+    let inside : StepsBeside style layout (record { left = gap.left; right = gap.right; fixed = None; first = gap.first }) false = subst (λ (b : Bool). StepsBeside style layout (record { left = gap.left; right = gap.right; fixed = None; first = b }) false) (sym plain.inside) steps in
+    let free : StepsBeside style layout gap false = subst (λ (f : Option Fixed). StepsBeside style layout (record { left = gap.left; right = gap.right; fixed = f; first = gap.first }) false) (sym plain.free) inside in
+    subst (λ (b : Bool). StepsBeside style layout gap b) (sym plain.stays) free

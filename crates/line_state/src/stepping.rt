@@ -8,6 +8,9 @@ ghost use Rattle.line_state.specs.Layout.{AreRules, gap_before, is_allowed, spot
 ghost use Rattle.line_state.specs.Layout.{placed_frames, frames_after, with_topmost, with_opened, layout_after};
 ghost use Rattle.line_state.specs.Layout.{cost_of, cells_of, start_layout, start_of};
 ghost use Rattle.line_state.specs.Store.{list_at, layout_in, IsIn, IsGrown, AreApart};
+ghost use Rattle.line_state.specs.Beside.{IsPlain, excess_beside};
+ghost use Rattle.line_tokens.specs.Columns.{columns, end_of};
+ghost use Rattle.std.specs.Bool.{OnTrue};
 
 use crate::frames::Frame;
 use crate::gap::{Gap, GapRules, gap_rules, opens};
@@ -16,7 +19,7 @@ use crate::placing::{cost, end_column, frame_above, placed, start_column};
 use crate::rules::{allows, is_refused};
 use crate::spot::Spot;
 use crate::store::FrameStore;
-use layout_tables::{gap_rule, spaces_before};
+use layout_tables::{GapRule, gap_rule, spaces_before};
 use line_tokens::{Fixed, LineTok, NoMemory, Role};
 use style_table::Style;
 
@@ -228,6 +231,59 @@ pub fn step_in<'r>(
     step_from(store, style, state, &gap, &rules, left_open, &spot, brk)
 }
 
+/// Whether a token leaves the frames as they are and may stay whatever they tell: neither it nor the one before it opens
+/// one, and the one before it closes none and is no comma.
+#[inline(always)]
+fn is_plain(store: &FrameStore<'_>, state: &NodeState, gap: &Gap, rule: &GapRule, brk: bool) -> bool
+    requires { IsIn store.now state.now }
+    ensures { OnTrue result (IsPlain (layout_in store.now state.now) gap.now rule.now brk) }
+{
+    if brk || gap.first || gap.fixed.is_some() || rule.must {
+        return false;
+    }
+    if opens(gap.left.role) || opens(gap.right.role) || gap.left.role.is_comma() {
+        return false;
+    }
+    store.node(state.node).depth <= gap.right.depth
+}
+
+/// The columns past the limit that a token's first row adds to the row of the token before it.
+#[inline(always)]
+fn excess_beside(style: &Style, column: u32, start: u32, token: &LineTok) -> u32
+    ensures { result ≡ excess_beside style.now column start token.now }
+{
+    if token.role.is_trailing() {
+        return 0;
+    }
+    let after = start
+        .saturating_add(token.first_width)
+        .saturating_sub(style.column_limit);
+    let before = column.saturating_sub(style.column_limit);
+    after.saturating_sub(before)
+}
+
+/// The state with the gap's token more, which stays and leaves the frames as they are.
+#[inline(always)]
+fn step_beside(style: &Style, state: &NodeState, gap: &Gap, rules: &GapRules) -> NodeState
+    requires index { state.now.index < 4294967295 }
+    requires cost { state.now.cost ≤ state.now.index * 18446744073709551615 }
+    ensures index { result.index ≡ state.now.index + 1 }
+    ensures node { result.node ≡ state.now.node }
+    ensures column { result.column ≡ end_of gap.now.right (columns state.now.column rules.now.spaces) }
+    ensures cost { result.cost ≡ state.now.cost + style.now.penalty_excess_character * excess_beside style.now state.now.column (columns state.now.column rules.now.spaces) gap.now.right }
+    ensures bound { result.cost ≤ result.index * 18446744073709551615 }
+{
+    let start = state.column.saturating_add(u32::from(rules.spaces));
+    let past = excess_beside(style, state.column, start, &gap.right);
+    let cost = u64::from(style.penalty_excess_character) * u64::from(past);
+    NodeState {
+        index: state.index + 1,
+        column: end_column(&gap.right, start),
+        cost: state.cost + u128::from(cost),
+        node: state.node,
+    }
+}
+
 /// The state with one token more, as `step_in` tells it, where the choice is admissible.
 ///
 /// # Errors
@@ -311,6 +367,9 @@ pub fn try_step_by<'r>(
     };
     if is_refused(style, &gap, &rules.rule, brk) {
         return Ok(None);
+    }
+    if is_plain(store, state, &gap, &rules.rule, brk) {
+        return Ok(Some(step_beside(style, state, &gap, rules)));
     }
     let left_open = store.lowest(state.node, gap.right.depth);
     let spot = spot_in(store, state, &gap, left_open);

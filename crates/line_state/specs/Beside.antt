@@ -1,0 +1,25 @@
+-- Tokens that stand beside the one before them and leave the frames as they are.
+use Rattle.std.specs.Prelude.{◌≡◌, ◌≤◌, ℕ, ◌-◌, Bool, false, if◌then◌else◌, None, length}
+use Rattle.line_tokens.specs.Roles.{is_comma, is_trailing}
+use Rattle.line_tokens.specs.declared.LineTok.{LineTok}
+use Rattle.line_tokens.specs.Columns.{columns}
+use Rattle.style_table.specs.declared.style.Style.{Style}
+use Rattle.layout_tables.specs.declared.penalties.GapRule.{GapRule}
+use Rattle.line_state.specs.declared.gap.Gap.{Gap}
+use Rattle.line_state.specs.Brackets.{opens_frame}
+use Rattle.line_state.specs.Layout.{Layout, excess}
+
+-- a token that may stay whatever the frames are, and leaves them as they are
+pub record IsPlain (layout : Layout) (gap : Gap) (rule : GapRule) (brk : Bool) : Type 0 where
+  pub stays : brk ≡ false
+  pub inside : gap.first ≡ false
+  pub free : gap.fixed ≡ None
+  pub may : rule.must ≡ false
+  pub left : opens_frame gap.left.role ≡ false
+  pub right : opens_frame gap.right.role ≡ false
+  pub comma : is_comma gap.left.role ≡ false
+  pub shallow : length layout.frames ≤ gap.right.depth
+
+-- the columns past the limit that a token adds to the row of the token before it
+abbrev pub excess_beside : Style → ℕ → ℕ → LineTok → ℕ
+excess_beside style column start token = if is_trailing token.role then 0 else excess style (columns start token.first_width) - excess style column
