@@ -231,8 +231,8 @@ pub fn step_in<'r>(
     step_from(store, style, state, &gap, &rules, left_open, &spot, brk)
 }
 
-/// Whether a token leaves the frames as they are and may stay whatever they tell: neither it nor the one before it opens
-/// one, and the one before it closes none and is no comma.
+/// Whether a token leaves the frames as they are and may stay whatever they tell: neither it nor the one before it
+/// opens one, and the one before it closes none and is no comma.
 #[inline(always)]
 fn is_plain(store: &FrameStore<'_>, state: &NodeState, gap: &Gap, rule: &GapRule, brk: bool) -> bool
     requires { IsIn store.now state.now }

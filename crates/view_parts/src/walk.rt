@@ -12,7 +12,8 @@ ghost use Rattle.view_parts.specs.Walk.{asked_at, asked_in_body, is_apart, is_bo
 ghost use Rattle.view_parts.specs.Walk.{begins_outside, is_linkage};
 ghost use Rattle.view_parts.specs.Walk.{opening, start};
 ghost use Rattle.view_parts.specs.Walk.{is_record, is_label, is_leading, begins_statement};
-ghost use Rattle.view_parts.specs.Walk.{begins_behind, begins_block, begins_members, ends_statement, heads_structure, is_behind_if};
+ghost use Rattle.view_parts.specs.Walk.{begins_behind, begins_block, begins_members, ends_statement};
+ghost use Rattle.view_parts.specs.Walk.{heads_structure, is_behind_if};
 ghost use Rattle.view_parts.specs.Walk.{headed_by, goes_on_with, kept_begun, next_begun, next_last};
 ghost use Rattle.view_parts.specs.Walk.{end_in_body, may_part, past_comment, in_body, in_group, outside};
 ghost use Rattle.view_parts.specs.Walk.{reading, entered, left};
@@ -92,7 +93,8 @@ pub struct LastToken {
     pub headed: Headed,
     /// The last `{` of a body that began a block.
     pub block: Option<u32>,
-    /// It is `struct` or `union`, or a later part of the head of one: a word, or a group directly behind a word with a group.
+    /// It is `struct` or `union`, or a later part of the head of one: a word, or a group directly behind a word with a
+    /// group.
     pub structure: bool,
     /// Behind so many statements more a part may end: a short label may take statements onto its row.
     pub held: u32,
@@ -386,8 +388,8 @@ impl LastToken {
         self.is_end() || self.class.is_open_brace()
     }
 
-    /// Whether a statement may begin with the next token, which has this class: an `else`, a `while` and a `;` behind a `}`
-    /// may go on with the one before, and with a closing bracket none begins.
+    /// Whether a statement may begin with the next token, which has this class: an `else`, a `while` and a `;` behind a
+    /// `}` may go on with the one before, and with a closing bracket none begins.
     fn begins_statement(&self, class: TokenClass) -> bool
         ensures { result ≡ begins_statement self.now class }
     {
@@ -439,8 +441,8 @@ impl LastToken {
             || (class.is_if() && self.class.is_else())
     }
 
-    /// Behind the next token of a body, which is no comment, but for what it is to the head of a structure. So many items
-    /// of the part were read before it.
+    /// Behind the next token of a body, which is no comment, but for what it is to the head of a structure. So many
+    /// items of the part were read before it.
     #[inline(always)]
     fn pass(&mut self, place: u32, id: TokenId, class: TokenClass)
         ensures { self.new ≡ record (next_last place self.old id.0 class) { structure = self.old.structure } }
