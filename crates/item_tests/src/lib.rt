@@ -11,6 +11,7 @@
 //! - `arena`: what the store keeps of a text, and which texts it refuses (`token_arena`).
 //! - `sections`: texts and directives, the gaps that directives keep, and spellings (`token_arena`).
 //! - `runs`: what each run sees, which items are dead, and long texts (`branch_runs`).
+//! - `classes`: the classes of items, and of those of a view (`token_classes`).
 //! - `parts`: parts of a view (`view_parts`).
 //! - `text_lines`: the lines of whole texts (`unwrapped_lines`).
 //! - `token_roles`: the roles of whole texts (`annotator`).
@@ -22,6 +23,8 @@
 mod arena;
 #[cfg(test)]
 mod characters;
+#[cfg(test)]
+mod classes;
 #[cfg(test)]
 mod comparing;
 #[cfg(test)]

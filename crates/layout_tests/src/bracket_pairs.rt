@@ -1,22 +1,18 @@
-//! Classes, partners and kept gaps, as `docs/PROFILE.md` says under "Statements and lines".
+//! Partners and kept gaps, as `docs/PROFILE.md` says under "Statements and lines".
 
 ghost use Rattle.std.specs.Prelude.{◌<◌, length};
 
 use crate::comparing::{holds, same};
-use crate::fixtures::{count_of, items, view_of};
+use crate::fixtures::{count_of, marks_of};
 use bumpalo::Bump;
 use bumpalo::collections::into_bump_slice;
-use line_tokens::TokenId;
 use std::alloc::AllocError;
 use std::process::Abort;
-use token_arena::TokenArena;
 use token_classes::TokenClass::{
-    self, CallWord, CapitalWord, CloseBrace, CloseRound, CloseSquare, Comma, Equals, Hash, If,
-    Literal, OpenBrace, OpenRound, OpenSquare, PlainWord, Semicolon, Sign, TypeWord,
+    self, CloseBrace, CloseRound, CloseSquare, Comma, Equals, OpenBrace, OpenRound, OpenSquare,
+    PlainWord, Semicolon,
 };
-use token_classes::{
-    Partner, bracket_facts, classes_among, item_class, item_classes, partners_of_classes,
-};
+use token_classes::{Partner, bracket_facts, partners_of_classes};
 
 /// The class of a token of one letter.
 fn letter_class(letter: u8) -> TokenClass {
@@ -100,16 +96,6 @@ const KEPT: &[(&str, &[u8], &[u8])] = &[
     ("a brace without partner", b"({a;)", b"....."),
 ];
 
-/// A mark for each gap that is kept, and a point for each other.
-fn marks_of<'r>(rt: &impl Abort, kept: &[bool], run: &'r Bump) -> &'r [u8] {
-    let mut marks = Vec::new(run);
-    for is_kept in kept {
-        let mark = if *is_kept { b'^' } else { b'.' };
-        marks.push(mark).expect(rt, "memory");
-    }
-    into_bump_slice(marks)
-}
-
 #[test]
 fn keeps_the_gaps_of_statement_braces(rt: HostRuntime) {
     let run = Bump::new(rt.alloc());
@@ -119,7 +105,7 @@ fn keeps_the_gaps_of_statement_braces(rt: HostRuntime) {
         let facts = bracket_facts(classes, &run).expect(&rt, "facts");
         let partners = partners_of_classes(classes, &run).expect(&rt, "partners");
         same(&rt, name, facts.partners, partners);
-        same(&rt, name, marks_of(&rt, facts.kept, &run), marks);
+        same(&rt, name, marks_of(&rt, facts.kept, b'^', &run), marks);
     }
 }
 
@@ -167,92 +153,4 @@ fn keeps_the_gaps_of_many_statement_braces(rt: HostRuntime) {
         found,
         (300_002, 299_999),
     );
-}
-
-/// An item, and its class.
-const CLASSES: &[(&str, TokenClass)] = &[
-    ("if", If),
-    ("i\\\nf", If),
-    ("__attribute__", CallWord),
-    ("unsigned", TypeWord),
-    ("size_t", TypeWord),
-    ("struc", PlainWord),
-    ("structs", PlainWord),
-    ("FOO_1", CapitalWord),
-    ("X", PlainWord),
-    ("Foo", PlainWord),
-    ("if_", PlainWord),
-    ("{", OpenBrace),
-    ("<%", OpenBrace),
-    ("??<", OpenBrace),
-    (":>", CloseSquare),
-    ("+", Sign),
-];
-
-/// How many items a text has, and the class of the first.
-fn first_class(rt: &impl Abort, text: &[u8], run: &Bump) -> (u32, TokenClass) {
-    let arena = items(rt, text, run);
-    holds(rt, "some items", !arena.is_empty());
-    let class = item_class(&arena, TokenId(0), run).expect(rt, "a class");
-    (arena.len(), class)
-}
-
-#[test]
-fn tells_the_classes_of_items(rt: HostRuntime) {
-    let run = Bump::new(rt.alloc());
-    for case in CLASSES {
-        let (text, want) = *case;
-        let found = first_class(&rt, text.as_bytes(), &run);
-        same(&rt, text, found, (1, want));
-    }
-}
-
-/// The classes of the items of the next test's text.
-const ALL: &[TokenClass] = &[
-    If,
-    OpenRound,
-    PlainWord,
-    CloseRound,
-    Hash,
-    PlainWord,
-    PlainWord,
-    PlainWord,
-    OpenSquare,
-    Literal,
-    CloseSquare,
-    Semicolon,
-];
-
-/// Those of the items around its directive.
-const AROUND: &[TokenClass] = &[
-    If,
-    OpenRound,
-    PlainWord,
-    CloseRound,
-    PlainWord,
-    OpenSquare,
-    Literal,
-    CloseSquare,
-    Semicolon,
-];
-
-/// The classes of a text's items, but for those of a directive where its first and its end are told.
-fn viewed_classes<'r>(
-    rt: &impl Abort,
-    arena: &TokenArena<'_, '_>,
-    directive: Option<(u32, u32)>,
-    run: &'r Bump,
-) -> &'r [TokenClass] {
-    let all = item_classes(arena, run).expect(rt, "classes");
-    let view = view_of(rt, arena, directive, run);
-    classes_among(all, arena, &view, run).expect(rt, "classes")
-}
-
-#[test]
-fn takes_the_classes_of_views(rt: HostRuntime) {
-    let run = Bump::new(rt.alloc());
-    let arena = items(&rt, b"if (x)\n#undef y\ny[0];", &run);
-    same(&rt, "all", viewed_classes(&rt, &arena, None, &run), ALL);
-    let around = viewed_classes(&rt, &arena, Some((4, 7)), &run);
-    same(&rt, "around a directive", around, AROUND);
 }

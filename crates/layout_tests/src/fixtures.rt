@@ -2,7 +2,7 @@
 //! of a plan.
 
 ghost use Rattle.std.specs.Prelude.{◌≡◌, ◌+◌, ◌<◌, length, IfOk};
-ghost use Rattle.annotator.specs.Tokens.{TellItems};
+ghost use Rattle.token_classes.specs.Items.{TellItems};
 ghost use Rattle.token_classes.specs.Viewed.{AreWithin, classes_of};
 ghost use Rattle.style_table.specs.Range.{IsInRange};
 ghost use Rattle.line_tokens.specs.Lines.{CutPlaces};
@@ -10,6 +10,7 @@ ghost use Rattle.line_tokens.specs.Lines.{CutPlaces};
 use crate::comparing::{holds, same};
 use annotator::roles_of_classes;
 use bumpalo::Bump;
+use bumpalo::collections::into_bump_slice;
 use fmt_ports::MemSink;
 use line_tokens::{LineTok, NoMemory, ULine};
 use replacements::{Plan, write_out};
@@ -38,6 +39,16 @@ pub fn repeated(
 ) -> String {
     let middle = piece.repeat(alloc, count).expect(rt, head);
     [head, middle.as_str(), tail].concat(alloc).expect(rt, head)
+}
+
+/// This mark for each gap that is told so, and a point for each other.
+pub fn marks_of<'r>(rt: &impl Abort, told: &[bool], mark: u8, run: &'r Bump) -> &'r [u8] {
+    let mut marks = Vec::new(run);
+    for is_so in told {
+        let here = if *is_so { mark } else { b'.' };
+        marks.push(here).expect(rt, "marks");
+    }
+    into_bump_slice(marks)
 }
 
 /// The items of a text.

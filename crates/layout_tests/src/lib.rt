@@ -7,7 +7,7 @@
 //! - `fixtures`: what several of these are made of
 //! - `token_fixtures`: tokens by their roles, and steps from one token to the next
 //! - `comparing`: what is found beside what is wanted
-//! - `bracket_pairs`: classes, partners and kept gaps (`token_classes`)
+//! - `bracket_pairs`: partners of brackets and kept gaps (`token_classes`)
 //! - `row_starts`: where lines start, and empty lines (`layout_tables`)
 //! - `blanks`: the blanks of a row (`layout_tables`)
 //! - `break_costs`: where rows may end (`layout_tables`)

@@ -7,6 +7,7 @@
 //! - `comparing`: what is found beside what is wanted.
 //! - `fixtures`: styles, and ends of which a call fails.
 //! - `generated`: the pieces of the text that `--generate` makes.
+//! - `ranges`: the ranges of lines that a word tells (`off_regions`).
 //! - `words`: what the words of the command say, and why they are refused.
 #![tactic(auto)]
 
@@ -22,5 +23,7 @@ mod generated;
 mod named_styles;
 #[cfg(test)]
 mod ports;
+#[cfg(test)]
+mod ranges;
 #[cfg(test)]
 mod words;
