@@ -13,7 +13,8 @@ use Rattle.annotator.specs.declared.mark.Mark.{Mark}
 use Rattle.annotator.specs.Classes.{is_hash}
 use Rattle.annotator.specs.Held.{is_held, is_inner, TellsHeld}
 use Rattle.annotator.specs.Left.{no_token, outside}
-use Rattle.annotator.specs.Tokens.{stands_apart, tok_of, toks_from, IsPushed}
+use Rattle.annotator.specs.Tokens.{tok_of, toks_from, IsPushed}
+use Rattle.token_classes.specs.Items.{stands_apart}
 
 -- ## Segments
 

@@ -5,7 +5,7 @@ use Rattle.std.proofs.lemmas.Bool.{false≢true}
 use Rattle.token_arena.specs.Gaps.{Contents, gap_of}
 use Rattle.run_layout.specs.InputColumns.{column_past, column_through}
 use Rattle.run_layout.specs.Rows.{column_behind}
-use Rattle.annotator.specs.Tokens.{item_at}
+use Rattle.token_classes.specs.Items.{item_at}
 use Rattle.format_core.specs.Columns.{column_at}
 
 -- a line end, or another byte before one

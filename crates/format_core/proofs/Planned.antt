@@ -9,7 +9,7 @@ use Rattle.token_arena.specs.Gaps.{Contents}
 use Rattle.replacements.specs.declared.slot.Slot.{Slot}
 use Rattle.replacements.specs.Decisions.{decided_all}
 use Rattle.run_layout.specs.Rows.{column_behind}
-use Rattle.annotator.specs.Tokens.{item_at}
+use Rattle.token_classes.specs.Items.{item_at}
 use Rattle.off_regions.specs.declared.range.LineRange.{LineRange}
 use Rattle.run_layout.specs.Outcomes.{LaidLine}
 use Rattle.format_core.specs.BeforeRuns.{early_decisions, early_plan}

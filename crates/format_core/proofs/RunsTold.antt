@@ -26,7 +26,7 @@ use Rattle.run_layout.proofs.WaitingComments.{nothing_waits}
 use Rattle.run_layout.proofs.Walked.{cut_within}
 use Rattle.format_core.specs.Plans.{AfterParts, AfterSeen, AfterRuns}
 use Rattle.format_core.specs.Runs.{AreDecided, seen_by, after_kept}
-use Rattle.annotator.specs.Tokens.{toks_of_items}
+use Rattle.annotator.specs.Tokens.{toks_of_lines}
 use Rattle.unwrapped_lines.specs.Lines.{lines_of_items}
 use Rattle.format_core.specs.RunsTold.{AreItemsTold, ArePartsTold, AreSeenTold, AreRunsTold}
 use Rattle.format_core.specs.PartByPart.{GoesOnParts}
@@ -78,7 +78,7 @@ pub items_told_nothing : (style : Style) (budget : ℕ) (arena : Contents) (run 
 items_told_nothing style budget arena run plan ids tally some =
     let first : after_kept style arena plan ids ≡ plan = kept_nothing style arena plan 0 ids (kept_gaps_of (classes_of arena ids)) some in
     let lines = lines_of_items style arena ids in
-    let toks = toks_of_items style arena ids in
+    let toks = toks_of_lines arena ids (lines_of_items style arena ids) in
     let cut = lines_cut style arena ids toks plan lines (lines_cut_views style arena ids (partners_of (classes_of arena ids))) in
     let k = all_kept style budget arena ids toks run plan 0 (joined_lines style arena ids toks plan lines) cut some in
     record {
@@ -214,7 +214,7 @@ runs_end style budget arena plan count run left before now here none on =
 -- ## One part
 
 pub items_from : (style : Style) (budget : ℕ) (arena : Contents) (run : ℕ) (plan kept : List (Option Slot)) (ids : List ℕ) (toks : List LineTok) (lines : List ULine) (final : List (Option Slot)) (before after : Tally)
-    → toks ≡ toks_of_items style arena ids → kept ≡ after_kept style arena plan ids → lines ≡ lines_of_items style arena ids → IsViewLaid style budget arena ids toks run kept lines final before after
+    → toks ≡ toks_of_lines arena ids (lines_of_items style arena ids) → kept ≡ after_kept style arena plan ids → lines ≡ lines_of_items style arena ids → IsViewLaid style budget arena ids toks run kept lines final before after
     → AreItemsTold style budget arena run plan ids final before after
 items_from style budget arena run plan kept ids toks lines final before after toks_is kept_is lines_is laid = record {
   done = laid.done;

@@ -45,7 +45,8 @@ use Rattle.format_core.specs.KeptGaps.{input_column, kept_decisions}
 use Rattle.format_core.specs.Laws.{PlannedTextsAreTwins, EarlyDecisionsStay, KeptGapsStay, EveryGapIsDecided}
 use Rattle.format_core.specs.Plans.{AfterItems, AfterParts, AfterSeen, AfterRuns, IsPlanOf}
 use Rattle.format_core.specs.Runs.{runs_of, seen_by, after_kept}
-use Rattle.annotator.specs.Tokens.{toks_of_items, item_at}
+use Rattle.annotator.specs.Tokens.{toks_of_lines}
+use Rattle.token_classes.specs.Items.{item_at}
 use Rattle.unwrapped_lines.specs.Lines.{lines_of_items}
 use Rattle.format_core.proofs.Parts.{laid_have, laid_item, laid_length, part_length, before_or_behind}
 use Rattle.view_parts.proofs.InOrder.{AreEnds, ends_cut}
@@ -57,11 +58,11 @@ use Rattle.format_core.proofs.OfTexts.{views_are_of_texts, text_mark}
 -- ## What a run tells of its items
 
 -- the tokens of these items tell of them what the layout needs
-pub tell : (style : Style) (arena : Contents) (ids : List ℕ) → StandForItems arena ids (toks_of_items style arena ids)
+pub tell : (style : Style) (arena : Contents) (ids : List ℕ) → StandForItems arena ids (toks_of_lines arena ids (lines_of_items style arena ids))
 tell style arena ids =
     let partners = partners_of (classes_of arena ids) in
     let lines = lines_of_items style arena ids in
-    stand_for_items arena ids (toks_of_items style arena ids) (as_many_roles arena ids partners lines (lines_cut_views style arena ids partners)) (roles_tell arena ids partners lines)
+    stand_for_items arena ids (toks_of_lines arena ids (lines_of_items style arena ids)) (as_many_roles arena ids partners lines (lines_cut_views style arena ids partners)) (roles_tell arena ids partners lines)
 
 -- ## The text is a twin
 
@@ -76,7 +77,7 @@ items_sound : (style : Style) (budget : ℕ) (arena : Contents) (run : ℕ) (pla
     → AfterItems style budget arena run plan ids final done → IsSound arena plan → IsSound arena final
 items_sound style budget arena run plan ids final done within texts laid sound =
     let made = kept_decisions style arena 0 ids (kept_gaps_of (classes_of arena ids)) in
-    views_stay_sound style budget arena ids (toks_of_items style arena ids) run (after_kept style arena plan ids) (lines_of_items style arena ids) final done within texts (tell style arena ids)
+    views_stay_sound style budget arena ids (toks_of_lines arena ids (lines_of_items style arena ids)) run (after_kept style arena plan ids) (lines_of_items style arena ids) final done within texts (tell style arena ids)
     (lines_cut_views style arena ids (partners_of (classes_of arena ids))) laid
     (all_sound arena plan made sound (kept_stand style arena 0 ids (kept_gaps_of (classes_of arena ids))))
 
@@ -116,7 +117,7 @@ twin_along d e b b' c c' dialect first second twin =
 pub items_keep : (style : Style) (budget : ℕ) (arena : Contents) (run : ℕ) (plan : List (Option Slot)) (ids : List ℕ) (final : List (Option Slot)) (done : List LaidLine) (place : ℕ) (slot : Slot)
     → AfterItems style budget arena run plan ids final done → slot_of plan place ≡ Some slot → slot_of final place ≡ Some slot
 items_keep style budget arena run plan ids final done place slot laid is =
-    views_keep style budget arena ids (toks_of_items style arena ids) run (after_kept style arena plan ids) (lines_of_items style arena ids) final done laid place slot
+    views_keep style budget arena ids (toks_of_lines arena ids (lines_of_items style arena ids)) run (after_kept style arena plan ids) (lines_of_items style arena ids) final done laid place slot
     (stay plan (kept_decisions style arena 0 ids (kept_gaps_of (classes_of arena ids))) place slot is)
 
 pub parts_keep : (style : Style) (budget : ℕ) (arena : Contents) (run : ℕ) (plan : List (Option Slot)) (ids : List ℕ) (begins : Option Place) (first : ℕ) (stops : List PartStop) (final : List (Option Slot)) (done : List LaidLine) (place : ℕ) (slot : Slot)
@@ -149,7 +150,7 @@ all_keep style budget arena plan run count final done place laid h = (h.0, runs_
 length-items : (style : Style) (budget : ℕ) (arena : Contents) (run : ℕ) (plan : List (Option Slot)) (ids : List ℕ) (final : List (Option Slot)) (done : List LaidLine)
     → AfterItems style budget arena run plan ids final done → length final ≡ length plan
 length-items style budget arena run plan ids final done laid =
-    view_length style budget arena ids (toks_of_items style arena ids) run (after_kept style arena plan ids) (lines_of_items style arena ids) final done laid ∙ length-kept style arena plan ids
+    view_length style budget arena ids (toks_of_lines arena ids (lines_of_items style arena ids)) run (after_kept style arena plan ids) (lines_of_items style arena ids) final done laid ∙ length-kept style arena plan ids
 
 length-parts : (style : Style) (budget : ℕ) (arena : Contents) (run : ℕ) (plan : List (Option Slot)) (ids : List ℕ) (begins : Option Place) (first : ℕ) (stops : List PartStop) (final : List (Option Slot)) (done : List LaidLine)
     → AfterParts style budget arena run plan ids begins first stops final done → length final ≡ length plan
@@ -165,7 +166,7 @@ items_decided style budget arena run plan ids final done k long all below laid =
     let same : length kept ≡ length plan = length-kept style arena plan ids in
     let within : All (λ i. i < length kept) ids = λ j d low. (let w = all j d low in omega (arith, w, long, same)) in
     decided-is_some final (get_or ids k 0)
-    (views_decide style budget arena ids (toks_of_items style arena ids) run kept (lines_of_items style arena ids) final done within (tell style arena ids)
+    (views_decide style budget arena ids (toks_of_lines arena ids (lines_of_items style arena ids)) run kept (lines_of_items style arena ids) final done within (tell style arena ids)
     (lines_cut_views style arena ids (partners_of (classes_of arena ids))) laid k 0 below)
 
 -- behind all parts each gap of their items is decided

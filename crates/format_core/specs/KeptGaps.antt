@@ -5,7 +5,7 @@ use Rattle.token_arena.specs.Gaps.{Contents}
 use Rattle.replacements.specs.declared.slot.Slot.{Slot}
 pub use Rattle.run_layout.specs.InputColumns.{column_past, column_through, input_column, kept_slot}
 use Rattle.run_layout.specs.Rows.{column_behind}
-use Rattle.annotator.specs.Tokens.{item_at}
+use Rattle.token_classes.specs.Items.{item_at}
 
 -- The decisions for the gaps of these items that are marked, where the item before them ends at this column of the input.
 abbrev pub kept_decisions : Style → Contents → ℕ → List ℕ → List Bool → List (ℕ × Slot)

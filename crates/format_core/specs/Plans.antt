@@ -10,13 +10,13 @@ use Rattle.format_core.specs.BeforeRuns.{early_plan}
 use Rattle.view_parts.specs.Places.{Place}
 use Rattle.view_parts.specs.Parts.{PartStop, laid_items, part_ends}
 use Rattle.format_core.specs.Runs.{runs_of, seen_by, after_kept}
-use Rattle.annotator.specs.Tokens.{toks_of_items}
+use Rattle.annotator.specs.Tokens.{toks_of_lines}
 use Rattle.unwrapped_lines.specs.Lines.{lines_of_items}
 
 -- Behind a part of these items stands this plan, and this came of its lines: first what stays as it is between them is decided, then they are laid out.
 abbrev pub AfterItems : Style → ℕ → Contents → ℕ → List (Option Slot) → List ℕ → List (Option Slot) → List LaidLine → Type 0
 AfterItems style budget arena run plan ids final done =
-    AfterView style budget arena ids (toks_of_items style arena ids) run (after_kept style arena plan ids) (lines_of_items style arena ids) final done
+    AfterView style budget arena ids (toks_of_lines arena ids (lines_of_items style arena ids)) run (after_kept style arena plan ids) (lines_of_items style arena ids) final done
 
 -- Behind the parts of a view that end so, the first of which begins at this place, outside brackets or at this place of a body, stands this plan, and this came of their lines: they are laid out one after another.
 abbrev pub AfterParts : Style → ℕ → Contents → ℕ → List (Option Slot) → List ℕ → Option Place → ℕ → List PartStop → List (Option Slot) → List LaidLine → Type 0

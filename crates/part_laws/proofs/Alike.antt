@@ -12,8 +12,8 @@ use Rattle.token_classes.specs.declared.class.TokenClass.{TokenClass}
 use Rattle.token_classes.specs.declared.class.TokenClass.TheVariants.{Nothing, OpenRound, OpenBrace}
 use Rattle.token_classes.specs.Classes.{is_comment, is_close_round, is_before_list, is_opener, is_call_word, is_plain, is_text}
 use Rattle.token_classes.specs.Viewed.{item_class}
-use Rattle.unwrapped_lines.specs.declared.part.Part.TheVariants.{Own}
-use Rattle.unwrapped_lines.specs.Viewed.{part_of}
+use Rattle.token_classes.specs.declared.part.Part.TheVariants.{Own}
+use Rattle.token_classes.specs.Part.{part_of}
 use Rattle.annotator.specs.declared.left.Around.{Around}
 use Rattle.annotator.specs.declared.left.Left.{Left}
 use Rattle.annotator.specs.declared.left.Seen.{Seen}

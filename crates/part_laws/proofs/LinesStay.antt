@@ -8,7 +8,7 @@ use Rattle.unwrapped_lines.specs.declared.token.CodeToken.{CodeToken}
 use Rattle.unwrapped_lines.specs.declared.line.Line.{Line}
 use Rattle.unwrapped_lines.specs.declared.braces.Braces.{Braces}
 use Rattle.unwrapped_lines.specs.declared.open.Start.TheVariants.{Fresh}
-use Rattle.unwrapped_lines.specs.declared.part.Part.{Part}
+use Rattle.token_classes.specs.declared.part.Part.{Part}
 use Rattle.unwrapped_lines.specs.Wrapping.{braces_of}
 use Rattle.unwrapped_lines.specs.Viewed.{code_places_from, parts_of, token_at}
 use Rattle.unwrapped_lines.specs.Tree.{lines_from, end_level_from, lines_of, end_level}

@@ -13,7 +13,7 @@ use Rattle.token_classes.specs.declared.class.TokenClass.TheVariants.{TypeWord, 
 use Rattle.token_classes.specs.Words.{class_in, statement_words, call_words, type_words, named_class, is_in_capitals, word_class, punctuators, class_spelled}
 use Rattle.token_classes.specs.Viewed.{AreWithin, item_class, class_or_nothing}
 use Rattle.annotator.specs.Classes.{is_nothing}
-use Rattle.annotator.specs.Tokens.{no_item}
+use Rattle.token_classes.specs.Items.{no_item}
 
 either : (b : Bool) (x y : TokenClass) → is_nothing x ≡ false → is_nothing y ≡ false → is_nothing (if b then x else y) ≡ false
 either true x y left right = left

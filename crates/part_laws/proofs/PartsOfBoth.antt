@@ -9,9 +9,10 @@ use Rattle.token_classes.specs.declared.class.TokenClass.{TokenClass}
 use Rattle.token_classes.specs.declared.class.TokenClass.TheVariants.{Nothing, LineComment, BlockComment}
 use Rattle.token_classes.specs.Classes.{is_comment, is_line_comment, is_word}
 use Rattle.token_classes.specs.Viewed.{item_class, classes_of}
-use Rattle.unwrapped_lines.specs.declared.part.Part.{Part}
-use Rattle.unwrapped_lines.specs.declared.part.Part.TheVariants.{Token, Own, Trailing, Inner}
-use Rattle.unwrapped_lines.specs.Viewed.{line_ends_behind, part_of, parts_from, parts_of}
+use Rattle.token_classes.specs.declared.part.Part.{Part}
+use Rattle.token_classes.specs.declared.part.Part.TheVariants.{Token, Own, Trailing, Inner}
+use Rattle.unwrapped_lines.specs.Viewed.{parts_from, parts_of}
+use Rattle.token_classes.specs.Part.{line_ends_behind, part_of}
 use Rattle.part_laws.proofs.FirstPart.{closes_part, last_of, Follows}
 use Rattle.part_laws.proofs.Counted.{code_count}
 

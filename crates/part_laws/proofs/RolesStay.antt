@@ -17,7 +17,8 @@ use Rattle.token_classes.specs.Classes.{is_comment, is_word}
 use Rattle.token_classes.specs.Viewed.{AreWithin, item_class, classes_of}
 use Rattle.unwrapped_lines.proofs.Started.{lines_cut_views}
 use Rattle.annotator.specs.declared.mark.Mark.{Mark}
-use Rattle.annotator.specs.Tokens.{stands_apart, roles_of, toks_from, toks_of_items}
+use Rattle.annotator.specs.Tokens.{roles_of, toks_from}
+use Rattle.token_classes.specs.Items.{stands_apart}
 use Rattle.annotator.specs.View.{marks_of}
 use Rattle.annotator.proofs.Told.{as_many_toks}
 use Rattle.part_laws.specs.Declarations.{start, next_end, or_all, first_len, ends_from}
@@ -28,7 +29,7 @@ use Rattle.part_laws.proofs.LinesStay.{lines_stay}
 use Rattle.part_laws.proofs.Matchings.{partners_count}
 use Rattle.part_laws.proofs.PartnersStay.{partners_stay}
 use Rattle.part_laws.specs.RolesCut.{ItemRun, joined, last_code, comments_begin, with_first_apart, IsCut}
-use Rattle.part_laws.specs.Parts.{toks_of_parts, RolesStay}
+use Rattle.part_laws.specs.Parts.{toks_of_items, toks_of_parts, RolesStay}
 use Rattle.part_laws.proofs.Before.{marks_before}
 use Rattle.part_laws.proofs.LastToken.{code_is_last, opens_no_list, is_no_round, marks_end}
 use Rattle.part_laws.proofs.Toks.{ends_so}

@@ -9,7 +9,8 @@ use Rattle.token_arena.specs.Gaps.{Contents}
 use Rattle.annotator.specs.declared.mark.Mark.{Mark}
 use Rattle.annotator.specs.Classes.{is_hash}
 use Rattle.annotator.specs.Held.{is_inner, is_held}
-use Rattle.annotator.specs.Tokens.{stands_apart, tok_of, toks_from}
+use Rattle.annotator.specs.Tokens.{tok_of, toks_from}
+use Rattle.token_classes.specs.Items.{stands_apart}
 use Rattle.part_laws.specs.RolesCut.{ends_inner, with_first_apart}
 
 -- the last of these marks is that of an inner comment

@@ -4,9 +4,15 @@ use Rattle.line_tokens.specs.declared.LineTok.{LineTok}
 use Rattle.style_table.specs.declared.style.Style.{Style}
 use Rattle.token_arena.specs.Gaps.{Contents}
 use Rattle.token_classes.specs.Viewed.{AreWithin}
-use Rattle.annotator.specs.Tokens.{stands_apart, toks_of_items}
+use Rattle.unwrapped_lines.specs.Lines.{lines_of_items}
+use Rattle.annotator.specs.Tokens.{toks_of_lines}
+use Rattle.token_classes.specs.Items.{stands_apart}
 use Rattle.part_laws.specs.Declarations.{declaration_ends}
 use Rattle.part_laws.specs.RolesCut.{with_first_apart}
+
+-- what these items do in their lines
+abbrev pub toks_of_items : Style → Contents → List ℕ → List LineTok
+toks_of_items style arena ids = toks_of_lines arena ids (lines_of_items style arena ids)
 
 -- the tokens of the parts of a view that end at these places, the first of which begins at this one: those of each by itself, but that its first tells whether a directive stands before it in the view
 abbrev pub toks_of_parts : Style → Contents → List ℕ → ℕ → List ℕ → List LineTok

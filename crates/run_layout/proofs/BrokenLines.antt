@@ -29,7 +29,7 @@ use Rattle.replacements.specs.declared.slot.Slot.{Slot}
 use Rattle.replacements.specs.declared.stance.Stance.TheVariants.{OfText}
 use Rattle.replacements.specs.Places.{place_in}
 use Rattle.replacements.specs.Sound.{MayJoin, MayStandBetween, MayStand}
-use Rattle.annotator.specs.Tokens.{no_item, item_at}
+use Rattle.token_classes.specs.Items.{no_item, item_at}
 use Rattle.line_tokens.specs.Tokens.{no_token}
 use Rattle.run_layout.specs.Tells.{MayTouch, StandsForItem, StandForItems}
 use Rattle.run_layout.specs.Broken.{of_line, broken_line, empty_inside, waits, inside_decision, inside_slot, made_if_open, made_at, inside_made}

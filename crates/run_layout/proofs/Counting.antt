@@ -8,7 +8,7 @@ use Rattle.c_grammar.specs.Text.{ReadItem, end_of}
 use Rattle.token_arena.specs.Stored.{Stored, is_line_feed, line_at, stored_from}
 use Rattle.token_arena.specs.Gaps.{Contents, StandFrom, behind}
 use Rattle.token_arena.specs.Holds.{HoldsItems}
-use Rattle.annotator.specs.Tokens.{no_item, item_at}
+use Rattle.token_classes.specs.Items.{no_item, item_at}
 
 -- ## The line of an item
 

@@ -6,7 +6,7 @@ use Rattle.line_tokens.specs.declared.LineTok.{LineTok}
 use Rattle.line_tokens.specs.declared.line.ULine.{ULine}
 use Rattle.token_arena.specs.Gaps.{Contents}
 use Rattle.token_classes.specs.Viewed.{item_class}
-use Rattle.annotator.specs.Tokens.{item_at}
+use Rattle.token_classes.specs.Items.{item_at}
 use Rattle.layout_tables.specs.Indents.{keeps_none, start_column}
 use Rattle.replacements.specs.declared.gap_text.Decision.TheVariants.{Lines, Spaces}
 use Rattle.run_layout.specs.Rows.{empty_rows, first_decision, first_role, is_behind_brace, row_token}

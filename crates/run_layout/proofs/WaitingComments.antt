@@ -24,7 +24,7 @@ use Rattle.comment_rows.specs.declared.place.TrailRow.{TrailRow}
 use Rattle.comment_rows.specs.declared.comments.Comment.{Comment}
 use Rattle.comment_rows.specs.Comments.{comment_at, comment_of, comments_behind, comments_in, comments_made, first_start, placed, placed_slot, row_of, start_by}
 use Rattle.comment_rows.proofs.CommentLists.{length-aligned, none_made}
-use Rattle.annotator.specs.Tokens.{item_at}
+use Rattle.token_classes.specs.Items.{item_at}
 use Rattle.line_tokens.specs.Tokens.{no_token}
 use Rattle.run_layout.specs.Tells.{StandForItems}
 use Rattle.run_layout.specs.Laws.{AreOfTexts, IsWaiting}

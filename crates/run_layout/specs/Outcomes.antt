@@ -8,7 +8,7 @@ use Rattle.token_arena.specs.Gaps.{Contents}
 use Rattle.line_tokens.specs.declared.line.ULine.{ULine}
 use Rattle.replacements.specs.declared.slot.Slot.{Slot}
 use Rattle.replacements.specs.Decisions.{decided_all}
-use Rattle.annotator.specs.Tokens.{item_at}
+use Rattle.token_classes.specs.Items.{item_at}
 pub use Rattle.run_layout.specs.OpenGaps.{AreDecided, IsOpen}
 use Rattle.run_layout.specs.InputColumns.{input_before, input_behind, old_from}
 use Rattle.run_layout.specs.Broken.{broken_line, broken_made, first_made}

@@ -2,7 +2,7 @@
 
 ghost use Rattle.std.specs.Prelude.{◌≡◌, ◌<◌, length};
 ghost use Rattle.run_layout.specs.Rows.{start_behind, column_behind};
-ghost use Rattle.annotator.specs.Tokens.{item_at};
+ghost use Rattle.token_classes.specs.Items.{item_at};
 
 use replacements::Decision;
 use token_arena::{TokenArena, TokenId};

@@ -7,7 +7,7 @@ ghost use Rattle.run_layout.specs.Rows.{item_before, row_token, first_role, open
 ghost use Rattle.run_layout.specs.Rows.{first_decision};
 ghost use Rattle.run_layout.specs.Broken.{first_slot};
 ghost use Rattle.layout_tables.specs.Indents.{start_column};
-ghost use Rattle.annotator.specs.Tokens.{item_at};
+ghost use Rattle.token_classes.specs.Items.{item_at};
 ghost use Rattle.replacements.specs.declared.gap_text.Decision.TheVariants.{Lines};
 
 use crate::columns::start_behind;

@@ -3,7 +3,7 @@
 ghost use Rattle.std.specs.Prelude.{◌≡◌, ◌+◌, ◌*◌, ◌^◌, ◌<◌, ◌≤◌, OnOk, length};
 ghost use Rattle.style_table.specs.Range.{IsInRange};
 ghost use Rattle.token_classes.specs.Viewed.{AreWithin, classes_of};
-ghost use Rattle.annotator.specs.Tokens.{TellItems};
+ghost use Rattle.token_classes.specs.Items.{TellItems};
 ghost use Rattle.line_tokens.specs.Lines.{CutPlaces};
 ghost use Rattle.run_layout.specs.Counted.{IsCounted};
 ghost use Rattle.run_layout.specs.View.{IsViewLaid};

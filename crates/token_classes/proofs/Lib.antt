@@ -7,3 +7,4 @@ pub mod KeptLemmas
 pub mod KeptPlaces
 pub mod KeptSteps
 pub mod ListedLemmas
+pub mod Told

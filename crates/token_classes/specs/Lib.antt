@@ -5,3 +5,5 @@ pub mod Kept
 pub mod Partner
 pub mod Partners
 pub mod Listed
+pub mod Part
+pub mod Items

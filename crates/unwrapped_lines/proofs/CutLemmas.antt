@@ -10,11 +10,12 @@ use Rattle.token_classes.specs.Viewed.{item_class, classes_of}
 use Rattle.unwrapped_lines.specs.declared.line.Line.{Line}
 use Rattle.line_tokens.specs.declared.line.LineKind.TheVariants.{Comment}
 use Rattle.unwrapped_lines.specs.declared.part.Begin.{Begin}
-use Rattle.unwrapped_lines.specs.declared.part.Part.{Part}
-use Rattle.unwrapped_lines.specs.declared.part.Part.TheVariants.{Token, Own, Trailing, Inner}
+use Rattle.token_classes.specs.declared.part.Part.{Part}
+use Rattle.token_classes.specs.declared.part.Part.TheVariants.{Token, Own, Trailing, Inner}
 use Rattle.unwrapped_lines.specs.declared.part.Marks.{Marks}
 use Rattle.unwrapped_lines.specs.Comments.{Tree, new_begin, begin_of, begins_from, list_of, no_marks, next_marks, is_between, is_own, begins_line, own_level}
-use Rattle.unwrapped_lines.specs.Viewed.{code_places_from, code_tokens, token_at, part_of, parts_from, line_ends_behind}
+use Rattle.unwrapped_lines.specs.Viewed.{code_places_from, code_tokens, token_at, parts_from}
+use Rattle.token_classes.specs.Part.{part_of, line_ends_behind}
 use Rattle.unwrapped_lines.specs.Stack.{IsCut}
 use Rattle.unwrapped_lines.specs.Tree.{lines_of}
 use Rattle.unwrapped_lines.specs.Wrapping.{braces_of}

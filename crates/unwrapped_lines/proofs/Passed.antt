@@ -1,9 +1,9 @@
 -- Tokens inside a line begin none.
 use Rattle.std.proofs.Common.{◌≡◌, ◌≢◌, ◌∙◌, ℕ, zero, suc, ◌+◌, ◌-◌, ◌<◌, ◌≤◌, Bool, true, false, not, nat_eq, nat_lt, Option, None, Some, List, [], ◌∷◌, ◌++◌, slice_get, length, drop, arith, ap, sym, refl, subst}
 use Rattle.unwrapped_lines.specs.Comments.{Tree, is_between, between_at, is_begun, begin_of, begins_line, new_begin, next_marks, list_of, begins_from, token_follows}
-use Rattle.unwrapped_lines.specs.declared.part.Part.{Part}
+use Rattle.token_classes.specs.declared.part.Part.{Part}
 use Rattle.unwrapped_lines.specs.declared.part.ViewComment.{ViewComment}
-use Rattle.unwrapped_lines.specs.declared.part.Part.TheVariants.{Token, Inner}
+use Rattle.token_classes.specs.declared.part.Part.TheVariants.{Token, Inner}
 use Rattle.unwrapped_lines.specs.declared.part.Run.TheVariants.{Apart}
 use Rattle.unwrapped_lines.specs.declared.part.Marks.{Marks}
 use Rattle.unwrapped_lines.specs.declared.part.Begin.{Begin}

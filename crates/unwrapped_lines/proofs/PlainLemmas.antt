@@ -10,8 +10,8 @@ use Rattle.token_classes.specs.Viewed.{classes_of, item_class}
 use Rattle.unwrapped_lines.specs.declared.line.Line.{Line}
 use Rattle.unwrapped_lines.specs.declared.token.CodeToken.{CodeToken}
 use Rattle.unwrapped_lines.specs.declared.part.Begin.{Begin}
-use Rattle.unwrapped_lines.specs.declared.part.Part.{Part}
-use Rattle.unwrapped_lines.specs.declared.part.Part.TheVariants.{Token}
+use Rattle.token_classes.specs.declared.part.Part.{Part}
+use Rattle.token_classes.specs.declared.part.Part.TheVariants.{Token}
 use Rattle.unwrapped_lines.specs.declared.part.Marks.{Marks}
 use Rattle.unwrapped_lines.specs.declared.part.Run.TheVariants.{Apart}
 use Rattle.unwrapped_lines.specs.Comments.{Tree, begins_from, no_marks, is_between, between_at, new_begin}

@@ -5,10 +5,11 @@ use Rattle.token_arena.specs.Gaps.{Contents}
 use Rattle.token_classes.specs.declared.class.TokenClass.{TokenClass}
 use Rattle.token_classes.specs.Classes.{is_comment}
 use Rattle.unwrapped_lines.specs.declared.token.CodeToken.{CodeToken}
-use Rattle.unwrapped_lines.specs.declared.part.Part.{Part}
-use Rattle.unwrapped_lines.specs.declared.part.Part.TheVariants.{Token}
+use Rattle.token_classes.specs.declared.part.Part.{Part}
+use Rattle.token_classes.specs.declared.part.Part.TheVariants.{Token}
 use Rattle.unwrapped_lines.specs.declared.part.ViewComment.{ViewComment}
-use Rattle.unwrapped_lines.specs.Viewed.{numbers_of, token_at, code_places_from, code_tokens, part_of}
+use Rattle.unwrapped_lines.specs.Viewed.{numbers_of, token_at, code_places_from, code_tokens}
+use Rattle.token_classes.specs.Part.{part_of}
 
 -- ## Tokens that are no comments
 

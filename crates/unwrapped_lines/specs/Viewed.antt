@@ -1,24 +1,20 @@
 -- A view as a list of tokens and comments.
-use Rattle.std.specs.Prelude.{◌&&◌, ◌||◌, not, ℕ, ◌+◌, nat_le, Bool, false, Option, Some, None, List, [], ◌∷◌, length, map, get_or, slice_get, if◌then◌else◌}
+use Rattle.std.specs.Prelude.{◌&&◌, ◌||◌, not, ℕ, ◌+◌, Bool, false, Option, Some, None, List, [], ◌∷◌, length, map, get_or, slice_get, if◌then◌else◌}
 use Rattle.token_arena.specs.Gaps.{Contents, item_began}
 use Rattle.token_arena.specs.Stored.{Stored}
 use Rattle.token_classes.specs.declared.class.TokenClass.{TokenClass}
 use Rattle.token_classes.specs.declared.class.TokenClass.TheVariants.{Nothing}
-use Rattle.token_classes.specs.Classes.{is_colon, is_comment, is_line_comment}
+use Rattle.token_classes.specs.Classes.{is_colon, is_comment}
 use Rattle.token_classes.specs.Viewed.{item_class}
 use Rattle.unwrapped_lines.specs.declared.token.CodeToken.{CodeToken}
-use Rattle.unwrapped_lines.specs.declared.part.Part.{Part}
-use Rattle.unwrapped_lines.specs.declared.part.Part.TheVariants.{Token, Own, Trailing, Inner}
+use Rattle.token_classes.specs.declared.part.Part.{Part}
+use Rattle.token_classes.specs.Part.{part_of}
 
 -- ## The gaps of the file
 
 abbrev pub empty_of_item : Option Stored → Bool
 empty_of_item None = false
 empty_of_item (Some token) = token.gap.empty
-
--- a new-line or the end of the file comes behind the item with this number
-abbrev pub line_ends_behind : Contents → ℕ → Bool
-line_ends_behind arena id = nat_le (length arena.tokens) (id + 1) || item_began arena (id + 1)
 
 -- a colon comes directly behind the item with this number, with nothing between them
 abbrev pub colon_touches : Contents → ℕ → Bool
@@ -61,14 +57,6 @@ abbrev pub code_tokens : Contents → List ℕ → List TokenClass → List (Opt
 code_tokens arena ids classes partners = map (token_at arena ids classes partners) (code_places_from 0 classes)
 
 -- ## Comments
-
--- What an item of this class is, and whether a token that is no comment stands before it. At the view's start every
--- comment is on lines of its own, and so is one that began its line in the input.
-abbrev pub part_of : Contents → ℕ → Bool → TokenClass → Part
-part_of arena id started c =
-    if not (is_comment c) then Token
-    else (if not started || item_began arena id then Own
-    else (if is_line_comment c || line_ends_behind arena id then Trailing else Inner))
 
 -- the parts of a view from a place on
 abbrev pub parts_from : Contents → List ℕ → ℕ → Bool → List TokenClass → List Part

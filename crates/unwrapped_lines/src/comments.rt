@@ -2,7 +2,7 @@
 
 ghost use Rattle.std.specs.Prelude.{◌≡◌, ◌<◌, ◌≤◌, ◌+◌, ◌-◌, ◌^◌, ◌∷◌, ◌++◌};
 ghost use Rattle.std.specs.Prelude.{slice_get, ℕ, false, IfOk, IfSome, Some, List};
-ghost use Rattle.unwrapped_lines.specs.declared.part.Part.{Part};
+ghost use Rattle.token_classes.specs.declared.part.Part.{Part};
 ghost use Rattle.unwrapped_lines.specs.declared.part.Run.TheVariants.{Apart};
 ghost use Rattle.unwrapped_lines.specs.Comments.{token_follows, between_at, is_between, new_begin, next_marks};
 ghost use Rattle.unwrapped_lines.specs.Comments.{begins_from, no_marks, list_of, begins_line};
@@ -10,9 +10,10 @@ ghost use Rattle.unwrapped_lines.specs.Lines.{lines_between};
 ghost use Rattle.unwrapped_lines.specs.Inside.{parts_with, FollowFrom};
 
 use crate::line::Line;
-use crate::part::{Begin, Marks, Part, Run, ViewComment};
+use crate::part::{Begin, Marks, Run, ViewComment};
 use bumpalo::Bump;
 use line_tokens::{LineKind, NoMemory, ULine};
+use token_classes::Part;
 
 /// Whether a token comes after the inner comments at a place, where these comments follow.
 #[inline(never)]

@@ -20,5 +20,3 @@ mod viewed;
 
 pub use cutting::{lines, lines_of_classes};
 pub use line_tokens::NoMemory;
-pub use part::Part;
-pub use viewed::comment_part;

@@ -1,19 +1,7 @@
-//! Places of a view: tokens and comments.
+//! Places of a view: its comments, and where lines begin.
 
 use line_tokens::LineKind;
-
-/// What stands at a place of a view.
-#[derive(Clone, Copy, Debug, PartialEq, Eq)]
-pub enum Part {
-    /// A token that is no comment.
-    Token,
-    /// A comment on lines of its own.
-    Own,
-    /// A comment that ends its line.
-    Trailing,
-    /// Any other comment.
-    Inner,
-}
+use token_classes::Part;
 
 /// A comment of a view.
 #[derive(Clone, Copy, Drop)]

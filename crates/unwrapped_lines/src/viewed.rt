@@ -4,20 +4,20 @@ ghost use Rattle.std.specs.Prelude.{◌≡◌, ◌&&◌, ◌<◌, ◌≤◌, ◌
 ghost use Rattle.std.specs.Prelude.{slice_get, vec_capacity, IfOk, Some, true, false};
 ghost use Rattle.token_classes.specs.Viewed.{AreWithin};
 ghost use Rattle.token_classes.specs.Classes.{is_colon, is_comment};
-ghost use Rattle.unwrapped_lines.specs.Viewed.{line_ends_behind, colon_touches, numbers_of, partner_number};
-ghost use Rattle.unwrapped_lines.specs.Viewed.{code_tokens, part_of, parts_of};
+ghost use Rattle.unwrapped_lines.specs.Viewed.{colon_touches, numbers_of, partner_number};
+ghost use Rattle.unwrapped_lines.specs.Viewed.{code_tokens, parts_of};
 ghost use Rattle.unwrapped_lines.specs.Inside.{partner_numbers, AreTokensBefore, AreCommentsBefore, segment_stop};
 ghost use Rattle.unwrapped_lines.specs.Inside.{comments_of, parts_with};
 ghost use Rattle.token_arena.specs.Gaps.{item_began};
 ghost use Rattle.token_arena.specs.Segments.{ids_of, segment_bounds, AreSegments, no_segment};
 ghost use Rattle.c_chars.specs.declared.TheConstants.{LIMIT};
 
-use crate::part::{Part, ViewComment};
+use crate::part::ViewComment;
 use crate::token::CodeToken;
 use bumpalo::Bump;
 use line_tokens::{NoMemory, TokenId};
 use token_arena::{Segment, TokenArena, View};
-use token_classes::{Partner, TokenClass, item_class};
+use token_classes::{Partner, TokenClass, comment_part, item_class};
 
 /// So many tokens or more stand to a comment in most texts.
 const TOKENS_TO_A_COMMENT: usize = 16;
@@ -29,15 +29,6 @@ fn began(arena: &TokenArena<'_, '_>, id: u32) -> bool
     ensures { result ≡ item_began arena.now id }
 {
     arena.get(TokenId(id)).gap.began
-}
-
-/// Whether a new-line or the end of the file comes behind an item.
-fn line_ends_behind(arena: &TokenArena<'_, '_>, id: u32) -> bool
-    requires { id < length arena.now.tokens }
-    ensures { result ≡ line_ends_behind arena.now id }
-{
-    let count = arena.len();
-    count <= id + 1 || began(arena, id + 1)
 }
 
 /// Whether the item with a number, of this class, is a colon that another colon touches.
@@ -113,21 +104,6 @@ fn partner_at(
         Some(partner) => number_at(classes, numbers, *partner),
         None => Partner::none(),
     }
-}
-
-/// Which of three kinds a comment is.
-pub fn comment_part(arena: &TokenArena<'_, '_>, id: u32, started: bool, class: TokenClass) -> Part
-    requires item { id < length arena.now.tokens }
-    requires comment { is_comment class ≡ true }
-    ensures { result ≡ part_of arena.now id started class }
-{
-    if !started || began(arena, id) {
-        return Part::Own;
-    }
-    if class.is_line_comment() || line_ends_behind(arena, id) {
-        return Part::Trailing;
-    }
-    Part::Inner
 }
 
 /// Whether an item of this class is a comment, a colon or a `case`: of these more is told than of other items.

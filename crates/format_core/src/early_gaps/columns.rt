@@ -5,7 +5,7 @@ ghost use Rattle.std.specs.List.{list_any};
 ghost use Rattle.token_arena.specs.Gaps.{gap_of};
 ghost use Rattle.run_layout.specs.InputColumns.{column_through};
 ghost use Rattle.run_layout.specs.Rows.{column_behind};
-ghost use Rattle.annotator.specs.Tokens.{item_at};
+ghost use Rattle.token_classes.specs.Items.{item_at};
 ghost use Rattle.format_core.specs.Columns.{column_at};
 ghost use Rattle.format_core.specs.Kept.{IsColumn};
 

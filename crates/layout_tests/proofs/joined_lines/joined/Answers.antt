@@ -1,7 +1,7 @@
 use Rattle.std.proofs.Common.{◌≡◌, length}
 use Rattle.std.proofs.lemmas.Result.{IfOk-at_ok}
-use Rattle.annotator.specs.Tokens.{TellItems}
-use Rattle.line_joiner.proofs.Agree.{told_within}
+use Rattle.token_classes.specs.Items.{TellItems}
+use Rattle.token_classes.proofs.Told.{told_within}
 use Rattle.layout_tests.proofs.joined_lines.joined.Goals as goal
 
 pub join-requires-clause-within : goal.join-requires-clause-within
