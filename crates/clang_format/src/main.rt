@@ -4,8 +4,9 @@
 //! comes before its words: words that are no text, and want of memory for them.
 #![tactic(auto)]
 
+use command_refusals::{Refusal, status_of, tell};
 use fmt_ports::{RealFiles, RealIn, RealOut};
-use format_cli::{Refusal, format_command, status_of, tell};
+use format_cli::format_command;
 use std::env;
 use std::io::{self, ErrorKind};
 use std::process::ExitCode;

@@ -1,18 +1,18 @@
 -- An input whose rows are told.
-use Rattle.std.proofs.Common.{◌≡◌, ◌≢◌, ◌↔◌, ℕ, List, Bool, true, false, IsTrue, not, refl, subst, codes, inl, inr}
+use Rattle.std.proofs.Common.{◌≡◌, ◌≢◌, ◌↔◌, ℕ, List, Bool, true, false, IsTrue, not, refl, subst, codes, inr}
 use Rattle.std.specs.declared.option.Option.{Option}
 use Rattle.std.specs.Io.KnownBytes.{Appends, Keeps}
 use Rattle.fmt_ports.specs.Causes.{AppendsPart}
-use Rattle.fmt_ports.specs.Files.{Held, KeepsAll, KeepsOthers}
+use Rattle.fmt_ports.specs.Files.{Held, KeepsAll}
 use Rattle.c_grammar.specs.Grammar.{is_same}
 use Rattle.run_layout.specs.declared.report.Counts.{Counts}
 use Rattle.run_layout.specs.declared.report.Report.{Report}
+use Rattle.command_refusals.specs.declared.refusal.Refusal.TheVariants.{OutFailed, NotesFailed}
+use Rattle.command_refusals.specs.InForce.{IsHeld}
 use Rattle.format_cli.specs.declared.input.Options.{Options}
 use Rattle.format_cli.specs.declared.input.Place.{Place}
 use Rattle.format_cli.specs.declared.input.Place.TheVariants.{Output, Itself, Nowhere}
-use Rattle.format_cli.specs.declared.refusal.Refusal.TheVariants.{OutFailed, NotesFailed}
-use Rattle.format_cli.specs.InForce.{IsHeld}
-use Rattle.format_cli.specs.Inputs.{Ends, ends, rows_told, IsDone, IsDoneWith, IsFileRefused, IsFormatted, IsSourceDone, IsSourceDoneWith, IsSourceRefused, IsTold, PutFails, Puts, SourcePuts, SourcePutFails}
+use Rattle.format_cli.specs.Inputs.{Ends, ends, rows_told, IsDoneWith, IsFileRefused, IsFormatted, IsSourceDoneWith, IsSourceRefused, IsTold, PutFails, Puts, SourcePuts, SourcePutFails}
 use Rattle.format_cli.specs.Notes.{input_rows}
 use Rattle.format_cli.proofs.Causes.{changes, stays}
 use Rattle.format_cli.proofs.Ends.{keeps_self}

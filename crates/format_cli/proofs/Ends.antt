@@ -1,7 +1,5 @@
 -- What is kept where nothing is written.
 use Rattle.std.proofs.Common.{◌∙◌, ℕ, List, Some, None, [], refl, sym, append-nil}
-use Rattle.std.proofs.Common.{arith}
-use Rattle.std.proofs.lemmas.Grind.{common_steps}
 use Rattle.std.specs.declared.option.Option.{Option}
 use Rattle.std.specs.Io.KnownBytes.{Appends, Keeps}
 use Rattle.fmt_ports.specs.Files.{Held, KeepsAll, KeepsOthers}
@@ -32,11 +30,6 @@ pub others_stay : (name : List ℕ) (a b : Held) → KeepsAll a b → KeepsOther
 others_stay name None b h = tt
 others_stay name (Some a) None h = absurd h
 others_stay name (Some a) (Some b) h = λ other apart. h other
-
--- nothing is a text that may always be taken
-pub appends_none : (x : Option (List ℕ)) → Appends x x []
-appends_none None = tt
-appends_none (Some x) = grind (arith, common_steps)
 
 -- where nothing is taken, a text without bytes is
 pub takes_nothing : (old new : Option (List ℕ)) → Keeps old new → Appends old new []

@@ -5,10 +5,10 @@ use Rattle.std.specs.Io.KnownBytes.{Appends}
 use Rattle.fmt_ports.specs.Causes.{AppendsPart}
 use Rattle.run_layout.specs.declared.report.Counts.{Counts}
 use Rattle.run_layout.specs.declared.report.Report.{Report}
+use Rattle.command_refusals.specs.declared.refusal.Refusal.{Refusal}
+use Rattle.command_refusals.specs.declared.refusal.Refusal.TheVariants.{NotesFailed}
 use Rattle.format_cli.specs.declared.input.Options.{Options}
 use Rattle.format_cli.specs.declared.input.Place.TheVariants.{Nowhere}
-use Rattle.format_cli.specs.declared.refusal.Refusal.{Refusal}
-use Rattle.format_cli.specs.declared.refusal.Refusal.TheVariants.{NotesFailed}
 use Rattle.format_cli.specs.Generated.{IsGeneratedDoneWith, IsGeneratedRefused}
 use Rattle.format_cli.specs.Inputs.{IsTextCause}
 use Rattle.format_cli.specs.Notes.{input_rows}

@@ -7,18 +7,19 @@ use Rattle.c_chars.specs.declared.TheConstants.{LIMIT}
 use Rattle.c_chars.specs.declared.Dialect.TheVariants.{C11}
 use Rattle.c_lexer.specs.Fault.{IsOpenAt}
 use Rattle.format_core.proofs.Opens.{open_texts_have_no_layout}
+use Rattle.command_refusals.specs.declared.refusal.Refusal.{Refusal}
+use Rattle.command_refusals.specs.declared.refusal.Refusal.TheVariants.{BadWords, BadLines, BadStates, NoInput, ManyFiles, BadGenerate, GenerateBeside, UnknownStyle, LongConfiguration, BadConfiguration, TooLarge, OpenComment, SourceFailed, FileFailed, OutFailed, NotesFailed, Missing, NoMemory}
+use Rattle.command_refusals.specs.InForce.{IsHeld}
+use Rattle.command_refusals.specs.Notes.{status_of}
+use Rattle.command_refusals.specs.Order.{IsThere, Tells}
+use Rattle.command_refusals.proofs.StyleOrder.{EndsSo}
 use Rattle.format_cli.specs.declared.input.Options.{Options}
 use Rattle.format_cli.specs.declared.input.Place.{Place}
 use Rattle.format_cli.specs.declared.input.Place.TheVariants.{Output, Itself, Nowhere}
-use Rattle.format_cli.specs.declared.refusal.Refusal.{Refusal}
-use Rattle.format_cli.specs.declared.refusal.Refusal.TheVariants.{BadWords, BadLines, BadStates, NoInput, ManyFiles, BadGenerate, GenerateBeside, UnknownStyle, LongConfiguration, BadConfiguration, TooLarge, OpenComment, SourceFailed, FileFailed, OutFailed, NotesFailed, Missing, NoMemory}
 use Rattle.format_cli.specs.Generated.{IsGeneratedRefused}
-use Rattle.format_cli.specs.InForce.{IsHeld}
 use Rattle.format_cli.specs.Inputs.{AreDone, AreRefused, Ends, IsDone, IsFileCause, IsFileRefused, IsFormatted, IsSourceDone, IsSourceRefused, IsTextCause, PutFails}
-use Rattle.format_cli.specs.Notes.{status_of}
-use Rattle.format_cli.specs.Order.{AreDifferent, FilesStop, IsBadText, IsThere, Tells}
+use Rattle.format_cli.specs.Order.{AreDifferent, FilesStop, IsBadText}
 use Rattle.format_cli.specs.Statuses.{IsOneOf}
-use Rattle.format_cli.proofs.StyleOrder.{EndsSo}
 
 -- ---- one text
 

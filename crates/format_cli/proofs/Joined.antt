@@ -3,9 +3,9 @@ use Rattle.std.proofs.Common.{◌∙◌, ℕ, List, [], ◌∷◌, Some, None, r
 use Rattle.std.specs.List.{concat}
 use Rattle.std.proofs.KnownBytes.{Appends-trans}
 use Rattle.fmt_ports.specs.Files.{Held, KeepsAll}
+use Rattle.command_refusals.specs.InForce.{IsHeld}
 use Rattle.format_cli.specs.declared.input.Options.{Options}
 use Rattle.format_cli.specs.declared.input.Place.TheVariants.{Output}
-use Rattle.format_cli.specs.InForce.{IsHeld}
 use Rattle.format_cli.specs.Inputs.{rows_told}
 use Rattle.format_cli.specs.Joined.{AreFormatted, OutputsAreJoined}
 use Rattle.format_cli.proofs.Ends.{takes_nothing}

@@ -12,19 +12,20 @@ use Rattle.style_table.specs.declared.style.Style.{Style}
 use Rattle.command_words.specs.Command.{Gives, generate_word, rows_of_words}
 use Rattle.command_words.specs.declared.pieces.Generate.{Generate}
 use Rattle.command_words.specs.declared.read.Words.{Words}
+use Rattle.command_refusals.specs.declared.refusal.Refusal.{Refusal}
+use Rattle.command_refusals.specs.declared.refusal.Refusal.TheVariants.{BadWords, BadLines, BadStates, NoInput, ManyFiles, BadGenerate, GenerateBeside, UnknownStyle, LongConfiguration, BadConfiguration, TooLarge, OpenComment, SourceFailed, FileFailed, OutFailed, NotesFailed, Missing, NoMemory}
+use Rattle.command_refusals.specs.InForce.{IsHeld, IsMissing}
+use Rattle.command_refusals.specs.Notes.{status_of}
+use Rattle.command_refusals.proofs.Statuses.{style_not}
 use Rattle.format_cli.specs.declared.input.Options.{Options}
 use Rattle.std.specs.Borrow.{Bor}
 use Rattle.command_words.specs.declared.read.StyleChoice.{StyleChoice}
 use Rattle.command_words.specs.declared.read.StyleChoice.TheVariants.{FileAt}
 use Rattle.format_cli.specs.declared.input.Place.{Place}
 use Rattle.format_cli.specs.declared.input.Place.TheVariants.{Output, Itself, Nowhere}
-use Rattle.format_cli.specs.declared.refusal.Refusal.{Refusal}
-use Rattle.format_cli.specs.declared.refusal.Refusal.TheVariants.{BadWords, BadLines, BadStates, NoInput, ManyFiles, BadGenerate, GenerateBeside, UnknownStyle, LongConfiguration, BadConfiguration, TooLarge, OpenComment, SourceFailed, FileFailed, OutFailed, NotesFailed, Missing, NoMemory}
 use Rattle.format_cli.specs.Account.{Answers, TextChanges, World, WouldFail, IsRefused, AreWordsRefused, EndsWell, IsPerformed, IsNotPerformed, IsBegun, IsSourceNotWritten, IsSourceWritten, files_of, options_of, place_of}
 use Rattle.format_cli.specs.Generated.{IsGeneratedRefused, text_of}
-use Rattle.format_cli.specs.InForce.{IsHeld, IsMissing, IsStyleRefused}
-use Rattle.format_cli.specs.Inputs.{Ends, IsDone, IsFileCause, IsSourceCause, IsSourceDone, IsSourceRefused, IsTextCause, AreDone, AreRefused, PutFails, Puts, SourcePutFails, SourcePuts}
-use Rattle.format_cli.specs.Notes.{status_of}
+use Rattle.format_cli.specs.Inputs.{Ends, IsDone, IsFileCause, IsSourceCause, IsSourceRefused, IsTextCause, AreDone, AreRefused, PutFails, Puts, SourcePutFails, SourcePuts}
 use Rattle.format_cli.specs.Statuses.{AsksWhetherChanged, HasRefusedInput, IsOneOf, IsPath, LacksName, LeavesFiles, LeavesOutput}
 use Rattle.format_cli.proofs.Choice.{is_made, made_alone}
 use Rattle.format_cli.proofs.Ends.{keeps_all_after}
@@ -543,26 +544,6 @@ words_not words OutFailed is k = k
 words_not words NotesFailed is k = k
 words_not words (Missing file) is k = k
 words_not words NoMemory is k = cc
-
-style_not : (choice : StyleChoice) (held : Held) (old new : Option (List ℕ)) (refusal : Refusal) → status_of refusal ≡ 4 → IsStyleRefused choice held old new refusal → ⊥
-style_not choice held old new BadWords is k = cc
-style_not choice held old new (BadLines its_word fault) is k = cc
-style_not choice held old new (BadStates word) is k = cc
-style_not choice held old new NoInput is k = cc
-style_not choice held old new ManyFiles is k = cc
-style_not choice held old new (BadGenerate word) is k = cc
-style_not choice held old new GenerateBeside is k = cc
-style_not choice held old new (UnknownStyle unknown) is k = cc
-style_not choice held old new (LongConfiguration file) is k = cc
-style_not choice held old new (BadConfiguration file fault) is k = cc
-style_not choice held old new (TooLarge its_name) is k = k.1
-style_not choice held old new (OpenComment its_name at) is k = k.1
-style_not choice held old new SourceFailed is k = cc
-style_not choice held old new (FileFailed file) is k = cc
-style_not choice held old new OutFailed is k = cc
-style_not choice held old new NotesFailed is k = cc
-style_not choice held old new (Missing file) is k = cc
-style_not choice held old new NoMemory is k = cc
 
 source_text : (options : Options) (place : Place) (input old new told now : Option (List ℕ)) (refusal : Refusal) → status_of refusal ≡ 4 → IsSourceRefused options place input old new told now refusal → IsSourceCause input refusal
 source_text options place input old new told now BadWords is k = absurd (cc)

@@ -1,6 +1,5 @@
 mod Rest
 mod Ends
-mod Counts
 mod Causes
 mod Changes
 mod ReportRows
@@ -9,7 +8,6 @@ mod Generated
 mod Statuses
 mod Kept
 mod Choice
-mod StyleOrder
 mod InputOrder
 mod Told
 mod Order

@@ -1,5 +1,5 @@
 -- What the words, names and bytes tell decides how a call ends.
-use Rattle.std.proofs.Common.{◌≡◌, ◌⊎◌, ◌∙◌, ◌++◌, ◌≤◌, ℕ, Bool, true, false, List, [], Some, None, Ok, Err, IsTrue, IsFalse, OnOk, refl, sym, subst, inl, inr, le_trans}
+use Rattle.std.proofs.Common.{◌≡◌, ◌⊎◌, ◌∙◌, ◌++◌, ℕ, Bool, true, false, List, [], Some, None, Ok, Err, IsTrue, IsFalse, OnOk, refl, sym, subst, inl, inr}
 use Rattle.std.proofs.KnownBytes.{Appends-trans}
 use Rattle.std.specs.declared.option.Option.{Option}
 use Rattle.std.specs.declared.result.Result.{Result}
@@ -10,15 +10,18 @@ use Rattle.style_table.specs.declared.style.Style.{Style}
 use Rattle.command_words.specs.declared.pieces.Generate.{Generate}
 use Rattle.command_words.specs.declared.read.Words.{Words}
 use Rattle.command_words.specs.Said.{Reads}
-use Rattle.format_cli.specs.declared.refusal.Refusal.{Refusal}
-use Rattle.format_cli.specs.declared.refusal.Refusal.TheVariants.{BadWords, BadLines, BadStates, NoInput, ManyFiles, BadGenerate, GenerateBeside, UnknownStyle, LongConfiguration, BadConfiguration, TooLarge, OpenComment, SourceFailed, FileFailed, OutFailed, NotesFailed, Missing, NoMemory}
+use Rattle.command_refusals.specs.declared.refusal.Refusal.{Refusal}
+use Rattle.command_refusals.specs.declared.refusal.Refusal.TheVariants.{BadWords, BadLines, BadStates, NoInput, ManyFiles, BadGenerate, GenerateBeside, UnknownStyle, LongConfiguration, BadConfiguration, TooLarge, OpenComment, SourceFailed, FileFailed, OutFailed, NotesFailed, Missing, NoMemory}
+use Rattle.command_refusals.specs.Counts.{Faults, Raises}
+use Rattle.command_refusals.specs.Notes.{row_of, status_of}
+use Rattle.command_refusals.specs.Order.{HasStyle, IsThere, StyleStops}
+use Rattle.command_refusals.proofs.OneChoice.{has_same, in_force_same, stops_same}
+use Rattle.command_refusals.proofs.Statuses.{notes_rose}
+use Rattle.command_refusals.proofs.StyleOrder.{EndsSo, goes_on, style_ends, style_fails}
 use Rattle.format_cli.specs.Account.{AreWordsRefused, EndsWell, IsBegun, IsNotPerformed, IsPerformed, IsRefused, World, files_of, options_of, place_of}
-use Rattle.format_cli.specs.Counts.{Faults, Raises}
 use Rattle.format_cli.specs.Generated.{text_of}
-use Rattle.format_cli.specs.Notes.{row_of, status_of}
-use Rattle.format_cli.specs.Order.{AreDifferent, FilesStop, HasStyle, InputsStop, IsBadText, IsThere, LacksRows, StopsWith, StyleStops}
-use Rattle.format_cli.proofs.Choice.{has_same, in_force_same, made_alone, made_by, one_dry, one_dump, one_list, one_made, one_place, one_style, stops_same}
-use Rattle.format_cli.proofs.StyleOrder.{EndsSo, goes_on, style_ends, style_fails}
+use Rattle.format_cli.specs.Order.{AreDifferent, FilesStop, InputsStop, IsBadText, LacksRows, StopsWith}
+use Rattle.format_cli.proofs.Choice.{made_alone, made_by, one_dry, one_dump, one_list, one_made, one_place, one_style}
 use Rattle.format_cli.proofs.Statuses.{no_budget, no_lines}
 use Rattle.format_cli.proofs.Told.{performed_takes, not_performed_takes}
 use Rattle.format_cli.proofs.InputOrder.{AreOnce, files_end, files_stay, made_ends, not_bad, source_ends, source_stays, stop_stays}
@@ -200,33 +203,6 @@ lacks_so words before now b faults faults' refusal (inr (inr k)) row s =
     (Appends-trans before.ends.told k.begun.ends.told b k.begins.rows (more.0 ++ last.0) k.begins.told (Appends-trans k.begun.ends.told now.ends.told b more.0 last.0 more.1 last.1)))
 
 -- ---- the row of a refusal
-
-rose_further : (a b c : ℕ) → Rose a b → b ≤ c → Rose a c
-rose_further a b c rose later = le_trans rose later
-
-rose_since : (a b c : ℕ) → b ≡ a → Rose b c → Rose a c
-rose_since a b c same rose = subst (λ (n : ℕ). Rose n c) same rose
-
--- the notes' faults that rose while a refusal was told rose in the call
-notes_rose : (refusal : Refusal) (a b : Faults) (notes : ℕ) → Raises refusal a b → b.notes ≤ notes → Rose b.notes notes → Rose a.notes notes
-notes_rose BadWords a b notes k later rose = rose_since a.notes b.notes notes k.notes rose
-notes_rose (BadLines its_word fault) a b notes k later rose = rose_since a.notes b.notes notes k.notes rose
-notes_rose (BadStates word) a b notes k later rose = rose_since a.notes b.notes notes k.notes rose
-notes_rose NoInput a b notes k later rose = rose_since a.notes b.notes notes k.notes rose
-notes_rose ManyFiles a b notes k later rose = rose_since a.notes b.notes notes k.notes rose
-notes_rose (BadGenerate word) a b notes k later rose = rose_since a.notes b.notes notes k.notes rose
-notes_rose GenerateBeside a b notes k later rose = rose_since a.notes b.notes notes k.notes rose
-notes_rose (UnknownStyle unknown) a b notes k later rose = rose_since a.notes b.notes notes k.notes rose
-notes_rose (LongConfiguration file) a b notes k later rose = rose_since a.notes b.notes notes k.notes rose
-notes_rose (BadConfiguration file fault) a b notes k later rose = rose_since a.notes b.notes notes k.notes rose
-notes_rose (TooLarge its_name) a b notes k later rose = rose_since a.notes b.notes notes k.notes rose
-notes_rose (OpenComment its_name at) a b notes k later rose = rose_since a.notes b.notes notes k.notes rose
-notes_rose SourceFailed a b notes k later rose = rose_since a.notes b.notes notes k.0.notes rose
-notes_rose (FileFailed file) a b notes k later rose = rose_since a.notes b.notes notes k.0.notes rose
-notes_rose OutFailed a b notes k later rose = rose_since a.notes b.notes notes k.0.notes rose
-notes_rose NotesFailed a b notes k later rose = rose_further a.notes b.notes notes k.1 later
-notes_rose (Missing file) a b notes k later rose = rose_since a.notes b.notes notes k.0.notes rose
-notes_rose NoMemory a b notes k later rose = rose_since a.notes b.notes notes k.notes rose
 
 -- the row was told, or the notes' faults rose
 pub row_told : {T E : Type 0} (refusal : Refusal) (a b : Faults) (notes : ℕ) (told new : Option (List ℕ)) (result : Result T E) → Raises refusal a b →

@@ -1,8 +1,7 @@
 -- What follows from a refusal and its status.
-use Rattle.std.proofs.Common.{◌≡◌, ◌∙◌, ◌<◌, ◌≤◌, ◌⊎◌, ℕ, List, [], ◌∷◌, Ok, Err, Some, None, refl, sym, ap, subst, inl, inr, le_trans, arith}
+use Rattle.std.proofs.Common.{◌≡◌, ◌∙◌, ◌⊎◌, ℕ, List, [], ◌∷◌, Ok, Err, Some, None, refl, sym, ap, subst, inl, inr}
 use Rattle.std.specs.Prelude.{⊤}
 use Rattle.std.specs.declared.option.Option.{Option}
-use Rattle.fmt_ports.specs.Causes.{Rose}
 use Rattle.style_table.specs.declared.style.Style.{Style}
 use Rattle.off_regions.specs.declared.fault.RangeFault.{RangeFault}
 use Rattle.command_words.specs.Budget.{budget_of}
@@ -11,16 +10,15 @@ use Rattle.command_words.specs.Command.{rows_of_words}
 use Rattle.command_words.specs.declared.read.Words.{Words}
 use Rattle.command_words.specs.Said.{HasBadLines, HasBadStates, Reads, Says}
 use Rattle.fmt_ports.specs.Files.{Held}
+use Rattle.command_refusals.specs.declared.refusal.Refusal.{Refusal}
+use Rattle.command_refusals.specs.declared.refusal.Refusal.TheVariants.{BadWords, BadLines, BadStates, NoInput, ManyFiles, BadGenerate, GenerateBeside, UnknownStyle, LongConfiguration, BadConfiguration, TooLarge, OpenComment, SourceFailed, FileFailed, OutFailed, NotesFailed, Missing, NoMemory}
+use Rattle.command_refusals.specs.Notes.{status_of}
 use Rattle.format_cli.specs.declared.input.Options.{Options}
 use Rattle.format_cli.specs.declared.input.Place.{Place}
 use Rattle.format_cli.specs.declared.input.Place.TheVariants.{Output, Itself, Nowhere}
-use Rattle.format_cli.specs.declared.refusal.Refusal.{Refusal}
-use Rattle.format_cli.specs.declared.refusal.Refusal.TheVariants.{BadWords, BadLines, BadStates, NoInput, ManyFiles, BadGenerate, GenerateBeside, UnknownStyle, LongConfiguration, BadConfiguration, TooLarge, OpenComment, SourceFailed, FileFailed, OutFailed, NotesFailed, Missing, NoMemory}
 use Rattle.format_cli.specs.Account.{World, IsRefused, IsNotPerformed, AreWordsRefused, options_of}
-use Rattle.format_cli.specs.Counts.{Faults, Raises}
 use Rattle.format_cli.specs.Generated.{IsGeneratedRefused, text_of}
 use Rattle.format_cli.specs.Inputs.{Ends, IsFileRefused, AreRefused, IsSourceRefused, IsFileCause, IsTextCause, PutFails}
-use Rattle.format_cli.specs.Notes.{status_of}
 use Rattle.format_cli.specs.Statuses.{IsStatus, AreBadWords, HasNoStyle}
 
 pub known : (refusal : Refusal) → IsStatus (status_of refusal)
@@ -42,198 +40,6 @@ known OutFailed = inr (inr (inr (inr (inr (inl refl)))))
 known NotesFailed = inr (inr (inr (inr (inr (inl refl)))))
 known (Missing file) = inr (inr (inr (inr (inr (inr (inl refl))))))
 known NoMemory = inr (inr (inr (inr (inr (inr (inr (refl)))))))
-
-pub not_zero : (refusal : Refusal) → status_of refusal ≡ 0 → ⊥
-not_zero BadWords is = cc
-not_zero (BadLines its_word fault) is = cc
-not_zero (BadStates word) is = cc
-not_zero NoInput is = cc
-not_zero ManyFiles is = cc
-not_zero (BadGenerate word) is = cc
-not_zero GenerateBeside is = cc
-not_zero (UnknownStyle unknown) is = cc
-not_zero (LongConfiguration file) is = cc
-not_zero (BadConfiguration file fault) is = cc
-not_zero (TooLarge its_name) is = cc
-not_zero (OpenComment its_name at) is = cc
-not_zero SourceFailed is = cc
-not_zero (FileFailed file) is = cc
-not_zero OutFailed is = cc
-not_zero NotesFailed is = cc
-not_zero (Missing file) is = cc
-not_zero NoMemory is = cc
-
-pub not_one : (refusal : Refusal) → status_of refusal ≡ 1 → ⊥
-not_one BadWords is = cc
-not_one (BadLines its_word fault) is = cc
-not_one (BadStates word) is = cc
-not_one NoInput is = cc
-not_one ManyFiles is = cc
-not_one (BadGenerate word) is = cc
-not_one GenerateBeside is = cc
-not_one (UnknownStyle unknown) is = cc
-not_one (LongConfiguration file) is = cc
-not_one (BadConfiguration file fault) is = cc
-not_one (TooLarge its_name) is = cc
-not_one (OpenComment its_name at) is = cc
-not_one SourceFailed is = cc
-not_one (FileFailed file) is = cc
-not_one OutFailed is = cc
-not_one NotesFailed is = cc
-not_one (Missing file) is = cc
-not_one NoMemory is = cc
-
--- ---- counts
-
--- status 5 comes where a count of faults rose, and the notes' may rise further
-pub failed : (refusal : Refusal) (a b : Faults) (notes : ℕ) → b.notes ≤ notes → status_of refusal ≡ 5 → Raises refusal a b →
-    Rose a.source b.source ⊎ Rose a.out b.out ⊎ Rose a.notes notes ⊎ Rose a.files b.files
-failed BadWords a b notes later is k = absurd (cc)
-failed (BadLines its_word fault) a b notes later is k = absurd (cc)
-failed (BadStates word) a b notes later is k = absurd (cc)
-failed NoInput a b notes later is k = absurd (cc)
-failed ManyFiles a b notes later is k = absurd (cc)
-failed (BadGenerate word) a b notes later is k = absurd (cc)
-failed GenerateBeside a b notes later is k = absurd (cc)
-failed (UnknownStyle unknown) a b notes later is k = absurd (cc)
-failed (LongConfiguration file) a b notes later is k = absurd (cc)
-failed (BadConfiguration file fault) a b notes later is k = absurd (cc)
-failed (TooLarge its_name) a b notes later is k = absurd (cc)
-failed (OpenComment its_name at) a b notes later is k = absurd (cc)
-failed SourceFailed a b notes later is k = inl k.1
-failed (FileFailed file) a b notes later is k = inr (inr (inr k.1))
-failed OutFailed a b notes later is k = inr (inl k.1)
-failed NotesFailed a b notes later is k = inr (inr (inl (le_trans k.1 later)))
-failed (Missing file) a b notes later is k = absurd (cc)
-failed NoMemory a b notes later is k = absurd (cc)
-
--- a greater count of source gives status 5
-pub source_fault : (refusal : Refusal) (a b : Faults) → Raises refusal a b → a.source < b.source → status_of refusal ≡ 5
-source_fault BadWords a b k more = absurd (omega (arith, k.source))
-source_fault (BadLines its_word fault) a b k more = absurd (omega (arith, k.source))
-source_fault (BadStates word) a b k more = absurd (omega (arith, k.source))
-source_fault NoInput a b k more = absurd (omega (arith, k.source))
-source_fault ManyFiles a b k more = absurd (omega (arith, k.source))
-source_fault (BadGenerate word) a b k more = absurd (omega (arith, k.source))
-source_fault GenerateBeside a b k more = absurd (omega (arith, k.source))
-source_fault (UnknownStyle unknown) a b k more = absurd (omega (arith, k.source))
-source_fault (LongConfiguration file) a b k more = absurd (omega (arith, k.source))
-source_fault (BadConfiguration file fault) a b k more = absurd (omega (arith, k.source))
-source_fault (TooLarge its_name) a b k more = absurd (omega (arith, k.source))
-source_fault (OpenComment its_name at) a b k more = absurd (omega (arith, k.source))
-source_fault SourceFailed a b k more = refl
-source_fault (FileFailed file) a b k more = refl
-source_fault OutFailed a b k more = refl
-source_fault NotesFailed a b k more = refl
-source_fault (Missing file) a b k more = absurd (omega (arith, k.0.source))
-source_fault NoMemory a b k more = absurd (omega (arith, k.source))
-
--- a greater count of out gives status 5
-pub out_fault : (refusal : Refusal) (a b : Faults) → Raises refusal a b → a.out < b.out → status_of refusal ≡ 5
-out_fault BadWords a b k more = absurd (omega (arith, k.out))
-out_fault (BadLines its_word fault) a b k more = absurd (omega (arith, k.out))
-out_fault (BadStates word) a b k more = absurd (omega (arith, k.out))
-out_fault NoInput a b k more = absurd (omega (arith, k.out))
-out_fault ManyFiles a b k more = absurd (omega (arith, k.out))
-out_fault (BadGenerate word) a b k more = absurd (omega (arith, k.out))
-out_fault GenerateBeside a b k more = absurd (omega (arith, k.out))
-out_fault (UnknownStyle unknown) a b k more = absurd (omega (arith, k.out))
-out_fault (LongConfiguration file) a b k more = absurd (omega (arith, k.out))
-out_fault (BadConfiguration file fault) a b k more = absurd (omega (arith, k.out))
-out_fault (TooLarge its_name) a b k more = absurd (omega (arith, k.out))
-out_fault (OpenComment its_name at) a b k more = absurd (omega (arith, k.out))
-out_fault SourceFailed a b k more = refl
-out_fault (FileFailed file) a b k more = refl
-out_fault OutFailed a b k more = refl
-out_fault NotesFailed a b k more = refl
-out_fault (Missing file) a b k more = absurd (omega (arith, k.0.out))
-out_fault NoMemory a b k more = absurd (omega (arith, k.out))
-
--- a greater count of files gives status 5
-pub files_fault : (refusal : Refusal) (a b : Faults) → Raises refusal a b → a.files < b.files → status_of refusal ≡ 5
-files_fault BadWords a b k more = absurd (omega (arith, k.files))
-files_fault (BadLines its_word fault) a b k more = absurd (omega (arith, k.files))
-files_fault (BadStates word) a b k more = absurd (omega (arith, k.files))
-files_fault NoInput a b k more = absurd (omega (arith, k.files))
-files_fault ManyFiles a b k more = absurd (omega (arith, k.files))
-files_fault (BadGenerate word) a b k more = absurd (omega (arith, k.files))
-files_fault GenerateBeside a b k more = absurd (omega (arith, k.files))
-files_fault (UnknownStyle unknown) a b k more = absurd (omega (arith, k.files))
-files_fault (LongConfiguration file) a b k more = absurd (omega (arith, k.files))
-files_fault (BadConfiguration file fault) a b k more = absurd (omega (arith, k.files))
-files_fault (TooLarge its_name) a b k more = absurd (omega (arith, k.files))
-files_fault (OpenComment its_name at) a b k more = absurd (omega (arith, k.files))
-files_fault SourceFailed a b k more = refl
-files_fault (FileFailed file) a b k more = refl
-files_fault OutFailed a b k more = refl
-files_fault NotesFailed a b k more = refl
-files_fault (Missing file) a b k more = absurd (omega (arith, k.0.files))
-files_fault NoMemory a b k more = absurd (omega (arith, k.files))
-
--- a greater count of notes gives status 5
-pub notes_fault : (refusal : Refusal) (a b : Faults) → Raises refusal a b → a.notes < b.notes → status_of refusal ≡ 5
-notes_fault BadWords a b k more = absurd (omega (arith, k.notes))
-notes_fault (BadLines its_word fault) a b k more = absurd (omega (arith, k.notes))
-notes_fault (BadStates word) a b k more = absurd (omega (arith, k.notes))
-notes_fault NoInput a b k more = absurd (omega (arith, k.notes))
-notes_fault ManyFiles a b k more = absurd (omega (arith, k.notes))
-notes_fault (BadGenerate word) a b k more = absurd (omega (arith, k.notes))
-notes_fault GenerateBeside a b k more = absurd (omega (arith, k.notes))
-notes_fault (UnknownStyle unknown) a b k more = absurd (omega (arith, k.notes))
-notes_fault (LongConfiguration file) a b k more = absurd (omega (arith, k.notes))
-notes_fault (BadConfiguration file fault) a b k more = absurd (omega (arith, k.notes))
-notes_fault (TooLarge its_name) a b k more = absurd (omega (arith, k.notes))
-notes_fault (OpenComment its_name at) a b k more = absurd (omega (arith, k.notes))
-notes_fault SourceFailed a b k more = refl
-notes_fault (FileFailed file) a b k more = refl
-notes_fault OutFailed a b k more = refl
-notes_fault NotesFailed a b k more = refl
-notes_fault (Missing file) a b k more = absurd (omega (arith, k.0.notes))
-notes_fault NoMemory a b k more = absurd (omega (arith, k.notes))
-
--- status 6 comes where the misses rose
-pub missing : (refusal : Refusal) (a b : Faults) → status_of refusal ≡ 6 → Raises refusal a b → Rose a.misses b.misses
-missing BadWords a b is k = absurd (cc)
-missing (BadLines its_word fault) a b is k = absurd (cc)
-missing (BadStates word) a b is k = absurd (cc)
-missing NoInput a b is k = absurd (cc)
-missing ManyFiles a b is k = absurd (cc)
-missing (BadGenerate word) a b is k = absurd (cc)
-missing GenerateBeside a b is k = absurd (cc)
-missing (UnknownStyle unknown) a b is k = absurd (cc)
-missing (LongConfiguration file) a b is k = absurd (cc)
-missing (BadConfiguration file fault) a b is k = absurd (cc)
-missing (TooLarge its_name) a b is k = absurd (cc)
-missing (OpenComment its_name at) a b is k = absurd (cc)
-missing SourceFailed a b is k = absurd (cc)
-missing (FileFailed file) a b is k = absurd (cc)
-missing OutFailed a b is k = absurd (cc)
-missing NotesFailed a b is k = absurd (cc)
-missing (Missing file) a b is k = k.1
-missing NoMemory a b is k = absurd (cc)
-
--- greater misses give status 6
-pub misses : (refusal : Refusal) (a b : Faults) → Raises refusal a b → a.misses < b.misses → status_of refusal ≡ 6
-misses BadWords a b k more = absurd (omega (arith, k.misses))
-misses (BadLines its_word fault) a b k more = absurd (omega (arith, k.misses))
-misses (BadStates word) a b k more = absurd (omega (arith, k.misses))
-misses NoInput a b k more = absurd (omega (arith, k.misses))
-misses ManyFiles a b k more = absurd (omega (arith, k.misses))
-misses (BadGenerate word) a b k more = absurd (omega (arith, k.misses))
-misses GenerateBeside a b k more = absurd (omega (arith, k.misses))
-misses (UnknownStyle unknown) a b k more = absurd (omega (arith, k.misses))
-misses (LongConfiguration file) a b k more = absurd (omega (arith, k.misses))
-misses (BadConfiguration file fault) a b k more = absurd (omega (arith, k.misses))
-misses (TooLarge its_name) a b k more = absurd (omega (arith, k.misses))
-misses (OpenComment its_name at) a b k more = absurd (omega (arith, k.misses))
-misses SourceFailed a b k more = absurd (omega (arith, k.0.misses))
-misses (FileFailed file) a b k more = absurd (omega (arith, k.0.misses))
-misses OutFailed a b k more = absurd (omega (arith, k.0.misses))
-misses NotesFailed a b k more = absurd (omega (arith, k.0.misses))
-misses (Missing file) a b k more = refl
-misses NoMemory a b k more = absurd (omega (arith, k.misses))
-
--- ---- words and style
 
 -- what an input or the output can be refused for
 abbrev OfInputs : Refusal → Type 0

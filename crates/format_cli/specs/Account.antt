@@ -10,17 +10,17 @@ use Rattle.command_words.specs.declared.pieces.Generate.{Generate}
 use Rattle.command_words.specs.declared.read.Words.{Words}
 use Rattle.command_words.specs.declared.fault.WordsFault.TheVariants as Fault
 use Rattle.command_words.specs.Said.{Reads}
+use Rattle.command_refusals.specs.declared.refusal.Refusal.{Refusal}
+use Rattle.command_refusals.specs.declared.refusal.Refusal.TheVariants.{BadWords, BadLines, BadStates, NoInput, ManyFiles, BadGenerate, GenerateBeside, OutFailed, NoMemory}
+use Rattle.command_refusals.specs.InForce.{IsInForce, IsStyleRefused}
+use Rattle.command_refusals.specs.Notes.{row_of, status_of}
 use Rattle.format_cli.specs.declared.command.Outcome.{Outcome}
 use Rattle.format_cli.specs.declared.command.Outcome.TheVariants.{Done, WouldChange}
 use Rattle.format_cli.specs.declared.input.Options.{Options}
 use Rattle.format_cli.specs.declared.input.Place.{Place}
 use Rattle.format_cli.specs.declared.input.Place.TheVariants.{Output, Itself, Nowhere}
-use Rattle.format_cli.specs.declared.refusal.Refusal.{Refusal}
-use Rattle.format_cli.specs.declared.refusal.Refusal.TheVariants.{BadWords, BadLines, BadStates, NoInput, ManyFiles, BadGenerate, GenerateBeside, OutFailed, NoMemory}
 use Rattle.format_cli.specs.Generated.{IsGeneratedDone, IsGeneratedRefused, text_of}
-use Rattle.format_cli.specs.InForce.{IsInForce, IsStyleRefused}
 use Rattle.format_cli.specs.Inputs.{Ends, ends, IsSourceDone, IsSourceRefused, AreDone, AreRefused, SomeChanges}
-use Rattle.format_cli.specs.Notes.{row_of, status_of}
 
 -- where the texts go: nowhere with `--dry-run`, and otherwise into their files with `-i`, and to the output without
 abbrev pub place_of : (dry_run in_place : Bool) → Place

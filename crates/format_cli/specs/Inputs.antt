@@ -13,13 +13,13 @@ use Rattle.run_layout.specs.declared.report.Counts.{Counts}
 use Rattle.run_layout.specs.declared.report.Report.{Report}
 use Rattle.format_core.specs.Formats.{Formats}
 use Rattle.format_core.specs.Reports.{AreCounts}
+use Rattle.command_refusals.specs.declared.refusal.Refusal.{Refusal}
+use Rattle.command_refusals.specs.declared.refusal.Refusal.TheVariants.{TooLarge, OpenComment, SourceFailed, FileFailed, OutFailed, NotesFailed, Missing, NoMemory}
+use Rattle.command_refusals.specs.InForce.{IsHeld, IsLonger, IsMissing}
 use Rattle.format_cli.specs.declared.input.Options.{Options}
 use Rattle.format_cli.specs.Notes.{input_rows}
 use Rattle.format_cli.specs.declared.input.Place.{Place}
 use Rattle.format_cli.specs.declared.input.Place.TheVariants.{Output, Itself, Nowhere}
-use Rattle.format_cli.specs.declared.refusal.Refusal.{Refusal}
-use Rattle.format_cli.specs.declared.refusal.Refusal.TheVariants.{TooLarge, OpenComment, SourceFailed, FileFailed, OutFailed, NotesFailed, Missing, NoMemory}
-use Rattle.format_cli.specs.InForce.{IsHeld, IsLonger, IsMissing}
 
 -- The second text is the formatted text of the first, which is within the limit, with these reports and counts: a twin of it that preprocesses alike.
 pub record IsFormatted (options : Options) (b c : List ℕ) : Type 0 where

@@ -3,9 +3,9 @@ use Rattle.std.specs.Prelude.{◌≡◌, ⊤, ℕ, List, [], ◌∷◌}
 use Rattle.std.specs.List.{concat}
 use Rattle.std.specs.Io.KnownBytes.{Appends}
 use Rattle.fmt_ports.specs.Files.{Held}
+use Rattle.command_refusals.specs.InForce.{IsHeld}
 use Rattle.format_cli.specs.declared.input.Options.{Options}
 use Rattle.format_cli.specs.declared.input.Place.TheVariants.{Output}
-use Rattle.format_cli.specs.InForce.{IsHeld}
 use Rattle.format_cli.specs.Inputs.{AreDone, Ends, IsFormatted, rows_told}
 
 -- this is the formatted text of a FILE, and these are the rows of its reports

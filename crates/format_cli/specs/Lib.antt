@@ -1,6 +1,4 @@
 pub mod Notes
-pub mod Counts
-pub mod InForce
 pub mod Inputs
 pub mod Generated
 pub mod Account

@@ -10,12 +10,12 @@ use Rattle.command_words.specs.Budget.{budget_of}
 use Rattle.command_words.specs.Command.{Gives, IsOfForm, generate_word, rows_of_words, states_word}
 use Rattle.command_words.specs.Generate.{generate_of}
 use Rattle.command_words.specs.Said.{AreOthersFine, GeneratesBeside, HasBadGenerate, HasBadLines, HasBadStates, HasLines, HasManyFiles, LacksFile, Reads}
-use Rattle.format_cli.specs.declared.refusal.Refusal.{Refusal}
+use Rattle.command_refusals.specs.declared.refusal.Refusal.{Refusal}
+use Rattle.command_refusals.specs.InForce.{IsMissing, IsStyleCause}
+use Rattle.command_refusals.specs.Notes.{status_of}
 use Rattle.format_cli.specs.Account.{files_of}
 use Rattle.format_cli.specs.Generated.{text_of}
-use Rattle.format_cli.specs.InForce.{IsMissing, IsStyleCause}
 use Rattle.format_cli.specs.Inputs.{IsFileCause, IsSourceCause, IsTextCause}
-use Rattle.format_cli.specs.Notes.{status_of}
 
 -- the statuses that there are
 abbrev pub IsStatus : ℕ → Type 0

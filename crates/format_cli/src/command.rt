@@ -8,14 +8,13 @@ ghost use Rattle.style_table.specs.Range.{IsInRange};
 ghost use Rattle.format_cli.specs.Account.{EndsWell, IsNotPerformed, IsPerformedWith, IsRefused, outcome_of};
 ghost use Rattle.format_cli.specs.Account.{outcome_status, place_of, world};
 ghost use Rattle.format_cli.specs.Causes.{IsRefusedFor};
-ghost use Rattle.format_cli.specs.Counts.{Counted, Faults};
+ghost use Rattle.command_refusals.specs.Counts.{Counted, Faults};
 ghost use Rattle.format_cli.specs.Statuses.{AreBadWords, AsksWhetherChanged, HasNoStyle, HasRefusedInput, IsStatus};
 ghost use Rattle.format_cli.specs.Statuses.{LacksName, LeavesFiles, LeavesOutput};
 ghost use Rattle.format_cli.specs.Order.{LacksRows, StopsWith};
 
-use crate::in_force::style_in_force;
 use crate::input::{Options, Place, format_files, format_generated, format_source};
-use crate::refusal::{Refusal, status_of, tell};
+use command_refusals::{Refusal, status_of, style_in_force, tell};
 use command_words::{Words, WordsFault, read_words};
 use fmt_ports::{Failed, Files, Sink, Source};
 use std::alloc::Global;

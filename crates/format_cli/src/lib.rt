@@ -6,13 +6,10 @@
 #![tactic(auto)]
 
 mod command;
-mod in_force;
 mod input;
 mod laws;
-mod refusal;
 mod reports;
 mod summary;
 
 pub use command::format_command;
 pub use laws::outputs_are_joined;
-pub use refusal::{Refusal, status_of, tell};

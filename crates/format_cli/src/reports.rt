@@ -1,11 +1,12 @@
 //! Lines that are reported, and how they are told.
 
-ghost use Rattle.std.specs.Prelude.{◌≡◌, ◌≤◌, ◌++◌, [], OnOk, codes};
+ghost use Rattle.std.specs.Prelude.{◌≤◌, ◌++◌, [], OnOk, codes};
 ghost use Rattle.std.specs.Io.KnownBytes.{Appends};
 ghost use Rattle.fmt_ports.specs.Causes.{AppendsPart, Counts};
-ghost use Rattle.format_cli.specs.Notes.{numbered_row, report_row, report_rows};
+ghost use Rattle.command_refusals.specs.Notes.{numbered_row};
+ghost use Rattle.format_cli.specs.Notes.{report_row, report_rows};
 
-use crate::refusal::write_number;
+use command_refusals::write_number;
 use fmt_ports::{Failed, Sink, Stream, write_in_pieces};
 use format_core::Report;
 use std::alloc::Global;

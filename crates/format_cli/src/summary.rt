@@ -1,14 +1,15 @@
 //! What is told of an input: its reports, and in a dry run its summary.
 
-ghost use Rattle.std.specs.Prelude.{◌≡◌, ◌≤◌, ◌++◌, [], OnOk, codes};
+ghost use Rattle.std.specs.Prelude.{◌≡◌, ◌≤◌, [], OnOk};
 ghost use Rattle.std.specs.Io.KnownBytes.{Appends};
 ghost use Rattle.fmt_ports.specs.Causes.{AppendsPart, Counts as FaultCounts};
-ghost use Rattle.format_cli.specs.Notes.{change_word, cost_row, input_rows, lines_row, numbered_row, report_rows};
+ghost use Rattle.command_refusals.specs.Notes.{numbered_row};
+ghost use Rattle.format_cli.specs.Notes.{change_word, cost_row, input_rows, lines_row};
 ghost use Rattle.format_cli.specs.Notes.{summary_row};
 
 use crate::input::Place;
-use crate::refusal::{write_number, write_two};
 use crate::reports::tell_reports;
+use command_refusals::{write_number, write_two};
 use fmt_ports::{Failed, Sink, Stream, write_in_pieces};
 use format_core::{Counts, Formatted};
 use itoa::Buffer;

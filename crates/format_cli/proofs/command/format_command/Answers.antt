@@ -1,6 +1,7 @@
 use Rattle.std.proofs.Common.{◌∙◌, inl, inr, map, refl, rules, string_bytes, sym}
+use Rattle.command_refusals.proofs.Statuses.{not_one, not_zero, failed, source_fault, out_fault, files_fault, missing, misses}
 use Rattle.format_cli.specs.Account.{EndsWell, world}
-use Rattle.format_cli.proofs.Statuses.{known, not_one, not_zero, failed, source_fault, out_fault, files_fault, missing, misses, bad_words, form, no_style}
+use Rattle.format_cli.proofs.Statuses.{known, bad_words, form, no_style}
 use Rattle.format_cli.proofs.Kept.{asks, out_kept_well, out_kept, files_kept_well, files_kept, missing_name, refused_input}
 use Rattle.format_cli.proofs.Order.{ends_not_well, ends_so, lacks_not_well, lacks_so, row_told}
 use Rattle.format_cli.proofs.command.format_command.Goals as goal

@@ -1,9 +1,10 @@
 use Rattle.std.proofs.Common.{◌≡◌, ◌≢◌, ◌∙◌, ℕ, List, [], None, Some, ap, map, refl, sym, inl, inr}
 use Rattle.std.specs.declared.option.Option.{Option}
 use Rattle.std.specs.Borrow.{Bor}
+use Rattle.command_refusals.proofs.Results.{err_map, ok_follows}
 use Rattle.format_cli.specs.Account.{files_of}
 use Rattle.format_cli.proofs.Ends.{keeps_all_self, keeps_self}
-use Rattle.format_cli.proofs.Rest.{err_map, none_of, ok_follows, some_of}
+use Rattle.format_cli.proofs.Rest.{none_of, some_of}
 use Rattle.format_cli.proofs.command.perform.Goals as goal
 
 -- what isn't there is nothing

@@ -1,10 +1,10 @@
 use Rattle.std.proofs.Common.{refl, inl, inr}
+use Rattle.command_refusals.specs.Counts.{Faults}
+use Rattle.command_refusals.proofs.Counts.{raises_after, same_after}
 use Rattle.format_cli.specs.Account.{world}
-use Rattle.format_cli.specs.Counts.{Faults}
 use Rattle.format_cli.proofs.Rest.{passed}
 use Rattle.format_cli.proofs.Changes.{answers}
 use Rattle.format_cli.proofs.Ends.{keeps_self}
-use Rattle.format_cli.proofs.Counts.{raises_after, same_after}
 use Rattle.format_cli.proofs.command.run.Goals as goal
 
 pub returns-in_err-style-clause-refused : goal.returns-in_err-style-clause-refused

@@ -1,9 +1,9 @@
 use Rattle.std.proofs.Common.{◌≡◌, ◌≢◌, refl, inl}
+use Rattle.command_refusals.proofs.Counts.{same_after, raises_after}
 use Rattle.format_cli.specs.declared.input.Place.TheVariants.{Output, Itself, Nowhere}
 use Rattle.format_cli.specs.Inputs.{ends, IsTextCause}
 use Rattle.format_cli.proofs.Rest.{passed}
 use Rattle.format_cli.proofs.Ends.{keeps_self}
-use Rattle.format_cli.proofs.Counts.{same_after, raises_after, counted_after}
 use Rattle.format_cli.proofs.Causes.{file_cause, write_refused, written_back, changes, stays}
 use Rattle.format_core.specs.TextOf.{text_of}
 use Rattle.format_cli.proofs.Done.{HasRows, rows_of_made, file_untold, file_done, output_cut}

@@ -1,10 +1,10 @@
 use Rattle.std.proofs.Common.{◌∙◌, false, ◌||◌, ap, map, ℕ, List, refl, sym, subst, inl, inr}
 use Rattle.std.specs.Borrow.{Bor}
-use Rattle.format_cli.specs.Counts.{Faults}
+use Rattle.command_refusals.specs.Counts.{Faults}
+use Rattle.command_refusals.proofs.Counts.{raises_after}
 use Rattle.format_cli.specs.Inputs.{ends, AreDoneWith, AreRefused}
 use Rattle.format_cli.proofs.Rest.{names_step, passed, rest_end}
 use Rattle.format_cli.proofs.Changes.{all_told, and_those_behind, none_left, one_more}
-use Rattle.format_cli.proofs.Counts.{raises_after}
 use Rattle.format_cli.proofs.input.format_files.Goals as goal
 
 pub returns-in_err-here-clause-refused : goal.returns-in_err-here-clause-refused

@@ -1,5 +1,5 @@
 use Rattle.std.proofs.Common.{◌≡◌, ◌||◌, Bool, drop, map}
-use Rattle.format_cli.specs.declared.refusal.Refusal.{Refusal}
+use Rattle.command_refusals.specs.declared.refusal.Refusal.{Refusal}
 use Rattle.format_cli.specs.Inputs.{Ends, ends, AreDoneWith, AreRefused}
 use Rattle.format_cli.proofs.input.format_files.Given as goal
 

@@ -1,8 +1,6 @@
 use Rattle.std.proofs.Common.{refl}
-use Rattle.std.proofs.KnownBytes.{Appends-trans}
 use Rattle.fmt_ports.proofs.Parts.{part_of_front, part_of_rest}
 use Rattle.format_cli.specs.Notes.{report_rows, summary_row}
-use Rattle.format_cli.proofs.Rest.{on_map}
 use Rattle.format_cli.proofs.summary.tell_input.Goals as goal
 
 pub returns-in_err-tell_reports-in-Nowhere-clause-part : goal.returns-in_err-tell_reports-in-Nowhere-clause-part

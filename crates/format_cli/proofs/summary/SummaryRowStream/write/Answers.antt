@@ -1,8 +1,9 @@
-use Rattle.std.proofs.Common.{◌++◌, [], refl, codes}
+use Rattle.std.proofs.Common.{refl, codes}
 use Rattle.std.proofs.KnownBytes.{Appends-trans}
 use Rattle.fmt_ports.proofs.Parts.{part_of_front, part_of_rest}
-use Rattle.format_cli.specs.Notes.{change_word, cost_row, lines_row, numbered_row, report_rows, summary_row}
-use Rattle.format_cli.proofs.Rest.{on_map}
+use Rattle.command_refusals.specs.Notes.{numbered_row}
+use Rattle.command_refusals.proofs.Results.{on_map}
+use Rattle.format_cli.specs.Notes.{lines_row}
 use Rattle.format_cli.proofs.summary.SummaryRowStream.write.Goals as goal
 
 pub returns-in_err-write_number-clause-part : goal.returns-in_err-write_number-clause-part

@@ -1,0 +1,37 @@
+use Rattle.command_refusals.proofs.refusal.tell_fault.Goals as goal
+
+pub returns-in-NotUtf8-clause-part : goal.returns-in-NotUtf8-clause-part
+returns-in-NotUtf8-clause-part g c = rw c.in-NotUtf8.is c.write_number.ensures.part
+
+pub returns-in-NotUtf8-clause-ok : goal.returns-in-NotUtf8-clause-ok
+returns-in-NotUtf8-clause-ok g c = rw c.in-NotUtf8.is c.write_number.ensures.ok
+
+pub returns-in-BadLine-clause-part : goal.returns-in-BadLine-clause-part
+returns-in-BadLine-clause-part g c = rw c.in-BadLine.is c.write_number-in-BadLine.ensures.part
+
+pub returns-in-BadLine-clause-ok : goal.returns-in-BadLine-clause-ok
+returns-in-BadLine-clause-ok g c = rw c.in-BadLine.is c.write_number-in-BadLine.ensures.ok
+
+pub returns-in-UnknownStyle-clause-part : goal.returns-in-UnknownStyle-clause-part
+returns-in-UnknownStyle-clause-part g c = rw c.in-UnknownStyle.is c.write_number-in-UnknownStyle.ensures.part
+
+pub returns-in-UnknownStyle-clause-ok : goal.returns-in-UnknownStyle-clause-ok
+returns-in-UnknownStyle-clause-ok g c = rw c.in-UnknownStyle.is c.write_number-in-UnknownStyle.ensures.ok
+
+pub returns-in-BadValue-clause-part : goal.returns-in-BadValue-clause-part
+returns-in-BadValue-clause-part g c = rw c.in-BadValue.is c.write_number-in-BadValue.ensures.part
+
+pub returns-in-BadValue-clause-ok : goal.returns-in-BadValue-clause-ok
+returns-in-BadValue-clause-ok g c = rw c.in-BadValue.is c.write_number-in-BadValue.ensures.ok
+
+pub returns-in-OutOfRange-clause-part : goal.returns-in-OutOfRange-clause-part
+returns-in-OutOfRange-clause-part g c = rw c.in-OutOfRange.is c.write_number-in-OutOfRange.ensures.part
+
+pub returns-in-OutOfRange-clause-ok : goal.returns-in-OutOfRange-clause-ok
+returns-in-OutOfRange-clause-ok g c = rw c.in-OutOfRange.is c.write_number-in-OutOfRange.ensures.ok
+
+pub returns-in-Repeated-clause-part : goal.returns-in-Repeated-clause-part
+returns-in-Repeated-clause-part g c = rw c.in-Repeated.is c.write_number-in-Repeated.ensures.part
+
+pub returns-in-Repeated-clause-ok : goal.returns-in-Repeated-clause-ok
+returns-in-Repeated-clause-ok g c = rw c.in-Repeated.is c.write_number-in-Repeated.ensures.ok

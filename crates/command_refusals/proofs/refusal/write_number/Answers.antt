@@ -1,0 +1,14 @@
+use Rattle.std.proofs.Common.{◌++◌, refl, decimal}
+use Rattle.fmt_ports.proofs.Parts.{part_of_front, part_of_rest}
+use Rattle.command_refusals.proofs.refusal.write_number.Goals as goal
+
+pub returns-in_err-write_three-clause-part : goal.returns-in_err-write_three-clause-part
+returns-in_err-write_three-clause-part g c =
+    part_of_front _ _ (c.args.name.now ++ c.args.before.now ++ decimal c.args.number) c.args.end.now _ refl
+    (rw (← c.format.ensures.text) c.in_err-write_three.ensures.part)
+
+pub returns-clause-part : goal.returns-clause-part
+returns-clause-part g c =
+    part_of_rest _ (g.E.Sink.taken c.write_three.new.notes) _ (c.args.name.now ++ c.args.before.now ++ decimal c.args.number) c.args.end.now _ refl
+    (rw (← c.format.ensures.text) c.in_ok-write_three.ensures.ok)
+    (rw (← c.as_bytes.ensures.value) c.write_all.ensures.part)
