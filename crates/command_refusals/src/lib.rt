@@ -1,7 +1,8 @@
 //! Refusals of the command, and the style that its words choose.
 //!
-//! A refusal has its status and its row, whichever layer finds it. The style is chosen before any input is read, so it is
-//! looked for here, where nothing of formatting is known. Rows with numbers in them are written here for all layers.
+//! A refusal has a status and a row, whoever finds it. The style is chosen before any input is read. None of this knows
+//! how a text is formatted, so the top call stands on it and on the formatter alike. Whoever tells something writes its
+//! row by `write_number` and `write_two`.
 #![tactic(auto)]
 
 mod in_force;

@@ -41,7 +41,7 @@ pub enum Refusal<'w> {
     LongConfiguration(&'w str),
     /// The configuration is at fault.
     BadConfiguration { file: &'w str, fault: ConfigFault },
-    /// The input has more than [`c_chars::LIMIT`] bytes.
+    /// The input has more than `c_chars::LIMIT` bytes.
     TooLarge(&'w str),
     /// A block comment begins at this offset of the input, and nothing ends it.
     OpenComment { input: &'w str, at: u32 },
