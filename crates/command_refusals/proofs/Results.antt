@@ -7,10 +7,6 @@ pub on_ok : {T E : Type 0} (P : Type 0) (r : Result T E) → IfOk r (λ _. P) �
 on_ok P (Ok v) p = p
 on_ok P (Err e) p = p
 
-pub ok_map : {T E : Type 0} (P Q : Type 0) (r : Result T E) → (P → Q) → IfOk r (λ _. P) → IfOk r (λ _. Q)
-ok_map P Q (Ok v) f p = f p
-ok_map P Q (Err e) f p = p
-
 pub err_map : {T E : Type 0} (P Q : E → Type 0) (r : Result T E) → ((e : E) → P e → Q e) → IfErr r P → IfErr r Q
 err_map P Q (Ok v) f p = p
 err_map P Q (Err e) f p = f e p

@@ -137,27 +137,6 @@ files_fault NotesFailed a b k more = refl
 files_fault (Missing file) a b k more = absurd (omega (arith, k.0.files))
 files_fault NoMemory a b k more = absurd (omega (arith, k.files))
 
--- a greater count of notes gives status 5
-pub notes_fault : (refusal : Refusal) (a b : Faults) → Raises refusal a b → a.notes < b.notes → status_of refusal ≡ 5
-notes_fault BadWords a b k more = absurd (omega (arith, k.notes))
-notes_fault (BadLines its_word fault) a b k more = absurd (omega (arith, k.notes))
-notes_fault (BadStates word) a b k more = absurd (omega (arith, k.notes))
-notes_fault NoInput a b k more = absurd (omega (arith, k.notes))
-notes_fault ManyFiles a b k more = absurd (omega (arith, k.notes))
-notes_fault (BadGenerate word) a b k more = absurd (omega (arith, k.notes))
-notes_fault GenerateBeside a b k more = absurd (omega (arith, k.notes))
-notes_fault (UnknownStyle unknown) a b k more = absurd (omega (arith, k.notes))
-notes_fault (LongConfiguration file) a b k more = absurd (omega (arith, k.notes))
-notes_fault (BadConfiguration file fault) a b k more = absurd (omega (arith, k.notes))
-notes_fault (TooLarge its_name) a b k more = absurd (omega (arith, k.notes))
-notes_fault (OpenComment its_name at) a b k more = absurd (omega (arith, k.notes))
-notes_fault SourceFailed a b k more = refl
-notes_fault (FileFailed file) a b k more = refl
-notes_fault OutFailed a b k more = refl
-notes_fault NotesFailed a b k more = refl
-notes_fault (Missing file) a b k more = absurd (omega (arith, k.0.notes))
-notes_fault NoMemory a b k more = absurd (omega (arith, k.notes))
-
 -- status 6 comes where the misses rose
 pub missing : (refusal : Refusal) (a b : Faults) → status_of refusal ≡ 6 → Raises refusal a b → Rose a.misses b.misses
 missing BadWords a b is k = absurd (cc)

@@ -1,5 +1,5 @@
 -- Why an input is refused, from why its text is.
-use Rattle.std.proofs.Common.{◌≡◌, ◌≢◌, ◌<◌, ℕ, List, Some, None, length, inr, subst, sym, codes, IfSome, Bool, true, false, not, ◌∙◌, ap, refl}
+use Rattle.std.proofs.Common.{◌≡◌, ◌≢◌, ◌<◌, ℕ, List, Some, None, length, inr, subst, sym, Bool, true, false, not, ◌∙◌, ap, refl}
 use Rattle.std.proofs.lemmas.Bool.{false≢true}
 use Rattle.std.specs.declared.option.Option.{Option}
 use Rattle.fmt_ports.specs.Files.{Held, KeepsAll, KeepsOthers}
@@ -9,9 +9,8 @@ use Rattle.command_refusals.specs.declared.refusal.Refusal.{Refusal}
 use Rattle.command_refusals.specs.declared.refusal.Refusal.TheVariants.{BadWords, BadLines, BadStates, NoInput, ManyFiles, BadGenerate, GenerateBeside, UnknownStyle, LongConfiguration, BadConfiguration, TooLarge, OpenComment, SourceFailed, FileFailed, OutFailed, NotesFailed, Missing, NoMemory}
 use Rattle.command_refusals.specs.InForce.{IsHeld, IsLonger}
 use Rattle.format_cli.specs.declared.input.Options.{Options}
-use Rattle.format_cli.specs.declared.input.Place.{Place}
 use Rattle.format_cli.specs.declared.input.Place.TheVariants.{Itself}
-use Rattle.format_cli.specs.Inputs.{ends, rows_told, IsFormatted, IsTold, IsTextCause, IsFileCause, IsFileRefused, IsSourceRefused, IsWriteRefused, Puts}
+use Rattle.format_cli.specs.Inputs.{ends, rows_told, IsFormatted, IsTextCause, IsFileCause, IsFileRefused, IsWriteRefused, Puts}
 use Rattle.c_grammar.specs.Grammar.{is_same}
 use Rattle.c_grammar.proofs.Lists.{same_is, same_refl}
 use Rattle.format_cli.proofs.Ends.{keeps_self, others_after, keeps_all_after}
@@ -40,32 +39,6 @@ file_cause held name text OutFailed h k = absurd k
 file_cause held name text NotesFailed h k = absurd k
 file_cause held name text (Missing file) h k = absurd k
 file_cause held name text NoMemory h k = tt
-
-large : (input : Option (List ℕ)) (text : List ℕ) → IsTold input text → LIMIT < length text → IfSome input (λ b. LIMIT < length b)
-large None text h k = tt
-large (Some b) text h k = subst (λ (x : List ℕ). LIMIT < length x) h k
-
--- standard input is refused for its text, and nothing was written
-pub source_refused : (options : Options) (place : Place) (input old told : Option (List ℕ)) (text : List ℕ) (refusal : Refusal) → IsTold input text →
-    IsTextCause (codes "<stdin>") text refusal → IsSourceRefused options place input old old told told refusal
-source_refused options place input old told text BadWords h k = absurd k
-source_refused options place input old told text (BadLines its_word fault) h k = absurd k
-source_refused options place input old told text (BadStates word) h k = absurd k
-source_refused options place input old told text NoInput h k = absurd k
-source_refused options place input old told text ManyFiles h k = absurd k
-source_refused options place input old told text (BadGenerate word) h k = absurd k
-source_refused options place input old told text GenerateBeside h k = absurd k
-source_refused options place input old told text (UnknownStyle unknown) h k = absurd k
-source_refused options place input old told text (LongConfiguration file) h k = absurd k
-source_refused options place input old told text (BadConfiguration file fault) h k = absurd k
-source_refused options place input old told text (TooLarge its_name) h k = (keeps_self old, (k.0, large input text h k.1), keeps_self told)
-source_refused options place input old told text (OpenComment its_name at) h k = (keeps_self old, (k.0, (text, h, k.1, k.2)), keeps_self told)
-source_refused options place input old told text SourceFailed h k = absurd k
-source_refused options place input old told text (FileFailed file) h k = absurd k
-source_refused options place input old told text OutFailed h k = absurd k
-source_refused options place input old told text NotesFailed h k = absurd k
-source_refused options place input old told text (Missing file) h k = absurd k
-source_refused options place input old told text NoMemory h k = (keeps_self old, tt, keeps_self told)
 
 -- a FILE is refused for the write of its text, which changed
 pub write_refused : (options : Options) (name b c : List ℕ) (taken told now : Option (List ℕ)) (old mid new : Held) (refusal : Refusal) → IsHeld old name b →

@@ -25,12 +25,6 @@ others_after name (Some a) None c h k = absurd h
 others_after name (Some a) (Some b) None h k = absurd k
 others_after name (Some a) (Some b) (Some c) h k = λ other apart. k other apart ∙ h other
 
--- all stay, so the others do
-pub others_stay : (name : List ℕ) (a b : Held) → KeepsAll a b → KeepsOthers name a b
-others_stay name None b h = tt
-others_stay name (Some a) None h = absurd h
-others_stay name (Some a) (Some b) h = λ other apart. h other
-
 -- where nothing is taken, a text without bytes is
 pub takes_nothing : (old new : Option (List ℕ)) → Keeps old new → Appends old new []
 takes_nothing None new k = tt
