@@ -3,6 +3,7 @@ pub mod Waits
 pub mod Walked
 pub mod Quiet
 pub mod InOrder
+pub mod SegmentNumbers
 pub mod Rows
 pub mod Spans
 pub mod RowParts

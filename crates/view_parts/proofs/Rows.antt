@@ -15,7 +15,7 @@ use Rattle.view_parts.specs.declared.known.KnownEnd.{KnownEnd}
 use Rattle.view_parts.specs.declared.known.KnownEnd.TheVariants.{Unknown}
 use Rattle.view_parts.specs.declared.known.KnownRow.{KnownRow}
 use Rattle.view_parts.specs.Known.{IsKnown, IsKnownRow, AreKnown}
-use Rattle.view_parts.specs.declared.ends.Row.{Row}
+use Rattle.view_parts.specs.declared.row.Row.{Row}
 use Rattle.view_parts.specs.Rows.{IsRow}
 use Rattle.view_parts.specs.Steps.{is_quiet}
 use Rattle.view_parts.specs.Parts.{part_inside, part_len, EndsBehind}

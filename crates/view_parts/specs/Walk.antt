@@ -153,9 +153,13 @@ begins_block last = is_semicolon last.class || is_open_brace last.class || is_cl
 abbrev pub heads_structure : LastToken → TokenClass → Bool
 heads_structure last class = is_record class || (last.structure && (is_word class || (is_open_round class && is_call_word last.class)))
 
--- A `{` behind such a head begins the members. Directly behind a group it may open a list of values, where an `=` or `return` stands before it in the statement, or may.
-abbrev pub begins_members : LastToken → Bool → Bool
-begins_members last assigned = last.structure && not (is_close_round last.class && assigned)
+-- A `{` behind such a head begins the members. Directly behind a group it may open a list of values, where an `=` or `return` stands before it in the statement: in a body one may.
+abbrev pub begins_members_in_body : LastToken → Bool
+begins_members_in_body last = last.structure && not (is_close_round last.class)
+
+-- Outside brackets it is known whether one does.
+abbrev pub begins_members_outside : LastToken → Declaration → Bool
+begins_members_outside last declaration = last.structure && not (is_close_round last.class && declaration.assigned)
 
 -- what a `(` stands directly behind
 abbrev pub headed_by : TokenClass → Headed
@@ -336,11 +340,11 @@ abbrev pub body_kind : Walk → Around → Option BodyKind
 body_kind walk around.Outside =
     if is_body (behind walk.declaration OpenBrace) then Some kind.Function
     else (if is_linkage walk.declaration.before then Some kind.Linkage
-    else (if begins_members walk.last walk.declaration.assigned then Some kind.Members else None))
+    else (if begins_members_outside walk.last walk.declaration then Some kind.Members else None))
 body_kind walk around.Body =
     if is_behind_if walk.last then Some kind.If
     else (if begins_block walk.last && (begins_behind walk.last || not (is_close_brace walk.last.class)) then Some kind.Block
-    else (if begins_members walk.last true then Some kind.Members else None))
+    else (if begins_members_in_body walk.last then Some kind.Members else None))
 body_kind walk around.Group = None
 
 -- how the statement or declaration began in which this `{` stands

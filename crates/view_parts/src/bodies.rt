@@ -73,8 +73,8 @@ fn body_kind(walk: &Walk, around: Around) -> Option<BodyKind>
     ensures { result ≡ body_kind walk.now around }
 {
     let last = &walk.last;
-    let assigned = match around {
-        Around::Group => return None,
+    match around {
+        Around::Group => None,
         Around::Outside => {
             if let Before::Body = walk.declaration.behind(TokenClass::OpenBrace) {
                 return Some(BodyKind::Function);
@@ -82,7 +82,8 @@ fn body_kind(walk: &Walk, around: Around) -> Option<BodyKind>
             if walk.declaration.begins_linkage() {
                 return Some(BodyKind::Linkage);
             }
-            walk.declaration.assigned
+            last.begins_members_outside(walk.declaration)
+                .then_some(BodyKind::Members)
         }
         Around::Body => {
             if last.is_behind_if() {
@@ -91,13 +92,8 @@ fn body_kind(walk: &Walk, around: Around) -> Option<BodyKind>
             if last.begins_block() && (last.is_begin() || !last.class.is_close_brace()) {
                 return Some(BodyKind::Block);
             }
-            true
+            last.begins_members_in_body().then_some(BodyKind::Members)
         }
-    };
-    if last.begins_members(assigned) {
-        Some(BodyKind::Members)
-    } else {
-        None
     }
 }
 

@@ -7,17 +7,16 @@ ghost use Rattle.std.specs.Option.{ForNone, ForSome};
 ghost use Rattle.token_classes.specs.declared.class.TokenClass.{TokenClass};
 ghost use Rattle.token_classes.specs.Classes.{is_open_brace};
 ghost use Rattle.token_classes.specs.Viewed.{AreWithin, item_classes};
-ghost use Rattle.token_arena.specs.Ids.{Increase};
 ghost use Rattle.view_parts.specs.declared.walk.Around.TheVariants.{Body};
 ghost use Rattle.view_parts.specs.Parts.{part_inside, part_len};
 ghost use Rattle.view_parts.specs.Parts.{EndsBehind, StandsBefore};
 ghost use Rattle.view_parts.specs.Places.{place_in};
-ghost use Rattle.view_parts.specs.Rows.{IsRow};
 ghost use Rattle.view_parts.specs.declared.walk.Before.TheVariants as Before;
 ghost use Rattle.view_parts.specs.Steps.{Closes, ends_before_brace, is_quiet, is_telling, may_end};
 
 use crate::bodies::{BodyPlace, Head, opened_head, place_behind};
 use crate::brackets::OpenBrackets;
+use crate::row::{Row, item_at};
 use crate::walk::{Around, LEAST_IN_ROW, Outcome, Walk, is_label, is_record, read, start};
 use bumpalo::Bump;
 use line_tokens::{NoMemory, TokenId};
@@ -94,57 +93,6 @@ fn quiet_count(around: Around, classes: &[TokenClass]) -> usize
         count += 1;
     }
     count
-}
-
-/// How many items follow the one at a place in its segment: none where `number` isn't that of its segment.
-#[inline(always)]
-fn row_behind(view: &View<'_>, place: u32, id: TokenId, number: usize) -> u32
-    requires here { place < length view.now }
-    requires item { get_or view.now place 0 ≡ id.0 }
-    ensures within { place + result < length view.now }
-    ensures row { (k : ℕ) → k ≤ result → get_or view.now (place + k) 0 ≡ id.0 + k }
-    ensures fits { id.0 + result < 2 ^ 32 }
-{
-    let segments = view.segments();
-    if number < segments.len() {
-        let segment = segments[number];
-        if segment.before <= place && place - segment.before < segment.end - segment.first {
-            return segment.end - 1 - id.0;
-        }
-    }
-    0
-}
-
-/// Places of a view whose items stand in a row.
-#[derive(Clone, Copy)]
-pub(crate) struct Row {
-    /// How much greater the number of each item is than that of its place.
-    pub shift: u32,
-    /// The place behind the last one.
-    pub end: u32,
-}
-
-/// The item at a place. It is read from the row of the place before, which becomes that of the place.
-#[inline(always)]
-fn item_at(view: &View<'_>, place: u32, row: &mut Row, segment: &mut usize) -> TokenId
-    requires here { place < length view.now }
-    requires few { length view.now < 2 ^ 32 }
-    requires increase { Increase view.now }
-    requires row { IsRow view.now place row.old }
-    ensures item { (d : ℕ) → get_or view.now place d ≡ result.0 }
-    ensures row { IsRow view.now place row.new }
-    ensures some { place < row.new.end }
-    ensures shift { result.0 ≡ place + row.new.shift }
-{
-    if place >= row.end {
-        let id = view.at_near(place, segment);
-        let behind = row_behind(view, place, id, *segment);
-        *row = Row {
-            shift: id.0 - place,
-            end: place + behind + 1,
-        };
-    }
-    TokenId(place + row.shift)
 }
 
 /// How many quiet tokens follow a place of a part directly in its row: in a body up to where parts may end anywhere.

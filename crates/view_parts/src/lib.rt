@@ -12,6 +12,7 @@ mod ends;
 mod joined;
 mod known;
 mod notes;
+mod row;
 mod walk;
 
 pub use bodies::{BodyKind, BodyPlace, Head};
@@ -21,3 +22,4 @@ pub use joined::{join_rows, known_parts_end};
 pub use known::{KnownEnd, KnownRow, KnownSpan, KnownSpans, PartsEnd, known_part_end};
 pub use line_tokens::NoMemory;
 pub use notes::KnownEnds;
+pub use row::row_behind;

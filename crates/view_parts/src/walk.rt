@@ -12,7 +12,8 @@ ghost use Rattle.view_parts.specs.Walk.{asked_at, asked_in_body, is_apart, is_bo
 ghost use Rattle.view_parts.specs.Walk.{begins_outside, is_linkage};
 ghost use Rattle.view_parts.specs.Walk.{opening, start};
 ghost use Rattle.view_parts.specs.Walk.{is_record, is_label, is_leading, begins_statement};
-ghost use Rattle.view_parts.specs.Walk.{begins_behind, begins_block, begins_members, ends_statement};
+ghost use Rattle.view_parts.specs.Walk.{begins_behind, begins_block, ends_statement};
+ghost use Rattle.view_parts.specs.Walk.{begins_members_in_body, begins_members_outside};
 ghost use Rattle.view_parts.specs.Walk.{heads_structure, is_behind_if};
 ghost use Rattle.view_parts.specs.Walk.{headed_by, goes_on_with, kept_begun, next_begun, next_last};
 ghost use Rattle.view_parts.specs.Walk.{end_in_body, may_part, past_comment, in_body, in_group, outside};
@@ -425,12 +426,20 @@ impl LastToken {
         is_record(class) || (self.structure && in_head)
     }
 
-    /// Whether a `{` that stands behind it begins the members of a structure or union. `assigned` tells of an `=` or
-    /// `return` that stands before it in the statement, or may: then one directly behind a group may open a list.
-    pub(crate) fn begins_members(&self, assigned: bool) -> bool
-        ensures { result ≡ begins_members self.now assigned }
+    /// Whether a `{` of a body that stands behind it begins the members of a structure or union. An `=` or `return` may
+    /// stand before it in the statement: then one directly behind a group may open a list.
+    pub(crate) fn begins_members_in_body(&self) -> bool
+        ensures { result ≡ begins_members_in_body self.now }
     {
-        self.structure && !(self.class.is_close_round() && assigned)
+        self.structure && !self.class.is_close_round()
+    }
+
+    /// Whether a `{` that stands behind it outside brackets, in this declaration, begins the members of a structure or
+    /// union.
+    pub(crate) fn begins_members_outside(&self, declaration: Declaration) -> bool
+        ensures { result ≡ begins_members_outside self.now declaration }
+    {
+        self.structure && !(self.class.is_close_round() && declaration.assigned)
     }
 
     /// Whether a statement that began behind the body of an `if` goes on so with a token.

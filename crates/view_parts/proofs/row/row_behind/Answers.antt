@@ -1,8 +1,9 @@
-use Rattle.std.proofs.Common.{arith}
+use Rattle.std.proofs.Common.{sym, arith}
 use Rattle.token_arena.specs.Segments.{HasPlace}
 use Rattle.token_arena.proofs.SegmentLemmas.{well}
 use Rattle.view_parts.proofs.Rows.{segment_row}
-use Rattle.view_parts.proofs.ends.row_behind.Goals as goal
+use Rattle.view_parts.proofs.SegmentNumbers.{no_row_in, row_in}
+use Rattle.view_parts.proofs.row.row_behind.Goals as goal
 
 pub overflow_sub-segment : goal.overflow_sub-segment
 overflow_sub-segment c =
@@ -29,3 +30,19 @@ returns-then-place-segment-clause-row c =
     let has : HasPlace segments c.args.place c.args.number = record { low = c.if-segment-place.true; high = omega (arith, c.if-segment-place.true, c.if-place-segment.true) } in
     let row = segment_row segments c.args.view.now c.args.number c.args.place c.args.id.0 c.segments-segments.ensures.rule c.segments-segments.ensures.items c.if-number-segments.true has c.requires.item in
     λ k below. row.row k (omega (arith, row.some, below))
+
+pub returns-then-place-segment-clause-count : goal.returns-then-place-segment-clause-count
+returns-then-place-segment-clause-count c =
+    let segments = c.segments-segments.result.now in
+    let has : HasPlace segments c.args.place c.args.number = record { low = c.if-segment-place.true; high = omega (arith, c.if-segment-place.true, c.if-place-segment.true) } in
+    sym (row_in segments c.args.view.now c.args.place c.args.number c.args.id.0 c.segments-segments.ensures.rule c.segments-segments.ensures.items c.if-number-segments.true has c.requires.item)
+
+pub returns-else-segment-place-clause-count : goal.returns-else-segment-place-clause-count
+returns-else-segment-place-clause-count c =
+    let segments = c.segments-segments.result.now in
+    sym (no_row_in segments c.args.view.now c.args.place c.args.number c.segments-segments.ensures.rule c.segments-segments.ensures.items c.requires.here (λ within has. search (arith, has.low, has.high)))
+
+pub returns-else-number-segments-clause-count : goal.returns-else-number-segments-clause-count
+returns-else-number-segments-clause-count c =
+    let segments = c.segments-segments.result.now in
+    sym (no_row_in segments c.args.view.now c.args.place c.args.number c.segments-segments.ensures.rule c.segments-segments.ensures.items c.requires.here (λ within has. omega (arith, within, c.if-number-segments.false)))

@@ -1,10 +1,10 @@
 use Rattle.std.proofs.Common.{◌≡◌, ◌∙◌, ◌+◌, get_or, ap, subst, sym, arith}
 use Rattle.std.proofs.lemmas.Grind.{get_or_default_zero}
 use Rattle.view_parts.specs.Rows.{IsRow}
-use Rattle.view_parts.specs.declared.ends.Row.{Row}
+use Rattle.view_parts.specs.declared.row.Row.{Row}
 use Rattle.view_parts.proofs.Rows.{place_low, row_of}
-use Rattle.view_parts.proofs.ends.item_at.Goals.{then-place-row, else-place-row}
-use Rattle.view_parts.proofs.ends.item_at.Goals as goal
+use Rattle.view_parts.proofs.row.item_at.Goals.{then-place-row, else-place-row}
+use Rattle.view_parts.proofs.row.item_at.Goals as goal
 
 pub overflow_sub-row : goal.overflow_sub-row
 overflow_sub-row c = place_low c.args.view.now c.args.place c.at_near-id.result.0 c.requires.increase c.requires.here (c.at_near-id.ensures 0)
