@@ -15,3 +15,4 @@ pub mod PartEnds
 pub mod Laid
 pub mod BodiesPassed
 pub mod BodyRows
+pub mod GroupsPassed

@@ -1,8 +1,8 @@
 -- What the code keeps on the way along the items of a part.
 use Rattle.std.specs.Prelude.{◌≡◌, ◌<◌, ⊤, ℕ, suc, ◌+◌, ◌-◌, ◌==◌, nat_lt, nat_le, Bool, true, false, ◌&&◌, ◌||◌, not, None, List, [], ◌∷◌}
 use Rattle.token_classes.specs.declared.class.TokenClass.{TokenClass}
-use Rattle.token_classes.specs.declared.class.TokenClass.TheVariants.{OpenBrace, CloseBrace}
-use Rattle.token_classes.specs.Classes.{is_bracket, is_comment, is_control}
+use Rattle.token_classes.specs.declared.class.TokenClass.TheVariants.{OpenRound, OpenSquare, CloseSquare, OpenBrace, CloseBrace}
+use Rattle.token_classes.specs.Classes.{is_bracket, is_close_round, is_comment, is_control}
 use Rattle.view_parts.specs.declared.walk.Around.{Around}
 use Rattle.view_parts.specs.declared.walk.Around.TheVariants as around
 use Rattle.view_parts.specs.declared.walk.Outcome.{Outcome}
@@ -38,6 +38,16 @@ is_quiet stands class = not (is_bracket class) && not (is_comment class) && (is_
 abbrev pub passed : Walk → Around → ℕ → ℕ → TokenClass → Walk
 passed walk around.Group place last class = record walk { place = place }
 passed walk stands place last class = record walk { place = place; asked = None; behind = last + 1; last = record walk.last { class = class; id = last } }
+
+-- this bracket closes a `(` or `[`
+abbrev pub closes_group : TokenClass → TokenClass → Bool
+closes_group OpenRound closer = is_close_round closer
+closes_group OpenSquare CloseSquare = true
+closes_group opener closer = false
+
+-- at this place, behind the bracket that closes a group, which has this number and class
+abbrev pub group_passed : Walk → ℕ → ℕ → TokenClass → Walk
+group_passed walk place id class = record walk { place = place; asked = None; behind = id + 1; last = record walk.last { class = class; id = id; apart = false } }
 
 -- so many braces are open behind this token
 abbrev pub depth_behind : ℕ → TokenClass → ℕ

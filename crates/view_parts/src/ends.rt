@@ -1,18 +1,18 @@
 //! Where the parts of a view end.
 
-ghost use Rattle.std.specs.Prelude.{true, not, ◌&&◌, ◌≡◌, ◌<◌, ◌≤◌, ◌+◌, ◌-◌, ◌^◌, ℕ};
+ghost use Rattle.std.specs.Prelude.{true, not, ◌&&◌, ◌||◌, ◌≡◌, ◌<◌, ◌≤◌, ◌+◌, ◌-◌, ◌^◌, ℕ};
 ghost use Rattle.std.specs.Prelude.{length, drop, take, get_or, slice_range};
 ghost use Rattle.std.specs.Prelude.{IfOk, None, Some};
 ghost use Rattle.std.specs.Option.{ForNone, ForSome};
 ghost use Rattle.token_classes.specs.declared.class.TokenClass.{TokenClass};
-ghost use Rattle.token_classes.specs.Classes.{is_open_brace};
+ghost use Rattle.token_classes.specs.Classes.{is_close_brace, is_open_brace};
 ghost use Rattle.token_classes.specs.Viewed.{AreWithin, item_classes};
-ghost use Rattle.view_parts.specs.declared.walk.Around.TheVariants.{Body};
+ghost use Rattle.view_parts.specs.declared.walk.Around.TheVariants.{Body, Group};
 ghost use Rattle.view_parts.specs.Parts.{part_inside, part_len};
 ghost use Rattle.view_parts.specs.Parts.{EndsBehind, StandsBefore};
 ghost use Rattle.view_parts.specs.Places.{place_in};
 ghost use Rattle.view_parts.specs.declared.walk.Before.TheVariants as Before;
-ghost use Rattle.view_parts.specs.Steps.{Closes, ends_before_brace, is_quiet, is_telling, may_end};
+ghost use Rattle.view_parts.specs.Steps.{Closes, closes_group, ends_before_brace, is_quiet, is_telling, may_end};
 
 use crate::bodies::{BodyPlace, Head, opened_head, place_behind};
 use crate::brackets::OpenBrackets;
@@ -118,6 +118,26 @@ fn quiet_behind(around: Around, all: &[TokenClass], first: u32, place: u32, row:
     count as u32
 }
 
+/// Whether a token is a `{` or `}`.
+#[inline(always)]
+fn is_brace(class: TokenClass) -> bool
+    ensures { result ≡ (is_open_brace class || is_close_brace class) }
+{
+    class.is_open_brace() || class.is_close_brace()
+}
+
+/// Whether a bracket closes a `(` or `[`.
+#[inline(always)]
+fn closes_group(opener: TokenClass, closer: TokenClass) -> bool
+    ensures { result ≡ closes_group opener closer }
+{
+    match opener {
+        TokenClass::OpenRound => closer.is_close_round(),
+        TokenClass::OpenSquare => matches!(closer, TokenClass::CloseSquare),
+        _ => false,
+    }
+}
+
 /// How many of these tokens stand up to the `}` that closes the brace before them, if it is among them.
 #[inline(always)]
 fn closing_len(classes: &[TokenClass]) -> Option<usize>
@@ -129,16 +149,48 @@ fn closing_len(classes: &[TokenClass]) -> Option<usize>
     while count < classes.len() {
         let class = classes[count];
         count += 1;
-        if class.is_close_brace() {
-            if depth == 1 {
-                return Some(count);
-            }
-            depth -= 1;
-        } else if class.is_open_brace() {
-            depth += 1;
+        if !is_brace(class) {
+            continue;
         }
+        if class.is_open_brace() {
+            depth += 1;
+            continue;
+        }
+        if depth == 1 {
+            return Some(count);
+        }
+        depth -= 1;
     }
     None
+}
+
+/// How many items stand behind a `(` or `[` at a place of a part up to the bracket that closes it, where nothing but
+/// quiet tokens stands between them in its row.
+#[inline(always)]
+fn passed_group(
+    opener: TokenClass,
+    all: &[TokenClass],
+    first: u32,
+    place: u32,
+    row: &Row,
+) -> Option<u32>
+    requires here { first + place < row.now.end }
+    requires within { row.now.end + row.now.shift ≤ length all.now }
+    ensures within { ForSome result (λ len. first + place + len < row.now.end) }
+    ensures some { ForSome result (λ len. 0 < len) }
+    ensures closes { ForSome result (λ len. (d : TokenClass) → closes_group opener (get_or all.now (first + place + len + row.now.shift) d) ≡ true) }
+    ensures quiet { ForSome result (λ len. (k : ℕ) → (d : TokenClass) → first + place < k → k < first + place + len → is_quiet Group (get_or all.now (k + row.now.shift) d) ≡ true) }
+{
+    if !opener.is_opener() {
+        return None;
+    }
+    let quiet = quiet_behind(Around::Group, all, first, place, row);
+    let end = first + place + quiet + 1;
+    if end >= row.end {
+        return None;
+    }
+    let closer = all[end as usize + row.shift as usize];
+    closes_group(opener, closer).then_some(quiet + 1)
 }
 
 /// The head of the body that a `{` at a place of a part opens, and how many items stand behind that up to its `}`, if it
@@ -260,6 +312,11 @@ pub fn part_end<'k>(
             Outcome::GoesOn => {}
         }
         if !class.is_bracket() {
+            continue;
+        }
+        if let Some(len) = passed_group(class, all, first, place, &row) {
+            let closer = TokenId(id.0 + len);
+            walk.pass_group(place + 1 + len, closer, all[closer.0 as usize]);
             continue;
         }
         brackets.pass(&mut walk, place, None, id, class)?;

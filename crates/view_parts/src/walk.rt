@@ -6,7 +6,7 @@ ghost use Rattle.token_classes.specs.declared.class.TokenClass.TheVariants.{Open
 ghost use Rattle.view_parts.specs.declared.walk.Around.TheVariants.{Outside, Body};
 ghost use Rattle.view_parts.specs.Places.{place_in};
 ghost use Rattle.view_parts.specs.Reading.{GoesOn};
-ghost use Rattle.view_parts.specs.Steps.{body_passed, ends_before_brace, passed, read_so, tells_end, StaysWhereItEnds};
+ghost use Rattle.view_parts.specs.Steps.{body_passed, ends_before_brace, group_passed, passed, read_so, tells_end, StaysWhereItEnds};
 ghost use Rattle.view_parts.specs.Walk.{behind_group, behind, is_end, is_between, is_lost};
 ghost use Rattle.view_parts.specs.Walk.{asked_at, asked_in_body, is_apart, is_body, is_commented, next_declaration};
 ghost use Rattle.view_parts.specs.Walk.{begins_outside, is_linkage};
@@ -658,6 +658,21 @@ impl Walk {
             self.last.class = class;
             self.last.id = last.0;
         }
+    }
+
+    /// Passes the rest of a group, behind its opener, up to this place. Only tokens that tell nothing stand before the
+    /// bracket that closes it, which has this number and class.
+    #[inline(always)]
+    pub(crate) fn pass_group(&mut self, place: u32, id: TokenId, class: TokenClass)
+        requires { id.0 < 4294967295 }
+        ensures { self.new ≡ group_passed self.old place id.0 class }
+    {
+        self.place = place;
+        self.asked = None;
+        self.behind = id.0 + 1;
+        self.last.class = class;
+        self.last.id = id.0;
+        self.last.apart = false;
     }
 
     /// Whether the part ends before a `{`, by what that stands in. Few are asked for, so it is a call of its own.

@@ -5,7 +5,7 @@ use Rattle.std.proofs.Math.Bool.{and-true}
 use Rattle.std.proofs.lemmas.List.{get_or-drop, length-drop, length-map}
 use Rattle.token_arena.specs.Gaps.{Contents}
 use Rattle.token_classes.specs.declared.class.TokenClass.{TokenClass}
-use Rattle.token_classes.specs.declared.class.TokenClass.TheVariants.{OpenBrace}
+use Rattle.token_classes.specs.declared.class.TokenClass.TheVariants.{If, OpenBrace}
 use Rattle.token_classes.specs.Classes.{is_open_brace}
 use Rattle.token_classes.specs.declared.pairing.Opener.{Opener}
 use Rattle.token_classes.specs.Words.{class_of}
@@ -18,8 +18,9 @@ use Rattle.view_parts.specs.Places.{Place, place_in, place_of}
 use Rattle.view_parts.specs.Parts.{around_of, end_of_part, heads_at, part_len, place_behind, EndsBehind, StandsBefore}
 use Rattle.view_parts.specs.Reading.{GoesOn}
 use Rattle.view_parts.specs.Walk.{end_in_body, ends_inside_or, heads_len, in_body, is_some, opened_head, reading}
-use Rattle.view_parts.specs.Steps.{ends_before_brace, may_end, passed, read_so, Closes}
+use Rattle.view_parts.specs.Steps.{closes_group, ends_before_brace, is_quiet, may_end, passed, read_so, Closes}
 use Rattle.view_parts.proofs.BodyRows.{brace_of, read_body}
+use Rattle.view_parts.proofs.GroupsPassed.{read_group}
 use Rattle.view_parts.proofs.Heads.{heads_len-reverse}
 use Rattle.view_parts.proofs.InBodies.{stands_before}
 use Rattle.view_parts.proofs.PartEnds.{ends_nowhere, ends_there, headed, read_first, read_flat, read_on, read_quiet, seen_so}
@@ -589,6 +590,64 @@ loop-walk-preserved-in-Some c =
           (omega (arith, inside, row.inside)) items (omega (arith, inside, stored, c.item_at-id.ensures.shift)) c.requires.all item refl opened here refl (whole.before _ told) (whole.low _ told) closes c.pass_body.ensures c.loop-walk.invariant.read;
       stands = here;
       row = row_later view _ (c.args.first + c.pass_body.new.self.place) c.item_at-id.new.row (omega (arith, later)) row;
+    }
+
+pub passed_group-requires-clause-within : goal.passed_group-requires-clause-within
+passed_group-requires-clause-within c =
+    let all = c.args.all.now in
+    let stored = row_stored c.args.view.now (c.args.first + c.loop-walk.walk.place) (length c.args.arena.now.tokens) c.item_at-id.new.row c.requires.within c.item_at-id.ensures.some c.item_at-id.ensures.row in
+    let whole : length all ≡ length c.args.arena.now.tokens = ap (λ (cs : List TokenClass). length cs) c.requires.all ∙ length-map c.args.arena.now.tokens (class_of c.args.arena.now.dialect) in
+    omega (arith, stored, whole)
+
+pub bounds-all-closer : goal.bounds-all-closer
+bounds-all-closer c =
+    let all = c.args.all.now in
+    let stored = row_stored c.args.view.now (c.args.first + c.loop-walk.walk.place) (length c.args.arena.now.tokens) c.item_at-id.new.row c.requires.within c.item_at-id.ensures.some c.item_at-id.ensures.row in
+    let whole : length all ≡ length c.args.arena.now.tokens = ap (λ (cs : List TokenClass). length cs) c.requires.all ∙ length-map c.args.arena.now.tokens (class_of c.args.arena.now.dialect) in
+    let inside = c.passed_group.ensures.within _ c.in-Some-passed_group.is in
+    omega (arith, stored, whole, c.item_at-id.ensures.shift, inside)
+
+pub pass_group-requires : goal.pass_group-requires
+pass_group-requires c =
+    let stored = row_stored c.args.view.now (c.args.first + c.loop-walk.walk.place) (length c.args.arena.now.tokens) c.item_at-id.new.row c.requires.within c.item_at-id.ensures.some c.item_at-id.ensures.row in
+    let inside = c.passed_group.ensures.within _ c.in-Some-passed_group.is in
+    omega (arith, stored, c.item_at-id.ensures.shift, inside, c.len-items.ensures.count)
+
+pub loop-walk-preserved-in-Some-passed_group : goal.loop-walk-preserved-in-Some-passed_group
+loop-walk-preserved-in-Some-passed_group c =
+    let arena = c.args.arena.now in
+    let view = c.args.view.now in
+    let begins = place_in c.args.begins in
+    let walk = c.loop-walk.walk in
+    let bodies = reverse c.loop-walk.brackets.bodies.items in
+    let waiting = reverse c.loop-walk.brackets.waiting.items in
+    let here = c.loop-walk.invariant.stands in
+    let read = read_so c.read.result c.read.new.walk in
+    let item = next_item arena view c.args.all.now c.args.first c.len-count.result walk bodies waiting read c.loop-walk.brackets.around c.item_at-id.result.0 _ c.requires.within c.requires.all c.len-count.ensures.count c.loop-walk-test.true
+    (c.item_at-id.ensures.item 0) here c.read.ensures.read in
+    let id = c.item_at-id.result.0 in
+    let after = c.read.new.walk in
+    let goes = ap (λ (o : Outcome). read_so o after) c.in-GoesOn.is in
+    let shift = c.item_at-id.new.row.shift in
+    let row = c.item_at-id.ensures.row in
+    let group = c.passed_group.ensures in
+    let len = c.in-Some-passed_group.len in
+    let told = c.in-Some-passed_group.is in
+    let inside = group.within _ told in
+    let stored = row_stored view (c.args.first + walk.place) (length arena.tokens) c.item_at-id.new.row c.requires.within c.item_at-id.ensures.some row in
+    let items = row_items view c.args.first walk.place len id c.item_at-id.new.row row c.item_at-id.ensures.shift inside in
+    let last : c.args.first + walk.place + len + shift ≡ id + len = omega (arith, c.item_at-id.ensures.shift) in
+    let opener = get_or c.args.all.now id If in
+    let closer = get_or c.args.all.now (id + len) If in
+    let closes : closes_group opener closer ≡ true = subst (λ n. closes_group opener (get_or c.args.all.now n If) ≡ true) last (group.closes _ told If) in
+    let quiet : (k : ℕ) → (d : TokenClass) → 0 < k → k < len → is_quiet around.Group (get_or c.args.all.now (id + k) d) ≡ true =
+    λ k d after_it before. subst (λ n. is_quiet around.Group (get_or c.args.all.now n d) ≡ true) (omega (arith, c.item_at-id.ensures.shift)) (group.quiet _ told (c.args.first + walk.place + k) d (omega (arith, after_it)) (omega (arith, before))) in
+    let later : c.pass_group.new.self.place ≡ walk.place + 1 + len = ap (λ (w : Walk). w.place) c.pass_group.ensures in
+    record {
+      read = read_group arena begins view c.args.first walk after c.pass_group.new.self bodies waiting c.loop-walk.brackets.braces read c.args.all.now id len opener closer If c.len-count.ensures.increase
+          (omega (arith, inside, row.inside)) items (omega (arith, inside, stored, c.item_at-id.ensures.shift)) c.requires.all item goes (group.some _ told) closes refl quiet c.pass_group.ensures c.loop-walk.invariant.read;
+      stands = here;
+      row = row_later view _ (c.args.first + c.pass_group.new.self.place) c.item_at-id.new.row (omega (arith, later)) row;
     }
 
 pub returns-clause-end : goal.returns-clause-end
