@@ -1,5 +1,5 @@
 -- Parts of a view that stand in a row, and parts of which all gaps are decided.
-use Rattle.std.proofs.Common.{◌≡◌, ◌∙◌, ◌⊎◌, inl, inr, ℕ, suc, ◌+◌, ◌-◌, ◌<◌, ◌≤◌, Option, List, [], ◌∷◌, length, append-nil, get_or, take, drop, map, sym, ap, subst, arith}
+use Rattle.std.proofs.Common.{◌≡◌, ◌∙◌, ◌⊎◌, inl, inr, ℕ, suc, ◌+◌, ◌-◌, ◌<◌, ◌≤◌, Option, Some, None, List, [], ◌∷◌, length, append-nil, get_or, take, drop, map, sym, ap, subst, arith}
 use Rattle.std.specs.Prelude.{IsSome, slice_range}
 use Rattle.std.specs.List.{range_with_len}
 use Rattle.std.proofs.lemmas.List.FromFn.{length-range_with_len, get_or-range_with_len}
@@ -8,7 +8,7 @@ use Rattle.token_arena.specs.Ids.{Increase}
 use Rattle.token_arena.specs.Segments.{AreSegments, ids_of, segment_bounds}
 use Rattle.replacements.specs.declared.slot.Slot.{Slot}
 use Rattle.replacements.specs.Decisions.{slot_of}
-use Rattle.run_layout.specs.OpenGaps.{IsRowDecided}
+use Rattle.run_layout.specs.OpenGaps.{IsRowDecided, IsRowOpen}
 use Rattle.view_parts.proofs.Rows.{row_from}
 use Rattle.format_core.specs.Runs.{AreDecided}
 use Rattle.format_core.proofs.Parts.{part_item, part_length}
@@ -51,6 +51,21 @@ pub part_up_to : (plan : List (Option Slot)) (view : List ℕ) (first end place 
 part_up_to plan view first end place past all = λ k below.
     let few : k < end - first = omega (arith, below, part_length view first end) in
     subst (λ id. IsSome (slot_of plan id)) (sym (part_item view first end k 0 below)) (all (first + k) (omega arith) (omega (arith, few, past)))
+
+-- a gap of a part that stands in such a row is open
+pub part_open : (plan : List (Option Slot)) (view : List ℕ) (first end place id behind : ℕ) → first ≤ place → place + behind < end → end ≤ length view → ((k : ℕ) → k ≤ behind → get_or view (place + k) 0 ≡ id + k) → IsRowOpen plan id (id + behind + 1)
+    → AreDecided plan (slice_range view first end) → ⊥
+part_open plan view first end place id behind low high inside follow gap all =
+    let k = gap.id - id in
+    let at : id + k ≡ gap.id = omega (arith, gap.from) in
+    let below : place + k - first < length (slice_range view first end) = omega (arith, part_length view first end, gap.from, gap.within, low, high, inside) in
+    let item : get_or (slice_range view first end) (place + k - first) 0 ≡ gap.id =
+    part_item view first end (place + k - first) 0 below ∙ (ap (λ j. get_or view j 0) (omega (arith, low)) ∙ (follow k (omega (arith, gap.from, gap.within)) ∙ at)) in
+    none_decided (slot_of plan gap.id) gap.open_gap (subst (λ n. IsSome (slot_of plan n)) item (all (place + k - first) below))
+  where
+    none_decided : (slot : Option Slot) → slot ≡ None → IsSome slot → ⊥
+    none_decided None is some = cc
+    none_decided (Some s) is some = cc
 
 -- ## A part that stands in a row
 

@@ -1,6 +1,6 @@
 //! Rows of items in a part of a view.
 
-ghost use Rattle.std.specs.Prelude.{◌≡◌, ◌<◌, ◌≤◌, ◌+◌, ◌-◌, ◌^◌, ℕ, IfSome, IsTrue, get_or, length, slice_range};
+ghost use Rattle.std.specs.Prelude.{◌≡◌, ◌<◌, ◌≤◌, ◌+◌, ◌-◌, ◌↔◌, ℕ, IfSome, IsTrue, get_or, length, slice_range};
 ghost use Rattle.std.specs.List.{range_with_len};
 ghost use Rattle.token_classes.specs.Viewed.{AreWithin};
 ghost use Rattle.format_core.specs.Runs.{AreDecided};
@@ -9,25 +9,7 @@ use line_tokens::TokenId;
 use replacements::Plan;
 use run_layout::is_row_decided;
 use token_arena::{Segment, TokenArena, View};
-
-/// How many items follow the one at a place in its segment: none where `number` isn't that of its segment.
-#[inline(always)]
-fn row_behind(view: &View<'_>, place: u32, id: TokenId, number: usize) -> u32
-    requires here { place < length view.now }
-    requires item { get_or view.now place 0 ≡ id.0 }
-    ensures within { place + result < length view.now }
-    ensures row { (k : ℕ) → k ≤ result → get_or view.now (place + k) 0 ≡ id.0 + k }
-    ensures fits { id.0 + result < 2 ^ 32 }
-{
-    let segments = view.segments();
-    if number < segments.len() {
-        let segment = segments[number];
-        if segment.before <= place && place - segment.before < segment.end - segment.first {
-            return segment.end - 1 - id.0;
-        }
-    }
-    0
-}
+use view_parts::row_behind;
 
 /// The items of a part of a view that begins with this item, as one segment, where they stand in the segment with this
 /// number.
@@ -79,7 +61,7 @@ pub(crate) fn is_part_decided(
     requires within { AreWithin arena.now view.now }
     requires inside { end ≤ length view.now }
     requires whole { length plan.now ≡ length arena.now.tokens + 1 }
-    ensures { IsTrue result → AreDecided plan.now (slice_range view.now first end) }
+    ensures { IsTrue result ↔ AreDecided plan.now (slice_range view.now first end) }
 {
     let items = arena.len();
     let mut number = number;

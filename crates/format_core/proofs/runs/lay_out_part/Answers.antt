@@ -16,7 +16,7 @@ pub returns-then-is_part_decided-clause-told : goal.returns-then-is_part_decided
 returns-then-is_part_decided-clause-told c =
     let plan = c.args.made.now.plan in
     items_told_nothing c.args.context.now.style.now c.args.context.now.budget c.args.context.now.arena.now c.args.window.now.number plan (laid_items (place_in c.args.inside) c.args.window.now.view c.args.first c.args.end) c.args.made.now.tally
-    (laid_decided plan c.args.window.now.view (place_in c.args.inside) c.args.first c.args.end (all_decided_of plan (items_before (place_in c.args.inside)) c.requires.decided) (c.is_part_decided.ensures c.if-is_part_decided.true))
+    (laid_decided plan c.args.window.now.view (place_in c.args.inside) c.args.first c.args.end (all_decided_of plan (items_before (place_in c.args.inside)) c.requires.decided) (c.is_part_decided.ensures.0 c.if-is_part_decided.true))
 
 pub returns-then-is_row_decided-clause-told : goal.returns-then-is_row_decided-clause-told
 returns-then-is_row_decided-clause-told c =
