@@ -16,8 +16,9 @@ ghost use Rattle.view_parts.specs.Steps.{Closes, closes_group, ends_before_brace
 
 use crate::bodies::{BodyPlace, Head, opened_head, place_behind};
 use crate::brackets::OpenBrackets;
+use crate::reading::read;
 use crate::row::{Row, item_at};
-use crate::walk::{Around, LEAST_IN_ROW, Outcome, Walk, is_label, is_record, read, start};
+use crate::walk::{Around, LEAST_IN_ROW, Outcome, Walk, is_label, is_record, start};
 use bumpalo::Bump;
 use line_tokens::{NoMemory, TokenId};
 use token_arena::{TokenArena, View};

@@ -12,6 +12,7 @@ mod ends;
 mod joined;
 mod known;
 mod notes;
+mod reading;
 mod row;
 mod walk;
 

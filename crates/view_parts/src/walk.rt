@@ -3,10 +3,9 @@
 ghost use Rattle.std.specs.Prelude.{◌≡◌, ◌<◌, ◌||◌, false, not, length};
 ghost use Rattle.token_arena.specs.Gaps.{Contents, item_began};
 ghost use Rattle.token_classes.specs.declared.class.TokenClass.TheVariants.{OpenBrace};
-ghost use Rattle.view_parts.specs.declared.walk.Around.TheVariants.{Outside, Body};
 ghost use Rattle.view_parts.specs.Places.{place_in};
 ghost use Rattle.view_parts.specs.Reading.{GoesOn};
-ghost use Rattle.view_parts.specs.Steps.{body_passed, ends_before_brace, group_passed, passed, read_so, tells_end, StaysWhereItEnds};
+ghost use Rattle.view_parts.specs.Steps.{body_passed, ends_before_brace, group_passed, passed, tells_end};
 ghost use Rattle.view_parts.specs.Walk.{behind_group, behind, is_end, is_between, is_lost};
 ghost use Rattle.view_parts.specs.Walk.{asked_at, asked_in_body, is_apart, is_body, is_commented, next_declaration};
 ghost use Rattle.view_parts.specs.Walk.{begins_outside, is_linkage};
@@ -262,7 +261,7 @@ impl Declaration {
 }
 
 /// Whether no part ends behind a token that stands outside brackets: the word of a control statement or of a label.
-fn is_lost(class: TokenClass) -> bool
+pub(crate) fn is_lost(class: TokenClass) -> bool
     ensures { result ≡ is_lost class }
 {
     class.is_control() || class.is_case() || class.is_default()
@@ -340,7 +339,12 @@ pub(crate) fn start(begins: Option<BodyPlace<'_>>) -> Walk
 }
 
 /// Behind how many items the part ends, if a declaration begins with this item or behind it and comments.
-fn asked_at(arena: &TokenArena<'_, '_>, walk: &Walk, id: TokenId, class: TokenClass) -> Option<u32>
+pub(crate) fn asked_at(
+    arena: &TokenArena<'_, '_>,
+    walk: &Walk,
+    id: TokenId,
+    class: TokenClass,
+) -> Option<u32>
     requires { id.0 < length arena.now.tokens }
     ensures { result ≡ asked_at arena.now walk.now id.0 class }
 {
@@ -517,7 +521,7 @@ impl Walk {
     }
 
     /// Behind how many items the part ends, where this token of a body tells so.
-    fn end_in_body(&self, id: TokenId, class: TokenClass) -> Option<u32>
+    pub(crate) fn end_in_body(&self, id: TokenId, class: TokenClass) -> Option<u32>
         ensures { result ≡ end_in_body self.now id.0 class }
     {
         let last = &self.last;
@@ -559,7 +563,7 @@ impl Walk {
 
     /// Passes the next comment, which stands directly in a body. Comments in a function's body stand on earlier rows
     /// than its `}`.
-    fn pass_comment(&mut self, arena: &TokenArena<'_, '_>, id: TokenId)
+    pub(crate) fn pass_comment(&mut self, arena: &TokenArena<'_, '_>, id: TokenId)
         requires item { id.0 < length arena.now.tokens }
         requires small { id.0 < 4294967295 }
         requires room { self.old.place < 4294967295 }
@@ -575,7 +579,7 @@ impl Walk {
 
     /// Passes the next token, which stands directly in a body and is no comment.
     #[inline(always)]
-    fn pass_in_body(&mut self, id: TokenId, class: TokenClass)
+    pub(crate) fn pass_in_body(&mut self, id: TokenId, class: TokenClass)
         requires small { id.0 < 4294967295 }
         requires room { self.old.place < 4294967295 }
         ensures { self.new ≡ in_body self.old id.0 class }
@@ -591,7 +595,7 @@ impl Walk {
 
     /// Passes the next item, which stands in a group.
     #[inline(always)]
-    fn pass_in_group(&mut self, id: TokenId, class: TokenClass)
+    pub(crate) fn pass_in_group(&mut self, id: TokenId, class: TokenClass)
         requires small { id.0 < 4294967295 }
         requires room { self.old.place < 4294967295 }
         ensures { self.new ≡ in_group self.old id.0 class }
@@ -619,7 +623,7 @@ impl Walk {
 
     /// Passes the next token, which stands outside brackets.
     #[inline(always)]
-    fn pass_outside(&mut self, id: TokenId, class: TokenClass, asked: Option<u32>)
+    pub(crate) fn pass_outside(&mut self, id: TokenId, class: TokenClass, asked: Option<u32>)
         requires small { id.0 < 4294967295 }
         requires room { self.old.place < 4294967295 }
         ensures { self.new ≡ outside self.old id.0 class asked }
@@ -732,82 +736,5 @@ impl Walk {
         self.place = place;
         self.behind = id.0 + 1;
         self.leave(head, id);
-    }
-}
-
-/// What the next item tells outside brackets.
-#[inline(always)]
-fn read_outside(
-    arena: &TokenArena<'_, '_>,
-    walk: &mut Walk,
-    id: TokenId,
-    class: TokenClass,
-) -> Outcome
-    requires item { id.0 < length arena.now.tokens }
-    requires small { id.0 < 4294967295 }
-    requires room { walk.old.place < 4294967295 }
-    ensures read { read_so result walk.new ≡ reading arena.now walk.old Outside id.0 class }
-    ensures stays { StaysWhereItEnds result walk.old walk.new }
-{
-    let asked = asked_at(arena, walk, id, class);
-    if let Some(count) = asked {
-        if class.is_word() {
-            return Outcome::EndsOutside(count);
-        }
-    }
-    if is_lost(class) {
-        return Outcome::Never;
-    }
-    walk.pass_outside(id, class, asked);
-    Outcome::GoesOn
-}
-
-/// What the next item of a body tells.
-#[inline(never)]
-fn read_in_body(
-    arena: &TokenArena<'_, '_>,
-    walk: &mut Walk,
-    id: TokenId,
-    class: TokenClass,
-) -> Outcome
-    requires item { id.0 < length arena.now.tokens }
-    requires small { id.0 < 4294967295 }
-    requires room { walk.old.place < 4294967295 }
-    ensures read { read_so result walk.new ≡ reading arena.now walk.old Body id.0 class }
-    ensures stays { StaysWhereItEnds result walk.old walk.new }
-{
-    if class.is_comment() {
-        walk.pass_comment(arena, id);
-        return Outcome::GoesOn;
-    }
-    if let Some(count) = walk.end_in_body(id, class) {
-        return Outcome::EndsInBody(count);
-    }
-    walk.pass_in_body(id, class);
-    Outcome::GoesOn
-}
-
-/// What the next item tells. Where the part goes on behind it, so does the way; else it stays.
-#[inline(always)]
-pub(crate) fn read(
-    arena: &TokenArena<'_, '_>,
-    walk: &mut Walk,
-    around: Around,
-    id: TokenId,
-    class: TokenClass,
-) -> Outcome
-    requires item { id.0 < length arena.now.tokens }
-    requires small { id.0 < 4294967295 }
-    requires room { walk.old.place < 4294967295 }
-    ensures read { read_so result walk.new ≡ reading arena.now walk.old around id.0 class }
-    ensures stays { StaysWhereItEnds result walk.old walk.new }
-{
-    match around {
-        Around::Outside => read_outside(arena, walk, id, class),
-        Around::Body => read_in_body(arena, walk, id, class),
-        Around::Group => {
-            walk.pass_in_group(id, class);
-            Outcome::GoesOn
-        }
     }
 }
