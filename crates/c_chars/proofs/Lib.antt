@@ -7,5 +7,5 @@ pub mod Runs
 pub mod Tables
 pub mod Moved
 pub mod Steps
-pub mod EightBytes
+pub mod Sixteen
 pub mod Words

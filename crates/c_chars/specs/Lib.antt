@@ -1,4 +1,3 @@
 pub mod Characters
 pub mod Alone
 pub mod Coming
-pub mod Eights

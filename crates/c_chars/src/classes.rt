@@ -1,9 +1,12 @@
 //! Classes of bytes, and how many of a class some bytes begin with.
 
-ghost use Rattle.std.specs.Prelude.{◌≡◌, false, get_or};
+ghost use Rattle.std.specs.Prelude.{◌≡◌, ◌≤◌, false, get_or, length, take, IsTrue};
 ghost use Rattle.std.specs.List.{prefix_len};
-ghost use Rattle.c_chars.specs.Characters.{is_comment_byte, is_comment_ink, is_ink_byte, is_plain, is_space_byte};
+ghost use Rattle.c_chars.specs.Characters.{are_words, is_comment_byte, is_comment_ink, is_ink_byte, is_plain, is_space_byte};
 ghost use Rattle.c_chars.specs.Characters.{is_text_byte, is_word_byte};
+
+use crate::lanes::{comment_stops, text_stops, word_stops};
+use std::simd::prelude::*;
 
 /// What a table tells of a byte.
 #[inline(always)]
@@ -75,7 +78,7 @@ pub fn is_word_byte(byte: u8) -> bool
 }
 
 /// How many letters, digits, `_` and `$` the bytes begin with, told byte by byte.
-#[inline(always)]
+#[inline(never)]
 fn each_word_len(bytes: &[u8]) -> usize
     ensures { result ≡ prefix_len is_word_byte bytes.now }
 {
@@ -87,18 +90,16 @@ fn each_word_len(bytes: &[u8]) -> usize
     bytes.len()
 }
 
-/// How many letters, digits, `_` and `$` the bytes begin with. They are told two at a time.
+/// How many letters, digits, `_` and `$` the bytes begin with.
 #[inline(always)]
 pub(crate) fn word_len(bytes: &[u8]) -> usize
     ensures { result ≡ prefix_len is_word_byte bytes.now }
 {
     let mut rest = bytes;
-    while let [one, two, behind @ ..] = rest {
-        if !is_word_byte(*one) {
-            return bytes.len() - rest.len();
-        }
-        if !is_word_byte(*two) {
-            return bytes.len() - rest.len() + 1;
+    while let Some((sixteen, behind)) = rest.split_first_chunk::<16>() {
+        let stops = word_stops(u8x16::from_array(*sixteen));
+        if stops != 0 {
+            return bytes.len() - rest.len() + stops.trailing_zeros() as usize;
         }
         rest = behind;
     }
@@ -108,7 +109,7 @@ pub(crate) fn word_len(bytes: &[u8]) -> usize
 /// A space or a tab.
 #[tactic(auto, unfolding(crate::specs::Characters::is_space_byte))]
 #[inline(always)]
-pub(crate) fn is_space_byte(byte: u8) -> bool
+fn is_space_byte(byte: u8) -> bool
     ensures { result ≡ is_space_byte byte }
 {
     byte == b' ' || byte == b'\t'
@@ -149,9 +150,9 @@ fn is_text_byte(byte: u8) -> bool
     is_ink_byte(byte) || is_space_byte(byte)
 }
 
-/// How many such bytes, spaces and tabs the bytes begin with.
-#[inline(always)]
-pub(crate) fn text_len(bytes: &[u8]) -> usize
+/// How many such bytes, spaces and tabs the bytes begin with, told byte by byte.
+#[inline(never)]
+fn each_text_len(bytes: &[u8]) -> usize
     ensures { result ≡ prefix_len is_text_byte bytes.now }
 {
     for i in 0..bytes.len() {
@@ -160,6 +161,22 @@ pub(crate) fn text_len(bytes: &[u8]) -> usize
         }
     }
     bytes.len()
+}
+
+/// How many such bytes, spaces and tabs the bytes begin with.
+#[inline(always)]
+pub(crate) fn text_len(bytes: &[u8]) -> usize
+    ensures { result ≡ prefix_len is_text_byte bytes.now }
+{
+    let mut rest = bytes;
+    while let Some((sixteen, behind)) = rest.split_first_chunk::<16>() {
+        let stops = text_stops(u8x16::from_array(*sixteen));
+        if stops != 0 {
+            return bytes.len() - rest.len() + stops.trailing_zeros() as usize;
+        }
+        rest = behind;
+    }
+    bytes.len() - rest.len() + each_text_len(rest)
 }
 
 /// Whether the byte is a character by itself that is no white space, and that comments don't look at: none of `*?\\`.
@@ -174,8 +191,50 @@ fn is_comment_ink(byte: u8) -> bool
 /// Such a byte, a space or a tab.
 #[tactic(auto, unfolding(crate::specs::Characters::is_comment_byte))]
 #[inline(always)]
-pub(crate) fn is_comment_byte(byte: u8) -> bool
+fn is_comment_byte(byte: u8) -> bool
     ensures { result ≡ is_comment_byte byte }
 {
     is_comment_ink(byte) || is_space_byte(byte)
+}
+
+/// How many bytes of comments the bytes begin with, told byte by byte.
+#[inline(never)]
+fn each_comment_len(bytes: &[u8]) -> usize
+    ensures { result ≡ prefix_len is_comment_byte bytes.now }
+{
+    for i in 0..bytes.len() {
+        if !is_comment_byte(bytes[i]) {
+            return i;
+        }
+    }
+    bytes.len()
+}
+
+/// How many bytes of comments the bytes begin with.
+#[inline(always)]
+pub(crate) fn comment_len(bytes: &[u8]) -> usize
+    ensures { result ≡ prefix_len is_comment_byte bytes.now }
+{
+    let mut rest = bytes;
+    while let Some((sixteen, behind)) = rest.split_first_chunk::<16>() {
+        let stops = comment_stops(u8x16::from_array(*sixteen));
+        if stops != 0 {
+            return bytes.len() - rest.len() + stops.trailing_zeros() as usize;
+        }
+        rest = behind;
+    }
+    bytes.len() - rest.len() + each_comment_len(rest)
+}
+
+/// How many of them there are up to the last that is no space or tab.
+#[inline(always)]
+pub(crate) fn words_len(bytes: &[u8]) -> usize
+    ensures within { result ≤ length bytes.now }
+    ensures words { IsTrue (are_words (take result bytes.now)) }
+{
+    let mut len = comment_len(bytes);
+    while len > 0 && is_space_byte(bytes[len - 1]) {
+        len -= 1;
+    }
+    len
 }

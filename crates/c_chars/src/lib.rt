@@ -6,8 +6,8 @@
 
 mod alone;
 mod classes;
-mod eights;
 mod front;
+mod lanes;
 mod reader;
 mod units;
 

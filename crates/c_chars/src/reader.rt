@@ -6,8 +6,7 @@ ghost use Rattle.c_chars.specs.Characters.{chars, logical, mark_len, is_comment_
 ghost use Rattle.c_chars.specs.Coming.{AreBetween, AreBytesPassed, ArePassed, AreSpacesPassed, AreWordsPassed};
 
 use crate::alone::first_character;
-use crate::classes::{is_plain, space_len, text_len, word_len};
-use crate::eights::{comment_len, words_len};
+use crate::classes::{comment_len, is_plain, space_len, text_len, word_len, words_len};
 use crate::{Dialect, LIMIT, LogicalChar};
 use std::marker::Model;
 
@@ -262,7 +261,7 @@ impl<'s> Chars<'s> {
     }
 
     /// Steps behind the spaces, the tabs and the characters that come next and are no white space and none of `*?\\`,
-    /// eight bytes at a time: what comments are mostly made of.
+    /// sixteen bytes at a time: what comments are mostly made of.
     ///
     /// It may stop before a further one, where lines are spliced between the two.
     #[inline(always)]

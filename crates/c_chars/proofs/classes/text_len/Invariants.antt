@@ -1,7 +1,13 @@
-use Rattle.std.proofs.Common.{◌≡◌, ◌+◌, drop}
+use Rattle.std.proofs.Common.{◌≡◌, ◌-◌, ◌+◌, ◌≤◌, length}
 use Rattle.std.specs.List.{prefix_len}
 use Rattle.c_chars.specs.Characters.{is_text_byte}
 use Rattle.c_chars.proofs.classes.text_len.Given as goal
 
-abbrev pub invariant-loop-i : goal.invariant-loop-i
-invariant-loop-i l = l.i + prefix_len is_text_byte (drop l.i l.bytes) ≡ prefix_len is_text_byte l.bytes
+abbrev pub invariant-loop-sixteen : goal.invariant-loop-sixteen
+invariant-loop-sixteen l = record {
+  within : length l.rest ≤ length l.bytes;
+  rest_is : (length l.bytes - length l.rest) + prefix_len is_text_byte l.rest ≡ prefix_len is_text_byte l.bytes;
+}
+
+abbrev pub decreases-loop-sixteen : goal.decreases-loop-sixteen
+decreases-loop-sixteen l = length l.rest

@@ -1,7 +1,7 @@
 use Rattle.std.proofs.Common.{◌≤◌}
 use Rattle.std.specs.List.{prefix_len}
 use Rattle.c_chars.specs.Characters.{is_comment_byte}
-use Rattle.c_chars.proofs.eights.words_len.Given as goal
+use Rattle.c_chars.proofs.classes.words_len.Given as goal
 
 abbrev pub invariant-loop-len : goal.invariant-loop-len
 invariant-loop-len l = l.len ≤ prefix_len is_comment_byte l.bytes

@@ -2,7 +2,7 @@ use Rattle.std.proofs.Common.{◌≡◌, ◌∙◌, ◌-◌, get_or, sym, ap, ar
 use Rattle.std.proofs.lemmas.List.Sums.{prefix_len-le-length}
 use Rattle.c_chars.specs.Characters.{is_space_byte, is_comment_byte}
 use Rattle.c_chars.proofs.Words.{words_front}
-use Rattle.c_chars.proofs.eights.words_len.Goals as goal
+use Rattle.c_chars.proofs.classes.words_len.Goals as goal
 
 pub bounds-bytes-len : goal.bounds-bytes-len
 bounds-bytes-len c =
