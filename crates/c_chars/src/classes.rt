@@ -78,7 +78,7 @@ pub fn is_word_byte(byte: u8) -> bool
 }
 
 /// How many letters, digits, `_` and `$` the bytes begin with, told byte by byte.
-#[inline(never)]
+#[inline(always)]
 fn each_word_len(bytes: &[u8]) -> usize
     ensures { result ≡ prefix_len is_word_byte bytes.now }
 {
@@ -90,9 +90,9 @@ fn each_word_len(bytes: &[u8]) -> usize
     bytes.len()
 }
 
-/// How many letters, digits, `_` and `$` the bytes begin with.
-#[inline(always)]
-pub(crate) fn word_len(bytes: &[u8]) -> usize
+/// How many letters, digits, `_` and `$` the bytes begin with, however many.
+#[inline(never)]
+fn long_word_len(bytes: &[u8]) -> usize
     ensures { result ≡ prefix_len is_word_byte bytes.now }
 {
     let mut rest = bytes;
@@ -104,6 +104,21 @@ pub(crate) fn word_len(bytes: &[u8]) -> usize
         rest = behind;
     }
     bytes.len() - rest.len() + each_word_len(rest)
+}
+
+/// How many letters, digits, `_` and `$` the bytes begin with. Most words end within sixteen bytes, and are told
+/// without a loop.
+#[inline(always)]
+pub(crate) fn word_len(bytes: &[u8]) -> usize
+    ensures { result ≡ prefix_len is_word_byte bytes.now }
+{
+    if let Some((sixteen, _)) = bytes.split_first_chunk::<16>() {
+        let stops = word_stops(u8x16::from_array(*sixteen));
+        if stops != 0 {
+            return stops.trailing_zeros() as usize;
+        }
+    }
+    long_word_len(bytes)
 }
 
 /// A space or a tab.

@@ -1,7 +1,7 @@
 use Rattle.std.proofs.Common.{◌≡◌, ◌-◌, ◌+◌, ◌≤◌, length}
 use Rattle.std.specs.List.{prefix_len}
 use Rattle.c_chars.specs.Characters.{is_word_byte}
-use Rattle.c_chars.proofs.classes.word_len.Given as goal
+use Rattle.c_chars.proofs.classes.long_word_len.Given as goal
 
 abbrev pub invariant-loop-sixteen : goal.invariant-loop-sixteen
 invariant-loop-sixteen l = record {
