@@ -2,6 +2,8 @@
 # make install, make uninstall: the program and its pages.  make install-pages: the pages alone, with no proof.
 # make dist: a tarball.  make deb: a Debian package.  Both stand in build/ then.
 # With PROGRAM=PATH the program at PATH is taken, and none is proved or built.
+# No rule of make's own: it would link that program anew from an object file beside it.
+MAKEFLAGS += --no-builtin-rules
 PREFIX ?= /usr/local
 PROGRAM = build/clang_format
 MANUALS = $(PREFIX)/share/man
