@@ -2,8 +2,8 @@
 
 ghost use Rattle.std.specs.Prelude.{◌≡◌, ◌≤◌, false, get_or, length, take, IsTrue};
 ghost use Rattle.std.specs.List.{prefix_len};
-ghost use Rattle.c_chars.specs.Characters.{are_words, is_comment_byte, is_comment_ink, is_ink_byte, is_plain, is_space_byte};
-ghost use Rattle.c_chars.specs.Characters.{is_text_byte, is_word_byte};
+ghost use Rattle.c_chars.specs.Characters.{are_words, is_comment_byte, is_comment_ink, is_ink_byte, is_plain};
+ghost use Rattle.c_chars.specs.Characters.{is_space_byte, is_text_byte, is_word_byte};
 
 use crate::lanes::{comment_stops, text_stops, word_stops};
 use std::simd::prelude::*;

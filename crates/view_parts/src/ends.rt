@@ -1,7 +1,7 @@
 //! Where the parts of a view end.
 
-ghost use Rattle.std.specs.Prelude.{true, not, ◌&&◌, ◌||◌, ◌≡◌, ◌<◌, ◌≤◌, ◌+◌, ◌-◌, ◌^◌, ℕ};
-ghost use Rattle.std.specs.Prelude.{length, drop, take, get_or, slice_range};
+ghost use Rattle.std.specs.Prelude.{◌&&◌, ◌||◌, ◌≡◌, ◌<◌, ◌≤◌, ◌+◌, ◌-◌, ◌^◌, ℕ};
+ghost use Rattle.std.specs.Prelude.{true, not, length, drop, take, get_or, slice_range};
 ghost use Rattle.std.specs.Prelude.{IfOk, None, Some};
 ghost use Rattle.std.specs.Option.{ForNone, ForSome};
 ghost use Rattle.token_classes.specs.declared.class.TokenClass.{TokenClass};
