@@ -1,10 +1,9 @@
 -- The first decision stands.
-use Rattle.std.proofs.Common.{◌≡◌, ◌≢◌, ◌∙◌, ◌==◌, ◌⊎◌, inl, inr, ℕ, ◌<◌, Bool, true, false, Option, Some, None, List, [], ◌∷◌, length, get_or, set, refl, sym, ap, subst, arith}
-use Rattle.std.specs.Prelude.{is_some, if◌then◌else◌}
+use Rattle.std.proofs.Common.{◌≡◌, ◌≢◌, ◌∙◌, ◌==◌, ◌⊎◌, inl, inr, ℕ, true, false, Option, Some, None, List, [], ◌∷◌, length, set, refl, sym, subst, arith}
 use Rattle.std.proofs.lemmas.List.{get_or-set_same, get_or-set_other, length-set}
 use Rattle.std.proofs.lemmas.Bool.{ne_eqb, eq-eqb}
 use Rattle.replacements.specs.declared.slot.Slot.{Slot}
-use Rattle.replacements.specs.Decisions.{slot_of, decided, decided_all, first_for}
+use Rattle.replacements.specs.Decisions.{slot_of, decided}
 use Rattle.replacements.specs.Laws.{DecisionsStay, FirstDecisionStands}
 
 -- a decision for a gap that is decided changes nothing

@@ -1,12 +1,11 @@
 -- Free gaps leave all items, and the part that each plays in a directive.
-use Rattle.std.proofs.Common.{◌≡◌, ◌||◌, not, ℕ, true, false, List, [], ◌∷◌, ◌++◌, refl, sym, ◌∙◌, ap, subst, inl, inr, ◌⊎◌}
+use Rattle.std.proofs.Common.{◌≡◌, ◌||◌, not, ℕ, false, List, [], ◌∷◌, ◌++◌, refl, sym, ◌∙◌, ap, subst, inl, inr}
 use Rattle.std.specs.Prelude.{⊤, IsTrue}
-use Rattle.std.specs.List.{list_any}
 use Rattle.c_chars.specs.declared.Dialect.{Dialect}
 use Rattle.c_grammar.specs.declared.ItemKind.{ItemKind}
 use Rattle.c_grammar.specs.Grammar.{is_new_line, is_white, is_same}
 use Rattle.c_grammar.specs.Items.{Place, LineStart, past_gap, past_item, is_gap, Piece, written, Reads}
-use Rattle.c_grammar.specs.Touch.{may_touch, regapped}
+use Rattle.c_grammar.specs.Touch.{regapped}
 use Rattle.c_grammar.specs.Twin.{part_of, parts_of}
 use Rattle.c_grammar.specs.Regapping.{IsSameItem}
 use Rattle.c_grammar.specs.Fitting.{in_directive, place_behind, IsFitGap, HaveFitGaps, IsFitEnd}
@@ -16,7 +15,6 @@ use Rattle.c_grammar.proofs.AllGaps.{first_place, piece_is, onward}
 use Rattle.c_grammar.proofs.FitGaps.{fit_gaps, keeps_items_over_fit_gaps}
 use Rattle.c_grammar.proofs.KeptBytes.{fit_itself}
 use Rattle.c_grammar.proofs.Lines.{keeps_items_over_lines}
-use Rattle.replacements.specs.FreeGaps.{MayBreak}
 use Rattle.replacements.proofs.OneLineGaps.{line_gap}
 use Rattle.replacements.proofs.Places.{IsFreeGap, AreAlike, alike_text, AreStood, stood_alike, step_alike, step_part}
 

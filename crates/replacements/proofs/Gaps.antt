@@ -1,5 +1,5 @@
 -- The gaps of a text.
-use Rattle.std.proofs.Common.{◌≡◌, refl, None, ℕ, zero, suc, ◌≤◌, ◌-◌, List, [], ◌∷◌, length, take, drop, arith}
+use Rattle.std.proofs.Common.{◌≡◌, refl, None, ℕ, zero, suc, ◌≤◌, ◌-◌, List, [], ◌∷◌, length, drop, arith}
 use Rattle.std.specs.Prelude.{slice_get}
 use Rattle.std.specs.List.{list_any}
 use Rattle.c_chars.specs.Characters.{mark_len}

@@ -1,12 +1,12 @@
 -- White space without line ends but in splices: blanks, and a splice between white space.
-use Rattle.std.proofs.Common.{◌≡◌, ◌==◌, ◌∙◌, ◌||◌, ◌&&◌, not, ℕ, zero, suc, ◌-◌, ◌/◌, ◌%◌, Bool, true, false, List, [], ◌∷◌, ◌++◌, refl, sym, ap, subst, replicate}
+use Rattle.std.proofs.Common.{◌≡◌, ◌==◌, ◌∙◌, ℕ, zero, suc, ◌-◌, ◌/◌, ◌%◌, Bool, true, false, List, [], ◌∷◌, ◌++◌, refl, sym, ap, subst, replicate}
 use Rattle.std.specs.List.{list_any, list_all}
 use Rattle.std.proofs.lemmas.Bool.{and_parts}
-use Rattle.c_chars.specs.Characters.{bytes_of, begins_line_end}
+use Rattle.c_chars.specs.Characters.{bytes_of}
 use Rattle.c_chars.specs.declared.Dialect.{Dialect}
-use Rattle.c_grammar.specs.Grammar.{is_new_line, is_same, is_white}
+use Rattle.c_grammar.specs.Grammar.{is_new_line, is_same}
 use Rattle.c_grammar.specs.Items.{is_gap}
-use Rattle.c_grammar.specs.Touch.{starts, ends}
+use Rattle.c_grammar.specs.Touch.{ends}
 use Rattle.c_grammar.specs.Text.{ReadItem}
 use Rattle.c_grammar.specs.Rewritten.{read_alone, IsGuarded, White, Blank, Tab, LineEnd, Splice, white_bytes, white_chars}
 use Rattle.c_grammar.proofs.White.{white_reads_so}

@@ -1,18 +1,18 @@
 -- White space comes and goes between two items of one line: all items stay.
-use Rattle.std.proofs.Common.{◌≡◌, ◌==◌, ◌||◌, ◌&&◌, not, ℕ, Bool, true, false, List, [], ◌∷◌, ◌++◌, refl, sym, ◌∙◌, ap, subst, inl, inr, ◌⊎◌, append_assoc}
-use Rattle.std.specs.Prelude.{codes, if◌then◌else◌}
+use Rattle.std.proofs.Common.{◌≡◌, ◌||◌, ◌&&◌, not, ℕ, true, false, List, [], ◌∷◌, ◌++◌, refl, sym, ◌∙◌, ap, subst, inl, inr, ◌⊎◌, append_assoc}
+use Rattle.std.specs.Prelude.{if◌then◌else◌}
 use Rattle.std.specs.List.{list_any}
-use Rattle.std.proofs.lemmas.Bool.{both_ways, and_parts, false_from_ne_true}
+use Rattle.std.proofs.lemmas.Bool.{both_ways, false_from_ne_true}
 use Rattle.c_chars.specs.declared.Dialect.{Dialect}
 use Rattle.c_grammar.specs.declared.ItemKind.{ItemKind}
-use Rattle.c_grammar.specs.Grammar.{is_new_line, is_same, is_of, Spells, Whole}
+use Rattle.c_grammar.specs.Grammar.{is_new_line, is_same, Spells, Whole}
 use Rattle.c_grammar.specs.Items.{IsLongest, Place, LineStart, AfterInclude, past_gap, past_item, is_gap, BeginsHeader, IsNext, Piece, written, Reads}
-use Rattle.c_grammar.specs.Touch.{starts, is_punct, takes_line, may_touch, regapped}
+use Rattle.c_grammar.specs.Touch.{is_punct, takes_line, may_touch, regapped}
 use Rattle.c_grammar.specs.Fitting.{place_behind}
 use Rattle.c_grammar.proofs.Apart.{gap_starts}
 use Rattle.c_grammar.proofs.Firsts.{Begins, begins, starts_or_empty, can_begin}
 use Rattle.c_grammar.proofs.ItemBytes.{next_black}
-use Rattle.c_grammar.proofs.Items.{item_at, item_begins, rest_is, same_place, something, keeps_items}
+use Rattle.c_grammar.proofs.Items.{item_at, item_begins, rest_is, something, keeps_items}
 use Rattle.c_grammar.proofs.OtherGap.{no_blank_after, before_blank, other_gap, like_gaps, gap_at}
 use Rattle.c_grammar.proofs.Seam.{item_begin}
 use Rattle.c_grammar.proofs.Unique.{is_blank}

@@ -11,7 +11,6 @@ use Rattle.c_grammar.specs.Items.{Place, LineStart, AfterHash, AfterInclude, Aft
 use Rattle.c_grammar.specs.Touch.{is_punct, takes_line, may_touch}
 use Rattle.c_grammar.specs.Twin.{OfText, part_of}
 use Rattle.c_grammar.specs.Fitting.{in_directive, is_comment, no_hash_comes, IsFitGap}
-use Rattle.c_grammar.proofs.Lists.{same_is}
 use Rattle.c_grammar.proofs.Items.{same_place}
 use Rattle.replacements.specs.FreeGaps.{MayBreak, IsTextGap}
 use Rattle.replacements.specs.OneLine.{would_name}

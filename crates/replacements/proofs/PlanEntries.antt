@@ -1,87 +1,232 @@
 -- A plan by its entries.
-use Rattle.std.proofs.Common.{◌≡◌, ◌∙◌, ◌<◌, ◌≤◌, ◌+◌, ◌-◌, ◌⊎◌, inl, inr, ℕ, zero, suc, false, Some, None, Option, List, ◌∷◌, length, get_or, take, drop, replicate, set, refl, ap, sym, subst, arith}
-use Rattle.std.specs.Prelude.{is_some, IsSome, if◌then◌else◌}
-use Rattle.std.proofs.lemmas.List.{drop-map, get_or-drop, get_or-map, get_or-take, length-drop, length-map, length-take-le, map-set, take-map}
-use Rattle.std.proofs.lemmas.Bool.{cases_lt}
+use Rattle.std.proofs.Common.{◌≡◌, ◌∙◌, ◌<◌, ◌≤◌, ◌+◌, ◌-◌, ◌^◌, ℕ, zero, suc, true, false, Some, None, Option, List, [], ◌∷◌, ◌++◌, length, get_or, take, drop, replicate, set, refl, ap, sym, subst, arith}
+use Rattle.std.specs.Prelude.{All, is_some, IsSome, if◌then◌else◌}
+use Rattle.std.proofs.lemmas.List.{get_or-drop, get_or-map, get_or-take, get_or_append_left, length-append, length-drop, length-map, length-replicate, length-set, length-take-le, map-set}
+use Rattle.std.proofs.lemmas.List.Elements.{All-cons, All-get_or, All-head, All-set, All-tail}
+use Rattle.std.proofs.lemmas.Option.{slice_get-get_or}
+use Rattle.std.proofs.Math.Seq.{get_or-append_seam}
+use Rattle.std.proofs.lemmas.Bool.{false≢true, true≢false}
 use Rattle.replacements.specs.Decisions.{AreDecided, IsSomeOpen, decided, slot_of}
-use Rattle.replacements.specs.Entries.{slot_in, slots_in}
+use Rattle.replacements.specs.Entries.{AreTaken, FitApart, IsGrown, IsHeld, IsSomeFree, is_open, open_in, slot_in, slots_in}
 use Rattle.replacements.specs.declared.entry.Entry.{Entry}
-use Rattle.replacements.specs.declared.entry.Entry.TheVariants.{Open}
+use Rattle.replacements.specs.declared.entry.Entry.TheVariants.{Open, Old, Spaces, Lines, Apart}
+use Rattle.replacements.specs.declared.gap_text.Decision.TheVariants as decision
 use Rattle.replacements.specs.declared.slot.Slot.{Slot}
 
 -- in open entries nothing is decided
-pub all_open : (count : ℕ) → slots_in (replicate count Open) ≡ replicate count None
+pub all_open : (count : ℕ) → slots_in [] (replicate count Open) ≡ replicate count None
 all_open zero = refl
 all_open (suc count) = ap (λ (z : List (Option Slot)). None ∷ z) (all_open count)
 
--- an entry for an open gap
-pub entry_set : (entries : List Entry) (plan : List (Option Slot)) (place : ℕ) (entry : Entry) (slot : Slot) → plan ≡ slots_in entries → slot_in entry ≡ Some slot → is_some (slot_of plan place) ≡ false
-    → slots_in (set entries place entry) ≡ decided plan place slot
-entry_set entries plan place entry slot view is open_gap =
-    map-set slot_in entries place entry
-    ∙ (ap (λ z. set (slots_in entries) place z) is
-    ∙ (ap (λ z. set z place (Some slot)) (sym view)
+-- so each gap of a text can stand apart
+open_count : (count : ℕ) → open_in (replicate count Open) ≡ count
+open_count zero = refl
+open_count (suc count) = ap (λ (n : ℕ). suc n) (open_count count)
+
+open_held : (count : ℕ) → All (IsHeld []) (replicate count Open)
+open_held zero = λ k d within. absurd (omega (arith, within))
+open_held (suc count) = All-cons (IsHeld []) Open (replicate count Open) tt (open_held count)
+
+pub fit_open : (count capacity : ℕ) → count ≤ capacity → count < 2 ^ 32 → FitApart [] capacity (replicate count Open)
+fit_open count capacity room few =
+    let long : length (replicate count Open) ≡ count = length-replicate count Open in
+    let free : open_in (replicate count Open) ≡ count = open_count count in record {
+      held = open_held count;
+      few = omega (arith, long, free);
+      room = omega (arith, room, long);
+      count = omega (arith, few, long);
+    }
+
+-- ## One decision more that stands apart
+
+no_slot : Slot
+no_slot = record { decision = decision.Old; end = 0 }
+
+held_more : (apart more : List Slot) (entry : Entry) → IsHeld apart entry → IsHeld (apart ++ more) entry
+held_more apart more Open held = held
+held_more apart more (Old end) held = held
+held_more apart more (Spaces count end) held = held
+held_more apart more (Lines count level column) held = held
+held_more apart more (Apart at) held = let long : length (apart ++ more) ≡ length apart + length more = length-append apart more in omega (arith, held, long)
+
+slot_more : (apart more : List Slot) (entry : Entry) → IsHeld apart entry → slot_in (apart ++ more) entry ≡ slot_in apart entry
+slot_more apart more Open held = refl
+slot_more apart more (Old end) held = refl
+slot_more apart more (Spaces count end) held = refl
+slot_more apart more (Lines count level column) held = refl
+slot_more apart more (Apart at) held =
+    let long : length (apart ++ more) ≡ length apart + length more = length-append apart more in
+    slice_get-get_or (apart ++ more) at no_slot (omega (arith, held, long))
+    ∙ (ap (λ (slot : Slot). Some slot) (get_or_append_left apart more no_slot at held) ∙ sym (slice_get-get_or apart at no_slot held))
+
+all_held_more : (apart more : List Slot) (entries : List Entry) → All (IsHeld apart) entries → All (IsHeld (apart ++ more)) entries
+all_held_more apart more [] held = λ k d within. absurd (omega (arith, within))
+all_held_more apart more (entry ∷ later) held = All-cons (IsHeld (apart ++ more)) entry later (held_more apart more entry (All-head (IsHeld apart) entry later held)) (all_held_more apart more later (All-tail (IsHeld apart) entry later held))
+
+slots_more : (apart more : List Slot) (entries : List Entry) → All (IsHeld apart) entries → slots_in (apart ++ more) entries ≡ slots_in apart entries
+slots_more apart more [] held = refl
+slots_more apart more (entry ∷ later) held =
+    ap (λ (slot : Option Slot). slot ∷ slots_in (apart ++ more) later) (slot_more apart more entry (All-head (IsHeld apart) entry later held))
+    ∙ ap (λ (slots : List (Option Slot)). slot_in apart entry ∷ slots) (slots_more apart more later (All-tail (IsHeld apart) entry later held))
+
+-- the decision that stands apart last
+pub last_apart : (apart : List Slot) (slot : Slot) → slot_in (apart ++ slot ∷ []) (Apart (length apart)) ≡ Some slot
+last_apart apart slot =
+    let long : length (apart ++ slot ∷ []) ≡ length apart + length (slot ∷ []) = length-append apart (slot ∷ []) in
+    slice_get-get_or (apart ++ slot ∷ []) (length apart) no_slot (omega (arith, long)) ∙ ap (λ (last : Slot). Some last) (get_or-append_seam apart slot [] no_slot)
+
+-- ## An entry for an open gap
+
+taken_in : (entry : Entry) (later : List Entry) → is_open entry ≡ false → open_in (entry ∷ later) ≡ open_in later
+taken_in Open later taken = absurd (true≢false taken)
+taken_in (Old end) later taken = refl
+taken_in (Spaces count end) later taken = refl
+taken_in (Lines count level column) later taken = refl
+taken_in (Apart at) later taken = refl
+
+free_in : (entry : Entry) (later : List Entry) → is_open entry ≡ true → open_in (entry ∷ later) ≡ suc (open_in later)
+free_in Open later free = refl
+free_in (Old end) later free = absurd (false≢true free)
+free_in (Spaces count end) later free = absurd (false≢true free)
+free_in (Lines count level column) later free = absurd (false≢true free)
+free_in (Apart at) later free = absurd (false≢true free)
+
+open_on : (first : Entry) (fewer later : List Entry) → suc (open_in fewer) ≡ open_in later → suc (open_in (first ∷ fewer)) ≡ open_in (first ∷ later)
+open_on Open fewer later less = ap (λ (n : ℕ). suc n) less
+open_on (Old end) fewer later less = less
+open_on (Spaces count end) fewer later less = less
+open_on (Lines count level column) fewer later less = less
+open_on (Apart at) fewer later less = less
+
+-- the entry of a decision in the place of that of an open gap
+open_less : (entries : List Entry) (place : ℕ) (entry : Entry) → place < length entries → is_open (get_or entries place Open) ≡ true → is_open entry ≡ false
+    → suc (open_in (set entries place entry)) ≡ open_in entries
+open_less [] place entry within free taken = absurd (omega (arith, within))
+open_less (first ∷ later) zero entry within free taken = ap (λ (n : ℕ). suc n) (taken_in entry later taken) ∙ sym (free_in first later free)
+open_less (first ∷ later) (suc place) entry within free taken =
+    let less : suc (open_in (set later place entry)) ≡ open_in later = open_less later place entry (omega (arith, within)) free taken in
+    open_on first (set later place entry) later less
+
+pub fit_decided : (before after : List Slot) (capacity capacity_behind : ℕ) (entries : List Entry) (place : ℕ) (entry : Entry) → FitApart before capacity entries → IsGrown before after → capacity_behind ≡ capacity
+    → IsHeld after entry → is_open entry ≡ false → place < length entries → is_open (get_or entries place Open) ≡ true → FitApart after capacity_behind (set entries place entry)
+fit_decided before after capacity capacity_behind entries place entry fit grown same held taken within free =
+    let long : length (set entries place entry) ≡ length entries = length-set entries place entry in
+    let less : suc (open_in (set entries place entry)) ≡ open_in entries = open_less entries place entry within free taken in
+    let more : length after ≡ length before + length grown.more = ap (λ (slots : List Slot). length slots) grown.grown ∙ length-append before grown.more in
+    let all : All (IsHeld after) entries = subst (λ (slots : List Slot). All (IsHeld slots) entries) (sym grown.grown) (all_held_more before grown.more entries fit.held) in record {
+      held = All-set (IsHeld after) entries place entry held all;
+      few = omega (arith, fit.few, long, less, more, grown.few);
+      room = omega (arith, fit.room, long, same);
+      count = omega (arith, fit.count, long);
+    }
+
+pub entry_set : (before after : List Slot) (entries : List Entry) (plan : List (Option Slot)) (place : ℕ) (entry : Entry) (slot : Slot) → plan ≡ slots_in before entries → All (IsHeld before) entries → IsGrown before after
+    → slot_in after entry ≡ Some slot → is_some (slot_of plan place) ≡ false → slots_in after (set entries place entry) ≡ decided plan place slot
+entry_set before after entries plan place entry slot view held grown is open_gap =
+    let same : slots_in after entries ≡ plan = ap (λ (slots : List Slot). slots_in slots entries) grown.grown ∙ (slots_more before grown.more entries held ∙ sym view) in
+    map-set (slot_in after) entries place entry
+    ∙ (ap (λ z. set (slots_in after entries) place z) is
+    ∙ (ap (λ z. set z place (Some slot)) same
     ∙ sym (ap (λ b. if b then plan else set plan place (Some slot)) open_gap)))
 
 -- ## Entries that are decided
 
-before_or : (at place : ℕ) → place < at + 1 → (place < at) ⊎ (place ≡ at)
-before_or at place within = grind (arith, within)
+taken_some : (apart : List Slot) (entry : Entry) → IsHeld apart entry → is_open entry ≡ false → IsSome (slot_in apart entry)
+taken_some apart Open held taken = absurd (true≢false taken)
+taken_some apart (Old end) held taken = search
+taken_some apart (Spaces count end) held taken = search
+taken_some apart (Lines count level column) held taken = search
+taken_some apart (Apart at) held taken = subst (λ (slot : Option Slot). IsSome slot) (sym (slice_get-get_or apart at no_slot held)) search
 
--- those before an entry are decided, and so is this
-pub decided_on : (entries : List Entry) (at : ℕ) (d : Entry) → at < length entries → ((place : ℕ) → place < at → IsSome (slot_of (slots_in entries) place)) → IsSome (slot_in (get_or entries at d))
-    → (place : ℕ) → place < at + 1 → IsSome (slot_of (slots_in entries) place)
-decided_on entries at d within before here place on = elim (before_or at place on) [
-  | inl earlier ↦ before place earlier
-  | inr same ↦ subst (λ (k : ℕ). IsSome (slot_of (slots_in entries) k)) (sym same) (subst (λ (s : Option Slot). IsSome s) (sym (get_or-map slot_in entries at d None within)) here)
-]
+free_none : (apart : List Slot) (entry : Entry) → is_open entry ≡ true → slot_in apart entry ≡ None
+free_none apart Open free = refl
+free_none apart (Old end) free = absurd (false≢true free)
+free_none apart (Spaces count end) free = absurd (false≢true free)
+free_none apart (Lines count level column) free = absurd (false≢true free)
+free_none apart (Apart at) free = absurd (false≢true free)
 
--- so are those from a place on
-pub decided_next : (entries : List Entry) (from at : ℕ) (d : Entry) → at < length entries → ((place : ℕ) → from ≤ place → place < at → IsSome (slot_of (slots_in entries) place)) → IsSome (slot_in (get_or entries at d))
-    → (place : ℕ) → from ≤ place → place < at + 1 → IsSome (slot_of (slots_in entries) place)
-decided_next entries from at d within before here place low on = elim (before_or at place on) [
-  | inl earlier ↦ before place low earlier
-  | inr same ↦ subst (λ (k : ℕ). IsSome (slot_of (slots_in entries) k)) (sym same) (subst (λ (s : Option Slot). IsSome s) (sym (get_or-map slot_in entries at d None within)) here)
-]
+slot_at : (apart : List Slot) (entries : List Entry) (place : ℕ) → place < length entries → slot_of (slots_in apart entries) place ≡ slot_in apart (get_or entries place Open)
+slot_at apart entries place within = get_or-map (slot_in apart) entries place Open None within
 
--- those before a place are decided, and so are those from it up to another
-pub decided_both : (entries : List Entry) (first end : ℕ) → ((place : ℕ) → place < first → IsSome (slot_of (slots_in entries) place))
-    → ((place : ℕ) → first ≤ place → place < end → IsSome (slot_of (slots_in entries) place)) → (place : ℕ) → place < end → IsSome (slot_of (slots_in entries) place)
-decided_both entries first end before there place on = elim (cases_lt place first) [
-  | inl earlier ↦ before place earlier
-  | inr later ↦ there place later on
-]
+-- an entry tells whether its gap is decided
+pub decided_at : (apart : List Slot) (entries : List Entry) (plan : List (Option Slot)) (place : ℕ) → plan ≡ slots_in apart entries → All (IsHeld apart) entries → place < length entries
+    → is_open (get_or entries place Open) ≡ false → IsSome (slot_of plan place)
+decided_at apart entries plan place view held within taken =
+    subst (λ (slot : Option Slot). IsSome slot) (sym (ap (λ (slots : List (Option Slot)). slot_of slots place) view ∙ slot_at apart entries place within))
+    (taken_some apart (get_or entries place Open) (All-get_or (IsHeld apart) entries place Open within held) taken)
+
+pub open_at : (apart : List Slot) (entries : List Entry) (plan : List (Option Slot)) (place : ℕ) → plan ≡ slots_in apart entries → place < length entries
+    → is_open (get_or entries place Open) ≡ true → slot_of plan place ≡ None
+open_at apart entries plan place view within free =
+    ap (λ (slots : List (Option Slot)). slot_of slots place) view ∙ (slot_at apart entries place within ∙ free_none apart (get_or entries place Open) free)
+
+pub long_as : (apart : List Slot) (entries : List Entry) (plan : List (Option Slot)) → plan ≡ slots_in apart entries → length plan ≡ length entries
+long_as apart entries plan view = ap (λ (slots : List (Option Slot)). length slots) view ∙ length-map entries (slot_in apart)
 
 -- what the entries from one up to another have is what the plan has there
-slots_between : (entries : List Entry) (first many place : ℕ) → place < many → slot_of (slots_in (take many (drop first entries))) place ≡ slot_of (slots_in entries) (first + place)
-slots_between entries first many place within =
-    ap (λ (slots : List (Option Slot)). slot_of slots place) (sym (take-map slot_in many (drop first entries)) ∙ ap (take many) (sym (drop-map slot_in first entries)))
-    ∙ (get_or-take many (drop first (slots_in entries)) place None within ∙ get_or-drop first (slots_in entries) place None)
+entry_between : (entries : List Entry) (first many place : ℕ) → place < many → get_or (take many (drop first entries)) place Open ≡ get_or entries (first + place) Open
+entry_between entries first many place within = get_or-take many (drop first entries) place Open within ∙ get_or-drop first entries place Open
 
-many_between : (entries : List Entry) (plan : List (Option Slot)) (first end : ℕ) → plan ≡ slots_in entries → end ≤ length plan → length (take (end - first) (drop first entries)) ≡ end - first
-many_between entries plan first end is fits =
-    let all : length plan ≡ length entries = ap (λ (slots : List (Option Slot)). length slots) is ∙ length-map entries slot_in in
+many_between : (entries : List Entry) (first end : ℕ) → end ≤ length entries → length (take (end - first) (drop first entries)) ≡ end - first
+many_between entries first end fits =
     let left : length (drop first entries) ≡ length entries - first = length-drop first entries in
-    length-take-le (end - first) (drop first entries) (omega (arith, fits, all, left))
+    length-take-le (end - first) (drop first entries) (omega (arith, fits, left))
 
-pub decided_between : (entries : List Entry) (plan : List (Option Slot)) (first end : ℕ) → plan ≡ slots_in entries → end ≤ length plan
-    → AreDecided (slots_in (take (end - first) (drop first entries))) 0 (length (take (end - first) (drop first entries))) → AreDecided plan first end
-decided_between entries plan first end is fits all place from within =
-    let many : length (take (end - first) (drop first entries)) ≡ end - first = many_between entries plan first end is fits in
+pub decided_between : (apart : List Slot) (entries : List Entry) (plan : List (Option Slot)) (first end : ℕ) → plan ≡ slots_in apart entries → All (IsHeld apart) entries → end ≤ length plan
+    → AreTaken (take (end - first) (drop first entries)) 0 (length (take (end - first) (drop first entries))) → AreDecided plan first end
+decided_between apart entries plan first end view held fits all place from within =
+    let long : length plan ≡ length entries = long_as apart entries plan view in
+    let many : length (take (end - first) (drop first entries)) ≡ end - first = many_between entries first end (omega (arith, fits, long)) in
     let behind : ℕ = place - first in
     let here : first + behind ≡ place = omega (arith, from) in
     let few : behind < end - first = omega (arith, from, within) in
-    let told : IsSome (slot_of (slots_in (take (end - first) (drop first entries))) behind) = all behind (omega arith) (omega (arith, few, many)) in
-    subst (λ (slots : List (Option Slot)). IsSome (slot_of slots place)) (sym is)
-    (subst (λ (k : ℕ). IsSome (slot_of (slots_in entries) k)) here (subst (λ (s : Option Slot). IsSome s) (slots_between entries first (end - first) behind few) told))
+    let told : is_open (get_or (take (end - first) (drop first entries)) behind Open) ≡ false = all behind (omega arith) (omega (arith, few, many)) in
+    decided_at apart entries plan place view held (omega (arith, within, fits, long))
+    (subst (λ (k : ℕ). is_open (get_or entries k Open) ≡ false) here (ap (λ (entry : Entry). is_open entry) (sym (entry_between entries first (end - first) behind few)) ∙ told))
 
-pub open_between : (entries : List Entry) (plan : List (Option Slot)) (first end : ℕ) → plan ≡ slots_in entries → end ≤ length plan
-    → IsSomeOpen (slots_in (take (end - first) (drop first entries))) 0 (length (take (end - first) (drop first entries))) → IsSomeOpen plan first end
-open_between entries plan first end is fits some =
-    let many : length (take (end - first) (drop first entries)) ≡ end - first = many_between entries plan first end is fits in
+pub open_between : (apart : List Slot) (entries : List Entry) (plan : List (Option Slot)) (first end : ℕ) → plan ≡ slots_in apart entries → end ≤ length plan
+    → IsSomeFree (take (end - first) (drop first entries)) 0 (length (take (end - first) (drop first entries))) → IsSomeOpen plan first end
+open_between apart entries plan first end view fits some =
+    let long : length plan ≡ length entries = long_as apart entries plan view in
+    let many : length (take (end - first) (drop first entries)) ≡ end - first = many_between entries first end (omega (arith, fits, long)) in
     let few : some.place < end - first = omega (arith, some.within, many) in record {
       place = first + some.place;
       from = omega arith;
       within = omega (arith, few);
-      open_gap = ap (λ (slots : List (Option Slot)). slot_of slots (first + some.place)) is ∙ (sym (slots_between entries first (end - first) some.place few) ∙ some.open_gap);
+      open_gap = open_at apart entries plan (first + some.place) view (omega (arith, few, fits, long))
+          (ap (λ (entry : Entry). is_open entry) (sym (entry_between entries first (end - first) some.place few)) ∙ some.free);
     }
+
+-- ## What an entry has is what the plan has
+
+-- what is told of an entry's decision, whatever stands apart, is that of the gap
+pub slot_is : (apart : List Slot) (entries : List Entry) (plan : List (Option Slot)) (place : ℕ) → plan ≡ slots_in apart entries → place < length plan → slot_of plan place ≡ slot_in apart (get_or entries place Open)
+slot_is apart entries plan place view within =
+    let long : length plan ≡ length entries = long_as apart entries plan view in
+    ap (λ (slots : List (Option Slot)). slot_of slots place) view ∙ slot_at apart entries place (omega (arith, within, long))
+
+-- the entry of an open gap is open
+told_open : (apart : List Slot) (entry : Entry) → IsHeld apart entry → is_some (slot_in apart entry) ≡ false → is_open entry ≡ true
+told_open apart Open held none = refl
+told_open apart (Old end) held none = absurd (true≢false none)
+told_open apart (Spaces count end) held none = absurd (true≢false none)
+told_open apart (Lines count level column) held none = absurd (true≢false none)
+told_open apart (Apart at) held none = absurd (true≢false (sym (ap (λ (slot : Option Slot). is_some slot) (slice_get-get_or apart at no_slot held)) ∙ none))
+
+pub is_free : (apart : List Slot) (entries : List Entry) (plan : List (Option Slot)) (place : ℕ) → plan ≡ slots_in apart entries → All (IsHeld apart) entries → is_some (slot_of plan place) ≡ false
+    → place < length plan → is_open (get_or entries place Open) ≡ true
+is_free apart entries plan place view held open_gap within =
+    let long : length plan ≡ length entries = long_as apart entries plan view in
+    told_open apart (get_or entries place Open) (All-get_or (IsHeld apart) entries place Open (omega (arith, within, long)) held)
+    (ap (λ (slot : Option Slot). is_some slot) (sym (slot_is apart entries plan place view within)) ∙ open_gap)
+
+some_open : (entries : List Entry) (place : ℕ) → place < length entries → is_open (get_or entries place Open) ≡ true → 0 < open_in entries
+some_open entries place within free = let less : suc (open_in (set entries place (Old 0))) ≡ open_in entries = open_less entries place (Old 0) within free refl in omega (arith, less)
+
+-- where a gap is open, fewer decisions stand apart than there are gaps
+pub some_free : (apart : List Slot) (entries : List Entry) (plan : List (Option Slot)) (place capacity : ℕ) → plan ≡ slots_in apart entries → FitApart apart capacity entries → is_some (slot_of plan place) ≡ false
+    → place < length plan → length apart < length entries
+some_free apart entries plan place capacity view fit open_gap within =
+    let long : length plan ≡ length entries = long_as apart entries plan view in
+    let some : 0 < open_in entries = some_open entries place (omega (arith, within, long)) (is_free apart entries plan place view fit.held open_gap within) in
+    omega (arith, some, fit.few)

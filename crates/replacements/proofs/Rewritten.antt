@@ -22,7 +22,7 @@ use Rattle.c_grammar.proofs.Rewritten.{HasMark, mark_of}
 use Rattle.touching.specs.Spelling.{spelling}
 use Rattle.touching.specs.TakingAway.{would_open}
 use Rattle.replacements.specs.FreeGaps.{IsTextGap, AreFreeBytes, FitBytes, TextBytes, NoBytes, LineBytes, FreeBehind, FreeText, RewritesFreeGaps}
-use Rattle.replacements.specs.OneLine.{IsKeptApart, would_name}
+use Rattle.replacements.specs.OneLine.{IsKeptApart}
 use Rattle.replacements.proofs.Places.{opens_parameters, IsLineGap, IsFreeGap}
 use Rattle.replacements.proofs.FreeGaps.{HaveFreeGaps, AreFree, keeps_free_items, keeps_parts}
 use Rattle.replacements.proofs.ReadItems.{IsRead, AreRead, are_read, touch_read, touch_together}

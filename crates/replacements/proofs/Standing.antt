@@ -1,5 +1,5 @@
 -- What its stance says of an item, and where it stands.
-use Rattle.std.proofs.Common.{◌≡◌, ◌∙◌, ℕ, zero, suc, ◌+◌, Bool, true, false, List, [], ◌∷◌, Some, None, Option, refl, sym, ap, subst, arith, drop, slice_get}
+use Rattle.std.proofs.Common.{◌≡◌, ◌∙◌, ℕ, zero, suc, ◌+◌, Bool, true, false, List, [], ◌∷◌, Some, refl, sym, ap, subst, arith, drop, slice_get}
 use Rattle.std.specs.Prelude.{if◌then◌else◌}
 use Rattle.c_chars.specs.Characters.{mark_len}
 use Rattle.c_chars.specs.declared.Dialect.{Dialect}
@@ -10,7 +10,7 @@ use Rattle.token_arena.specs.Stored.{Stored, stored_of, stored_from, stored_item
 use Rattle.token_arena.specs.Gaps.{Contents}
 use Rattle.token_arena.specs.Holds.{HoldsItems}
 use Rattle.token_arena.specs.Sections.{sections_of, sections_from, lines_of}
-use Rattle.replacements.specs.Places.{stands_at, behind_item, place_from, place_in}
+use Rattle.replacements.specs.Places.{stands_at, behind_item, place_from}
 use Rattle.replacements.specs.Stances.{stance_in}
 use Rattle.replacements.specs.declared.stance.Stance.{Stance}
 use Rattle.replacements.specs.declared.stance.Stance.TheVariants.{OfText, Leads, Within}

@@ -1,5 +1,5 @@
 -- Blanks that stand in the input, told by the first byte behind the item before them.
-use Rattle.std.proofs.Common.{◌≡◌, ◌∙◌, ◌<◌, ◌≤◌, ◌+◌, ◌-◌, ◌==◌, ◌⊎◌, ◌&&◌, inl, inr, ℕ, Bool, true, false, not, List, ◌∷◌, [], length, take, drop, get_or, refl, sym, ap, arith, eqb-true, map}
+use Rattle.std.proofs.Common.{◌≡◌, ◌∙◌, ◌<◌, ◌+◌, ◌-◌, ◌==◌, ◌⊎◌, ◌&&◌, inl, inr, ℕ, Bool, true, false, not, List, ◌∷◌, [], length, take, drop, get_or, refl, ap, arith, eqb-true, map}
 use Rattle.std.specs.Prelude.{if◌then◌else◌}
 use Rattle.std.specs.List.{range_with_len}
 use Rattle.std.proofs.lemmas.Bool.{and_right}

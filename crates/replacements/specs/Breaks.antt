@@ -1,5 +1,5 @@
 -- Whether a line ends in a decided gap. docs/PROFILE.md, "White space of a decision", says what a decision stands for.
-use Rattle.std.specs.Prelude.{ℕ, Bool, true, false, List, Option, Some, None, nat_lt, slice_get}
+use Rattle.std.specs.Prelude.{ℕ, Bool, true, false, Option, Some, None, nat_lt, slice_get}
 use Rattle.std.specs.List.{list_any}
 use Rattle.c_grammar.specs.Grammar.{is_new_line}
 use Rattle.c_grammar.specs.Rewritten.{read_alone}

@@ -1,18 +1,67 @@
 -- How a plan lies in memory.
-use Rattle.std.specs.Prelude.{Option, Some, None, List, map}
+use Rattle.std.specs.Prelude.{◌<◌, ◌≤◌, ◌+◌, ◌++◌, ◌^◌, ◌≡◌, ℕ, suc, Bool, true, false, Option, Some, None, List, [], ◌∷◌, All, get_or, length, map, slice_get}
 use Rattle.replacements.specs.declared.gap_text.Decision.TheVariants as decision
 use Rattle.replacements.specs.declared.slot.Slot.{Slot}
 use Rattle.replacements.specs.declared.entry.Entry.{Entry}
-use Rattle.replacements.specs.declared.entry.Entry.TheVariants.{Old, Spaces, Lines, Splice, Open}
+use Rattle.replacements.specs.declared.entry.Entry.TheVariants.{Open, Old, Spaces, Lines, Apart}
 
--- what an entry has for its gap: nothing where it is open
-abbrev pub slot_in : Entry → Option Slot
-slot_in (Old end) = Some (record { decision = decision.Old; end = end })
-slot_in (Spaces end count) = Some (record { decision = decision.Spaces count; end = end })
-slot_in (Lines end count column level) = Some (record { decision = decision.Lines count column level; end = end })
-slot_in (Splice end pad column) = Some (record { decision = decision.Splice pad column; end = end })
-slot_in Open = None
+-- what an entry has for its gap, where these decisions stand apart: nothing where it is open
+abbrev pub slot_in : List Slot → Entry → Option Slot
+slot_in apart Open = None
+slot_in apart (Old end) = Some (record { decision = decision.Old; end = end })
+slot_in apart (Spaces count end) = Some (record { decision = decision.Spaces count; end = end })
+slot_in apart (Lines count level column) = Some (record { decision = decision.Lines count column level; end = column })
+slot_in apart (Apart at) = slice_get apart at
 
 -- what entries have for their gaps
-abbrev pub slots_in : List Entry → List (Option Slot)
-slots_in entries = map slot_in entries
+abbrev pub slots_in : List Slot → List Entry → List (Option Slot)
+slots_in apart entries = map (slot_in apart) entries
+
+-- nothing is decided
+abbrev pub is_open : Entry → Bool
+is_open Open = true
+is_open (Old end) = false
+is_open (Spaces count end) = false
+is_open (Lines count level column) = false
+is_open (Apart at) = false
+
+-- the entries from one up to another are those of decided gaps
+abbrev pub AreTaken : List Entry → ℕ → ℕ → Type 0
+AreTaken entries first end = (place : ℕ) → first ≤ place → place < end → is_open (get_or entries place Open) ≡ false
+
+-- one of them is that of an open gap
+pub record IsSomeFree (entries : List Entry) (first end : ℕ) : Type 0 where
+  pub place : ℕ
+  pub from : first ≤ place
+  pub within : place < end
+  pub free : is_open (get_or entries place Open) ≡ true
+
+-- how many entries are those of open gaps
+abbrev pub open_in : List Entry → ℕ
+open_in [] = 0
+open_in (Open ∷ later) = suc (open_in later)
+open_in (Old end ∷ later) = open_in later
+open_in (Spaces count end ∷ later) = open_in later
+open_in (Lines count level column ∷ later) = open_in later
+open_in (Apart at ∷ later) = open_in later
+
+-- a decision that an entry says stands apart stands there
+abbrev pub IsHeld : List Slot → Entry → Type 0
+IsHeld apart Open = Unit
+IsHeld apart (Old end) = Unit
+IsHeld apart (Spaces count end) = Unit
+IsHeld apart (Lines count level column) = Unit
+IsHeld apart (Apart at) = at < length apart
+
+-- the decisions that stand apart are those of the entries, and there is room for those of all gaps that are open
+pub record FitApart (apart : List Slot) (capacity : ℕ) (entries : List Entry) : Type 0 where
+  pub held : All (IsHeld apart) entries
+  pub few : length apart + open_in entries ≤ length entries
+  pub room : length entries ≤ capacity
+  pub count : length entries < 2 ^ 32
+
+-- one decision more stands apart, or none
+pub record IsGrown (before after : List Slot) : Type 0 where
+  pub more : List Slot
+  pub grown : after ≡ before ++ more
+  pub few : length more ≤ 1

@@ -1,7 +1,8 @@
 //! How a plan lies in memory.
 
-ghost use Rattle.std.specs.Prelude.{◌≡◌, ◌↔◌, Some, IfSome, IsSome, IsTrue};
-ghost use Rattle.replacements.specs.Entries.{slot_in};
+ghost use Rattle.std.specs.Prelude.{◌≡◌, List, Some, IfSome, false, not};
+ghost use Rattle.replacements.specs.Entries.{IsHeld, is_open, slot_in};
+ghost use Rattle.replacements.specs.declared.slot.Slot.{Slot};
 ghost use Rattle.replacements.specs.Written.{decision_of};
 ghost use Rattle.replacements.specs.declared.gap_text.Decision.TheVariants.{Lines, Spaces};
 
@@ -20,124 +21,120 @@ pub(crate) struct LineGap {
 }
 
 /// What a plan has for a gap: that it is open, or the decision and the column at which the item behind the gap
-/// starts. It takes less room than an `Option<Slot>`.
+/// starts. It takes eight bytes, which is enough for most decisions; others stand apart.
 #[derive(Clone, Copy)]
 pub(crate) enum Entry {
+    /// Nothing is decided.
+    Open,
     /// The input's bytes stay.
     Old {
-        /// The column of the next item. It comes first in each variant, so that all have it at one place.
+        /// The column of the next item.
         end: u32,
     },
     /// Blanks.
     Spaces {
+        /// How many.
+        count: u16,
         /// The column of the next item.
         end: u32,
-        /// How many.
-        count: u32,
     },
     /// Line ends and indentation.
     Lines {
-        /// The column of the next item.
-        end: u32,
         /// How many line ends.
-        count: u32,
-        /// The column up to which the indentation goes.
-        column: u32,
+        count: u8,
         /// The level of the line that begins there.
-        level: u32,
-    },
-    /// A backslash at the end of a line, and the next line's indentation.
-    Splice {
-        /// The column of the next item.
-        end: u32,
-        /// How many blanks stand before the backslash.
-        pad: u32,
-        /// The column up to which the indentation goes.
+        level: u16,
+        /// The column up to which the indentation goes, and that of the next item.
         column: u32,
     },
-    /// Nothing is decided.
-    Open,
+    /// Another decision.
+    Apart {
+        /// Its place among the decisions that stand apart.
+        at: u32,
+    },
 }
 
-const _: () = prove!(size_of::<Entry>() <= 20);
+const _: () = prove!(size_of::<Entry>() <= 8);
 
 impl Entry {
-    /// The entry of a gap that is decided so.
+    /// The entry of a gap that is decided so, where it has room for that.
     #[inline(always)]
-    pub(crate) fn of(slot: Slot) -> Entry
-        ensures { slot_in result ≡ Some slot }
+    pub(crate) fn of(slot: Slot) -> Option<Entry>
+        ensures room { IfSome result (λ entry. (apart : List Slot) → slot_in apart entry ≡ Some slot) }
+        ensures held { IfSome result (λ entry. (apart : List Slot) → IsHeld apart entry) }
+        ensures decided { IfSome result (λ entry. is_open entry ≡ false) }
     {
         let end = slot.end;
         match slot.decision {
-            Decision::Old => Entry::Old { end },
-            Decision::Spaces(count) => Entry::Spaces { end, count },
+            Decision::Old => Some(Entry::Old { end }),
+            Decision::Spaces(count) => Some(Entry::Spaces {
+                count: u16::try_from(count).ok()?,
+                end,
+            }),
             Decision::Lines {
                 count,
                 column,
                 level,
-            } => Entry::Lines {
-                end,
-                count,
+            } if column == end => Some(Entry::Lines {
+                count: u8::try_from(count).ok()?,
+                level: u16::try_from(level).ok()?,
                 column,
-                level,
-            },
-            Decision::Splice { pad, column } => Entry::Splice { end, pad, column },
-        }
-    }
-
-    /// What is decided.
-    #[inline(always)]
-    pub(crate) fn slot(self) -> Option<Slot>
-        ensures { result ≡ slot_in self }
-    {
-        let (decision, end) = match self {
-            Entry::Old { end } => (Decision::Old, end),
-            Entry::Spaces { end, count } => (Decision::Spaces(count), end),
-            Entry::Lines {
-                end,
-                count,
-                column,
-                level,
-            } => (
-                Decision::Lines {
-                    count,
-                    column,
-                    level,
-                },
-                end,
-            ),
-            Entry::Splice { end, pad, column } => (Decision::Splice { pad, column }, end),
-            Entry::Open => return None,
-        };
-        Some(Slot { decision, end })
-    }
-
-    /// How many blanks are decided, where it is blanks.
-    #[inline(always)]
-    pub(crate) fn blanks(self) -> Option<u32>
-        ensures { IfSome result (λ count. decision_of (slot_in self) ≡ Spaces count) }
-    {
-        match self {
-            Entry::Spaces { count, .. } => Some(count),
+            }),
             _ => None,
         }
     }
 
-    /// The line ends and the indentation that are decided, where it is lines.
+    /// What is decided, where these decisions stand apart.
+    #[inline(always)]
+    pub(crate) fn slot(self, apart: &[Slot]) -> Option<Slot>
+        ensures { result ≡ slot_in apart.now self }
+    {
+        let (decision, end) = match self {
+            Entry::Open => return None,
+            Entry::Old { end } => (Decision::Old, end),
+            Entry::Spaces { count, end } => (Decision::Spaces(u32::from(count)), end),
+            Entry::Lines {
+                count,
+                level,
+                column,
+            } => (
+                Decision::Lines {
+                    count: u32::from(count),
+                    column,
+                    level: u32::from(level),
+                },
+                column,
+            ),
+            Entry::Apart { at } => return apart.get(at as usize).copied(),
+        };
+        Some(Slot { decision, end })
+    }
+
+    /// How many blanks are decided, where the entry has that.
+    #[inline(always)]
+    pub(crate) fn blanks(self) -> Option<u32>
+        ensures { (apart : List Slot) → IfSome result (λ count. decision_of (slot_in apart self) ≡ Spaces count) }
+    {
+        match self {
+            Entry::Spaces { count, .. } => Some(u32::from(count)),
+            _ => None,
+        }
+    }
+
+    /// The line ends and the indentation that are decided, where the entry has them.
     #[inline(always)]
     pub(crate) fn lines(self) -> Option<LineGap>
-        ensures { IfSome result (λ gap. decision_of (slot_in self) ≡ Lines gap.count gap.column gap.level) }
+        ensures { (apart : List Slot) → IfSome result (λ gap. decision_of (slot_in apart self) ≡ Lines gap.count gap.column gap.level) }
     {
         match self {
             Entry::Lines {
                 count,
-                column,
                 level,
-                ..
+                column,
             } => Some(LineGap {
-                count,
+                count: u32::from(count),
                 column,
-                level,
+                level: u32::from(level),
             }),
             _ => None,
         }
@@ -146,14 +143,8 @@ impl Entry {
     /// Whether something is decided.
     #[inline(always)]
     pub(crate) fn is_decided(self) -> bool
-        ensures { IsTrue result ↔ IsSome (slot_in self) }
+        ensures { result ≡ not (is_open self) }
     {
-        match self {
-            Entry::Old { .. } => true,
-            Entry::Spaces { .. } => true,
-            Entry::Lines { .. } => true,
-            Entry::Splice { .. } => true,
-            Entry::Open => false,
-        }
+        !matches!(self, Entry::Open)
     }
 }

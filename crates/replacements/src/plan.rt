@@ -1,6 +1,7 @@
 //! The decisions for the gaps of a text.
 
-ghost use Rattle.std.specs.Prelude.{◌≡◌, ◌<◌, ◌≤◌, ◌+◌, ◌↔◌, ℕ, None, length, replicate, IfOk, IfSome, IsSome, IsTrue};
+ghost use Rattle.std.specs.Prelude.{◌≡◌, ◌<◌, ◌≤◌, ◌+◌, ◌^◌, ◌++◌, ◌∷◌, ◌↔◌, [], Some, None, false, length, replicate, vec_capacity};
+ghost use Rattle.std.specs.Prelude.{IfOk, IfSome, IsSome, IsTrue};
 ghost use Rattle.replacements.specs.declared.gap_text.Decision.TheVariants.{Lines, Spaces};
 ghost use Rattle.replacements.specs.Written.{decision_at};
 ghost use Rattle.std.specs.Bool.{OnFalse, OnTrue};
@@ -8,7 +9,8 @@ ghost use Rattle.c_chars.specs.declared.TheConstants.{LIMIT};
 ghost use Rattle.replacements.specs.declared.slot.Decided.TheVariants as Decided;
 ghost use Rattle.replacements.specs.Decisions.{AreDecided, IsSomeOpen, decided, slot_of};
 ghost use Rattle.replacements.specs.Breaks.{fixed_by, has_line_end, has_new_line_at};
-ghost use Rattle.replacements.specs.Entries.{slots_in};
+ghost use Rattle.replacements.specs.Entries.{AreTaken, IsGrown, IsHeld, IsSomeFree, is_open, slot_in};
+ghost use Rattle.replacements.specs.declared.entry.Entry.TheVariants.{Apart};
 
 use crate::Decision;
 use crate::entry::{Entry, LineGap};
@@ -40,7 +42,7 @@ fn ends_line(arena: &TokenArena<'_, '_>, place: u32, decision: Decision) -> bool
 #[inline(always)]
 fn are_eight_decided(entries: &[Entry], first: usize) -> bool
     requires { first + 8 ≤ length entries.now }
-    ensures { IsTrue result → (place : ℕ) → first ≤ place → place < first + 8 → IsSome (slot_of (slots_in entries.now) place) }
+    ensures { IsTrue result → AreTaken entries.now first (first + 8) }
 {
     for at in first..first + 8 {
         if !entries[at].is_decided() {
@@ -54,7 +56,7 @@ fn are_eight_decided(entries: &[Entry], first: usize) -> bool
 #[inline(always)]
 fn decided_front(entries: &[Entry]) -> usize
     ensures within { result ≤ length entries.now }
-    ensures decided { (place : ℕ) → place < result → IsSome (slot_of (slots_in entries.now) place) }
+    ensures decided { AreTaken entries.now 0 result }
 {
     let mut first = 0;
     while first + 8 <= entries.len() {
@@ -69,8 +71,8 @@ fn decided_front(entries: &[Entry]) -> usize
 /// Whether each of these entries is that of a decided gap.
 #[inline(always)]
 fn all_decided(entries: &[Entry]) -> bool
-    ensures yes { OnTrue result (AreDecided (slots_in entries.now) 0 (length entries.now)) }
-    ensures no { OnFalse result (IsSomeOpen (slots_in entries.now) 0 (length entries.now)) }
+    ensures yes { OnTrue result (AreTaken entries.now 0 (length entries.now)) }
+    ensures no { OnFalse result (IsSomeFree entries.now 0 (length entries.now)) }
 {
     for at in decided_front(entries)..entries.len() {
         if !entries[at].is_decided() {
@@ -80,21 +82,57 @@ fn all_decided(entries: &[Entry]) -> bool
     true
 }
 
+/// The entry of a decision that stands apart from now on. Few do.
+#[inline(never)]
+fn set_apart(apart: &mut Vec<Slot, &Bump>, slot: Slot) -> Entry
+    requires few { length apart.old.items < 2 ^ 32 }
+    requires room { length apart.old.items < vec_capacity apart.old }
+    ensures room { vec_capacity apart.new ≡ vec_capacity apart.old }
+    ensures apart { apart.new.items ≡ apart.old.items ++ slot ∷ [] }
+    ensures entry { result ≡ Apart (length apart.old.items) }
+{
+    let at = apart.len() as u32;
+    apart.push_reserved(slot);
+    Entry::Apart { at }
+}
+
+/// The entry of a decision, which stands apart if the entry has no room for it.
+#[inline(always)]
+fn entry_of(slot: Slot, apart: &mut Vec<Slot, &Bump>) -> Entry
+    requires few { length apart.old.items < 2 ^ 32 }
+    requires room { length apart.old.items < vec_capacity apart.old }
+    ensures room { vec_capacity apart.new ≡ vec_capacity apart.old }
+    ensures grown { IsGrown apart.old.items apart.new.items }
+    ensures held { IsHeld apart.new.items result }
+    ensures slot { slot_in apart.new.items result ≡ Some slot }
+    ensures decided { is_open result ≡ false }
+{
+    match Entry::of(slot) {
+        Some(entry) => entry,
+        None => set_apart(apart, slot),
+    }
+}
+
 /// What is decided for the gaps of a text, and so far nothing for some. A contract sees the list of what is
 /// decided: one place for the gap before each item, and one for the last gap.
 #[derive(Drop)]
 pub struct Plan<'a> {
     entries: &'a mut [Entry],
+    /// The decisions that no entry has room for, in the order in which they were made.
+    apart: Vec<Slot, &'a Bump>,
 }
 
 impl<'a> Model for Plan<'a> {
     ghost use Rattle.std.specs.Prelude.{List, Option};
     ghost use Rattle.replacements.specs.declared.slot.Slot.{Slot};
-    ghost use Rattle.replacements.specs.Entries.{slots_in};
+    ghost use Rattle.std.specs.Prelude.{vec_capacity};
+    ghost use Rattle.replacements.specs.Entries.{FitApart, slots_in};
 
     ghost Value = { List (Option Slot) };
 
-    ghost view = { λ p. slots_in p.entries.now };
+    ghost view = { λ p. slots_in p.apart.items p.entries.now };
+
+    ghost invariant = { λ p. FitApart p.apart.items (vec_capacity p.apart) p.entries.now };
 }
 
 impl<'a> Plan<'a> {
@@ -103,9 +141,11 @@ impl<'a> Plan<'a> {
         ensures { IfOk result (λ plan. plan ≡ replicate (length arena.now.tokens + 1) None) }
     {
         let places = arena.len() + 1;
+        let apart = Vec::with_capacity(bump, places as usize)?;
         let entries = vec![in bump; Entry::Open; places as usize]?;
         Ok(Plan {
             entries: into_bump_slice_mut(entries),
+            apart,
         })
     }
 
@@ -120,7 +160,8 @@ impl<'a> Plan<'a> {
         if self.is_decided(place) {
             return Decided::Kept;
         }
-        self.entries[place as usize] = Entry::of(Slot { decision, end });
+        let entry = entry_of(Slot { decision, end }, &mut self.apart);
+        self.entries[place as usize] = entry;
         Decided::New
     }
 
@@ -173,7 +214,7 @@ impl<'a> Plan<'a> {
         ensures { result ≡ slot_of self.now place }
     {
         let entries = &*self.entries;
-        entries[place as usize].slot()
+        entries[place as usize].slot(&self.apart)
     }
 
     /// Where the item behind a decided gap starts, and whether a line ends in the gap. The plan is of this arena's

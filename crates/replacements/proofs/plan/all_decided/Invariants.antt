@@ -1,8 +1,5 @@
-use Rattle.std.proofs.Common.{ℕ, ◌<◌}
-use Rattle.std.specs.Prelude.{IsSome}
-use Rattle.replacements.specs.Decisions.{slot_of}
-use Rattle.replacements.specs.Entries.{slots_in}
+use Rattle.replacements.specs.Entries.{AreTaken}
 use Rattle.replacements.proofs.plan.all_decided.Given as goal
 
 abbrev pub invariant-loop-at : goal.invariant-loop-at
-invariant-loop-at l = (place : ℕ) → place < l.at → IsSome (slot_of (slots_in l.entries) place)
+invariant-loop-at l = AreTaken l.entries 0 l.at

@@ -1,7 +1,4 @@
-use Rattle.std.proofs.Common.{◌∙◌, ap, arith}
-use Rattle.std.specs.List.{list_any}
-use Rattle.c_grammar.specs.Grammar.{is_new_line}
-use Rattle.c_grammar.specs.Rewritten.{read_alone}
+use Rattle.std.proofs.Common.{arith}
 use Rattle.replacements.proofs.Gaps.{gap_fits, last_gap}
 use Rattle.replacements.proofs.reading.has_new_line_at.Goals as goal
 

@@ -1,13 +1,10 @@
-use Rattle.std.proofs.Common.{◌≡◌, ◌<◌, ◌+◌, ◌-◌, ◌∙◌, ◌⊎◌, eqb-true, inl, inr, ℕ, Bool, true, false, length, get_or, ap, refl, sym, arith}
-use Rattle.std.specs.Prelude.{◌==◌}
+use Rattle.std.proofs.Common.{◌≡◌, ◌<◌, ◌+◌, ◌-◌, ◌∙◌, ◌⊎◌, eqb-true, inl, inr, Bool, true, false, length, get_or, ap, refl, sym, arith}
 use Rattle.style_table.specs.declared.style.Style.{Style}
 use Rattle.c_grammar.specs.Fitting.{is_comment}
 use Rattle.token_arena.specs.Entries.{told_by}
 use Rattle.replacements.specs.declared.gap_text.Decision.TheVariants.{Spaces}
-use Rattle.replacements.specs.GapText.{blanks}
 use Rattle.replacements.specs.Same.{IsSame, standing}
 use Rattle.replacements.specs.Stances.{may_begin_hash}
-use Rattle.replacements.specs.Written.{bytes_between}
 use Rattle.replacements.proofs.SameGaps.{same_blank, same_blanks}
 use Rattle.replacements.proofs.StandingBlanks.{one_or_none, comes_none, spells_none, one_between}
 use Rattle.replacements.proofs.same.are_same_blanks.Goals as goal

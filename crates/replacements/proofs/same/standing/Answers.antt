@@ -1,4 +1,4 @@
-use Rattle.std.proofs.Common.{◌∙◌, arith}
+use Rattle.std.proofs.Common.{arith}
 use Rattle.replacements.proofs.StandingBlanks.{standing_told}
 use Rattle.replacements.proofs.same.standing.Goals as goal
 
