@@ -76,7 +76,7 @@ step arena begins ids walk next bodies waiting after id class below one at class
 
 -- behind the quiet tokens of a group, so many
 quiet_group : (arena : Contents) (begins : Option Place) (ids : List ℕ) (walk : Walk) (bodies : List Head) (waiting : List Opener) (id n : ℕ) → around_of bodies waiting ≡ around.Group → is_left bodies waiting ≡ false → walk.place + n ≤ length ids
-    → ((k : ℕ) → k < n → get_or ids (walk.place + k) 0 ≡ id + k) → ((k : ℕ) → k < n → is_quiet around.Group (item_class arena (id + k)) ≡ true)
+    → ((k : ℕ) → k < n → get_or ids (walk.place + k) 0 ≡ id + k) → ((k : ℕ) → k < n → is_quiet around.Group false (item_class arena (id + k)) ≡ true)
     → Passes arena begins ids walk bodies waiting → Passes arena begins ids (record walk { place = walk.place + n }) bodies waiting
 quiet_group arena begins ids walk bodies waiting id zero here stays within row quiet on =
     let e : walk.place ≡ walk.place + 0 = omega arith in
@@ -86,11 +86,11 @@ quiet_group arena begins ids walk bodies waiting id (suc n) here stays within ro
     let never = ap (λ (a : Around). may_end walk a id) here in
     subst (λ k. Passes arena begins ids (record walk { place = k }) bodies waiting) e
     (quiet_row arena begins ids walk (record walk { place = walk.place + n + 1 }) bodies waiting around.Group id n (item_class arena (id + n)) (sym here) stays never (λ body. cc)
-    (λ k below. (omega (arith, below, within), ap (λ j. is_quiet around.Group (item_class arena j)) (row k (omega (arith, below))) ∙ quiet k (omega (arith, below))))
+    (λ k below. (omega (arith, below, within), ap (λ j. is_quiet around.Group false (item_class arena j)) (row k (omega (arith, below))) ∙ quiet k (omega (arith, below))))
     (λ k low. row k (omega (arith, low))) refl refl on)
 
 group_row : (arena : Contents) (begins : Option Place) (ids : List ℕ) (walk next : Walk) (bodies : List Head) (waiting : List Opener) (id len : ℕ) (opener closer : TokenClass) → walk.place + len < length ids
-    → ((k : ℕ) → k ≤ len → get_or ids (walk.place + k) 0 ≡ id + k) → 0 < len → ((k : ℕ) → 0 < k → k < len → is_quiet around.Group (item_class arena (id + k)) ≡ true)
+    → ((k : ℕ) → k ≤ len → get_or ids (walk.place + k) 0 ≡ id + k) → 0 < len → ((k : ℕ) → 0 < k → k < len → is_quiet around.Group false (item_class arena (id + k)) ≡ true)
     → opener ≡ item_class arena id → closer ≡ item_class arena (id + len) → IsGroup opener closer → next.place ≡ walk.place + 1 → GoesOn next ≡ reading arena walk (around_of bodies waiting) id opener → is_left bodies waiting ≡ false
     → Passes arena begins ids walk bodies waiting → Passes arena begins ids (group_passed next (walk.place + 1 + len) (id + len) closer) bodies waiting
 group_row arena begins ids walk next bodies waiting id len opener closer within row some quiet opener_is closer_is is one reads_so stays on =
@@ -101,7 +101,7 @@ group_row arena begins ids walk next bodies waiting id len opener closer within 
     let opened = step arena begins ids walk next bodies waiting (inner ∷ waiting) id opener (omega (arith, within)) one at opener_is reads_so is.flat (sym (is.grows walk.place waiting)) still on in
     let quiet_on = quiet_group arena begins ids next bodies (inner ∷ waiting) (id + 1) (len - 1) here still (omega (arith, within, one))
     (λ k below. ap (λ j. get_or ids j 0) (omega (arith, one)) ∙ (row (k + 1) (omega (arith, below)) ∙ omega arith))
-    (λ k below. ap (λ j. is_quiet around.Group (item_class arena j)) (omega arith) ∙ quiet (k + 1) (omega arith) (omega (arith, below))) opened in
+    (λ k below. ap (λ j. is_quiet around.Group false (item_class arena j)) (omega arith) ∙ quiet (k + 1) (omega arith) (omega (arith, below))) opened in
     let before : Walk = record next { place = next.place + (len - 1) } in
     let after = group_passed next (walk.place + 1 + len) (id + len) closer in
     let last : next.place + (len - 1) ≡ walk.place + len = omega (arith, one, some) in
@@ -115,7 +115,7 @@ group_row arena begins ids walk next bodies waiting id len opener closer within 
 pub read_group : (arena : Contents) (begins : Option Place) (view : List ℕ) (first : ℕ) (walk next after : Walk) (bodies : List Head) (waiting : List Opener) (braces : ℕ) (read : Reading) (all : List TokenClass) (id len : ℕ) (opener closer d : TokenClass)
     → Increase view → first + walk.place + len < length view → ((k : ℕ) → k ≤ len → get_or (drop first view) (walk.place + k) 0 ≡ id + k) → id + len < length arena.tokens → all ≡ item_classes arena
     → IsNext arena (drop first view) walk bodies waiting read id opener → read ≡ GoesOn next → 0 < len → closes_group opener closer ≡ true → closer ≡ get_or all (id + len) d
-    → ((k : ℕ) → (d : TokenClass) → 0 < k → k < len → is_quiet around.Group (get_or all (id + k) d) ≡ true) → after ≡ group_passed next (walk.place + 1 + len) (id + len) closer
+    → ((k : ℕ) → (d : TokenClass) → 0 < k → k < len → is_quiet around.Group false (get_or all (id + k) d) ≡ true) → after ≡ group_passed next (walk.place + 1 + len) (id + len) closer
     → IsRead arena begins view first walk bodies waiting braces → IsRead arena begins view first after bodies waiting braces
 read_group arena begins view first walk next after bodies waiting braces read all id len opener closer d increase within row stored all_is item goes some closes closer_is quiet is was =
     let ids = drop first view in
@@ -125,8 +125,8 @@ read_group arena begins view first walk next after bodies waiting braces read al
     let reads_so : GoesOn next ≡ reading arena walk (around_of bodies waiting) id opener =
     sym goes ∙ (item.read_is ∙ (ap (λ n. reading arena walk (around_of bodies waiting) n (item_class arena number)) (sym item.id_is) ∙ ap (λ (c : TokenClass). reading arena walk (around_of bodies waiting) id c) (sym item.class_is))) in
     let told : closer ≡ item_class arena (id + len) = closer_is ∙ class_told arena all (id + len) d all_is stored in
-    let silent : (k : ℕ) → 0 < k → k < len → is_quiet around.Group (item_class arena (id + k)) ≡ true =
-    λ k after_it before. ap (λ (c : TokenClass). is_quiet around.Group c) (sym (class_told arena all (id + k) opener all_is (omega (arith, before, stored)))) ∙ quiet k opener after_it before in
+    let silent : (k : ℕ) → 0 < k → k < len → is_quiet around.Group false (item_class arena (id + k)) ≡ true =
+    λ k after_it before. ap (λ (c : TokenClass). is_quiet around.Group false c) (sym (class_told arena all (id + k) opener all_is (omega (arith, before, stored)))) ∙ quiet k opener after_it before in
     let on = group_row arena begins ids walk next bodies waiting id len opener closer (omega (arith, within, length-drop first view)) row some silent opener_is told (group_of opener closer closes) one reads_so (none_left bodies waiting was.holds) was.on in
     read_quiet arena begins view first len walk after bodies waiting braces increase (ap (λ (w : Walk). w.place) is ∙ omega arith)
     (subst (λ (w : Walk). Passes arena begins ids w bodies waiting) (sym is) on) was

@@ -16,3 +16,4 @@ pub mod Laid
 pub mod BodiesPassed
 pub mod BodyRows
 pub mod GroupsPassed
+pub mod QuietPassed

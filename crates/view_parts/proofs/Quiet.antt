@@ -1,14 +1,13 @@
 -- Tokens in a row that tell nothing.
-use Rattle.std.proofs.Common.{◌≡◌, ◌∙◌, ◌⊎◌, inl, inr, ℕ, zero, suc, ◌+◌, ◌-◌, ◌<◌, ◌≤◌, Bool, true, false, ◌==◌, nat_le, nat_lt, not, ◌&&◌, ◌||◌, Option, Some, None, List, [], length, drop, get_or, refl, sym, ap, subst, arith}
+use Rattle.std.proofs.Common.{◌≡◌, ◌∙◌, ℕ, zero, suc, ◌+◌, ◌-◌, ◌<◌, ◌≤◌, Bool, true, false, ◌==◌, nat_le, nat_lt, not, ◌&&◌, ◌||◌, Option, Some, None, List, [], length, get_or, refl, sym, ap, subst, arith}
 use Rattle.std.specs.Prelude.{if◌then◌else◌}
 use Rattle.std.proofs.lemmas.Bool.Decides.{nat_tests}
-use Rattle.std.proofs.lemmas.List.{get_or-drop, length-drop}
+use Rattle.std.proofs.Math.Bool.{and-true}
 use Rattle.token_arena.specs.Gaps.{Contents}
 use Rattle.token_classes.specs.declared.class.TokenClass.{TokenClass}
 use Rattle.token_classes.specs.declared.class.TokenClass.TheVariants.{OpenRound, CloseRound, OpenSquare, CloseSquare, OpenBrace, CloseBrace, Else}
 use Rattle.token_classes.specs.Classes.{is_bracket, is_call_word, is_comment, is_control, is_else, is_open_brace, is_open_round, is_semicolon, is_word}
-use Rattle.token_classes.specs.Viewed.{AreWithin, item_class, item_classes}
-use Rattle.token_classes.proofs.ItemClasses.{class_at}
+use Rattle.token_classes.specs.Viewed.{item_class}
 use Rattle.token_classes.specs.declared.pairing.Opener.{Opener}
 use Rattle.token_classes.specs.Partners.{Matching}
 use Rattle.token_classes.proofs.BracketLemmas.{other_step}
@@ -22,7 +21,7 @@ use Rattle.view_parts.specs.declared.walk.LastToken.{LastToken}
 use Rattle.view_parts.specs.declared.walk.Walk.{Walk}
 use Rattle.view_parts.specs.Places.{Place}
 use Rattle.view_parts.specs.Reading.{Reading, GoesOn}
-use Rattle.view_parts.specs.Steps.{is_group, is_quiet, is_telling, may_end, passed, tells_end}
+use Rattle.view_parts.specs.Steps.{is_group, is_held, is_quiet, is_telling, may_end, passed, tells_end}
 use Rattle.view_parts.specs.Walk.{begins_behind, begins_block, begun_before, body_kind, end_in_body, ends_apart, ends_in_row, ends_inside_or, goes_on_with, head_of_kind, headed_by, heads_len, heads_structure, in_body, in_group, is_apart, is_body, is_label, is_leading, is_record, kept_begun, next_begun, next_last, opened_head, parts_statements, past_bracket, past_comment, reading}
 use Rattle.view_parts.specs.Parts.{around_of, bodies_behind, is_left, left_innermost, waiting_behind, walk_behind, without_innermost}
 use Rattle.view_parts.proofs.Walked.{Passes, goes_on}
@@ -49,13 +48,14 @@ quiet_waits class place waiting is =
 
 -- ## Their classes
 
--- a token of a body that tells nothing
-record IsPlain (class : TokenClass) : Type 0 where
+-- a token of a body that tells nothing, where a label holds the part's end or none does
+record IsPlain (held : Bool) (class : TokenClass) : Type 0 where
   label : is_label class ≡ false
   control : is_control class ≡ false
   record_word : is_record class ≡ false
   round : is_open_round class ≡ false
   brace : is_open_brace class ≡ false
+  ends : held && is_semicolon class ≡ false
 
 no_round : (class : TokenClass) → is_bracket class ≡ false → is_open_round class ≡ false
 no_round OpenRound never = cc
@@ -65,14 +65,17 @@ no_brace : (class : TokenClass) → is_bracket class ≡ false → is_open_brace
 no_brace OpenBrace never = cc
 no_brace _ never = refl
 
-plain_of : (class : TokenClass) → is_bracket class ≡ false → not (is_telling class) ≡ true → IsPlain class
-plain_of class flat quiet = (let none = none_told (is_label class) (is_control class) (is_record class) quiet in record { label = none.0; control = none.1; record_word = none.2; round = no_round class flat; brace = no_brace class flat })
+plain_of : (held : Bool) (class : TokenClass) → is_bracket class ≡ false → not (is_telling held class) ≡ true → IsPlain held class
+plain_of held class flat quiet =
+    let none = none_told (is_label class) (is_control class) (is_record class) (held && is_semicolon class) quiet in
+    record { label = none.0; control = none.1; record_word = none.2; round = no_round class flat; brace = no_brace class flat; ends = none.3 }
   where
-    none_told : (label control word : Bool) → not (label || control || word) ≡ true → (label ≡ false) × (control ≡ false) × (word ≡ false)
-    none_told false false false e = (refl, refl, refl)
-    none_told true control word e = cc
-    none_told false true word e = cc
-    none_told false false true e = cc
+    none_told : (label control word ends : Bool) → not (label || control || word || ends) ≡ true → (label ≡ false) × (control ≡ false) × (word ≡ false) × (ends ≡ false)
+    none_told false false false false e = (refl, refl, refl, refl)
+    none_told true control word ends e = cc
+    none_told false true word ends e = cc
+    none_told false false true ends e = cc
+    none_told false false false true e = cc
 
 -- ## In a body
 
@@ -80,32 +83,30 @@ plain_of class flat quiet = (let none = none_told (is_label class) (is_control c
 record IsHeld (walk : Walk) (id : ℕ) : Type 0 where
   row : not (id == walk.behind) ≡ false
   apart : walk.last.apart ≡ false
-  held : nat_lt 0 walk.last.held ≡ false
   low : nat_le 512 walk.place ≡ false
   structure : walk.last.structure ≡ false
 
 held_of : (walk : Walk) (id : ℕ) → tells_end walk id ≡ false → IsHeld walk id
 held_of walk id never =
-    let all = all_false (not (id == walk.behind)) walk.last.apart (nat_lt 0 walk.last.held) (nat_le 512 walk.place) walk.last.structure never in
-    record { row = all.0; apart = all.1; held = all.2; low = all.3; structure = all.4 }
+    let all = all_false (not (id == walk.behind)) walk.last.apart (nat_le 512 walk.place) walk.last.structure never in
+    record { row = all.0; apart = all.1; low = all.2; structure = all.3 }
   where
-    all_false : (a b c d e : Bool) → a || b || c || d || e ≡ false → (a ≡ false) × (b ≡ false) × (c ≡ false) × (d ≡ false) × (e ≡ false)
-    all_false false false false false false is = (refl, refl, refl, refl, refl)
-    all_false true b c d e is = cc
-    all_false false true c d e is = cc
-    all_false false false true d e is = cc
-    all_false false false false true e is = cc
-    all_false false false false false true is = cc
+    all_false : (a b c d : Bool) → a || b || c || d ≡ false → (a ≡ false) × (b ≡ false) × (c ≡ false) × (d ≡ false)
+    all_false false false false false is = (refl, refl, refl, refl)
+    all_false true b c d is = cc
+    all_false false true c d is = cc
+    all_false false false true d is = cc
+    all_false false false false true is = cc
 
-none_false : (a b c d e : Bool) → a ≡ false → b ≡ false → c ≡ false → d ≡ false → e ≡ false → a || b || c || d || e ≡ false
-none_false a b c d e f g h i j = cc
+none_false : (a b c d : Bool) → a ≡ false → b ≡ false → c ≡ false → d ≡ false → a || b || c || d ≡ false
+none_false a b c d e f g h = cc
 
 -- `else` is the word of a control statement
 no_else : (class : TokenClass) → is_control class ≡ false → is_else class ≡ false
 no_else Else e = cc
 no_else _ e = refl
 
-quiet_begun : (walk : Walk) (id : ℕ) (class : TokenClass) → IsPlain class → walk.begun ≡ next_begun walk id class
+quiet_begun : (walk : Walk) (id : ℕ) (class : TokenClass) → IsPlain (is_held walk) class → walk.begun ≡ next_begun walk id class
 quiet_begun walk id class plain = by_begins (begins_behind walk.last) (is_leading class) leads_none
   where
     by_word : (control other word brace : Bool) → control ≡ false → word ≡ false → brace ≡ false → ((control && not other) || (word || brace)) ≡ false
@@ -132,7 +133,7 @@ quiet_begun walk id class plain = by_begins (begins_behind walk.last) (is_leadin
     by_begins true false e = kept walk.begun
     by_begins false leads e = kept walk.begun
 
-quiet_last : (walk : Walk) (id : ℕ) (class : TokenClass) → IsPlain class → IsHeld walk id → record walk.last { class = class; id = id } ≡ next_last walk.place walk.last id class
+quiet_last : (walk : Walk) (id : ℕ) (class : TokenClass) → IsPlain (is_held walk) class → IsHeld walk id → record walk.last { class = class; id = id } ≡ next_last walk.place walk.last id class
 quiet_last walk id class plain is =
     let last = walk.last in
     ap (λ b. made b last.commented last.headed last.block last.structure last.held) is.apart
@@ -142,7 +143,7 @@ quiet_last walk id class plain is =
     ∙ (ap (λ (o : Bool). made false (last.commented && not (nat_le 512 walk.place && begins_behind last)) (if is_open_round class then headed_by last.class else last.headed)
     (if is_open_brace class then (if begins_block last then Some id else None) else last.block) o last.held) (structure (is_record class) (is_word class || (is_open_round class && is_call_word last.class)) last.structure is.structure plain.record_word)
     ∙ ap (λ n. made false (last.commented && not (nat_le 512 walk.place && begins_behind last)) (if is_open_round class then headed_by last.class else last.headed)
-    (if is_open_brace class then (if begins_block last then Some id else None) else last.block) (heads_structure last class) n) (held (is_semicolon class) (is_label class) plain.label)))))
+    (if is_open_brace class then (if begins_block last then Some id else None) else last.block) (heads_structure last class) n) (held (is_semicolon class) (is_label class) plain.ends plain.label)))))
   where
     made : Bool → Bool → Headed → Option ℕ → Bool → ℕ → LastToken
     made apart commented headed block structure held = record { class = class; id = id; apart = apart; commented = commented; headed = headed; block = block; structure = structure; held = held }
@@ -166,12 +167,15 @@ quiet_last walk id class plain is =
     structure : (begins in_head was : Bool) → was ≡ false → begins ≡ false → was ≡ begins || (was && in_head)
     structure begins in_head was none e = cc
 
-    held : (semicolon label : Bool) → label ≡ false → walk.last.held ≡ (if semicolon then walk.last.held - 1 else (if label then 3 else walk.last.held))
-    held true label e = (let none : walk.last.held ≡ 0 = grind (arith, nat_tests, is.held) in omega (arith, none))
-    held false true e = absurd (differ e)
-    held false false e = refl
+    none_holds : is_held walk && true ≡ false → walk.last.held ≡ 0
+    none_holds e = (let free = sym (and-true (is_held walk)) ∙ e in grind (arith, nat_tests, free))
 
-quiet_body : (walk : Walk) (id : ℕ) (class : TokenClass) → IsPlain class → IsHeld walk id → passed walk around.Body (walk.place + 1) id class ≡ in_body walk id class
+    held : (semicolon label : Bool) → is_held walk && semicolon ≡ false → label ≡ false → walk.last.held ≡ (if semicolon then walk.last.held - 1 else (if label then 3 else walk.last.held))
+    held true label ends e = (let none = none_holds ends in omega (arith, none))
+    held false true ends e = absurd (differ e)
+    held false false ends e = refl
+
+quiet_body : (walk : Walk) (id : ℕ) (class : TokenClass) → IsPlain (is_held walk) class → IsHeld walk id → passed walk around.Body (walk.place + 1) id class ≡ in_body walk id class
 quiet_body walk id class plain is =
     ap (λ (b : Begun). made b (record walk.last { class = class; id = id })) (quiet_begun walk id class plain) ∙ ap (λ (l : LastToken). made (next_begun walk id class) l) (quiet_last walk id class plain is)
   where
@@ -220,13 +224,13 @@ none_of true false c e = cc
 none_of false true c e = cc
 none_of false false c e = (refl, refl, e)
 
-quiet_reading : (arena : Contents) (walk : Walk) (stands : Around) (id : ℕ) (class : TokenClass) → may_end walk stands id ≡ false → is_bracket class ≡ false → is_comment class ≡ false → is_group stands || not (is_telling class) ≡ true
+quiet_reading : (arena : Contents) (walk : Walk) (stands : Around) (id : ℕ) (class : TokenClass) → may_end walk stands id ≡ false → is_bracket class ≡ false → is_comment class ≡ false → is_group stands || not (is_telling (is_held walk) class) ≡ true
     → GoesOn (passed walk stands (walk.place + 1) id class) ≡ reading arena walk stands id class
 quiet_reading arena walk around.Outside id class never flat silent word = absurd (differ never)
 quiet_reading arena walk around.Group id class never flat silent word = ap (λ (w : Walk). GoesOn w) (quiet_group walk id class flat silent)
 quiet_reading arena walk around.Body id class never flat silent word =
     let is = held_of walk id never in
-    ap (λ (w : Walk). GoesOn w) (quiet_body walk id class (plain_of class flat word) is)
+    ap (λ (w : Walk). GoesOn w) (quiet_body walk id class (plain_of (is_held walk) class flat word) is)
     ∙ (ap (λ (ends : Option ℕ). ends_inside_or ends (in_body walk id class)) (sym (quiet_end walk id class is))
     ∙ ap (λ b. if b then GoesOn (past_comment arena walk id) else ends_inside_or (end_in_body walk id class) (in_body walk id class)) (sym silent))
 
@@ -253,12 +257,12 @@ flat_passes arena begins ids walk next bodies waiting read below one made is fla
 
 -- behind one of them
 quiet_passes : (arena : Contents) (begins : Option Place) (ids : List ℕ) (walk : Walk) (bodies : List Head) (waiting : List Opener) (id : ℕ) (class : TokenClass) → walk.place < length ids → get_or ids walk.place 0 ≡ id → class ≡ item_class arena id
-    → is_left bodies waiting ≡ false → may_end walk (around_of bodies waiting) id ≡ false → is_quiet (around_of bodies waiting) class ≡ true → Passes arena begins ids walk bodies waiting
+    → is_left bodies waiting ≡ false → may_end walk (around_of bodies waiting) id ≡ false → is_quiet (around_of bodies waiting) (is_held walk) class ≡ true → Passes arena begins ids walk bodies waiting
     → Passes arena begins ids (passed walk (around_of bodies waiting) (walk.place + 1) id class) bodies waiting
 quiet_passes arena begins ids walk bodies waiting id class below at told stays never quiet on =
     let stands = around_of bodies waiting in
     let number = get_or ids walk.place 0 in
-    let none = none_of (is_bracket class) (is_comment class) (is_group stands || not (is_telling class)) quiet in
+    let none = none_of (is_bracket class) (is_comment class) (is_group stands || not (is_telling (is_held walk) class)) quiet in
     let next = passed walk stands (walk.place + 1) id class in
     let same : item_class arena number ≡ class = ap (λ n. item_class arena n) at ∙ sym told in
     let reads_so : GoesOn next ≡ reading arena walk stands number (item_class arena number) =
@@ -273,8 +277,8 @@ quiet_passes arena begins ids walk bodies waiting id class below at told stays n
     one around.Group = refl
 
 -- Tokens from the next one on, so many of them, tell nothing.
-abbrev pub AreQuiet : Contents → Around → List ℕ → ℕ → ℕ → Type 0
-AreQuiet arena stands ids place n = (k : ℕ) → k < n → (place + k < length ids) × (is_quiet stands (item_class arena (get_or ids (place + k) 0)) ≡ true)
+abbrev pub AreQuiet : Contents → Around → Bool → List ℕ → ℕ → ℕ → Type 0
+AreQuiet arena stands held ids place n = (k : ℕ) → k < n → (place + k < length ids) × (is_quiet stands held (item_class arena (get_or ids (place + k) 0)) ≡ true)
 
 next_may : (walk : Walk) (stands : Around) (id first place last : ℕ) (class : TokenClass) → (stands ≡ around.Body → place < 512) → may_end walk stands first ≡ false → id ≡ last + 1 → may_end (passed walk stands place last class) stands id ≡ false
 next_may walk around.Outside id first place last class low never e = never
@@ -282,7 +286,7 @@ next_may walk around.Group id first place last class low never e = refl
 next_may walk around.Body id first place last class low never e =
     let is = held_of walk first never in
     let few = low refl in
-    none_false (not (id == last + 1)) walk.last.apart (nat_lt 0 walk.last.held) (nat_le 512 place) walk.last.structure (no_gap) is.apart is.held (near few) is.structure
+    none_false (not (id == last + 1)) walk.last.apart (nat_le 512 place) walk.last.structure (no_gap) is.apart (near few) is.structure
   where
     no_gap : not (id == last + 1) ≡ false
     no_gap = grind (arith, nat_tests, e)
@@ -295,19 +299,24 @@ passed_twice walk around.Outside place last later behind old class = refl
 passed_twice walk around.Group place last later behind old class = refl
 passed_twice walk around.Body place last later behind old class = refl
 
+held_same : (walk : Walk) (stands : Around) (place last : ℕ) (class : TokenClass) → is_held (passed walk stands place last class) ≡ is_held walk
+held_same walk around.Outside place last class = refl
+held_same walk around.Body place last class = refl
+held_same walk around.Group place last class = refl
+
 -- behind all of them
 pub quiet_row : (arena : Contents) (begins : Option Place) (ids : List ℕ) (walk next : Walk) (bodies : List Head) (waiting : List Opener) (stands : Around) (id n : ℕ) (class : TokenClass) → stands ≡ around_of bodies waiting
     → is_left bodies waiting ≡ false → may_end walk (around_of bodies waiting) id ≡ false → (stands ≡ around.Body → walk.place + n < 512)
-    → AreQuiet arena stands ids walk.place (1 + n) → ((k : ℕ) → k ≤ n → get_or ids (walk.place + k) 0 ≡ id + k) → class ≡ item_class arena (id + n) → next ≡ passed walk stands (walk.place + n + 1) (id + n) class
+    → AreQuiet arena stands (is_held walk) ids walk.place (1 + n) → ((k : ℕ) → k ≤ n → get_or ids (walk.place + k) 0 ≡ id + k) → class ≡ item_class arena (id + n) → next ≡ passed walk stands (walk.place + n + 1) (id + n) class
     → Passes arena begins ids walk bodies waiting → Passes arena begins ids next bodies waiting
 quiet_row arena begins ids walk next bodies waiting stands id n class here stays never low quiet row told is on =
     subst (λ (w : Walk). Passes arena begins ids w bodies waiting) (sym (is ∙ ap (λ (a : Around). passed walk a (walk.place + n + 1) (id + n) class) here))
-    (by_count n class (λ e. low (here ∙ e)) (subst (λ (a : Around). AreQuiet arena a ids walk.place (1 + n)) here quiet) row told)
+    (by_count n class (λ e. low (here ∙ e)) (subst (λ (a : Around). AreQuiet arena a (is_held walk) ids walk.place (1 + n)) here quiet) row told)
   where
     around_it : Around
     around_it = around_of bodies waiting
 
-    by_count : (n : ℕ) (class : TokenClass) → (around_it ≡ around.Body → walk.place + n < 512) → AreQuiet arena around_it ids walk.place (1 + n) → ((k : ℕ) → k ≤ n → get_or ids (walk.place + k) 0 ≡ id + k) → class ≡ item_class arena (id + n)
+    by_count : (n : ℕ) (class : TokenClass) → (around_it ≡ around.Body → walk.place + n < 512) → AreQuiet arena around_it (is_held walk) ids walk.place (1 + n) → ((k : ℕ) → k ≤ n → get_or ids (walk.place + k) 0 ≡ id + k) → class ≡ item_class arena (id + n)
         → Passes arena begins ids (passed walk around_it (walk.place + n + 1) (id + n) class) bodies waiting
     by_count zero class low quiet row told =
         let here = quiet 0 (omega arith) in
@@ -316,7 +325,7 @@ quiet_row arena begins ids walk next bodies waiting stands id n class here stays
         let at : get_or ids walk.place 0 ≡ id = ap (λ k. get_or ids k 0) (sym p) ∙ (row 0 (omega arith) ∙ q) in
         let class_is : class ≡ item_class arena id = told ∙ ap (λ k. item_class arena k) q in
         let same : item_class arena (get_or ids (walk.place + 0) 0) ≡ class = ap (λ k. item_class arena k) (row 0 (omega arith)) ∙ sym told in
-        let silent = ap (λ (c : TokenClass). is_quiet around_it c) (sym same) ∙ here.1 in
+        let silent = ap (λ (c : TokenClass). is_quiet around_it (is_held walk) c) (sym same) ∙ here.1 in
         let one = quiet_passes arena begins ids walk bodies waiting id class (omega (arith, here.0)) at class_is stays never silent on in
         subst (λ k. Passes arena begins ids (passed walk around_it (k + 1) (id + 0) class) bodies waiting) (sym p) (subst (λ k. Passes arena begins ids (passed walk around_it (walk.place + 1) k class) bodies waiting) (sym q) one)
     by_count (suc n) class low quiet row told =
@@ -330,7 +339,8 @@ quiet_row arena begins ids walk next bodies waiting stands id n class here stays
         let q : id + suc n ≡ id + n + 1 = omega arith in
         let at : get_or ids (walk.place + n + 1) 0 ≡ id + suc n = ap (λ k. get_or ids k 0) (sym p) ∙ row (suc n) (omega arith) in
         let same : item_class arena (get_or ids (walk.place + suc n) 0) ≡ class = ap (λ k. item_class arena k) (row (suc n) (omega arith)) ∙ sym told in
-        let silent = ap (λ (c : TokenClass). is_quiet around_it c) (sym same) ∙ here.1 in
+        let held = held_same walk around_it (walk.place + n + 1) (id + n) old in
+        let silent = ap (λ b. is_quiet around_it b class) held ∙ (ap (λ (c : TokenClass). is_quiet around_it (is_held walk) c) (sym same) ∙ here.1) in
         let may = next_may walk around_it (id + suc n) id (walk.place + n + 1) (id + n) old near never q in
         let stood : before.place ≡ walk.place + n + 1 = placed around_it (walk.place + n + 1) (id + n) old in
         let inside : before.place < length ids = omega (arith, here.0, stood) in
@@ -346,26 +356,3 @@ quiet_row arena begins ids walk next bodies waiting stands id n class here stays
         placed around.Outside place last old = refl
         placed around.Body place last old = refl
         placed around.Group place last old = refl
-
--- the next one and those behind it, as the code tells it
-pub all_quiet : (arena : Contents) (stands : Around) (view : List ℕ) (all : List TokenClass) (first place n : ℕ) (class : TokenClass) → AreWithin arena view → all ≡ item_classes arena → first + place + n < length view
-    → class ≡ item_class arena (get_or (drop first view) place 0) → is_quiet stands class ≡ true
-    → ((k : ℕ) → (d : TokenClass) → first + place < k → k ≤ first + place + n → is_quiet stands (get_or all (get_or view k 0) d) ≡ true)
-    → AreQuiet arena stands (drop first view) place (1 + n)
-all_quiet arena stands view all first place n class within told inside is here behind k below = (
-  omega (arith, length-drop first view, below, inside),
-  elim (here_or_behind k) [
-    | inl e ↦
-        let same : class ≡ item_class arena (get_or (drop first view) (place + k) 0) = is ∙ ap (λ j. item_class arena (get_or (drop first view) j 0)) (omega (arith, e)) in
-        ap (λ (c : TokenClass). is_quiet stands c) (sym same) ∙ here
-    | inr after ↦
-        let at : get_or (drop first view) (place + k) 0 ≡ get_or view (first + place + k) 0 = get_or-drop first view (place + k) 0 ∙ ap (λ j. get_or view j 0) (omega arith) in
-        let stored : get_or view (first + place + k) 0 < length arena.tokens = within (first + place + k) 0 (omega (arith, below, inside)) in
-        let class_is : get_or all (get_or view (first + place + k) 0) class ≡ item_class arena (get_or view (first + place + k) 0) = ap (λ (cs : List TokenClass). get_or cs (get_or view (first + place + k) 0) class) told ∙ class_at arena (get_or view (first + place + k) 0) class stored in
-        let same = class_is ∙ ap (λ id. item_class arena id) (sym at) in
-        ap (λ (c : TokenClass). is_quiet stands c) (sym same) ∙ behind (first + place + k) class (omega (arith, after)) (omega (arith, below))
-  ],
-)
-  where
-    here_or_behind : (k : ℕ) → (k ≡ 0) ⊎ (0 < k)
-    here_or_behind k = grind arith

@@ -1,23 +1,20 @@
 -- Places of a view whose items stand in a row.
-use Rattle.std.proofs.Common.{true, ◌≡◌, ◌∙◌, ◌⊎◌, inl, inr, ℕ, zero, suc, ◌+◌, ◌-◌, ◌<◌, ◌≤◌, List, [], ◌∷◌, length, take, drop, get_or, refl, sym, ap, subst, arith, get_or-set_same, get_or-set_other}
+use Rattle.std.proofs.Common.{◌≡◌, ◌∙◌, ◌⊎◌, inl, inr, ℕ, zero, suc, ◌+◌, ◌-◌, ◌<◌, ◌≤◌, List, [], ◌∷◌, length, take, drop, get_or, refl, sym, ap, subst, arith, get_or-set_same, get_or-set_other}
 use Rattle.std.specs.Prelude.{All, ◌^◌, slice_range, slice_set, replicate, map, None}
 use Rattle.std.specs.List.{range_with_len}
 use Rattle.std.proofs.lemmas.List.{get_or-drop, get_or-take, length-drop}
 use Rattle.std.proofs.lemmas.List.FromFn.{get_or-range_with_len}
 use Rattle.token_arena.specs.Gaps.{Contents}
-use Rattle.token_classes.specs.declared.class.TokenClass.{TokenClass}
 use Rattle.token_arena.specs.Ids.{Increase, IncreaseFrom}
 use Rattle.token_arena.specs.declared.view.Segment.{Segment}
 use Rattle.token_arena.specs.Segments.{ids_of, segment_bounds, AreSegments, CountFrom, HasPlace, no_segment}
 use Rattle.token_arena.proofs.SegmentLemmas.{item_at_start, length_items}
-use Rattle.view_parts.specs.declared.walk.Around.{Around}
 use Rattle.view_parts.specs.declared.known.KnownEnd.{KnownEnd}
 use Rattle.view_parts.specs.declared.known.KnownEnd.TheVariants.{Unknown}
 use Rattle.view_parts.specs.declared.known.KnownRow.{KnownRow}
 use Rattle.view_parts.specs.Known.{IsKnown, IsKnownRow, AreKnown}
 use Rattle.view_parts.specs.declared.row.Row.{Row}
 use Rattle.view_parts.specs.Rows.{IsRow}
-use Rattle.view_parts.specs.Steps.{is_quiet}
 use Rattle.view_parts.specs.Parts.{part_inside, part_len, EndsBehind}
 use Rattle.view_parts.proofs.Walked.{inside_behind, len_behind, outside_at}
 
@@ -184,13 +181,6 @@ row_stored view place items row within here is =
     let last : get_or view (row.end - 1) 0 ≡ (row.end - 1) + row.shift = is.items (row.end - 1) (omega (arith, here)) (omega (arith, here)) in
     let below : get_or view (row.end - 1) 0 < items = within (row.end - 1) 0 (omega (arith, here, is.inside)) in
     omega (arith, last, below, here)
-
--- the quiet tokens behind a place, as items of the view
-pub quiet_view : (stands : Around) (view : List ℕ) (all : List TokenClass) (place n : ℕ) (row : Row) → IsRow view place row → place + n < row.end
-    → ((k : ℕ) → (d : TokenClass) → place < k → k ≤ place + n → is_quiet stands (get_or all (k + row.shift) d) ≡ true)
-    → (k : ℕ) → (d : TokenClass) → place < k → k ≤ place + n → is_quiet stands (get_or all (get_or view k 0) d) ≡ true
-quiet_view stands view all place n row is within quiet k d after upto =
-    ap (λ id. is_quiet stands (get_or all id d)) (is.items k (omega (arith, after)) (omega (arith, upto, within))) ∙ quiet k d after upto
 
 -- the items of a row from a place on, as those of a view behind the first one
 pub row_items : (view : List ℕ) (first place n id : ℕ) (row : Row) → IsRow view (first + place) row → id ≡ first + place + row.shift → first + place + n < row.end → (k : ℕ) → k ≤ n → get_or (drop first view) (place + k) 0 ≡ id + k

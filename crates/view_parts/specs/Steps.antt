@@ -1,8 +1,8 @@
 -- What the code keeps on the way along the items of a part.
-use Rattle.std.specs.Prelude.{◌≡◌, ◌<◌, ⊤, ℕ, suc, ◌+◌, ◌-◌, ◌==◌, nat_lt, nat_le, Bool, true, false, ◌&&◌, ◌||◌, not, None, List, [], ◌∷◌}
+use Rattle.std.specs.Prelude.{◌≡◌, ◌<◌, ◌≤◌, ⊤, ℕ, suc, ◌+◌, ◌-◌, ◌==◌, nat_lt, nat_le, Bool, true, false, ◌&&◌, ◌||◌, not, None, List, [], ◌∷◌, get_or}
 use Rattle.token_classes.specs.declared.class.TokenClass.{TokenClass}
 use Rattle.token_classes.specs.declared.class.TokenClass.TheVariants.{OpenRound, OpenSquare, CloseSquare, OpenBrace, CloseBrace}
-use Rattle.token_classes.specs.Classes.{is_bracket, is_close_round, is_comment, is_control}
+use Rattle.token_classes.specs.Classes.{is_bracket, is_close_round, is_comment, is_control, is_semicolon}
 use Rattle.view_parts.specs.declared.walk.Around.{Around}
 use Rattle.view_parts.specs.declared.walk.Around.TheVariants as around
 use Rattle.view_parts.specs.declared.walk.Outcome.{Outcome}
@@ -14,7 +14,7 @@ use Rattle.view_parts.specs.Walk.{end_in_body, is_label, is_record, is_some, lef
 
 -- a token of a body may tell where the part ends, or changes what is known in another way than by its class
 abbrev pub tells_end : Walk → ℕ → Bool
-tells_end walk id = not (id == walk.behind) || walk.last.apart || nat_lt 0 walk.last.held || nat_le 512 walk.place || walk.last.structure
+tells_end walk id = not (id == walk.behind) || walk.last.apart || nat_le 512 walk.place || walk.last.structure
 
 -- The same, by what an item stands in.
 abbrev pub may_end : Walk → Around → ℕ → Bool
@@ -26,18 +26,30 @@ abbrev pub is_group : Around → Bool
 is_group around.Group = true
 is_group _ = false
 
--- a token of a body changes what is known by its class
-abbrev pub is_telling : TokenClass → Bool
-is_telling class = is_label class || is_control class || is_record class
+-- a label holds the part's end
+abbrev pub is_held : Walk → Bool
+is_held walk = nat_lt 0 walk.last.held
+
+-- a token of a body changes what is known by its class: where a label holds the part's end, a `;` does
+abbrev pub is_telling : Bool → TokenClass → Bool
+is_telling held class = is_label class || is_control class || is_record class || (held && is_semicolon class)
 
 -- a token that tells nothing, by what it stands in
-abbrev pub is_quiet : Around → TokenClass → Bool
-is_quiet stands class = not (is_bracket class) && not (is_comment class) && (is_group stands || not (is_telling class))
+abbrev pub is_quiet : Around → Bool → TokenClass → Bool
+is_quiet stands held class = not (is_bracket class) && not (is_comment class) && (is_group stands || not (is_telling held class))
 
 -- at this place, behind tokens in a row that tell nothing, by what they stand in: the last one has this number and class
 abbrev pub passed : Walk → Around → ℕ → ℕ → TokenClass → Walk
 passed walk around.Group place last class = record walk { place = place }
 passed walk stands place last class = record walk { place = place; asked = None; behind = last + 1; last = record walk.last { class = class; id = last } }
+
+-- from this token on so many in a row tell nothing, and the way goes on behind them
+pub record PassesQuiet (all : List TokenClass) (stands : Around) (walk : Walk) (id n : ℕ) (next : Walk) : Type 0 where
+  pub none : n ≡ 0 → next ≡ walk
+  pub some : (m : ℕ) → (d : TokenClass) → n ≡ m + 1 → next ≡ passed walk stands (walk.place + m + 1) (id + m) (get_or all (id + m) d)
+  pub never : 0 < n → may_end walk stands id ≡ false
+  pub low : 0 < n → stands ≡ around.Body → walk.place + n ≤ 512
+  pub quiet : (k : ℕ) → (d : TokenClass) → k < n → is_quiet stands (is_held walk) (get_or all (id + k) d) ≡ true
 
 -- this bracket closes a `(` or `[`
 abbrev pub closes_group : TokenClass → TokenClass → Bool

@@ -79,7 +79,7 @@ fn body_kind(walk: &Walk, around: Around) -> Option<BodyKind>
             if let Before::Body = walk.declaration.behind(TokenClass::OpenBrace) {
                 return Some(BodyKind::Function);
             }
-            if walk.declaration.begins_linkage() {
+            if let Before::Linkage = walk.declaration.before {
                 return Some(BodyKind::Linkage);
             }
             last.begins_members_outside(walk.declaration)

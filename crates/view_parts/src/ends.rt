@@ -1,7 +1,7 @@
 //! Where the parts of a view end.
 
 ghost use Rattle.std.specs.Prelude.{◌&&◌, ◌||◌, ◌≡◌, ◌<◌, ◌≤◌, ◌+◌, ◌-◌, ◌^◌, ℕ};
-ghost use Rattle.std.specs.Prelude.{true, not, length, drop, take, get_or, slice_range};
+ghost use Rattle.std.specs.Prelude.{true, false, not, length, drop, take, get_or, slice_range};
 ghost use Rattle.std.specs.Prelude.{IfOk, None, Some};
 ghost use Rattle.std.specs.Option.{ForNone, ForSome};
 ghost use Rattle.token_classes.specs.declared.class.TokenClass.{TokenClass};
@@ -12,13 +12,14 @@ ghost use Rattle.view_parts.specs.Parts.{part_inside, part_len};
 ghost use Rattle.view_parts.specs.Parts.{EndsBehind, StandsBefore};
 ghost use Rattle.view_parts.specs.Places.{place_in};
 ghost use Rattle.view_parts.specs.declared.walk.Before.TheVariants as Before;
-ghost use Rattle.view_parts.specs.Steps.{Closes, closes_group, ends_before_brace, is_quiet, is_telling, may_end};
+ghost use Rattle.view_parts.specs.Steps.{Closes, PassesQuiet, closes_group, ends_before_brace};
+ghost use Rattle.view_parts.specs.Steps.{is_quiet};
 
 use crate::bodies::{BodyPlace, Head, opened_head, place_behind};
 use crate::brackets::OpenBrackets;
 use crate::reading::read;
 use crate::row::{Row, item_at};
-use crate::walk::{Around, LEAST_IN_ROW, Outcome, Walk, is_label, is_record, start};
+use crate::walk::{Around, Before, LEAST_IN_ROW, Outcome, Walk, start};
 use bumpalo::Bump;
 use line_tokens::{NoMemory, TokenId};
 use token_arena::{TokenArena, View};
@@ -65,58 +66,118 @@ impl<'k> PartEnd<'k> {
     }
 }
 
-/// Whether a token of a body changes what is known by its class.
-#[inline(always)]
-fn is_telling(class: TokenClass) -> bool
-    ensures { result ≡ is_telling class }
-{
-    is_label(class) || class.is_control() || is_record(class)
-}
+/// The classes of tokens that change more in a group than the place, as a set of bits.
+const TELLING_IN_GROUP: u64 = 1 << (TokenClass::OpenRound as u8)
+    | 1 << (TokenClass::CloseRound as u8)
+    | 1 << (TokenClass::OpenSquare as u8)
+    | 1 << (TokenClass::CloseSquare as u8)
+    | 1 << (TokenClass::OpenBrace as u8)
+    | 1 << (TokenClass::CloseBrace as u8)
+    | 1 << (TokenClass::LineComment as u8)
+    | 1 << (TokenClass::BlockComment as u8);
 
-/// Whether a token changes nothing but the place and which token was the last, by what it stands in.
+/// The classes of tokens that change more elsewhere than the place and which token was the last.
+const TELLING: u64 = TELLING_IN_GROUP
+    | 1 << (TokenClass::If as u8)
+    | 1 << (TokenClass::Else as u8)
+    | 1 << (TokenClass::For as u8)
+    | 1 << (TokenClass::While as u8)
+    | 1 << (TokenClass::Do as u8)
+    | 1 << (TokenClass::Switch as u8)
+    | 1 << (TokenClass::Case as u8)
+    | 1 << (TokenClass::Default as u8)
+    | 1 << (TokenClass::Struct as u8)
+    | 1 << (TokenClass::Union as u8);
+
+/// Where a label holds the part's end, a `;` changes more too.
+const TELLING_BEHIND_LABEL: u64 = TELLING | 1 << (TokenClass::Semicolon as u8);
+
+/// Whether a token changes nothing but the place and which token was the last, by what it stands in and whether a label
+/// holds the part's end.
 #[inline(always)]
-fn is_quiet(around: Around, class: TokenClass) -> bool
-    ensures { result ≡ is_quiet around class }
+fn is_quiet(around: Around, held: bool, class: TokenClass) -> bool
+    ensures { result ≡ is_quiet around held class }
 {
-    !class.is_bracket()
-        && !class.is_comment()
-        && (matches!(around, Around::Group) || !is_telling(class))
+    let telling = match around {
+        Around::Group => TELLING_IN_GROUP,
+        _ if held => TELLING_BEHIND_LABEL,
+        _ => TELLING,
+    };
+    (telling >> (class as u8)) & 1 == 0
 }
 
 /// How many quiet tokens stand at the beginning of these.
 #[inline(always)]
-fn quiet_count(around: Around, classes: &[TokenClass]) -> usize
+fn quiet_count(around: Around, held: bool, classes: &[TokenClass]) -> usize
     ensures within { result ≤ length classes.now }
-    ensures quiet { (k : ℕ) → (d : TokenClass) → k < result → is_quiet around (get_or classes.now k d) ≡ true }
+    ensures quiet { (k : ℕ) → (d : TokenClass) → k < result → is_quiet around held (get_or classes.now k d) ≡ true }
 {
     let mut count = 0;
-    while count < classes.len() && is_quiet(around, classes[count]) {
+    while count < classes.len() && is_quiet(around, held, classes[count]) {
         count += 1;
     }
     count
 }
 
-/// How many quiet tokens follow a place of a part directly in its row: in a body up to where parts may end anywhere.
+/// How many quiet tokens stand in a row from a place of a part on: in a body up to where parts may end anywhere.
 #[inline(always)]
-fn quiet_behind(around: Around, all: &[TokenClass], first: u32, place: u32, row: &Row) -> u32
-    requires here { first + place < row.now.end }
+fn quiet_from(
+    around: Around,
+    held: bool,
+    all: &[TokenClass],
+    first: u32,
+    place: u32,
+    row: &Row,
+) -> u32
+    requires here { first + place ≤ row.now.end }
     requires within { row.now.end + row.now.shift ≤ length all.now }
     requires low { around ≡ Body → place < 512 }
-    ensures within { first + place + result < row.now.end }
-    ensures low { around ≡ Body → place + result < 512 }
-    ensures quiet { (k : ℕ) → (d : TokenClass) → first + place < k → k ≤ first + place + result → is_quiet around (get_or all.now (k + row.now.shift) d) ≡ true }
+    ensures within { first + place + result ≤ row.now.end }
+    ensures low { around ≡ Body → place + result ≤ 512 }
+    ensures quiet { (k : ℕ) → (d : TokenClass) → first + place ≤ k → k < first + place + result → is_quiet around held (get_or all.now (k + row.now.shift) d) ≡ true }
 {
     let shift = row.shift as usize;
-    let next = (first + place) as usize + 1 + shift;
+    let next = (first + place) as usize + shift;
     let count = match around {
         Around::Outside => 0,
         Around::Body => {
             let end = row.end.min(first.saturating_add(LEAST_IN_ROW));
-            quiet_count(Around::Body, &all[next..end as usize + shift])
+            quiet_count(Around::Body, held, &all[next..end as usize + shift])
         }
-        Around::Group => quiet_count(Around::Group, &all[next..row.end as usize + shift]),
+        Around::Group => quiet_count(Around::Group, held, &all[next..row.end as usize + shift]),
     };
     count as u32
+}
+
+/// Goes past the quiet tokens in a row from the next one on, which is this. The result is how many these are.
+#[inline(always)]
+fn pass_quiet(
+    walk: &mut Walk,
+    around: Around,
+    id: TokenId,
+    all: &[TokenClass],
+    first: u32,
+    row: &Row,
+) -> u32
+    requires here { first + walk.old.place < row.now.end }
+    requires within { row.now.end + row.now.shift ≤ length all.now }
+    requires fits { row.now.end + row.now.shift < 4294967296 }
+    requires id { id.0 ≡ first + walk.old.place + row.now.shift }
+    ensures place { walk.new.place ≡ walk.old.place + result }
+    ensures within { first + walk.old.place + result ≤ row.now.end }
+    ensures quiet { PassesQuiet all.now around walk.old id.0 result walk.new }
+{
+    if walk.may_end(around, id) {
+        return 0;
+    }
+    let held = walk.last.held > 0;
+    let quiet = quiet_from(around, held, all, first, walk.place, row);
+    if quiet == 0 {
+        return 0;
+    }
+    let last = TokenId(id.0 + (quiet - 1));
+    walk.pass_quiet(around, walk.place + quiet, last, all[last.0 as usize]);
+    quiet
 }
 
 /// Whether a token is a `{` or `}`.
@@ -150,17 +211,16 @@ fn closing_len(classes: &[TokenClass]) -> Option<usize>
     while count < classes.len() {
         let class = classes[count];
         count += 1;
-        if !is_brace(class) {
-            continue;
+        if is_brace(class) {
+            depth = if class.is_open_brace() {
+                depth + 1
+            } else {
+                depth - 1
+            };
+            if depth == 0 {
+                return Some(count);
+            }
         }
-        if class.is_open_brace() {
-            depth += 1;
-            continue;
-        }
-        if depth == 1 {
-            return Some(count);
-        }
-        depth -= 1;
     }
     None
 }
@@ -180,13 +240,13 @@ fn passed_group(
     ensures within { ForSome result (λ len. first + place + len < row.now.end) }
     ensures some { ForSome result (λ len. 0 < len) }
     ensures closes { ForSome result (λ len. (d : TokenClass) → closes_group opener (get_or all.now (first + place + len + row.now.shift) d) ≡ true) }
-    ensures quiet { ForSome result (λ len. (k : ℕ) → (d : TokenClass) → first + place < k → k < first + place + len → is_quiet Group (get_or all.now (k + row.now.shift) d) ≡ true) }
+    ensures quiet { ForSome result (λ len. (k : ℕ) → (d : TokenClass) → first + place < k → k < first + place + len → is_quiet Group false (get_or all.now (k + row.now.shift) d) ≡ true) }
 {
     if !opener.is_opener() {
         return None;
     }
-    let quiet = quiet_behind(Around::Group, all, first, place, row);
-    let end = first + place + quiet + 1;
+    let quiet = quiet_from(Around::Group, false, all, first, place + 1, row);
+    let end = first + place + 1 + quiet;
     if end >= row.end {
         return None;
     }
@@ -215,7 +275,7 @@ fn passed_body(
     ensures closes { ForSome result (λ body. Closes 1 (take body.1 (drop (first + place + 1 + row.now.shift) all.now))) }
 {
     let head = opened?;
-    if place >= LEAST_IN_ROW || !walk.declaration.is_behind_body() {
+    if place >= LEAST_IN_ROW || !matches!(walk.declaration.before, Before::Body) {
         return None;
     }
     let shift = row.shift as usize;
@@ -223,18 +283,6 @@ fn passed_body(
     let end = row.end.min(first.saturating_add(LEAST_IN_ROW));
     let count = closing_len(&all[next..end as usize + shift])?;
     Some((head, count as u32))
-}
-
-/// Whether an item may tell where the part ends, by what it stands in.
-#[inline(always)]
-fn may_end(walk: &Walk, around: Around, id: TokenId) -> bool
-    ensures { result ≡ may_end walk.now around id.0 }
-{
-    match around {
-        Around::Outside => true,
-        Around::Body => walk.may_end(id),
-        Around::Group => false,
-    }
 }
 
 /// Whether an item is a `{` before which no part ends, by what it stands in.
@@ -282,17 +330,16 @@ pub fn part_end<'k>(
     let mut row = Row { shift: 0, end: 0 };
     let items = arena.len();
     while walk.place < count - first {
-        let place = walk.place;
-        let id = item_at(view, first + place, &mut row, segment);
-        prove!(id.0 < items);
-        let class = all[id.0 as usize];
+        let next = item_at(view, first + walk.place, &mut row, segment);
         let stands = brackets.around;
-        if !may_end(&walk, stands, id) && is_quiet(stands, class) {
-            let quiet = quiet_behind(stands, all, first, place, &row);
-            let last = TokenId(id.0 + quiet);
-            walk.pass_quiet(stands, place + quiet + 1, last, all[last.0 as usize]);
+        let quiet = pass_quiet(&mut walk, stands, next, all, first, &row);
+        let place = walk.place;
+        if first + place >= row.end {
             continue;
         }
+        let id = TokenId(next.0 + quiet);
+        prove!(id.0 < items);
+        let class = all[id.0 as usize];
         if passes_brace(&walk, stands, id, class) {
             let opened = opened_head(&walk, stands, &brackets.bodies, id);
             walk.pass_open_brace(stands, id);

@@ -5,17 +5,17 @@ ghost use Rattle.token_arena.specs.Gaps.{Contents, item_began};
 ghost use Rattle.token_classes.specs.declared.class.TokenClass.TheVariants.{OpenBrace};
 ghost use Rattle.view_parts.specs.Places.{place_in};
 ghost use Rattle.view_parts.specs.Reading.{GoesOn};
-ghost use Rattle.view_parts.specs.Steps.{body_passed, ends_before_brace, group_passed, passed, tells_end};
+ghost use Rattle.view_parts.specs.Steps.{body_passed, ends_before_brace, group_passed, may_end, passed};
 ghost use Rattle.view_parts.specs.Walk.{behind_group, behind, is_end, is_between, is_lost};
 ghost use Rattle.view_parts.specs.Walk.{asked_at, asked_in_body, is_apart, is_body, is_commented, next_declaration};
-ghost use Rattle.view_parts.specs.Walk.{begins_outside, is_linkage};
+ghost use Rattle.view_parts.specs.Walk.{begins_outside};
 ghost use Rattle.view_parts.specs.Walk.{opening, start};
 ghost use Rattle.view_parts.specs.Walk.{is_record, is_label, is_leading, begins_statement};
 ghost use Rattle.view_parts.specs.Walk.{begins_behind, begins_block, ends_statement};
 ghost use Rattle.view_parts.specs.Walk.{begins_members_in_body, begins_members_outside};
 ghost use Rattle.view_parts.specs.Walk.{heads_structure, is_behind_if};
 ghost use Rattle.view_parts.specs.Walk.{headed_by, goes_on_with, kept_begun, next_begun, next_last};
-ghost use Rattle.view_parts.specs.Walk.{end_in_body, may_part, past_comment, in_body, in_group, outside};
+ghost use Rattle.view_parts.specs.Walk.{end_in_body, parts_statements, past_comment, in_body, in_group, outside};
 ghost use Rattle.view_parts.specs.Walk.{reading, entered, left};
 
 use crate::bodies::{BodyKind, BodyPlace, Head};
@@ -232,20 +232,6 @@ impl Declaration {
         self.commented || !matches!(self.before, Before::Body)
     }
 
-    /// Whether it ends with the body of a function that is read.
-    pub(crate) fn is_behind_body(&self) -> bool
-        ensures { result ≡ is_body self.now.before }
-    {
-        matches!(self.before, Before::Body)
-    }
-
-    /// Whether a `{` that stands behind it begins the declarations of a linkage specification.
-    pub(crate) fn begins_linkage(&self) -> bool
-        ensures { result ≡ is_linkage self.now.before }
-    {
-        matches!(self.before, Before::Linkage)
-    }
-
     /// Behind the next token, which stands outside brackets.
     #[inline(always)]
     fn next(&self, class: TokenClass) -> Declaration
@@ -287,7 +273,17 @@ pub(crate) fn is_record(class: TokenClass) -> bool
 fn is_leading(class: TokenClass) -> bool
     ensures { result ≡ is_leading class }
 {
-    (class.is_control() && !class.is_else()) || is_record(class) || class.is_open_brace()
+    matches!(
+        class,
+        TokenClass::If
+            | TokenClass::For
+            | TokenClass::While
+            | TokenClass::Do
+            | TokenClass::Switch
+            | TokenClass::Struct
+            | TokenClass::Union
+            | TokenClass::OpenBrace
+    )
 }
 
 /// How many items a part has at least that ends in a body behind which a directive stands.
@@ -426,8 +422,10 @@ impl LastToken {
     fn heads_structure(&self, class: TokenClass) -> bool
         ensures { result ≡ heads_structure self.now class }
     {
-        let in_head = class.is_word() || (class.is_open_round() && self.class.is_call_word());
-        is_record(class) || (self.structure && in_head)
+        if !self.structure {
+            return is_record(class);
+        }
+        class.is_word() || (class.is_open_round() && self.class.is_call_word())
     }
 
     /// Whether a `{` of a body that stands behind it begins the members of a structure or union. An `=` or `return` may
@@ -469,13 +467,19 @@ impl LastToken {
             } else {
                 None
             };
-        } else if class.is_open_round() {
-            self.headed = Headed::by(self.class);
-        } else if class.is_semicolon() {
-            self.held = self.held.saturating_sub(1);
-        } else if is_label(class) {
-            self.held = HELD;
         }
+        self.headed = if class.is_open_round() {
+            Headed::by(self.class)
+        } else {
+            self.headed
+        };
+        self.held = if class.is_semicolon() {
+            self.held.saturating_sub(1)
+        } else if is_label(class) {
+            HELD
+        } else {
+            self.held
+        };
         self.class = class;
         self.id = id.0;
         self.apart = false;
@@ -487,7 +491,7 @@ impl Walk {
     fn next_begun(&self, id: TokenId, class: TokenClass) -> Begun
         ensures { result ≡ next_begun self.now id.0 class }
     {
-        if self.last.is_begin() && is_leading(class) {
+        if is_leading(class) && self.last.is_begin() {
             return Begun::With(PartToken {
                 id: id.0,
                 place: self.place,
@@ -502,40 +506,49 @@ impl Walk {
         }
     }
 
-    /// Whether a token of a body may tell where the part ends, or what is known changes in another way than by its
-    /// class.
+    /// Whether an item may tell where the part ends, by what it stands in, or in a body what is known changes in another
+    /// way than by its class.
     #[inline(always)]
-    pub(crate) fn may_end(&self, id: TokenId) -> bool
-        ensures { result ≡ tells_end self.now id.0 }
+    pub(crate) fn may_end(&self, around: Around, id: TokenId) -> bool
+        ensures { result ≡ may_end self.now around id.0 }
     {
-        let near = id.0 == self.behind && self.place < LEAST_IN_ROW;
-        !near || self.last.apart || self.last.held > 0 || self.last.structure
+        match around {
+            Around::Outside => true,
+            Around::Body => {
+                let near = id.0 == self.behind && self.place < LEAST_IN_ROW;
+                !near || self.last.apart || self.last.structure
+            }
+            Around::Group => false,
+        }
     }
 
-    /// Whether no label holds the part's end before this token: behind one, three statements end first, or the next one
-    /// stands here, with no comment on lines of its own before it.
-    fn may_part(&self, class: TokenClass) -> bool
-        ensures { result ≡ may_part self.now class }
+    /// Whether a statement of a body ends before this token and one begins with it, and no label holds the part's end:
+    /// behind one, three statements end first, or the next one stands here, with no comment on lines of its own before it.
+    fn parts_statements(&self, class: TokenClass) -> bool
+        ensures { result ≡ parts_statements self.now class }
     {
-        self.last.held == 0 || (is_label(class) && self.asked.is_none())
+        let last = &self.last;
+        last.is_end()
+            && last.begins_statement(class)
+            && (last.held == 0 || (is_label(class) && self.asked.is_none()))
     }
 
     /// Behind how many items the part ends, where this token of a body tells so.
     pub(crate) fn end_in_body(&self, id: TokenId, class: TokenClass) -> Option<u32>
         ensures { result ≡ end_in_body self.now id.0 class }
     {
-        let last = &self.last;
-        if !last.is_end() || !last.begins_statement(class) || !self.may_part(class) {
-            return None;
-        }
         if self.is_apart(id) {
-            if self.place < LEAST_APART {
+            if self.place < LEAST_APART || !self.parts_statements(class) {
                 return None;
             }
             return Some(self.asked.unwrap_or(self.place));
         }
+        if self.place < LEAST_IN_ROW || !self.parts_statements(class) {
+            return None;
+        }
+        let last = &self.last;
         let follows = last.id < id.0 && id.0 - last.id == 1;
-        if self.place >= LEAST_IN_ROW && follows && !last.commented {
+        if follows && !last.commented {
             Some(self.place)
         } else {
             None

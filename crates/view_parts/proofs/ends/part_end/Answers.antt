@@ -8,6 +8,7 @@ use Rattle.token_classes.specs.declared.class.TokenClass.{TokenClass}
 use Rattle.token_classes.specs.declared.class.TokenClass.TheVariants.{If, OpenBrace}
 use Rattle.token_classes.specs.Classes.{is_open_brace}
 use Rattle.token_classes.specs.declared.pairing.Opener.{Opener}
+use Rattle.token_classes.specs.Partners.{StandBefore}
 use Rattle.token_classes.specs.Words.{class_of}
 use Rattle.view_parts.specs.declared.bodies.Head.{Head}
 use Rattle.view_parts.specs.declared.walk.Around.{Around}
@@ -18,17 +19,17 @@ use Rattle.view_parts.specs.Places.{Place, place_in, place_of}
 use Rattle.view_parts.specs.Parts.{around_of, end_of_part, heads_at, part_len, place_behind, EndsBehind, StandsBefore}
 use Rattle.view_parts.specs.Reading.{GoesOn}
 use Rattle.view_parts.specs.Walk.{end_in_body, ends_inside_or, heads_len, in_body, is_some, opened_head, reading}
-use Rattle.view_parts.specs.Steps.{closes_group, ends_before_brace, is_quiet, may_end, passed, read_so, Closes}
+use Rattle.view_parts.specs.Steps.{closes_group, ends_before_brace, is_quiet, read_so, Closes}
 use Rattle.view_parts.proofs.BodyRows.{brace_of, read_body}
 use Rattle.view_parts.proofs.GroupsPassed.{read_group}
 use Rattle.view_parts.proofs.Heads.{heads_len-reverse}
 use Rattle.view_parts.proofs.InBodies.{stands_before}
-use Rattle.view_parts.proofs.PartEnds.{ends_nowhere, ends_there, headed, read_first, read_flat, read_on, read_quiet, seen_so}
-use Rattle.view_parts.proofs.Quiet.{AreQuiet, all_quiet, quiet_row}
-use Rattle.view_parts.proofs.Rows.{drop_increase, quiet_view, row_items, row_later, row_stored}
-use Rattle.view_parts.proofs.Waits.{braces_turned, none_left}
+use Rattle.view_parts.proofs.PartEnds.{ends_nowhere, ends_there, headed, read_first, read_flat, read_on, seen_so}
+use Rattle.view_parts.proofs.QuietPassed.{read_past, stands_behind}
+use Rattle.view_parts.proofs.Rows.{drop_increase, row_items, row_later, row_stored}
+use Rattle.view_parts.proofs.Waits.{braces_turned}
 use Rattle.view_parts.proofs.Walked.{all_read, behind_place, class_told, inside_at, never_ends, next_item, next_place, outside_at, told_by}
-use Rattle.view_parts.proofs.ends.part_end.Goals.{else-loop-walk-test, then-loop-walk-test+else-prove+else-not-may_end+else-passes_brace+in-Never}
+use Rattle.view_parts.proofs.ends.part_end.Goals.{else-loop-walk-test, then-loop-walk-test+else-first-place+else-prove+else-passes_brace+in-Never}
 use Rattle.view_parts.proofs.ends.part_end.Goals as goal
 
 some_is : (n m k : ℕ) → Some n ≡ Some m → n ≡ k → m ≡ k
@@ -43,6 +44,10 @@ opened_brace walk stands heads bodies id class opened is same brace =
 
 opened_none : (walk : Walk) (stands : Around) (bodies : List Head) (id : ℕ) (class : TokenClass) → is_open_brace class ≡ false → opened_head walk stands bodies id class ≡ None
 opened_none walk stands bodies id class other = ap (λ (b : Bool). if b then opened_head walk stands bodies id OpenBrace else None) other
+
+untrue : (b : Bool) → not b ≡ true → b ≡ false
+untrue true e = cc
+untrue false e = refl
 
 -- behind a token that goes on and isn't passed as a `{` no `{` stands
 no_brace : (arena : Contents) (walk next : Walk) (stands : Around) (id : ℕ) (class : TokenClass) → is_open_brace class && not (ends_before_brace walk stands id) ≡ false → reading arena walk stands id class ≡ GoesOn next
@@ -76,56 +81,70 @@ loop-walk-init c =
       row = record { inside = omega arith; fits = omega arith; items = λ k after before. absurd (omega (arith, before)) };
     }
 
-pub quiet_behind-quiet-requires-clause-within : goal.quiet_behind-quiet-requires-clause-within
-quiet_behind-quiet-requires-clause-within c =
+pub pass_quiet-quiet-requires-clause-within : goal.pass_quiet-quiet-requires-clause-within
+pass_quiet-quiet-requires-clause-within c =
     let all = c.args.all.now in
-    let stored = row_stored c.args.view.now (c.args.first + c.loop-walk.walk.place) (length c.args.arena.now.tokens) c.item_at-id.new.row c.requires.within c.item_at-id.ensures.some c.item_at-id.ensures.row in
+    let stored = row_stored c.args.view.now (c.args.first + c.loop-walk.walk.place) (length c.args.arena.now.tokens) c.item_at-next.new.row c.requires.within c.item_at-next.ensures.some c.item_at-next.ensures.row in
     let whole : length all ≡ length c.args.arena.now.tokens = ap (λ (cs : List TokenClass). length cs) c.requires.all ∙ length-map c.args.arena.now.tokens (class_of c.args.arena.now.dialect) in
     omega (arith, stored, whole)
 
-pub bounds-all-last : goal.bounds-all-last
-bounds-all-last c =
-    let all = c.args.all.now in
-    let stored = row_stored c.args.view.now (c.args.first + c.loop-walk.walk.place) (length c.args.arena.now.tokens) c.item_at-id.new.row c.requires.within c.item_at-id.ensures.some c.item_at-id.ensures.row in
-    let whole : length all ≡ length c.args.arena.now.tokens = ap (λ (cs : List TokenClass). length cs) c.requires.all ∙ length-map c.args.arena.now.tokens (class_of c.args.arena.now.dialect) in
-    omega (arith, stored, whole, c.item_at-id.ensures.shift, c.quiet_behind-quiet.ensures.within)
+pub pass_quiet-quiet-requires-clause-fits : goal.pass_quiet-quiet-requires-clause-fits
+pass_quiet-quiet-requires-clause-fits c =
+    let stored = row_stored c.args.view.now (c.args.first + c.loop-walk.walk.place) (length c.args.arena.now.tokens) c.item_at-next.new.row c.requires.within c.item_at-next.ensures.some c.item_at-next.ensures.row in
+    omega (arith, stored, c.len-items.ensures.count)
 
--- quiet tokens count as the place tells
-placed : (walk : Walk) (stands : Around) (place last : ℕ) (class : TokenClass) → (passed walk stands place last class).place ≡ place
-placed walk around.Outside place last class = refl
-placed walk around.Body place last class = refl
-placed walk around.Group place last class = refl
-
-pub loop-walk-preserved-then-is_quiet : goal.loop-walk-preserved-then-is_quiet
-loop-walk-preserved-then-is_quiet c =
+pub loop-walk-preserved-then-first-place : goal.loop-walk-preserved-then-first-place
+loop-walk-preserved-then-first-place c =
     let arena = c.args.arena.now in
     let view = c.args.view.now in
     let begins = place_in c.args.begins in
-    let walk = c.loop-walk.walk in
+    let walk = c.pass_quiet-quiet.new.walk in
     let bodies = reverse c.loop-walk.brackets.bodies.items in
     let waiting = reverse c.loop-walk.brackets.waiting.items in
     let here = c.loop-walk.invariant.stands in
-    let id = c.item_at-id.result.0 in
-    let n = c.quiet_behind-quiet.result in
-    let row = c.item_at-id.ensures.row in
-    let never : may_end walk (around_of bodies waiting) id ≡ false = ap (λ (a : Around). may_end walk a id) (sym here) ∙ (sym c.may_end.ensures ∙ c.if-not-may_end.true) in
-    let quiet = sym c.is_quiet.ensures ∙ c.if-is_quiet.true in
-    let within : c.args.first + walk.place + n < length view = omega (arith, c.quiet_behind-quiet.ensures.within, row.inside) in
-    let next = next_item arena view c.args.all.now c.args.first c.len-count.result walk bodies waiting _ c.loop-walk.brackets.around id _ c.requires.within c.requires.all c.len-count.ensures.count c.loop-walk-test.true (c.item_at-id.ensures.item 0) here refl in
-    let quiet_items = quiet_view c.loop-walk.brackets.around view c.args.all.now (c.args.first + walk.place) n c.item_at-id.new.row row c.quiet_behind-quiet.ensures.within c.quiet_behind-quiet.ensures.quiet in
-    let are_quiet : AreQuiet arena c.loop-walk.brackets.around (drop c.args.first view) walk.place (1 + n) =
-    all_quiet arena c.loop-walk.brackets.around view c.args.all.now c.args.first walk.place n _ c.requires.within c.requires.all within next.class_is quiet quiet_items in
-    let stored = row_stored view (c.args.first + walk.place) (length arena.tokens) c.item_at-id.new.row c.requires.within c.item_at-id.ensures.some row in
-    let told = class_told arena c.args.all.now (id + n) _ c.requires.all (omega (arith, stored, c.item_at-id.ensures.shift, c.quiet_behind-quiet.ensures.within)) in
-    let items = row_items view c.args.first walk.place n id c.item_at-id.new.row row c.item_at-id.ensures.shift c.quiet_behind-quiet.ensures.within in
-    let later : c.pass_quiet.new.self.place ≡ walk.place + n + 1 = ap (λ (w : Walk). w.place) c.pass_quiet.ensures ∙ placed walk c.loop-walk.brackets.around _ _ _ in
-    let was = c.loop-walk.invariant.read in
-    let on = quiet_row arena begins (drop c.args.first view) walk c.pass_quiet.new.self bodies waiting c.loop-walk.brackets.around id n _ here (none_left bodies waiting was.holds) never c.quiet_behind-quiet.ensures.low are_quiet items told c.pass_quiet.ensures was.on in
+    let was = read_past arena begins view c.args.first c.pass_quiet-quiet.result c.loop-walk.walk walk bodies waiting c.loop-walk.brackets.braces c.loop-walk.brackets.around c.args.all.now c.item_at-next.result.0 c.item_at-next.new.row c.len-count.ensures.increase
+    c.requires.within c.requires.all c.item_at-next.ensures.row c.item_at-next.ensures.shift c.pass_quiet-quiet.ensures.within here c.pass_quiet-quiet.ensures.quiet c.loop-walk.invariant.read in
     record {
-      read = read_quiet arena begins view c.args.first n walk c.pass_quiet.new.self bodies waiting c.loop-walk.brackets.braces c.len-count.ensures.increase later on was;
+      read = was;
       stands = here;
-      row = row_later view _ (c.args.first + c.pass_quiet.new.self.place) c.item_at-id.new.row (omega (arith, later)) row;
+      row = row_later view _ (c.args.first + walk.place) c.item_at-next.new.row (omega (arith, c.pass_quiet-quiet.ensures.place)) c.item_at-next.ensures.row;
     }
+
+pub prove-unreachable-requires : goal.prove-unreachable-requires
+prove-unreachable-requires c =
+    let stored = row_stored c.args.view.now (c.args.first + c.loop-walk.walk.place) (length c.args.arena.now.tokens) c.item_at-next.new.row c.requires.within c.item_at-next.ensures.some c.item_at-next.ensures.row in
+    omega (arith, stored, c.if-first-place.false, c.if-prove.true, c.item_at-next.ensures.shift, c.pass_quiet-quiet.ensures.place, c.len-items.ensures.count)
+
+pub pass_open_brace-requires-clause-on : goal.pass_open_brace-requires-clause-on
+pass_open_brace-requires-clause-on c = untrue _ (and_parts _ _ (sym c.passes_brace.ensures ∙ c.if-passes_brace.true)).1
+
+pub pass-requires-clause-before : goal.pass-requires-clause-before
+pass-requires-clause-before c =
+    let arena = c.args.arena.now in
+    let view = c.args.view.now in
+    let begins = place_in c.args.begins in
+    let walk = c.pass_quiet-quiet.new.walk in
+    let bodies = reverse c.loop-walk.brackets.bodies.items in
+    let waiting = reverse c.loop-walk.brackets.waiting.items in
+    let here = c.loop-walk.invariant.stands in
+    let was = read_past arena begins view c.args.first c.pass_quiet-quiet.result c.loop-walk.walk walk bodies waiting c.loop-walk.brackets.braces c.loop-walk.brackets.around c.args.all.now c.item_at-next.result.0 c.item_at-next.new.row c.len-count.ensures.increase
+    c.requires.within c.requires.all c.item_at-next.ensures.row c.item_at-next.ensures.shift c.pass_quiet-quiet.ensures.within here c.pass_quiet-quiet.ensures.quiet c.loop-walk.invariant.read in
+    let at = stands_behind view c.args.first c.loop-walk.walk.place walk.place c.item_at-next.result.0 c.pass_quiet-quiet.result c.item_at-next.new.row c.item_at-next.ensures.row c.item_at-next.ensures.shift c.pass_quiet-quiet.ensures.place (omega (arith, c.if-first-place.false)) in
+    subst (λ n. StandBefore (n + 1) waiting) at.item (was.before at.below)
+
+pub pass-requires-in-loop-walk-clause-before : goal.pass-requires-in-loop-walk-clause-before
+pass-requires-in-loop-walk-clause-before c =
+    let arena = c.args.arena.now in
+    let view = c.args.view.now in
+    let begins = place_in c.args.begins in
+    let walk = c.pass_quiet-quiet.new.walk in
+    let bodies = reverse c.loop-walk.brackets.bodies.items in
+    let waiting = reverse c.loop-walk.brackets.waiting.items in
+    let here = c.loop-walk.invariant.stands in
+    let was = read_past arena begins view c.args.first c.pass_quiet-quiet.result c.loop-walk.walk walk bodies waiting c.loop-walk.brackets.braces c.loop-walk.brackets.around c.args.all.now c.item_at-next.result.0 c.item_at-next.new.row c.len-count.ensures.increase
+    c.requires.within c.requires.all c.item_at-next.ensures.row c.item_at-next.ensures.shift c.pass_quiet-quiet.ensures.within here c.pass_quiet-quiet.ensures.quiet c.loop-walk.invariant.read in
+    let at = stands_behind view c.args.first c.loop-walk.walk.place walk.place c.item_at-next.result.0 c.pass_quiet-quiet.result c.item_at-next.new.row c.item_at-next.ensures.row c.item_at-next.ensures.shift c.pass_quiet-quiet.ensures.place (omega (arith, c.if-first-place.false)) in
+    subst (λ n. StandBefore (n + 1) waiting) at.item (was.before at.below)
 
 pub opened_head-opened-requires-clause-few : goal.opened_head-opened-requires-clause-few
 opened_head-opened-requires-clause-few c =
@@ -139,16 +158,20 @@ told-requires-clause-within c =
     let arena = c.args.arena.now in
     let view = c.args.view.now in
     let begins = place_in c.args.begins in
-    let walk = c.loop-walk.walk in
+    let walk = c.pass_quiet-quiet.new.walk in
     let bodies = reverse c.loop-walk.brackets.bodies.items in
     let waiting = reverse c.loop-walk.brackets.waiting.items in
     let here = c.loop-walk.invariant.stands in
+    let was = read_past arena begins view c.args.first c.pass_quiet-quiet.result c.loop-walk.walk walk bodies waiting c.loop-walk.brackets.braces c.loop-walk.brackets.around c.args.all.now c.item_at-next.result.0 c.item_at-next.new.row c.len-count.ensures.increase
+    c.requires.within c.requires.all c.item_at-next.ensures.row c.item_at-next.ensures.shift c.pass_quiet-quiet.ensures.within here c.pass_quiet-quiet.ensures.quiet c.loop-walk.invariant.read in
+    let at = stands_behind view c.args.first c.loop-walk.walk.place walk.place c.item_at-next.result.0 c.pass_quiet-quiet.result c.item_at-next.new.row c.item_at-next.ensures.row c.item_at-next.ensures.shift c.pass_quiet-quiet.ensures.place (omega (arith, c.if-first-place.false)) in
+    let id = c.item_at-next.result.0 + c.pass_quiet-quiet.result in
     let read = read_so c.read.result c.read.new.walk in
-    let item = next_item arena view c.args.all.now c.args.first c.len-count.result walk bodies waiting read c.loop-walk.brackets.around c.item_at-id.result.0 _ c.requires.within c.requires.all c.len-count.ensures.count c.loop-walk-test.true
-    (c.item_at-id.ensures.item 0) here c.read.ensures.read in
+    let item = next_item arena view c.args.all.now c.args.first c.len-count.result walk bodies waiting read c.loop-walk.brackets.around id _ c.requires.within c.requires.all c.len-count.ensures.count (omega (arith, at.below, c.len-count.ensures.count))
+    at.item here c.read.ensures.read in
     let ended = outside_at c.in-EndsOutside.ended in
     let told : told_by walk bodies read ≡ Some ended = ap (λ (o : Outcome). told_by walk bodies (read_so o c.read.new.walk)) c.in-EndsOutside.is in
-    let ends = ends_there arena begins view c.args.first walk bodies waiting read _ _ ended (headed begins _ c.requires.begins) item told c.loop-walk.invariant.read.on in
+    let ends = ends_there arena begins view c.args.first walk bodies waiting read _ _ ended (headed begins _ c.requires.begins) item told was.on in
     let later = ends.later in
     let within = ends.within in
     omega (arith, later, within, c.len-count.ensures.count)
@@ -158,16 +181,20 @@ returns-in-EndsOutside-clause-end c =
     let arena = c.args.arena.now in
     let view = c.args.view.now in
     let begins = place_in c.args.begins in
-    let walk = c.loop-walk.walk in
+    let walk = c.pass_quiet-quiet.new.walk in
     let bodies = reverse c.loop-walk.brackets.bodies.items in
     let waiting = reverse c.loop-walk.brackets.waiting.items in
     let here = c.loop-walk.invariant.stands in
+    let was = read_past arena begins view c.args.first c.pass_quiet-quiet.result c.loop-walk.walk walk bodies waiting c.loop-walk.brackets.braces c.loop-walk.brackets.around c.args.all.now c.item_at-next.result.0 c.item_at-next.new.row c.len-count.ensures.increase
+    c.requires.within c.requires.all c.item_at-next.ensures.row c.item_at-next.ensures.shift c.pass_quiet-quiet.ensures.within here c.pass_quiet-quiet.ensures.quiet c.loop-walk.invariant.read in
+    let at = stands_behind view c.args.first c.loop-walk.walk.place walk.place c.item_at-next.result.0 c.pass_quiet-quiet.result c.item_at-next.new.row c.item_at-next.ensures.row c.item_at-next.ensures.shift c.pass_quiet-quiet.ensures.place (omega (arith, c.if-first-place.false)) in
+    let id = c.item_at-next.result.0 + c.pass_quiet-quiet.result in
     let read = read_so c.read.result c.read.new.walk in
-    let item = next_item arena view c.args.all.now c.args.first c.len-count.result walk bodies waiting read c.loop-walk.brackets.around c.item_at-id.result.0 _ c.requires.within c.requires.all c.len-count.ensures.count c.loop-walk-test.true
-    (c.item_at-id.ensures.item 0) here c.read.ensures.read in
+    let item = next_item arena view c.args.all.now c.args.first c.len-count.result walk bodies waiting read c.loop-walk.brackets.around id _ c.requires.within c.requires.all c.len-count.ensures.count (omega (arith, at.below, c.len-count.ensures.count))
+    at.item here c.read.ensures.read in
     let ended = outside_at c.in-EndsOutside.ended in
     let told : told_by walk bodies read ≡ Some ended = ap (λ (o : Outcome). told_by walk bodies (read_so o c.read.new.walk)) c.in-EndsOutside.is in
-    let ends = ends_there arena begins view c.args.first walk bodies waiting read _ _ ended (headed begins _ c.requires.begins) item told c.loop-walk.invariant.read.on in
+    let ends = ends_there arena begins view c.args.first walk bodies waiting read _ _ ended (headed begins _ c.requires.begins) item told was.on in
     c.told.ensures.end ∙ ends.end
 
 pub returns-in-EndsOutside-clause-inside : goal.returns-in-EndsOutside-clause-inside
@@ -175,16 +202,20 @@ returns-in-EndsOutside-clause-inside c =
     let arena = c.args.arena.now in
     let view = c.args.view.now in
     let begins = place_in c.args.begins in
-    let walk = c.loop-walk.walk in
+    let walk = c.pass_quiet-quiet.new.walk in
     let bodies = reverse c.loop-walk.brackets.bodies.items in
     let waiting = reverse c.loop-walk.brackets.waiting.items in
     let here = c.loop-walk.invariant.stands in
+    let was = read_past arena begins view c.args.first c.pass_quiet-quiet.result c.loop-walk.walk walk bodies waiting c.loop-walk.brackets.braces c.loop-walk.brackets.around c.args.all.now c.item_at-next.result.0 c.item_at-next.new.row c.len-count.ensures.increase
+    c.requires.within c.requires.all c.item_at-next.ensures.row c.item_at-next.ensures.shift c.pass_quiet-quiet.ensures.within here c.pass_quiet-quiet.ensures.quiet c.loop-walk.invariant.read in
+    let at = stands_behind view c.args.first c.loop-walk.walk.place walk.place c.item_at-next.result.0 c.pass_quiet-quiet.result c.item_at-next.new.row c.item_at-next.ensures.row c.item_at-next.ensures.shift c.pass_quiet-quiet.ensures.place (omega (arith, c.if-first-place.false)) in
+    let id = c.item_at-next.result.0 + c.pass_quiet-quiet.result in
     let read = read_so c.read.result c.read.new.walk in
-    let item = next_item arena view c.args.all.now c.args.first c.len-count.result walk bodies waiting read c.loop-walk.brackets.around c.item_at-id.result.0 _ c.requires.within c.requires.all c.len-count.ensures.count c.loop-walk-test.true
-    (c.item_at-id.ensures.item 0) here c.read.ensures.read in
+    let item = next_item arena view c.args.all.now c.args.first c.len-count.result walk bodies waiting read c.loop-walk.brackets.around id _ c.requires.within c.requires.all c.len-count.ensures.count (omega (arith, at.below, c.len-count.ensures.count))
+    at.item here c.read.ensures.read in
     let ended = outside_at c.in-EndsOutside.ended in
     let told : told_by walk bodies read ≡ Some ended = ap (λ (o : Outcome). told_by walk bodies (read_so o c.read.new.walk)) c.in-EndsOutside.is in
-    let ends = ends_there arena begins view c.args.first walk bodies waiting read _ _ ended (headed begins _ c.requires.begins) item told c.loop-walk.invariant.read.on in
+    let ends = ends_there arena begins view c.args.first walk bodies waiting read _ _ ended (headed begins _ c.requires.begins) item told was.on in
     c.told.ensures.inside ∙ ends.inside
 
 pub returns-in-EndsOutside-clause-some : goal.returns-in-EndsOutside-clause-some
@@ -192,16 +223,20 @@ returns-in-EndsOutside-clause-some c =
     let arena = c.args.arena.now in
     let view = c.args.view.now in
     let begins = place_in c.args.begins in
-    let walk = c.loop-walk.walk in
+    let walk = c.pass_quiet-quiet.new.walk in
     let bodies = reverse c.loop-walk.brackets.bodies.items in
     let waiting = reverse c.loop-walk.brackets.waiting.items in
     let here = c.loop-walk.invariant.stands in
+    let was = read_past arena begins view c.args.first c.pass_quiet-quiet.result c.loop-walk.walk walk bodies waiting c.loop-walk.brackets.braces c.loop-walk.brackets.around c.args.all.now c.item_at-next.result.0 c.item_at-next.new.row c.len-count.ensures.increase
+    c.requires.within c.requires.all c.item_at-next.ensures.row c.item_at-next.ensures.shift c.pass_quiet-quiet.ensures.within here c.pass_quiet-quiet.ensures.quiet c.loop-walk.invariant.read in
+    let at = stands_behind view c.args.first c.loop-walk.walk.place walk.place c.item_at-next.result.0 c.pass_quiet-quiet.result c.item_at-next.new.row c.item_at-next.ensures.row c.item_at-next.ensures.shift c.pass_quiet-quiet.ensures.place (omega (arith, c.if-first-place.false)) in
+    let id = c.item_at-next.result.0 + c.pass_quiet-quiet.result in
     let read = read_so c.read.result c.read.new.walk in
-    let item = next_item arena view c.args.all.now c.args.first c.len-count.result walk bodies waiting read c.loop-walk.brackets.around c.item_at-id.result.0 _ c.requires.within c.requires.all c.len-count.ensures.count c.loop-walk-test.true
-    (c.item_at-id.ensures.item 0) here c.read.ensures.read in
+    let item = next_item arena view c.args.all.now c.args.first c.len-count.result walk bodies waiting read c.loop-walk.brackets.around id _ c.requires.within c.requires.all c.len-count.ensures.count (omega (arith, at.below, c.len-count.ensures.count))
+    at.item here c.read.ensures.read in
     let ended = outside_at c.in-EndsOutside.ended in
     let told : told_by walk bodies read ≡ Some ended = ap (λ (o : Outcome). told_by walk bodies (read_so o c.read.new.walk)) c.in-EndsOutside.is in
-    let ends = ends_there arena begins view c.args.first walk bodies waiting read _ _ ended (headed begins _ c.requires.begins) item told c.loop-walk.invariant.read.on in
+    let ends = ends_there arena begins view c.args.first walk bodies waiting read _ _ ended (headed begins _ c.requires.begins) item told was.on in
     (let some = ends.some in let end = c.told.ensures.end in omega (arith, some, end))
 
 pub returns-in-EndsOutside-clause-within : goal.returns-in-EndsOutside-clause-within
@@ -209,16 +244,20 @@ returns-in-EndsOutside-clause-within c =
     let arena = c.args.arena.now in
     let view = c.args.view.now in
     let begins = place_in c.args.begins in
-    let walk = c.loop-walk.walk in
+    let walk = c.pass_quiet-quiet.new.walk in
     let bodies = reverse c.loop-walk.brackets.bodies.items in
     let waiting = reverse c.loop-walk.brackets.waiting.items in
     let here = c.loop-walk.invariant.stands in
+    let was = read_past arena begins view c.args.first c.pass_quiet-quiet.result c.loop-walk.walk walk bodies waiting c.loop-walk.brackets.braces c.loop-walk.brackets.around c.args.all.now c.item_at-next.result.0 c.item_at-next.new.row c.len-count.ensures.increase
+    c.requires.within c.requires.all c.item_at-next.ensures.row c.item_at-next.ensures.shift c.pass_quiet-quiet.ensures.within here c.pass_quiet-quiet.ensures.quiet c.loop-walk.invariant.read in
+    let at = stands_behind view c.args.first c.loop-walk.walk.place walk.place c.item_at-next.result.0 c.pass_quiet-quiet.result c.item_at-next.new.row c.item_at-next.ensures.row c.item_at-next.ensures.shift c.pass_quiet-quiet.ensures.place (omega (arith, c.if-first-place.false)) in
+    let id = c.item_at-next.result.0 + c.pass_quiet-quiet.result in
     let read = read_so c.read.result c.read.new.walk in
-    let item = next_item arena view c.args.all.now c.args.first c.len-count.result walk bodies waiting read c.loop-walk.brackets.around c.item_at-id.result.0 _ c.requires.within c.requires.all c.len-count.ensures.count c.loop-walk-test.true
-    (c.item_at-id.ensures.item 0) here c.read.ensures.read in
+    let item = next_item arena view c.args.all.now c.args.first c.len-count.result walk bodies waiting read c.loop-walk.brackets.around id _ c.requires.within c.requires.all c.len-count.ensures.count (omega (arith, at.below, c.len-count.ensures.count))
+    at.item here c.read.ensures.read in
     let ended = outside_at c.in-EndsOutside.ended in
     let told : told_by walk bodies read ≡ Some ended = ap (λ (o : Outcome). told_by walk bodies (read_so o c.read.new.walk)) c.in-EndsOutside.is in
-    let ends = ends_there arena begins view c.args.first walk bodies waiting read _ _ ended (headed begins _ c.requires.begins) item told c.loop-walk.invariant.read.on in
+    let ends = ends_there arena begins view c.args.first walk bodies waiting read _ _ ended (headed begins _ c.requires.begins) item told was.on in
     (let later = ends.later in let within = ends.within in let end = c.told.ensures.end in omega (arith, later, within, end))
 
 pub returns-in-EndsOutside-clause-seen : goal.returns-in-EndsOutside-clause-seen
@@ -226,16 +265,20 @@ returns-in-EndsOutside-clause-seen c =
     let arena = c.args.arena.now in
     let view = c.args.view.now in
     let begins = place_in c.args.begins in
-    let walk = c.loop-walk.walk in
+    let walk = c.pass_quiet-quiet.new.walk in
     let bodies = reverse c.loop-walk.brackets.bodies.items in
     let waiting = reverse c.loop-walk.brackets.waiting.items in
     let here = c.loop-walk.invariant.stands in
+    let was = read_past arena begins view c.args.first c.pass_quiet-quiet.result c.loop-walk.walk walk bodies waiting c.loop-walk.brackets.braces c.loop-walk.brackets.around c.args.all.now c.item_at-next.result.0 c.item_at-next.new.row c.len-count.ensures.increase
+    c.requires.within c.requires.all c.item_at-next.ensures.row c.item_at-next.ensures.shift c.pass_quiet-quiet.ensures.within here c.pass_quiet-quiet.ensures.quiet c.loop-walk.invariant.read in
+    let at = stands_behind view c.args.first c.loop-walk.walk.place walk.place c.item_at-next.result.0 c.pass_quiet-quiet.result c.item_at-next.new.row c.item_at-next.ensures.row c.item_at-next.ensures.shift c.pass_quiet-quiet.ensures.place (omega (arith, c.if-first-place.false)) in
+    let id = c.item_at-next.result.0 + c.pass_quiet-quiet.result in
     let read = read_so c.read.result c.read.new.walk in
-    let item = next_item arena view c.args.all.now c.args.first c.len-count.result walk bodies waiting read c.loop-walk.brackets.around c.item_at-id.result.0 _ c.requires.within c.requires.all c.len-count.ensures.count c.loop-walk-test.true
-    (c.item_at-id.ensures.item 0) here c.read.ensures.read in
+    let item = next_item arena view c.args.all.now c.args.first c.len-count.result walk bodies waiting read c.loop-walk.brackets.around id _ c.requires.within c.requires.all c.len-count.ensures.count (omega (arith, at.below, c.len-count.ensures.count))
+    at.item here c.read.ensures.read in
     let ended = outside_at c.in-EndsOutside.ended in
     let told : told_by walk bodies read ≡ Some ended = ap (λ (o : Outcome). told_by walk bodies (read_so o c.read.new.walk)) c.in-EndsOutside.is in
-    let ends = ends_there arena begins view c.args.first walk bodies waiting read _ _ ended (headed begins _ c.requires.begins) item told c.loop-walk.invariant.read.on in
+    let ends = ends_there arena begins view c.args.first walk bodies waiting read _ _ ended (headed begins _ c.requires.begins) item told was.on in
     λ seen is.
     ended_so arena begins (slice_range view c.args.first seen) c.args.first _ _ _ _ c.told.ensures.end c.told.ensures.inside
     (seen_so arena begins view c.args.first walk.place seen ended (some_is _ seen _ (sym c.told.ensures.seen ∙ is) refl) ends)
@@ -245,16 +288,20 @@ returns-in-EndsOutside-clause-later c =
     let arena = c.args.arena.now in
     let view = c.args.view.now in
     let begins = place_in c.args.begins in
-    let walk = c.loop-walk.walk in
+    let walk = c.pass_quiet-quiet.new.walk in
     let bodies = reverse c.loop-walk.brackets.bodies.items in
     let waiting = reverse c.loop-walk.brackets.waiting.items in
     let here = c.loop-walk.invariant.stands in
+    let was = read_past arena begins view c.args.first c.pass_quiet-quiet.result c.loop-walk.walk walk bodies waiting c.loop-walk.brackets.braces c.loop-walk.brackets.around c.args.all.now c.item_at-next.result.0 c.item_at-next.new.row c.len-count.ensures.increase
+    c.requires.within c.requires.all c.item_at-next.ensures.row c.item_at-next.ensures.shift c.pass_quiet-quiet.ensures.within here c.pass_quiet-quiet.ensures.quiet c.loop-walk.invariant.read in
+    let at = stands_behind view c.args.first c.loop-walk.walk.place walk.place c.item_at-next.result.0 c.pass_quiet-quiet.result c.item_at-next.new.row c.item_at-next.ensures.row c.item_at-next.ensures.shift c.pass_quiet-quiet.ensures.place (omega (arith, c.if-first-place.false)) in
+    let id = c.item_at-next.result.0 + c.pass_quiet-quiet.result in
     let read = read_so c.read.result c.read.new.walk in
-    let item = next_item arena view c.args.all.now c.args.first c.len-count.result walk bodies waiting read c.loop-walk.brackets.around c.item_at-id.result.0 _ c.requires.within c.requires.all c.len-count.ensures.count c.loop-walk-test.true
-    (c.item_at-id.ensures.item 0) here c.read.ensures.read in
+    let item = next_item arena view c.args.all.now c.args.first c.len-count.result walk bodies waiting read c.loop-walk.brackets.around id _ c.requires.within c.requires.all c.len-count.ensures.count (omega (arith, at.below, c.len-count.ensures.count))
+    at.item here c.read.ensures.read in
     let ended = outside_at c.in-EndsOutside.ended in
     let told : told_by walk bodies read ≡ Some ended = ap (λ (o : Outcome). told_by walk bodies (read_so o c.read.new.walk)) c.in-EndsOutside.is in
-    let ends = ends_there arena begins view c.args.first walk bodies waiting read _ _ ended (headed begins _ c.requires.begins) item told c.loop-walk.invariant.read.on in
+    let ends = ends_there arena begins view c.args.first walk bodies waiting read _ _ ended (headed begins _ c.requires.begins) item told was.on in
     let later = ends.later in
     let end = c.told.ensures.end in
     λ seen is.
@@ -266,16 +313,20 @@ told-requires-in-EndsInBody-clause-within c =
     let arena = c.args.arena.now in
     let view = c.args.view.now in
     let begins = place_in c.args.begins in
-    let walk = c.loop-walk.walk in
+    let walk = c.pass_quiet-quiet.new.walk in
     let bodies = reverse c.loop-walk.brackets.bodies.items in
     let waiting = reverse c.loop-walk.brackets.waiting.items in
     let here = c.loop-walk.invariant.stands in
+    let was = read_past arena begins view c.args.first c.pass_quiet-quiet.result c.loop-walk.walk walk bodies waiting c.loop-walk.brackets.braces c.loop-walk.brackets.around c.args.all.now c.item_at-next.result.0 c.item_at-next.new.row c.len-count.ensures.increase
+    c.requires.within c.requires.all c.item_at-next.ensures.row c.item_at-next.ensures.shift c.pass_quiet-quiet.ensures.within here c.pass_quiet-quiet.ensures.quiet c.loop-walk.invariant.read in
+    let at = stands_behind view c.args.first c.loop-walk.walk.place walk.place c.item_at-next.result.0 c.pass_quiet-quiet.result c.item_at-next.new.row c.item_at-next.ensures.row c.item_at-next.ensures.shift c.pass_quiet-quiet.ensures.place (omega (arith, c.if-first-place.false)) in
+    let id = c.item_at-next.result.0 + c.pass_quiet-quiet.result in
     let read = read_so c.read.result c.read.new.walk in
-    let item = next_item arena view c.args.all.now c.args.first c.len-count.result walk bodies waiting read c.loop-walk.brackets.around c.item_at-id.result.0 _ c.requires.within c.requires.all c.len-count.ensures.count c.loop-walk-test.true
-    (c.item_at-id.ensures.item 0) here c.read.ensures.read in
+    let item = next_item arena view c.args.all.now c.args.first c.len-count.result walk bodies waiting read c.loop-walk.brackets.around id _ c.requires.within c.requires.all c.len-count.ensures.count (omega (arith, at.below, c.len-count.ensures.count))
+    at.item here c.read.ensures.read in
     let ended = inside_at walk bodies c.in-EndsInBody.ended in
     let told : told_by walk bodies read ≡ Some ended = ap (λ (o : Outcome). told_by walk bodies (read_so o c.read.new.walk)) c.in-EndsInBody.is in
-    let ends = ends_there arena begins view c.args.first walk bodies waiting read _ _ ended (headed begins _ c.requires.begins) item told c.loop-walk.invariant.read.on in
+    let ends = ends_there arena begins view c.args.first walk bodies waiting read _ _ ended (headed begins _ c.requires.begins) item told was.on in
     let later = ends.later in
     let within = ends.within in
     omega (arith, later, within, c.len-count.ensures.count)
@@ -285,16 +336,20 @@ returns-in-EndsInBody-clause-end c =
     let arena = c.args.arena.now in
     let view = c.args.view.now in
     let begins = place_in c.args.begins in
-    let walk = c.loop-walk.walk in
+    let walk = c.pass_quiet-quiet.new.walk in
     let bodies = reverse c.loop-walk.brackets.bodies.items in
     let waiting = reverse c.loop-walk.brackets.waiting.items in
     let here = c.loop-walk.invariant.stands in
+    let was = read_past arena begins view c.args.first c.pass_quiet-quiet.result c.loop-walk.walk walk bodies waiting c.loop-walk.brackets.braces c.loop-walk.brackets.around c.args.all.now c.item_at-next.result.0 c.item_at-next.new.row c.len-count.ensures.increase
+    c.requires.within c.requires.all c.item_at-next.ensures.row c.item_at-next.ensures.shift c.pass_quiet-quiet.ensures.within here c.pass_quiet-quiet.ensures.quiet c.loop-walk.invariant.read in
+    let at = stands_behind view c.args.first c.loop-walk.walk.place walk.place c.item_at-next.result.0 c.pass_quiet-quiet.result c.item_at-next.new.row c.item_at-next.ensures.row c.item_at-next.ensures.shift c.pass_quiet-quiet.ensures.place (omega (arith, c.if-first-place.false)) in
+    let id = c.item_at-next.result.0 + c.pass_quiet-quiet.result in
     let read = read_so c.read.result c.read.new.walk in
-    let item = next_item arena view c.args.all.now c.args.first c.len-count.result walk bodies waiting read c.loop-walk.brackets.around c.item_at-id.result.0 _ c.requires.within c.requires.all c.len-count.ensures.count c.loop-walk-test.true
-    (c.item_at-id.ensures.item 0) here c.read.ensures.read in
+    let item = next_item arena view c.args.all.now c.args.first c.len-count.result walk bodies waiting read c.loop-walk.brackets.around id _ c.requires.within c.requires.all c.len-count.ensures.count (omega (arith, at.below, c.len-count.ensures.count))
+    at.item here c.read.ensures.read in
     let ended = inside_at walk bodies c.in-EndsInBody.ended in
     let told : told_by walk bodies read ≡ Some ended = ap (λ (o : Outcome). told_by walk bodies (read_so o c.read.new.walk)) c.in-EndsInBody.is in
-    let ends = ends_there arena begins view c.args.first walk bodies waiting read _ _ ended (headed begins _ c.requires.begins) item told c.loop-walk.invariant.read.on in
+    let ends = ends_there arena begins view c.args.first walk bodies waiting read _ _ ended (headed begins _ c.requires.begins) item told was.on in
     c.told-in-EndsInBody.ensures.end ∙ ends.end
 
 pub returns-in-EndsInBody-clause-inside : goal.returns-in-EndsInBody-clause-inside
@@ -302,16 +357,20 @@ returns-in-EndsInBody-clause-inside c =
     let arena = c.args.arena.now in
     let view = c.args.view.now in
     let begins = place_in c.args.begins in
-    let walk = c.loop-walk.walk in
+    let walk = c.pass_quiet-quiet.new.walk in
     let bodies = reverse c.loop-walk.brackets.bodies.items in
     let waiting = reverse c.loop-walk.brackets.waiting.items in
     let here = c.loop-walk.invariant.stands in
+    let was = read_past arena begins view c.args.first c.pass_quiet-quiet.result c.loop-walk.walk walk bodies waiting c.loop-walk.brackets.braces c.loop-walk.brackets.around c.args.all.now c.item_at-next.result.0 c.item_at-next.new.row c.len-count.ensures.increase
+    c.requires.within c.requires.all c.item_at-next.ensures.row c.item_at-next.ensures.shift c.pass_quiet-quiet.ensures.within here c.pass_quiet-quiet.ensures.quiet c.loop-walk.invariant.read in
+    let at = stands_behind view c.args.first c.loop-walk.walk.place walk.place c.item_at-next.result.0 c.pass_quiet-quiet.result c.item_at-next.new.row c.item_at-next.ensures.row c.item_at-next.ensures.shift c.pass_quiet-quiet.ensures.place (omega (arith, c.if-first-place.false)) in
+    let id = c.item_at-next.result.0 + c.pass_quiet-quiet.result in
     let read = read_so c.read.result c.read.new.walk in
-    let item = next_item arena view c.args.all.now c.args.first c.len-count.result walk bodies waiting read c.loop-walk.brackets.around c.item_at-id.result.0 _ c.requires.within c.requires.all c.len-count.ensures.count c.loop-walk-test.true
-    (c.item_at-id.ensures.item 0) here c.read.ensures.read in
+    let item = next_item arena view c.args.all.now c.args.first c.len-count.result walk bodies waiting read c.loop-walk.brackets.around id _ c.requires.within c.requires.all c.len-count.ensures.count (omega (arith, at.below, c.len-count.ensures.count))
+    at.item here c.read.ensures.read in
     let ended = inside_at walk bodies c.in-EndsInBody.ended in
     let told : told_by walk bodies read ≡ Some ended = ap (λ (o : Outcome). told_by walk bodies (read_so o c.read.new.walk)) c.in-EndsInBody.is in
-    let ends = ends_there arena begins view c.args.first walk bodies waiting read _ _ ended (headed begins _ c.requires.begins) item told c.loop-walk.invariant.read.on in
+    let ends = ends_there arena begins view c.args.first walk bodies waiting read _ _ ended (headed begins _ c.requires.begins) item told was.on in
     let same : place_of c.in_ok-inside-in-EndsInBody.inside ≡ place_behind walk bodies =
     c.in_ok-inside-in-EndsInBody.ensures ∙ (ap (λ (hs : List Head). place_behind c.read.new.walk (reverse hs)) c.deref-in-EndsInBody.ensures.value ∙ ap (λ (w : Walk). place_behind w bodies) c.in-EndsInBody.ensures.stays) in
     (c.told-in-EndsInBody.ensures.inside ∙ ap (λ (p : Place). Some p) same) ∙ ends.inside
@@ -321,16 +380,20 @@ returns-in-EndsInBody-clause-place c =
     let arena = c.args.arena.now in
     let view = c.args.view.now in
     let begins = place_in c.args.begins in
-    let walk = c.loop-walk.walk in
+    let walk = c.pass_quiet-quiet.new.walk in
     let bodies = reverse c.loop-walk.brackets.bodies.items in
     let waiting = reverse c.loop-walk.brackets.waiting.items in
     let here = c.loop-walk.invariant.stands in
+    let was = read_past arena begins view c.args.first c.pass_quiet-quiet.result c.loop-walk.walk walk bodies waiting c.loop-walk.brackets.braces c.loop-walk.brackets.around c.args.all.now c.item_at-next.result.0 c.item_at-next.new.row c.len-count.ensures.increase
+    c.requires.within c.requires.all c.item_at-next.ensures.row c.item_at-next.ensures.shift c.pass_quiet-quiet.ensures.within here c.pass_quiet-quiet.ensures.quiet c.loop-walk.invariant.read in
+    let at = stands_behind view c.args.first c.loop-walk.walk.place walk.place c.item_at-next.result.0 c.pass_quiet-quiet.result c.item_at-next.new.row c.item_at-next.ensures.row c.item_at-next.ensures.shift c.pass_quiet-quiet.ensures.place (omega (arith, c.if-first-place.false)) in
+    let id = c.item_at-next.result.0 + c.pass_quiet-quiet.result in
     let read = read_so c.read.result c.read.new.walk in
-    let item = next_item arena view c.args.all.now c.args.first c.len-count.result walk bodies waiting read c.loop-walk.brackets.around c.item_at-id.result.0 _ c.requires.within c.requires.all c.len-count.ensures.count c.loop-walk-test.true
-    (c.item_at-id.ensures.item 0) here c.read.ensures.read in
+    let item = next_item arena view c.args.all.now c.args.first c.len-count.result walk bodies waiting read c.loop-walk.brackets.around id _ c.requires.within c.requires.all c.len-count.ensures.count (omega (arith, at.below, c.len-count.ensures.count))
+    at.item here c.read.ensures.read in
     let ended = inside_at walk bodies c.in-EndsInBody.ended in
     let told : told_by walk bodies read ≡ Some ended = ap (λ (o : Outcome). told_by walk bodies (read_so o c.read.new.walk)) c.in-EndsInBody.is in
-    let ends = ends_there arena begins view c.args.first walk bodies waiting read _ _ ended (headed begins _ c.requires.begins) item told c.loop-walk.invariant.read.on in
+    let ends = ends_there arena begins view c.args.first walk bodies waiting read _ _ ended (headed begins _ c.requires.begins) item told was.on in
     let same : place_of c.in_ok-inside-in-EndsInBody.inside ≡ place_behind walk bodies =
     c.in_ok-inside-in-EndsInBody.ensures ∙ (ap (λ (hs : List Head). place_behind c.read.new.walk (reverse hs)) c.deref-in-EndsInBody.ensures.value ∙ ap (λ (w : Walk). place_behind w bodies) c.in-EndsInBody.ensures.stays) in
     let ids = drop c.args.first view in
@@ -346,16 +409,20 @@ returns-in-EndsInBody-clause-some c =
     let arena = c.args.arena.now in
     let view = c.args.view.now in
     let begins = place_in c.args.begins in
-    let walk = c.loop-walk.walk in
+    let walk = c.pass_quiet-quiet.new.walk in
     let bodies = reverse c.loop-walk.brackets.bodies.items in
     let waiting = reverse c.loop-walk.brackets.waiting.items in
     let here = c.loop-walk.invariant.stands in
+    let was = read_past arena begins view c.args.first c.pass_quiet-quiet.result c.loop-walk.walk walk bodies waiting c.loop-walk.brackets.braces c.loop-walk.brackets.around c.args.all.now c.item_at-next.result.0 c.item_at-next.new.row c.len-count.ensures.increase
+    c.requires.within c.requires.all c.item_at-next.ensures.row c.item_at-next.ensures.shift c.pass_quiet-quiet.ensures.within here c.pass_quiet-quiet.ensures.quiet c.loop-walk.invariant.read in
+    let at = stands_behind view c.args.first c.loop-walk.walk.place walk.place c.item_at-next.result.0 c.pass_quiet-quiet.result c.item_at-next.new.row c.item_at-next.ensures.row c.item_at-next.ensures.shift c.pass_quiet-quiet.ensures.place (omega (arith, c.if-first-place.false)) in
+    let id = c.item_at-next.result.0 + c.pass_quiet-quiet.result in
     let read = read_so c.read.result c.read.new.walk in
-    let item = next_item arena view c.args.all.now c.args.first c.len-count.result walk bodies waiting read c.loop-walk.brackets.around c.item_at-id.result.0 _ c.requires.within c.requires.all c.len-count.ensures.count c.loop-walk-test.true
-    (c.item_at-id.ensures.item 0) here c.read.ensures.read in
+    let item = next_item arena view c.args.all.now c.args.first c.len-count.result walk bodies waiting read c.loop-walk.brackets.around id _ c.requires.within c.requires.all c.len-count.ensures.count (omega (arith, at.below, c.len-count.ensures.count))
+    at.item here c.read.ensures.read in
     let ended = inside_at walk bodies c.in-EndsInBody.ended in
     let told : told_by walk bodies read ≡ Some ended = ap (λ (o : Outcome). told_by walk bodies (read_so o c.read.new.walk)) c.in-EndsInBody.is in
-    let ends = ends_there arena begins view c.args.first walk bodies waiting read _ _ ended (headed begins _ c.requires.begins) item told c.loop-walk.invariant.read.on in
+    let ends = ends_there arena begins view c.args.first walk bodies waiting read _ _ ended (headed begins _ c.requires.begins) item told was.on in
     (let some = ends.some in let end = c.told-in-EndsInBody.ensures.end in omega (arith, some, end))
 
 pub returns-in-EndsInBody-clause-within : goal.returns-in-EndsInBody-clause-within
@@ -363,16 +430,20 @@ returns-in-EndsInBody-clause-within c =
     let arena = c.args.arena.now in
     let view = c.args.view.now in
     let begins = place_in c.args.begins in
-    let walk = c.loop-walk.walk in
+    let walk = c.pass_quiet-quiet.new.walk in
     let bodies = reverse c.loop-walk.brackets.bodies.items in
     let waiting = reverse c.loop-walk.brackets.waiting.items in
     let here = c.loop-walk.invariant.stands in
+    let was = read_past arena begins view c.args.first c.pass_quiet-quiet.result c.loop-walk.walk walk bodies waiting c.loop-walk.brackets.braces c.loop-walk.brackets.around c.args.all.now c.item_at-next.result.0 c.item_at-next.new.row c.len-count.ensures.increase
+    c.requires.within c.requires.all c.item_at-next.ensures.row c.item_at-next.ensures.shift c.pass_quiet-quiet.ensures.within here c.pass_quiet-quiet.ensures.quiet c.loop-walk.invariant.read in
+    let at = stands_behind view c.args.first c.loop-walk.walk.place walk.place c.item_at-next.result.0 c.pass_quiet-quiet.result c.item_at-next.new.row c.item_at-next.ensures.row c.item_at-next.ensures.shift c.pass_quiet-quiet.ensures.place (omega (arith, c.if-first-place.false)) in
+    let id = c.item_at-next.result.0 + c.pass_quiet-quiet.result in
     let read = read_so c.read.result c.read.new.walk in
-    let item = next_item arena view c.args.all.now c.args.first c.len-count.result walk bodies waiting read c.loop-walk.brackets.around c.item_at-id.result.0 _ c.requires.within c.requires.all c.len-count.ensures.count c.loop-walk-test.true
-    (c.item_at-id.ensures.item 0) here c.read.ensures.read in
+    let item = next_item arena view c.args.all.now c.args.first c.len-count.result walk bodies waiting read c.loop-walk.brackets.around id _ c.requires.within c.requires.all c.len-count.ensures.count (omega (arith, at.below, c.len-count.ensures.count))
+    at.item here c.read.ensures.read in
     let ended = inside_at walk bodies c.in-EndsInBody.ended in
     let told : told_by walk bodies read ≡ Some ended = ap (λ (o : Outcome). told_by walk bodies (read_so o c.read.new.walk)) c.in-EndsInBody.is in
-    let ends = ends_there arena begins view c.args.first walk bodies waiting read _ _ ended (headed begins _ c.requires.begins) item told c.loop-walk.invariant.read.on in
+    let ends = ends_there arena begins view c.args.first walk bodies waiting read _ _ ended (headed begins _ c.requires.begins) item told was.on in
     (let later = ends.later in let within = ends.within in let end = c.told-in-EndsInBody.ensures.end in omega (arith, later, within, end))
 
 pub returns-in-EndsInBody-clause-seen : goal.returns-in-EndsInBody-clause-seen
@@ -380,16 +451,20 @@ returns-in-EndsInBody-clause-seen c =
     let arena = c.args.arena.now in
     let view = c.args.view.now in
     let begins = place_in c.args.begins in
-    let walk = c.loop-walk.walk in
+    let walk = c.pass_quiet-quiet.new.walk in
     let bodies = reverse c.loop-walk.brackets.bodies.items in
     let waiting = reverse c.loop-walk.brackets.waiting.items in
     let here = c.loop-walk.invariant.stands in
+    let was = read_past arena begins view c.args.first c.pass_quiet-quiet.result c.loop-walk.walk walk bodies waiting c.loop-walk.brackets.braces c.loop-walk.brackets.around c.args.all.now c.item_at-next.result.0 c.item_at-next.new.row c.len-count.ensures.increase
+    c.requires.within c.requires.all c.item_at-next.ensures.row c.item_at-next.ensures.shift c.pass_quiet-quiet.ensures.within here c.pass_quiet-quiet.ensures.quiet c.loop-walk.invariant.read in
+    let at = stands_behind view c.args.first c.loop-walk.walk.place walk.place c.item_at-next.result.0 c.pass_quiet-quiet.result c.item_at-next.new.row c.item_at-next.ensures.row c.item_at-next.ensures.shift c.pass_quiet-quiet.ensures.place (omega (arith, c.if-first-place.false)) in
+    let id = c.item_at-next.result.0 + c.pass_quiet-quiet.result in
     let read = read_so c.read.result c.read.new.walk in
-    let item = next_item arena view c.args.all.now c.args.first c.len-count.result walk bodies waiting read c.loop-walk.brackets.around c.item_at-id.result.0 _ c.requires.within c.requires.all c.len-count.ensures.count c.loop-walk-test.true
-    (c.item_at-id.ensures.item 0) here c.read.ensures.read in
+    let item = next_item arena view c.args.all.now c.args.first c.len-count.result walk bodies waiting read c.loop-walk.brackets.around id _ c.requires.within c.requires.all c.len-count.ensures.count (omega (arith, at.below, c.len-count.ensures.count))
+    at.item here c.read.ensures.read in
     let ended = inside_at walk bodies c.in-EndsInBody.ended in
     let told : told_by walk bodies read ≡ Some ended = ap (λ (o : Outcome). told_by walk bodies (read_so o c.read.new.walk)) c.in-EndsInBody.is in
-    let ends = ends_there arena begins view c.args.first walk bodies waiting read _ _ ended (headed begins _ c.requires.begins) item told c.loop-walk.invariant.read.on in
+    let ends = ends_there arena begins view c.args.first walk bodies waiting read _ _ ended (headed begins _ c.requires.begins) item told was.on in
     let same : place_of c.in_ok-inside-in-EndsInBody.inside ≡ place_behind walk bodies =
     c.in_ok-inside-in-EndsInBody.ensures ∙ (ap (λ (hs : List Head). place_behind c.read.new.walk (reverse hs)) c.deref-in-EndsInBody.ensures.value ∙ ap (λ (w : Walk). place_behind w bodies) c.in-EndsInBody.ensures.stays) in
     λ seen is.
@@ -401,16 +476,20 @@ returns-in-EndsInBody-clause-later c =
     let arena = c.args.arena.now in
     let view = c.args.view.now in
     let begins = place_in c.args.begins in
-    let walk = c.loop-walk.walk in
+    let walk = c.pass_quiet-quiet.new.walk in
     let bodies = reverse c.loop-walk.brackets.bodies.items in
     let waiting = reverse c.loop-walk.brackets.waiting.items in
     let here = c.loop-walk.invariant.stands in
+    let was = read_past arena begins view c.args.first c.pass_quiet-quiet.result c.loop-walk.walk walk bodies waiting c.loop-walk.brackets.braces c.loop-walk.brackets.around c.args.all.now c.item_at-next.result.0 c.item_at-next.new.row c.len-count.ensures.increase
+    c.requires.within c.requires.all c.item_at-next.ensures.row c.item_at-next.ensures.shift c.pass_quiet-quiet.ensures.within here c.pass_quiet-quiet.ensures.quiet c.loop-walk.invariant.read in
+    let at = stands_behind view c.args.first c.loop-walk.walk.place walk.place c.item_at-next.result.0 c.pass_quiet-quiet.result c.item_at-next.new.row c.item_at-next.ensures.row c.item_at-next.ensures.shift c.pass_quiet-quiet.ensures.place (omega (arith, c.if-first-place.false)) in
+    let id = c.item_at-next.result.0 + c.pass_quiet-quiet.result in
     let read = read_so c.read.result c.read.new.walk in
-    let item = next_item arena view c.args.all.now c.args.first c.len-count.result walk bodies waiting read c.loop-walk.brackets.around c.item_at-id.result.0 _ c.requires.within c.requires.all c.len-count.ensures.count c.loop-walk-test.true
-    (c.item_at-id.ensures.item 0) here c.read.ensures.read in
+    let item = next_item arena view c.args.all.now c.args.first c.len-count.result walk bodies waiting read c.loop-walk.brackets.around id _ c.requires.within c.requires.all c.len-count.ensures.count (omega (arith, at.below, c.len-count.ensures.count))
+    at.item here c.read.ensures.read in
     let ended = inside_at walk bodies c.in-EndsInBody.ended in
     let told : told_by walk bodies read ≡ Some ended = ap (λ (o : Outcome). told_by walk bodies (read_so o c.read.new.walk)) c.in-EndsInBody.is in
-    let ends = ends_there arena begins view c.args.first walk bodies waiting read _ _ ended (headed begins _ c.requires.begins) item told c.loop-walk.invariant.read.on in
+    let ends = ends_there arena begins view c.args.first walk bodies waiting read _ _ ended (headed begins _ c.requires.begins) item told was.on in
     let later = ends.later in
     let end = c.told-in-EndsInBody.ensures.end in
     λ seen is.
@@ -422,34 +501,40 @@ loop-walk-smaller c =
     let arena = c.args.arena.now in
     let view = c.args.view.now in
     let begins = place_in c.args.begins in
-    let walk = c.loop-walk.walk in
+    let walk = c.pass_quiet-quiet.new.walk in
     let bodies = reverse c.loop-walk.brackets.bodies.items in
     let waiting = reverse c.loop-walk.brackets.waiting.items in
     let here = c.loop-walk.invariant.stands in
+    let was = read_past arena begins view c.args.first c.pass_quiet-quiet.result c.loop-walk.walk walk bodies waiting c.loop-walk.brackets.braces c.loop-walk.brackets.around c.args.all.now c.item_at-next.result.0 c.item_at-next.new.row c.len-count.ensures.increase
+    c.requires.within c.requires.all c.item_at-next.ensures.row c.item_at-next.ensures.shift c.pass_quiet-quiet.ensures.within here c.pass_quiet-quiet.ensures.quiet c.loop-walk.invariant.read in
+    let at = stands_behind view c.args.first c.loop-walk.walk.place walk.place c.item_at-next.result.0 c.pass_quiet-quiet.result c.item_at-next.new.row c.item_at-next.ensures.row c.item_at-next.ensures.shift c.pass_quiet-quiet.ensures.place (omega (arith, c.if-first-place.false)) in
+    let id = c.item_at-next.result.0 + c.pass_quiet-quiet.result in
     let read = read_so c.read.result c.read.new.walk in
-    let item = next_item arena view c.args.all.now c.args.first c.len-count.result walk bodies waiting read c.loop-walk.brackets.around c.item_at-id.result.0 _ c.requires.within c.requires.all c.len-count.ensures.count c.loop-walk-test.true
-    (c.item_at-id.ensures.item 0) here c.read.ensures.read in
-    let id = c.item_at-id.result.0 in
+    let item = next_item arena view c.args.all.now c.args.first c.len-count.result walk bodies waiting read c.loop-walk.brackets.around id _ c.requires.within c.requires.all c.len-count.ensures.count (omega (arith, at.below, c.len-count.ensures.count))
+    at.item here c.read.ensures.read in
     let after = c.read.new.walk in
     let goes = ap (λ (o : Outcome). read_so o after) c.in-GoesOn.is in
     let made = c.in_ok-pass-2.ensures in
     let one = next_place arena (drop c.args.first view) walk after bodies waiting read _ _ item goes in
     let place : c.pass-in-loop-walk.new.walk.place ≡ walk.place + 1 = ap (λ (w : Walk). w.place) made.walk ∙ (behind_place after bodies (reverse c.pass-in-loop-walk.new.self.waiting.items) None id ∙ one) in
-    omega (arith, place, c.loop-walk-test.true)
+    omega (arith, place, c.pass_quiet-quiet.ensures.place, c.loop-walk-test.true)
 
 pub loop-walk-preserved : goal.loop-walk-preserved
 loop-walk-preserved c =
     let arena = c.args.arena.now in
     let view = c.args.view.now in
     let begins = place_in c.args.begins in
-    let walk = c.loop-walk.walk in
+    let walk = c.pass_quiet-quiet.new.walk in
     let bodies = reverse c.loop-walk.brackets.bodies.items in
     let waiting = reverse c.loop-walk.brackets.waiting.items in
     let here = c.loop-walk.invariant.stands in
+    let was = read_past arena begins view c.args.first c.pass_quiet-quiet.result c.loop-walk.walk walk bodies waiting c.loop-walk.brackets.braces c.loop-walk.brackets.around c.args.all.now c.item_at-next.result.0 c.item_at-next.new.row c.len-count.ensures.increase
+    c.requires.within c.requires.all c.item_at-next.ensures.row c.item_at-next.ensures.shift c.pass_quiet-quiet.ensures.within here c.pass_quiet-quiet.ensures.quiet c.loop-walk.invariant.read in
+    let at = stands_behind view c.args.first c.loop-walk.walk.place walk.place c.item_at-next.result.0 c.pass_quiet-quiet.result c.item_at-next.new.row c.item_at-next.ensures.row c.item_at-next.ensures.shift c.pass_quiet-quiet.ensures.place (omega (arith, c.if-first-place.false)) in
+    let id = c.item_at-next.result.0 + c.pass_quiet-quiet.result in
     let read = read_so c.read.result c.read.new.walk in
-    let item = next_item arena view c.args.all.now c.args.first c.len-count.result walk bodies waiting read c.loop-walk.brackets.around c.item_at-id.result.0 _ c.requires.within c.requires.all c.len-count.ensures.count c.loop-walk-test.true
-    (c.item_at-id.ensures.item 0) here c.read.ensures.read in
-    let id = c.item_at-id.result.0 in
+    let item = next_item arena view c.args.all.now c.args.first c.len-count.result walk bodies waiting read c.loop-walk.brackets.around id _ c.requires.within c.requires.all c.len-count.ensures.count (omega (arith, at.below, c.len-count.ensures.count))
+    at.item here c.read.ensures.read in
     let after = c.read.new.walk in
     let goes = ap (λ (o : Outcome). read_so o after) c.in-GoesOn.is in
     let made = c.in_ok-pass-2.ensures in
@@ -458,9 +543,9 @@ loop-walk-preserved c =
     let place : c.pass-in-loop-walk.new.walk.place ≡ walk.place + 1 = ap (λ (w : Walk). w.place) made.walk ∙ (behind_place after bodies (reverse later.waiting.items) None id ∙ one) in
     record {
       read = read_on arena begins view c.args.first walk after c.pass-in-loop-walk.new.walk bodies (reverse later.bodies.items) waiting (reverse later.waiting.items) c.loop-walk.brackets.braces later.braces None read c.loop-walk.brackets.around
-          bodies id _ c.len-count.ensures.increase (c.item_at-id.ensures.item 0) item goes (sym (opened_none walk c.loop-walk.brackets.around bodies id _ (no_brace arena walk after c.loop-walk.brackets.around id _ (sym c.passes_brace.ensures ∙ c.if-passes_brace.false) (sym c.read.ensures.read ∙ goes)))) here refl made.waiting made.walk made.bodies made.count made.small made.before c.loop-walk.invariant.read;
+          bodies id _ c.len-count.ensures.increase at.item item goes (sym (opened_none walk c.loop-walk.brackets.around bodies id _ (no_brace arena walk after c.loop-walk.brackets.around id _ (sym c.passes_brace.ensures ∙ c.if-passes_brace.false) (sym c.read.ensures.read ∙ goes)))) here refl made.waiting made.walk made.bodies made.count made.small made.before was;
       stands = made.around;
-      row = row_later view _ (c.args.first + c.pass-in-loop-walk.new.walk.place) c.item_at-id.new.row (omega (arith, place)) c.item_at-id.ensures.row;
+      row = row_later view _ (c.args.first + c.pass-in-loop-walk.new.walk.place) c.item_at-next.new.row (omega (arith, place)) at.is;
     }
 
 pub loop-walk-smaller-then-passes_brace : goal.loop-walk-smaller-then-passes_brace
@@ -468,36 +553,42 @@ loop-walk-smaller-then-passes_brace c =
     let arena = c.args.arena.now in
     let view = c.args.view.now in
     let begins = place_in c.args.begins in
-    let walk = c.loop-walk.walk in
+    let walk = c.pass_quiet-quiet.new.walk in
     let bodies = reverse c.loop-walk.brackets.bodies.items in
     let waiting = reverse c.loop-walk.brackets.waiting.items in
     let here = c.loop-walk.invariant.stands in
-    let id = c.item_at-id.result.0 in
+    let was = read_past arena begins view c.args.first c.pass_quiet-quiet.result c.loop-walk.walk walk bodies waiting c.loop-walk.brackets.braces c.loop-walk.brackets.around c.args.all.now c.item_at-next.result.0 c.item_at-next.new.row c.len-count.ensures.increase
+    c.requires.within c.requires.all c.item_at-next.ensures.row c.item_at-next.ensures.shift c.pass_quiet-quiet.ensures.within here c.pass_quiet-quiet.ensures.quiet c.loop-walk.invariant.read in
+    let at = stands_behind view c.args.first c.loop-walk.walk.place walk.place c.item_at-next.result.0 c.pass_quiet-quiet.result c.item_at-next.new.row c.item_at-next.ensures.row c.item_at-next.ensures.shift c.pass_quiet-quiet.ensures.place (omega (arith, c.if-first-place.false)) in
+    let id = c.item_at-next.result.0 + c.pass_quiet-quiet.result in
     let after = c.pass_open_brace.new.self in
     let read = GoesOn after in
     let brace = brace_of _ (and_parts _ _ (sym c.passes_brace.ensures ∙ c.if-passes_brace.true)).0 in
-    let item = next_item arena view c.args.all.now c.args.first c.len-count.result walk bodies waiting read c.loop-walk.brackets.around id _ c.requires.within c.requires.all c.len-count.ensures.count c.loop-walk-test.true
-    (c.item_at-id.ensures.item 0) here (c.pass_open_brace.ensures arena ∙ ap (λ (class : TokenClass). reading arena walk c.loop-walk.brackets.around id class) (sym brace)) in
+    let item = next_item arena view c.args.all.now c.args.first c.len-count.result walk bodies waiting read c.loop-walk.brackets.around id _ c.requires.within c.requires.all c.len-count.ensures.count (omega (arith, at.below, c.len-count.ensures.count))
+    at.item here (c.pass_open_brace.ensures arena ∙ ap (λ (class : TokenClass). reading arena walk c.loop-walk.brackets.around id class) (sym brace)) in
     let made = c.in_ok-pass.ensures in
     let one = next_place arena (drop c.args.first view) walk after bodies waiting read _ _ item refl in
     let place : c.pass.new.walk.place ≡ walk.place + 1 = ap (λ (w : Walk). w.place) made.walk ∙ (behind_place after bodies (reverse c.pass.new.self.waiting.items) c.opened_head-opened.result id ∙ one) in
-    omega (arith, place, c.loop-walk-test.true)
+    omega (arith, place, c.pass_quiet-quiet.ensures.place, c.loop-walk-test.true)
 
 pub loop-walk-preserved-then-passes_brace : goal.loop-walk-preserved-then-passes_brace
 loop-walk-preserved-then-passes_brace c =
     let arena = c.args.arena.now in
     let view = c.args.view.now in
     let begins = place_in c.args.begins in
-    let walk = c.loop-walk.walk in
+    let walk = c.pass_quiet-quiet.new.walk in
     let bodies = reverse c.loop-walk.brackets.bodies.items in
     let waiting = reverse c.loop-walk.brackets.waiting.items in
     let here = c.loop-walk.invariant.stands in
-    let id = c.item_at-id.result.0 in
+    let was = read_past arena begins view c.args.first c.pass_quiet-quiet.result c.loop-walk.walk walk bodies waiting c.loop-walk.brackets.braces c.loop-walk.brackets.around c.args.all.now c.item_at-next.result.0 c.item_at-next.new.row c.len-count.ensures.increase
+    c.requires.within c.requires.all c.item_at-next.ensures.row c.item_at-next.ensures.shift c.pass_quiet-quiet.ensures.within here c.pass_quiet-quiet.ensures.quiet c.loop-walk.invariant.read in
+    let at = stands_behind view c.args.first c.loop-walk.walk.place walk.place c.item_at-next.result.0 c.pass_quiet-quiet.result c.item_at-next.new.row c.item_at-next.ensures.row c.item_at-next.ensures.shift c.pass_quiet-quiet.ensures.place (omega (arith, c.if-first-place.false)) in
+    let id = c.item_at-next.result.0 + c.pass_quiet-quiet.result in
     let after = c.pass_open_brace.new.self in
     let read = GoesOn after in
     let brace = brace_of _ (and_parts _ _ (sym c.passes_brace.ensures ∙ c.if-passes_brace.true)).0 in
-    let item = next_item arena view c.args.all.now c.args.first c.len-count.result walk bodies waiting read c.loop-walk.brackets.around id _ c.requires.within c.requires.all c.len-count.ensures.count c.loop-walk-test.true
-    (c.item_at-id.ensures.item 0) here (c.pass_open_brace.ensures arena ∙ ap (λ (class : TokenClass). reading arena walk c.loop-walk.brackets.around id class) (sym brace)) in
+    let item = next_item arena view c.args.all.now c.args.first c.len-count.result walk bodies waiting read c.loop-walk.brackets.around id _ c.requires.within c.requires.all c.len-count.ensures.count (omega (arith, at.below, c.len-count.ensures.count))
+    at.item here (c.pass_open_brace.ensures arena ∙ ap (λ (class : TokenClass). reading arena walk c.loop-walk.brackets.around id class) (sym brace)) in
     let opened_told = opened_brace walk c.loop-walk.brackets.around _ _ id _ _ c.opened_head-opened.ensures c.deref.ensures.value (and_parts _ _ (sym c.passes_brace.ensures ∙ c.if-passes_brace.true)).0 in
     let made = c.in_ok-pass.ensures in
     let later = c.pass.new.self in
@@ -505,15 +596,15 @@ loop-walk-preserved-then-passes_brace c =
     let place : c.pass.new.walk.place ≡ walk.place + 1 = ap (λ (w : Walk). w.place) made.walk ∙ (behind_place after bodies (reverse later.waiting.items) c.opened_head-opened.result id ∙ one) in
     record {
       read = read_on arena begins view c.args.first walk after c.pass.new.walk bodies (reverse later.bodies.items) waiting (reverse later.waiting.items) c.loop-walk.brackets.braces later.braces c.opened_head-opened.result read c.loop-walk.brackets.around
-          bodies id _ c.len-count.ensures.increase (c.item_at-id.ensures.item 0) item refl opened_told here refl made.waiting made.walk made.bodies made.count made.small made.before c.loop-walk.invariant.read;
+          bodies id _ c.len-count.ensures.increase at.item item refl opened_told here refl made.waiting made.walk made.bodies made.count made.small made.before was;
       stands = made.around;
-      row = row_later view _ (c.args.first + c.pass.new.walk.place) c.item_at-id.new.row (omega (arith, place)) c.item_at-id.ensures.row;
+      row = row_later view _ (c.args.first + c.pass.new.walk.place) c.item_at-next.new.row (omega (arith, place)) at.is;
     }
 
 pub passed_body-requires-clause-within : goal.passed_body-requires-clause-within
 passed_body-requires-clause-within c =
     let all = c.args.all.now in
-    let stored = row_stored c.args.view.now (c.args.first + c.loop-walk.walk.place) (length c.args.arena.now.tokens) c.item_at-id.new.row c.requires.within c.item_at-id.ensures.some c.item_at-id.ensures.row in
+    let stored = row_stored c.args.view.now (c.args.first + c.loop-walk.walk.place) (length c.args.arena.now.tokens) c.item_at-next.new.row c.requires.within c.item_at-next.ensures.some c.item_at-next.ensures.row in
     let whole : length all ≡ length c.args.arena.now.tokens = ap (λ (cs : List TokenClass). length cs) c.requires.all ∙ length-map c.args.arena.now.tokens (class_of c.args.arena.now.dialect) in
     omega (arith, stored, whole)
 
@@ -522,39 +613,45 @@ loop-walk-smaller-then-not-is_bracket c =
     let arena = c.args.arena.now in
     let view = c.args.view.now in
     let begins = place_in c.args.begins in
-    let walk = c.loop-walk.walk in
+    let walk = c.pass_quiet-quiet.new.walk in
     let bodies = reverse c.loop-walk.brackets.bodies.items in
     let waiting = reverse c.loop-walk.brackets.waiting.items in
     let here = c.loop-walk.invariant.stands in
+    let was = read_past arena begins view c.args.first c.pass_quiet-quiet.result c.loop-walk.walk walk bodies waiting c.loop-walk.brackets.braces c.loop-walk.brackets.around c.args.all.now c.item_at-next.result.0 c.item_at-next.new.row c.len-count.ensures.increase
+    c.requires.within c.requires.all c.item_at-next.ensures.row c.item_at-next.ensures.shift c.pass_quiet-quiet.ensures.within here c.pass_quiet-quiet.ensures.quiet c.loop-walk.invariant.read in
+    let at = stands_behind view c.args.first c.loop-walk.walk.place walk.place c.item_at-next.result.0 c.pass_quiet-quiet.result c.item_at-next.new.row c.item_at-next.ensures.row c.item_at-next.ensures.shift c.pass_quiet-quiet.ensures.place (omega (arith, c.if-first-place.false)) in
+    let id = c.item_at-next.result.0 + c.pass_quiet-quiet.result in
     let read = read_so c.read.result c.read.new.walk in
-    let item = next_item arena view c.args.all.now c.args.first c.len-count.result walk bodies waiting read c.loop-walk.brackets.around c.item_at-id.result.0 _ c.requires.within c.requires.all c.len-count.ensures.count c.loop-walk-test.true
-    (c.item_at-id.ensures.item 0) here c.read.ensures.read in
-    let id = c.item_at-id.result.0 in
+    let item = next_item arena view c.args.all.now c.args.first c.len-count.result walk bodies waiting read c.loop-walk.brackets.around id _ c.requires.within c.requires.all c.len-count.ensures.count (omega (arith, at.below, c.len-count.ensures.count))
+    at.item here c.read.ensures.read in
     let after = c.read.new.walk in
     let goes = ap (λ (o : Outcome). read_so o after) c.in-GoesOn.is in
     let one = next_place arena (drop c.args.first view) walk after bodies waiting read _ _ item goes in
-    omega (arith, one, c.loop-walk-test.true)
+    omega (arith, one, c.pass_quiet-quiet.ensures.place, c.loop-walk-test.true)
 
 pub loop-walk-preserved-then-not-is_bracket : goal.loop-walk-preserved-then-not-is_bracket
 loop-walk-preserved-then-not-is_bracket c =
     let arena = c.args.arena.now in
     let view = c.args.view.now in
     let begins = place_in c.args.begins in
-    let walk = c.loop-walk.walk in
+    let walk = c.pass_quiet-quiet.new.walk in
     let bodies = reverse c.loop-walk.brackets.bodies.items in
     let waiting = reverse c.loop-walk.brackets.waiting.items in
     let here = c.loop-walk.invariant.stands in
+    let was = read_past arena begins view c.args.first c.pass_quiet-quiet.result c.loop-walk.walk walk bodies waiting c.loop-walk.brackets.braces c.loop-walk.brackets.around c.args.all.now c.item_at-next.result.0 c.item_at-next.new.row c.len-count.ensures.increase
+    c.requires.within c.requires.all c.item_at-next.ensures.row c.item_at-next.ensures.shift c.pass_quiet-quiet.ensures.within here c.pass_quiet-quiet.ensures.quiet c.loop-walk.invariant.read in
+    let at = stands_behind view c.args.first c.loop-walk.walk.place walk.place c.item_at-next.result.0 c.pass_quiet-quiet.result c.item_at-next.new.row c.item_at-next.ensures.row c.item_at-next.ensures.shift c.pass_quiet-quiet.ensures.place (omega (arith, c.if-first-place.false)) in
+    let id = c.item_at-next.result.0 + c.pass_quiet-quiet.result in
     let read = read_so c.read.result c.read.new.walk in
-    let item = next_item arena view c.args.all.now c.args.first c.len-count.result walk bodies waiting read c.loop-walk.brackets.around c.item_at-id.result.0 _ c.requires.within c.requires.all c.len-count.ensures.count c.loop-walk-test.true
-    (c.item_at-id.ensures.item 0) here c.read.ensures.read in
-    let id = c.item_at-id.result.0 in
+    let item = next_item arena view c.args.all.now c.args.first c.len-count.result walk bodies waiting read c.loop-walk.brackets.around id _ c.requires.within c.requires.all c.len-count.ensures.count (omega (arith, at.below, c.len-count.ensures.count))
+    at.item here c.read.ensures.read in
     let after = c.read.new.walk in
     let goes = ap (λ (o : Outcome). read_so o after) c.in-GoesOn.is in
     let one = next_place arena (drop c.args.first view) walk after bodies waiting read _ _ item goes in
     record {
-      read = read_flat arena begins view c.args.first walk after bodies waiting c.loop-walk.brackets.braces read id _ c.len-count.ensures.increase item goes (sym c.is_bracket.ensures ∙ c.if-not-is_bracket.true) c.loop-walk.invariant.read;
+      read = read_flat arena begins view c.args.first walk after bodies waiting c.loop-walk.brackets.braces read id _ c.len-count.ensures.increase item goes (sym c.is_bracket.ensures ∙ c.if-not-is_bracket.true) was;
       stands = here;
-      row = row_later view _ (c.args.first + after.place) c.item_at-id.new.row (omega (arith, one)) c.item_at-id.ensures.row;
+      row = row_later view _ (c.args.first + after.place) c.item_at-next.new.row (omega (arith, one)) at.is;
     }
 
 pub loop-walk-preserved-in-Some : goal.loop-walk-preserved-in-Some
@@ -562,92 +659,98 @@ loop-walk-preserved-in-Some c =
     let arena = c.args.arena.now in
     let view = c.args.view.now in
     let begins = place_in c.args.begins in
-    let walk = c.loop-walk.walk in
+    let walk = c.pass_quiet-quiet.new.walk in
     let bodies = reverse c.loop-walk.brackets.bodies.items in
     let waiting = reverse c.loop-walk.brackets.waiting.items in
     let here = c.loop-walk.invariant.stands in
-    let id = c.item_at-id.result.0 in
+    let was = read_past arena begins view c.args.first c.pass_quiet-quiet.result c.loop-walk.walk walk bodies waiting c.loop-walk.brackets.braces c.loop-walk.brackets.around c.args.all.now c.item_at-next.result.0 c.item_at-next.new.row c.len-count.ensures.increase
+    c.requires.within c.requires.all c.item_at-next.ensures.row c.item_at-next.ensures.shift c.pass_quiet-quiet.ensures.within here c.pass_quiet-quiet.ensures.quiet c.loop-walk.invariant.read in
+    let at = stands_behind view c.args.first c.loop-walk.walk.place walk.place c.item_at-next.result.0 c.pass_quiet-quiet.result c.item_at-next.new.row c.item_at-next.ensures.row c.item_at-next.ensures.shift c.pass_quiet-quiet.ensures.place (omega (arith, c.if-first-place.false)) in
+    let id = c.item_at-next.result.0 + c.pass_quiet-quiet.result in
     let after = c.pass_open_brace.new.self in
     let read = GoesOn after in
     let brace = brace_of _ (and_parts _ _ (sym c.passes_brace.ensures ∙ c.if-passes_brace.true)).0 in
-    let item = next_item arena view c.args.all.now c.args.first c.len-count.result walk bodies waiting read c.loop-walk.brackets.around id _ c.requires.within c.requires.all c.len-count.ensures.count c.loop-walk-test.true
-    (c.item_at-id.ensures.item 0) here (c.pass_open_brace.ensures arena ∙ ap (λ (class : TokenClass). reading arena walk c.loop-walk.brackets.around id class) (sym brace)) in
+    let item = next_item arena view c.args.all.now c.args.first c.len-count.result walk bodies waiting read c.loop-walk.brackets.around id _ c.requires.within c.requires.all c.len-count.ensures.count (omega (arith, at.below, c.len-count.ensures.count))
+    at.item here (c.pass_open_brace.ensures arena ∙ ap (λ (class : TokenClass). reading arena walk c.loop-walk.brackets.around id class) (sym brace)) in
     let opened_told = opened_brace walk c.loop-walk.brackets.around _ _ id _ _ c.opened_head-opened.ensures c.deref.ensures.value (and_parts _ _ (sym c.passes_brace.ensures ∙ c.if-passes_brace.true)).0 in
-    let row = c.item_at-id.ensures.row in
+    let row = at.is in
     let head = c.in-Some.head in
     let len = c.in-Some.len in
     let told = c.in-Some.is in
     let whole = c.passed_body.ensures in
     let inside = whole.within _ told in
-    let stored = row_stored view (c.args.first + walk.place) (length arena.tokens) c.item_at-id.new.row c.requires.within c.item_at-id.ensures.some row in
-    let items = row_items view c.args.first walk.place len id c.item_at-id.new.row row c.item_at-id.ensures.shift inside in
-    let number : c.args.first + walk.place + 1 + c.item_at-id.new.row.shift ≡ id + 1 = omega (arith, c.item_at-id.ensures.shift) in
+    let stored = row_stored view (c.args.first + walk.place) (length arena.tokens) c.item_at-next.new.row c.requires.within at.some row in
+    let items = row_items view c.args.first walk.place len id c.item_at-next.new.row row at.shift inside in
+    let number : c.args.first + walk.place + 1 + c.item_at-next.new.row.shift ≡ id + 1 = omega (arith, at.shift) in
     let closes = subst (λ n. Closes 1 (take len (drop n c.args.all.now))) number (whole.closes _ told) in
     let later : c.pass_body.new.self.place ≡ walk.place + 1 + len = ap (λ (w : Walk). w.place) c.pass_body.ensures in
     let opened = sym (whole.opened _ told) ∙ opened_told in
     record {
       read = read_body arena begins view c.args.first walk after c.pass_body.new.self bodies bodies waiting c.loop-walk.brackets.braces read c.args.all.now id len _ c.loop-walk.brackets.around head c.len-count.ensures.increase
-          (omega (arith, inside, row.inside)) items (omega (arith, inside, stored, c.item_at-id.ensures.shift)) c.requires.all item refl opened here refl (whole.before _ told) (whole.low _ told) closes c.pass_body.ensures c.loop-walk.invariant.read;
+          (omega (arith, inside, row.inside)) items (omega (arith, inside, stored, at.shift)) c.requires.all item refl opened here refl (whole.before _ told) (whole.low _ told) closes c.pass_body.ensures was;
       stands = here;
-      row = row_later view _ (c.args.first + c.pass_body.new.self.place) c.item_at-id.new.row (omega (arith, later)) row;
+      row = row_later view _ (c.args.first + c.pass_body.new.self.place) c.item_at-next.new.row (omega (arith, later)) row;
     }
 
 pub passed_group-requires-clause-within : goal.passed_group-requires-clause-within
 passed_group-requires-clause-within c =
     let all = c.args.all.now in
-    let stored = row_stored c.args.view.now (c.args.first + c.loop-walk.walk.place) (length c.args.arena.now.tokens) c.item_at-id.new.row c.requires.within c.item_at-id.ensures.some c.item_at-id.ensures.row in
+    let stored = row_stored c.args.view.now (c.args.first + c.loop-walk.walk.place) (length c.args.arena.now.tokens) c.item_at-next.new.row c.requires.within c.item_at-next.ensures.some c.item_at-next.ensures.row in
     let whole : length all ≡ length c.args.arena.now.tokens = ap (λ (cs : List TokenClass). length cs) c.requires.all ∙ length-map c.args.arena.now.tokens (class_of c.args.arena.now.dialect) in
     omega (arith, stored, whole)
 
 pub bounds-all-closer : goal.bounds-all-closer
 bounds-all-closer c =
     let all = c.args.all.now in
-    let stored = row_stored c.args.view.now (c.args.first + c.loop-walk.walk.place) (length c.args.arena.now.tokens) c.item_at-id.new.row c.requires.within c.item_at-id.ensures.some c.item_at-id.ensures.row in
+    let stored = row_stored c.args.view.now (c.args.first + c.loop-walk.walk.place) (length c.args.arena.now.tokens) c.item_at-next.new.row c.requires.within c.item_at-next.ensures.some c.item_at-next.ensures.row in
     let whole : length all ≡ length c.args.arena.now.tokens = ap (λ (cs : List TokenClass). length cs) c.requires.all ∙ length-map c.args.arena.now.tokens (class_of c.args.arena.now.dialect) in
     let inside = c.passed_group.ensures.within _ c.in-Some-passed_group.is in
-    omega (arith, stored, whole, c.item_at-id.ensures.shift, inside)
+    omega (arith, stored, whole, c.item_at-next.ensures.shift, inside)
 
 pub pass_group-requires : goal.pass_group-requires
 pass_group-requires c =
-    let stored = row_stored c.args.view.now (c.args.first + c.loop-walk.walk.place) (length c.args.arena.now.tokens) c.item_at-id.new.row c.requires.within c.item_at-id.ensures.some c.item_at-id.ensures.row in
+    let stored = row_stored c.args.view.now (c.args.first + c.loop-walk.walk.place) (length c.args.arena.now.tokens) c.item_at-next.new.row c.requires.within c.item_at-next.ensures.some c.item_at-next.ensures.row in
     let inside = c.passed_group.ensures.within _ c.in-Some-passed_group.is in
-    omega (arith, stored, c.item_at-id.ensures.shift, inside, c.len-items.ensures.count)
+    omega (arith, stored, c.item_at-next.ensures.shift, inside, c.len-items.ensures.count)
 
 pub loop-walk-preserved-in-Some-passed_group : goal.loop-walk-preserved-in-Some-passed_group
 loop-walk-preserved-in-Some-passed_group c =
     let arena = c.args.arena.now in
     let view = c.args.view.now in
     let begins = place_in c.args.begins in
-    let walk = c.loop-walk.walk in
+    let walk = c.pass_quiet-quiet.new.walk in
     let bodies = reverse c.loop-walk.brackets.bodies.items in
     let waiting = reverse c.loop-walk.brackets.waiting.items in
     let here = c.loop-walk.invariant.stands in
+    let was = read_past arena begins view c.args.first c.pass_quiet-quiet.result c.loop-walk.walk walk bodies waiting c.loop-walk.brackets.braces c.loop-walk.brackets.around c.args.all.now c.item_at-next.result.0 c.item_at-next.new.row c.len-count.ensures.increase
+    c.requires.within c.requires.all c.item_at-next.ensures.row c.item_at-next.ensures.shift c.pass_quiet-quiet.ensures.within here c.pass_quiet-quiet.ensures.quiet c.loop-walk.invariant.read in
+    let at = stands_behind view c.args.first c.loop-walk.walk.place walk.place c.item_at-next.result.0 c.pass_quiet-quiet.result c.item_at-next.new.row c.item_at-next.ensures.row c.item_at-next.ensures.shift c.pass_quiet-quiet.ensures.place (omega (arith, c.if-first-place.false)) in
+    let id = c.item_at-next.result.0 + c.pass_quiet-quiet.result in
     let read = read_so c.read.result c.read.new.walk in
-    let item = next_item arena view c.args.all.now c.args.first c.len-count.result walk bodies waiting read c.loop-walk.brackets.around c.item_at-id.result.0 _ c.requires.within c.requires.all c.len-count.ensures.count c.loop-walk-test.true
-    (c.item_at-id.ensures.item 0) here c.read.ensures.read in
-    let id = c.item_at-id.result.0 in
+    let item = next_item arena view c.args.all.now c.args.first c.len-count.result walk bodies waiting read c.loop-walk.brackets.around id _ c.requires.within c.requires.all c.len-count.ensures.count (omega (arith, at.below, c.len-count.ensures.count))
+    at.item here c.read.ensures.read in
     let after = c.read.new.walk in
     let goes = ap (λ (o : Outcome). read_so o after) c.in-GoesOn.is in
-    let shift = c.item_at-id.new.row.shift in
-    let row = c.item_at-id.ensures.row in
+    let shift = c.item_at-next.new.row.shift in
+    let row = at.is in
     let group = c.passed_group.ensures in
     let len = c.in-Some-passed_group.len in
     let told = c.in-Some-passed_group.is in
     let inside = group.within _ told in
-    let stored = row_stored view (c.args.first + walk.place) (length arena.tokens) c.item_at-id.new.row c.requires.within c.item_at-id.ensures.some row in
-    let items = row_items view c.args.first walk.place len id c.item_at-id.new.row row c.item_at-id.ensures.shift inside in
-    let last : c.args.first + walk.place + len + shift ≡ id + len = omega (arith, c.item_at-id.ensures.shift) in
+    let stored = row_stored view (c.args.first + walk.place) (length arena.tokens) c.item_at-next.new.row c.requires.within at.some row in
+    let items = row_items view c.args.first walk.place len id c.item_at-next.new.row row at.shift inside in
+    let last : c.args.first + walk.place + len + shift ≡ id + len = omega (arith, at.shift) in
     let opener = get_or c.args.all.now id If in
     let closer = get_or c.args.all.now (id + len) If in
     let closes : closes_group opener closer ≡ true = subst (λ n. closes_group opener (get_or c.args.all.now n If) ≡ true) last (group.closes _ told If) in
-    let quiet : (k : ℕ) → (d : TokenClass) → 0 < k → k < len → is_quiet around.Group (get_or c.args.all.now (id + k) d) ≡ true =
-    λ k d after_it before. subst (λ n. is_quiet around.Group (get_or c.args.all.now n d) ≡ true) (omega (arith, c.item_at-id.ensures.shift)) (group.quiet _ told (c.args.first + walk.place + k) d (omega (arith, after_it)) (omega (arith, before))) in
+    let quiet : (k : ℕ) → (d : TokenClass) → 0 < k → k < len → is_quiet around.Group false (get_or c.args.all.now (id + k) d) ≡ true =
+    λ k d after_it before. subst (λ n. is_quiet around.Group false (get_or c.args.all.now n d) ≡ true) (omega (arith, at.shift)) (group.quiet _ told (c.args.first + walk.place + k) d (omega (arith, after_it)) (omega (arith, before))) in
     let later : c.pass_group.new.self.place ≡ walk.place + 1 + len = ap (λ (w : Walk). w.place) c.pass_group.ensures in
     record {
       read = read_group arena begins view c.args.first walk after c.pass_group.new.self bodies waiting c.loop-walk.brackets.braces read c.args.all.now id len opener closer If c.len-count.ensures.increase
-          (omega (arith, inside, row.inside)) items (omega (arith, inside, stored, c.item_at-id.ensures.shift)) c.requires.all item goes (group.some _ told) closes refl quiet c.pass_group.ensures c.loop-walk.invariant.read;
+          (omega (arith, inside, row.inside)) items (omega (arith, inside, stored, at.shift)) c.requires.all item goes (group.some _ told) closes refl quiet c.pass_group.ensures was;
       stands = here;
-      row = row_later view _ (c.args.first + c.pass_group.new.self.place) c.item_at-id.new.row (omega (arith, later)) row;
+      row = row_later view _ (c.args.first + c.pass_group.new.self.place) c.item_at-next.new.row (omega (arith, later)) row;
     }
 
 pub returns-clause-end : goal.returns-clause-end
@@ -660,12 +763,17 @@ returns-clause-end c =
     let waiting = reverse c.loop-walk.brackets.waiting.items in
     let none : end_of_part arena begins (drop c.args.first view) ≡ None = elim c.loop-walk-test.branch [
       | else-loop-walk-test w ↦ all_read arena begins (drop c.args.first view) walk bodies waiting (omega (arith, length-drop c.args.first view, w.loop-walk-test.false, c.len-count.ensures.count)) c.loop-walk.invariant.read.on
-      | then-loop-walk-test+else-prove+else-not-may_end+else-passes_brace+in-Never w ↦
+      | then-loop-walk-test+else-first-place+else-prove+else-passes_brace+in-Never w ↦
           let here = c.loop-walk.invariant.stands in
+          let walk = w.pass_quiet-quiet.new.walk in
+          let was = read_past arena begins view c.args.first w.pass_quiet-quiet.result c.loop-walk.walk walk bodies waiting c.loop-walk.brackets.braces c.loop-walk.brackets.around c.args.all.now w.item_at-next.result.0 w.item_at-next.new.row c.len-count.ensures.increase
+          c.requires.within c.requires.all w.item_at-next.ensures.row w.item_at-next.ensures.shift w.pass_quiet-quiet.ensures.within here w.pass_quiet-quiet.ensures.quiet c.loop-walk.invariant.read in
+          let at = stands_behind view c.args.first c.loop-walk.walk.place walk.place w.item_at-next.result.0 w.pass_quiet-quiet.result w.item_at-next.new.row w.item_at-next.ensures.row w.item_at-next.ensures.shift w.pass_quiet-quiet.ensures.place (omega (arith, w.if-first-place.false)) in
+          let id = w.item_at-next.result.0 + w.pass_quiet-quiet.result in
           let read = read_so w.read.result w.read.new.walk in
-          let item = next_item arena view c.args.all.now c.args.first c.len-count.result walk bodies waiting read c.loop-walk.brackets.around w.item_at-id.result.0 _ c.requires.within c.requires.all c.len-count.ensures.count w.loop-walk-test.true
-          (w.item_at-id.ensures.item 0) here w.read.ensures.read in
-          never_ends arena begins (drop c.args.first view) walk bodies waiting read item.below (ap (λ (o : Outcome). read_so o w.read.new.walk) w.in-Never.is) item.read_is c.loop-walk.invariant.read.on
+          let item = next_item arena view c.args.all.now c.args.first c.len-count.result walk bodies waiting read c.loop-walk.brackets.around id _ c.requires.within c.requires.all c.len-count.ensures.count (omega (arith, at.below, c.len-count.ensures.count))
+          at.item here w.read.ensures.read in
+          never_ends arena begins (drop c.args.first view) walk bodies waiting read item.below (ap (λ (o : Outcome). read_so o w.read.new.walk) w.in-Never.is) item.read_is was.on
     ] in
     let end = ends_nowhere arena begins view c.args.first c.len-count.result c.requires.here c.len-count.ensures.count none in
     c.with_view.ensures.end ∙ end.end
@@ -680,12 +788,17 @@ returns-clause-inside c =
     let waiting = reverse c.loop-walk.brackets.waiting.items in
     let none : end_of_part arena begins (drop c.args.first view) ≡ None = elim c.loop-walk-test.branch [
       | else-loop-walk-test w ↦ all_read arena begins (drop c.args.first view) walk bodies waiting (omega (arith, length-drop c.args.first view, w.loop-walk-test.false, c.len-count.ensures.count)) c.loop-walk.invariant.read.on
-      | then-loop-walk-test+else-prove+else-not-may_end+else-passes_brace+in-Never w ↦
+      | then-loop-walk-test+else-first-place+else-prove+else-passes_brace+in-Never w ↦
           let here = c.loop-walk.invariant.stands in
+          let walk = w.pass_quiet-quiet.new.walk in
+          let was = read_past arena begins view c.args.first w.pass_quiet-quiet.result c.loop-walk.walk walk bodies waiting c.loop-walk.brackets.braces c.loop-walk.brackets.around c.args.all.now w.item_at-next.result.0 w.item_at-next.new.row c.len-count.ensures.increase
+          c.requires.within c.requires.all w.item_at-next.ensures.row w.item_at-next.ensures.shift w.pass_quiet-quiet.ensures.within here w.pass_quiet-quiet.ensures.quiet c.loop-walk.invariant.read in
+          let at = stands_behind view c.args.first c.loop-walk.walk.place walk.place w.item_at-next.result.0 w.pass_quiet-quiet.result w.item_at-next.new.row w.item_at-next.ensures.row w.item_at-next.ensures.shift w.pass_quiet-quiet.ensures.place (omega (arith, w.if-first-place.false)) in
+          let id = w.item_at-next.result.0 + w.pass_quiet-quiet.result in
           let read = read_so w.read.result w.read.new.walk in
-          let item = next_item arena view c.args.all.now c.args.first c.len-count.result walk bodies waiting read c.loop-walk.brackets.around w.item_at-id.result.0 _ c.requires.within c.requires.all c.len-count.ensures.count w.loop-walk-test.true
-          (w.item_at-id.ensures.item 0) here w.read.ensures.read in
-          never_ends arena begins (drop c.args.first view) walk bodies waiting read item.below (ap (λ (o : Outcome). read_so o w.read.new.walk) w.in-Never.is) item.read_is c.loop-walk.invariant.read.on
+          let item = next_item arena view c.args.all.now c.args.first c.len-count.result walk bodies waiting read c.loop-walk.brackets.around id _ c.requires.within c.requires.all c.len-count.ensures.count (omega (arith, at.below, c.len-count.ensures.count))
+          at.item here w.read.ensures.read in
+          never_ends arena begins (drop c.args.first view) walk bodies waiting read item.below (ap (λ (o : Outcome). read_so o w.read.new.walk) w.in-Never.is) item.read_is was.on
     ] in
     let end = ends_nowhere arena begins view c.args.first c.len-count.result c.requires.here c.len-count.ensures.count none in
     c.with_view.ensures.inside ∙ end.inside

@@ -18,6 +18,6 @@ loop-count-preserved c =
             | inl earlier ↦ c.loop-count.invariant.quiet k d earlier
             | inr e ↦
                 let same : get_or classes k d ≡ get_or classes n _ = ap (λ j. get_or classes j d) e ∙ get_or_default classes n d _ c.loop-count-test.true in
-                ap (λ (class : TokenClass). is_quiet c.args.around class) same ∙ (sym c.is_quiet.ensures ∙ c.if-is_quiet.true)
+                ap (λ (class : TokenClass). is_quiet c.args.around c.args.held class) same ∙ (sym c.is_quiet.ensures ∙ c.if-is_quiet.true)
           ];
     }

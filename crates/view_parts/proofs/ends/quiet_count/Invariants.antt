@@ -6,7 +6,7 @@ use Rattle.view_parts.proofs.ends.quiet_count.Given as goal
 abbrev pub invariant-loop-count : goal.invariant-loop-count
 invariant-loop-count l = record {
   within : l.count ≤ length l.classes;
-  quiet : (k : ℕ) → (d : TokenClass) → k < l.count → is_quiet l.around (get_or l.classes k d) ≡ true;
+  quiet : (k : ℕ) → (d : TokenClass) → k < l.count → is_quiet l.around l.held (get_or l.classes k d) ≡ true;
 }
 
 abbrev pub decreases-loop-count : goal.decreases-loop-count
