@@ -16,7 +16,7 @@ use Rattle.view_parts.specs.declared.walk.Around.TheVariants as around
 use Rattle.view_parts.specs.declared.walk.Outcome.{Outcome}
 use Rattle.view_parts.specs.declared.walk.Walk.{Walk}
 use Rattle.view_parts.specs.Places.{Place, place_in, place_of}
-use Rattle.view_parts.specs.Parts.{around_of, end_of_part, heads_at, part_len, place_behind, EndsBehind, StandsBefore}
+use Rattle.view_parts.specs.Parts.{end_of_part, heads_at, part_len, place_behind, EndsBehind, StandsBefore}
 use Rattle.view_parts.specs.Reading.{GoesOn}
 use Rattle.view_parts.specs.Walk.{end_in_body, ends_inside_or, heads_len, in_body, is_some, opened_head, reading}
 use Rattle.view_parts.specs.Steps.{closes_group, ends_before_brace, is_quiet, read_so, Closes}
@@ -28,7 +28,7 @@ use Rattle.view_parts.proofs.PartEnds.{ends_nowhere, ends_there, headed, read_fi
 use Rattle.view_parts.proofs.QuietPassed.{read_past, stands_behind}
 use Rattle.view_parts.proofs.Rows.{drop_increase, row_items, row_later, row_stored}
 use Rattle.view_parts.proofs.Waits.{braces_turned}
-use Rattle.view_parts.proofs.Walked.{all_read, behind_place, class_told, inside_at, never_ends, next_item, next_place, outside_at, told_by}
+use Rattle.view_parts.proofs.Walked.{all_read, behind_place, inside_at, never_ends, next_item, next_place, outside_at, told_by}
 use Rattle.view_parts.proofs.ends.part_end.Goals.{else-loop-walk-test, then-loop-walk-test+else-first-place+else-prove+else-passes_brace+in-Never}
 use Rattle.view_parts.proofs.ends.part_end.Goals as goal
 
