@@ -1,6 +1,6 @@
 -- Quiet tokens in a row, passed at once.
-use Rattle.std.proofs.Common.{◌≡◌, ◌∙◌, ℕ, zero, suc, ◌+◌, ◌<◌, ◌≤◌, false, List, length, drop, get_or, refl, sym, ap, subst, arith}
-use Rattle.std.proofs.lemmas.List.{length-drop}
+use Rattle.std.proofs.Common.{◌≡◌, ◌∙◌, ℕ, zero, suc, ◌+◌, ◌-◌, ◌<◌, ◌≤◌, true, false, List, length, drop, get_or, refl, sym, ap, subst, arith}
+use Rattle.std.proofs.lemmas.List.{get_or_default, length-drop}
 use Rattle.std.specs.Prelude.{Option}
 use Rattle.token_arena.specs.Gaps.{Contents}
 use Rattle.token_arena.specs.Ids.{Increase}
@@ -45,14 +45,36 @@ pub record StandsAt (view : List ℕ) (first place id : ℕ) (row : Row) : Type 
   pub below : first + place < length view
 
 -- behind some of the same row
-pub stands_behind : (view : List ℕ) (first place later id n : ℕ) (row : Row) → IsRow view (first + place) row → id ≡ first + place + row.shift → later ≡ place + n → first + later < row.end → StandsAt view first later (id + n) row
-stands_behind view first place later id n row is shift behind some = record {
+pub stands_behind : (view : List ℕ) (first place later id : ℕ) (row : Row) → IsRow view (first + place) row → place ≤ later → first + later < row.end → id ≡ first + later + row.shift → StandsAt view first later id row
+stands_behind view first place later id row is behind some shift = record {
   is = row_later view (first + place) (first + later) row (omega (arith, behind)) is;
   some = some;
-  shift = omega (arith, shift, behind);
-  item = is.items (first + later) (omega (arith, behind)) some ∙ omega (arith, shift, behind);
+  shift = shift;
+  item = is.items (first + later) (omega (arith, behind)) some ∙ sym shift;
   below = omega (arith, some, is.inside);
 }
+
+-- so many of them, as the code counts them
+pub passes_so : (all : List TokenClass) (stands : Around) (walk : Walk) (id n : ℕ) (next : Walk) → 0 < n → id + n ≤ length all → next ≡ passed walk stands (walk.place + n) (id + (n - 1)) (get_or all (id + (n - 1)) If)
+    → may_end walk stands id ≡ false → (stands ≡ around.Body → walk.place + n ≤ 512) → ((k : ℕ) → (d : TokenClass) → k < n → is_quiet stands (is_held walk) (get_or all (id + k) d) ≡ true)
+    → PassesQuiet all stands walk id (next.place - walk.place) next
+passes_so all stands walk id n next some within is never low quiet =
+    let at : next.place ≡ walk.place + n = ap (λ (w : Walk). w.place) is ∙ placed walk stands (walk.place + n) (id + (n - 1)) (get_or all (id + (n - 1)) If) in
+    let many : n ≡ next.place - walk.place = omega (arith, at) in
+    subst (λ k. PassesQuiet all stands walk id k next) many (record {
+      none = λ e. absurd (omega (arith, e, some));
+      some = λ m d e.
+          let last : id + (n - 1) ≡ id + m = omega (arith, e) in
+          let place : walk.place + n ≡ walk.place + m + 1 = omega (arith, e) in
+          let class : get_or all (id + (n - 1)) If ≡ get_or all (id + m) d = ap (λ k. get_or all k If) last ∙ get_or_default all (id + m) If d (omega (arith, e, within)) in
+          is
+          ∙ (ap (λ k. passed walk stands k (id + (n - 1)) (get_or all (id + (n - 1)) If)) place
+          ∙ (ap (λ k. passed walk stands (walk.place + m + 1) k (get_or all (id + (n - 1)) If)) last
+          ∙ ap (λ (c : TokenClass). passed walk stands (walk.place + m + 1) (id + m) c) class));
+      never = λ any. never;
+      low = λ any. low;
+      quiet = quiet;
+    })
 
 -- behind tokens that tell nothing, as the code passes them
 pub read_past : (arena : Contents) (begins : Option Place) (view : List ℕ) (first n : ℕ) (walk next : Walk) (bodies : List Head) (waiting : List Opener) (braces : ℕ) (stands : Around) (all : List TokenClass) (id : ℕ) (row : Row)

@@ -1,9 +1,10 @@
 //! Where the parts of a view end.
 
 ghost use Rattle.std.specs.Prelude.{◌&&◌, ◌||◌, ◌≡◌, ◌<◌, ◌≤◌, ◌+◌, ◌-◌, ◌^◌, ℕ};
-ghost use Rattle.std.specs.Prelude.{true, false, not, length, drop, take, get_or, slice_range};
+ghost use Rattle.std.specs.Prelude.{true, false, not, All, length, drop, take, get_or, slice_range};
 ghost use Rattle.std.specs.Prelude.{IfOk, None, Some};
 ghost use Rattle.std.specs.Option.{ForNone, ForSome};
+ghost use Rattle.token_arena.specs.Ids.{Increase};
 ghost use Rattle.token_classes.specs.declared.class.TokenClass.{TokenClass};
 ghost use Rattle.token_classes.specs.Classes.{is_close_brace, is_open_brace};
 ghost use Rattle.token_classes.specs.Viewed.{AreWithin, item_classes};
@@ -12,6 +13,7 @@ ghost use Rattle.view_parts.specs.Parts.{part_inside, part_len};
 ghost use Rattle.view_parts.specs.Parts.{EndsBehind, StandsBefore};
 ghost use Rattle.view_parts.specs.Places.{place_in};
 ghost use Rattle.view_parts.specs.declared.walk.Before.TheVariants as Before;
+ghost use Rattle.view_parts.specs.Rows.{IsRow};
 ghost use Rattle.view_parts.specs.Steps.{Closes, PassesQuiet, closes_group, ends_before_brace};
 ghost use Rattle.view_parts.specs.Steps.{is_quiet};
 
@@ -149,35 +151,48 @@ fn quiet_from(
     count as u32
 }
 
-/// Goes past the quiet tokens in a row from the next one on, which is this. The result is how many these are.
+/// Goes past the quiet tokens that stand in a row from the next item of a part on. The result is the item behind them,
+/// where that stands in the row too. `row` is kept from one place of a part to the next.
 #[inline(always)]
 fn pass_quiet(
+    view: &View<'_>,
     walk: &mut Walk,
     around: Around,
-    id: TokenId,
     all: &[TokenClass],
     first: u32,
-    row: &Row,
-) -> u32
-    requires here { first + walk.old.place < row.now.end }
-    requires within { row.now.end + row.now.shift ≤ length all.now }
-    requires fits { row.now.end + row.now.shift < 4294967296 }
-    requires id { id.0 ≡ first + walk.old.place + row.now.shift }
-    ensures place { walk.new.place ≡ walk.old.place + result }
-    ensures within { first + walk.old.place + result ≤ row.now.end }
-    ensures quiet { PassesQuiet all.now around walk.old id.0 result walk.new }
+    row: &mut Row,
+    segment: &mut usize,
+) -> Option<TokenId>
+    requires here { first + walk.old.place < length view.now }
+    requires few { length view.now < 2 ^ 32 }
+    requires increase { Increase view.now }
+    requires row { IsRow view.now (first + walk.old.place) row.old }
+    requires items { All (λ id. id < length all.now) view.now }
+    requires fits { length all.now < 2 ^ 32 }
+    ensures row { IsRow view.now (first + walk.old.place) row.new }
+    ensures some { first + walk.old.place < row.new.end }
+    ensures place { walk.old.place ≤ walk.new.place }
+    ensures within { first + walk.new.place ≤ row.new.end }
+    ensures quiet { PassesQuiet all.now around walk.old (first + walk.old.place + row.new.shift) (walk.new.place - walk.old.place) walk.new }
+    ensures behind { ForNone result (first + walk.new.place ≡ row.new.end) }
+    ensures below { ForSome result (λ id. first + walk.new.place < row.new.end) }
+    ensures item { ForSome result (λ id. id.0 ≡ first + walk.new.place + row.new.shift) }
 {
+    let id = item_at(view, first + walk.place, row, segment);
     if walk.may_end(around, id) {
-        return 0;
+        return Some(id);
     }
     let held = walk.last.held > 0;
     let quiet = quiet_from(around, held, all, first, walk.place, row);
     if quiet == 0 {
-        return 0;
+        return Some(id);
     }
     let last = TokenId(id.0 + (quiet - 1));
     walk.pass_quiet(around, walk.place + quiet, last, all[last.0 as usize]);
-    quiet
+    if first + walk.place >= row.end {
+        return None;
+    }
+    Some(TokenId(last.0 + 1))
 }
 
 /// Whether a token is a `{` or `}`.
@@ -330,16 +345,12 @@ pub fn part_end<'k>(
     let mut row = Row { shift: 0, end: 0 };
     let items = arena.len();
     while walk.place < count - first {
-        let next = item_at(view, first + walk.place, &mut row, segment);
         let stands = brackets.around;
-        let quiet = pass_quiet(&mut walk, stands, next, all, first, &row);
-        let place = walk.place;
-        if first + place >= row.end {
-            continue;
-        }
-        let id = TokenId(next.0 + quiet);
+        let next = pass_quiet(view, &mut walk, stands, all, first, &mut row, segment);
+        let Some(id) = next else { continue };
         prove!(id.0 < items);
         let class = all[id.0 as usize];
+        let place = walk.place;
         if passes_brace(&walk, stands, id, class) {
             let opened = opened_head(&walk, stands, &brackets.bodies, id);
             walk.pass_open_brace(stands, id);

@@ -1,5 +1,5 @@
 use Rattle.std.proofs.Common.{◌≡◌, ◌∙◌, ◌+◌, ◌-◌, ◌<◌, ℕ, List, false, Some, None, length, drop, reverse, get_or, sym, ap, subst, arith, refl, take, Bool, true, Option}
-use Rattle.std.specs.Prelude.{◌&&◌, not, slice_range, if◌then◌else◌}
+use Rattle.std.specs.Prelude.{◌&&◌, All, not, slice_range, if◌then◌else◌}
 use Rattle.std.proofs.lemmas.Bool.{and_parts}
 use Rattle.std.proofs.Math.Bool.{and-true}
 use Rattle.std.proofs.lemmas.List.{get_or-drop, length-drop, length-map}
@@ -29,7 +29,7 @@ use Rattle.view_parts.proofs.QuietPassed.{read_past, stands_behind}
 use Rattle.view_parts.proofs.Rows.{drop_increase, row_items, row_later, row_stored}
 use Rattle.view_parts.proofs.Waits.{braces_turned}
 use Rattle.view_parts.proofs.Walked.{all_read, behind_place, inside_at, never_ends, next_item, next_place, outside_at, told_by}
-use Rattle.view_parts.proofs.ends.part_end.Goals.{else-loop-walk-test, then-loop-walk-test+else-first-place+else-prove+else-passes_brace+in-Never}
+use Rattle.view_parts.proofs.ends.part_end.Goals.{else-loop-walk-test, then-loop-walk-test+in-Some+else-prove+else-passes_brace+in-Never}
 use Rattle.view_parts.proofs.ends.part_end.Goals as goal
 
 some_is : (n m k : ℕ) → Some n ≡ Some m → n ≡ k → m ≡ k
@@ -81,39 +81,37 @@ loop-walk-init c =
       row = record { inside = omega arith; fits = omega arith; items = λ k after before. absurd (omega (arith, before)) };
     }
 
-pub pass_quiet-quiet-requires-clause-within : goal.pass_quiet-quiet-requires-clause-within
-pass_quiet-quiet-requires-clause-within c =
-    let all = c.args.all.now in
-    let stored = row_stored c.args.view.now (c.args.first + c.loop-walk.walk.place) (length c.args.arena.now.tokens) c.item_at-next.new.row c.requires.within c.item_at-next.ensures.some c.item_at-next.ensures.row in
-    let whole : length all ≡ length c.args.arena.now.tokens = ap (λ (cs : List TokenClass). length cs) c.requires.all ∙ length-map c.args.arena.now.tokens (class_of c.args.arena.now.dialect) in
-    omega (arith, stored, whole)
+pub pass_quiet-next-requires-clause-items : goal.pass_quiet-next-requires-clause-items
+pass_quiet-next-requires-clause-items c =
+    let whole : length c.args.all.now ≡ length c.args.arena.now.tokens = ap (λ (cs : List TokenClass). length cs) c.requires.all ∙ length-map c.args.arena.now.tokens (class_of c.args.arena.now.dialect) in
+    subst (λ n. All (λ id. id < n) c.args.view.now) (sym whole) c.requires.within
 
-pub pass_quiet-quiet-requires-clause-fits : goal.pass_quiet-quiet-requires-clause-fits
-pass_quiet-quiet-requires-clause-fits c =
-    let stored = row_stored c.args.view.now (c.args.first + c.loop-walk.walk.place) (length c.args.arena.now.tokens) c.item_at-next.new.row c.requires.within c.item_at-next.ensures.some c.item_at-next.ensures.row in
-    omega (arith, stored, c.len-items.ensures.count)
+pub pass_quiet-next-requires-clause-fits : goal.pass_quiet-next-requires-clause-fits
+pass_quiet-next-requires-clause-fits c =
+    let whole : length c.args.all.now ≡ length c.args.arena.now.tokens = ap (λ (cs : List TokenClass). length cs) c.requires.all ∙ length-map c.args.arena.now.tokens (class_of c.args.arena.now.dialect) in
+    omega (arith, whole, c.len-items.ensures.count)
 
-pub loop-walk-preserved-then-first-place : goal.loop-walk-preserved-then-first-place
-loop-walk-preserved-then-first-place c =
+pub loop-walk-preserved-in_default : goal.loop-walk-preserved-in_default
+loop-walk-preserved-in_default c =
     let arena = c.args.arena.now in
     let view = c.args.view.now in
     let begins = place_in c.args.begins in
-    let walk = c.pass_quiet-quiet.new.walk in
+    let walk = c.pass_quiet-next.new.walk in
     let bodies = reverse c.loop-walk.brackets.bodies.items in
     let waiting = reverse c.loop-walk.brackets.waiting.items in
     let here = c.loop-walk.invariant.stands in
-    let was = read_past arena begins view c.args.first c.pass_quiet-quiet.result c.loop-walk.walk walk bodies waiting c.loop-walk.brackets.braces c.loop-walk.brackets.around c.args.all.now c.item_at-next.result.0 c.item_at-next.new.row c.len-count.ensures.increase
-    c.requires.within c.requires.all c.item_at-next.ensures.row c.item_at-next.ensures.shift c.pass_quiet-quiet.ensures.within here c.pass_quiet-quiet.ensures.quiet c.loop-walk.invariant.read in
+    let was = read_past arena begins view c.args.first (walk.place - c.loop-walk.walk.place) c.loop-walk.walk walk bodies waiting c.loop-walk.brackets.braces c.loop-walk.brackets.around c.args.all.now _ c.pass_quiet-next.new.row c.len-count.ensures.increase c.requires.within c.requires.all c.pass_quiet-next.ensures.row refl
+    (omega (arith, c.pass_quiet-next.ensures.place, c.pass_quiet-next.ensures.within)) here c.pass_quiet-next.ensures.quiet c.loop-walk.invariant.read in
     record {
       read = was;
       stands = here;
-      row = row_later view _ (c.args.first + walk.place) c.item_at-next.new.row (omega (arith, c.pass_quiet-quiet.ensures.place)) c.item_at-next.ensures.row;
+      row = row_later view _ (c.args.first + walk.place) c.pass_quiet-next.new.row (omega (arith, c.pass_quiet-next.ensures.place)) c.pass_quiet-next.ensures.row;
     }
 
 pub prove-unreachable-requires : goal.prove-unreachable-requires
 prove-unreachable-requires c =
-    let stored = row_stored c.args.view.now (c.args.first + c.loop-walk.walk.place) (length c.args.arena.now.tokens) c.item_at-next.new.row c.requires.within c.item_at-next.ensures.some c.item_at-next.ensures.row in
-    omega (arith, stored, c.if-first-place.false, c.if-prove.true, c.item_at-next.ensures.shift, c.pass_quiet-quiet.ensures.place, c.len-items.ensures.count)
+    let stored = row_stored c.args.view.now (c.args.first + c.loop-walk.walk.place) (length c.args.arena.now.tokens) c.pass_quiet-next.new.row c.requires.within c.pass_quiet-next.ensures.some c.pass_quiet-next.ensures.row in
+    (let below = c.pass_quiet-next.ensures.below _ c.in-Some.is in let item = c.pass_quiet-next.ensures.item _ c.in-Some.is in omega (arith, stored, below, item, c.if-prove.true, c.len-items.ensures.count))
 
 pub pass_open_brace-requires-clause-on : goal.pass_open_brace-requires-clause-on
 pass_open_brace-requires-clause-on c = untrue _ (and_parts _ _ (sym c.passes_brace.ensures ∙ c.if-passes_brace.true)).1
@@ -123,13 +121,13 @@ pass-requires-clause-before c =
     let arena = c.args.arena.now in
     let view = c.args.view.now in
     let begins = place_in c.args.begins in
-    let walk = c.pass_quiet-quiet.new.walk in
+    let walk = c.pass_quiet-next.new.walk in
     let bodies = reverse c.loop-walk.brackets.bodies.items in
     let waiting = reverse c.loop-walk.brackets.waiting.items in
     let here = c.loop-walk.invariant.stands in
-    let was = read_past arena begins view c.args.first c.pass_quiet-quiet.result c.loop-walk.walk walk bodies waiting c.loop-walk.brackets.braces c.loop-walk.brackets.around c.args.all.now c.item_at-next.result.0 c.item_at-next.new.row c.len-count.ensures.increase
-    c.requires.within c.requires.all c.item_at-next.ensures.row c.item_at-next.ensures.shift c.pass_quiet-quiet.ensures.within here c.pass_quiet-quiet.ensures.quiet c.loop-walk.invariant.read in
-    let at = stands_behind view c.args.first c.loop-walk.walk.place walk.place c.item_at-next.result.0 c.pass_quiet-quiet.result c.item_at-next.new.row c.item_at-next.ensures.row c.item_at-next.ensures.shift c.pass_quiet-quiet.ensures.place (omega (arith, c.if-first-place.false)) in
+    let was = read_past arena begins view c.args.first (walk.place - c.loop-walk.walk.place) c.loop-walk.walk walk bodies waiting c.loop-walk.brackets.braces c.loop-walk.brackets.around c.args.all.now _ c.pass_quiet-next.new.row c.len-count.ensures.increase c.requires.within c.requires.all c.pass_quiet-next.ensures.row refl
+    (omega (arith, c.pass_quiet-next.ensures.place, c.pass_quiet-next.ensures.within)) here c.pass_quiet-next.ensures.quiet c.loop-walk.invariant.read in
+    let at = stands_behind view c.args.first c.loop-walk.walk.place walk.place c.in-Some.id.0 c.pass_quiet-next.new.row c.pass_quiet-next.ensures.row c.pass_quiet-next.ensures.place (c.pass_quiet-next.ensures.below _ c.in-Some.is) (c.pass_quiet-next.ensures.item _ c.in-Some.is) in
     subst (λ n. StandBefore (n + 1) waiting) at.item (was.before at.below)
 
 pub pass-requires-in-loop-walk-clause-before : goal.pass-requires-in-loop-walk-clause-before
@@ -137,13 +135,13 @@ pass-requires-in-loop-walk-clause-before c =
     let arena = c.args.arena.now in
     let view = c.args.view.now in
     let begins = place_in c.args.begins in
-    let walk = c.pass_quiet-quiet.new.walk in
+    let walk = c.pass_quiet-next.new.walk in
     let bodies = reverse c.loop-walk.brackets.bodies.items in
     let waiting = reverse c.loop-walk.brackets.waiting.items in
     let here = c.loop-walk.invariant.stands in
-    let was = read_past arena begins view c.args.first c.pass_quiet-quiet.result c.loop-walk.walk walk bodies waiting c.loop-walk.brackets.braces c.loop-walk.brackets.around c.args.all.now c.item_at-next.result.0 c.item_at-next.new.row c.len-count.ensures.increase
-    c.requires.within c.requires.all c.item_at-next.ensures.row c.item_at-next.ensures.shift c.pass_quiet-quiet.ensures.within here c.pass_quiet-quiet.ensures.quiet c.loop-walk.invariant.read in
-    let at = stands_behind view c.args.first c.loop-walk.walk.place walk.place c.item_at-next.result.0 c.pass_quiet-quiet.result c.item_at-next.new.row c.item_at-next.ensures.row c.item_at-next.ensures.shift c.pass_quiet-quiet.ensures.place (omega (arith, c.if-first-place.false)) in
+    let was = read_past arena begins view c.args.first (walk.place - c.loop-walk.walk.place) c.loop-walk.walk walk bodies waiting c.loop-walk.brackets.braces c.loop-walk.brackets.around c.args.all.now _ c.pass_quiet-next.new.row c.len-count.ensures.increase c.requires.within c.requires.all c.pass_quiet-next.ensures.row refl
+    (omega (arith, c.pass_quiet-next.ensures.place, c.pass_quiet-next.ensures.within)) here c.pass_quiet-next.ensures.quiet c.loop-walk.invariant.read in
+    let at = stands_behind view c.args.first c.loop-walk.walk.place walk.place c.in-Some.id.0 c.pass_quiet-next.new.row c.pass_quiet-next.ensures.row c.pass_quiet-next.ensures.place (c.pass_quiet-next.ensures.below _ c.in-Some.is) (c.pass_quiet-next.ensures.item _ c.in-Some.is) in
     subst (λ n. StandBefore (n + 1) waiting) at.item (was.before at.below)
 
 pub opened_head-opened-requires-clause-few : goal.opened_head-opened-requires-clause-few
@@ -158,14 +156,14 @@ told-requires-clause-within c =
     let arena = c.args.arena.now in
     let view = c.args.view.now in
     let begins = place_in c.args.begins in
-    let walk = c.pass_quiet-quiet.new.walk in
+    let walk = c.pass_quiet-next.new.walk in
     let bodies = reverse c.loop-walk.brackets.bodies.items in
     let waiting = reverse c.loop-walk.brackets.waiting.items in
     let here = c.loop-walk.invariant.stands in
-    let was = read_past arena begins view c.args.first c.pass_quiet-quiet.result c.loop-walk.walk walk bodies waiting c.loop-walk.brackets.braces c.loop-walk.brackets.around c.args.all.now c.item_at-next.result.0 c.item_at-next.new.row c.len-count.ensures.increase
-    c.requires.within c.requires.all c.item_at-next.ensures.row c.item_at-next.ensures.shift c.pass_quiet-quiet.ensures.within here c.pass_quiet-quiet.ensures.quiet c.loop-walk.invariant.read in
-    let at = stands_behind view c.args.first c.loop-walk.walk.place walk.place c.item_at-next.result.0 c.pass_quiet-quiet.result c.item_at-next.new.row c.item_at-next.ensures.row c.item_at-next.ensures.shift c.pass_quiet-quiet.ensures.place (omega (arith, c.if-first-place.false)) in
-    let id = c.item_at-next.result.0 + c.pass_quiet-quiet.result in
+    let was = read_past arena begins view c.args.first (walk.place - c.loop-walk.walk.place) c.loop-walk.walk walk bodies waiting c.loop-walk.brackets.braces c.loop-walk.brackets.around c.args.all.now _ c.pass_quiet-next.new.row c.len-count.ensures.increase c.requires.within c.requires.all c.pass_quiet-next.ensures.row refl
+    (omega (arith, c.pass_quiet-next.ensures.place, c.pass_quiet-next.ensures.within)) here c.pass_quiet-next.ensures.quiet c.loop-walk.invariant.read in
+    let at = stands_behind view c.args.first c.loop-walk.walk.place walk.place c.in-Some.id.0 c.pass_quiet-next.new.row c.pass_quiet-next.ensures.row c.pass_quiet-next.ensures.place (c.pass_quiet-next.ensures.below _ c.in-Some.is) (c.pass_quiet-next.ensures.item _ c.in-Some.is) in
+    let id = c.in-Some.id.0 in
     let read = read_so c.read.result c.read.new.walk in
     let item = next_item arena view c.args.all.now c.args.first c.len-count.result walk bodies waiting read c.loop-walk.brackets.around id _ c.requires.within c.requires.all c.len-count.ensures.count (omega (arith, at.below, c.len-count.ensures.count))
     at.item here c.read.ensures.read in
@@ -181,14 +179,14 @@ returns-in-EndsOutside-clause-end c =
     let arena = c.args.arena.now in
     let view = c.args.view.now in
     let begins = place_in c.args.begins in
-    let walk = c.pass_quiet-quiet.new.walk in
+    let walk = c.pass_quiet-next.new.walk in
     let bodies = reverse c.loop-walk.brackets.bodies.items in
     let waiting = reverse c.loop-walk.brackets.waiting.items in
     let here = c.loop-walk.invariant.stands in
-    let was = read_past arena begins view c.args.first c.pass_quiet-quiet.result c.loop-walk.walk walk bodies waiting c.loop-walk.brackets.braces c.loop-walk.brackets.around c.args.all.now c.item_at-next.result.0 c.item_at-next.new.row c.len-count.ensures.increase
-    c.requires.within c.requires.all c.item_at-next.ensures.row c.item_at-next.ensures.shift c.pass_quiet-quiet.ensures.within here c.pass_quiet-quiet.ensures.quiet c.loop-walk.invariant.read in
-    let at = stands_behind view c.args.first c.loop-walk.walk.place walk.place c.item_at-next.result.0 c.pass_quiet-quiet.result c.item_at-next.new.row c.item_at-next.ensures.row c.item_at-next.ensures.shift c.pass_quiet-quiet.ensures.place (omega (arith, c.if-first-place.false)) in
-    let id = c.item_at-next.result.0 + c.pass_quiet-quiet.result in
+    let was = read_past arena begins view c.args.first (walk.place - c.loop-walk.walk.place) c.loop-walk.walk walk bodies waiting c.loop-walk.brackets.braces c.loop-walk.brackets.around c.args.all.now _ c.pass_quiet-next.new.row c.len-count.ensures.increase c.requires.within c.requires.all c.pass_quiet-next.ensures.row refl
+    (omega (arith, c.pass_quiet-next.ensures.place, c.pass_quiet-next.ensures.within)) here c.pass_quiet-next.ensures.quiet c.loop-walk.invariant.read in
+    let at = stands_behind view c.args.first c.loop-walk.walk.place walk.place c.in-Some.id.0 c.pass_quiet-next.new.row c.pass_quiet-next.ensures.row c.pass_quiet-next.ensures.place (c.pass_quiet-next.ensures.below _ c.in-Some.is) (c.pass_quiet-next.ensures.item _ c.in-Some.is) in
+    let id = c.in-Some.id.0 in
     let read = read_so c.read.result c.read.new.walk in
     let item = next_item arena view c.args.all.now c.args.first c.len-count.result walk bodies waiting read c.loop-walk.brackets.around id _ c.requires.within c.requires.all c.len-count.ensures.count (omega (arith, at.below, c.len-count.ensures.count))
     at.item here c.read.ensures.read in
@@ -202,14 +200,14 @@ returns-in-EndsOutside-clause-inside c =
     let arena = c.args.arena.now in
     let view = c.args.view.now in
     let begins = place_in c.args.begins in
-    let walk = c.pass_quiet-quiet.new.walk in
+    let walk = c.pass_quiet-next.new.walk in
     let bodies = reverse c.loop-walk.brackets.bodies.items in
     let waiting = reverse c.loop-walk.brackets.waiting.items in
     let here = c.loop-walk.invariant.stands in
-    let was = read_past arena begins view c.args.first c.pass_quiet-quiet.result c.loop-walk.walk walk bodies waiting c.loop-walk.brackets.braces c.loop-walk.brackets.around c.args.all.now c.item_at-next.result.0 c.item_at-next.new.row c.len-count.ensures.increase
-    c.requires.within c.requires.all c.item_at-next.ensures.row c.item_at-next.ensures.shift c.pass_quiet-quiet.ensures.within here c.pass_quiet-quiet.ensures.quiet c.loop-walk.invariant.read in
-    let at = stands_behind view c.args.first c.loop-walk.walk.place walk.place c.item_at-next.result.0 c.pass_quiet-quiet.result c.item_at-next.new.row c.item_at-next.ensures.row c.item_at-next.ensures.shift c.pass_quiet-quiet.ensures.place (omega (arith, c.if-first-place.false)) in
-    let id = c.item_at-next.result.0 + c.pass_quiet-quiet.result in
+    let was = read_past arena begins view c.args.first (walk.place - c.loop-walk.walk.place) c.loop-walk.walk walk bodies waiting c.loop-walk.brackets.braces c.loop-walk.brackets.around c.args.all.now _ c.pass_quiet-next.new.row c.len-count.ensures.increase c.requires.within c.requires.all c.pass_quiet-next.ensures.row refl
+    (omega (arith, c.pass_quiet-next.ensures.place, c.pass_quiet-next.ensures.within)) here c.pass_quiet-next.ensures.quiet c.loop-walk.invariant.read in
+    let at = stands_behind view c.args.first c.loop-walk.walk.place walk.place c.in-Some.id.0 c.pass_quiet-next.new.row c.pass_quiet-next.ensures.row c.pass_quiet-next.ensures.place (c.pass_quiet-next.ensures.below _ c.in-Some.is) (c.pass_quiet-next.ensures.item _ c.in-Some.is) in
+    let id = c.in-Some.id.0 in
     let read = read_so c.read.result c.read.new.walk in
     let item = next_item arena view c.args.all.now c.args.first c.len-count.result walk bodies waiting read c.loop-walk.brackets.around id _ c.requires.within c.requires.all c.len-count.ensures.count (omega (arith, at.below, c.len-count.ensures.count))
     at.item here c.read.ensures.read in
@@ -223,14 +221,14 @@ returns-in-EndsOutside-clause-some c =
     let arena = c.args.arena.now in
     let view = c.args.view.now in
     let begins = place_in c.args.begins in
-    let walk = c.pass_quiet-quiet.new.walk in
+    let walk = c.pass_quiet-next.new.walk in
     let bodies = reverse c.loop-walk.brackets.bodies.items in
     let waiting = reverse c.loop-walk.brackets.waiting.items in
     let here = c.loop-walk.invariant.stands in
-    let was = read_past arena begins view c.args.first c.pass_quiet-quiet.result c.loop-walk.walk walk bodies waiting c.loop-walk.brackets.braces c.loop-walk.brackets.around c.args.all.now c.item_at-next.result.0 c.item_at-next.new.row c.len-count.ensures.increase
-    c.requires.within c.requires.all c.item_at-next.ensures.row c.item_at-next.ensures.shift c.pass_quiet-quiet.ensures.within here c.pass_quiet-quiet.ensures.quiet c.loop-walk.invariant.read in
-    let at = stands_behind view c.args.first c.loop-walk.walk.place walk.place c.item_at-next.result.0 c.pass_quiet-quiet.result c.item_at-next.new.row c.item_at-next.ensures.row c.item_at-next.ensures.shift c.pass_quiet-quiet.ensures.place (omega (arith, c.if-first-place.false)) in
-    let id = c.item_at-next.result.0 + c.pass_quiet-quiet.result in
+    let was = read_past arena begins view c.args.first (walk.place - c.loop-walk.walk.place) c.loop-walk.walk walk bodies waiting c.loop-walk.brackets.braces c.loop-walk.brackets.around c.args.all.now _ c.pass_quiet-next.new.row c.len-count.ensures.increase c.requires.within c.requires.all c.pass_quiet-next.ensures.row refl
+    (omega (arith, c.pass_quiet-next.ensures.place, c.pass_quiet-next.ensures.within)) here c.pass_quiet-next.ensures.quiet c.loop-walk.invariant.read in
+    let at = stands_behind view c.args.first c.loop-walk.walk.place walk.place c.in-Some.id.0 c.pass_quiet-next.new.row c.pass_quiet-next.ensures.row c.pass_quiet-next.ensures.place (c.pass_quiet-next.ensures.below _ c.in-Some.is) (c.pass_quiet-next.ensures.item _ c.in-Some.is) in
+    let id = c.in-Some.id.0 in
     let read = read_so c.read.result c.read.new.walk in
     let item = next_item arena view c.args.all.now c.args.first c.len-count.result walk bodies waiting read c.loop-walk.brackets.around id _ c.requires.within c.requires.all c.len-count.ensures.count (omega (arith, at.below, c.len-count.ensures.count))
     at.item here c.read.ensures.read in
@@ -244,14 +242,14 @@ returns-in-EndsOutside-clause-within c =
     let arena = c.args.arena.now in
     let view = c.args.view.now in
     let begins = place_in c.args.begins in
-    let walk = c.pass_quiet-quiet.new.walk in
+    let walk = c.pass_quiet-next.new.walk in
     let bodies = reverse c.loop-walk.brackets.bodies.items in
     let waiting = reverse c.loop-walk.brackets.waiting.items in
     let here = c.loop-walk.invariant.stands in
-    let was = read_past arena begins view c.args.first c.pass_quiet-quiet.result c.loop-walk.walk walk bodies waiting c.loop-walk.brackets.braces c.loop-walk.brackets.around c.args.all.now c.item_at-next.result.0 c.item_at-next.new.row c.len-count.ensures.increase
-    c.requires.within c.requires.all c.item_at-next.ensures.row c.item_at-next.ensures.shift c.pass_quiet-quiet.ensures.within here c.pass_quiet-quiet.ensures.quiet c.loop-walk.invariant.read in
-    let at = stands_behind view c.args.first c.loop-walk.walk.place walk.place c.item_at-next.result.0 c.pass_quiet-quiet.result c.item_at-next.new.row c.item_at-next.ensures.row c.item_at-next.ensures.shift c.pass_quiet-quiet.ensures.place (omega (arith, c.if-first-place.false)) in
-    let id = c.item_at-next.result.0 + c.pass_quiet-quiet.result in
+    let was = read_past arena begins view c.args.first (walk.place - c.loop-walk.walk.place) c.loop-walk.walk walk bodies waiting c.loop-walk.brackets.braces c.loop-walk.brackets.around c.args.all.now _ c.pass_quiet-next.new.row c.len-count.ensures.increase c.requires.within c.requires.all c.pass_quiet-next.ensures.row refl
+    (omega (arith, c.pass_quiet-next.ensures.place, c.pass_quiet-next.ensures.within)) here c.pass_quiet-next.ensures.quiet c.loop-walk.invariant.read in
+    let at = stands_behind view c.args.first c.loop-walk.walk.place walk.place c.in-Some.id.0 c.pass_quiet-next.new.row c.pass_quiet-next.ensures.row c.pass_quiet-next.ensures.place (c.pass_quiet-next.ensures.below _ c.in-Some.is) (c.pass_quiet-next.ensures.item _ c.in-Some.is) in
+    let id = c.in-Some.id.0 in
     let read = read_so c.read.result c.read.new.walk in
     let item = next_item arena view c.args.all.now c.args.first c.len-count.result walk bodies waiting read c.loop-walk.brackets.around id _ c.requires.within c.requires.all c.len-count.ensures.count (omega (arith, at.below, c.len-count.ensures.count))
     at.item here c.read.ensures.read in
@@ -265,14 +263,14 @@ returns-in-EndsOutside-clause-seen c =
     let arena = c.args.arena.now in
     let view = c.args.view.now in
     let begins = place_in c.args.begins in
-    let walk = c.pass_quiet-quiet.new.walk in
+    let walk = c.pass_quiet-next.new.walk in
     let bodies = reverse c.loop-walk.brackets.bodies.items in
     let waiting = reverse c.loop-walk.brackets.waiting.items in
     let here = c.loop-walk.invariant.stands in
-    let was = read_past arena begins view c.args.first c.pass_quiet-quiet.result c.loop-walk.walk walk bodies waiting c.loop-walk.brackets.braces c.loop-walk.brackets.around c.args.all.now c.item_at-next.result.0 c.item_at-next.new.row c.len-count.ensures.increase
-    c.requires.within c.requires.all c.item_at-next.ensures.row c.item_at-next.ensures.shift c.pass_quiet-quiet.ensures.within here c.pass_quiet-quiet.ensures.quiet c.loop-walk.invariant.read in
-    let at = stands_behind view c.args.first c.loop-walk.walk.place walk.place c.item_at-next.result.0 c.pass_quiet-quiet.result c.item_at-next.new.row c.item_at-next.ensures.row c.item_at-next.ensures.shift c.pass_quiet-quiet.ensures.place (omega (arith, c.if-first-place.false)) in
-    let id = c.item_at-next.result.0 + c.pass_quiet-quiet.result in
+    let was = read_past arena begins view c.args.first (walk.place - c.loop-walk.walk.place) c.loop-walk.walk walk bodies waiting c.loop-walk.brackets.braces c.loop-walk.brackets.around c.args.all.now _ c.pass_quiet-next.new.row c.len-count.ensures.increase c.requires.within c.requires.all c.pass_quiet-next.ensures.row refl
+    (omega (arith, c.pass_quiet-next.ensures.place, c.pass_quiet-next.ensures.within)) here c.pass_quiet-next.ensures.quiet c.loop-walk.invariant.read in
+    let at = stands_behind view c.args.first c.loop-walk.walk.place walk.place c.in-Some.id.0 c.pass_quiet-next.new.row c.pass_quiet-next.ensures.row c.pass_quiet-next.ensures.place (c.pass_quiet-next.ensures.below _ c.in-Some.is) (c.pass_quiet-next.ensures.item _ c.in-Some.is) in
+    let id = c.in-Some.id.0 in
     let read = read_so c.read.result c.read.new.walk in
     let item = next_item arena view c.args.all.now c.args.first c.len-count.result walk bodies waiting read c.loop-walk.brackets.around id _ c.requires.within c.requires.all c.len-count.ensures.count (omega (arith, at.below, c.len-count.ensures.count))
     at.item here c.read.ensures.read in
@@ -288,14 +286,14 @@ returns-in-EndsOutside-clause-later c =
     let arena = c.args.arena.now in
     let view = c.args.view.now in
     let begins = place_in c.args.begins in
-    let walk = c.pass_quiet-quiet.new.walk in
+    let walk = c.pass_quiet-next.new.walk in
     let bodies = reverse c.loop-walk.brackets.bodies.items in
     let waiting = reverse c.loop-walk.brackets.waiting.items in
     let here = c.loop-walk.invariant.stands in
-    let was = read_past arena begins view c.args.first c.pass_quiet-quiet.result c.loop-walk.walk walk bodies waiting c.loop-walk.brackets.braces c.loop-walk.brackets.around c.args.all.now c.item_at-next.result.0 c.item_at-next.new.row c.len-count.ensures.increase
-    c.requires.within c.requires.all c.item_at-next.ensures.row c.item_at-next.ensures.shift c.pass_quiet-quiet.ensures.within here c.pass_quiet-quiet.ensures.quiet c.loop-walk.invariant.read in
-    let at = stands_behind view c.args.first c.loop-walk.walk.place walk.place c.item_at-next.result.0 c.pass_quiet-quiet.result c.item_at-next.new.row c.item_at-next.ensures.row c.item_at-next.ensures.shift c.pass_quiet-quiet.ensures.place (omega (arith, c.if-first-place.false)) in
-    let id = c.item_at-next.result.0 + c.pass_quiet-quiet.result in
+    let was = read_past arena begins view c.args.first (walk.place - c.loop-walk.walk.place) c.loop-walk.walk walk bodies waiting c.loop-walk.brackets.braces c.loop-walk.brackets.around c.args.all.now _ c.pass_quiet-next.new.row c.len-count.ensures.increase c.requires.within c.requires.all c.pass_quiet-next.ensures.row refl
+    (omega (arith, c.pass_quiet-next.ensures.place, c.pass_quiet-next.ensures.within)) here c.pass_quiet-next.ensures.quiet c.loop-walk.invariant.read in
+    let at = stands_behind view c.args.first c.loop-walk.walk.place walk.place c.in-Some.id.0 c.pass_quiet-next.new.row c.pass_quiet-next.ensures.row c.pass_quiet-next.ensures.place (c.pass_quiet-next.ensures.below _ c.in-Some.is) (c.pass_quiet-next.ensures.item _ c.in-Some.is) in
+    let id = c.in-Some.id.0 in
     let read = read_so c.read.result c.read.new.walk in
     let item = next_item arena view c.args.all.now c.args.first c.len-count.result walk bodies waiting read c.loop-walk.brackets.around id _ c.requires.within c.requires.all c.len-count.ensures.count (omega (arith, at.below, c.len-count.ensures.count))
     at.item here c.read.ensures.read in
@@ -313,14 +311,14 @@ told-requires-in-EndsInBody-clause-within c =
     let arena = c.args.arena.now in
     let view = c.args.view.now in
     let begins = place_in c.args.begins in
-    let walk = c.pass_quiet-quiet.new.walk in
+    let walk = c.pass_quiet-next.new.walk in
     let bodies = reverse c.loop-walk.brackets.bodies.items in
     let waiting = reverse c.loop-walk.brackets.waiting.items in
     let here = c.loop-walk.invariant.stands in
-    let was = read_past arena begins view c.args.first c.pass_quiet-quiet.result c.loop-walk.walk walk bodies waiting c.loop-walk.brackets.braces c.loop-walk.brackets.around c.args.all.now c.item_at-next.result.0 c.item_at-next.new.row c.len-count.ensures.increase
-    c.requires.within c.requires.all c.item_at-next.ensures.row c.item_at-next.ensures.shift c.pass_quiet-quiet.ensures.within here c.pass_quiet-quiet.ensures.quiet c.loop-walk.invariant.read in
-    let at = stands_behind view c.args.first c.loop-walk.walk.place walk.place c.item_at-next.result.0 c.pass_quiet-quiet.result c.item_at-next.new.row c.item_at-next.ensures.row c.item_at-next.ensures.shift c.pass_quiet-quiet.ensures.place (omega (arith, c.if-first-place.false)) in
-    let id = c.item_at-next.result.0 + c.pass_quiet-quiet.result in
+    let was = read_past arena begins view c.args.first (walk.place - c.loop-walk.walk.place) c.loop-walk.walk walk bodies waiting c.loop-walk.brackets.braces c.loop-walk.brackets.around c.args.all.now _ c.pass_quiet-next.new.row c.len-count.ensures.increase c.requires.within c.requires.all c.pass_quiet-next.ensures.row refl
+    (omega (arith, c.pass_quiet-next.ensures.place, c.pass_quiet-next.ensures.within)) here c.pass_quiet-next.ensures.quiet c.loop-walk.invariant.read in
+    let at = stands_behind view c.args.first c.loop-walk.walk.place walk.place c.in-Some.id.0 c.pass_quiet-next.new.row c.pass_quiet-next.ensures.row c.pass_quiet-next.ensures.place (c.pass_quiet-next.ensures.below _ c.in-Some.is) (c.pass_quiet-next.ensures.item _ c.in-Some.is) in
+    let id = c.in-Some.id.0 in
     let read = read_so c.read.result c.read.new.walk in
     let item = next_item arena view c.args.all.now c.args.first c.len-count.result walk bodies waiting read c.loop-walk.brackets.around id _ c.requires.within c.requires.all c.len-count.ensures.count (omega (arith, at.below, c.len-count.ensures.count))
     at.item here c.read.ensures.read in
@@ -336,14 +334,14 @@ returns-in-EndsInBody-clause-end c =
     let arena = c.args.arena.now in
     let view = c.args.view.now in
     let begins = place_in c.args.begins in
-    let walk = c.pass_quiet-quiet.new.walk in
+    let walk = c.pass_quiet-next.new.walk in
     let bodies = reverse c.loop-walk.brackets.bodies.items in
     let waiting = reverse c.loop-walk.brackets.waiting.items in
     let here = c.loop-walk.invariant.stands in
-    let was = read_past arena begins view c.args.first c.pass_quiet-quiet.result c.loop-walk.walk walk bodies waiting c.loop-walk.brackets.braces c.loop-walk.brackets.around c.args.all.now c.item_at-next.result.0 c.item_at-next.new.row c.len-count.ensures.increase
-    c.requires.within c.requires.all c.item_at-next.ensures.row c.item_at-next.ensures.shift c.pass_quiet-quiet.ensures.within here c.pass_quiet-quiet.ensures.quiet c.loop-walk.invariant.read in
-    let at = stands_behind view c.args.first c.loop-walk.walk.place walk.place c.item_at-next.result.0 c.pass_quiet-quiet.result c.item_at-next.new.row c.item_at-next.ensures.row c.item_at-next.ensures.shift c.pass_quiet-quiet.ensures.place (omega (arith, c.if-first-place.false)) in
-    let id = c.item_at-next.result.0 + c.pass_quiet-quiet.result in
+    let was = read_past arena begins view c.args.first (walk.place - c.loop-walk.walk.place) c.loop-walk.walk walk bodies waiting c.loop-walk.brackets.braces c.loop-walk.brackets.around c.args.all.now _ c.pass_quiet-next.new.row c.len-count.ensures.increase c.requires.within c.requires.all c.pass_quiet-next.ensures.row refl
+    (omega (arith, c.pass_quiet-next.ensures.place, c.pass_quiet-next.ensures.within)) here c.pass_quiet-next.ensures.quiet c.loop-walk.invariant.read in
+    let at = stands_behind view c.args.first c.loop-walk.walk.place walk.place c.in-Some.id.0 c.pass_quiet-next.new.row c.pass_quiet-next.ensures.row c.pass_quiet-next.ensures.place (c.pass_quiet-next.ensures.below _ c.in-Some.is) (c.pass_quiet-next.ensures.item _ c.in-Some.is) in
+    let id = c.in-Some.id.0 in
     let read = read_so c.read.result c.read.new.walk in
     let item = next_item arena view c.args.all.now c.args.first c.len-count.result walk bodies waiting read c.loop-walk.brackets.around id _ c.requires.within c.requires.all c.len-count.ensures.count (omega (arith, at.below, c.len-count.ensures.count))
     at.item here c.read.ensures.read in
@@ -357,14 +355,14 @@ returns-in-EndsInBody-clause-inside c =
     let arena = c.args.arena.now in
     let view = c.args.view.now in
     let begins = place_in c.args.begins in
-    let walk = c.pass_quiet-quiet.new.walk in
+    let walk = c.pass_quiet-next.new.walk in
     let bodies = reverse c.loop-walk.brackets.bodies.items in
     let waiting = reverse c.loop-walk.brackets.waiting.items in
     let here = c.loop-walk.invariant.stands in
-    let was = read_past arena begins view c.args.first c.pass_quiet-quiet.result c.loop-walk.walk walk bodies waiting c.loop-walk.brackets.braces c.loop-walk.brackets.around c.args.all.now c.item_at-next.result.0 c.item_at-next.new.row c.len-count.ensures.increase
-    c.requires.within c.requires.all c.item_at-next.ensures.row c.item_at-next.ensures.shift c.pass_quiet-quiet.ensures.within here c.pass_quiet-quiet.ensures.quiet c.loop-walk.invariant.read in
-    let at = stands_behind view c.args.first c.loop-walk.walk.place walk.place c.item_at-next.result.0 c.pass_quiet-quiet.result c.item_at-next.new.row c.item_at-next.ensures.row c.item_at-next.ensures.shift c.pass_quiet-quiet.ensures.place (omega (arith, c.if-first-place.false)) in
-    let id = c.item_at-next.result.0 + c.pass_quiet-quiet.result in
+    let was = read_past arena begins view c.args.first (walk.place - c.loop-walk.walk.place) c.loop-walk.walk walk bodies waiting c.loop-walk.brackets.braces c.loop-walk.brackets.around c.args.all.now _ c.pass_quiet-next.new.row c.len-count.ensures.increase c.requires.within c.requires.all c.pass_quiet-next.ensures.row refl
+    (omega (arith, c.pass_quiet-next.ensures.place, c.pass_quiet-next.ensures.within)) here c.pass_quiet-next.ensures.quiet c.loop-walk.invariant.read in
+    let at = stands_behind view c.args.first c.loop-walk.walk.place walk.place c.in-Some.id.0 c.pass_quiet-next.new.row c.pass_quiet-next.ensures.row c.pass_quiet-next.ensures.place (c.pass_quiet-next.ensures.below _ c.in-Some.is) (c.pass_quiet-next.ensures.item _ c.in-Some.is) in
+    let id = c.in-Some.id.0 in
     let read = read_so c.read.result c.read.new.walk in
     let item = next_item arena view c.args.all.now c.args.first c.len-count.result walk bodies waiting read c.loop-walk.brackets.around id _ c.requires.within c.requires.all c.len-count.ensures.count (omega (arith, at.below, c.len-count.ensures.count))
     at.item here c.read.ensures.read in
@@ -380,14 +378,14 @@ returns-in-EndsInBody-clause-place c =
     let arena = c.args.arena.now in
     let view = c.args.view.now in
     let begins = place_in c.args.begins in
-    let walk = c.pass_quiet-quiet.new.walk in
+    let walk = c.pass_quiet-next.new.walk in
     let bodies = reverse c.loop-walk.brackets.bodies.items in
     let waiting = reverse c.loop-walk.brackets.waiting.items in
     let here = c.loop-walk.invariant.stands in
-    let was = read_past arena begins view c.args.first c.pass_quiet-quiet.result c.loop-walk.walk walk bodies waiting c.loop-walk.brackets.braces c.loop-walk.brackets.around c.args.all.now c.item_at-next.result.0 c.item_at-next.new.row c.len-count.ensures.increase
-    c.requires.within c.requires.all c.item_at-next.ensures.row c.item_at-next.ensures.shift c.pass_quiet-quiet.ensures.within here c.pass_quiet-quiet.ensures.quiet c.loop-walk.invariant.read in
-    let at = stands_behind view c.args.first c.loop-walk.walk.place walk.place c.item_at-next.result.0 c.pass_quiet-quiet.result c.item_at-next.new.row c.item_at-next.ensures.row c.item_at-next.ensures.shift c.pass_quiet-quiet.ensures.place (omega (arith, c.if-first-place.false)) in
-    let id = c.item_at-next.result.0 + c.pass_quiet-quiet.result in
+    let was = read_past arena begins view c.args.first (walk.place - c.loop-walk.walk.place) c.loop-walk.walk walk bodies waiting c.loop-walk.brackets.braces c.loop-walk.brackets.around c.args.all.now _ c.pass_quiet-next.new.row c.len-count.ensures.increase c.requires.within c.requires.all c.pass_quiet-next.ensures.row refl
+    (omega (arith, c.pass_quiet-next.ensures.place, c.pass_quiet-next.ensures.within)) here c.pass_quiet-next.ensures.quiet c.loop-walk.invariant.read in
+    let at = stands_behind view c.args.first c.loop-walk.walk.place walk.place c.in-Some.id.0 c.pass_quiet-next.new.row c.pass_quiet-next.ensures.row c.pass_quiet-next.ensures.place (c.pass_quiet-next.ensures.below _ c.in-Some.is) (c.pass_quiet-next.ensures.item _ c.in-Some.is) in
+    let id = c.in-Some.id.0 in
     let read = read_so c.read.result c.read.new.walk in
     let item = next_item arena view c.args.all.now c.args.first c.len-count.result walk bodies waiting read c.loop-walk.brackets.around id _ c.requires.within c.requires.all c.len-count.ensures.count (omega (arith, at.below, c.len-count.ensures.count))
     at.item here c.read.ensures.read in
@@ -409,14 +407,14 @@ returns-in-EndsInBody-clause-some c =
     let arena = c.args.arena.now in
     let view = c.args.view.now in
     let begins = place_in c.args.begins in
-    let walk = c.pass_quiet-quiet.new.walk in
+    let walk = c.pass_quiet-next.new.walk in
     let bodies = reverse c.loop-walk.brackets.bodies.items in
     let waiting = reverse c.loop-walk.brackets.waiting.items in
     let here = c.loop-walk.invariant.stands in
-    let was = read_past arena begins view c.args.first c.pass_quiet-quiet.result c.loop-walk.walk walk bodies waiting c.loop-walk.brackets.braces c.loop-walk.brackets.around c.args.all.now c.item_at-next.result.0 c.item_at-next.new.row c.len-count.ensures.increase
-    c.requires.within c.requires.all c.item_at-next.ensures.row c.item_at-next.ensures.shift c.pass_quiet-quiet.ensures.within here c.pass_quiet-quiet.ensures.quiet c.loop-walk.invariant.read in
-    let at = stands_behind view c.args.first c.loop-walk.walk.place walk.place c.item_at-next.result.0 c.pass_quiet-quiet.result c.item_at-next.new.row c.item_at-next.ensures.row c.item_at-next.ensures.shift c.pass_quiet-quiet.ensures.place (omega (arith, c.if-first-place.false)) in
-    let id = c.item_at-next.result.0 + c.pass_quiet-quiet.result in
+    let was = read_past arena begins view c.args.first (walk.place - c.loop-walk.walk.place) c.loop-walk.walk walk bodies waiting c.loop-walk.brackets.braces c.loop-walk.brackets.around c.args.all.now _ c.pass_quiet-next.new.row c.len-count.ensures.increase c.requires.within c.requires.all c.pass_quiet-next.ensures.row refl
+    (omega (arith, c.pass_quiet-next.ensures.place, c.pass_quiet-next.ensures.within)) here c.pass_quiet-next.ensures.quiet c.loop-walk.invariant.read in
+    let at = stands_behind view c.args.first c.loop-walk.walk.place walk.place c.in-Some.id.0 c.pass_quiet-next.new.row c.pass_quiet-next.ensures.row c.pass_quiet-next.ensures.place (c.pass_quiet-next.ensures.below _ c.in-Some.is) (c.pass_quiet-next.ensures.item _ c.in-Some.is) in
+    let id = c.in-Some.id.0 in
     let read = read_so c.read.result c.read.new.walk in
     let item = next_item arena view c.args.all.now c.args.first c.len-count.result walk bodies waiting read c.loop-walk.brackets.around id _ c.requires.within c.requires.all c.len-count.ensures.count (omega (arith, at.below, c.len-count.ensures.count))
     at.item here c.read.ensures.read in
@@ -430,14 +428,14 @@ returns-in-EndsInBody-clause-within c =
     let arena = c.args.arena.now in
     let view = c.args.view.now in
     let begins = place_in c.args.begins in
-    let walk = c.pass_quiet-quiet.new.walk in
+    let walk = c.pass_quiet-next.new.walk in
     let bodies = reverse c.loop-walk.brackets.bodies.items in
     let waiting = reverse c.loop-walk.brackets.waiting.items in
     let here = c.loop-walk.invariant.stands in
-    let was = read_past arena begins view c.args.first c.pass_quiet-quiet.result c.loop-walk.walk walk bodies waiting c.loop-walk.brackets.braces c.loop-walk.brackets.around c.args.all.now c.item_at-next.result.0 c.item_at-next.new.row c.len-count.ensures.increase
-    c.requires.within c.requires.all c.item_at-next.ensures.row c.item_at-next.ensures.shift c.pass_quiet-quiet.ensures.within here c.pass_quiet-quiet.ensures.quiet c.loop-walk.invariant.read in
-    let at = stands_behind view c.args.first c.loop-walk.walk.place walk.place c.item_at-next.result.0 c.pass_quiet-quiet.result c.item_at-next.new.row c.item_at-next.ensures.row c.item_at-next.ensures.shift c.pass_quiet-quiet.ensures.place (omega (arith, c.if-first-place.false)) in
-    let id = c.item_at-next.result.0 + c.pass_quiet-quiet.result in
+    let was = read_past arena begins view c.args.first (walk.place - c.loop-walk.walk.place) c.loop-walk.walk walk bodies waiting c.loop-walk.brackets.braces c.loop-walk.brackets.around c.args.all.now _ c.pass_quiet-next.new.row c.len-count.ensures.increase c.requires.within c.requires.all c.pass_quiet-next.ensures.row refl
+    (omega (arith, c.pass_quiet-next.ensures.place, c.pass_quiet-next.ensures.within)) here c.pass_quiet-next.ensures.quiet c.loop-walk.invariant.read in
+    let at = stands_behind view c.args.first c.loop-walk.walk.place walk.place c.in-Some.id.0 c.pass_quiet-next.new.row c.pass_quiet-next.ensures.row c.pass_quiet-next.ensures.place (c.pass_quiet-next.ensures.below _ c.in-Some.is) (c.pass_quiet-next.ensures.item _ c.in-Some.is) in
+    let id = c.in-Some.id.0 in
     let read = read_so c.read.result c.read.new.walk in
     let item = next_item arena view c.args.all.now c.args.first c.len-count.result walk bodies waiting read c.loop-walk.brackets.around id _ c.requires.within c.requires.all c.len-count.ensures.count (omega (arith, at.below, c.len-count.ensures.count))
     at.item here c.read.ensures.read in
@@ -451,14 +449,14 @@ returns-in-EndsInBody-clause-seen c =
     let arena = c.args.arena.now in
     let view = c.args.view.now in
     let begins = place_in c.args.begins in
-    let walk = c.pass_quiet-quiet.new.walk in
+    let walk = c.pass_quiet-next.new.walk in
     let bodies = reverse c.loop-walk.brackets.bodies.items in
     let waiting = reverse c.loop-walk.brackets.waiting.items in
     let here = c.loop-walk.invariant.stands in
-    let was = read_past arena begins view c.args.first c.pass_quiet-quiet.result c.loop-walk.walk walk bodies waiting c.loop-walk.brackets.braces c.loop-walk.brackets.around c.args.all.now c.item_at-next.result.0 c.item_at-next.new.row c.len-count.ensures.increase
-    c.requires.within c.requires.all c.item_at-next.ensures.row c.item_at-next.ensures.shift c.pass_quiet-quiet.ensures.within here c.pass_quiet-quiet.ensures.quiet c.loop-walk.invariant.read in
-    let at = stands_behind view c.args.first c.loop-walk.walk.place walk.place c.item_at-next.result.0 c.pass_quiet-quiet.result c.item_at-next.new.row c.item_at-next.ensures.row c.item_at-next.ensures.shift c.pass_quiet-quiet.ensures.place (omega (arith, c.if-first-place.false)) in
-    let id = c.item_at-next.result.0 + c.pass_quiet-quiet.result in
+    let was = read_past arena begins view c.args.first (walk.place - c.loop-walk.walk.place) c.loop-walk.walk walk bodies waiting c.loop-walk.brackets.braces c.loop-walk.brackets.around c.args.all.now _ c.pass_quiet-next.new.row c.len-count.ensures.increase c.requires.within c.requires.all c.pass_quiet-next.ensures.row refl
+    (omega (arith, c.pass_quiet-next.ensures.place, c.pass_quiet-next.ensures.within)) here c.pass_quiet-next.ensures.quiet c.loop-walk.invariant.read in
+    let at = stands_behind view c.args.first c.loop-walk.walk.place walk.place c.in-Some.id.0 c.pass_quiet-next.new.row c.pass_quiet-next.ensures.row c.pass_quiet-next.ensures.place (c.pass_quiet-next.ensures.below _ c.in-Some.is) (c.pass_quiet-next.ensures.item _ c.in-Some.is) in
+    let id = c.in-Some.id.0 in
     let read = read_so c.read.result c.read.new.walk in
     let item = next_item arena view c.args.all.now c.args.first c.len-count.result walk bodies waiting read c.loop-walk.brackets.around id _ c.requires.within c.requires.all c.len-count.ensures.count (omega (arith, at.below, c.len-count.ensures.count))
     at.item here c.read.ensures.read in
@@ -476,14 +474,14 @@ returns-in-EndsInBody-clause-later c =
     let arena = c.args.arena.now in
     let view = c.args.view.now in
     let begins = place_in c.args.begins in
-    let walk = c.pass_quiet-quiet.new.walk in
+    let walk = c.pass_quiet-next.new.walk in
     let bodies = reverse c.loop-walk.brackets.bodies.items in
     let waiting = reverse c.loop-walk.brackets.waiting.items in
     let here = c.loop-walk.invariant.stands in
-    let was = read_past arena begins view c.args.first c.pass_quiet-quiet.result c.loop-walk.walk walk bodies waiting c.loop-walk.brackets.braces c.loop-walk.brackets.around c.args.all.now c.item_at-next.result.0 c.item_at-next.new.row c.len-count.ensures.increase
-    c.requires.within c.requires.all c.item_at-next.ensures.row c.item_at-next.ensures.shift c.pass_quiet-quiet.ensures.within here c.pass_quiet-quiet.ensures.quiet c.loop-walk.invariant.read in
-    let at = stands_behind view c.args.first c.loop-walk.walk.place walk.place c.item_at-next.result.0 c.pass_quiet-quiet.result c.item_at-next.new.row c.item_at-next.ensures.row c.item_at-next.ensures.shift c.pass_quiet-quiet.ensures.place (omega (arith, c.if-first-place.false)) in
-    let id = c.item_at-next.result.0 + c.pass_quiet-quiet.result in
+    let was = read_past arena begins view c.args.first (walk.place - c.loop-walk.walk.place) c.loop-walk.walk walk bodies waiting c.loop-walk.brackets.braces c.loop-walk.brackets.around c.args.all.now _ c.pass_quiet-next.new.row c.len-count.ensures.increase c.requires.within c.requires.all c.pass_quiet-next.ensures.row refl
+    (omega (arith, c.pass_quiet-next.ensures.place, c.pass_quiet-next.ensures.within)) here c.pass_quiet-next.ensures.quiet c.loop-walk.invariant.read in
+    let at = stands_behind view c.args.first c.loop-walk.walk.place walk.place c.in-Some.id.0 c.pass_quiet-next.new.row c.pass_quiet-next.ensures.row c.pass_quiet-next.ensures.place (c.pass_quiet-next.ensures.below _ c.in-Some.is) (c.pass_quiet-next.ensures.item _ c.in-Some.is) in
+    let id = c.in-Some.id.0 in
     let read = read_so c.read.result c.read.new.walk in
     let item = next_item arena view c.args.all.now c.args.first c.len-count.result walk bodies waiting read c.loop-walk.brackets.around id _ c.requires.within c.requires.all c.len-count.ensures.count (omega (arith, at.below, c.len-count.ensures.count))
     at.item here c.read.ensures.read in
@@ -501,14 +499,14 @@ loop-walk-smaller c =
     let arena = c.args.arena.now in
     let view = c.args.view.now in
     let begins = place_in c.args.begins in
-    let walk = c.pass_quiet-quiet.new.walk in
+    let walk = c.pass_quiet-next.new.walk in
     let bodies = reverse c.loop-walk.brackets.bodies.items in
     let waiting = reverse c.loop-walk.brackets.waiting.items in
     let here = c.loop-walk.invariant.stands in
-    let was = read_past arena begins view c.args.first c.pass_quiet-quiet.result c.loop-walk.walk walk bodies waiting c.loop-walk.brackets.braces c.loop-walk.brackets.around c.args.all.now c.item_at-next.result.0 c.item_at-next.new.row c.len-count.ensures.increase
-    c.requires.within c.requires.all c.item_at-next.ensures.row c.item_at-next.ensures.shift c.pass_quiet-quiet.ensures.within here c.pass_quiet-quiet.ensures.quiet c.loop-walk.invariant.read in
-    let at = stands_behind view c.args.first c.loop-walk.walk.place walk.place c.item_at-next.result.0 c.pass_quiet-quiet.result c.item_at-next.new.row c.item_at-next.ensures.row c.item_at-next.ensures.shift c.pass_quiet-quiet.ensures.place (omega (arith, c.if-first-place.false)) in
-    let id = c.item_at-next.result.0 + c.pass_quiet-quiet.result in
+    let was = read_past arena begins view c.args.first (walk.place - c.loop-walk.walk.place) c.loop-walk.walk walk bodies waiting c.loop-walk.brackets.braces c.loop-walk.brackets.around c.args.all.now _ c.pass_quiet-next.new.row c.len-count.ensures.increase c.requires.within c.requires.all c.pass_quiet-next.ensures.row refl
+    (omega (arith, c.pass_quiet-next.ensures.place, c.pass_quiet-next.ensures.within)) here c.pass_quiet-next.ensures.quiet c.loop-walk.invariant.read in
+    let at = stands_behind view c.args.first c.loop-walk.walk.place walk.place c.in-Some.id.0 c.pass_quiet-next.new.row c.pass_quiet-next.ensures.row c.pass_quiet-next.ensures.place (c.pass_quiet-next.ensures.below _ c.in-Some.is) (c.pass_quiet-next.ensures.item _ c.in-Some.is) in
+    let id = c.in-Some.id.0 in
     let read = read_so c.read.result c.read.new.walk in
     let item = next_item arena view c.args.all.now c.args.first c.len-count.result walk bodies waiting read c.loop-walk.brackets.around id _ c.requires.within c.requires.all c.len-count.ensures.count (omega (arith, at.below, c.len-count.ensures.count))
     at.item here c.read.ensures.read in
@@ -517,21 +515,21 @@ loop-walk-smaller c =
     let made = c.in_ok-pass-2.ensures in
     let one = next_place arena (drop c.args.first view) walk after bodies waiting read _ _ item goes in
     let place : c.pass-in-loop-walk.new.walk.place ≡ walk.place + 1 = ap (λ (w : Walk). w.place) made.walk ∙ (behind_place after bodies (reverse c.pass-in-loop-walk.new.self.waiting.items) None id ∙ one) in
-    omega (arith, place, c.pass_quiet-quiet.ensures.place, c.loop-walk-test.true)
+    omega (arith, place, c.pass_quiet-next.ensures.place, c.loop-walk-test.true)
 
 pub loop-walk-preserved : goal.loop-walk-preserved
 loop-walk-preserved c =
     let arena = c.args.arena.now in
     let view = c.args.view.now in
     let begins = place_in c.args.begins in
-    let walk = c.pass_quiet-quiet.new.walk in
+    let walk = c.pass_quiet-next.new.walk in
     let bodies = reverse c.loop-walk.brackets.bodies.items in
     let waiting = reverse c.loop-walk.brackets.waiting.items in
     let here = c.loop-walk.invariant.stands in
-    let was = read_past arena begins view c.args.first c.pass_quiet-quiet.result c.loop-walk.walk walk bodies waiting c.loop-walk.brackets.braces c.loop-walk.brackets.around c.args.all.now c.item_at-next.result.0 c.item_at-next.new.row c.len-count.ensures.increase
-    c.requires.within c.requires.all c.item_at-next.ensures.row c.item_at-next.ensures.shift c.pass_quiet-quiet.ensures.within here c.pass_quiet-quiet.ensures.quiet c.loop-walk.invariant.read in
-    let at = stands_behind view c.args.first c.loop-walk.walk.place walk.place c.item_at-next.result.0 c.pass_quiet-quiet.result c.item_at-next.new.row c.item_at-next.ensures.row c.item_at-next.ensures.shift c.pass_quiet-quiet.ensures.place (omega (arith, c.if-first-place.false)) in
-    let id = c.item_at-next.result.0 + c.pass_quiet-quiet.result in
+    let was = read_past arena begins view c.args.first (walk.place - c.loop-walk.walk.place) c.loop-walk.walk walk bodies waiting c.loop-walk.brackets.braces c.loop-walk.brackets.around c.args.all.now _ c.pass_quiet-next.new.row c.len-count.ensures.increase c.requires.within c.requires.all c.pass_quiet-next.ensures.row refl
+    (omega (arith, c.pass_quiet-next.ensures.place, c.pass_quiet-next.ensures.within)) here c.pass_quiet-next.ensures.quiet c.loop-walk.invariant.read in
+    let at = stands_behind view c.args.first c.loop-walk.walk.place walk.place c.in-Some.id.0 c.pass_quiet-next.new.row c.pass_quiet-next.ensures.row c.pass_quiet-next.ensures.place (c.pass_quiet-next.ensures.below _ c.in-Some.is) (c.pass_quiet-next.ensures.item _ c.in-Some.is) in
+    let id = c.in-Some.id.0 in
     let read = read_so c.read.result c.read.new.walk in
     let item = next_item arena view c.args.all.now c.args.first c.len-count.result walk bodies waiting read c.loop-walk.brackets.around id _ c.requires.within c.requires.all c.len-count.ensures.count (omega (arith, at.below, c.len-count.ensures.count))
     at.item here c.read.ensures.read in
@@ -545,7 +543,7 @@ loop-walk-preserved c =
       read = read_on arena begins view c.args.first walk after c.pass-in-loop-walk.new.walk bodies (reverse later.bodies.items) waiting (reverse later.waiting.items) c.loop-walk.brackets.braces later.braces None read c.loop-walk.brackets.around
           bodies id _ c.len-count.ensures.increase at.item item goes (sym (opened_none walk c.loop-walk.brackets.around bodies id _ (no_brace arena walk after c.loop-walk.brackets.around id _ (sym c.passes_brace.ensures ∙ c.if-passes_brace.false) (sym c.read.ensures.read ∙ goes)))) here refl made.waiting made.walk made.bodies made.count made.small made.before was;
       stands = made.around;
-      row = row_later view _ (c.args.first + c.pass-in-loop-walk.new.walk.place) c.item_at-next.new.row (omega (arith, place)) at.is;
+      row = row_later view _ (c.args.first + c.pass-in-loop-walk.new.walk.place) c.pass_quiet-next.new.row (omega (arith, place)) at.is;
     }
 
 pub loop-walk-smaller-then-passes_brace : goal.loop-walk-smaller-then-passes_brace
@@ -553,14 +551,14 @@ loop-walk-smaller-then-passes_brace c =
     let arena = c.args.arena.now in
     let view = c.args.view.now in
     let begins = place_in c.args.begins in
-    let walk = c.pass_quiet-quiet.new.walk in
+    let walk = c.pass_quiet-next.new.walk in
     let bodies = reverse c.loop-walk.brackets.bodies.items in
     let waiting = reverse c.loop-walk.brackets.waiting.items in
     let here = c.loop-walk.invariant.stands in
-    let was = read_past arena begins view c.args.first c.pass_quiet-quiet.result c.loop-walk.walk walk bodies waiting c.loop-walk.brackets.braces c.loop-walk.brackets.around c.args.all.now c.item_at-next.result.0 c.item_at-next.new.row c.len-count.ensures.increase
-    c.requires.within c.requires.all c.item_at-next.ensures.row c.item_at-next.ensures.shift c.pass_quiet-quiet.ensures.within here c.pass_quiet-quiet.ensures.quiet c.loop-walk.invariant.read in
-    let at = stands_behind view c.args.first c.loop-walk.walk.place walk.place c.item_at-next.result.0 c.pass_quiet-quiet.result c.item_at-next.new.row c.item_at-next.ensures.row c.item_at-next.ensures.shift c.pass_quiet-quiet.ensures.place (omega (arith, c.if-first-place.false)) in
-    let id = c.item_at-next.result.0 + c.pass_quiet-quiet.result in
+    let was = read_past arena begins view c.args.first (walk.place - c.loop-walk.walk.place) c.loop-walk.walk walk bodies waiting c.loop-walk.brackets.braces c.loop-walk.brackets.around c.args.all.now _ c.pass_quiet-next.new.row c.len-count.ensures.increase c.requires.within c.requires.all c.pass_quiet-next.ensures.row refl
+    (omega (arith, c.pass_quiet-next.ensures.place, c.pass_quiet-next.ensures.within)) here c.pass_quiet-next.ensures.quiet c.loop-walk.invariant.read in
+    let at = stands_behind view c.args.first c.loop-walk.walk.place walk.place c.in-Some.id.0 c.pass_quiet-next.new.row c.pass_quiet-next.ensures.row c.pass_quiet-next.ensures.place (c.pass_quiet-next.ensures.below _ c.in-Some.is) (c.pass_quiet-next.ensures.item _ c.in-Some.is) in
+    let id = c.in-Some.id.0 in
     let after = c.pass_open_brace.new.self in
     let read = GoesOn after in
     let brace = brace_of _ (and_parts _ _ (sym c.passes_brace.ensures ∙ c.if-passes_brace.true)).0 in
@@ -569,21 +567,21 @@ loop-walk-smaller-then-passes_brace c =
     let made = c.in_ok-pass.ensures in
     let one = next_place arena (drop c.args.first view) walk after bodies waiting read _ _ item refl in
     let place : c.pass.new.walk.place ≡ walk.place + 1 = ap (λ (w : Walk). w.place) made.walk ∙ (behind_place after bodies (reverse c.pass.new.self.waiting.items) c.opened_head-opened.result id ∙ one) in
-    omega (arith, place, c.pass_quiet-quiet.ensures.place, c.loop-walk-test.true)
+    omega (arith, place, c.pass_quiet-next.ensures.place, c.loop-walk-test.true)
 
 pub loop-walk-preserved-then-passes_brace : goal.loop-walk-preserved-then-passes_brace
 loop-walk-preserved-then-passes_brace c =
     let arena = c.args.arena.now in
     let view = c.args.view.now in
     let begins = place_in c.args.begins in
-    let walk = c.pass_quiet-quiet.new.walk in
+    let walk = c.pass_quiet-next.new.walk in
     let bodies = reverse c.loop-walk.brackets.bodies.items in
     let waiting = reverse c.loop-walk.brackets.waiting.items in
     let here = c.loop-walk.invariant.stands in
-    let was = read_past arena begins view c.args.first c.pass_quiet-quiet.result c.loop-walk.walk walk bodies waiting c.loop-walk.brackets.braces c.loop-walk.brackets.around c.args.all.now c.item_at-next.result.0 c.item_at-next.new.row c.len-count.ensures.increase
-    c.requires.within c.requires.all c.item_at-next.ensures.row c.item_at-next.ensures.shift c.pass_quiet-quiet.ensures.within here c.pass_quiet-quiet.ensures.quiet c.loop-walk.invariant.read in
-    let at = stands_behind view c.args.first c.loop-walk.walk.place walk.place c.item_at-next.result.0 c.pass_quiet-quiet.result c.item_at-next.new.row c.item_at-next.ensures.row c.item_at-next.ensures.shift c.pass_quiet-quiet.ensures.place (omega (arith, c.if-first-place.false)) in
-    let id = c.item_at-next.result.0 + c.pass_quiet-quiet.result in
+    let was = read_past arena begins view c.args.first (walk.place - c.loop-walk.walk.place) c.loop-walk.walk walk bodies waiting c.loop-walk.brackets.braces c.loop-walk.brackets.around c.args.all.now _ c.pass_quiet-next.new.row c.len-count.ensures.increase c.requires.within c.requires.all c.pass_quiet-next.ensures.row refl
+    (omega (arith, c.pass_quiet-next.ensures.place, c.pass_quiet-next.ensures.within)) here c.pass_quiet-next.ensures.quiet c.loop-walk.invariant.read in
+    let at = stands_behind view c.args.first c.loop-walk.walk.place walk.place c.in-Some.id.0 c.pass_quiet-next.new.row c.pass_quiet-next.ensures.row c.pass_quiet-next.ensures.place (c.pass_quiet-next.ensures.below _ c.in-Some.is) (c.pass_quiet-next.ensures.item _ c.in-Some.is) in
+    let id = c.in-Some.id.0 in
     let after = c.pass_open_brace.new.self in
     let read = GoesOn after in
     let brace = brace_of _ (and_parts _ _ (sym c.passes_brace.ensures ∙ c.if-passes_brace.true)).0 in
@@ -598,13 +596,13 @@ loop-walk-preserved-then-passes_brace c =
       read = read_on arena begins view c.args.first walk after c.pass.new.walk bodies (reverse later.bodies.items) waiting (reverse later.waiting.items) c.loop-walk.brackets.braces later.braces c.opened_head-opened.result read c.loop-walk.brackets.around
           bodies id _ c.len-count.ensures.increase at.item item refl opened_told here refl made.waiting made.walk made.bodies made.count made.small made.before was;
       stands = made.around;
-      row = row_later view _ (c.args.first + c.pass.new.walk.place) c.item_at-next.new.row (omega (arith, place)) at.is;
+      row = row_later view _ (c.args.first + c.pass.new.walk.place) c.pass_quiet-next.new.row (omega (arith, place)) at.is;
     }
 
 pub passed_body-requires-clause-within : goal.passed_body-requires-clause-within
 passed_body-requires-clause-within c =
     let all = c.args.all.now in
-    let stored = row_stored c.args.view.now (c.args.first + c.loop-walk.walk.place) (length c.args.arena.now.tokens) c.item_at-next.new.row c.requires.within c.item_at-next.ensures.some c.item_at-next.ensures.row in
+    let stored = row_stored c.args.view.now (c.args.first + c.loop-walk.walk.place) (length c.args.arena.now.tokens) c.pass_quiet-next.new.row c.requires.within c.pass_quiet-next.ensures.some c.pass_quiet-next.ensures.row in
     let whole : length all ≡ length c.args.arena.now.tokens = ap (λ (cs : List TokenClass). length cs) c.requires.all ∙ length-map c.args.arena.now.tokens (class_of c.args.arena.now.dialect) in
     omega (arith, stored, whole)
 
@@ -613,35 +611,35 @@ loop-walk-smaller-then-not-is_bracket c =
     let arena = c.args.arena.now in
     let view = c.args.view.now in
     let begins = place_in c.args.begins in
-    let walk = c.pass_quiet-quiet.new.walk in
+    let walk = c.pass_quiet-next.new.walk in
     let bodies = reverse c.loop-walk.brackets.bodies.items in
     let waiting = reverse c.loop-walk.brackets.waiting.items in
     let here = c.loop-walk.invariant.stands in
-    let was = read_past arena begins view c.args.first c.pass_quiet-quiet.result c.loop-walk.walk walk bodies waiting c.loop-walk.brackets.braces c.loop-walk.brackets.around c.args.all.now c.item_at-next.result.0 c.item_at-next.new.row c.len-count.ensures.increase
-    c.requires.within c.requires.all c.item_at-next.ensures.row c.item_at-next.ensures.shift c.pass_quiet-quiet.ensures.within here c.pass_quiet-quiet.ensures.quiet c.loop-walk.invariant.read in
-    let at = stands_behind view c.args.first c.loop-walk.walk.place walk.place c.item_at-next.result.0 c.pass_quiet-quiet.result c.item_at-next.new.row c.item_at-next.ensures.row c.item_at-next.ensures.shift c.pass_quiet-quiet.ensures.place (omega (arith, c.if-first-place.false)) in
-    let id = c.item_at-next.result.0 + c.pass_quiet-quiet.result in
+    let was = read_past arena begins view c.args.first (walk.place - c.loop-walk.walk.place) c.loop-walk.walk walk bodies waiting c.loop-walk.brackets.braces c.loop-walk.brackets.around c.args.all.now _ c.pass_quiet-next.new.row c.len-count.ensures.increase c.requires.within c.requires.all c.pass_quiet-next.ensures.row refl
+    (omega (arith, c.pass_quiet-next.ensures.place, c.pass_quiet-next.ensures.within)) here c.pass_quiet-next.ensures.quiet c.loop-walk.invariant.read in
+    let at = stands_behind view c.args.first c.loop-walk.walk.place walk.place c.in-Some.id.0 c.pass_quiet-next.new.row c.pass_quiet-next.ensures.row c.pass_quiet-next.ensures.place (c.pass_quiet-next.ensures.below _ c.in-Some.is) (c.pass_quiet-next.ensures.item _ c.in-Some.is) in
+    let id = c.in-Some.id.0 in
     let read = read_so c.read.result c.read.new.walk in
     let item = next_item arena view c.args.all.now c.args.first c.len-count.result walk bodies waiting read c.loop-walk.brackets.around id _ c.requires.within c.requires.all c.len-count.ensures.count (omega (arith, at.below, c.len-count.ensures.count))
     at.item here c.read.ensures.read in
     let after = c.read.new.walk in
     let goes = ap (λ (o : Outcome). read_so o after) c.in-GoesOn.is in
     let one = next_place arena (drop c.args.first view) walk after bodies waiting read _ _ item goes in
-    omega (arith, one, c.pass_quiet-quiet.ensures.place, c.loop-walk-test.true)
+    omega (arith, one, c.pass_quiet-next.ensures.place, c.loop-walk-test.true)
 
 pub loop-walk-preserved-then-not-is_bracket : goal.loop-walk-preserved-then-not-is_bracket
 loop-walk-preserved-then-not-is_bracket c =
     let arena = c.args.arena.now in
     let view = c.args.view.now in
     let begins = place_in c.args.begins in
-    let walk = c.pass_quiet-quiet.new.walk in
+    let walk = c.pass_quiet-next.new.walk in
     let bodies = reverse c.loop-walk.brackets.bodies.items in
     let waiting = reverse c.loop-walk.brackets.waiting.items in
     let here = c.loop-walk.invariant.stands in
-    let was = read_past arena begins view c.args.first c.pass_quiet-quiet.result c.loop-walk.walk walk bodies waiting c.loop-walk.brackets.braces c.loop-walk.brackets.around c.args.all.now c.item_at-next.result.0 c.item_at-next.new.row c.len-count.ensures.increase
-    c.requires.within c.requires.all c.item_at-next.ensures.row c.item_at-next.ensures.shift c.pass_quiet-quiet.ensures.within here c.pass_quiet-quiet.ensures.quiet c.loop-walk.invariant.read in
-    let at = stands_behind view c.args.first c.loop-walk.walk.place walk.place c.item_at-next.result.0 c.pass_quiet-quiet.result c.item_at-next.new.row c.item_at-next.ensures.row c.item_at-next.ensures.shift c.pass_quiet-quiet.ensures.place (omega (arith, c.if-first-place.false)) in
-    let id = c.item_at-next.result.0 + c.pass_quiet-quiet.result in
+    let was = read_past arena begins view c.args.first (walk.place - c.loop-walk.walk.place) c.loop-walk.walk walk bodies waiting c.loop-walk.brackets.braces c.loop-walk.brackets.around c.args.all.now _ c.pass_quiet-next.new.row c.len-count.ensures.increase c.requires.within c.requires.all c.pass_quiet-next.ensures.row refl
+    (omega (arith, c.pass_quiet-next.ensures.place, c.pass_quiet-next.ensures.within)) here c.pass_quiet-next.ensures.quiet c.loop-walk.invariant.read in
+    let at = stands_behind view c.args.first c.loop-walk.walk.place walk.place c.in-Some.id.0 c.pass_quiet-next.new.row c.pass_quiet-next.ensures.row c.pass_quiet-next.ensures.place (c.pass_quiet-next.ensures.below _ c.in-Some.is) (c.pass_quiet-next.ensures.item _ c.in-Some.is) in
+    let id = c.in-Some.id.0 in
     let read = read_so c.read.result c.read.new.walk in
     let item = next_item arena view c.args.all.now c.args.first c.len-count.result walk bodies waiting read c.loop-walk.brackets.around id _ c.requires.within c.requires.all c.len-count.ensures.count (omega (arith, at.below, c.len-count.ensures.count))
     at.item here c.read.ensures.read in
@@ -651,94 +649,96 @@ loop-walk-preserved-then-not-is_bracket c =
     record {
       read = read_flat arena begins view c.args.first walk after bodies waiting c.loop-walk.brackets.braces read id _ c.len-count.ensures.increase item goes (sym c.is_bracket.ensures ∙ c.if-not-is_bracket.true) was;
       stands = here;
-      row = row_later view _ (c.args.first + after.place) c.item_at-next.new.row (omega (arith, one)) at.is;
+      row = row_later view _ (c.args.first + after.place) c.pass_quiet-next.new.row (omega (arith, one)) at.is;
     }
 
-pub loop-walk-preserved-in-Some : goal.loop-walk-preserved-in-Some
-loop-walk-preserved-in-Some c =
+pub loop-walk-preserved-in-Some-passed_body : goal.loop-walk-preserved-in-Some-passed_body
+loop-walk-preserved-in-Some-passed_body c =
     let arena = c.args.arena.now in
     let view = c.args.view.now in
     let begins = place_in c.args.begins in
-    let walk = c.pass_quiet-quiet.new.walk in
+    let walk = c.pass_quiet-next.new.walk in
     let bodies = reverse c.loop-walk.brackets.bodies.items in
     let waiting = reverse c.loop-walk.brackets.waiting.items in
     let here = c.loop-walk.invariant.stands in
-    let was = read_past arena begins view c.args.first c.pass_quiet-quiet.result c.loop-walk.walk walk bodies waiting c.loop-walk.brackets.braces c.loop-walk.brackets.around c.args.all.now c.item_at-next.result.0 c.item_at-next.new.row c.len-count.ensures.increase
-    c.requires.within c.requires.all c.item_at-next.ensures.row c.item_at-next.ensures.shift c.pass_quiet-quiet.ensures.within here c.pass_quiet-quiet.ensures.quiet c.loop-walk.invariant.read in
-    let at = stands_behind view c.args.first c.loop-walk.walk.place walk.place c.item_at-next.result.0 c.pass_quiet-quiet.result c.item_at-next.new.row c.item_at-next.ensures.row c.item_at-next.ensures.shift c.pass_quiet-quiet.ensures.place (omega (arith, c.if-first-place.false)) in
-    let id = c.item_at-next.result.0 + c.pass_quiet-quiet.result in
+    let was = read_past arena begins view c.args.first (walk.place - c.loop-walk.walk.place) c.loop-walk.walk walk bodies waiting c.loop-walk.brackets.braces c.loop-walk.brackets.around c.args.all.now _ c.pass_quiet-next.new.row c.len-count.ensures.increase c.requires.within c.requires.all c.pass_quiet-next.ensures.row refl
+    (omega (arith, c.pass_quiet-next.ensures.place, c.pass_quiet-next.ensures.within)) here c.pass_quiet-next.ensures.quiet c.loop-walk.invariant.read in
+    let at = stands_behind view c.args.first c.loop-walk.walk.place walk.place c.in-Some.id.0 c.pass_quiet-next.new.row c.pass_quiet-next.ensures.row c.pass_quiet-next.ensures.place (c.pass_quiet-next.ensures.below _ c.in-Some.is) (c.pass_quiet-next.ensures.item _ c.in-Some.is) in
+    let id = c.in-Some.id.0 in
     let after = c.pass_open_brace.new.self in
     let read = GoesOn after in
     let brace = brace_of _ (and_parts _ _ (sym c.passes_brace.ensures ∙ c.if-passes_brace.true)).0 in
     let item = next_item arena view c.args.all.now c.args.first c.len-count.result walk bodies waiting read c.loop-walk.brackets.around id _ c.requires.within c.requires.all c.len-count.ensures.count (omega (arith, at.below, c.len-count.ensures.count))
     at.item here (c.pass_open_brace.ensures arena ∙ ap (λ (class : TokenClass). reading arena walk c.loop-walk.brackets.around id class) (sym brace)) in
-    let opened_told = opened_brace walk c.loop-walk.brackets.around _ _ id _ _ c.opened_head-opened.ensures c.deref.ensures.value (and_parts _ _ (sym c.passes_brace.ensures ∙ c.if-passes_brace.true)).0 in
     let row = at.is in
-    let head = c.in-Some.head in
-    let len = c.in-Some.len in
-    let told = c.in-Some.is in
+    let head = c.in-Some-passed_body.head in
+    let len = c.in-Some-passed_body.len in
+    let told = c.in-Some-passed_body.is in
     let whole = c.passed_body.ensures in
     let inside = whole.within _ told in
-    let stored = row_stored view (c.args.first + walk.place) (length arena.tokens) c.item_at-next.new.row c.requires.within at.some row in
-    let items = row_items view c.args.first walk.place len id c.item_at-next.new.row row at.shift inside in
-    let number : c.args.first + walk.place + 1 + c.item_at-next.new.row.shift ≡ id + 1 = omega (arith, at.shift) in
+    let stored = row_stored view (c.args.first + walk.place) (length arena.tokens) c.pass_quiet-next.new.row c.requires.within at.some row in
+    let items = row_items view c.args.first walk.place len id c.pass_quiet-next.new.row row at.shift inside in
+    let number : c.args.first + walk.place + 1 + c.pass_quiet-next.new.row.shift ≡ id + 1 = omega (arith, at.shift) in
     let closes = subst (λ n. Closes 1 (take len (drop n c.args.all.now))) number (whole.closes _ told) in
     let later : c.pass_body.new.self.place ≡ walk.place + 1 + len = ap (λ (w : Walk). w.place) c.pass_body.ensures in
+    let opened_told = opened_brace walk c.loop-walk.brackets.around _ _ id _ _ c.opened_head-opened.ensures c.deref.ensures.value (and_parts _ _ (sym c.passes_brace.ensures ∙ c.if-passes_brace.true)).0 in
     let opened = sym (whole.opened _ told) ∙ opened_told in
     record {
       read = read_body arena begins view c.args.first walk after c.pass_body.new.self bodies bodies waiting c.loop-walk.brackets.braces read c.args.all.now id len _ c.loop-walk.brackets.around head c.len-count.ensures.increase
           (omega (arith, inside, row.inside)) items (omega (arith, inside, stored, at.shift)) c.requires.all item refl opened here refl (whole.before _ told) (whole.low _ told) closes c.pass_body.ensures was;
       stands = here;
-      row = row_later view _ (c.args.first + c.pass_body.new.self.place) c.item_at-next.new.row (omega (arith, later)) row;
+      row = row_later view _ (c.args.first + c.pass_body.new.self.place) c.pass_quiet-next.new.row (omega (arith, later)) row;
     }
 
 pub passed_group-requires-clause-within : goal.passed_group-requires-clause-within
 passed_group-requires-clause-within c =
     let all = c.args.all.now in
-    let stored = row_stored c.args.view.now (c.args.first + c.loop-walk.walk.place) (length c.args.arena.now.tokens) c.item_at-next.new.row c.requires.within c.item_at-next.ensures.some c.item_at-next.ensures.row in
+    let stored = row_stored c.args.view.now (c.args.first + c.loop-walk.walk.place) (length c.args.arena.now.tokens) c.pass_quiet-next.new.row c.requires.within c.pass_quiet-next.ensures.some c.pass_quiet-next.ensures.row in
     let whole : length all ≡ length c.args.arena.now.tokens = ap (λ (cs : List TokenClass). length cs) c.requires.all ∙ length-map c.args.arena.now.tokens (class_of c.args.arena.now.dialect) in
     omega (arith, stored, whole)
 
 pub bounds-all-closer : goal.bounds-all-closer
 bounds-all-closer c =
     let all = c.args.all.now in
-    let stored = row_stored c.args.view.now (c.args.first + c.loop-walk.walk.place) (length c.args.arena.now.tokens) c.item_at-next.new.row c.requires.within c.item_at-next.ensures.some c.item_at-next.ensures.row in
+    let stored = row_stored c.args.view.now (c.args.first + c.loop-walk.walk.place) (length c.args.arena.now.tokens) c.pass_quiet-next.new.row c.requires.within c.pass_quiet-next.ensures.some c.pass_quiet-next.ensures.row in
     let whole : length all ≡ length c.args.arena.now.tokens = ap (λ (cs : List TokenClass). length cs) c.requires.all ∙ length-map c.args.arena.now.tokens (class_of c.args.arena.now.dialect) in
     let inside = c.passed_group.ensures.within _ c.in-Some-passed_group.is in
-    omega (arith, stored, whole, c.item_at-next.ensures.shift, inside)
+    let item = c.pass_quiet-next.ensures.item _ c.in-Some.is in
+    omega (arith, stored, whole, item, inside)
 
 pub pass_group-requires : goal.pass_group-requires
 pass_group-requires c =
-    let stored = row_stored c.args.view.now (c.args.first + c.loop-walk.walk.place) (length c.args.arena.now.tokens) c.item_at-next.new.row c.requires.within c.item_at-next.ensures.some c.item_at-next.ensures.row in
+    let stored = row_stored c.args.view.now (c.args.first + c.loop-walk.walk.place) (length c.args.arena.now.tokens) c.pass_quiet-next.new.row c.requires.within c.pass_quiet-next.ensures.some c.pass_quiet-next.ensures.row in
     let inside = c.passed_group.ensures.within _ c.in-Some-passed_group.is in
-    omega (arith, stored, c.item_at-next.ensures.shift, inside, c.len-items.ensures.count)
+    let item = c.pass_quiet-next.ensures.item _ c.in-Some.is in
+    omega (arith, stored, item, inside, c.len-items.ensures.count)
 
 pub loop-walk-preserved-in-Some-passed_group : goal.loop-walk-preserved-in-Some-passed_group
 loop-walk-preserved-in-Some-passed_group c =
     let arena = c.args.arena.now in
     let view = c.args.view.now in
     let begins = place_in c.args.begins in
-    let walk = c.pass_quiet-quiet.new.walk in
+    let walk = c.pass_quiet-next.new.walk in
     let bodies = reverse c.loop-walk.brackets.bodies.items in
     let waiting = reverse c.loop-walk.brackets.waiting.items in
     let here = c.loop-walk.invariant.stands in
-    let was = read_past arena begins view c.args.first c.pass_quiet-quiet.result c.loop-walk.walk walk bodies waiting c.loop-walk.brackets.braces c.loop-walk.brackets.around c.args.all.now c.item_at-next.result.0 c.item_at-next.new.row c.len-count.ensures.increase
-    c.requires.within c.requires.all c.item_at-next.ensures.row c.item_at-next.ensures.shift c.pass_quiet-quiet.ensures.within here c.pass_quiet-quiet.ensures.quiet c.loop-walk.invariant.read in
-    let at = stands_behind view c.args.first c.loop-walk.walk.place walk.place c.item_at-next.result.0 c.pass_quiet-quiet.result c.item_at-next.new.row c.item_at-next.ensures.row c.item_at-next.ensures.shift c.pass_quiet-quiet.ensures.place (omega (arith, c.if-first-place.false)) in
-    let id = c.item_at-next.result.0 + c.pass_quiet-quiet.result in
+    let was = read_past arena begins view c.args.first (walk.place - c.loop-walk.walk.place) c.loop-walk.walk walk bodies waiting c.loop-walk.brackets.braces c.loop-walk.brackets.around c.args.all.now _ c.pass_quiet-next.new.row c.len-count.ensures.increase c.requires.within c.requires.all c.pass_quiet-next.ensures.row refl
+    (omega (arith, c.pass_quiet-next.ensures.place, c.pass_quiet-next.ensures.within)) here c.pass_quiet-next.ensures.quiet c.loop-walk.invariant.read in
+    let at = stands_behind view c.args.first c.loop-walk.walk.place walk.place c.in-Some.id.0 c.pass_quiet-next.new.row c.pass_quiet-next.ensures.row c.pass_quiet-next.ensures.place (c.pass_quiet-next.ensures.below _ c.in-Some.is) (c.pass_quiet-next.ensures.item _ c.in-Some.is) in
+    let id = c.in-Some.id.0 in
     let read = read_so c.read.result c.read.new.walk in
     let item = next_item arena view c.args.all.now c.args.first c.len-count.result walk bodies waiting read c.loop-walk.brackets.around id _ c.requires.within c.requires.all c.len-count.ensures.count (omega (arith, at.below, c.len-count.ensures.count))
     at.item here c.read.ensures.read in
     let after = c.read.new.walk in
     let goes = ap (λ (o : Outcome). read_so o after) c.in-GoesOn.is in
-    let shift = c.item_at-next.new.row.shift in
+    let shift = c.pass_quiet-next.new.row.shift in
     let row = at.is in
     let group = c.passed_group.ensures in
     let len = c.in-Some-passed_group.len in
     let told = c.in-Some-passed_group.is in
     let inside = group.within _ told in
-    let stored = row_stored view (c.args.first + walk.place) (length arena.tokens) c.item_at-next.new.row c.requires.within at.some row in
-    let items = row_items view c.args.first walk.place len id c.item_at-next.new.row row at.shift inside in
+    let stored = row_stored view (c.args.first + walk.place) (length arena.tokens) c.pass_quiet-next.new.row c.requires.within at.some row in
+    let items = row_items view c.args.first walk.place len id c.pass_quiet-next.new.row row at.shift inside in
     let last : c.args.first + walk.place + len + shift ≡ id + len = omega (arith, at.shift) in
     let opener = get_or c.args.all.now id If in
     let closer = get_or c.args.all.now (id + len) If in
@@ -750,7 +750,7 @@ loop-walk-preserved-in-Some-passed_group c =
       read = read_group arena begins view c.args.first walk after c.pass_group.new.self bodies waiting c.loop-walk.brackets.braces read c.args.all.now id len opener closer If c.len-count.ensures.increase
           (omega (arith, inside, row.inside)) items (omega (arith, inside, stored, at.shift)) c.requires.all item goes (group.some _ told) closes refl quiet c.pass_group.ensures was;
       stands = here;
-      row = row_later view _ (c.args.first + c.pass_group.new.self.place) c.item_at-next.new.row (omega (arith, later)) row;
+      row = row_later view _ (c.args.first + c.pass_group.new.self.place) c.pass_quiet-next.new.row (omega (arith, later)) row;
     }
 
 pub returns-clause-end : goal.returns-clause-end
@@ -763,13 +763,13 @@ returns-clause-end c =
     let waiting = reverse c.loop-walk.brackets.waiting.items in
     let none : end_of_part arena begins (drop c.args.first view) ≡ None = elim c.loop-walk-test.branch [
       | else-loop-walk-test w ↦ all_read arena begins (drop c.args.first view) walk bodies waiting (omega (arith, length-drop c.args.first view, w.loop-walk-test.false, c.len-count.ensures.count)) c.loop-walk.invariant.read.on
-      | then-loop-walk-test+else-first-place+else-prove+else-passes_brace+in-Never w ↦
+      | then-loop-walk-test+in-Some+else-prove+else-passes_brace+in-Never w ↦
           let here = c.loop-walk.invariant.stands in
-          let walk = w.pass_quiet-quiet.new.walk in
-          let was = read_past arena begins view c.args.first w.pass_quiet-quiet.result c.loop-walk.walk walk bodies waiting c.loop-walk.brackets.braces c.loop-walk.brackets.around c.args.all.now w.item_at-next.result.0 w.item_at-next.new.row c.len-count.ensures.increase
-          c.requires.within c.requires.all w.item_at-next.ensures.row w.item_at-next.ensures.shift w.pass_quiet-quiet.ensures.within here w.pass_quiet-quiet.ensures.quiet c.loop-walk.invariant.read in
-          let at = stands_behind view c.args.first c.loop-walk.walk.place walk.place w.item_at-next.result.0 w.pass_quiet-quiet.result w.item_at-next.new.row w.item_at-next.ensures.row w.item_at-next.ensures.shift w.pass_quiet-quiet.ensures.place (omega (arith, w.if-first-place.false)) in
-          let id = w.item_at-next.result.0 + w.pass_quiet-quiet.result in
+          let walk = w.pass_quiet-next.new.walk in
+          let was = read_past arena begins view c.args.first (walk.place - c.loop-walk.walk.place) c.loop-walk.walk walk bodies waiting c.loop-walk.brackets.braces c.loop-walk.brackets.around c.args.all.now _ w.pass_quiet-next.new.row c.len-count.ensures.increase c.requires.within c.requires.all w.pass_quiet-next.ensures.row refl
+          (omega (arith, w.pass_quiet-next.ensures.place, w.pass_quiet-next.ensures.within)) here w.pass_quiet-next.ensures.quiet c.loop-walk.invariant.read in
+          let at = stands_behind view c.args.first c.loop-walk.walk.place walk.place w.in-Some.id.0 w.pass_quiet-next.new.row w.pass_quiet-next.ensures.row w.pass_quiet-next.ensures.place (w.pass_quiet-next.ensures.below _ w.in-Some.is) (w.pass_quiet-next.ensures.item _ w.in-Some.is) in
+          let id = w.in-Some.id.0 in
           let read = read_so w.read.result w.read.new.walk in
           let item = next_item arena view c.args.all.now c.args.first c.len-count.result walk bodies waiting read c.loop-walk.brackets.around id _ c.requires.within c.requires.all c.len-count.ensures.count (omega (arith, at.below, c.len-count.ensures.count))
           at.item here w.read.ensures.read in
@@ -788,13 +788,13 @@ returns-clause-inside c =
     let waiting = reverse c.loop-walk.brackets.waiting.items in
     let none : end_of_part arena begins (drop c.args.first view) ≡ None = elim c.loop-walk-test.branch [
       | else-loop-walk-test w ↦ all_read arena begins (drop c.args.first view) walk bodies waiting (omega (arith, length-drop c.args.first view, w.loop-walk-test.false, c.len-count.ensures.count)) c.loop-walk.invariant.read.on
-      | then-loop-walk-test+else-first-place+else-prove+else-passes_brace+in-Never w ↦
+      | then-loop-walk-test+in-Some+else-prove+else-passes_brace+in-Never w ↦
           let here = c.loop-walk.invariant.stands in
-          let walk = w.pass_quiet-quiet.new.walk in
-          let was = read_past arena begins view c.args.first w.pass_quiet-quiet.result c.loop-walk.walk walk bodies waiting c.loop-walk.brackets.braces c.loop-walk.brackets.around c.args.all.now w.item_at-next.result.0 w.item_at-next.new.row c.len-count.ensures.increase
-          c.requires.within c.requires.all w.item_at-next.ensures.row w.item_at-next.ensures.shift w.pass_quiet-quiet.ensures.within here w.pass_quiet-quiet.ensures.quiet c.loop-walk.invariant.read in
-          let at = stands_behind view c.args.first c.loop-walk.walk.place walk.place w.item_at-next.result.0 w.pass_quiet-quiet.result w.item_at-next.new.row w.item_at-next.ensures.row w.item_at-next.ensures.shift w.pass_quiet-quiet.ensures.place (omega (arith, w.if-first-place.false)) in
-          let id = w.item_at-next.result.0 + w.pass_quiet-quiet.result in
+          let walk = w.pass_quiet-next.new.walk in
+          let was = read_past arena begins view c.args.first (walk.place - c.loop-walk.walk.place) c.loop-walk.walk walk bodies waiting c.loop-walk.brackets.braces c.loop-walk.brackets.around c.args.all.now _ w.pass_quiet-next.new.row c.len-count.ensures.increase c.requires.within c.requires.all w.pass_quiet-next.ensures.row refl
+          (omega (arith, w.pass_quiet-next.ensures.place, w.pass_quiet-next.ensures.within)) here w.pass_quiet-next.ensures.quiet c.loop-walk.invariant.read in
+          let at = stands_behind view c.args.first c.loop-walk.walk.place walk.place w.in-Some.id.0 w.pass_quiet-next.new.row w.pass_quiet-next.ensures.row w.pass_quiet-next.ensures.place (w.pass_quiet-next.ensures.below _ w.in-Some.is) (w.pass_quiet-next.ensures.item _ w.in-Some.is) in
+          let id = w.in-Some.id.0 in
           let read = read_so w.read.result w.read.new.walk in
           let item = next_item arena view c.args.all.now c.args.first c.len-count.result walk bodies waiting read c.loop-walk.brackets.around id _ c.requires.within c.requires.all c.len-count.ensures.count (omega (arith, at.below, c.len-count.ensures.count))
           at.item here w.read.ensures.read in
