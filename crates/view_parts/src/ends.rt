@@ -269,8 +269,8 @@ fn passed_group(
     closes_group(opener, closer).then_some(quiet + 1)
 }
 
-/// The head of the body that a `{` at a place of a part opens, and how many items stand behind that up to its `}`, if it
-/// opens one and no part ends in it: they stand in its row, before the place from which a part may end there.
+/// The head of the body that a `{` at a place of a part opens, and how many items stand behind that up to its `}`, if
+/// it opens one and no part ends in it: they stand in its row, before the place from which a part may end there.
 /// `walk` is behind the `{`.
 #[inline(never)]
 fn passed_body(

@@ -506,8 +506,8 @@ impl Walk {
         }
     }
 
-    /// Whether an item may tell where the part ends, by what it stands in, or in a body what is known changes in another
-    /// way than by its class.
+    /// Whether an item may tell where the part ends, by what it stands in, or in a body what is known changes in
+    /// another way than by its class.
     #[inline(always)]
     pub(crate) fn may_end(&self, around: Around, id: TokenId) -> bool
         ensures { result ≡ may_end self.now around id.0 }
@@ -523,7 +523,8 @@ impl Walk {
     }
 
     /// Whether a statement of a body ends before this token and one begins with it, and no label holds the part's end:
-    /// behind one, three statements end first, or the next one stands here, with no comment on lines of its own before it.
+    /// behind one, three statements end first, or the next one stands here, with no comment on lines of its own before
+    /// it.
     fn parts_statements(&self, class: TokenClass) -> bool
         ensures { result ≡ parts_statements self.now class }
     {

@@ -1,4 +1,4 @@
-use Rattle.std.proofs.Common.{◌≡◌, ◌∙◌, ◌<◌, ◌≤◌, ◌+◌, ◌-◌, ℕ, true, length, get_or, refl, sym, ap, subst, arith}
+use Rattle.std.proofs.Common.{◌≡◌, ◌∙◌, ◌<◌, ◌+◌, ◌-◌, ℕ, true, length, get_or, refl, sym, ap, subst, arith}
 use Rattle.token_classes.specs.declared.class.TokenClass.{TokenClass}
 use Rattle.view_parts.specs.Steps.{PassesQuiet, is_held, is_quiet}
 use Rattle.view_parts.proofs.QuietPassed.{passes_so}
