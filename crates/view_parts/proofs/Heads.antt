@@ -1,5 +1,5 @@
 -- Heads of bodies, the innermost or the outermost first.
-use Rattle.std.proofs.Common.{◌≡◌, ◌∙◌, ℕ, ◌+◌, ◌-◌, ◌<◌, ◌≤◌, Bool, true, Option, Some, None, List, [], ◌∷◌, ◌++◌, length, get_or, reverse, refl, sym, ap, subst, arith}
+use Rattle.std.proofs.Common.{◌≡◌, ◌∙◌, ℕ, ◌+◌, ◌-◌, ◌<◌, ◌≤◌, Bool, true, false, Option, Some, None, List, [], ◌∷◌, ◌++◌, length, get_or, reverse, refl, sym, ap, subst, arith}
 use Rattle.std.specs.Prelude.{⊤, All, if◌then◌else◌}
 use Rattle.std.specs.List.{range_with_len}
 use Rattle.std.proofs.lemmas.Grind.{reverse_onto}
@@ -8,6 +8,7 @@ use Rattle.std.proofs.lemmas.List.Elements.{All-append}
 use Rattle.std.proofs.lemmas.List.FromFn.{get_or-range_with_len, length-range_with_len}
 use Rattle.std.proofs.Math.ListN.{get_or-append}
 use Rattle.token_classes.specs.declared.class.TokenClass.{TokenClass}
+use Rattle.token_classes.specs.declared.class.TokenClass.TheVariants.{OpenBrace}
 use Rattle.token_classes.specs.Classes.{is_open_brace}
 use Rattle.view_parts.specs.declared.bodies.BodyKind.{BodyKind}
 use Rattle.view_parts.specs.declared.bodies.Head.{Head}
@@ -131,3 +132,15 @@ onto_bodies P (head ∷ heads) bodies low stand have before =
 
 pub bodies_so : (P : ℕ → Type 0) (heads : List Head) → Stand 0 heads → All P (head_items heads) → BodiesStand P (reverse heads) (heads_end 0 heads)
 bodies_so P heads stand have = onto_bodies P heads [] 0 stand have tt
+
+-- ## A head that a `{` opens
+
+pub opened_brace : (walk : Walk) (stands : Around) (heads bodies : List Head) (id : ℕ) (class : TokenClass) (opened : Option Head) → opened ≡ opened_head walk stands (reverse heads) id OpenBrace → heads ≡ bodies
+    → is_open_brace class ≡ true → opened ≡ opened_head walk stands (reverse bodies) id class
+opened_brace walk stands heads bodies id class opened is same brace =
+    is
+    ∙ (ap (λ (hs : List Head). opened_head walk stands (reverse hs) id OpenBrace) same
+    ∙ sym (ap (λ (b : Bool). if b then opened_head walk stands (reverse bodies) id OpenBrace else None) brace))
+
+pub opened_none : (walk : Walk) (stands : Around) (bodies : List Head) (id : ℕ) (class : TokenClass) → is_open_brace class ≡ false → opened_head walk stands bodies id class ≡ None
+opened_none walk stands bodies id class other = ap (λ (b : Bool). if b then opened_head walk stands bodies id OpenBrace else None) other

@@ -1,6 +1,6 @@
-use Rattle.std.proofs.Common.{◌≡◌, ◌∙◌, ◌+◌, ◌-◌, ◌<◌, ℕ, List, false, Some, None, length, drop, reverse, get_or, sym, ap, subst, arith, refl, take, Bool, true, Option}
-use Rattle.std.specs.Prelude.{◌&&◌, All, not, slice_range, if◌then◌else◌}
-use Rattle.std.proofs.lemmas.Bool.{and_parts}
+use Rattle.std.proofs.Common.{◌≡◌, ◌∙◌, ◌+◌, ◌-◌, ◌<◌, ℕ, List, false, Some, None, length, drop, reverse, get_or, sym, ap, subst, arith, refl, take, true, Option}
+use Rattle.std.specs.Prelude.{◌&&◌, All, not, slice_range}
+use Rattle.std.proofs.lemmas.Bool.{and_parts, not-true}
 use Rattle.std.proofs.Math.Bool.{and-true}
 use Rattle.std.proofs.lemmas.List.{get_or-drop, length-drop, length-map}
 use Rattle.token_arena.specs.Gaps.{Contents}
@@ -18,11 +18,11 @@ use Rattle.view_parts.specs.declared.walk.Walk.{Walk}
 use Rattle.view_parts.specs.Places.{Place, place_in, place_of}
 use Rattle.view_parts.specs.Parts.{end_of_part, heads_at, part_len, place_behind, EndsBehind, StandsBefore}
 use Rattle.view_parts.specs.Reading.{GoesOn}
-use Rattle.view_parts.specs.Walk.{end_in_body, ends_inside_or, heads_len, in_body, is_some, opened_head, reading}
+use Rattle.view_parts.specs.Walk.{end_in_body, ends_inside_or, heads_len, in_body, is_some, reading}
 use Rattle.view_parts.specs.Steps.{closes_group, ends_before_brace, is_quiet, read_so, Closes}
 use Rattle.view_parts.proofs.BodyRows.{brace_of, read_body}
 use Rattle.view_parts.proofs.GroupsPassed.{read_group}
-use Rattle.view_parts.proofs.Heads.{heads_len-reverse}
+use Rattle.view_parts.proofs.Heads.{heads_len-reverse, opened_brace, opened_none}
 use Rattle.view_parts.proofs.InBodies.{stands_before}
 use Rattle.view_parts.proofs.PartEnds.{ends_nowhere, ends_there, headed, read_first, read_flat, read_on, seen_so}
 use Rattle.view_parts.proofs.QuietPassed.{read_past, stands_behind}
@@ -34,20 +34,6 @@ use Rattle.view_parts.proofs.ends.part_end.Goals as goal
 
 some_is : (n m k : ℕ) → Some n ≡ Some m → n ≡ k → m ≡ k
 some_is n m k same is = cc
-
-opened_brace : (walk : Walk) (stands : Around) (heads bodies : List Head) (id : ℕ) (class : TokenClass) (opened : Option Head) → opened ≡ opened_head walk stands (reverse heads) id OpenBrace → heads ≡ bodies
-    → is_open_brace class ≡ true → opened ≡ opened_head walk stands (reverse bodies) id class
-opened_brace walk stands heads bodies id class opened is same brace =
-    is
-    ∙ (ap (λ (hs : List Head). opened_head walk stands (reverse hs) id OpenBrace) same
-    ∙ sym (ap (λ (b : Bool). if b then opened_head walk stands (reverse bodies) id OpenBrace else None) brace))
-
-opened_none : (walk : Walk) (stands : Around) (bodies : List Head) (id : ℕ) (class : TokenClass) → is_open_brace class ≡ false → opened_head walk stands bodies id class ≡ None
-opened_none walk stands bodies id class other = ap (λ (b : Bool). if b then opened_head walk stands bodies id OpenBrace else None) other
-
-untrue : (b : Bool) → not b ≡ true → b ≡ false
-untrue true e = cc
-untrue false e = refl
 
 -- behind a token that goes on and isn't passed as a `{` no `{` stands
 no_brace : (arena : Contents) (walk next : Walk) (stands : Around) (id : ℕ) (class : TokenClass) → is_open_brace class && not (ends_before_brace walk stands id) ≡ false → reading arena walk stands id class ≡ GoesOn next
@@ -114,7 +100,7 @@ prove-unreachable-requires c =
     (let below = c.pass_quiet-next.ensures.below _ c.in-Some.is in let item = c.pass_quiet-next.ensures.item _ c.in-Some.is in omega (arith, stored, below, item, c.if-prove.true, c.len-items.ensures.count))
 
 pub pass_open_brace-requires-clause-on : goal.pass_open_brace-requires-clause-on
-pass_open_brace-requires-clause-on c = untrue _ (and_parts _ _ (sym c.passes_brace.ensures ∙ c.if-passes_brace.true)).1
+pass_open_brace-requires-clause-on c = not-true _ (and_parts _ _ (sym c.passes_brace.ensures ∙ c.if-passes_brace.true)).1
 
 pub pass-requires-clause-before : goal.pass-requires-clause-before
 pass-requires-clause-before c =
