@@ -1,5 +1,5 @@
 use Rattle.std.proofs.Common.{◌≡◌, ℕ, ◌+◌, ◌-◌, subst, arith}
-use Rattle.annotator.specs.Tokens.{edge_at, TellsTouch}
+use Rattle.annotator.specs.Inside.{edge_at, TellsTouch}
 use Rattle.annotator.proofs.Items.{edges_touch}
 use Rattle.annotator.proofs.tokens.edge_before.Goals as goal
 

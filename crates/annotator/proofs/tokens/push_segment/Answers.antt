@@ -1,6 +1,6 @@
 use Rattle.std.proofs.Common.{◌≡◌, ◌∙◌, ◌+◌, ◌-◌, ◌<◌, ℕ, length, get_or, ap, sym, subst, refl, arith}
 use Rattle.touching.specs.declared.edge.Edge.{Edge}
-use Rattle.annotator.specs.Tokens.{TellsTouch}
+use Rattle.annotator.specs.Inside.{TellsTouch}
 use Rattle.token_classes.specs.Items.{stands_apart}
 use Rattle.annotator.proofs.Items.{edges_touch}
 use Rattle.annotator.proofs.Segmented.{apart_first, follows, pushed_on, counted_on, told_on}

@@ -1,7 +1,8 @@
 use Rattle.std.proofs.Common.{◌≡◌, ◌+◌, ◌-◌, ◌≤◌, ◌++◌, length, drop}
 use Rattle.std.specs.Prelude.{vec_capacity}
 use Rattle.annotator.specs.Held.{TellsHeld}
-use Rattle.annotator.specs.Tokens.{edge_at, toks_from, TellsTouch}
+use Rattle.annotator.specs.Tokens.{toks_from}
+use Rattle.annotator.specs.Inside.{edge_at, TellsTouch}
 use Rattle.token_classes.specs.Items.{stands_apart}
 use Rattle.annotator.proofs.tokens.push_segment.Given as goal
 
