@@ -1,5 +1,6 @@
 -- A settled vertex that another one passes needs not be followed.
-use Rattle.std.proofs.Common.{◌≡◌, ◌≢◌, ℕ, ◌<◌, ◌≤◌, true, Option, Some, None, List, [], ◌∷◌, length, refl, arith, slice_get, zero, suc}
+use Rattle.std.proofs.Common.{◌≡◌, ◌≢◌, ℕ, ◌<◌, ◌≤◌, Bool, true, false, nat_lt, Option, Some, None, List, [], ◌∷◌, length, refl, arith, rules, slice_get, zero, suc}
+use Rattle.std.specs.Bool.{OnTrue}
 use Rattle.line_state.proofs.Ways.{rank, AtMost}
 use Rattle.line_state.proofs.Dominance.{Dominates}
 use Rattle.line_state.proofs.Table.{Vertex, path, IsTable, Nothing}
@@ -46,6 +47,16 @@ ahead_level table v w levels in_v in_w differ ahead =
     let y = vertex_at table w in_w in
     let a : StandsAhead x.0.state y.0.state = ahead x.0 y.0 x.1 y.1 in
     record { one = x.0; other = y.0; at_one = x.1; at_other = y.1; level = omega (arith, levels v x.0 x.1, levels w y.0 y.1, a.index); differ = differ; in_one = in_v; in_other = in_w }
+
+-- the way at the smaller cost is better
+pub cheaper_is_better : (table : List (Vertex Layout)) (v w cost other : ℕ) → IsCostOf table v cost → IsCostOf table w other → OnTrue (nat_lt cost other) (IsBetter table v w)
+cheaper_is_better table v w cost other is_cost is_other = by_test (nat_lt cost other) refl
+  where
+    by_test : (b : Bool) → nat_lt cost other ≡ b → OnTrue b (IsBetter table v w)
+    by_test false e = tt
+    by_test true e = λ x y at_x at_y.
+        let less : cost < other = search rules in
+        record { cost = omega (arith, less, is_cost x at_x, is_other y at_y); tie = λ same. omega (arith, less, same, is_cost x at_x, is_other y at_y) }
 
 pub passes_by : (table : List (Vertex Layout)) (v w : ℕ) → v < length table → v ≢ w → ((x : Vertex Layout) → slice_get table v ≡ Some x → x.settled ≡ true) → IsAhead table v w → IsBetter table v w → Passes table v w
 passes_by table v w in_v differ settled ahead better =

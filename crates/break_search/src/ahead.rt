@@ -1,13 +1,12 @@
 //! What the breakings of a line cost at least beyond a layout.
 
 ghost use Rattle.std.specs.Prelude.{◌≡◌, ℕ, ◌+◌, ◌<◌, Some, length, slice_get, IfOk};
-ghost use Rattle.line_state.specs.Line.{joined};
 ghost use Rattle.style_table.specs.declared.style.Style.{Style};
 ghost use Rattle.break_search.specs.Ahead.{can_stay, stretch_with, no_stretch, HaveStretches};
 ghost use Rattle.break_search.specs.Outcome.{line_of};
 ghost use Rattle.break_search.specs.Rules.{HaveRules};
 
-use crate::line::{rules_at, token_at};
+use crate::line::{decision_of, rules_at, token_at};
 use bumpalo::Bump;
 use bumpalo::collections::into_bump_slice;
 use line_state::{GapRules, NoMemory};
@@ -64,16 +63,6 @@ fn stretch_with(
     Stretch {
         width: width.saturating_add(next.width),
         least,
-    }
-}
-
-/// The decision at a place, if there is one.
-fn decision_of(fixed: &[Option<Fixed>], at: usize) -> Option<Fixed>
-    ensures { result ≡ joined (slice_get fixed.now at) }
-{
-    match fixed.get(at) {
-        Some(decision) => *decision,
-        None => None,
     }
 }
 

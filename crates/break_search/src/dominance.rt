@@ -3,8 +3,8 @@
 ghost use Rattle.std.specs.Prelude.{◌≡◌, ◌≢◌, ℕ, ◌<◌, length};
 ghost use Rattle.std.specs.Bool.{OnTrue};
 ghost use Rattle.line_state.proofs.Table.{HaveParents};
-ghost use Rattle.break_search.specs.Passing.{IsBetter, Passes};
-ghost use Rattle.break_search.specs.Vertices.{HavePaths, HaveLevels, AreLevel};
+ghost use Rattle.break_search.specs.Passing.{Passes};
+ghost use Rattle.break_search.specs.Vertices.{HavePaths, HaveLevels};
 
 use crate::outcome::Saturation;
 use crate::table::Table;
@@ -12,21 +12,6 @@ use crate::ties::is_before;
 
 /// With how many of the layouts of as many tokens that were met last a layout is compared.
 const MOST_COMPARED: usize = 8;
-
-/// Whether the way to the first node is better.
-fn is_better(table: &Table<'_>, first: usize, second: usize) -> bool
-    requires parents { HaveParents table.now }
-    requires apart { HavePaths table.now }
-    requires level { AreLevel table.now first second }
-    ensures { OnTrue result (IsBetter table.now first second) }
-{
-    let cost = table.cost(first);
-    let other = table.cost(second);
-    if cost == other {
-        return is_before(table, first, second);
-    }
-    cost < other
-}
 
 /// Whether the first node is another one that is settled, stands ahead of the second and has a better way.
 fn passes(table: &Table<'_>, first: usize, second: usize) -> bool
@@ -40,7 +25,12 @@ fn passes(table: &Table<'_>, first: usize, second: usize) -> bool
     if !table.is_ahead(first, second) {
         return false;
     }
-    is_better(table, first, second)
+    let cost = table.cost(first);
+    let other = table.cost(second);
+    if cost == other {
+        return is_before(table, first, second);
+    }
+    cost < other
 }
 
 /// Whether one of the nodes that were met last passes a node.

@@ -38,12 +38,13 @@ pub(crate) fn token_at(tokens: &[LineTok], at: usize) -> &LineTok
 }
 
 /// The decision at a place, if there is one.
-#[inline(always)]
-pub(crate) fn decision_in(fixed: &[Option<Fixed>], at: usize) -> Option<Fixed>
-    requires { at < length fixed.now }
+pub(crate) fn decision_of(fixed: &[Option<Fixed>], at: usize) -> Option<Fixed>
     ensures { result ≡ joined (slice_get fixed.now at) }
 {
-    fixed[at]
+    match fixed.get(at) {
+        Some(decision) => *decision,
+        None => None,
+    }
 }
 
 /// What the tables say of a gap.

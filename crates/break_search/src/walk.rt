@@ -10,7 +10,7 @@ ghost use Rattle.break_search.specs.Outcome.{IsSearchable, line_of};
 ghost use Rattle.break_search.specs.Starts.{IsAdmissible, MayStay, starts_of};
 ghost use Rattle.break_search.specs.Vertices.{IsNextState, LeadsOn, LeadsTo};
 
-use crate::line::{SearchedLine, decision_in, token_at};
+use crate::line::{SearchedLine, decision_of, token_at};
 use bumpalo::Bump;
 use bumpalo::collections::into_bump_slice;
 use line_state::{FrameStore, NoMemory, NodeState, State, lay, start};
@@ -31,7 +31,7 @@ fn lay_first(
 {
     let mut state = start(alloc, style, column);
     let token = token_at(line, 0);
-    let decision = decision_in(fixed, 0);
+    let decision = decision_of(fixed, 0);
     lay(style, &mut state, token, token, decision, true)?;
     Ok(state)
 }
@@ -56,7 +56,7 @@ fn lay_next(
     let at = state.index as usize;
     let left = token_at(line, at - 1);
     let right = token_at(line, at);
-    let decision = decision_in(fixed, at);
+    let decision = decision_of(fixed, at);
     let start = lay(style, state, left, right, decision, brk)?;
     Ok(start)
 }
