@@ -65,21 +65,6 @@ fn scan_colon(tokens: &[CodeToken], end: usize, at: usize) -> usize
     end
 }
 
-/// Whether the colon of some `case` doesn't stand among the next few tokens, though more of them follow.
-fn has_far_case(tokens: &[CodeToken]) -> bool {
-    let mut i = 0;
-    while i < tokens.len() {
-        if class_at(tokens, i).is_case() && NEAR < tokens.len() - i {
-            let end = i + NEAR;
-            if scan_colon(tokens, end, i) == end {
-                return true;
-            }
-        }
-        i += 1;
-    }
-    false
-}
-
 /// The colon of each place.
 fn all_colons<'r>(tokens: &[CodeToken], run: &'r Bump) -> Result<Vec<u32, &'r Bump>, NoMemory>
     requires few { length tokens.now < 2 ^ 30 }
@@ -96,20 +81,26 @@ fn all_colons<'r>(tokens: &[CodeToken], run: &'r Bump) -> Result<Vec<u32, &'r Bu
     Ok(colons)
 }
 
-/// The colon of each place, or nothing where each `case` has its colon near it: then that is found sooner than kept.
+/// The colon of each place, or nothing where each of these `case`s has its colon near it: then that is found sooner
+/// than kept.
 pub(crate) fn colons<'r>(
     tokens: &[CodeToken],
-    has_case: bool,
+    cases: &[usize],
     run: &'r Bump,
 ) -> Result<Vec<u32, &'r Bump>, NoMemory>
     requires few { length tokens.now < 2 ^ 30 }
     ensures { IfOk result (λ colons. AreCaseColons colons.items tokens.now) }
 {
-    if has_case && has_far_case(tokens) {
-        all_colons(tokens, run)
-    } else {
-        Ok(Vec::new(run))
+    for case in cases {
+        let place = *case;
+        if NEAR < tokens.len().saturating_sub(place) {
+            let near = place + NEAR;
+            if scan_colon(tokens, near, place) == near {
+                return all_colons(tokens, run);
+            }
+        }
     }
+    Ok(Vec::new(run))
 }
 
 /// The colon of the `case` at a place, or the end of its list where it has none.

@@ -84,7 +84,7 @@ fn read_lines<'r>(
     prove!(count <= items);
     let braces = braces_of(style);
     let read = read_view(arena, view, classes, partners, run)?;
-    let colons = colons(&read.tokens, read.noted.has_case, run)?;
+    let colons = colons(&read.tokens, &read.noted.cases, run)?;
     let tree = tree_lines(&braces, &read.tokens, &colons, run)?;
     if read.tokens.len() == count as usize {
         return token_lines(&tree, run);

@@ -336,8 +336,11 @@ fn macro_end(tokens: &[CodeToken], end: usize, at: usize) -> usize
     ensures most { result ≤ end }
 {
     let c = class_at(tokens, at);
+    if !c.is_plain() {
+        return at;
+    }
     let g = after_group(tokens, end, at + 1);
-    if c.is_plain() && (at + 1 < g || c.is_capital()) && ends_macro(tokens, g) {
+    if (at + 1 < g || c.is_capital()) && ends_macro(tokens, g) {
         g
     } else {
         at
@@ -608,8 +611,7 @@ pub fn close_form(
     if matches!(around.head, Head::Tagged) {
         return other_form(braces, tokens, opened, true, level, at, around.assigned);
     }
-    let t = tail_end(tokens, opened.end, at + 1);
-    if around.head.is_do() && at + 1 < t {
+    if around.head.is_do() && at + 1 < tail_end(tokens, opened.end, at + 1) {
         if braces.before_while {
             return Form {
                 kind: LineKind::Close,
@@ -618,7 +620,7 @@ pub fn close_form(
                 next: Next::Goes(Start::Tail),
             };
         }
-        return line_alone(LineKind::Close, level, t);
+        return line_alone(LineKind::Close, level, tail_end(tokens, opened.end, at + 1));
     }
     if seen(tokens, opened.end, at + 1).is_semicolon() {
         return line_alone(LineKind::Close, level, at + 2);
@@ -658,6 +660,8 @@ pub fn form_of(
     ensures stays { StaysIn at opened result result.next }
     ensures level { result.level ≤ 2 * at }
 {
+    let count = tokens.len();
+    prove!(opened.end <= count);
     match start {
         Start::Fresh => {}
         Start::Tail => {

@@ -63,26 +63,29 @@ impl Head {
     }
 }
 
-/// An open list: a block, or a header that waits for its one statement.
+/// An open list: a block, or a header that waits for its one statement. The larger fields stand first, so that it takes
+/// no more memory than they do.
 #[derive(Clone, Copy, Drop)]
 pub struct Open {
-    /// It is a block.
-    pub block: bool,
-    /// What it holds.
-    pub context: Context,
+    /// The first place behind it: its `}`, or the end of the list around it.
+    pub end: usize,
     /// The level of its statements.
     pub level: u32,
     /// The level of its case labels.
     pub case_level: u32,
-    /// The first place behind it: its `}`, or the end of the list around it.
-    pub end: usize,
-    /// What it belongs to.
-    pub head: Head,
     /// The level of the line that it belongs to.
     pub head_level: u32,
+    /// It is a block.
+    pub block: bool,
+    /// What it holds.
+    pub context: Context,
+    /// What it belongs to.
+    pub head: Head,
     /// An `=` or `return` stood in the declaration before its `{`.
     pub assigned: bool,
 }
+
+const _: () = prove!(size_of::<Open>() <= 24);
 
 /// What begins at a place.
 #[derive(Clone, Copy, Drop)]

@@ -72,6 +72,9 @@ pub fn statement_stop(tokens: &[CodeToken], end: usize, from: usize, assigned: b
     ensures open { OnTrue result.opens (is_open_brace (class_at tokens.now result.at) ≡ true) }
     ensures takes { OnFalse result.opens (from < end → from < result.at) }
 {
+    // So no token up to the end is asked for whether it is there.
+    let count = tokens.len();
+    prove!(end <= count);
     let mut i = from;
     let mut assigned = assigned;
     while i < end {

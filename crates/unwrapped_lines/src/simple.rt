@@ -18,6 +18,11 @@ fn is_no_case(tokens: &[CodeToken], opened: Open, at: usize) -> bool
     requires statements { is_enumerators opened.context ≡ false }
     ensures { result ≡ true → (braces : Braces) → statement braces tokens.now opened at ≡ other_form braces tokens.now opened false opened.level at false }
 {
+    if opened.end <= at {
+        return false;
+    }
+    let count = tokens.len();
+    prove!(opened.end <= count);
     let class = class_at(tokens, at);
     if class.is_control() || class.is_case() || class.is_default() || class.is_extern() {
         return false;
@@ -25,15 +30,16 @@ fn is_no_case(tokens: &[CodeToken], opened: Open, at: usize) -> bool
     if class.is_open_brace() || class.is_close_brace() {
         return false;
     }
+    // Of most statements what follows their first token tells it, whatever that token is.
+    let next = seen(tokens, opened.end, at + 1);
+    if !next.is_open_round() && !next.is_colon() && !class.is_capital() {
+        return true;
+    }
     if !class.is_plain() {
         return true;
     }
-    let next = seen(tokens, opened.end, at + 1);
-    if next.is_colon() {
+    if next.is_colon() || !next.is_open_round() {
         return false;
-    }
-    if !next.is_open_round() {
-        return !class.is_capital();
     }
     let behind = after_group(tokens, opened.end, at + 1);
     seen(tokens, opened.end, behind).is_semicolon()

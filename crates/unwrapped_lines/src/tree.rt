@@ -299,7 +299,8 @@ fn start_behind(opened: Open, formed: Form) -> Option<Start>
     }
 }
 
-/// Lines up to one that opens or ends a list, or the end of the innermost list.
+/// Simple lines, and the one behind them or the end of the innermost list. What only other lines need isn't made
+/// ready for these.
 #[inline(always)]
 fn turn(
     braces: &Braces,
@@ -318,23 +319,23 @@ fn turn(
 {
     let mut place = from;
     while place.at < opened.end {
-        if let Some(end) = simple_end(tokens, opened, place.start, place.at) {
-            let form = line_alone(LineKind::Simple, opened.level, end);
-            out.push(line_of(opened, place.start, place.at, form))?;
-            place = Place {
-                start: Start::Fresh,
-                at: end,
+        let Some(end) = simple_end(tokens, opened, place.start, place.at) else {
+            let formed = form_of(braces, tokens, colons, opened, place.start, place.at);
+            let Some(start) = start_behind(opened, formed) else {
+                return take_line(braces, tokens, out, stack, opened, place, formed);
             };
-            continue;
-        }
-        let formed = form_of(braces, tokens, colons, opened, place.start, place.at);
-        let Some(start) = start_behind(opened, formed) else {
-            return take_line(braces, tokens, out, stack, opened, place, formed);
+            out.push(line_of(opened, place.start, place.at, formed))?;
+            stack.push(opened)?;
+            return Ok(Place {
+                start,
+                at: formed.end,
+            });
         };
-        out.push(line_of(opened, place.start, place.at, formed))?;
+        let form = line_alone(LineKind::Simple, opened.level, end);
+        out.push(line_of(opened, place.start, place.at, form))?;
         place = Place {
-            start,
-            at: formed.end,
+            start: Start::Fresh,
+            at: end,
         };
     }
     Ok(leave_list(braces, tokens, out, stack, opened, place))

@@ -115,11 +115,24 @@ fn is_other(class: TokenClass) -> bool
     class.is_comment() || class.is_colon() || class.is_case()
 }
 
-/// The comments of a view, and whether it has a `case`.
+/// The comments of a view, and which of its tokens are a `case`.
 #[derive(Drop)]
 pub(crate) struct Noted<'r> {
     pub(crate) comments: Vec<ViewComment, &'r Bump>,
-    pub(crate) has_case: bool,
+    pub(crate) cases: Vec<usize, &'r Bump>,
+}
+
+/// Notes a token of this class, before which so many stand, where it is a `case`.
+#[inline(always)]
+fn note_case(
+    class: TokenClass,
+    number: usize,
+    cases: &mut Vec<usize, &Bump>,
+) -> Result<(), NoMemory> {
+    if class.is_case() {
+        cases.push(number)?;
+    }
+    Ok(())
 }
 
 /// Appends the token at a place of a segment, or notes the comment there.
@@ -163,7 +176,7 @@ fn push_other<'r>(
         })?;
         return Ok(tokens);
     }
-    noted.has_case |= class.is_case();
+    note_case(class, tokens.len(), &mut noted.cases)?;
     let touched = touched(arena, id, class, run)?;
     let partner = partner_at(classes, numbers, partners, place);
     let mut tokens = tokens;
@@ -270,7 +283,7 @@ pub(crate) fn read_view<'r>(
     let comments = Vec::with_capacity(run, classes.len() / TOKENS_TO_A_COMMENT)?;
     let mut noted = Noted {
         comments,
-        has_case: false,
+        cases: Vec::new(run),
     };
     // What the numbers take behind these is given back when they are dropped.
     let numbers = numbers(classes, run)?;

@@ -17,8 +17,8 @@ prove-unreachable-requires c =
 pub returns-then-len-count-clause-lines : goal.returns-then-len-count-clause-lines
 returns-then-len-count-clause-lines c =
     let view = c.args.view.now in
-    let tokens = c.deref-2.result.now in
-    let found : tokens ≡ c.in_ok-read.read.tokens.items = c.deref-2.ensures.value in
+    let tokens = c.deref-3.result.now in
+    let found : tokens ≡ c.in_ok-read.read.tokens.items = c.deref-3.ensures.value in
     let tree = c.in_ok-tree.tree.items in
     let all : length tokens ≡ length view = omega (arith, ap length found, c.if-len-count.true, c.len-count.ensures.count) in
     let by_line : tree ≡ lines_of (braces_of c.args.style.now) tokens = c.in_ok-tree.ensures.same ∙ ap (λ b. lines_of b tokens) c.braces_of-braces.ensures in
