@@ -527,13 +527,11 @@ fn unlabelled(braces: &Braces, tokens: &[CodeToken], opened: Open, at: usize) ->
     ensures level { result.level ≤ 2 * at }
 {
     let c = class_at(tokens, at);
-    let g = after_group(tokens, opened.end, at + 1);
-    if opened.context.is_code()
-        && c.is_plain()
-        && at + 1 < g
-        && seen(tokens, opened.end, g).is_open_brace()
-    {
-        return opens_code(tokens, opened, LineKind::Control, g, braces.after_control);
+    if opened.context.is_code() && c.is_plain() {
+        let g = after_group(tokens, opened.end, at + 1);
+        if at + 1 < g && seen(tokens, opened.end, g).is_open_brace() {
+            return opens_code(tokens, opened, LineKind::Control, g, braces.after_control);
+        }
     }
     if c.is_open_brace() {
         return opens_code(tokens, opened, LineKind::Brace, at, false);

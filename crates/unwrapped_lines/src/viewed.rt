@@ -22,6 +22,12 @@ use token_classes::{Partner, TokenClass, comment_part, item_class};
 /// So many tokens or more stand to a comment in most texts.
 const TOKENS_TO_A_COMMENT: usize = 16;
 
+/// The classes of the items of which more is told than of others, a bit for each.
+const OTHERS: u64 = (1 << TokenClass::Case as u64)
+    | (1 << TokenClass::Colon as u64)
+    | (1 << TokenClass::LineComment as u64)
+    | (1 << TokenClass::BlockComment as u64);
+
 /// Whether the item with a number began its line.
 #[inline(always)]
 fn began(arena: &TokenArena<'_, '_>, id: u32) -> bool
@@ -112,7 +118,7 @@ fn is_other(class: TokenClass) -> bool
     ensures comment { result ≡ false → is_comment class ≡ false }
     ensures colon { result ≡ false → is_colon class ≡ false }
 {
-    class.is_comment() || class.is_colon() || class.is_case()
+    (OTHERS >> class as u64) % 2 == 1
 }
 
 /// The comments of a view, and which of its tokens are a `case`.
