@@ -1,6 +1,6 @@
 //! The lines of a view, with a stack of open lists.
 
-ghost use Rattle.std.specs.Prelude.{◌≡◌, ◌<◌, ◌≤◌, ◌+◌, ◌-◌, ◌*◌, ◌^◌, ◌∷◌, ◌++◌, reverse, length, Some, None};
+ghost use Rattle.std.specs.Prelude.{◌≡◌, ◌<◌, ◌≤◌, ◌+◌, ◌-◌, ◌*◌, ◌^◌, ◌∷◌, [], ◌++◌, reverse, length, Some, None};
 ghost use Rattle.std.specs.Prelude.{IfSome, IfNone, IfOk};
 ghost use Rattle.unwrapped_lines.specs.declared.open.Start.TheVariants.{Fresh};
 ghost use Rattle.unwrapped_lines.specs.Forms.{StaysIn, form_of};
@@ -54,6 +54,19 @@ pub(crate) fn settle(
         }
     }
     Ok(Start::Fresh)
+}
+
+/// Puts a list on the stack. Mostly there is room, and no call is made.
+#[inline(always)]
+fn push_open(stack: &mut Vec<Open, &Bump>, opened: Open) -> Result<(), NoMemory>
+    ensures items { IfOk result (λ u. stack.new.items ≡ stack.old.items ++ opened ∷ []) }
+{
+    if stack.len() < stack.capacity() {
+        stack.push_reserved(opened);
+    } else {
+        stack.push(opened)?;
+    }
+    Ok(())
 }
 
 /// Takes off the innermost block, and all above it.
@@ -220,7 +233,7 @@ fn take_line(
     match formed.next {
         Next::Ends => {
             out.push(line_of(opened, place.start, place.at, formed))?;
-            stack.push(opened)?;
+            push_open(stack, opened)?;
             let start = settle(tokens, stack, formed.end)?;
             Ok(Place {
                 start,
@@ -229,7 +242,7 @@ fn take_line(
         }
         Next::Goes(start) => {
             out.push(line_of(opened, place.start, place.at, formed))?;
-            stack.push(opened)?;
+            push_open(stack, opened)?;
             Ok(Place {
                 start,
                 at: formed.end,
@@ -237,8 +250,8 @@ fn take_line(
         }
         Next::Waits(head) => {
             out.push(line_of(opened, place.start, place.at, formed))?;
-            stack.push(opened)?;
-            stack.push(body_of(opened, head, formed.level))?;
+            push_open(stack, opened)?;
+            push_open(stack, body_of(opened, head, formed.level))?;
             Ok(Place {
                 start: Start::Fresh,
                 at: formed.end,
@@ -246,8 +259,8 @@ fn take_line(
         }
         Next::Opens(wrapped, b) => {
             push_head(out, opened, place.start, place.at, formed, wrapped)?;
-            stack.push(opened)?;
-            stack.push(b)?;
+            push_open(stack, opened)?;
+            push_open(stack, b)?;
             Ok(Place {
                 start: Start::Fresh,
                 at: formed.end + 1,
@@ -325,7 +338,7 @@ fn turn(
                 return take_line(braces, tokens, out, stack, opened, place, formed);
             };
             out.push(line_of(opened, place.start, place.at, formed))?;
-            stack.push(opened)?;
+            push_open(stack, opened)?;
             return Ok(Place {
                 start,
                 at: formed.end,

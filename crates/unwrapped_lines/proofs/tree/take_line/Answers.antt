@@ -11,19 +11,19 @@ push_head-requires c = let q : c.args.formed.end ≤ c.args.opened.end = ends_lo
 pub returns-in_ok-start-in-Ends-clause-stands : goal.returns-in_ok-start-in-Ends-clause-stands
 returns-in_ok-start-in-Ends-clause-stands c =
     ends_turn _ _ _ _ _ _ _ _ c.settle.new.stack.items _ _ _ _ c.requires.stands c.requires.here c.requires.form c.in-Ends.is c.requires.stays
-    c.line_of.ensures c.in_ok-push-in-Ends.ensures.items c.in_ok-push-in-Ends-2.ensures.items c.in_ok-start-in-Ends.ensures.same
+    c.line_of.ensures c.in_ok-push-in-Ends.ensures.items c.in_ok-push_open-in-Ends.ensures.items c.in_ok-start-in-Ends.ensures.same
 
-pub returns-in_ok-push-in-Goes-2-clause-stands : goal.returns-in_ok-push-in-Goes-2-clause-stands
-returns-in_ok-push-in-Goes-2-clause-stands c =
+pub returns-in_ok-push_open-in-Goes-clause-stands : goal.returns-in_ok-push_open-in-Goes-clause-stands
+returns-in_ok-push_open-in-Goes-clause-stands c =
     goes_turn _ _ _ _ _ _ _ _ _ _ _ _ c.requires.stands c.requires.here c.requires.form c.in-Goes.is c.requires.stays
-    c.line_of-in-Goes.ensures c.in_ok-push-in-Goes.ensures.items c.in_ok-push-in-Goes-2.ensures.items
+    c.line_of-in-Goes.ensures c.in_ok-push-in-Goes.ensures.items c.in_ok-push_open-in-Goes.ensures.items
 
-pub returns-in_ok-push-in-Waits-3-clause-stands : goal.returns-in_ok-push-in-Waits-3-clause-stands
-returns-in_ok-push-in-Waits-3-clause-stands c =
+pub returns-in_ok-push_open-in-Waits-2-clause-stands : goal.returns-in_ok-push_open-in-Waits-2-clause-stands
+returns-in_ok-push_open-in-Waits-2-clause-stands c =
     waits_turn _ _ _ _ _ _ _ _ _ _ _ _ _ _ c.requires.stands c.requires.here c.requires.form c.in-Waits.is c.requires.stays c.requires.level
-    c.line_of-in-Waits.ensures c.in_ok-push-in-Waits.ensures.items c.in_ok-push-in-Waits-2.ensures.items c.body_of.ensures c.in_ok-push-in-Waits-3.ensures.items
+    c.line_of-in-Waits.ensures c.in_ok-push-in-Waits.ensures.items c.in_ok-push_open-in-Waits.ensures.items c.body_of.ensures c.in_ok-push_open-in-Waits-2.ensures.items
 
-pub returns-in_ok-push-in-Opens-2-clause-stands : goal.returns-in_ok-push-in-Opens-2-clause-stands
-returns-in_ok-push-in-Opens-2-clause-stands c =
+pub returns-in_ok-push_open-in-Opens-2-clause-stands : goal.returns-in_ok-push_open-in-Opens-2-clause-stands
+returns-in_ok-push_open-in-Opens-2-clause-stands c =
     opens_turn _ _ _ _ _ _ _ _ _ _ _ _ _ c.requires.stands c.requires.here c.requires.form c.in-Opens.is c.requires.stays c.requires.level
-    c.in_ok-push_head-in-Opens.ensures c.in_ok-push-in-Opens.ensures.items c.in_ok-push-in-Opens-2.ensures.items
+    c.in_ok-push_head-in-Opens.ensures c.in_ok-push_open-in-Opens.ensures.items c.in_ok-push_open-in-Opens-2.ensures.items
