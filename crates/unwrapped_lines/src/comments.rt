@@ -402,7 +402,8 @@ pub fn comment_lines<'r>(
     requires { count < 2 ^ 32 }
     ensures { IfOk result (λ r. r.items ≡ lines_between count (begins_from (record { lines = lines.now; total = total; end_level = end_level }) (parts_with count 0 comments.now) 0 no_marks)) }
 {
-    let mut out = Vec::with_capacity(run, lines.len())?;
+    // Each comment begins one line more at most.
+    let mut out = Vec::with_capacity(run, lines.len().saturating_add(comments.len()))?;
     let mut marks = Marks {
         seen: 0,
         begun: 0,
