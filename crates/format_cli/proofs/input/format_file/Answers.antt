@@ -1,4 +1,4 @@
-use Rattle.std.proofs.Common.{◌≡◌, ◌≢◌, refl, inl}
+use Rattle.std.proofs.Common.{◌≡◌, ◌≢◌, ◌∙◌, true, false, ap, refl, sym, inl}
 use Rattle.command_refusals.proofs.Counts.{same_after, raises_after}
 use Rattle.format_cli.specs.declared.input.Place.TheVariants.{Output, Itself, Nowhere}
 use Rattle.format_cli.specs.Inputs.{ends, IsTextCause}
@@ -6,6 +6,7 @@ use Rattle.format_cli.proofs.Rest.{passed}
 use Rattle.format_cli.proofs.Ends.{keeps_self}
 use Rattle.format_cli.proofs.Causes.{file_cause, write_refused, written_back, changes, stays}
 use Rattle.format_core.specs.TextOf.{text_of}
+use Rattle.format_core.specs.declared.formatted.Formatted.{Formatted}
 use Rattle.format_cli.proofs.Done.{HasRows, rows_of_made, file_untold, file_done, output_cut}
 use Rattle.format_cli.proofs.input.format_file.Goals as goal
 
@@ -45,9 +46,10 @@ returns-in-Ok-write-clause-done g c =
     let made = c.in_ok-formatted.formatted in
     let has : HasRows c.args.options.now text (text_of made.laid) made.reports.now made.counts made.changed =
     record { made = rw c.deref.ensures.value at c.in_ok-formatted.ensures.formats; tells = rw c.deref.ensures.value at c.in_ok-formatted.ensures.changed } in
-    rw c.in-Output.is
+    rw (ap (λ (made : Formatted). made.changed) c.formatted-2.view_is)
+    (rw c.in-Output.is
     (file_done c.args.options.now Output c.args.name.now text (text_of made.laid) made.reports.now made.counts made.changed (ends (g.K.Sink.taken c.args.out.now) (g.F.Files.holds c.args.files.now) (g.E.Sink.taken c.args.notes.now)) (ends (g.K.Sink.taken c.write.new.sink) (g.F.Files.holds c.read_file.new.files) (g.E.Sink.taken c.tell_input.new.notes)) c.in_ok-text.ensures.bytes has (rw c.in-Output.is at c.in-Ok.ensures.ok)
-    (c.in-Ok-write.ensures.ok, c.in_ok-text.ensures.same))
+    (c.in-Ok-write.ensures.ok, c.in_ok-text.ensures.same)))
 
 pub returns-in-Ok-write-clause-counts : goal.returns-in-Ok-write-clause-counts
 returns-in-Ok-write-clause-counts g c = λ f.
@@ -77,7 +79,8 @@ returns-in_err-write_back-in-Itself-clause-refused g c =
     let made = c.in_ok-formatted.formatted in
     let has : HasRows c.args.options.now text (text_of made.laid) made.reports.now made.counts made.changed =
     record { made = rw c.deref.ensures.value at c.in_ok-formatted.ensures.formats; tells = rw c.deref.ensures.value at c.in_ok-formatted.ensures.changed } in
-    let changed : (text_of made.laid) ≢ text = changes made.changed text (text_of made.laid) has.tells c.if-formatted.true in
+    let told : made.changed ≡ true = sym (ap (λ (made : Formatted). made.changed) c.formatted-2.view_is) ∙ c.if-formatted.true in
+    let changed : (text_of made.laid) ≢ text = changes made.changed text (text_of made.laid) has.tells told in
     rw c.in-Itself.is
     (rw (passed c.from_residual-in_err-write_back-in-Itself.result c.in_err-write_back-in-Itself.field-0.0 c.from_residual-in_err-write_back-in-Itself.ensures)
     (write_refused c.args.options.now c.args.name.now text (text_of made.laid) _ _ _ _ _ _ c.in_err-write_back-in-Itself.field-0.0 c.in_ok-text.ensures.bytes has.made.0
@@ -99,9 +102,10 @@ returns-then-formatted-clause-done g c =
     let made = c.in_ok-formatted.formatted in
     let has : HasRows c.args.options.now text (text_of made.laid) made.reports.now made.counts made.changed =
     record { made = rw c.deref.ensures.value at c.in_ok-formatted.ensures.formats; tells = rw c.deref.ensures.value at c.in_ok-formatted.ensures.changed } in
-    let changed : (text_of made.laid) ≢ text = changes made.changed text (text_of made.laid) has.tells c.if-formatted.true in
+    let told : made.changed ≡ true = sym (ap (λ (made : Formatted). made.changed) c.formatted-2.view_is) ∙ c.if-formatted.true in
+    let changed : (text_of made.laid) ≢ text = changes made.changed text (text_of made.laid) has.tells told in
     rw c.in-Itself.is
-    (rw c.if-formatted.true at (file_done c.args.options.now Itself c.args.name.now text (text_of made.laid) made.reports.now made.counts made.changed (ends (g.K.Sink.taken c.args.out.now) (g.F.Files.holds c.args.files.now) (g.E.Sink.taken c.args.notes.now)) (ends (g.K.Sink.taken c.args.out.now) (g.F.Files.holds c.write_back.new.files) (g.E.Sink.taken c.tell_input.new.notes)) c.in_ok-text.ensures.bytes has (rw c.in-Itself.is at c.in-Ok.ensures.ok)
+    (rw told at (file_done c.args.options.now Itself c.args.name.now text (text_of made.laid) made.reports.now made.counts made.changed (ends (g.K.Sink.taken c.args.out.now) (g.F.Files.holds c.args.files.now) (g.E.Sink.taken c.args.notes.now)) (ends (g.K.Sink.taken c.args.out.now) (g.F.Files.holds c.write_back.new.files) (g.E.Sink.taken c.tell_input.new.notes)) c.in_ok-text.ensures.bytes has (rw c.in-Itself.is at c.in-Ok.ensures.ok)
     (written_back c.args.name.now text (text_of made.laid) (g.K.Sink.taken c.args.out.now) (g.E.Sink.taken c.args.notes.now) (g.E.Sink.taken c.tell_input.new.notes) _ _ _ changed c.in_ok-text.ensures.same c.in_ok-write_back-in-Itself.ensures.done)))
 
 pub returns-then-formatted-clause-counts : goal.returns-then-formatted-clause-counts
@@ -117,9 +121,10 @@ returns-in-Itself-clause-done g c =
     let made = c.in_ok-formatted.formatted in
     let has : HasRows c.args.options.now text (text_of made.laid) made.reports.now made.counts made.changed =
     record { made = rw c.deref.ensures.value at c.in_ok-formatted.ensures.formats; tells = rw c.deref.ensures.value at c.in_ok-formatted.ensures.changed } in
-    let same : (text_of made.laid) ≡ text = stays made.changed text (text_of made.laid) has.tells c.if-formatted.false in
+    let told : made.changed ≡ false = sym (ap (λ (made : Formatted). made.changed) c.formatted-2.view_is) ∙ c.if-formatted.false in
+    let same : (text_of made.laid) ≡ text = stays made.changed text (text_of made.laid) has.tells told in
     rw c.in-Itself.is
-    (rw c.if-formatted.false at (file_done c.args.options.now Itself c.args.name.now text (text_of made.laid) made.reports.now made.counts made.changed (ends (g.K.Sink.taken c.args.out.now) (g.F.Files.holds c.args.files.now) (g.E.Sink.taken c.args.notes.now)) (ends (g.K.Sink.taken c.args.out.now) (g.F.Files.holds c.read_file.new.files) (g.E.Sink.taken c.tell_input.new.notes)) c.in_ok-text.ensures.bytes has (rw c.in-Itself.is at c.in-Ok.ensures.ok)
+    (rw told at (file_done c.args.options.now Itself c.args.name.now text (text_of made.laid) made.reports.now made.counts made.changed (ends (g.K.Sink.taken c.args.out.now) (g.F.Files.holds c.args.files.now) (g.E.Sink.taken c.args.notes.now)) (ends (g.K.Sink.taken c.args.out.now) (g.F.Files.holds c.read_file.new.files) (g.E.Sink.taken c.tell_input.new.notes)) c.in_ok-text.ensures.bytes has (rw c.in-Itself.is at c.in-Ok.ensures.ok)
     (keeps_self _, inl (same, c.in_ok-text.ensures.same))))
 
 pub returns-in-Itself-clause-counts : goal.returns-in-Itself-clause-counts
@@ -133,9 +138,10 @@ returns-clause-done g c =
     let made = c.in_ok-formatted.formatted in
     let has : HasRows c.args.options.now text (text_of made.laid) made.reports.now made.counts made.changed =
     record { made = rw c.deref.ensures.value at c.in_ok-formatted.ensures.formats; tells = rw c.deref.ensures.value at c.in_ok-formatted.ensures.changed } in
-    rw c.in-Nowhere.is
+    rw (ap (λ (made : Formatted). made.changed) c.formatted-2.view_is)
+    (rw c.in-Nowhere.is
     (file_done c.args.options.now Nowhere c.args.name.now text (text_of made.laid) made.reports.now made.counts made.changed (ends (g.K.Sink.taken c.args.out.now) (g.F.Files.holds c.args.files.now) (g.E.Sink.taken c.args.notes.now)) (ends (g.K.Sink.taken c.args.out.now) (g.F.Files.holds c.read_file.new.files) (g.E.Sink.taken c.tell_input.new.notes)) c.in_ok-text.ensures.bytes has (rw c.in-Nowhere.is at c.in-Ok.ensures.ok)
-    (keeps_self _, c.in_ok-text.ensures.same))
+    (keeps_self _, c.in_ok-text.ensures.same)))
 
 pub returns-clause-counts : goal.returns-clause-counts
 returns-clause-counts g c = λ f.

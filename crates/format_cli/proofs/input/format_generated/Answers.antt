@@ -1,5 +1,6 @@
-use Rattle.std.proofs.Common.{codes}
+use Rattle.std.proofs.Common.{ap, codes}
 use Rattle.format_core.specs.TextOf.{text_of}
+use Rattle.format_core.specs.declared.formatted.Formatted.{Formatted}
 use Rattle.format_cli.specs.Inputs.{IsTextCause}
 use Rattle.format_cli.proofs.Done.{HasRows}
 use Rattle.format_cli.proofs.Generated.{made_done, made_refused, made_untold}
@@ -18,7 +19,7 @@ returns-in-Ok-tell_input-clause-done g c =
     let made = c.in_ok-formatted.formatted in
     let has : HasRows c.args.options.now text (text_of made.laid) made.reports.now made.counts made.changed =
     record { made = rw c.deref.ensures.value at c.in_ok-formatted.ensures.formats; tells = rw c.deref.ensures.value at c.in_ok-formatted.ensures.changed } in
-    rw (← c.in-Ok.ensures) (made_done c.args.options.now _ _ text (text_of made.laid) made.reports.now made.counts made.changed has c.in-Ok-tell_input.ensures.ok)
+    rw (ap (λ (made : Formatted). made.changed) c.formatted-2.view_is) (rw (← c.in-Ok.ensures) (made_done c.args.options.now _ _ text (text_of made.laid) made.reports.now made.counts made.changed has c.in-Ok-tell_input.ensures.ok))
 
 pub returns-clause-refused : goal.returns-clause-refused
 returns-clause-refused g c =
