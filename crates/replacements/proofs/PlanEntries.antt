@@ -7,7 +7,7 @@ use Rattle.std.proofs.lemmas.Option.{slice_get-get_or}
 use Rattle.std.proofs.Math.Seq.{get_or-append_seam}
 use Rattle.std.proofs.lemmas.Bool.{false≢true, true≢false}
 use Rattle.replacements.specs.Decisions.{AreDecided, IsSomeOpen, decided, slot_of}
-use Rattle.replacements.specs.Entries.{AreTaken, FitApart, IsGrown, IsHeld, IsSomeFree, is_open, open_in, slot_in, slots_in}
+use Rattle.replacements.specs.Inside.{AreTaken, FitApart, IsGrown, IsHeld, IsSomeFree, is_open, open_in, slot_in, slots_in}
 use Rattle.replacements.specs.declared.entry.Entry.{Entry}
 use Rattle.replacements.specs.declared.entry.Entry.TheVariants.{Open, Old, Spaces, Lines, Apart}
 use Rattle.replacements.specs.declared.gap_text.Decision.TheVariants as decision

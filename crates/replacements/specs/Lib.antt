@@ -7,7 +7,7 @@ pub mod Guards
 pub mod Written
 pub mod Sound
 pub mod Same
-pub mod Entries
+pub mod Inside
 pub mod GapText
 pub mod FreeGaps
 pub mod OneLine

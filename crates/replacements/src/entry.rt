@@ -1,7 +1,7 @@
 //! How a plan lies in memory.
 
 ghost use Rattle.std.specs.Prelude.{◌≡◌, List, Some, IfSome, false, not};
-ghost use Rattle.replacements.specs.Entries.{IsHeld, is_open, slot_in};
+ghost use Rattle.replacements.specs.Inside.{IsHeld, is_open, slot_in};
 ghost use Rattle.replacements.specs.declared.slot.Slot.{Slot};
 ghost use Rattle.replacements.specs.Written.{decision_of};
 ghost use Rattle.replacements.specs.declared.gap_text.Decision.TheVariants.{Lines, Spaces};

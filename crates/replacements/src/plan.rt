@@ -10,7 +10,7 @@ ghost use Rattle.c_chars.specs.declared.TheConstants.{LIMIT};
 ghost use Rattle.replacements.specs.declared.slot.Decided.TheVariants as Decided;
 ghost use Rattle.replacements.specs.Decisions.{AreDecided, IsSomeOpen, decided, slot_of};
 ghost use Rattle.replacements.specs.Breaks.{fixed_by, has_line_end, has_new_line_at};
-ghost use Rattle.replacements.specs.Entries.{AreTaken, IsGrown, IsHeld, IsSomeFree, is_open, slot_in};
+ghost use Rattle.replacements.specs.Inside.{AreTaken, IsGrown, IsHeld, IsSomeFree, is_open, slot_in};
 ghost use Rattle.replacements.specs.declared.entry.Entry.TheVariants.{Apart};
 
 use crate::Decision;
@@ -127,7 +127,7 @@ impl<'a> Model for Plan<'a> {
     ghost use Rattle.std.specs.Prelude.{List, Option};
     ghost use Rattle.replacements.specs.declared.slot.Slot.{Slot};
     ghost use Rattle.std.specs.Prelude.{vec_capacity};
-    ghost use Rattle.replacements.specs.Entries.{FitApart, slots_in};
+    ghost use Rattle.replacements.specs.Inside.{FitApart, slots_in};
 
     ghost Value = { List (Option Slot) };
 

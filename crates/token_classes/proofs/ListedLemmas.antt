@@ -8,7 +8,7 @@ use Rattle.std.proofs.lemmas.List.FromFn.{get_or-range_with_len, length-range_wi
 use Rattle.std.proofs.lemmas.Slice.Eq.{bytes_eq-Decides}
 use Rattle.token_classes.specs.declared.class.TokenClass.{TokenClass}
 use Rattle.token_classes.specs.declared.class.TokenClass.TheVariants.{Other}
-use Rattle.token_classes.specs.Listed.{key_of, no_row}
+use Rattle.token_classes.specs.Inside.{key_of, no_row}
 use Rattle.token_classes.specs.Words.{class_in, words}
 
 -- Places in tables.

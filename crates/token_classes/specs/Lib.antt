@@ -4,6 +4,6 @@ pub mod Words
 pub mod Kept
 pub mod Partner
 pub mod Partners
-pub mod Listed
+pub mod Inside
 pub mod Part
 pub mod Items

@@ -1,7 +1,7 @@
 //! The words of the language, each found by its first and last letters and its length.
 
 ghost use Rattle.std.specs.Prelude.{◌≡◌, ◌∷◌, ◌<◌, ℕ, List, [], get_or, length, map};
-ghost use Rattle.token_classes.specs.Listed.{key_of, no_row};
+ghost use Rattle.token_classes.specs.Inside.{key_of, no_row};
 ghost use Rattle.token_classes.specs.Words.{class_in, words};
 ghost use Rattle.token_classes.specs.declared.class.TokenClass.{TokenClass};
 

@@ -12,7 +12,7 @@ use Rattle.touching.specs.declared.edge.Edge.TheVariants.{Name, Number, Quiet, O
 use Rattle.touching.specs.declared.edge.First.{First}
 use Rattle.touching.specs.declared.edge.First.TheVariants.{Letter, Digit, QuietMark, Mark, Slash, Quote, Apostrophe, Other}
 use Rattle.touching.specs.Edges.{known, edge_of, touch_of}
-use Rattle.touching.specs.EdgeTables.{kind_number, first_number, edge_number, first_of, edge_by, long_edge}
+use Rattle.touching.specs.Inside.{kind_number, first_number, edge_number, first_of, edge_by, long_edge}
 
 -- ## Bytes
 

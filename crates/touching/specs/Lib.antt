@@ -2,4 +2,4 @@ pub mod Spelling
 pub mod TakingAway
 pub mod Near
 pub mod Edges
-pub mod EdgeTables
+pub mod Inside

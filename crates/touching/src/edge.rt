@@ -7,7 +7,7 @@ ghost use Rattle.std.specs.Prelude.{◌≡◌, ◌<◌, [], None, get_or, if◌t
 ghost use Rattle.touching.specs.declared.edge.Edge.TheVariants.{Name};
 ghost use Rattle.touching.specs.declared.edge.First.TheVariants.{Other};
 ghost use Rattle.touching.specs.Edges.{is_operator, known, edge_of, touch_of};
-ghost use Rattle.touching.specs.EdgeTables.{kind_number, first_number, edge_number, first_of, edge_by, long_edge};
+ghost use Rattle.touching.specs.Inside.{kind_number, first_number, edge_number, first_of, edge_by, long_edge};
 
 use Edge::{Comment, Ending, Name, Number, Operator, Point, Quiet, Text, Unknown};
 use First::{Apostrophe, Digit, Letter, Mark, Other, QuietMark, Quote, Slash};

@@ -1,4 +1,4 @@
-use Rattle.replacements.specs.Entries.{AreTaken}
+use Rattle.replacements.specs.Inside.{AreTaken}
 use Rattle.replacements.proofs.plan.are_eight_decided.Given as goal
 
 abbrev pub invariant-loop-at : goal.invariant-loop-at

@@ -1,5 +1,5 @@
 use Rattle.std.proofs.Common.{◌≤◌, ◌-◌, length}
-use Rattle.replacements.specs.Entries.{AreTaken}
+use Rattle.replacements.specs.Inside.{AreTaken}
 use Rattle.replacements.proofs.plan.decided_front.Given as goal
 
 abbrev pub invariant-loop-first : goal.invariant-loop-first

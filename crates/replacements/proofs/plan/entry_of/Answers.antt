@@ -1,5 +1,5 @@
 use Rattle.std.proofs.Common.{◌∙◌, ◌++◌, ◌∷◌, [], List, ap}
-use Rattle.replacements.specs.Entries.{slot_in}
+use Rattle.replacements.specs.Inside.{slot_in}
 use Rattle.replacements.specs.declared.entry.Entry.{Entry}
 use Rattle.replacements.specs.declared.slot.Slot.{Slot}
 use Rattle.replacements.proofs.PlanEntries.{last_apart}

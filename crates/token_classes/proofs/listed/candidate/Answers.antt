@@ -1,5 +1,5 @@
 use Rattle.std.proofs.Common.{◌∙◌, ◌∷◌, [], arith, ap, sym, refl, get_or}
-use Rattle.token_classes.specs.Listed.{no_row}
+use Rattle.token_classes.specs.Inside.{no_row}
 use Rattle.token_classes.specs.Words.{class_in}
 use Rattle.token_classes.specs.declared.listed.TheConstants.{ROW_OF_KEY}
 use Rattle.token_classes.proofs.ListedLemmas.{all_rows, candidate_told, each_below}

@@ -1,6 +1,6 @@
 use Rattle.std.proofs.Common.{◌∷◌, [], ap, arith}
 use Rattle.std.proofs.lemmas.List.{get_or-map}
-use Rattle.token_classes.specs.Listed.{no_row}
+use Rattle.token_classes.specs.Inside.{no_row}
 use Rattle.token_classes.specs.Words.{class_in}
 use Rattle.token_classes.proofs.listed.row_at.Goals as goal
 

@@ -1,6 +1,6 @@
 use Rattle.std.proofs.Common.{◌≡◌, ◌∙◌, nat_lt, length, get_or, ap, arith}
 use Rattle.touching.specs.declared.edge.First.{First}
-use Rattle.touching.specs.EdgeTables.{edge_by, first_of}
+use Rattle.touching.specs.Inside.{edge_by, first_of}
 use Rattle.touching.proofs.EdgeTables.{unknown_first, known_first}
 use Rattle.touching.proofs.edge.edge_of.Goals as goal
 

@@ -1,6 +1,6 @@
 use Rattle.std.proofs.Common.{◌≡◌, rules}
 use Rattle.std.proofs.lemmas.Bool.{OnFalse_at, OnFalse_from, OnTrue_at, OnTrue_from}
-use Rattle.replacements.specs.Entries.{slots_in}
+use Rattle.replacements.specs.Inside.{slots_in}
 use Rattle.replacements.proofs.PlanEntries.{decided_between, open_between}
 use Rattle.replacements.proofs.plan.Plan.are_decided.Goals as goal
 

@@ -1,7 +1,7 @@
 use Rattle.std.proofs.Common.{◌≡◌, ◌<◌, false, arith, length, rules}
 use Rattle.std.specs.Prelude.{is_some}
 use Rattle.replacements.specs.Decisions.{slot_of}
-use Rattle.replacements.specs.Entries.{slots_in}
+use Rattle.replacements.specs.Inside.{slots_in}
 use Rattle.replacements.proofs.PlanEntries.{entry_set, fit_decided, is_free, long_as, some_free}
 use Rattle.replacements.proofs.plan.Plan.decide.Goals as goal
 

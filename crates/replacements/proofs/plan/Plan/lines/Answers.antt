@@ -1,6 +1,6 @@
 use Rattle.std.proofs.Common.{◌≡◌, Option, ap, rules, subst, sym}
 use Rattle.std.specs.Prelude.{IfSome}
-use Rattle.replacements.specs.Entries.{slots_in}
+use Rattle.replacements.specs.Inside.{slots_in}
 use Rattle.replacements.specs.Written.{decision_of}
 use Rattle.replacements.specs.declared.gap_text.Decision.{Decision}
 use Rattle.replacements.specs.declared.gap_text.Decision.TheVariants.{Lines}

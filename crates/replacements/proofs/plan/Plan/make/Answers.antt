@@ -1,6 +1,6 @@
 use Rattle.std.proofs.Common.{◌≡◌, ◌∙◌, ◌+◌, ◌<◌, ◌≤◌, ◌^◌, ℕ, List, [], ap, length, replicate, rules, subst, sym}
 use Rattle.std.specs.Prelude.{vec_capacity}
-use Rattle.replacements.specs.Entries.{FitApart, slots_in}
+use Rattle.replacements.specs.Inside.{FitApart, slots_in}
 use Rattle.replacements.specs.declared.entry.Entry.{Entry}
 use Rattle.replacements.specs.declared.entry.Entry.TheVariants.{Open}
 use Rattle.replacements.specs.declared.slot.Slot.{Slot}

@@ -1,4 +1,4 @@
--- How a word of the language is found.
+-- How a word of the language is found: only the functions of this crate tell each other that.
 use Rattle.std.specs.Prelude.{◌+◌, ◌-◌, ◌*◌, ◌%◌, ℕ, List, [], length, get_or}
 use Rattle.token_classes.specs.declared.class.TokenClass.{TokenClass}
 use Rattle.token_classes.specs.declared.class.TokenClass.TheVariants.{Other}

@@ -1,4 +1,4 @@
--- What the tables of edges tell.
+-- What the tables of edges tell, which only the functions of this crate look at.
 use Rattle.std.specs.Prelude.{◌==◌, ℕ, Bool, true, false, if◌then◌else◌, List, [], ◌∷◌, ◌&&◌}
 use Rattle.c_grammar.specs.declared.ItemKind.{ItemKind}
 use Rattle.c_grammar.specs.declared.ItemKind.TheVariants.{Identifier, Number as NumberKind, CharConst, StringLit, Punct, HeaderName, StrayQuote, Other as OtherKind, BlockComment, LineComment}
