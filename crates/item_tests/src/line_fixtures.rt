@@ -1,17 +1,17 @@
 //! Long texts, views of texts, and what the lower layers tell of a text.
 
-ghost use Rattle.std.specs.Prelude.{IfOk};
-ghost use Rattle.token_classes.specs.Viewed.{AreWithin};
+ghost use Rattle.std.specs.Prelude.{◌≡◌, IfOk};
+ghost use Rattle.token_classes.specs.Viewed.{AreWithin, classes_of};
 
-use annotator::roles;
+use annotator::roles_of_classes;
 use bumpalo::Bump;
 use line_tokens::{LineTok, NoMemory, ULine};
 use std::alloc::Global;
 use std::process::Abort;
 use style_table::Style;
 use token_arena::{Dialect, TokenArena, View, build};
-use token_classes::partners;
-use unwrapped_lines::lines;
+use token_classes::{Partner, TokenClass, bracket_facts, classes_among, item_classes};
+use unwrapped_lines::lines_of_classes;
 
 /// These pieces in order, each so many times.
 pub fn repeated(rt: &impl Abort, alloc: Global, pieces: &[(&str, usize)]) -> String {
@@ -33,6 +33,35 @@ pub fn items_from<'r>(
     ensures { IfOk result (AreWithin arena.now) }
 {
     View::of(first, arena.len(), run)
+}
+
+/// What is told of the places of a view.
+#[derive(Clone, Copy)]
+pub struct Places<'r> {
+    /// The classes of its tokens.
+    pub classes: &'r [TokenClass],
+    /// The partners of its brackets.
+    pub partners: &'r [Partner],
+}
+
+/// What is told of the places of a view of the text of the case of this name.
+pub fn places_of<'r>(
+    rt: &impl Abort,
+    run: &'r Bump,
+    name: &str,
+    arena: &TokenArena<'_, '_>,
+    view: &View<'_>,
+) -> Places<'r>
+    requires { AreWithin arena.now view.now }
+    ensures { result.classes.now ≡ classes_of arena.now view.now }
+{
+    let all = item_classes(arena, run).expect(rt, name);
+    let classes = classes_among(all, arena, view, run).expect(rt, name);
+    let facts = bracket_facts(classes, run).expect(rt, name);
+    Places {
+        classes,
+        partners: facts.partners,
+    }
 }
 
 /// What the lower layers tell of a text.
@@ -57,9 +86,9 @@ pub fn read_text<'r, 's>(
     let style = Style::named(style).expect(rt, name);
     let arena = build(run, text.as_bytes(), Dialect::C11).expect(rt, name);
     let view = items_from(&arena, 0, run).expect(rt, name);
-    let partners = partners(&arena, &view, run).expect(rt, name);
-    let lines = lines(&style, &arena, &view, partners, run).expect(rt, name);
-    let tokens = roles(&arena, &view, partners, lines, run).expect(rt, name);
+    let Places { classes, partners } = places_of(rt, run, name, &arena, &view);
+    let lines = lines_of_classes(&style, &arena, &view, classes, partners, run).expect(rt, name);
+    let tokens = roles_of_classes(&arena, &view, classes, partners, lines, run).expect(rt, name);
     Told {
         arena,
         lines,

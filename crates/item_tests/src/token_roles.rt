@@ -1,8 +1,8 @@
 //! The roles of whole texts, as `docs/PROFILE.md` says under "Roles".
 
 use crate::comparing::same;
-use crate::line_fixtures::{items_from, read_text};
-use annotator::roles;
+use crate::line_fixtures::{Places, items_from, places_of, read_text};
+use annotator::roles_of_classes;
 use bumpalo::Bump;
 use line_tokens::Role::{
     self, AsmColon, Assign, Binary, BlockClose, BlockOpen, CallClose, CallOpen, CastClose,
@@ -14,7 +14,6 @@ use line_tokens::Role::{
 use line_tokens::{LineKind, LineTok, ULine};
 use std::process::Abort;
 use token_arena::{Dialect, build};
-use token_classes::partners;
 
 /// A text with the roles of its items.
 type Case = (&'static str, &'static str, &'static [Role]);
@@ -345,8 +344,8 @@ fn is_one_line(rt: &impl Abort, run: &Bump, text: &str, want: &[Role]) {
     let arena = build(run, text.as_bytes(), Dialect::C11).expect(rt, text);
     let view = items_from(&arena, 3, run).expect(rt, text);
     assert!(rt; view.len() == 14);
-    let partners = partners(&arena, &view, run).expect(rt, text);
-    let found = roles(&arena, &view, partners, &[LINE], run).expect(rt, text);
+    let Places { classes, partners } = places_of(rt, run, text, &arena, &view);
+    let found = roles_of_classes(&arena, &view, classes, partners, &[LINE], run).expect(rt, text);
     have_roles(rt, text, found, want);
 }
 

@@ -12,7 +12,7 @@ use token_classes::TokenClass::{
     self, CloseBrace, CloseRound, CloseSquare, Comma, Equals, OpenBrace, OpenRound, OpenSquare,
     PlainWord, Semicolon,
 };
-use token_classes::{Partner, bracket_facts, partners_of_classes};
+use token_classes::{Partner, bracket_facts};
 
 /// The class of a token of one letter.
 fn letter_class(letter: u8) -> TokenClass {
@@ -73,8 +73,8 @@ fn pairs_brackets(rt: HostRuntime) {
     for case in PAIRS {
         let (name, letters, want) = *case;
         let classes = letter_classes(&rt, letters, &run);
-        let partners = partners_of_classes(classes, &run).expect(&rt, "partners");
-        same(&rt, name, places_of(&rt, partners, &run), want);
+        let facts = bracket_facts(classes, &run).expect(&rt, "facts");
+        same(&rt, name, places_of(&rt, facts.partners, &run), want);
     }
 }
 
@@ -103,8 +103,6 @@ fn keeps_the_gaps_of_statement_braces(rt: HostRuntime) {
         let (name, letters, marks) = *case;
         let classes = letter_classes(&rt, letters, &run);
         let facts = bracket_facts(classes, &run).expect(&rt, "facts");
-        let partners = partners_of_classes(classes, &run).expect(&rt, "partners");
-        same(&rt, name, facts.partners, partners);
         same(&rt, name, marks_of(&rt, facts.kept, b'^', &run), marks);
     }
 }

@@ -9,6 +9,7 @@ use std::alloc::Global;
 use std::process::Abort;
 use style_table::{AlignEscapedNewlines, IndentPPDirectives, Style};
 use token_arena::sections;
+use token_classes::item_classes;
 
 /// What a row sets beside the LLVM style, 20 columns and backslashes that aren't aligned.
 #[derive(Clone, Copy)]
@@ -316,7 +317,8 @@ fn is_laid(rt: &impl Abort, alloc: Global, row: &Row, bump: &Bump) {
     let arena = items(rt, row.input, bump);
     let sections = sections(&arena, bump).expect(rt, "sections");
     let mut plan = open_plan(rt, &arena, bump);
-    lay_all(alloc, &style, &arena, sections, &mut plan).expect(rt, "a plan");
+    let classes = item_classes(&arena, bump).expect(rt, "classes");
+    lay_all(alloc, &style, &arena, classes, sections, &mut plan).expect(rt, "a plan");
     let output = Output {
         text: row.output,
         ..WHOLE

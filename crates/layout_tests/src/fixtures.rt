@@ -18,7 +18,7 @@ use std::alloc::Global;
 use std::process::Abort;
 use style_table::Style;
 use token_arena::{Dialect, Section, Stretch, TokenArena, View, build};
-use token_classes::{TokenClass, classes, partners_of_classes};
+use token_classes::{TokenClass, bracket_facts, classes_among, item_classes};
 use unwrapped_lines::lines_of_classes;
 
 /// The style of this name.
@@ -155,8 +155,9 @@ pub fn read_view<'r>(
     ensures count { length result.tokens.now ≡ length view.now }
     ensures items { TellItems arena.now view.now result.tokens.now }
 {
-    let classes = classes(arena, view, run).expect(rt, "classes");
-    let partners = partners_of_classes(classes, run).expect(rt, "partners");
+    let all = item_classes(arena, run).expect(rt, "the items' classes");
+    let classes = classes_among(all, arena, view, run).expect(rt, "classes");
+    let partners = bracket_facts(classes, run).expect(rt, "partners").partners;
     let lines = lines_of_classes(style, arena, view, classes, partners, run).expect(rt, "lines");
     let tokens = roles_of_classes(arena, view, classes, partners, lines, run).expect(rt, "tokens");
     Told {

@@ -5,14 +5,13 @@ ghost use Rattle.style_table.specs.Range.{IsInRange};
 ghost use Rattle.token_classes.specs.Viewed.{AreWithin};
 
 use crate::comparing::same;
-use crate::fixtures::repeated;
+use crate::fixtures::{read_view, repeated};
 use crate::joined_lines::With::{
     Blocks, Braces, Cases, Enums, Functions, Ifs, Limit, Loops, Unlimited,
 };
-use annotator::roles_of_classes;
 use bumpalo::Bump;
 use bumpalo::collections::into_bump_slice;
-use line_joiner::{join, join_of_classes};
+use line_joiner::join_of_classes;
 use line_tokens::{Fixed, LineTok, ULine};
 use std::process::Abort;
 use style_table::{
@@ -21,8 +20,6 @@ use style_table::{
     AllowShortIfStatementsOnASingleLine as ShortIfs, BreakBeforeBraces, Style,
 };
 use token_arena::{Dialect, Stretch, TokenArena, View, build};
-use token_classes::{classes, partners_of_classes};
-use unwrapped_lines::lines_of_classes;
 
 /// What a case changes in its style.
 #[derive(Clone, Copy)]
@@ -434,7 +431,7 @@ fn decisions<'r>(
     into_bump_slice(fixed)
 }
 
-/// The tokens of a view, and its lines with short ones joined, which are the same for a caller who has no classes.
+/// The tokens of a view, and its lines with short ones joined.
 fn joined<'r>(
     rt: &impl Abort,
     name: &str,
@@ -447,15 +444,10 @@ fn joined<'r>(
     requires range { IsInRange style.now }
     requires within { AreWithin arena.now view.now }
 {
-    let classes = classes(arena, view, run).expect(rt, name);
-    let partners = partners_of_classes(classes, run).expect(rt, name);
-    let lines = lines_of_classes(style, arena, view, classes, partners, run).expect(rt, name);
-    let toks = roles_of_classes(arena, view, classes, partners, lines, run).expect(rt, name);
-    let fixed = decisions(rt, toks.len(), decided, run);
-    let found = join_of_classes(style, classes, lines, toks, fixed, run).expect(rt, name);
-    let told = join(style, arena, lines, toks, fixed, run).expect(rt, name);
-    same(rt, name, told, found);
-    (toks, found)
+    let told = read_view(rt, style, arena, view, run);
+    let fixed = decisions(rt, told.tokens.len(), decided, run);
+    let found = join_of_classes(style, told.classes, told.lines, told.tokens, fixed, run);
+    (told.tokens, found.expect(rt, name))
 }
 
 /// The items of a text, its tokens, and its lines once short ones are joined in LLVM with these changes.

@@ -1,7 +1,7 @@
 //! Short lines that become one.
 //!
-//! [`join`] takes the lines of a view and joins those that stand in one row of a table, `docs/PROFILE.md`, "Joined
-//! lines", and that fit there.
+//! [`join_of_classes`] takes the lines of a view and joins those that stand in one row of a table, `docs/PROFILE.md`,
+//! "Joined lines", and that fit there.
 #![tactic(auto)]
 
 mod facts;
@@ -12,4 +12,4 @@ mod kinds;
 mod merging;
 mod table;
 
-pub use joined::{join, join_of_classes};
+pub use joined::join_of_classes;

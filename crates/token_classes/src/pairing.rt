@@ -3,16 +3,13 @@
 ghost use Rattle.std.specs.Prelude.{◌≡◌, ◌∷◌, [], ◌++◌, ◌<◌, ◌≤◌, ◌+◌, ◌^◌, reverse, IfOk, Option, Some, None, IfSome};
 ghost use Rattle.std.specs.Prelude.{IfNone, MatchOption, length, ℕ, All, OnOk, slice_set};
 ghost use Rattle.std.specs.Option.{ForSome, ForNone};
-ghost use Rattle.token_classes.specs.Viewed.{AreWithin, classes_of};
-ghost use Rattle.token_classes.specs.Partners.{partners_of, count_braces, nearest_brace, topmost, is_round, is_square};
-ghost use Rattle.token_classes.specs.Partners.{bracket_step, matching_of, paired, TakesStep, StandBefore};
+ghost use Rattle.token_classes.specs.Partners.{count_braces, nearest_brace, topmost, is_round, is_square};
+ghost use Rattle.token_classes.specs.Partners.{paired, TakesStep, StandBefore};
 
+use crate::TokenClass;
 use crate::partner::Partner;
-use crate::{TokenClass, classes};
 use bumpalo::Bump;
-use bumpalo::collections::into_bump_slice;
 use line_tokens::NoMemory;
-use token_arena::{TokenArena, View};
 
 /// An opening bracket that waits for its partner.
 #[derive(Clone, Copy, Drop)]
@@ -161,59 +158,4 @@ pub fn waiting_step(
         TokenClass::CloseBrace => Ok(take_brace(stack, braces)),
         _ => Ok(None),
     }
-}
-
-/// One token.
-#[inline(always)]
-fn bracket_step(
-    stack: &mut Vec<Opener, &Bump>,
-    braces: &mut usize,
-    partners: &mut [Partner],
-    place: u32,
-    class: TokenClass,
-) -> Result<(), NoMemory>
-    requires count { braces.old ≡ count_braces (reverse stack.old.items) }
-    requires small { braces.old ≤ place }
-    requires before { StandBefore place (reverse stack.old.items) }
-    requires here { place < length partners.old }
-    requires few { length partners.old < 2 ^ 32 }
-    ensures step { OnOk result (matching_of stack.new.items partners.new ≡ bracket_step class place (matching_of stack.old.items partners.old)) }
-    ensures count { OnOk result (braces.new ≡ count_braces (reverse stack.new.items)) }
-    ensures small { OnOk result (braces.new ≤ place + 1) }
-    ensures before { OnOk result (StandBefore (place + 1) (reverse stack.new.items)) }
-{
-    let o = waiting_step(stack, braces, place, class)?;
-    close(partners, o, place);
-    Ok(())
-}
-
-/// The partner of each place of a view, by the classes of its tokens.
-pub fn partners_of_classes<'r>(
-    classes: &[TokenClass],
-    run: &'r Bump,
-) -> Result<&'r [Partner], NoMemory>
-    requires { length classes.now < 2 ^ 32 }
-    ensures { IfOk result (λ partners. partners.now ≡ partners_of classes.now) }
-{
-    let mut partners = vec![in run; Partner::none(); classes.len()]?;
-    let mut stack: Vec<Opener, &Bump> = Vec::new(run);
-    let mut braces: usize = 0;
-    for (i, c) in classes.iter().enumerate() {
-        bracket_step(&mut stack, &mut braces, &mut partners, i as u32, *c)?;
-    }
-    Ok(into_bump_slice(partners))
-}
-
-/// The partner of each place of a view: the place of the other bracket of its pair, none for every other token.
-///
-/// Brackets pair as `docs/PROFILE.md` says under "Partners". Want of memory is the only error.
-pub fn partners<'r>(
-    arena: &TokenArena<'_, '_>,
-    view: &View<'_>,
-    run: &'r Bump,
-) -> Result<&'r [Partner], NoMemory>
-    requires { AreWithin arena.now view.now }
-    ensures { IfOk result (λ partners. partners.now ≡ partners_of (classes_of arena.now view.now)) }
-{
-    partners_of_classes(classes(arena, view, run)?, run)
 }

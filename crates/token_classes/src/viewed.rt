@@ -168,25 +168,3 @@ pub fn classes_among<'r>(
     }
     copied_classes(all, arena, view, run)
 }
-
-/// The class of each place of a view.
-pub fn classes<'r>(
-    arena: &TokenArena<'_, '_>,
-    view: &View<'_>,
-    run: &'r Bump,
-) -> Result<&'r [TokenClass], NoMemory>
-    requires { AreWithin arena.now view.now }
-    ensures classes { IfOk result (λ classes. classes.now ≡ classes_of arena.now view.now) }
-    ensures few { IfOk result (λ classes. length classes.now ≤ LIMIT) }
-{
-    let count = view.len();
-    let items = arena.len();
-    prove!(count <= items);
-    let mut classes = Vec::with_capacity(run, count as usize)?;
-    let mut segment = 0;
-    for k in 0..count {
-        let id = view.at_near(k, &mut segment);
-        classes.push(item_class(arena, id, run)?)?;
-    }
-    Ok(into_bump_slice(classes))
-}

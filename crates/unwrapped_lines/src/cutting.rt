@@ -24,7 +24,7 @@ use bumpalo::collections::into_bump_slice;
 use line_tokens::{NoMemory, ULine};
 use style_table::Style;
 use token_arena::{TokenArena, View};
-use token_classes::{Partner, TokenClass, classes};
+use token_classes::{Partner, TokenClass};
 
 /// The lines of a view without comments: the number of a token is its place.
 fn token_lines<'r>(lines: &[Line], run: &'r Bump) -> Result<Vec<ULine, &'r Bump>, NoMemory>
@@ -119,20 +119,4 @@ pub fn lines_of_classes<'r>(
 {
     let lines = read_lines(style, arena, view, classes, partners, run)?;
     Ok(into_bump_slice(lines))
-}
-
-/// The lines of a view as [`lines_of_classes`] gives them, for a caller who has no classes.
-pub fn lines<'r>(
-    style: &Style,
-    arena: &TokenArena<'_, '_>,
-    view: &View<'_>,
-    partners: &[Partner],
-    run: &'r Bump,
-) -> Result<&'r [ULine], NoMemory>
-    requires { AreWithin arena.now view.now }
-    ensures lines { IfOk result (λ lines. lines.now ≡ unwrapped_lines_of style.now arena.now view.now partners.now) }
-    ensures cut { IfOk result (λ lines. CutPlaces 0 (length view.now) lines.now) }
-{
-    let classes = classes(arena, view, run)?;
-    lines_of_classes(style, arena, view, classes, partners, run)
 }

@@ -18,5 +18,5 @@ mod token;
 mod tree;
 mod viewed;
 
-pub use cutting::{lines, lines_of_classes};
+pub use cutting::lines_of_classes;
 pub use line_tokens::NoMemory;

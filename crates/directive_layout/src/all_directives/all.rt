@@ -5,6 +5,7 @@ ghost use Rattle.std.specs.List.{Contains};
 ghost use Rattle.c_chars.specs.declared.TheConstants.{LIMIT};
 ghost use Rattle.style_table.specs.Range.{IsInRange};
 ghost use Rattle.token_arena.specs.Sections.{sections_of};
+ghost use Rattle.token_classes.specs.Viewed.{item_classes};
 ghost use Rattle.token_arena.specs.declared.directives.Section.{Section};
 ghost use Rattle.token_arena.specs.declared.directives.Section.TheVariants.{Dir};
 ghost use Rattle.replacements.specs.Decisions.{decided_all};
@@ -21,11 +22,13 @@ use replacements::Plan;
 use std::alloc::Global;
 use style_table::Style;
 use token_arena::{Directive, Section, TokenArena, nesting_of};
+use token_classes::TokenClass;
 
 /// Decides the gaps before and inside a directive that stands inside so many conditionals.
 fn lay_directive(
     style: &Style,
     arena: &TokenArena<'_, '_>,
+    all: &[TokenClass],
     dir: &Directive,
     depth: u32,
     plan: &mut Plan<'_>,
@@ -33,12 +36,13 @@ fn lay_directive(
 ) -> Result<(), NoMemory>
     requires depth { depth ≤ LIMIT }
     requires range { IsInRange style.now }
+    requires all { all.now ≡ item_classes arena.now }
     requires there { Contains (sections_of arena.now) (Dir dir.now) }
     requires whole { length plan.old ≡ length arena.now.tokens + 1 }
     ensures plan { OnOk result (plan.new ≡ decided_all plan.old (laid style.now arena.now depth (operand_roles style.now arena.now dir.now) dir.now)) }
     ensures len { OnOk result (length plan.new ≡ length plan.old) }
 {
-    let toks = operand_roles(style, arena, dir, run)?;
+    let toks = operand_roles(style, arena, all, dir, run)?;
     lay(style, arena, dir, depth, toks, plan);
     Ok(())
 }
@@ -47,6 +51,7 @@ fn lay_directive(
 fn lay_section(
     style: &Style,
     arena: &TokenArena<'_, '_>,
+    all: &[TokenClass],
     section: &Section,
     conditionals: &mut Conditionals,
     plan: &mut Plan<'_>,
@@ -54,6 +59,7 @@ fn lay_section(
 ) -> Result<(), NoMemory>
     requires few { length conditionals.old ≤ LIMIT }
     requires range { IsInRange style.now }
+    requires all { all.now ≡ item_classes arena.now }
     requires there { Contains (sections_of arena.now) section.now }
     requires whole { length plan.old ≡ length arena.now.tokens + 1 }
     ensures plan { OnOk result ((later : List Section) → decided_all plan.new (laid_in style.now arena.now conditionals.new later) ≡ decided_all plan.old (laid_in style.now arena.now conditionals.old (section.now ∷ later))) }
@@ -64,14 +70,14 @@ fn lay_section(
         Section::Text { .. } => Ok(()),
         Section::Dir(dir) => {
             let depth = conditionals.pass(nesting_of(dir.kind))?;
-            lay_directive(style, arena, dir, depth, plan, run)?;
+            lay_directive(style, arena, all, dir, depth, plan, run)?;
             Ok(())
         }
     }
 }
 
-/// Decides the gaps before and inside all directives of a text, of which these are the sections. What was decided
-/// before stays.
+/// Decides the gaps before and inside all directives of a text, of which these are the sections, and whose items have
+/// these classes. What was decided before stays.
 ///
 /// `docs/PROFILE.md` says under "Layout of directives" what stands in each gap. Time is linear in the items of the
 /// directives and the sections, and what one directive takes of memory serves the next one too. Want of memory is the
@@ -80,10 +86,12 @@ pub fn lay_all(
     alloc: Global,
     style: &Style,
     arena: &TokenArena<'_, '_>,
+    all: &[TokenClass],
     sections: &[Section],
     plan: &mut Plan<'_>,
 ) -> Result<(), NoMemory>
     requires range { IsInRange style.now }
+    requires all { all.now ≡ item_classes arena.now }
     requires sections { sections.now ≡ sections_of arena.now }
     requires whole { length plan.old ≡ length arena.now.tokens + 1 }
     ensures plan { OnOk result (plan.new ≡ decided_all plan.old (all_laid style.now arena.now)) }
@@ -93,7 +101,7 @@ pub fn lay_all(
     let mut run = Bump::new(alloc);
     let mut conditionals = Conditionals::none(alloc);
     for section in sections {
-        lay_section(style, arena, section, &mut conditionals, plan, &run)?;
+        lay_section(style, arena, all, section, &mut conditionals, plan, &run)?;
         if run.reset().is_err() {
             run = Bump::new(alloc);
         }

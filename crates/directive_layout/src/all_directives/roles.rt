@@ -3,6 +3,7 @@
 ghost use Rattle.std.specs.Prelude.{◌≡◌, ◌<◌, ◌≤◌, length, IfOk};
 ghost use Rattle.std.specs.List.{Contains};
 ghost use Rattle.token_arena.specs.Sections.{sections_of};
+ghost use Rattle.token_classes.specs.Viewed.{item_classes};
 ghost use Rattle.token_arena.specs.declared.directives.Section.TheVariants.{Dir};
 ghost use Rattle.directive_layout.specs.Roles.{one_line, roles_between, is_free, has_roles, operand_roles};
 
@@ -13,7 +14,7 @@ use bumpalo::collections::into_bump_slice;
 use line_tokens::{LineKind, LineTok, NoMemory, ULine};
 use style_table::Style;
 use token_arena::{Directive, TokenArena, View};
-use token_classes::{classes, partners_of_classes};
+use token_classes::{TokenClass, bracket_facts, classes_among};
 
 /// One line of so many items, as of a statement.
 fn one_line(count: u32) -> ULine
@@ -28,22 +29,24 @@ fn one_line(count: u32) -> ULine
     }
 }
 
-/// The roles of the items from one up to another as one line.
+/// The roles of the items from one up to another as one line, where all items of the text have these classes.
 fn roles_between<'r>(
     arena: &TokenArena<'_, '_>,
+    all: &'r [TokenClass],
     first: u32,
     end: u32,
     run: &'r Bump,
 ) -> Result<&'r [LineTok], NoMemory>
+    requires all { all.now ≡ item_classes arena.now }
     requires some { first < end }
     requires within { end ≤ length arena.now.tokens }
     ensures { IfOk result (λ toks. toks.now ≡ roles_between arena.now first end) }
 {
     let view = View::of(first, end, run)?;
-    let classes = classes(arena, &view, run)?;
-    let partners = partners_of_classes(classes, run)?;
+    let classes = classes_among(all, arena, &view, run)?;
+    let facts = bracket_facts(classes, run)?;
     let lines = [one_line(end - first)];
-    roles_of_classes(arena, &view, classes, partners, &lines, run)
+    roles_of_classes(arena, &view, classes, facts.partners, &lines, run)
 }
 
 /// Whether no gap of a directive keeps the input's bytes.
@@ -57,16 +60,18 @@ fn is_free(staying: Staying) -> bool
 pub(crate) fn operand_roles<'r>(
     style: &Style,
     arena: &TokenArena<'_, '_>,
+    all: &'r [TokenClass],
     dir: &Directive,
     run: &'r Bump,
 ) -> Result<&'r [LineTok], NoMemory>
-    requires { Contains (sections_of arena.now) (Dir dir.now) }
+    requires all { all.now ≡ item_classes arena.now }
+    requires there { Contains (sections_of arena.now) (Dir dir.now) }
     ensures { IfOk result (λ toks. toks.now ≡ operand_roles style.now arena.now dir.now) }
 {
     let _count = arena.len();
     let first = operand_first(arena, dir);
     if is_free(staying_in(style, arena, dir)) && first + 1 < dir.end {
-        return roles_between(arena, first, dir.end, run);
+        return roles_between(arena, all, first, dir.end, run);
     }
     Ok(into_bump_slice(Vec::new(run)))
 }

@@ -3,6 +3,7 @@
 ghost use Rattle.std.specs.Prelude.{◌≡◌, ◌≤◌, ◌+◌, option_map, length, OnOk};
 ghost use Rattle.c_chars.specs.declared.TheConstants.{LIMIT};
 ghost use Rattle.token_arena.specs.Sections.{sections_of};
+ghost use Rattle.token_classes.specs.Viewed.{item_classes};
 ghost use Rattle.replacements.specs.Decisions.{decided_all};
 ghost use Rattle.style_table.specs.Range.{IsInRange};
 ghost use Rattle.format_core.specs.BeforeRuns.{early_decisions};
@@ -33,6 +34,7 @@ pub fn decide_early(
 ) -> Result<(), NoMemory>
     requires range { IsInRange context.now.style.now }
     requires fits { length context.now.arena.now.text ≤ LIMIT }
+    requires all { context.now.classes.now ≡ item_classes context.now.arena.now }
     requires sections { sections.now ≡ sections_of context.now.arena.now }
     requires tree { IsTreeOf context.now.arena.now tree.now }
     requires whole { length plan.old ≡ length context.now.arena.now.tokens + 1 }
@@ -43,7 +45,7 @@ pub fn decide_early(
     let arena = context.arena;
     let marks = frozen(arena, ranges, bump)?;
     keep_gaps(style.tab_width, arena, tree, marks, plan);
-    lay_all(context.alloc, style, arena, sections, plan)?;
+    lay_all(context.alloc, style, arena, context.classes, sections, plan)?;
     let last = last_decision(style, arena);
     let _ = plan.decide(arena.len(), last, 0);
     Ok(())

@@ -4,8 +4,8 @@ use Rattle.directive_layout.proofs.all_directives.roles.operand_roles.Goals as g
 
 pub overflow_add-first : goal.overflow_add-first
 overflow_add-first c =
-    let bounds = directive_bounds c.args.arena.now c.args.dir.now c.requires in
+    let bounds = directive_bounds c.args.arena.now c.args.dir.now c.requires.there in
     omega (arith, bounds.1, c.operand_first-first.ensures.within, c.len-count.ensures.count, c.len-count.ensures.most)
 
 pub roles_between-requires-clause-within : goal.roles_between-requires-clause-within
-roles_between-requires-clause-within c = (directive_bounds c.args.arena.now c.args.dir.now c.requires).1
+roles_between-requires-clause-within c = (directive_bounds c.args.arena.now c.args.dir.now c.requires.there).1
