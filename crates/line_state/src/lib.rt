@@ -31,7 +31,5 @@ pub use node::{NodeState, digest, is_same_place};
 pub use placing::{advance, lay, step};
 pub use rules::{allowed, allowed_by, refused_by};
 pub use state::{State, cells, start};
-pub use stepping::{
-    allowed_in, cells_in, start_in, step_in, token_start_in, try_step_by, try_step_in,
-};
+pub use stepping::{cells_in, start_in, step_in, try_step_by};
 pub use store::FrameStore;

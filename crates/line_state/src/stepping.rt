@@ -6,7 +6,7 @@ ghost use Rattle.line_state.specs.Brackets.{opens_frame};
 ghost use Rattle.style_table.specs.Range.{IsInRange};
 ghost use Rattle.line_state.specs.Layout.{AreRules, gap_before, is_allowed, spot_of, open_frames, placed_frame};
 ghost use Rattle.line_state.specs.Layout.{placed_frames, frames_after, with_topmost, with_opened, layout_after};
-ghost use Rattle.line_state.specs.Layout.{cost_of, cells_of, start_layout, start_of};
+ghost use Rattle.line_state.specs.Layout.{cost_of, cells_of, start_layout};
 ghost use Rattle.line_state.specs.Store.{list_at, layout_in, IsIn, IsGrown, AreApart};
 ghost use Rattle.line_state.specs.Beside.{IsPlain, excess_beside};
 ghost use Rattle.line_tokens.specs.Columns.{columns, end_of};
@@ -19,7 +19,7 @@ use crate::placing::{cost, end_column, frame_above, placed, start_column};
 use crate::rules::{allows, is_refused};
 use crate::spot::Spot;
 use crate::store::FrameStore;
-use layout_tables::{GapRule, gap_rule, spaces_before};
+use layout_tables::GapRule;
 use line_tokens::{Fixed, LineTok, NoMemory, Role};
 use style_table::Style;
 
@@ -87,40 +87,6 @@ fn spot_in(store: &FrameStore<'_>, state: &NodeState, gap: &Gap, left_open: u32)
         top: store.topmost(left_open),
         opened: is_just_opened(gap, store.node(state.node).depth),
     }
-}
-
-/// Whether the gap before `right` may break, where `brk`, or stay as it is. Takes no memory.
-///
-/// Before the line's first token, which then stands for `left` too, a break is the one choice. A decided gap has its
-/// own choice.
-pub fn allowed_in<'r>(
-    store: &FrameStore<'r>,
-    style: &Style,
-    state: &NodeState,
-    left: &LineTok,
-    right: &LineTok,
-    fixed: Option<Fixed>,
-    brk: bool,
-) -> bool
-    requires { IsIn store.now state.now }
-    ensures { let layout = layout_in store.now state.now in
-        result ≡ is_allowed style.now layout (gap_before layout left.now right.now fixed) brk }
-{
-    let gap = Gap {
-        left: *left,
-        right: *right,
-        fixed,
-        first: state.index == 0,
-    };
-    let left_open = store.lowest(state.node, gap.right.depth);
-    let rule = gap_rule(style, left, right);
-    allows(
-        style,
-        &spot_in(store, state, &gap, left_open),
-        &gap,
-        &rule,
-        brk,
-    )
 }
 
 /// The node of the frames once the token is placed, its own among them.
@@ -284,45 +250,8 @@ fn step_beside(style: &Style, state: &NodeState, gap: &Gap, rules: &GapRules) ->
     }
 }
 
-/// The state with one token more, as `step_in` tells it, where the choice is admissible.
-///
-/// # Errors
-///
-/// `NoMemory` where memory ran out.
-pub fn try_step_in<'r>(
-    store: &mut FrameStore<'r>,
-    style: &Style,
-    state: &NodeState,
-    left: &LineTok,
-    right: &LineTok,
-    fixed: Option<Fixed>,
-    brk: bool,
-) -> Result<Option<NodeState>, NoMemory>
-    requires range { IsInRange style.now }
-    requires known { IsIn store.old state.now }
-    requires index { state.now.index < 4294967295 }
-    requires cost { state.now.cost ≤ state.now.index * 18446744073709551615 }
-    ensures none { let layout = layout_in store.old state.now in
-        let gap = gap_before layout left.now right.now fixed in
-        IfOk result (λ next. IfNone next (is_allowed style.now layout gap brk ≡ false)) }
-    ensures some { let layout = layout_in store.old state.now in
-        let gap = gap_before layout left.now right.now fixed in
-        IfOk result (λ next. OnSome next (is_allowed style.now layout gap brk ≡ true)) }
-    ensures layout { let layout = layout_in store.old state.now in
-        let gap = gap_before layout left.now right.now fixed in
-        IfOk result (λ next. IfSome next (λ n. layout_in store.new n ≡ layout_after style.now layout gap brk)) }
-    ensures cost { let layout = layout_in store.old state.now in
-        let gap = gap_before layout left.now right.now fixed in
-        IfOk result (λ next. IfSome next (λ n. n.cost ≡ state.now.cost + cost_of style.now layout gap brk)) }
-    ensures bound { IfOk result (λ next. IfSome next (λ n. n.cost ≤ n.index * 18446744073709551615)) }
-    ensures known { IfOk result (λ next. IfSome next (IsIn store.new)) }
-    ensures grown { IsGrown store.old store.new }
-{
-    let rules = gap_rules(style, left, right);
-    try_step_by(store, style, state, left, right, fixed, &rules, brk)
-}
-
-/// The same, where the tables were asked of the gap before.
+/// The state with one token more, as `step_in` tells it, where the choice is admissible and the tables were asked of the
+/// gap before.
 ///
 /// # Errors
 ///
@@ -378,31 +307,4 @@ pub fn try_step_by<'r>(
     }
     let next = step_from(store, style, state, &gap, rules, left_open, &spot, brk)?;
     Ok(Some(next))
-}
-
-/// Where `right` starts, where the gap before it broke, where `brk`, or stayed. Takes no memory.
-pub fn token_start_in(
-    store: &FrameStore<'_>,
-    style: &Style,
-    state: &NodeState,
-    left: &LineTok,
-    right: &LineTok,
-    fixed: Option<Fixed>,
-    brk: bool,
-) -> u32
-    requires range { IsInRange style.now }
-    requires known { IsIn store.now state.now }
-    ensures { let layout = layout_in store.now state.now in
-        result ≡ start_of style.now layout (gap_before layout left.now right.now fixed) brk }
-{
-    let gap = Gap {
-        left: *left,
-        right: *right,
-        fixed,
-        first: state.index == 0,
-    };
-    let left_open = store.lowest(state.node, gap.right.depth);
-    let spot = spot_in(store, state, &gap, left_open);
-    let spaces = spaces_before(style, left, right);
-    start_column(style, &spot, &gap, spaces, brk)
 }
