@@ -8,7 +8,7 @@ pub mod Rows
 pub mod Spans
 pub mod RowParts
 pub mod NotedRows
-pub mod NotePlaces
+pub mod NoteChains
 pub mod Told
 pub mod InBodies
 pub mod PartEnds

@@ -1,9 +1,10 @@
 //! What is noted for the items with which parts begin.
 
-ghost use Rattle.std.specs.Prelude.{◌≡◌, ◌<◌, ◌≤◌, length, replicate, slice_set, get_or, IfOk, OnErr, OnOk};
+ghost use Rattle.std.specs.Prelude.{◌≡◌, ◌<◌, ◌≤◌, length, replicate, slice_set, get_or, IfOk, IfSome, OnErr, OnOk};
 ghost use Rattle.std.specs.Bool.{OnFalse, OnTrue};
 ghost use Rattle.view_parts.specs.declared.known.KnownEnd.TheVariants.{Unknown};
-ghost use Rattle.view_parts.specs.Notes.{note_before, told_of};
+ghost use Rattle.view_parts.specs.declared.notes.Note.{Note};
+ghost use Rattle.view_parts.specs.Notes.{Fall, note_of};
 
 use crate::known::KnownEnd;
 use bumpalo::Bump;
@@ -15,50 +16,59 @@ use std::marker::Model;
 pub(crate) struct Note {
     /// The item.
     pub id: u32,
+    /// The place behind the note of its block before this one, or 0.
+    pub before: u32,
     /// What is known of the part that begins with it.
     pub end: KnownEnd,
 }
 
+/// How many items a block has.
+const BLOCK_LEN: usize = 16;
+
 /// What is known of where parts end, for each item of a text with which one may begin, or for none where nothing is to
-/// be kept. Few items begin a part, so an item takes four bytes, and sixteen more only once something is noted for it.
+/// be kept. Few items begin a part, so four bytes are taken for a block of items, and twenty for each note. The notes
+/// of a block are a chain from the newest one back: an item has one at most, so none is longer than its block.
 /// Contracts see what is known for each item.
 #[derive(Drop)]
 pub struct KnownEnds<'k> {
-    /// For each item the place behind its note, or 0.
-    places: Vec<u32, &'k Bump>,
+    /// How many items there are.
+    count: usize,
+    /// For each block the place behind its newest note, or 0.
+    newest: Vec<u32, &'k Bump>,
     notes: Vec<Note, &'k Bump>,
 }
 
 impl<'k> Model for KnownEnds<'k> {
     ghost use Rattle.std.specs.Prelude.{List};
     ghost use Rattle.view_parts.specs.declared.known.KnownEnd.{KnownEnd};
-    ghost use Rattle.view_parts.specs.Notes.{ends_from};
+    ghost use Rattle.view_parts.specs.Notes.{AreChains, known_ends};
 
     ghost Value = { List KnownEnd };
 
-    ghost view = { λ known. ends_from known.notes.items 0 known.places.items };
+    ghost view = { λ known. known_ends known.notes.items known.newest.items known.count };
+
+    ghost invariant = { λ known. AreChains known.notes.items known.newest.items known.count };
 }
 
-/// The note before a place, if there is one.
+/// Which note of a chain is that of an item, if one is. The newest stands before the place `newest`.
 #[inline(always)]
-fn note_before(notes: &[Note], place: u32) -> Option<Note>
-    ensures { result ≡ note_before notes.now place }
+fn note_of(notes: &[Note], id: u32, newest: u32) -> Option<usize>
+    requires within { newest ≤ length notes.now }
+    requires fall { Fall notes.now }
+    ensures found { result ≡ note_of notes.now id newest }
+    ensures within { IfSome result (λ at. at < length notes.now) }
+    ensures own { IfSome result (λ at. (d : Note) → (get_or notes.now at d).id ≡ id) }
 {
-    match place.checked_sub(1) {
-        None => None,
-        Some(at) => notes.get(at as usize).copied(),
+    let mut place = newest;
+    while place > 0 {
+        let at = place as usize - 1;
+        let note = &notes[at];
+        if note.id == id {
+            return Some(at);
+        }
+        place = note.before;
     }
-}
-
-/// What a note tells of an item: that of another item tells nothing.
-#[inline(always)]
-fn told_of(id: TokenId, note: Option<Note>) -> KnownEnd
-    ensures { result ≡ told_of id.0 note }
-{
-    match note {
-        Some(note) if note.id == id.0 => note.end,
-        _ => KnownEnd::Unknown,
-    }
+    None
 }
 
 impl<'k> KnownEnds<'k> {
@@ -67,7 +77,8 @@ impl<'k> KnownEnds<'k> {
         ensures { IfOk result (λ known. known ≡ replicate items Unknown) }
     {
         Ok(KnownEnds {
-            places: vec![in keep; 0; items]?,
+            count: items,
+            newest: vec![in keep; 0; items.div_ceil(BLOCK_LEN)]?,
             notes: Vec::new(keep),
         })
     }
@@ -78,7 +89,7 @@ impl<'k> KnownEnds<'k> {
         ensures yes { OnTrue result (id.0 < length self.now) }
         ensures no { OnFalse result (length self.now ≤ id.0) }
     {
-        (id.0 as usize) < self.places.len()
+        (id.0 as usize) < self.count
     }
 
     /// What is noted for an item, or nothing.
@@ -89,8 +100,11 @@ impl<'k> KnownEnds<'k> {
         if !self.has_place(id) {
             return KnownEnd::Unknown;
         }
-        let place = self.places[id.0 as usize];
-        told_of(id, note_before(self.notes.as_slice(), place))
+        let newest = self.newest[id.0 as usize / BLOCK_LEN];
+        match note_of(self.notes.as_slice(), id.0, newest) {
+            Some(at) => self.notes[at].end,
+            None => KnownEnd::Unknown,
+        }
     }
 
     /// Notes it for an item in place of what is noted for it. The result tells whether anything is.
@@ -101,14 +115,11 @@ impl<'k> KnownEnds<'k> {
         ensures no { OnFalse result (self.new ≡ self.old) }
         ensures none { OnFalse result (get_or self.old id.0 Unknown ≡ Unknown) }
     {
-        let place = self.places[id.0 as usize];
-        let Some(note) = note_before(self.notes.as_slice(), place) else {
+        let newest = self.newest[id.0 as usize / BLOCK_LEN];
+        let Some(at) = note_of(self.notes.as_slice(), id.0, newest) else {
             return false;
         };
-        if note.id != id.0 {
-            return false;
-        }
-        self.notes[place as usize - 1] = Note { id: id.0, end };
+        self.notes[at].end = end;
         true
     }
 
@@ -128,8 +139,13 @@ impl<'k> KnownEnds<'k> {
         if count >= u32::MAX as usize {
             return Err(NoMemory);
         }
-        self.notes.push(Note { id: id.0, end })?;
-        self.places[id.0 as usize] = count as u32 + 1;
+        let block = id.0 as usize / BLOCK_LEN;
+        self.notes.push(Note {
+            id: id.0,
+            before: self.newest[block],
+            end,
+        })?;
+        self.newest[block] = count as u32 + 1;
         Ok(())
     }
 }

@@ -1,57 +1,50 @@
-use Rattle.std.proofs.Common.{◌≡◌, ◌∙◌, Option, None, Some, length, get_or, sym, ap, arith, rules}
+use Rattle.std.proofs.Common.{◌≡◌, ◌∙◌, ◌/◌, List, Some, None, length, get_or, refl, sym, ap, arith, rules}
 use Rattle.std.specs.Vec.{vec_len}
 use Rattle.std.proofs.lemmas.List.{get_or_default}
 use Rattle.view_parts.specs.declared.notes.Note.{Note}
-use Rattle.view_parts.specs.Notes.{ends_from, note_before, told_of}
-use Rattle.view_parts.proofs.NotePlaces.{has_place, note_within, noted, put_now, told_other}
+use Rattle.view_parts.specs.Notes.{note_of}
+use Rattle.view_parts.proofs.NoteChains.{block_within, noted, put_now}
 use Rattle.view_parts.proofs.notes.KnownEnds.replace.Goals as goal
 
-pub index-place-requires : goal.index-place-requires
-index-place-requires c =
-    let notes = c.self.inside.notes.items in
-    let places = c.self.inside.places.items in
-    let view : c.args.self.now ≡ ends_from notes 0 places = search rules in
-    let many : vec_len c.self.inside.places ≡ length places = first_of (omega (arith), search (rules), grind (arith, rules)) in
-    let here = has_place notes places c.args.self.now c.args.id.0 view c.requires in
-    omega (arith, many, here)
+pub index-newest-requires : goal.index-newest-requires
+index-newest-requires c =
+    let known = c.self.inside in
+    let many : vec_len known.newest ≡ length known.newest.items = first_of (omega (arith), search (rules), grind (arith, rules)) in
+    let block = block_within known.notes.items known.newest.items known.count c.args.self.now c.args.id.0 c.self.invariant (sym c.self.view_is) c.requires in
+    omega (arith, many, block)
 
-pub index_mut-requires : goal.index_mut-requires
-index_mut-requires c =
-    let notes = c.self.inside.notes.items in
-    let many : vec_len c.self.inside.notes ≡ length notes = first_of (omega (arith), search (rules), grind (arith, rules)) in
-    let before : note_before notes c.index-place.result.now ≡ Some c.in-Some.note = search rules in
-    let here = note_within notes c.index-place.result.now c.in-Some.note before in
-    omega (arith, many, here)
+pub note_of-requires-clause-within : goal.note_of-requires-clause-within
+note_of-requires-clause-within c =
+    let known = c.self.inside in
+    let block = block_within known.notes.items known.newest.items known.count c.args.self.now c.args.id.0 c.self.invariant (sym c.self.view_is) c.requires in
+    let place : c.index-newest.result.now ≡ get_or known.newest.items (c.args.id.0 / 16) 0 = c.index-newest.ensures ∙ get_or_default known.newest.items (c.args.id.0 / 16) _ 0 block in
+    let same : c.as_slice.result.now ≡ known.notes.items = first_of (cc, search (rules)) in
+    omega (arith, place, ap (λ (them : List Note). length them) same, c.self.invariant.within (c.args.id.0 / 16))
 
 pub returns-in_default-clause-none : goal.returns-in_default-clause-none
 returns-in_default-clause-none c =
-    let notes = c.self.inside.notes.items in
-    let places = c.self.inside.places.items in
-    let view : c.args.self.now ≡ ends_from notes 0 places = search rules in
-    let here = has_place notes places c.args.self.now c.args.id.0 view c.requires in
-    let place : c.index-place.result.now ≡ get_or places c.args.id.0 0 = c.index-place.ensures ∙ get_or_default places c.args.id.0 _ 0 here in
-    let lacks : note_before notes c.index-place.result.now ≡ None = search rules in
-    sym (noted notes places c.args.self.now c.args.id.0 c.index-place.result.now view c.requires place) ∙ ap (λ (note : Option Note). told_of c.args.id.0 note) lacks
-
-pub returns-then-note-id-clause-none : goal.returns-then-note-id-clause-none
-returns-then-note-id-clause-none c =
-    let notes = c.self.inside.notes.items in
-    let places = c.self.inside.places.items in
-    let view : c.args.self.now ≡ ends_from notes 0 places = search rules in
-    let here = has_place notes places c.args.self.now c.args.id.0 view c.requires in
-    let place : c.index-place.result.now ≡ get_or places c.args.id.0 0 = c.index-place.ensures ∙ get_or_default places c.args.id.0 _ 0 here in
-    let before : note_before notes c.index-place.result.now ≡ Some c.in-Some.note = search rules in
-    let apart : c.in-Some.note.id ≡ c.args.id.0 → ⊥ = c.if-note-id.true in
-    sym (noted notes places c.args.self.now c.args.id.0 c.index-place.result.now view c.requires place)
-    ∙ (ap (λ (note : Option Note). told_of c.args.id.0 note) before ∙ told_other c.args.id.0 c.in-Some.note apart)
+    let known = c.self.inside in
+    let notes = known.notes.items in
+    let id = c.args.id.0 in
+    let block = block_within notes known.newest.items known.count c.args.self.now id c.self.invariant (sym c.self.view_is) c.requires in
+    let place : c.index-newest.result.now ≡ get_or known.newest.items (id / 16) 0 = c.index-newest.ensures ∙ get_or_default known.newest.items (id / 16) _ 0 block in
+    let same : c.as_slice.result.now ≡ notes = first_of (cc, search (rules)) in
+    let lacks : c.note_of.result ≡ None = first_of (cc, search (rules)) in
+    let found : None ≡ note_of notes id c.index-newest.result.now = sym lacks ∙ (c.note_of.ensures.found ∙ ap (λ (them : List Note). note_of them id c.index-newest.result.now) same) in
+    sym (noted notes known.newest.items known.count c.args.self.now id c.index-newest.result.now None (sym c.self.view_is) c.requires place found)
 
 pub returns-clause-yes : goal.returns-clause-yes
 returns-clause-yes c =
-    let notes = c.self.inside.notes.items in
-    let places = c.self.inside.places.items in
-    let view : c.args.self.now ≡ ends_from notes 0 places = search rules in
-    let here = has_place notes places c.args.self.now c.args.id.0 view c.requires in
-    let place : c.index-place.result.now ≡ get_or places c.args.id.0 0 = c.index-place.ensures ∙ get_or_default places c.args.id.0 _ 0 here in
-    let before : note_before notes c.index-place.result.now ≡ Some c.in-Some.note = search rules in
-    let own : c.in-Some.note.id ≡ c.args.id.0 = c.if-note-id.false in
-    put_now notes places c.args.self.now c.args.id.0 c.index-place.result.now c.in-Some.note c.args.end view c.requires place before own
+    let known = c.self.inside in
+    let notes = known.notes.items in
+    let id = c.args.id.0 in
+    let old = c.index_mut.result.now in
+    let note : Note = record { id = old.id; before = old.before; end = c.args.end } in
+    let block = block_within notes known.newest.items known.count c.args.self.now id c.self.invariant (sym c.self.view_is) c.requires in
+    let place : c.index-newest.result.now ≡ get_or known.newest.items (id / 16) 0 = c.index-newest.ensures ∙ get_or_default known.newest.items (id / 16) _ 0 block in
+    let same : c.as_slice.result.now ≡ notes = first_of (cc, search (rules)) in
+    let found : note_of notes id c.index-newest.result.now ≡ Some c.in-Some.at = sym (c.in-Some.ensures.found ∙ ap (λ (them : List Note). note_of them id c.index-newest.result.now) same) in
+    let is : old ≡ get_or notes c.in-Some.at old = c.index_mut.ensures.value in
+    let own : old.id ≡ id = ap (λ (n : Note). n.id) is ∙ (ap (λ (them : List Note). (get_or them c.in-Some.at old).id) (sym same) ∙ c.in-Some.ensures.own old) in
+    put_now notes old note known.newest.items known.count c.args.self.now id c.index-newest.result.now c.in-Some.at c.self.invariant (sym c.self.view_is) c.requires place found
+    (omega (arith, c.in-Some.ensures.within, ap (λ (them : List Note). length them) same)) is own refl refl
