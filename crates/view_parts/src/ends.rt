@@ -240,8 +240,8 @@ fn closing_len(classes: &[TokenClass]) -> Option<usize>
     None
 }
 
-/// How many items stand behind a `(` or `[` at a place of a part up to the bracket that closes it, where nothing but
-/// quiet tokens stands between them in its row.
+/// The bracket that closes a `(` or `[` at a place of a part, and how many items stand behind that up to it, where
+/// nothing but quiet tokens stands between them in its row.
 #[inline(always)]
 fn passed_group(
     opener: TokenClass,
@@ -249,13 +249,14 @@ fn passed_group(
     first: u32,
     place: u32,
     row: &Row,
-) -> Option<u32>
+) -> Option<(TokenClass, u32)>
     requires here { first + place < row.now.end }
     requires within { row.now.end + row.now.shift ≤ length all.now }
-    ensures within { ForSome result (λ len. first + place + len < row.now.end) }
-    ensures some { ForSome result (λ len. 0 < len) }
-    ensures closes { ForSome result (λ len. (d : TokenClass) → closes_group opener (get_or all.now (first + place + len + row.now.shift) d) ≡ true) }
-    ensures quiet { ForSome result (λ len. (k : ℕ) → (d : TokenClass) → first + place < k → k < first + place + len → is_quiet Group false (get_or all.now (k + row.now.shift) d) ≡ true) }
+    ensures within { ForSome result (λ group. first + place + group.1 < row.now.end) }
+    ensures some { ForSome result (λ group. 0 < group.1) }
+    ensures closer { ForSome result (λ group. (d : TokenClass) → group.0 ≡ get_or all.now (first + place + group.1 + row.now.shift) d) }
+    ensures closes { ForSome result (λ group. closes_group opener group.0 ≡ true) }
+    ensures quiet { ForSome result (λ group. (k : ℕ) → (d : TokenClass) → first + place < k → k < first + place + group.1 → is_quiet Group false (get_or all.now (k + row.now.shift) d) ≡ true) }
 {
     if !opener.is_opener() {
         return None;
@@ -266,7 +267,7 @@ fn passed_group(
         return None;
     }
     let closer = all[end as usize + row.shift as usize];
-    closes_group(opener, closer).then_some(quiet + 1)
+    closes_group(opener, closer).then_some((closer, quiet + 1))
 }
 
 /// The head of the body that a `{` at a place of a part opens, and how many items stand behind that up to its `}`, if
@@ -368,14 +369,11 @@ pub fn part_end<'k>(
                 return Ok(PartEnd::told(first, ended, place, Some(inside)));
             }
             Outcome::Never => break,
+            Outcome::GoesOn if !class.is_bracket() => continue,
             Outcome::GoesOn => {}
         }
-        if !class.is_bracket() {
-            continue;
-        }
-        if let Some(len) = passed_group(class, all, first, place, &row) {
-            let closer = TokenId(id.0 + len);
-            walk.pass_group(place + 1 + len, closer, all[closer.0 as usize]);
+        if let Some((closer, len)) = passed_group(class, all, first, place, &row) {
+            walk.pass_group(place + 1 + len, TokenId(id.0 + len), closer);
             continue;
         }
         brackets.pass(&mut walk, place, None, id, class)?;

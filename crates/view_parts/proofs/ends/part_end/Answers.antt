@@ -19,7 +19,7 @@ use Rattle.view_parts.specs.Places.{Place, place_in, place_of}
 use Rattle.view_parts.specs.Parts.{end_of_part, heads_at, part_len, place_behind, EndsBehind, StandsBefore}
 use Rattle.view_parts.specs.Reading.{GoesOn}
 use Rattle.view_parts.specs.Walk.{end_in_body, ends_inside_or, heads_len, in_body, is_some, reading}
-use Rattle.view_parts.specs.Steps.{closes_group, ends_before_brace, is_quiet, read_so, Closes}
+use Rattle.view_parts.specs.Steps.{ends_before_brace, is_quiet, read_so, Closes}
 use Rattle.view_parts.proofs.BodyRows.{brace_of, read_body}
 use Rattle.view_parts.proofs.GroupsPassed.{read_group}
 use Rattle.view_parts.proofs.Heads.{heads_len-reverse, opened_brace, opened_none}
@@ -592,8 +592,8 @@ passed_body-requires-clause-within c =
     let whole : length all ≡ length c.args.arena.now.tokens = ap (λ (cs : List TokenClass). length cs) c.requires.all ∙ length-map c.args.arena.now.tokens (class_of c.args.arena.now.dialect) in
     omega (arith, stored, whole)
 
-pub loop-walk-smaller-then-not-is_bracket : goal.loop-walk-smaller-then-not-is_bracket
-loop-walk-smaller-then-not-is_bracket c =
+pub loop-walk-smaller-in-GoesOn : goal.loop-walk-smaller-in-GoesOn
+loop-walk-smaller-in-GoesOn c =
     let arena = c.args.arena.now in
     let view = c.args.view.now in
     let begins = place_in c.args.begins in
@@ -613,8 +613,8 @@ loop-walk-smaller-then-not-is_bracket c =
     let one = next_place arena (drop c.args.first view) walk after bodies waiting read _ _ item goes in
     omega (arith, one, c.pass_quiet-next.ensures.place, c.loop-walk-test.true)
 
-pub loop-walk-preserved-then-not-is_bracket : goal.loop-walk-preserved-then-not-is_bracket
-loop-walk-preserved-then-not-is_bracket c =
+pub loop-walk-preserved-in-GoesOn : goal.loop-walk-preserved-in-GoesOn
+loop-walk-preserved-in-GoesOn c =
     let arena = c.args.arena.now in
     let view = c.args.view.now in
     let begins = place_in c.args.begins in
@@ -683,15 +683,6 @@ passed_group-requires-clause-within c =
     let whole : length all ≡ length c.args.arena.now.tokens = ap (λ (cs : List TokenClass). length cs) c.requires.all ∙ length-map c.args.arena.now.tokens (class_of c.args.arena.now.dialect) in
     omega (arith, stored, whole)
 
-pub bounds-all-closer : goal.bounds-all-closer
-bounds-all-closer c =
-    let all = c.args.all.now in
-    let stored = row_stored c.args.view.now (c.args.first + c.loop-walk.walk.place) (length c.args.arena.now.tokens) c.pass_quiet-next.new.row c.requires.within c.pass_quiet-next.ensures.some c.pass_quiet-next.ensures.row in
-    let whole : length all ≡ length c.args.arena.now.tokens = ap (λ (cs : List TokenClass). length cs) c.requires.all ∙ length-map c.args.arena.now.tokens (class_of c.args.arena.now.dialect) in
-    let inside = c.passed_group.ensures.within _ c.in-Some-passed_group.is in
-    let item = c.pass_quiet-next.ensures.item _ c.in-Some.is in
-    omega (arith, stored, whole, item, inside)
-
 pub pass_group-requires : goal.pass_group-requires
 pass_group-requires c =
     let stored = row_stored c.args.view.now (c.args.first + c.loop-walk.walk.place) (length c.args.arena.now.tokens) c.pass_quiet-next.new.row c.requires.within c.pass_quiet-next.ensures.some c.pass_quiet-next.ensures.row in
@@ -727,14 +718,14 @@ loop-walk-preserved-in-Some-passed_group c =
     let items = row_items view c.args.first walk.place len id c.pass_quiet-next.new.row row at.shift inside in
     let last : c.args.first + walk.place + len + shift ≡ id + len = omega (arith, at.shift) in
     let opener = get_or c.args.all.now id If in
-    let closer = get_or c.args.all.now (id + len) If in
-    let closes : closes_group opener closer ≡ true = subst (λ n. closes_group opener (get_or c.args.all.now n If) ≡ true) last (group.closes _ told If) in
+    let closer = c.in-Some-passed_group.closer in
+    let there : closer ≡ get_or c.args.all.now (id + len) If = group.closer _ told If ∙ ap (λ n. get_or c.args.all.now n If) last in
     let quiet : (k : ℕ) → (d : TokenClass) → 0 < k → k < len → is_quiet around.Group false (get_or c.args.all.now (id + k) d) ≡ true =
     λ k d after_it before. subst (λ n. is_quiet around.Group false (get_or c.args.all.now n d) ≡ true) (omega (arith, at.shift)) (group.quiet _ told (c.args.first + walk.place + k) d (omega (arith, after_it)) (omega (arith, before))) in
     let later : c.pass_group.new.self.place ≡ walk.place + 1 + len = ap (λ (w : Walk). w.place) c.pass_group.ensures in
     record {
       read = read_group arena begins view c.args.first walk after c.pass_group.new.self bodies waiting c.loop-walk.brackets.braces read c.args.all.now id len opener closer If c.len-count.ensures.increase
-          (omega (arith, inside, row.inside)) items (omega (arith, inside, stored, at.shift)) c.requires.all item goes (group.some _ told) closes refl quiet c.pass_group.ensures was;
+          (omega (arith, inside, row.inside)) items (omega (arith, inside, stored, at.shift)) c.requires.all item goes (group.some _ told) (group.closes _ told) there quiet c.pass_group.ensures was;
       stands = here;
       row = row_later view _ (c.args.first + c.pass_group.new.self.place) c.pass_quiet-next.new.row (omega (arith, later)) row;
     }
