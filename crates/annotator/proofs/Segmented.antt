@@ -1,5 +1,5 @@
 -- The tokens of a view, made segment by segment.
-use Rattle.std.proofs.Common.{◌≡◌, ◌∙◌, ℕ, zero, suc, ◌==◌, ◌+◌, ◌-◌, ◌<◌, ◌≤◌, Bool, true, false, ◌&&◌, not, nat_lt, Some, List, [], ◌∷◌, ◌++◌, length, map, drop, get_or, append_assoc, length-append, refl, sym, ap, subst, arith, eq-eqb}
+use Rattle.std.proofs.Common.{◌≡◌, ◌∙◌, ℕ, zero, suc, ◌==◌, ◌+◌, ◌-◌, ◌<◌, ◌≤◌, Bool, true, false, ◌&&◌, ◌||◌, not, nat_lt, Some, List, [], ◌∷◌, ◌++◌, length, map, drop, get_or, append_assoc, length-append, refl, sym, ap, subst, arith, eq-eqb}
 use Rattle.std.specs.Prelude.{slice_get}
 use Rattle.std.proofs.lemmas.Option.{get_or_from_slice_get}
 use Rattle.std.proofs.Math.ListN.{drop_of_length-le}
@@ -98,7 +98,7 @@ longer : (toks after : List LineTok) (tok : LineTok) → after ≡ toks ++ tok �
 longer toks after tok made = ap (λ (xs : List LineTok). length xs) made ∙ length-append toks (tok ∷ [])
 
 abbrev no_mark : Mark
-no_mark = record { seen = no_token; trailing_list = false; around = outside }
+no_mark = record { seen = no_token; trailing_list = false; power = 0; around = outside }
 
 -- the token that is made of an item
 abbrev made_of : Contents → ℕ → Bool → List Mark → List LineTok → LineTok
@@ -128,17 +128,22 @@ told_on arena id apart marks toks after push d some =
     let here : get_or after (length after - 1) d ≡ tok = ap (λ n. get_or after n d) last ∙ (ap (λ (xs : List LineTok). get_or xs k d) made ∙ get_or-append_seam toks tok [] d) in
     ap (λ (t : LineTok). t.held) here ∙ ap (λ n. is_held (drop n marks)) (sym last)
 
-not_held : (marks : List Mark) (k : ℕ) (mark : Mark) → slice_get marks k ≡ Some mark → is_inner mark.seen.role ≡ false → is_hash mark.seen.class ≡ false → false ≡ is_held (drop k marks)
-not_held [] k mark is inner hash = cc
-not_held (m ∷ marks) zero mark is inner hash =
-    let same : m ≡ mark = cc in
-    subst (λ (x : Mark). false ≡ is_held (x ∷ marks)) (sym same) (rw (hash, inner) refl)
-not_held (m ∷ marks) (suc k) mark is inner hash = not_held marks k mark is inner hash
+or_false : (b : Bool) → b ≡ (b || false)
+or_false true = refl
+or_false false = refl
 
--- a token that is no inner comment and no `#` is the next one
+-- the class alone tells it of a token that is no inner comment
+held_by_class : (marks : List Mark) (k : ℕ) (mark : Mark) → slice_get marks k ≡ Some mark → is_inner mark.seen.role ≡ false → is_hash mark.seen.class ≡ is_held (drop k marks)
+held_by_class [] k mark is inner = cc
+held_by_class (m ∷ marks) zero mark is inner =
+    let same : m ≡ mark = cc in
+    subst (λ (x : Mark). is_hash mark.seen.class ≡ is_held (x ∷ marks)) (sym same) (rw inner (or_false (is_hash mark.seen.class)))
+held_by_class (m ∷ marks) (suc k) mark is inner = held_by_class marks k mark is inner
+
+-- a token that is no inner comment is the next one
 pub plain_pushed : (arena : Contents) (id : ℕ) (apart : Bool) (marks : List Mark) (toks after : List LineTok) (mark : Mark) → slice_get marks (length toks) ≡ Some mark
-    → is_inner mark.seen.role ≡ false → is_hash mark.seen.class ≡ false → after ≡ toks ++ tok_of arena id apart mark false ∷ [] → IsPushed arena id apart marks toks after
-plain_pushed arena id apart marks toks after mark is inner hash made d =
+    → is_inner mark.seen.role ≡ false → after ≡ toks ++ tok_of arena id apart mark (is_hash mark.seen.class) ∷ [] → IsPushed arena id apart marks toks after
+plain_pushed arena id apart marks toks after mark is inner made d =
     made
-    ∙ (ap (λ (held : Bool). toks ++ tok_of arena id apart mark held ∷ []) (not_held marks (length toks) mark is inner hash)
+    ∙ (ap (λ (held : Bool). toks ++ tok_of arena id apart mark held ∷ []) (held_by_class marks (length toks) mark is inner)
     ∙ ap (λ (m : Mark). toks ++ tok_of arena id apart m (is_held (drop (length toks) marks)) ∷ []) (sym (get_or_from_slice_get marks (length toks) mark d is)))
