@@ -1,9 +1,9 @@
 -- The tokens of a view, made segment by segment.
-use Rattle.std.proofs.Common.{◌≡◌, ◌∙◌, ℕ, zero, suc, ◌==◌, ◌+◌, ◌-◌, ◌<◌, ◌≤◌, Bool, true, false, ◌&&◌, ◌||◌, not, nat_lt, Some, List, [], ◌∷◌, ◌++◌, length, map, drop, get_or, append_assoc, length-append, refl, sym, ap, subst, arith, eq-eqb}
+use Rattle.std.proofs.Common.{◌≡◌, ◌∙◌, ℕ, zero, suc, ◌==◌, ◌+◌, ◌-◌, ◌<◌, ◌≤◌, Bool, true, false, ◌&&◌, ◌||◌, not, nat_lt, Some, List, [], ◌∷◌, ◌++◌, length, map, drop, get_or, set, append_assoc, length-append, refl, sym, ap, subst, arith, eq-eqb}
 use Rattle.std.specs.Prelude.{slice_get}
 use Rattle.std.proofs.lemmas.Option.{get_or_from_slice_get}
 use Rattle.std.proofs.Math.ListN.{drop_of_length-le}
-use Rattle.std.proofs.Math.Seq.{drop-cons, get_or-append_seam}
+use Rattle.std.proofs.Math.Seq.{drop-cons, get_or-append_seam, set-append_seam}
 use Rattle.token_arena.specs.declared.view.Segment.{Segment}
 use Rattle.token_arena.specs.Segments.{ids_of, segment_bounds, AreSegments, CountFrom, HasPlace, no_segment}
 use Rattle.token_arena.proofs.SegmentLemmas.{item_at_start, length_items}
@@ -12,6 +12,7 @@ use Rattle.line_tokens.specs.declared.LineTok.{LineTok}
 use Rattle.annotator.specs.declared.mark.Mark.{Mark}
 use Rattle.annotator.specs.Classes.{is_hash}
 use Rattle.annotator.specs.Held.{is_held, is_inner, TellsHeld}
+use Rattle.annotator.specs.Inside.{told}
 use Rattle.annotator.specs.Left.{no_token, outside}
 use Rattle.annotator.specs.Tokens.{tok_of, toks_from, IsPushed}
 use Rattle.token_classes.specs.Items.{stands_apart}
@@ -147,3 +148,13 @@ plain_pushed arena id apart marks toks after mark is inner made d =
     made
     ∙ (ap (λ (held : Bool). toks ++ tok_of arena id apart mark held ∷ []) (held_by_class marks (length toks) mark is inner)
     ∙ ap (λ (m : Mark). toks ++ tok_of arena id apart m (is_held (drop (length toks) marks)) ∷ []) (sym (get_or_from_slice_get marks (length toks) mark d is)))
+
+-- the last of the tokens is told what its line tells of its place
+pub told_last : (toks after : List LineTok) (bare was new : LineTok) (mark : Mark) (held : Bool) (place : ℕ) → place ≡ length toks → after ≡ toks ++ bare ∷ [] → was ≡ get_or after place was → new ≡ told was mark held
+    → set after place new ≡ toks ++ told bare mark held ∷ []
+told_last toks after bare was new mark held place at made is tells =
+    let here : was ≡ bare = is ∙ (ap (λ (xs : List LineTok). get_or xs place was) made ∙ (ap (λ (n : ℕ). get_or (toks ++ bare ∷ []) n was) at ∙ get_or-append_seam toks bare [] was)) in
+    ap (λ (xs : List LineTok). set xs place new) made
+    ∙ (ap (λ (n : ℕ). set (toks ++ bare ∷ []) n new) at
+    ∙ (set-append_seam toks bare [] new
+    ∙ ap (λ (t : LineTok). toks ++ t ∷ []) (tells ∙ ap (λ (t : LineTok). told t mark held) here)))
