@@ -72,7 +72,7 @@ pub fn statement_stop(tokens: &[CodeToken], end: usize, from: usize, assigned: b
     ensures open { OnTrue result.opens (is_open_brace (class_at tokens.now result.at) ≡ true) }
     ensures takes { OnFalse result.opens (from < end → from < result.at) }
 {
-    // So no token up to the end is asked for whether it is there.
+    // The compiler, told that the end stands within the tokens, leaves the checks of bounds out of the loop.
     let count = tokens.len();
     prove!(end <= count);
     let mut i = from;
