@@ -250,8 +250,8 @@ fn step_beside(style: &Style, state: &NodeState, gap: &Gap, rules: &GapRules) ->
     }
 }
 
-/// The state with one token more, as `step_in` tells it, where the choice is admissible and the tables were asked of the
-/// gap before.
+/// The state with one token more, as `step_in` tells it, where the choice is admissible and the tables were asked of
+/// the gap before.
 ///
 /// # Errors
 ///

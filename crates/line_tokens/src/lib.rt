@@ -44,6 +44,8 @@ pub struct LineTok {
     pub role: Role,
     /// How tightly a binary operator binds, 0 for every other token.
     pub power: u8,
+    /// The kind of its item.
+    pub kind: ItemKind,
     /// How many round brackets, square brackets and braced lists of its line are open before it.
     pub depth: u32,
     /// The gap before it belongs to a braced list whose last token is a comma.
@@ -56,8 +58,6 @@ pub struct LineTok {
     pub directive: bool,
     /// The gap before it.
     pub gap: GapFacts,
-    /// The kind of its item.
-    pub kind: ItemKind,
     /// How many physical lines it has, from 1.
     pub rows: u32,
     /// The width of its first row, in columns.
