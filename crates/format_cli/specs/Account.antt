@@ -5,7 +5,7 @@ use Rattle.std.specs.Io.KnownBytes.{Appends, Keeps}
 use Rattle.fmt_ports.specs.Causes.{AppendsPart, Rose}
 use Rattle.fmt_ports.specs.Files.{Held, KeepsAll}
 use Rattle.style_table.specs.declared.style.Style.{Style}
-use Rattle.style_table.specs.Dump.{dump_text}
+use Rattle.style_config.specs.Dump.{dump_text}
 use Rattle.command_words.specs.declared.pieces.Generate.{Generate}
 use Rattle.command_words.specs.declared.read.Words.{Words}
 use Rattle.command_words.specs.declared.fault.WordsFault.TheVariants as Fault

@@ -18,7 +18,8 @@ use command_refusals::{Refusal, status_of, style_in_force, tell};
 use command_words::{Words, WordsFault, read_words};
 use fmt_ports::{Failed, Files, Sink, Source};
 use std::alloc::Global;
-use style_table::{Style, dump};
+use style_config::dump;
+use style_table::Style;
 
 /// How a call ends that does all that its words ask for.
 #[derive(Clone, Copy)]

@@ -5,7 +5,7 @@ use Rattle.std.specs.List.{slice_split, onto_first, prefix_len, suffix_len}
 use Rattle.style_table.specs.declared.style.Style.{Style}
 use Rattle.style_table.specs.declared.key.Key.{Key}
 use Rattle.style_table.specs.Keys.{keys, shown, label_of, is_first_inside, outer_of as outer_text_of}
-use Rattle.style_table.specs.Dump.{dump_text}
+use Rattle.style_config.specs.Dump.{dump_text}
 use Rattle.style_table.specs.Range.{IsInRange}
 use Rattle.style_config.specs.declared.entry.Outer.{Outer}
 use Rattle.style_config.specs.declared.entry.Outer.TheVariants.{BraceWrapping, AlignTrailingComments}

@@ -3,7 +3,7 @@ use Rattle.std.proofs.Common.{◌≡◌, ◌+◌, ℕ, Bool, true, false, not, �
 use Rattle.style_table.specs.declared.style.Style.{Style}
 use Rattle.style_table.specs.declared.key.Key.{Key}
 use Rattle.style_table.specs.Keys.{keys, shown, with_value, label_of, is_first_inside, outer_of as outer_text_of}
-use Rattle.style_table.specs.Dump.{dump_text}
+use Rattle.style_config.specs.Dump.{dump_text}
 use Rattle.style_table.specs.Range.{IsInRange}
 use Rattle.style_table.proofs.ReadBack.{copied, copied-all, with_value-shown}
 use Rattle.style_config.specs.declared.entry.Outer.{Outer}

@@ -6,7 +6,7 @@ use Rattle.bstr.specs.Text.{lines_of, without_terminator}
 use Rattle.style_table.specs.declared.style.Style.{Style}
 use Rattle.style_table.specs.declared.key.Key.{Key}
 use Rattle.style_table.specs.Keys.{keys, shown, label_of, is_first_inside, outer_of as outer_text_of}
-use Rattle.style_table.specs.Dump.{heading_of, indent_of, entry_text, entries_text, dump_text}
+use Rattle.style_config.specs.Dump.{heading_of, indent_of, entry_text, entries_text, dump_text}
 use Rattle.style_table.specs.Range.{IsInRange}
 use Rattle.style_config.specs.declared.entry.Outer.{Outer}
 use Rattle.style_config.specs.declared.entry.Outer.TheVariants.{BraceWrapping, AlignTrailingComments}

@@ -2,7 +2,7 @@
 use Rattle.std.proofs.Common.{◌≡◌, ℕ, true, false, List, [], ◌∷◌, Option, Some, None, refl, codes, bytes_eq}
 use Rattle.style_table.specs.declared.key.Key.{Key}
 use Rattle.style_table.specs.Keys.{label_of, is_first_inside, outer_of as outer_text_of}
-use Rattle.style_table.specs.Dump.{indent_of}
+use Rattle.style_config.specs.Dump.{indent_of}
 use Rattle.style_config.specs.declared.entry.Outer.{Outer}
 use Rattle.style_config.specs.declared.reading.Meaning.TheVariants.{Known}
 use Rattle.style_config.specs.Entries.{outer_of, outer_name}

@@ -1,3 +1,4 @@
+pub mod Dump
 pub mod Entries
 pub mod Lines
 pub mod Reading

@@ -1,9 +1,9 @@
-//! Configurations: what a text in the form of `.clang-format` makes of a style.
+//! Configurations: what a text in the form of `.clang-format` makes of a style, and a style as such a text.
 //!
 //! A text is cut into lines, and the lines into documents. A document that is for another language
 //! than C is passed over whole. The entries of the others change the base in their order, and the
 //! style that `BasedOnStyle` names comes first, wherever it stands. The first fault ends the
-//! reading. What the style table writes of a style is read back as that style.
+//! reading. What `dump` writes of a style is read back as that style.
 #![tactic(auto)]
 
 mod document;
@@ -15,10 +15,11 @@ mod reading;
 mod skipped;
 mod text;
 mod whole;
+mod writing;
 
 ghost use Rattle.std.specs.Prelude.{◌≡◌, ◌≤◌, IfOk, length};
 ghost use Rattle.style_table.specs.Range.{IsInRange};
-ghost use Rattle.style_table.specs.Dump.{dump_text};
+ghost use Rattle.style_config.specs.Dump.{dump_text};
 ghost use Rattle.style_table.specs.declared.style.Style.{Style};
 ghost use Rattle.style_config.specs.Reading.{IsReadBack, Reads};
 
@@ -26,6 +27,7 @@ pub use fault::ConfigFault;
 pub use skipped::{Skipped, SkippedKey};
 use std::alloc::Global;
 use style_table::Style;
+pub use writing::dump;
 
 /// The most bytes that a configuration may have.
 pub const LIMIT: usize = 1_048_576;

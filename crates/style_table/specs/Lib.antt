@@ -3,4 +3,3 @@ pub mod Words
 pub mod Keys
 pub mod Values
 pub mod Named
-pub mod Dump

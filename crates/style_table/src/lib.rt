@@ -9,7 +9,6 @@ mod named;
 mod style;
 mod value;
 mod words;
-mod writing;
 
 pub use key::{KEYS, Key};
 pub use style::{
@@ -21,4 +20,3 @@ pub use style::{
 };
 pub use value::{Value, ValueFault};
 pub use words::bool_from_word;
-pub use writing::dump;

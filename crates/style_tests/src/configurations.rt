@@ -7,8 +7,8 @@ use crate::fixtures::style;
 use fmt_ports::MemSink;
 use std::alloc::Global;
 use std::process::Abort;
-use style_config::{ConfigFault, LIMIT, SkippedKey, read};
-use style_table::{Style, UseTab, dump};
+use style_config::{ConfigFault, LIMIT, SkippedKey, dump, read};
+use style_table::{Style, UseTab};
 
 /// What is looked at of a style that was read, and the keys that were skipped, each behind its line.
 struct Seen {

@@ -4,15 +4,13 @@ ghost use Rattle.std.specs.Prelude.{◌≡◌, ◌≤◌, ◌+◌, ◌*◌, ◌+
 ghost use Rattle.std.specs.Io.KnownBytes.{Appends};
 ghost use Rattle.arrayvec.specs.ArrayString.{array_string_len};
 ghost use Rattle.fmt_ports.specs.Causes.{AppendsPart, Counts};
-ghost use Rattle.style_table.specs.Dump.{heading_of, indent_of, entry_text, entries_text, dump_text};
+ghost use Rattle.style_config.specs.Dump.{heading_of, indent_of, entry_text, entries_text, dump_text};
 ghost use Rattle.style_table.specs.Values.{text_of, IsShort};
 
-use crate::key::{KEYS, Key};
-use crate::style::Style;
-use crate::value::Value;
 use arrayvec::ArrayString;
 use fmt_ports::{Failed, Sink, write_all};
 use itoa::Buffer;
+use style_table::{KEYS, Key, Style, Value};
 
 /// Room for the text: each key has at most 128 bytes.
 const ROOM: usize = 6144;

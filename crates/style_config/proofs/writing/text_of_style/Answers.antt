@@ -1,7 +1,7 @@
 use Rattle.std.proofs.Common.{◌∙◌, ◌++◌, ℕ, List, ap, append_assoc, codes}
 use Rattle.style_table.specs.Keys.{keys}
-use Rattle.style_table.specs.Dump.{entries_text, dump_text}
-use Rattle.style_table.proofs.writing.text_of_style.Goals as goal
+use Rattle.style_config.specs.Dump.{entries_text, dump_text}
+use Rattle.style_config.proofs.writing.text_of_style.Goals as goal
 
 pub returns : goal.returns
 unfolding dump_text

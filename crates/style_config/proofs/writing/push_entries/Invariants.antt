@@ -1,7 +1,7 @@
 use Rattle.std.proofs.Common.{◌≡◌, ◌≤◌, ◌+◌, ◌*◌, ◌++◌, take}
 use Rattle.arrayvec.specs.ArrayString.{array_string_len}
-use Rattle.style_table.specs.Dump.{entries_text}
-use Rattle.style_table.proofs.writing.push_entries.Given as goal
+use Rattle.style_config.specs.Dump.{entries_text}
+use Rattle.style_config.proofs.writing.push_entries.Given as goal
 
 abbrev pub invariant-loop-key : goal.invariant-loop-key
 invariant-loop-key l =
