@@ -1,6 +1,6 @@
 -- The table of keys: how each is spelled, how its value is written, and how a value is read back.
 -- docs/PROFILE.md has the table under "Styles", in this order.
-use Rattle.std.specs.Prelude.{ℕ, Bool, true, false, ◌==◌, ◌&&◌, not, nat_le, Option, Result, Ok, Err, if◌then◌else◌, List, [], ◌∷◌, length, codes, bytes_eq, find, decimal}
+use Rattle.std.specs.Prelude.{ℕ, Bool, true, false, ◌&&◌, not, nat_le, Option, Result, Ok, Err, if◌then◌else◌, List, [], ◌∷◌, length, codes, bytes_eq, find, decimal}
 use Rattle.std.specs.List.{list_all}
 use Rattle.std.specs.Char.{is_digit}
 use Rattle.std.specs.Str.Parse.{digits_value}
@@ -121,10 +121,6 @@ abbrev pub is_first_inside : Key → Bool
 is_first_inside Key.BraceWrappingAfterCaseLabel = true
 is_first_inside Key.AlignTrailingCommentsKind = true
 is_first_inside _ = false
-
--- a key's own part has this many bytes
-abbrev pub has_length : ℕ → Key → Bool
-has_length len key = length (label_of key) == len
 
 -- a key is spelled so
 abbrev pub is_spelled : (outer label : List ℕ) → Key → Bool

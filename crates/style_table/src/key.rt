@@ -1,7 +1,7 @@
 //! The keys of a configuration.
 
 /// A key of a configuration, in the order in which a style is written.
-#[derive(Clone, Copy, Debug, PartialEq, Eq)]
+#[derive(Clone, Copy)]
 pub enum Key {
     /// `ColumnLimit`.
     ColumnLimit,
@@ -97,8 +97,8 @@ pub enum Key {
     PenaltyReturnTypeOnItsOwnLine,
 }
 
-ghost use Rattle.std.specs.Prelude.{◌≡◌, ◌≤◌, ◌<◌, length, filter, find};
-ghost use Rattle.style_table.specs.Keys.{outer_of, label_of, has_length, is_spelled, key_of, keys, is_first_inside};
+ghost use Rattle.std.specs.Prelude.{◌≡◌, ◌≤◌, length, find};
+ghost use Rattle.style_table.specs.Keys.{outer_of, label_of, is_spelled, key_of, is_first_inside};
 
 /// All keys, in the order in which a style is written.
 pub const KEYS: [Key; 46] = [
@@ -201,100 +201,6 @@ const SPELLINGS: &[(&str, &str)] = &[
     ("", "PenaltyReturnTypeOnItsOwnLine"),
 ];
 
-/// The keys whose own part has this many bytes, at most 16.
-fn short_keys(len: usize) -> &'static [Key]
-    requires { len ≤ 16 }
-    ensures { result.now ≡ filter (has_length len) keys }
-{
-    match len {
-        4 => &[Key::AlignTrailingCommentsKind],
-        6 => &[Key::UseTab],
-        8 => &[Key::TabWidth],
-        9 => &[Key::BraceWrappingAfterEnum],
-        10 => &[
-            Key::BraceWrappingAfterUnion,
-            Key::BraceWrappingBeforeElse,
-            Key::LineEnding,
-        ],
-        11 => &[
-            Key::ColumnLimit,
-            Key::IndentWidth,
-            Key::BraceWrappingAfterStruct,
-            Key::BraceWrappingBeforeWhile,
-        ],
-        13 => &[Key::BraceWrappingAfterFunction],
-        14 => &[Key::BraceWrappingAfterCaseLabel],
-        16 => &[
-            Key::BraceWrappingAfterExternBlock,
-            Key::PointerAlignment,
-            Key::BinPackArguments,
-            Key::IndentCaseLabels,
-            Key::IndentGotoLabels,
-        ],
-        _ => &[],
-    }
-}
-
-/// The keys whose own part has this many bytes, more than 16.
-fn long_keys(len: usize) -> &'static [Key]
-    requires { 16 < len }
-    ensures { result.now ≡ filter (has_length len) keys }
-{
-    match len {
-        17 => &[
-            Key::BreakBeforeBraces,
-            Key::SpaceBeforeParens,
-            Key::BinPackParameters,
-        ],
-        18 => &[Key::IndentPPDirectives, Key::InsertNewlineAtEOF],
-        19 => &[Key::MaxEmptyLinesToKeep],
-        20 => &[
-            Key::SpaceAfterCStyleCast,
-            Key::Cpp11BracedListStyle,
-            Key::AlignEscapedNewlines,
-        ],
-        21 => &[
-            Key::BraceWrappingAfterControlStatement,
-            Key::AlignAfterOpenBracket,
-        ],
-        22 => &[Key::PenaltyBreakAssignment, Key::PenaltyExcessCharacter],
-        23 => &[Key::ContinuationIndentWidth, Key::SkipMacroDefinitionBody],
-        26 => &[Key::BreakBeforeBinaryOperators],
-        27 => &[
-            Key::BreakBeforeTernaryOperators,
-            Key::PenaltyBreakOpenParenthesis,
-        ],
-        28 => &[
-            Key::AllowShortLoopsOnASingleLine,
-            Key::AllowShortEnumsOnASingleLine,
-            Key::SpacesBeforeTrailingComments,
-        ],
-        29 => &[
-            Key::AllowShortBlocksOnASingleLine,
-            Key::PenaltyReturnTypeOnItsOwnLine,
-        ],
-        32 => &[
-            Key::KeepEmptyLinesAtTheStartOfBlocks,
-            Key::AllowShortFunctionsOnASingleLine,
-        ],
-        33 => &[Key::AllowShortCaseLabelsOnASingleLine],
-        35 => &[Key::AllowShortIfStatementsOnASingleLine],
-        36 => &[Key::PenaltyBreakBeforeFirstCallParameter],
-        _ => &[],
-    }
-}
-
-/// The keys whose own part has this many bytes, in their order.
-fn keys_of_length(len: usize) -> &'static [Key]
-    ensures { result.now ≡ filter (has_length len) keys }
-{
-    if len <= 16 {
-        short_keys(len)
-    } else {
-        long_keys(len)
-    }
-}
-
 /// The first of the keys that is spelled so.
 fn find_in(keys: &[Key], outer: &[u8], label: &[u8]) -> Option<Key>
     ensures { result ≡ find (is_spelled outer.now label.now) keys.now }
@@ -312,7 +218,7 @@ impl Key {
     pub fn find(outer: &[u8], label: &[u8]) -> Option<Key>
         ensures { result ≡ key_of outer.now label.now }
     {
-        find_in(keys_of_length(label.len()), outer, label)
+        find_in(&KEYS, outer, label)
     }
 
     /// Whether it is spelled so.

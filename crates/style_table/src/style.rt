@@ -4,7 +4,7 @@
 ///
 /// The numbers of a style are in their keys' ranges where `IsInRange` holds of it, and the calls that
 /// rely on that ask for it.
-#[derive(Clone, Copy, Debug, PartialEq)]
+#[derive(Clone, Copy)]
 pub struct Style {
     /// The column that a row should not pass, 0 where there is none.
     pub column_limit: u32,
@@ -101,7 +101,7 @@ pub struct Style {
 }
 
 /// Where tabs indent.
-#[derive(Clone, Copy, Debug, PartialEq, Eq)]
+#[derive(Clone, Copy)]
 pub enum UseTab {
     /// Nowhere.
     Never,
@@ -116,7 +116,7 @@ pub enum UseTab {
 }
 
 /// Which opening braces begin a line.
-#[derive(Clone, Copy, Debug, PartialEq, Eq)]
+#[derive(Clone, Copy)]
 pub enum BreakBeforeBraces {
     /// None.
     Attach,
@@ -135,7 +135,7 @@ pub enum BreakBeforeBraces {
 }
 
 /// Whether the brace of a control statement begins a line.
-#[derive(Clone, Copy, Debug, PartialEq, Eq)]
+#[derive(Clone, Copy)]
 pub enum BraceWrappingAfterControlStatement {
     /// It ends the statement's line.
     Never,
@@ -144,7 +144,7 @@ pub enum BraceWrappingAfterControlStatement {
 }
 
 /// On which side of a declarator's `*` blanks stand.
-#[derive(Clone, Copy, Debug, PartialEq, Eq)]
+#[derive(Clone, Copy)]
 pub enum PointerAlignment {
     /// Before it, as in `int *a`.
     Right,
@@ -155,7 +155,7 @@ pub enum PointerAlignment {
 }
 
 /// Before which opening parentheses a blank stands.
-#[derive(Clone, Copy, Debug, PartialEq, Eq)]
+#[derive(Clone, Copy)]
 pub enum SpaceBeforeParens {
     /// Those of control statements.
     ControlStatements,
@@ -166,7 +166,7 @@ pub enum SpaceBeforeParens {
 }
 
 /// Where further rows stand inside brackets.
-#[derive(Clone, Copy, Debug, PartialEq, Eq)]
+#[derive(Clone, Copy)]
 pub enum AlignAfterOpenBracket {
     /// Below what follows the bracket.
     Align,
@@ -177,7 +177,7 @@ pub enum AlignAfterOpenBracket {
 }
 
 /// Which binary operators begin a row rather than end one.
-#[derive(Clone, Copy, Debug, PartialEq, Eq)]
+#[derive(Clone, Copy)]
 pub enum BreakBeforeBinaryOperators {
     /// None.
     None,
@@ -188,7 +188,7 @@ pub enum BreakBeforeBinaryOperators {
 }
 
 /// Where directives inside conditionals are indented.
-#[derive(Clone, Copy, Debug, PartialEq, Eq)]
+#[derive(Clone, Copy)]
 pub enum IndentPPDirectives {
     /// Nowhere.
     None,
@@ -199,7 +199,7 @@ pub enum IndentPPDirectives {
 }
 
 /// Which functions stand on one line.
-#[derive(Clone, Copy, Debug, PartialEq, Eq)]
+#[derive(Clone, Copy)]
 pub enum AllowShortFunctionsOnASingleLine {
     /// All that are short enough.
     All,
@@ -214,7 +214,7 @@ pub enum AllowShortFunctionsOnASingleLine {
 }
 
 /// Which `if` statements stand on one line.
-#[derive(Clone, Copy, Debug, PartialEq, Eq)]
+#[derive(Clone, Copy)]
 pub enum AllowShortIfStatementsOnASingleLine {
     /// None.
     Never,
@@ -227,7 +227,7 @@ pub enum AllowShortIfStatementsOnASingleLine {
 }
 
 /// Which blocks of control statements stand on one line.
-#[derive(Clone, Copy, Debug, PartialEq, Eq)]
+#[derive(Clone, Copy)]
 pub enum AllowShortBlocksOnASingleLine {
     /// None.
     Never,
@@ -238,7 +238,7 @@ pub enum AllowShortBlocksOnASingleLine {
 }
 
 /// Where the backslashes that end the lines of a directive stand.
-#[derive(Clone, Copy, Debug, PartialEq, Eq)]
+#[derive(Clone, Copy)]
 pub enum AlignEscapedNewlines {
     /// In the last column.
     Right,
@@ -249,7 +249,7 @@ pub enum AlignEscapedNewlines {
 }
 
 /// Whether the trailing comments of rows that follow one another stand in one column.
-#[derive(Clone, Copy, Debug, PartialEq, Eq)]
+#[derive(Clone, Copy, PartialEq, Eq)]
 pub enum AlignTrailingCommentsKind {
     /// They do.
     Always,
@@ -258,7 +258,7 @@ pub enum AlignTrailingCommentsKind {
 }
 
 /// How lines end.
-#[derive(Clone, Copy, Debug, PartialEq, Eq)]
+#[derive(Clone, Copy)]
 pub enum LineEnding {
     /// As most lines of the input do, in `\n` where there are as many of both.
     DeriveLF,

@@ -274,7 +274,7 @@ fn reads_configurations(rt: HostRuntime) {
     }
 }
 
-/// What is dumped of a style is read back over a base.
+/// What is dumped of a style is read back over a base, so that the same is dumped of what was read.
 fn is_read_back(rt: &impl Abort, alloc: Global, name: &str, dumped: &Style, base: &str)
     requires { IsInRange dumped.now }
 {
@@ -283,7 +283,9 @@ fn is_read_back(rt: &impl Abort, alloc: Global, name: &str, dumped: &Style, base
     let text = sink.taken();
     assert!(rt; text.len() <= LIMIT);
     let (found, skipped) = read(alloc, text, style(rt, base)).expect(rt, name);
-    same(rt, name, (found, skipped.keys().len()), (*dumped, 0));
+    let mut again = MemSink::new(alloc, Vec::new(alloc));
+    same(rt, name, dump(&found, &mut again).is_ok(), true);
+    same(rt, name, (again.taken(), skipped.keys().len()), (text, 0));
 }
 
 /// A style, its use of tabs, and the base over which its dump is read.
