@@ -98,7 +98,7 @@ pub enum Key {
 }
 
 ghost use Rattle.std.specs.Prelude.{◌≡◌, ◌≤◌, length, find};
-ghost use Rattle.style_table.specs.Keys.{outer_of, label_of, is_spelled, key_of, is_first_inside};
+ghost use Rattle.style_table.specs.Keys.{spelling_of, outer_of, label_of, is_spelled, key_of, is_first_inside};
 
 /// All keys, in the order in which a style is written.
 pub const KEYS: [Key; 46] = [
@@ -228,12 +228,20 @@ impl Key {
         self.outer().as_bytes() == outer && self.label().as_bytes() == label
     }
 
+    /// The key that it stands under, empty where it stands under none, and its own part.
+    fn spelling(self) -> (&'static str, &'static str)
+        ensures text { (result.0.now, result.1.now) ≡ spelling_of self }
+        ensures short { (length result.0.now ≤ 40) × (length result.1.now ≤ 40) }
+    {
+        SPELLINGS[self as usize]
+    }
+
     /// The key that it stands under, empty where it stands under none.
     pub fn outer(self) -> &'static str
         ensures text { result.now ≡ outer_of self }
         ensures short { length result.now ≤ 40 }
     {
-        SPELLINGS[self as usize].0
+        self.spelling().0
     }
 
     /// How it is spelled, the key that it stands under aside.
@@ -241,7 +249,7 @@ impl Key {
         ensures text { result.now ≡ label_of self }
         ensures short { length result.now ≤ 40 }
     {
-        SPELLINGS[self as usize].1
+        self.spelling().1
     }
 
     /// Whether it is the first of the keys under its outer key.
