@@ -2,14 +2,11 @@
 use crate::write_back::WriteFault;
 use std::alloc::Global;
 use std::fs::{File, OpenFile, OpenOptions};
-use std::io::{self, ErrorKind, Write};
+use std::io::{self, ErrorKind};
 use std::os::unix::fs::OpenOptionsExt;
 use std::path::Path;
 use std::random::RandomSource;
 use std::rt::Files;
-
-// How many names are tried, before one that is free is given up.
-const TRIES: u32 = 16;
 
 // Only its owner may read or write it.
 const OWNER_ALONE: u32 = 0o600;
@@ -38,41 +35,31 @@ pub(crate) fn create_beside<R: Files + RandomSource>(
     alloc: Global,
     place: &str,
 ) -> Result<Option<Beside<R::File>>, WriteFault> {
-    let mut options = OpenOptions::new();
-    options
-        .read(true)
-        .write(true)
-        .create_new(true)
-        .mode(OWNER_ALONE);
-    for _try in 0..TRIES {
-        let name = name_beside(rt, alloc, place)?;
-        let error = match options.open(rt, name.as_str()) {
-            Ok(file) => return Ok(Some(Beside { file, name })),
-            Err(error) => error,
-        };
-        match error.kind() {
-            ErrorKind::AlreadyExists => {}
+    let name = name_beside(rt, alloc, place)?;
+    match create_for_owner(rt, name.as_str()) {
+        Ok(file) => Ok(Some(Beside { file, name })),
+        Err(error) => match error.kind() {
             ErrorKind::PermissionDenied
             | ErrorKind::ReadOnlyFilesystem
-            | ErrorKind::InvalidFilename => return Ok(None),
-            _ => return Err(WriteFault::Failed),
-        }
-    }
-    Err(WriteFault::Failed)
-}
-
-/// What a call that sees a file to the disk answered. One that has no disk is no fault.
-pub(crate) fn synced(answer: io::Result<()>) -> io::Result<()> {
-    match answer {
-        Err(error) if error.kind() == ErrorKind::InvalidInput => Ok(()),
-        answer => answer,
+            | ErrorKind::InvalidFilename => Ok(None),
+            _ => Err(WriteFault::Failed),
+        },
     }
 }
 
-/// Writes all the bytes to a new file, and sees them to the disk.
-pub(crate) fn fill<F: Write + OpenFile>(file: &mut F, bytes: &[u8]) -> io::Result<()> {
-    file.write_all(bytes)?;
-    synced(file.sync_all())
+// A new file to which only its owner has any right.
+fn create_for_owner<R: Files>(rt: &R, name: &str) -> io::Result<R::File> {
+    let mut options = OpenOptions::new();
+    options.write(true).create_new(true).mode(OWNER_ALONE);
+    options.open(rt, name)
+}
+
+/// Whether a file was seen to the disk. One that has no disk is no fault.
+pub(crate) fn sync(file: &impl OpenFile) -> bool {
+    match file.sync_all() {
+        Ok(()) => true,
+        Err(error) => error.kind() == ErrorKind::InvalidInput,
+    }
 }
 
 // The folder in which `place` stands.
@@ -83,10 +70,10 @@ fn folder_of(place: &str) -> &str {
     }
 }
 
-/// Sees the names in the folder of `place` to the disk, where that folder can be opened.
-pub(crate) fn sync_folder<R: Files>(rt: &R, place: &str) -> io::Result<()> {
+/// Whether the names in the folder of `place` were seen to the disk. A folder that can't be opened is no fault.
+pub(crate) fn sync_folder<R: Files>(rt: &R, place: &str) -> bool {
     match File::open(rt, folder_of(place)) {
-        Ok(folder) => synced(folder.sync_all()),
-        Err(_) => Ok(()),
+        Ok(folder) => sync(&folder),
+        Err(_) => true,
     }
 }

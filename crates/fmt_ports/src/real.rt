@@ -5,10 +5,10 @@ ghost use Rattle.std.specs.Io.KnownBytes.{ReadConsumes, WriteAppends};
 ghost use Rattle.std.specs.Io.{ReadsAtMost, WritesAtMost};
 
 use crate::{Failed, Sink, Source};
-use std::io::{self, ErrorKind, Read, Write};
+use std::io::{ErrorKind, Read, Write};
 
-// How often in a row an interrupted call is made again, before it is an error.
-const TRIES_AGAIN: u32 = 1000;
+// How often in a row a call is made that a signal interrupts, before it is an error.
+const TRIES: u32 = 1000;
 
 /// A reader, as standard input, as a source.
 #[derive(Drop)]
@@ -35,17 +35,18 @@ impl<R: Read> RealIn<R> {
 }
 
 // Reads, and again where a signal came between.
-fn read_again<R: Read>(inner: &mut R, buf: &mut [u8]) -> io::Result<usize>
+fn read_again<R: Read>(inner: &mut R, buf: &mut [u8]) -> Result<usize, Failed>
     ensures bound { ReadsAtMost result buf.new }
     ensures bytes { ReadConsumes (R.remaining inner.old) (R.remaining inner.new) result buf.new }
 {
-    for _turn in 0..TRIES_AGAIN {
+    for _turn in 0..TRIES {
         match inner.read(buf) {
+            Ok(count) => return Ok(count),
             Err(error) if error.kind() == ErrorKind::Interrupted => {}
-            other => return other,
+            Err(_) => return Err(Failed),
         }
     }
-    inner.read(buf)
+    Err(Failed)
 }
 
 impl<R: Read> Source for RealIn<R> {
@@ -56,7 +57,7 @@ impl<R: Read> Source for RealIn<R> {
     fn read(&mut self, buf: &mut [u8]) -> Result<usize, Failed> {
         match read_again(&mut self.inner, buf) {
             Ok(count) => Ok(count),
-            Err(_) => {
+            Err(Failed) => {
                 self.faults = self.faults.saturating_add(1);
                 Err(Failed)
             }
@@ -75,17 +76,18 @@ impl<W: Write> RealOut<W> {
 }
 
 // Writes, and again where a signal came between.
-fn write_again<W: Write>(inner: &mut W, bytes: &[u8]) -> io::Result<usize>
+fn write_again<W: Write>(inner: &mut W, bytes: &[u8]) -> Result<usize, Failed>
     ensures bound { WritesAtMost result bytes.now }
     ensures bytes { WriteAppends (W.contents inner.old) (W.contents inner.new) result bytes.now }
 {
-    for _turn in 0..TRIES_AGAIN {
+    for _turn in 0..TRIES {
         match inner.write(bytes) {
+            Ok(count) => return Ok(count),
             Err(error) if error.kind() == ErrorKind::Interrupted => {}
-            other => return other,
+            Err(_) => return Err(Failed),
         }
     }
-    inner.write(bytes)
+    Err(Failed)
 }
 
 impl<W: Write> Sink for RealOut<W> {

@@ -1,6 +1,5 @@
 // The file system. It tells no bytes, and counts each error that it answers.
-ghost use Rattle.std.specs.Prelude.{◌≡◌, ◌≤◌, IfOk, None, length};
-ghost use Rattle.fmt_ports.specs.Files.{Writes};
+ghost use Rattle.std.specs.Prelude.{◌≡◌, ◌≤◌, IfOk, IfSome, None, length};
 
 use crate::write_back::{WriteFault, write_back, write_new};
 use crate::{FileFault, Files, InFault, RealIn, read_all};
@@ -50,37 +49,32 @@ impl<R: std::rt::Files + RandomSource> RealFiles<R> {
     }
 }
 
-// Why a file isn't there to be read.
-fn fault_of(error: io::Error) -> FileFault {
-    match error.kind() {
-        ErrorKind::NotFound => FileFault::Missing,
-        _ => FileFault::Failed,
+// Opens a regular file to read it. Any other isn't opened, since that may wait for ever.
+fn open_regular<R: std::rt::Files>(rt: &R, name: &str) -> io::Result<R::File> {
+    if rt.metadata(name)?.is_file() {
+        File::open(rt, name)
+    } else {
+        Err(io::Error::from(ErrorKind::InvalidInput))
     }
 }
 
-// Reads a file whole. What is no regular file isn't opened, since that may wait for ever.
-fn read_file<R: std::rt::Files>(
+// Reads a file whole. None where there is no file of this name.
+fn find_file<R: std::rt::Files>(
     rt: &R,
     alloc: Global,
     name: &str,
     limit: u64,
-) -> Result<Vec<u8>, FileFault>
-    ensures { IfOk result (λ bytes. length bytes.items ≤ limit) }
+) -> Result<Option<Vec<u8>>, InFault>
+    ensures { IfOk result (λ found. IfSome found (λ bytes. length bytes.items ≤ limit)) }
 {
-    match rt.metadata(name) {
-        Ok(metadata) if metadata.is_file() => {}
-        Ok(_) => return Err(FileFault::Failed),
-        Err(error) => return Err(fault_of(error)),
-    }
-    let file = match File::open(rt, name) {
+    let file = match open_regular(rt, name) {
         Ok(file) => file,
-        Err(error) => return Err(fault_of(error)),
+        Err(error) if error.kind() == ErrorKind::NotFound => return Ok(None),
+        Err(_) => return Err(InFault::Failed),
     };
     match read_all(alloc, &mut RealIn::new(file), limit) {
-        Ok(bytes) => Ok(bytes),
-        Err(InFault::Failed) => Err(FileFault::Failed),
-        Err(InFault::TooLong) => Err(FileFault::TooLong),
-        Err(InFault::NoMemory) => Err(FileFault::NoMemory),
+        Ok(bytes) => Ok(Some(bytes)),
+        Err(fault) => Err(fault),
     }
 }
 
@@ -90,18 +84,11 @@ fn write_file<R: std::rt::Files + RandomSource>(
     alloc: Global,
     name: &str,
     bytes: &[u8],
-) -> Result<(), FileFault>
-    ensures { Writes None None name.now bytes.now result }
-{
-    let written = match rt.metadata(name) {
+) -> Result<(), WriteFault> {
+    match rt.metadata(name) {
         Ok(metadata) if metadata.is_file() => write_back(rt, alloc, name, bytes),
         Err(error) if error.kind() == ErrorKind::NotFound => write_new(rt, name, bytes),
         _ => Err(WriteFault::Failed),
-    };
-    match written {
-        Ok(()) => Ok(()),
-        Err(WriteFault::Failed) => Err(FileFault::Failed),
-        Err(WriteFault::NoMemory) => Err(FileFault::NoMemory),
     }
 }
 
@@ -113,33 +100,36 @@ impl<R: std::rt::Files + RandomSource> Files for RealFiles<R> {
     ghost misses = { λ s. s.misses };
 
     fn read(&mut self, name: &str, limit: u64) -> Result<Vec<u8>, FileFault> {
-        let read = read_file(&self.rt, self.alloc, name, limit);
-        match read {
-            Err(FileFault::Missing) => self.misses = self.misses.saturating_add(1),
-            Err(FileFault::Failed) => self.faults = self.faults.saturating_add(1),
-            _ => {}
+        match self.find(name, limit) {
+            Ok(Some(bytes)) => Ok(bytes),
+            Ok(None) => {
+                self.misses = self.misses.saturating_add(1);
+                Err(FileFault::Missing)
+            }
+            Err(fault) => Err(fault),
         }
-        read
     }
 
     fn find(&mut self, name: &str, limit: u64) -> Result<Option<Vec<u8>>, FileFault> {
-        match read_file(&self.rt, self.alloc, name, limit) {
-            Ok(bytes) => Ok(Some(bytes)),
-            Err(FileFault::Missing) => Ok(None),
-            Err(fault) => {
-                if fault == FileFault::Failed {
-                    self.faults = self.faults.saturating_add(1);
-                }
-                Err(fault)
+        match find_file(&self.rt, self.alloc, name, limit) {
+            Ok(found) => Ok(found),
+            Err(InFault::Failed) => {
+                self.faults = self.faults.saturating_add(1);
+                Err(FileFault::Failed)
             }
+            Err(InFault::TooLong) => Err(FileFault::TooLong),
+            Err(InFault::NoMemory) => Err(FileFault::NoMemory),
         }
     }
 
     fn write(&mut self, name: &str, bytes: &[u8]) -> Result<(), FileFault> {
-        let written = write_file(&self.rt, self.alloc, name, bytes);
-        if written == Err(FileFault::Failed) {
-            self.faults = self.faults.saturating_add(1);
+        match write_file(&self.rt, self.alloc, name, bytes) {
+            Ok(()) => Ok(()),
+            Err(WriteFault::Failed) => {
+                self.faults = self.faults.saturating_add(1);
+                Err(FileFault::Failed)
+            }
+            Err(WriteFault::NoMemory) => Err(FileFault::NoMemory),
         }
-        written
     }
 }

@@ -1,62 +1,29 @@
 // All the bytes of a source, and all bytes to a sink.
-ghost use Rattle.std.specs.Prelude.{◌≡◌, ◌<◌, ◌≤◌, ◌+◌, length, IfOk, vec_len};
+ghost use Rattle.std.specs.Prelude.{◌≡◌, ◌<◌, ◌≤◌, ◌+◌, length, IfOk};
 ghost use Rattle.std.specs.Io.KnownBytes.{Appends};
 ghost use Rattle.fmt_ports.specs.Causes.{AppendsPart, Counts};
 ghost use Rattle.fmt_ports.specs.Whole.{ConsumesAtMost, InCounts, TellsAll};
-ghost use Rattle.fmt_ports.specs.declared.whole.InFault.TheVariants as InFaults;
 
 use crate::{Failed, Sink, Source};
-use std::alloc::{AllocError, AllocFailed, Global};
-use thiserror::Error;
+use std::alloc::Global;
 
 /// Why the bytes of a source can't be had.
-#[derive(Clone, Copy, Debug, PartialEq, Eq, Error)]
+#[derive(Clone, Copy)]
 pub enum InFault {
     /// A read failed.
-    #[error("failed")]
     Failed,
     /// There are more bytes than the limit.
-    #[error("too long")]
     TooLong,
     /// There is not enough memory for the bytes.
-    #[error("out of memory")]
     NoMemory,
-}
-
-impl From<Failed> for InFault {
-    ghost from_gives = { λ _ fault. fault ≡ InFaults.Failed };
-
-    fn from(_: Failed) -> InFault {
-        InFault::Failed
-    }
-}
-
-impl From<AllocError> for InFault {
-    ghost from_gives = { λ _ fault. fault ≡ InFaults.NoMemory };
-
-    fn from(_: AllocError) -> InFault {
-        InFault::NoMemory
-    }
-}
-
-impl<T: Drop> From<AllocFailed<T>> for InFault {
-    ghost from_gives = { λ _ fault. fault ≡ InFaults.NoMemory };
-
-    fn from(_: AllocFailed<T>) -> InFault {
-        InFault::NoMemory
-    }
 }
 
 /// How many bytes `read_all` asks for at a time: as many as most sources have, since zeros are written to all of them
 /// before the first read.
 pub const BUFFER: usize = 20_480;
 
-// So many zeros.
-fn zeros(alloc: Global, len: usize) -> Result<Vec<u8>, AllocError>
-    ensures { IfOk result (λ zeros. vec_len zeros ≡ len) }
-{
-    vec![in alloc; 0u8; len]
-}
+// The room that is taken before the first read: most sources need no more.
+const FIRST_ROOM: usize = 131_072;
 
 // All bytes that are left, read through a buffer.
 fn read_through<S: Source>(
@@ -70,16 +37,22 @@ fn read_through<S: Source>(
     ensures taken { ConsumesAtMost (limit + length buffer.old) (S.left source.old) (S.left source.new) }
     ensures counts { InCounts (S.faults source.old) (S.faults source.new) result }
 {
-    let mut all = Vec::new(alloc);
+    let Ok(mut all) = Vec::with_capacity(alloc, FIRST_ROOM) else {
+        return Err(InFault::NoMemory);
+    };
     loop {
-        let count = source.read(buffer)?;
+        let Ok(count) = source.read(buffer) else {
+            return Err(InFault::Failed);
+        };
         if count == 0 {
             return Ok(all);
         }
         if count as u64 > limit - all.len() as u64 {
             return Err(InFault::TooLong);
         }
-        all.extend_from_slice(&buffer[..count])?;
+        if all.extend_from_slice(&buffer[..count]).is_err() {
+            return Err(InFault::NoMemory);
+        }
     }
 }
 
@@ -90,7 +63,9 @@ pub fn read_all<S: Source>(alloc: Global, source: &mut S, limit: u64) -> Result<
     ensures taken { ConsumesAtMost (limit + BUFFER) (S.left source.old) (S.left source.new) }
     ensures counts { InCounts (S.faults source.old) (S.faults source.new) result }
 {
-    let mut buffer = zeros(alloc, BUFFER)?;
+    let Ok(mut buffer) = vec![in alloc; 0u8; BUFFER] else {
+        return Err(InFault::NoMemory);
+    };
     read_through(alloc, source, buffer.as_mut_slice(), limit)
 }
 

@@ -1,15 +1,14 @@
 // Writing a file that may be there: a new file in its place, or the new bytes in the old file.
-use crate::beside::{Beside, create_beside, fill, sync_folder, synced};
+use crate::beside::{Beside, create_beside, sync, sync_folder};
 use std::alloc::{AllocError, Global};
 use std::fs::{File, Metadata, OpenFile, OpenOptions};
-use std::io::{self, ErrorKind, Read, Seek, SeekFrom, Write};
+use std::io::{ErrorKind, Read, Seek, SeekFrom, Write};
 use std::os::unix::fs::MetadataExt;
-use std::path::PathBuf;
 use std::random::RandomSource;
 use std::rt::Files;
 
 /// Why a file isn't written.
-#[derive(Clone, Copy, PartialEq, Eq)]
+#[derive(Clone, Copy)]
 pub(crate) enum WriteFault {
     /// A call on a file failed.
     Failed,
@@ -32,63 +31,79 @@ struct Old<F> {
 
 /// Writes a file that isn't there yet. Where that fails none is left.
 pub(crate) fn write_new<R: Files>(rt: &R, name: &str, bytes: &[u8]) -> Result<(), WriteFault> {
-    let Ok(mut file) = File::create_new(rt, name) else {
-        return Err(WriteFault::Failed);
-    };
-    if fill(&mut file, bytes).is_ok() && sync_folder(rt, name).is_ok() {
+    match File::create_new(rt, name) {
+        Ok(mut file) => fill_new(rt, name, &mut file, bytes),
+        Err(_) => Err(WriteFault::Failed),
+    }
+}
+
+// Writes all the bytes to a new file, and sees them and its name to the disk. Where that fails the file goes.
+fn fill_new<R: Files>(
+    rt: &R,
+    name: &str,
+    file: &mut R::File,
+    bytes: &[u8],
+) -> Result<(), WriteFault> {
+    if file.write_all(bytes).is_ok() && sync(file) && sync_folder(rt, name) {
         return Ok(());
     }
     let _ = rt.remove_file(name);
     Err(WriteFault::Failed)
 }
 
-/// Writes a file that is there.
+/// Writes a file that is there. Behind symbolic links it is the file to which they lead, if that can be told.
 pub(crate) fn write_back<R: Files + RandomSource>(
     rt: &R,
     alloc: Global,
     name: &str,
     bytes: &[u8],
 ) -> Result<(), WriteFault> {
-    let Ok(Old { file, metadata }) = open_old(rt, name) else {
+    let Some(mut old) = open_old(rt, name) else {
         return Err(WriteFault::Failed);
     };
-    match place_of(rt, alloc, name)? {
-        None => write_in_place(rt, alloc, name, file, bytes),
-        Some(place) => {
-            let place = place.as_str();
-            if can_be_replaced(&metadata) && replace(rt, alloc, place, &metadata, bytes)? {
-                return Ok(());
-            }
-            write_in_place(rt, alloc, place, file, bytes)
-        }
+    if is_no_link(rt, name) {
+        return write_at(rt, alloc, name, &mut old, bytes);
+    }
+    match rt.canonicalize(alloc, name) {
+        Ok(place) => write_at(rt, alloc, place.as_str(), &mut old, bytes),
+        Err(error) if error.kind() == ErrorKind::OutOfMemory => Err(WriteFault::NoMemory),
+        Err(_) => write_in_place(rt, alloc, name, &mut old.file, bytes),
     }
 }
 
 // Opens a file that may be read and written; nothing in it is changed by that.
-fn open_old<R: Files>(rt: &R, name: &str) -> io::Result<Old<R::File>> {
+fn open_old<R: Files>(rt: &R, name: &str) -> Option<Old<R::File>> {
     let mut options = OpenOptions::new();
     options.read(true).write(true);
-    let file = options.open(rt, name)?;
-    let metadata = file.metadata()?;
-    if !metadata.is_file() {
-        return Err(io::Error::from(ErrorKind::InvalidInput));
+    let Ok(file) = options.open(rt, name) else {
+        return None;
+    };
+    match file.metadata() {
+        Ok(metadata) if metadata.is_file() => Some(Old { file, metadata }),
+        _ => None,
     }
-    Ok(Old { file, metadata })
 }
 
-// Where the file of a name lies, past all symbolic links. None where the path there is no text or
-// is too long.
-fn place_of<R: Files>(rt: &R, alloc: Global, name: &str) -> Result<Option<PathBuf>, WriteFault> {
-    if let Ok(entry) = rt.symlink_metadata(name)
-        && !entry.is_symlink()
-    {
-        return Ok(Some(PathBuf::from_str(alloc, name)?));
+// Whether this is known to be no symbolic link.
+fn is_no_link<R: Files>(rt: &R, name: &str) -> bool {
+    match rt.symlink_metadata(name) {
+        Ok(entry) => !entry.is_symlink(),
+        Err(_) => false,
     }
-    match rt.canonicalize(alloc, name) {
-        Ok(place) => Ok(Some(place)),
-        Err(error) if error.kind() == ErrorKind::OutOfMemory => Err(WriteFault::NoMemory),
-        Err(_) => Ok(None),
+}
+
+// Writes a file that lies at this place: a new one there, or the bytes into the old one.
+fn write_at<R: Files + RandomSource>(
+    rt: &R,
+    alloc: Global,
+    place: &str,
+    old: &mut Old<R::File>,
+    bytes: &[u8],
+) -> Result<(), WriteFault> {
+    if can_be_replaced(&old.metadata) && replace(rt, alloc, place, &old.metadata, bytes)? {
+        return Ok(());
     }
+    write_in_place(rt, alloc, place, &mut old.file, bytes)
 }
 
 // Whether a new file can be all that this one is, as far as its metadata tell. An access list isn't
@@ -114,29 +129,40 @@ fn replace<R: Files + RandomSource>(
     };
     let made = fill_as(&mut file, old, bytes);
     if matches!(made, Ok(true)) && rt.rename(name.as_str(), place).is_ok() {
-        return match sync_folder(rt, place) {
-            Ok(()) => Ok(true),
-            Err(_) => Err(WriteFault::Failed),
+        return if sync_folder(rt, place) {
+            Ok(true)
+        } else {
+            Err(WriteFault::Failed)
         };
     }
     let _ = rt.remove_file(name.as_str());
     match made {
         Ok(_) => Ok(false),
-        Err(_) => Err(WriteFault::Failed),
+        Err(fault) => Err(fault),
     }
 }
 
 // Writes all the bytes to a new file, makes it what the old one is, and sees it to the disk. False
 // where it can't be that.
-fn fill_as<F: Write + OpenFile>(file: &mut F, old: &Metadata, bytes: &[u8]) -> io::Result<bool> {
-    file.write_all(bytes)?;
-    let _ = file.set_permissions(old.permissions());
-    let new = file.metadata()?;
-    if new.uid() != old.uid() || new.gid() != old.gid() || new.mode() != old.mode() {
-        return Ok(false);
+fn fill_as<F: Write + OpenFile>(
+    file: &mut F,
+    old: &Metadata,
+    bytes: &[u8],
+) -> Result<bool, WriteFault> {
+    if file.write_all(bytes).is_err() {
+        return Err(WriteFault::Failed);
     }
-    synced(file.sync_all())?;
-    Ok(true)
+    let _ = file.set_permissions(old.permissions());
+    match file.metadata() {
+        Ok(new) if !is_alike(&new, old) => Ok(false),
+        Ok(_) if sync(file) => Ok(true),
+        _ => Err(WriteFault::Failed),
+    }
+}
+
+// Whether a new file has the owner, the group and the rights of the old one.
+fn is_alike(new: &Metadata, old: &Metadata) -> bool {
+    new.uid() == old.uid() && new.gid() == old.gid() && new.mode() == old.mode()
 }
 
 // Writes the bytes into the old file. Its old bytes stand beside it until that is done, and where
@@ -145,20 +171,25 @@ fn write_in_place<R: Files + RandomSource>(
     rt: &R,
     alloc: Global,
     place: &str,
-    mut file: R::File,
+    file: &mut R::File,
     bytes: &[u8],
 ) -> Result<(), WriteFault> {
-    let old = bytes_of(alloc, &mut file)?;
+    let old = bytes_of(alloc, file)?;
     let copy = keep_copy(rt, alloc, place, &old)?;
-    let written = overwrite(&mut file, bytes).is_ok();
-    let is_whole = written || overwrite(&mut file, &old).is_ok();
-    if is_whole && let Some(copy) = copy {
-        let _ = rt.remove_file(copy.as_str());
+    if overwrite(file, bytes) {
+        remove_copy(rt, &copy);
+        return Ok(());
     }
-    if written {
-        Ok(())
-    } else {
-        Err(WriteFault::Failed)
+    if overwrite(file, &old) {
+        remove_copy(rt, &copy);
+    }
+    Err(WriteFault::Failed)
+}
+
+// Takes a copy away again, where one was made.
+fn remove_copy<R: Files>(rt: &R, copy: &Option<String>) {
+    if let Some(name) = copy {
+        let _ = rt.remove_file(name.as_str());
     }
 }
 
@@ -183,18 +214,15 @@ fn keep_copy<R: Files + RandomSource>(
     let Some(Beside { mut file, name }) = create_beside(rt, alloc, place)? else {
         return Ok(None);
     };
-    if fill(&mut file, bytes).is_ok() && sync_folder(rt, place).is_ok() {
-        return Ok(Some(name));
-    }
-    let _ = rt.remove_file(name.as_str());
-    Err(WriteFault::Failed)
+    fill_new(rt, name.as_str(), &mut file, bytes)?;
+    Ok(Some(name))
 }
 
-// Makes these bytes all that a file has. The file is cut last, so that the room of its old bytes
-// is there for the new ones, and for the old ones again.
-fn overwrite<F: Write + Seek + OpenFile>(file: &mut F, bytes: &[u8]) -> io::Result<()> {
-    file.seek(SeekFrom::Start(0))?;
-    file.write_all(bytes)?;
-    file.set_len(bytes.len() as u64)?;
-    synced(file.sync_all())
+// Makes these bytes all that a file has, and tells whether that was done. The file is cut last, so that the room of its
+// old bytes is there for the new ones, and for the old ones again.
+fn overwrite<F: Write + Seek + OpenFile>(file: &mut F, bytes: &[u8]) -> bool {
+    file.seek(SeekFrom::Start(0)).is_ok()
+        && file.write_all(bytes).is_ok()
+        && file.set_len(bytes.len() as u64).is_ok()
+        && sync(file)
 }

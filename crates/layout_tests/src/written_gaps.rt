@@ -33,7 +33,8 @@ fn written(
 ) -> Vec<u8> {
     let style = tabbed(rt, use_tab);
     let mut sink = TextSink::with_room(alloc, 0).expect(rt, "a sink");
-    write_gap(&style, crlf, decision, OLD, &mut sink).expect(rt, "a write");
+    let written = write_gap(&style, crlf, decision, OLD, &mut sink);
+    written.ok().expect(rt, "a write");
     sink.into_text()
 }
 
