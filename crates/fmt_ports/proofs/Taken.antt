@@ -1,30 +1,11 @@
--- What a source that tells its bytes gave, and a part of a list that is copied.
-use Rattle.std.proofs.Common.{◌≡◌, ℕ, ◌+◌, ◌<◌, ◌≤◌, min, List, [], ◌++◌, length, take, drop, refl, arith, add-zero}
+-- What a source that tells its bytes gave, and what a sink took of some bytes.
+use Rattle.std.proofs.Common.{◌≡◌, ℕ, ◌+◌, ◌≤◌, List, ◌++◌, Result, Ok, Err, OnOk, IfOk, length, take, drop, sym, subst, arith}
 use Rattle.std.specs.declared.option.Option.{Option}
-use Rattle.std.proofs.lemmas.List.{length-append, length-drop, nil_from_length, take-append-le, take-append-drop, take_all, drop-drop, length-take-le, length-take}
-use Rattle.std.specs.Io.KnownBytes.{Consumes}
+use Rattle.std.proofs.lemmas.List.{length-append, length-take, take-append-drop, take_all}
+use Rattle.std.specs.Io.KnownBytes.{Appends, Consumes}
 use Rattle.std.proofs.KnownBytes.{Consumes-trans}
+use Rattle.fmt_ports.specs.Causes.{AppendsPart}
 use Rattle.fmt_ports.specs.Whole.{ConsumesAtMost}
-
--- what is left of a list is the front that was copied, and the rest
-pub read_copied : (xs buf new : List ℕ) (at n : ℕ) → n ≤ length (drop at xs) → new ≡ take n (drop at xs)
-    → drop at xs ≡ take n (new ++ drop n buf) ++ drop (at + n) xs
-read_copied xs buf new at n short is =
-    let len : length (take n (drop at xs)) ≡ n = length-take-le n (drop at xs) short in
-    let fits : n ≤ length (take n (drop at xs)) = omega arith in
-    let all : take n (take n (drop at xs)) ≡ take n (drop at xs) = take_all n (take n (drop at xs)) (omega arith) in
-    rw (is, take-append-le n (take n (drop at xs)) (drop n buf) fits, all, ← drop-drop n at xs, take-append-drop n (drop at xs)) refl
-
--- nothing copied where there was room means that nothing was left
-pub copied_none : (xs buf new : List ℕ) (at n : ℕ) → n ≡ min (length (drop at xs)) (length buf) → new ≡ take n (drop at xs)
-    → n ≤ length buf
-    → n ≡ 0 → 0 < length (new ++ drop n buf) → drop (at + n) xs ≡ []
-copied_none xs buf new at n is copied within none room =
-    let len : length (new ++ drop n buf) ≡ length buf =
-    rw (copied, length-append, length-drop, length-take-le n (drop at xs) (omega (arith, is))) (omega (arith, is)) in
-    let empty : length (drop at xs) ≡ 0 = omega (arith, is, len) in
-    let nil : drop at xs ≡ [] = nil_from_length (drop at xs) empty in
-    rw (none, add-zero) nil
 
 -- all within a limit, and then one more buffer at most
 pub Consumes-buffer : (a b c : Option (List ℕ)) (all buffer : List ℕ) (n limit room : ℕ) → Consumes a b all → Consumes b c (take n buffer)
@@ -34,3 +15,13 @@ Consumes-buffer a b c all buffer n limit room before last within is = (
   rw (length-append all (take n buffer), length-take n buffer) (omega (arith, is, within)),
   Consumes-trans a b c all (take n buffer) before last,
 )
+
+-- all of the bytes were taken where that is said
+pub all_taken : {T E : Type 0} (a b : Option (List ℕ)) (n : ℕ) (bytes : List ℕ) (r : Result T E) → Appends a b (take n bytes) → OnOk r (n ≡ length bytes)
+    → IfOk r (λ _. Appends a b bytes)
+all_taken a b n bytes (Ok v) came all = subst (Appends a b) (take_all n bytes (omega (arith, all))) came
+all_taken a b n bytes (Err e) came all = tt
+
+-- and a front of them in any case
+pub front_taken : (a b : Option (List ℕ)) (n : ℕ) (bytes : List ℕ) → Appends a b (take n bytes) → AppendsPart a b bytes
+front_taken a b n bytes came = (take n bytes, drop n bytes, sym (take-append-drop n bytes), came)

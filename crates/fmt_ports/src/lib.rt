@@ -3,8 +3,7 @@
 //! Bytes come from a `Source` and go to a `Sink`. Each tells its bytes, where it knows them, and
 //! counts its faults: a call answers `Failed` only where the count rose, and every other answer
 //! leaves the count as it was. So a caller who keeps the count knows whether anything outside
-//! failed. The ends in memory tell all their bytes; those of the process pass on what the reader
-//! or writer inside tells.
+//! failed. The ends of the process pass on what the reader or writer inside tells.
 //!
 //! A [`Stream`] is a text that writes itself and needn't be in memory; [`write_in_pieces`] gives it
 //! to a sink, and [`is_same`] compares it with bytes.
@@ -12,10 +11,7 @@
 
 mod beside;
 mod files;
-mod memory;
-mod memory_files;
 mod name;
-mod plan;
 mod real;
 mod real_files;
 mod streams;
@@ -29,8 +25,6 @@ ghost use Rattle.std.specs.Io.KnownBytes.{ReadConsumes, WriteAppends};
 ghost use Rattle.fmt_ports.specs.Causes.{Counts};
 
 pub use files::{FileFault, Files};
-pub use memory::{MemSink, MemSource};
-pub use memory_files::MemFiles;
 pub use name::Name;
 pub use real::{RealIn, RealOut};
 pub use real_files::RealFiles;

@@ -1,5 +1,5 @@
 // All the bytes of a source, and all bytes to a sink.
-ghost use Rattle.std.specs.Prelude.{◌≡◌, ◌<◌, ◌≤◌, ◌+◌, length, IfOk};
+ghost use Rattle.std.specs.Prelude.{◌≡◌, ◌<◌, ◌≤◌, ◌+◌, length, take, IfOk, OnOk};
 ghost use Rattle.std.specs.Io.KnownBytes.{Appends};
 ghost use Rattle.fmt_ports.specs.Causes.{AppendsPart, Counts};
 ghost use Rattle.fmt_ports.specs.Whole.{ConsumesAtMost, InCounts, TellsAll};
@@ -69,6 +69,24 @@ pub fn read_all<S: Source>(alloc: Global, source: &mut S, limit: u64) -> Result<
     read_through(alloc, source, buffer.as_mut_slice(), limit)
 }
 
+/// Writes bytes until all are taken or a call fails, and answers how many were taken.
+#[inline(always)]
+pub(crate) fn write_most<K: Sink>(sink: &mut K, bytes: &[u8]) -> (usize, Result<(), Failed>)
+    ensures bound { result.0 ≤ length bytes.now }
+    ensures all { OnOk result.1 (result.0 ≡ length bytes.now) }
+    ensures bytes { Appends (K.taken sink.old) (K.taken sink.new) (take result.0 bytes.now) }
+    ensures counts { Counts (K.faults sink.old) (K.faults sink.new) result.1 }
+{
+    let mut at = 0;
+    while at < bytes.len() {
+        match sink.write(&bytes[at..]) {
+            Ok(count) => at += count,
+            Err(Failed) => return (at, Err(Failed)),
+        }
+    }
+    (at, Ok(()))
+}
+
 /// Appends all the bytes. After `Failed` a front part of them was appended. It takes no memory.
 #[inline(always)]
 pub fn write_all<K: Sink>(sink: &mut K, bytes: &[u8]) -> Result<(), Failed>
@@ -76,10 +94,6 @@ pub fn write_all<K: Sink>(sink: &mut K, bytes: &[u8]) -> Result<(), Failed>
     ensures part { AppendsPart (K.taken sink.old) (K.taken sink.new) bytes.now }
     ensures counts { Counts (K.faults sink.old) (K.faults sink.new) result }
 {
-    let mut at = 0;
-    while at < bytes.len() {
-        let count = sink.write(&bytes[at..])?;
-        at += count;
-    }
-    Ok(())
+    let (_, result) = write_most(sink, bytes);
+    result
 }

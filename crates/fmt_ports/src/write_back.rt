@@ -130,7 +130,7 @@ fn replace<R: Files + RandomSource>(
     let made = fill_as(&mut file, old, bytes);
     if matches!(made, Ok(true)) && rt.rename(name.as_str(), place).is_ok() {
         return if sync_folder(rt, place) {
-            Ok(true)
+            made
         } else {
             Err(WriteFault::Failed)
         };
@@ -138,7 +138,7 @@ fn replace<R: Files + RandomSource>(
     let _ = rt.remove_file(name.as_str());
     match made {
         Ok(_) => Ok(false),
-        Err(fault) => Err(fault),
+        failed => failed,
     }
 }
 

@@ -5,8 +5,8 @@ use crate::formatted_texts::{BRANCHES, DIRECTIVES, GAPS, ITEMS, JOINED, STATEMEN
 use crate::generated_inputs::GENERATED_INPUTS;
 use crate::trailing_comments::TRAILING_COMMENTS;
 use crate::whole_files::WHOLE_FILES;
-use fmt_ports::{MemFiles, MemSink, MemSource};
 use format_cli::format_command;
+use memory_ports::{MemFiles, MemSink, MemSource};
 use std::alloc::Global;
 use std::fmt::Debug;
 use std::process::Abort;

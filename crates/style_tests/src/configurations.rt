@@ -4,7 +4,7 @@ ghost use Rattle.style_table.specs.Range.{IsInRange};
 
 use crate::comparing::same;
 use crate::fixtures::style;
-use fmt_ports::MemSink;
+use memory_ports::MemSink;
 use std::alloc::Global;
 use std::process::Abort;
 use style_config::{ConfigFault, LIMIT, SkippedKey, dump, read};

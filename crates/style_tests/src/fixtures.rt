@@ -2,7 +2,7 @@
 
 ghost use Rattle.style_table.specs.Range.{IsInRange};
 
-use fmt_ports::MemSink;
+use memory_ports::MemSink;
 use std::alloc::Global;
 use std::process::Abort;
 use style_table::Style;

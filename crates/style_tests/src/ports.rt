@@ -5,9 +5,10 @@ ghost use Rattle.std.specs.Prelude.{◌++◌};
 use crate::comparing::same;
 use crate::fixtures::{one_call, sink};
 use fmt_ports::{
-    Failed, FileFault, Files, InFault, MemFiles, MemSource, Name, PIECE, RealFiles, RealIn,
-    RealOut, Sink, Stream, TextSink, bytes_of, is_same, read_all, write_all, write_in_pieces,
+    Failed, FileFault, Files, InFault, Name, PIECE, RealFiles, RealIn, RealOut, Sink, Stream,
+    TextSink, bytes_of, is_same, read_all, write_all, write_in_pieces,
 };
+use memory_ports::{MemFiles, MemSource};
 use std::alloc::Global;
 use std::os::unix::fs::PermissionsExt;
 use std::process::Abort;

@@ -1,12 +1,13 @@
 //! Small writes that are collected, and handed on in pieces.
 
-ghost use Rattle.std.specs.Prelude.{◌≡◌, ◌≤◌, ◌<◌, ℕ, List, [], Option, None, IfOk, OnOk, length, take};
+ghost use Rattle.std.specs.Prelude.{◌≡◌, ◌<◌, ℕ, List, [], Option, None, IfOk, OnOk, length};
 ghost use Rattle.std.specs.Io.{WritesAtMost};
 ghost use Rattle.std.specs.Io.KnownBytes.{Appends, Keeps, WriteAppends};
 ghost use Rattle.fmt_ports.specs.Causes.{AppendsPart, Counts};
 ghost use Rattle.fmt_ports.specs.Taken.{Grows, taken_by};
 
 use crate::streams::room::Room;
+use crate::whole::write_most;
 use crate::{Failed, Sink, Stream};
 use std::alloc::Global;
 use std::marker::{Brand, PhantomData};
@@ -16,23 +17,6 @@ use std::marker::{Brand, PhantomData};
 struct Pieces<'k, K> {
     out: &'k mut K,
     room: &'k mut Room,
-}
-
-/// Writes bytes until all are taken or a call fails, and answers how many were taken.
-fn hand_on<K: Sink>(out: &mut K, bytes: &[u8]) -> (usize, Result<(), Failed>)
-    ensures bound { result.0 ≤ length bytes.now }
-    ensures all { OnOk result.1 (result.0 ≡ length bytes.now) }
-    ensures bytes { Appends (K.taken out.old) (K.taken out.new) (take result.0 bytes.now) }
-    ensures counts { Counts (K.faults out.old) (K.faults out.new) result.1 }
-{
-    let mut at = 0;
-    while at < bytes.len() {
-        match out.write(&bytes[at..]) {
-            Ok(count) => at += count,
-            Err(Failed) => return (at, Err(Failed)),
-        }
-    }
-    (at, Ok(()))
 }
 
 impl<'k, K: Sink> Pieces<'k, K> {
@@ -52,7 +36,7 @@ impl<'k, K: Sink> Pieces<'k, K> {
         ensures grows { Grows (K.taken self.old.out.now) (K.taken self.new.out.now) }
         ensures counts { Counts (K.faults self.old.out.now) (K.faults self.new.out.now) result }
     {
-        let (count, result) = hand_on(self.out, self.room.held());
+        let (count, result) = write_most(self.out, self.room.held());
         self.room.remove(count);
         result
     }

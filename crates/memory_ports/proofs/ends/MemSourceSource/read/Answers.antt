@@ -1,7 +1,7 @@
 use Rattle.std.proofs.Common.{◌≡◌, ℕ, List, min, length, take, drop, arith}
 use Rattle.std.proofs.lemmas.List.{take_rest}
-use Rattle.fmt_ports.proofs.Taken.{read_copied, copied_none}
-use Rattle.fmt_ports.proofs.memory.MemSourceSource.read.Goals as goal
+use Rattle.memory_ports.proofs.Copied.{read_copied, copied_none}
+use Rattle.memory_ports.proofs.ends.MemSourceSource.read.Goals as goal
 
 pub returns-clause-bytes : goal.returns-clause-bytes
 returns-clause-bytes c =

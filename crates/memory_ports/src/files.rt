@@ -3,11 +3,11 @@ ghost use Rattle.std.specs.Prelude.{◌≡◌, ◌↔◌, Err, None, Some, OnErr
 ghost use Rattle.std.specs.Option.{option_map};
 ghost use Rattle.fmt_ports.specs.declared.files.FileFault.TheVariants.{Failed};
 ghost use Rattle.fmt_ports.specs.Files.{FileCounts, Finds, KeepsAll, KeepsOthers, Reads, Writes};
-ghost use Rattle.fmt_ports.specs.Memory.{IsToFail, after_call, calls_to_make};
-ghost use Rattle.fmt_ports.specs.MemoryFiles.{CopiesWithin, bytes_under, calls_of};
+ghost use Rattle.memory_ports.specs.Calls.{IsToFail, after_call, calls_to_make};
+ghost use Rattle.memory_ports.specs.Files.{CopiesWithin, bytes_under, calls_of};
 
 use crate::plan::Plan;
-use crate::{FileFault, Files};
+use fmt_ports::{FileFault, Files};
 use std::alloc::{AllocError, Global};
 use std::collections::BTreeMap;
 

@@ -1,7 +1,7 @@
 use Rattle.std.proofs.Common.{◌≡◌, ap, arith, option_map}
 use Rattle.std.specs.BTreeMap.{get_by_text}
 use Rattle.std.proofs.lemmas.Map.Text.{text_keys}
-use Rattle.fmt_ports.proofs.memory_files.MemFiles.put.Goals as goal
+use Rattle.memory_ports.proofs.files.MemFiles.put.Goals as goal
 
 pub returns-clause-others : goal.returns-clause-others
 returns-clause-others c = λ other differs.

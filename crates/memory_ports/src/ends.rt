@@ -3,10 +3,10 @@ ghost use Rattle.std.specs.Prelude.{◌≡◌, ◌≤◌, ◌<◌, ◌↔◌, []
 ghost use Rattle.std.specs.Io.{ReadsAtMost, WritesAtMost};
 ghost use Rattle.std.specs.Io.KnownBytes.{ReadConsumes, WriteAppends};
 ghost use Rattle.fmt_ports.specs.Causes.{Counts};
-ghost use Rattle.fmt_ports.specs.Memory.{IsToFail, SinkState, SourceState, after_call, calls_to_make};
+ghost use Rattle.memory_ports.specs.Calls.{IsToFail, SinkState, SourceState, after_call, calls_to_make};
 
 use crate::plan::Plan;
-use crate::{Failed, Sink, Source};
+use fmt_ports::{Failed, Sink, Source};
 use std::alloc::Global;
 use std::marker::Model;
 

@@ -7,8 +7,8 @@ use Rattle.std.specs.Option.{option_map}
 use Rattle.std.specs.BTreeMap.{get_by_text}
 use Rattle.fmt_ports.specs.declared.files.FileFault.{FileFault}
 use Rattle.fmt_ports.specs.declared.files.FileFault.TheVariants.{Missing, Failed, TooLong, NoMemory}
-use Rattle.fmt_ports.specs.declared.memory_files.MemFiles.{MemFiles}
-use Rattle.fmt_ports.specs.Memory.{Calls}
+use Rattle.memory_ports.specs.declared.files.MemFiles.{MemFiles}
+use Rattle.memory_ports.specs.Calls.{Calls}
 
 -- the bytes under a name
 abbrev pub bytes_under : MemFiles → List ℕ → Option (List ℕ)

@@ -1,6 +1,6 @@
 // Calls that fail by plan, for the ends in memory.
 ghost use Rattle.std.specs.Prelude.{◌≡◌, ◌↔◌, IsTrue};
-ghost use Rattle.fmt_ports.specs.Memory.{Calls, IsToFail, after_call, calls_to_make};
+ghost use Rattle.memory_ports.specs.Calls.{Calls, IsToFail, after_call, calls_to_make};
 
 use std::marker::Model;
 
