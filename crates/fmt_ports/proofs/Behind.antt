@@ -4,7 +4,7 @@ use Rattle.std.proofs.lemmas.List.{append_cancel_left, take_all}
 use lib.Seq.{take-append_seam}
 use Rattle.std.specs.declared.option.Option.{Option}
 use Rattle.std.specs.Io.KnownBytes.{Appends, Keeps, WriteAppends, append_known}
-use Rattle.std.proofs.KnownBytes.{Appends-nil, Appends-trans}
+use Rattle.std.proofs.KnownBytes.{Appends-trans}
 use Rattle.fmt_ports.specs.Causes.{AppendsPart}
 use Rattle.fmt_ports.specs.Taken.{Grows}
 
@@ -21,9 +21,6 @@ grown_by (Some x) None grows = cc
 grown_by (Some x) (Some y) grows =
     let front : take (length x) y ≡ x = cc in
     (drop (length x) y, sym (take-append-drop (length x) y) ∙ ap (λ l. l ++ drop (length x) y) front)
-
-pub grows_same : (a : Option (List ℕ)) → Grows a a
-grows_same a = grows_by a a [] (Appends-nil a)
 
 pub grows_on : (a b c : Option (List ℕ)) → Grows a b → Grows b c → Grows a c
 grows_on a b c first last =
@@ -52,18 +49,23 @@ part_behind (Some x) (Some y) old held bytes none grows part =
     let front : more ++ held ≡ part.0 = append_cancel_left x (more ++ held) part.0 same in
     (more, held ++ part.1, part.2 ∙ (ap (λ l. l ++ part.1) (sym front) ∙ append_assoc more held part.1), came)
 
--- a text was taken whole, and all that was held is handed on
-pub whole_behind : (a b c : Option (List ℕ)) (old held later bytes : List ℕ) → old ≡ [] → later ≡ [] → Appends (append_known a old) (append_known b held) bytes
-    → Keeps (append_known b held) (append_known c later) → Appends a c bytes
-whole_behind None b c old held later bytes none empty whole kept = tt
-whole_behind (Some x) None c old held later bytes none empty whole kept = absurd whole
-whole_behind (Some x) (Some y) None old held later bytes none empty whole kept = absurd kept
-whole_behind (Some x) (Some y) (Some z) old held later bytes none empty whole kept =
-    sym (append-nil z) ∙ (ap (λ l. z ++ l) (sym empty) ∙ (kept ∙ (whole ∙ ap (λ l. l ++ bytes) (ap (λ l. x ++ l) none ∙ append-nil x))))
-
 -- a part of a text that is told stays one where what is told is kept
 pub part_kept : (a b c : Option (List ℕ)) (bytes : List ℕ) → AppendsPart a b bytes → Keeps b c → AppendsPart a c bytes
 part_kept None b c bytes part kept = ([], bytes, refl, tt)
 part_kept (Some x) None c bytes part kept = absurd part.3
 part_kept (Some x) (Some y) None bytes part kept = absurd kept
 part_kept (Some x) (Some y) (Some z) bytes part kept = (part.0, part.1, part.2, kept ∙ part.3)
+
+-- a write behind a room from which all was handed on
+pub written_behind : {E : Type 0} (a b c : Option (List ℕ)) (old held later bytes : List ℕ) (r : Result ℕ E) → Keeps (append_known a old) (append_known b held)
+    → held ≡ [] → later ≡ held → WriteAppends b c r bytes → WriteAppends (append_known a old) (append_known c later) r bytes
+written_behind None b c old held later bytes (Ok n) kept none same written = tt
+written_behind None b c old held later bytes (Err e) kept none same written = tt
+written_behind (Some x) None c old held later bytes r kept none same written = absurd kept
+written_behind (Some x) (Some y) None old held later bytes (Ok n) kept none same written = absurd written
+written_behind (Some x) (Some y) None old held later bytes (Err e) kept none same written = absurd written
+written_behind (Some x) (Some y) (Some z) old held later bytes (Ok n) kept none same written =
+    ap (λ l. z ++ l) (same ∙ none)
+    ∙ (append-nil z ∙ (written ∙ ap (λ l. l ++ take n bytes) (sym (append-nil y) ∙ (ap (λ l. y ++ l) (sym none) ∙ kept))))
+written_behind (Some x) (Some y) (Some z) old held later bytes (Err e) kept none same written =
+    ap (λ l. z ++ l) (same ∙ none) ∙ (append-nil z ∙ (written ∙ (sym (append-nil y) ∙ (ap (λ l. y ++ l) (sym none) ∙ kept))))

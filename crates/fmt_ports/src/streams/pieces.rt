@@ -126,28 +126,7 @@ impl<K: Sink, B: Behind> Sink for PieceSink<'_, K, B> {
     }
 }
 
-/// Writes a text into pieces. The type names the sink behind them.
-fn write_behind<'k, T: Stream, K: Sink, B: Behind>(
-    text: &T,
-    pieces: Pieces<'k, K>,
-) -> (Pieces<'k, K>, Result<(), Failed>)
-    requires name { pieces.out.ghost_name ≡ B.name }
-    requires first { K.taken pieces.out.now ≡ B.first }
-    ensures same_sink { result.0.out.ghost_name ≡ pieces.entry.out.ghost_name }
-    ensures ok { OnOk result.1 (Appends (taken_by K.taken pieces.entry) (taken_by K.taken result.0) (T.bytes text.entry.now)) }
-    ensures part { AppendsPart (taken_by K.taken pieces.entry) (taken_by K.taken result.0) (T.bytes text.entry.now) }
-    ensures grows { Grows (K.taken pieces.entry.out.now) (K.taken result.0.out.now) }
-    ensures counts { Counts (K.faults pieces.entry.out.now) (K.faults result.0.out.now) result.1 }
-{
-    let mut sink = PieceSink::<K, B> {
-        pieces,
-        of: PhantomData,
-    };
-    let written = text.write(&mut sink);
-    (sink.into_pieces(), written)
-}
-
-/// Writes a text into pieces that hold nothing, and hands all of it on.
+/// Writes a text into pieces that hold nothing, and hands all of it on. The type names the sink behind them.
 fn write_through<'k, T: Stream, K: Sink, B: Behind>(
     text: &T,
     pieces: Pieces<'k, K>,
@@ -160,7 +139,12 @@ fn write_through<'k, T: Stream, K: Sink, B: Behind>(
     ensures part { AppendsPart (K.taken pieces.entry.out.now) (K.taken result.0.out.now) (T.bytes text.entry.now) }
     ensures counts { Counts (K.faults pieces.entry.out.now) (K.faults result.0.out.now) result.1 }
 {
-    let (mut pieces, written) = write_behind::<T, K, B>(text, pieces);
+    let mut sink = PieceSink::<K, B> {
+        pieces,
+        of: PhantomData,
+    };
+    let written = text.write(&mut sink);
+    let mut pieces = sink.into_pieces();
     let result = match written {
         Ok(()) => pieces.flush(),
         Err(Failed) => Err(Failed),
