@@ -1,5 +1,5 @@
 -- What the first byte of a text tells.
-use Rattle.std.proofs.Common.{◌≡◌, ◌==◌, ◌&&◌, ℕ, Bool, true, false, List, [], ◌∷◌, drop, nat_eq, refl, sym, ◌∙◌, ap, subst, inl, inr}
+use Rattle.std.proofs.Common.{◌≡◌, ◌==◌, ◌&&◌, ◌||◌, ℕ, Bool, true, false, List, [], ◌∷◌, drop, nat_eq, refl, sym, ◌∙◌, ap, subst, inl, inr}
 use Rattle.std.specs.Prelude.{Some, None, slice_get}
 use Rattle.std.specs.List.{starts_with}
 use Rattle.std.proofs.lemmas.Bool.{and_right, eq-eqb, ne_eqb, cases_Bool}
@@ -7,7 +7,8 @@ use Rattle.c_chars.specs.Characters.{bytes_of}
 use Rattle.c_chars.specs.declared.LogicalChar.{LogicalChar}
 use Rattle.c_grammar.specs.Touch.{starts}
 use Rattle.c_grammar.specs.Bytes.{IsFirst}
-use Rattle.c_lexer.specs.Run.{begins_long, may_be_long}
+use Rattle.c_grammar.specs.Grammar.{is_digit}
+use Rattle.c_lexer.specs.Run.{begins_long, begins_number, goes_on_long, head_len, may_be_long}
 
 pub first_there : (s : List LogicalChar) (c : LogicalChar) → slice_get s 0 ≡ Some c → IsFirst c.byte (bytes_of s)
 first_there [] c h = cc
@@ -53,3 +54,24 @@ stands_alone c s f n = ap may_be_long f.whole ∙ at f.rest
     at : (t : List ℕ) → may_be_long (c ∷ t) ≡ false
     at [] = refl
     at (e ∷ t) = rw n refl
+
+-- one behind which no second character of a punctuator stands
+pub no_second : (s : List ℕ) → starts goes_on_long (drop 1 s) ≡ false → may_be_long s ≡ false
+no_second [] n = refl
+no_second (c ∷ []) n = refl
+no_second (c ∷ e ∷ s) n = and_right (begins_long c) (goes_on_long e) n
+
+-- the head of a number
+pub head_point : (c : ℕ) (s : List ℕ) → IsFirst c s → c ≡ 46 → 2 ≡ head_len s
+unfolding is_digit
+head_point c s f e = sym (ap head_len f.whole ∙ ap (λ k. head_len (k ∷ f.rest)) e)
+
+pub head_digit : (c : ℕ) (s : List ℕ) → IsFirst c s → begins_number s ≡ true → (c ≡ 46 → ⊥) → 1 ≡ head_len s
+head_digit c s f number n =
+    let point = ne_eqb c 46 n in
+    let digit : is_digit c ≡ true = digit_of (is_digit c) (starts is_digit f.rest) (subst (λ b. (is_digit c || (b && starts is_digit f.rest)) ≡ true) point (sym (ap begins_number f.whole) ∙ number)) in
+    sym (ap head_len f.whole ∙ rw digit refl)
+  where
+    digit_of : (a b : Bool) → (a || (false && b)) ≡ true → a ≡ true
+    digit_of true b h = refl
+    digit_of false b h = h

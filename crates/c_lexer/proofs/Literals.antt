@@ -1,8 +1,8 @@
 -- Words before quotes, and literals with a prefix.
 use Rattle.std.proofs.Common.{◌≡◌, ◌==◌, ◌||◌, ◌&&◌, not, Bool, true, false, ◌⊎◌, ℕ, suc, ◌+◌, List, [], ◌∷◌, ◌++◌, length, drop, nat_eq, refl, sym, ◌∙◌, ap, subst, arith, inl, inr, append_assoc}
-use Rattle.std.specs.Prelude.{codes}
+use Rattle.std.specs.Prelude.{codes, IsFalse, MatchOption, None, Option, Some}
 use Rattle.std.specs.List.{list_any, list_all, starts_with}
-use Rattle.std.proofs.lemmas.Bool.{or_left, or_right, or_cases, and_parts, both_ways, eq-eqb, eqb-true}
+use Rattle.std.proofs.lemmas.Bool.{and_right, not-true, or_left, or_right, or_cases, and_parts, both_ways, cases_Bool, eq-eqb, eqb-true, ne_eqb}
 use Rattle.std.proofs.lemmas.List.{append-nil}
 use Rattle.c_chars.specs.Characters.{bytes_of}
 use Rattle.c_chars.specs.Coming.{Coming, behind}
@@ -19,11 +19,13 @@ use Rattle.c_grammar.proofs.Stops.{units_more}
 use Rattle.c_grammar.proofs.Singles.{is_word, word_single}
 use Rattle.c_grammar.specs.Bytes.{is_quote_mark}
 use Rattle.c_lexer.specs.Unit.{IsLongestHeld}
-use Rattle.c_lexer.specs.Quote.{closes_quote}
+use Rattle.c_lexer.specs.Cut.{IsCutOff}
+use Rattle.c_lexer.specs.Quote.{IsClosed, closes_quote}
 use Rattle.c_lexer.specs.Literal.{is_string_at, is_constant_at, is_literal, begins_literal}
 use Rattle.c_lexer.proofs.Prefixes.{is_constant, is_string, word_kinds, constant_there, string_there, char_goes, string_goes}
 use Rattle.c_lexer.proofs.Units.{onto, nothing, letter_is_word, word_some, word_alone}
-use Rattle.c_lexer.proofs.CutOffs.{left_bytes}
+use Rattle.c_lexer.proofs.CutOffs.{char_off, left_bytes, string_off}
+use Rattle.c_grammar.specs.declared.ItemKind.{ItemKind}
 
 -- a text begins with a prefix and one more
 pub quoted_front : (p : List ℕ) (q : ℕ) (s : List ℕ) → (starts_with nat_eq s p && starts_with nat_eq (drop (length p) s) (q ∷ [])) ≡ starts_with nat_eq s (p ++ q ∷ [])
@@ -147,6 +149,14 @@ quoted_yes x y p q h e =
 pub quoted_no : (s p : List ℕ) (q : ℕ) → starts_with nat_eq s p ≡ false → false ≡ starts_with nat_eq s (p ++ q ∷ [])
 quoted_no s p q h = subst (λ b. (b && starts_with nat_eq (drop (length p) s) (q ∷ [])) ≡ starts_with nat_eq s (p ++ q ∷ [])) h (quoted_front p q s)
 
+-- an apostrophe comes next
+pub apostrophe_next : (s : List ℕ) → starts_with nat_eq s (39 ∷ []) ≡ starts (λ c. c == 39) s
+apostrophe_next [] = refl
+apostrophe_next (c ∷ s) = elim (cases_Bool (c == 39)) [
+  | inl y ↦ let same = eq-eqb 39 c (sym (eqb-true c 39 y)) in rw (y, same) refl
+  | inr n ↦ let apart : (39 == c) ≡ false = ne_eqb 39 c (λ e. both_ways (c == 39) n (eq-eqb c 39 (sym e))) in rw (n, apart) refl
+]
+
 pub constant_yes : (x y : Coming) (a b : Bool) (n : ℕ) → a ≡ true → y ≡ behind x n → b ≡ starts (λ c. c == 39) (bytes_of y.chars) → not b ≡ (a && not (starts (λ c. c == 39) (drop n (bytes_of x.chars))))
 constant_yes x y a b n h e s =
     let same : b ≡ starts (λ c. c == 39) (drop n (bytes_of x.chars)) = s ∙ ap (λ z. starts (λ c. c == 39) z) (left_bytes x y n e) in
@@ -197,3 +207,43 @@ no_literal d s a b c e = four (is_literal d (codes "L") s) (is_literal d (codes 
   where
     four : (a b c e : Bool) → a ≡ false → b ≡ false → c ≡ false → e ≡ false → (a || (b || (c || (e || false)))) ≡ false
     four a b c e h i j k = rw (h, i, j, k) refl
+
+-- a string literal isn't a character constant
+one_quote : (p s : List ℕ) → starts_with nat_eq s (p ++ 34 ∷ []) ≡ true → starts_with nat_eq s (p ++ 39 ∷ []) ≡ false
+one_quote [] [] h = refl
+one_quote [] (c ∷ s) h = let e : 34 ≡ c = eqb-true 34 c (and_parts (34 == c) true h).0 in subst (λ k. starts_with nat_eq (k ∷ s) (39 ∷ []) ≡ false) e refl
+one_quote (a ∷ p) [] h = refl
+one_quote (a ∷ p) (c ∷ s) h = let parts = and_parts (a == c) (starts_with nat_eq s (p ++ 34 ∷ [])) h in let first = parts.0 in rw first (one_quote p s parts.1)
+
+-- the string literal with this prefix, where its quotation mark stands behind it
+pub string_cut_off : (x : Coming) (p : List ℕ) (o : Option (ItemKind × Coming)) → is_string_prefix p ≡ true → starts_with nat_eq (bytes_of x.chars) (p ++ 34 ∷ []) ≡ true →
+    MatchOption o (IsFalse (closes_quote 34 false (drop (length p + 1) (bytes_of x.chars)))) (λ r. IsClosed StringLit 34 (behind x (length p + 1)) r.1 r.0) →
+    MatchOption o (IsFalse (is_literal x.dialect p (bytes_of x.chars))) (λ r. IsCutOff x r.1 r.0)
+string_cut_off x p None prefix begins m =
+    let apart = one_quote p (bytes_of x.chars) begins in
+    let char = and_right (is_char_prefix x.dialect p) (is_constant_at p (bytes_of x.chars)) (rw apart refl) in
+    rw (begins, m) char
+string_cut_off x p (Some r) prefix begins m = subst (λ k. IsCutOff x r.1 k) (sym m.kind_is) (string_off x (behind x (length p + 1)) r.1 p prefix begins refl m.left_is m.closed)
+
+-- the character constant
+pub char_cut_off : (x : Coming) (p : List ℕ) (o : Option (ItemKind × Coming)) → is_char_prefix x.dialect p ≡ true → starts_with nat_eq (bytes_of x.chars) (p ++ 34 ∷ []) ≡ false →
+    (starts_with nat_eq (bytes_of x.chars) (p ++ 39 ∷ []) && not (starts (λ c. c == 39) (drop (length p + 1) (bytes_of x.chars)))) ≡ true →
+    MatchOption o (IsFalse (closes_quote 39 false (drop (length p + 1) (bytes_of x.chars)))) (λ r. IsClosed CharConst 39 (behind x (length p + 1)) r.1 r.0) →
+    MatchOption o (IsFalse (is_literal x.dialect p (bytes_of x.chars))) (λ r. IsCutOff x r.1 r.0)
+char_cut_off x p None prefix string begins m =
+    let parts = and_parts (starts_with nat_eq (bytes_of x.chars) (p ++ 39 ∷ [])) (not (starts (λ c. c == 39) (drop (length p + 1) (bytes_of x.chars)))) begins in
+    let first = parts.0 in let some = parts.1 in
+    rw (string, prefix, first, some, m) refl
+char_cut_off x p (Some r) prefix string begins m =
+    let parts = and_parts (starts_with nat_eq (bytes_of x.chars) (p ++ 39 ∷ [])) (not (starts (λ c. c == 39) (drop (length p + 1) (bytes_of x.chars)))) begins in
+    subst (λ k. IsCutOff x r.1 k) (sym m.kind_is) (char_off x (behind x (length p + 1)) r.1 p prefix parts.0 (not-true _ parts.1) refl m.left_is m.closed)
+
+-- neither
+pub no_literal_with : (d : Dialect) (p s : List ℕ) → starts_with nat_eq s (p ++ 34 ∷ []) ≡ false → (is_char_prefix d p && (starts_with nat_eq s (p ++ 39 ∷ []) && not (starts (λ c. c == 39) (drop (length p + 1) s)))) ≡ false → is_literal d p s ≡ false
+no_literal_with d p s string char = rw string (at (is_char_prefix d p) (starts_with nat_eq s (p ++ 39 ∷ [])) (not (starts (λ c. c == 39) (drop (length p + 1) s))) (closes_quote 39 false (drop (length p + 1) s)) char)
+  where
+    at : (a b c e : Bool) → (a && (b && c)) ≡ false → (a && (b && (c && e))) ≡ false
+    at false b c e h = refl
+    at true false c e h = refl
+    at true true false e h = refl
+    at true true true e h = cc

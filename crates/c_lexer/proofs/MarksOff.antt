@@ -1,19 +1,21 @@
 -- Punctuators and quotes, cut off a text of characters.
-use Rattle.std.proofs.Common.{◌≡◌, ◌==◌, ◌||◌, ◌&&◌, ◌<◌, Bool, true, false, ℕ, List, [], ◌∷◌, drop, nat_eq, refl, sym, ◌∙◌, subst, arith, inl, inr}
+use Rattle.std.proofs.Common.{◌≡◌, ◌==◌, ◌||◌, ◌&&◌, ◌<◌, Bool, true, false, ℕ, List, [], ◌∷◌, drop, nat_eq, refl, sym, ◌∙◌, ap, subst, arith, inl, inr}
 use Rattle.std.specs.List.{list_all, starts_with}
-use Rattle.std.proofs.lemmas.Bool.{or_parts, or_cases, and_parts, both_ways, cases_Bool, eqb-true, eq-eqb}
+use Rattle.std.proofs.lemmas.Bool.{or_parts, or_cases, both_ways, cases_Bool, eqb-true, eq-eqb}
 use Rattle.c_chars.specs.Characters.{bytes_of}
 use Rattle.c_chars.specs.Coming.{Coming, behind}
 use Rattle.c_chars.specs.declared.Dialect.{Dialect}
 use Rattle.c_chars.specs.declared.Dialect.TheVariants.{C11, C23}
 use Rattle.c_grammar.specs.Grammar.{Whole, is_digit, is_char_prefix, is_string_prefix}
 use Rattle.c_grammar.specs.Touch.{starts}
-use Rattle.c_grammar.specs.declared.ItemKind.TheVariants.{Punct}
+use Rattle.c_grammar.specs.declared.ItemKind.TheVariants.{CharConst, Punct, StrayQuote, StringLit}
 use Rattle.c_grammar.proofs.Firsts.{is_mark}
 use Rattle.c_grammar.proofs.Goes.{no_punct_front}
 use Rattle.c_lexer.specs.Run.{IsCut, long, first_front, begins_number}
 use Rattle.c_lexer.specs.Cut.{IsCutOff}
-use Rattle.c_grammar.specs.Bytes.{begins_punctuator, is_quote_mark}
+use Rattle.c_grammar.specs.Bytes.{begins_punctuator, is_quote_mark, IsFirst}
+use Rattle.c_lexer.specs.Quote.{closes_quote, quote_len}
+use Rattle.c_lexer.proofs.CutOffs.{char_off, stray_off, string_off, unclosed_off}
 use Rattle.c_lexer.proofs.Puncts.{punct_cut}
 
 abbrev is_some : List ℕ → Bool
@@ -69,32 +71,49 @@ pub no_digit : (s : List ℕ) → begins_number s ≡ false → starts is_digit 
 no_digit [] h = refl
 no_digit (c ∷ s) h = (or_parts (is_digit c) (c == 46 && starts is_digit s) h).0
 
-pub empty_char_prefix : (d : Dialect) → is_char_prefix d [] ≡ true
+empty_char_prefix : (d : Dialect) → is_char_prefix d [] ≡ true
 unfolding is_char_prefix
 empty_char_prefix C11 = refl
 empty_char_prefix C23 = refl
 
-pub empty_string_prefix : is_string_prefix [] ≡ true
+empty_string_prefix : is_string_prefix [] ≡ true
 unfolding is_string_prefix
 empty_string_prefix = refl
 
+-- the quote that a text begins with
+quote_first : (q : ℕ) (s : List ℕ) → IsFirst q s → starts_with nat_eq s (q ∷ []) ≡ true
+quote_first q s f = ap (λ z. starts_with nat_eq z (q ∷ [])) f.whole ∙ (let same = eq-eqb q q refl in rw same refl)
+
 -- behind one apostrophe no other stands
-pub one_apostrophe : (s : List ℕ) → starts_with nat_eq s (39 ∷ []) ≡ true → starts_with nat_eq s (39 ∷ 39 ∷ []) ≡ false → starts (λ c. c == 39) (drop 1 s) ≡ false
-one_apostrophe [] h n = refl
-one_apostrophe (c ∷ []) h n = refl
-one_apostrophe (c ∷ e ∷ s) h n = elim (cases_Bool (e == 39)) [
-  | inr f ↦ f
-  | inl y ↦
-      let first = (and_parts (39 == c) true h).0 in
-      let second = eq-eqb 39 e (sym (eqb-true e 39 y)) in
-      let both : starts_with nat_eq (c ∷ e ∷ s) (39 ∷ 39 ∷ []) ≡ true = rw (first, second) refl in
-      absurd (both_ways (starts_with nat_eq (c ∷ e ∷ s) (39 ∷ 39 ∷ [])) n both)
-]
+one_apostrophe : (s : List ℕ) → IsFirst 39 s → starts_with nat_eq s (39 ∷ 39 ∷ []) ≡ false → starts (λ c. c == 39) (drop 1 s) ≡ false
+one_apostrophe s f n = ap (λ z. starts (λ c. c == 39) (drop 1 z)) f.whole ∙ at f.rest (subst (λ z. starts_with nat_eq z (39 ∷ 39 ∷ []) ≡ false) f.whole n)
+  where
+    at : (t : List ℕ) → starts_with nat_eq (39 ∷ t) (39 ∷ 39 ∷ []) ≡ false → starts (λ c. c == 39) t ≡ false
+    at [] h = refl
+    at (e ∷ t) h = elim (cases_Bool (e == 39)) [
+      | inr n ↦ n
+      | inl y ↦ let second = eq-eqb 39 e (sym (eqb-true e 39 y)) in let both : starts_with nat_eq (39 ∷ e ∷ t) (39 ∷ 39 ∷ []) ≡ true = rw second refl in absurd (both_ways _ h both)
+    ]
+
+pub stray_there : (x y rest : Coming) (q : ℕ) → IsFirst q (bytes_of x.chars) → is_quote_mark q ≡ true → y ≡ behind x 1 → rest ≡ behind y (quote_len q false (bytes_of y.chars)) → closes_quote q false (bytes_of y.chars) ≡ false → IsCutOff x rest StrayQuote
+stray_there x y rest q first quote e r c = stray_off x y rest q quote (quote_first q (bytes_of x.chars) first) (unclosed_off x y q 1 e c) e r
+
+pub char_there : (x y rest : Coming) (q : ℕ) → IsFirst q (bytes_of x.chars) → q ≡ 39 → starts_with nat_eq (bytes_of x.chars) (39 ∷ 39 ∷ []) ≡ false → y ≡ behind x 1 → rest ≡ behind y (quote_len q false (bytes_of y.chars)) → closes_quote q false (bytes_of y.chars) ≡ true
+    → IsCutOff x rest CharConst
+char_there x y rest q first q_is single e r c =
+    let there = subst (λ k. IsFirst k (bytes_of x.chars)) q_is first in
+    char_off x y rest [] (empty_char_prefix x.dialect) (quote_first 39 (bytes_of x.chars) there) (one_apostrophe (bytes_of x.chars) there single) e
+    (subst (λ k. rest ≡ behind y (quote_len k false (bytes_of y.chars))) q_is r) (subst (λ k. closes_quote k false (bytes_of y.chars) ≡ true) q_is c)
 
 -- the other quote
-pub quotation_first : (s : List ℕ) → starts is_quote_mark s ≡ true → starts_with nat_eq s (39 ∷ []) ≡ false → starts_with nat_eq s (34 ∷ []) ≡ true
-quotation_first [] h n = cc
-quotation_first (c ∷ s) h n = elim (or_cases (39 == c) ((34 == c) || false) h) [
-  | inl y ↦ let both : starts_with nat_eq (c ∷ s) (39 ∷ []) ≡ true = rw y refl in absurd (both_ways (starts_with nat_eq (c ∷ s) (39 ∷ [])) n both)
-  | inr y ↦ elim (or_cases (34 == c) false y) [ inl z ↦ rw z refl | inr z ↦ cc ]
+quotation : (q : ℕ) → is_quote_mark q ≡ true → (q ≡ 39 → ⊥) → q ≡ 34
+quotation q h n = elim (or_cases (39 == q) ((34 == q) || false) h) [
+  | inl y ↦ absurd (n (sym (eqb-true 39 q y)))
+  | inr y ↦ elim (or_cases (34 == q) false y) [ inl z ↦ sym (eqb-true 34 q z) | inr z ↦ cc ]
 ]
+
+pub string_there : (x y rest : Coming) (q : ℕ) → IsFirst q (bytes_of x.chars) → is_quote_mark q ≡ true → (q ≡ 39 → ⊥) → y ≡ behind x 1 → rest ≡ behind y (quote_len q false (bytes_of y.chars)) → closes_quote q false (bytes_of y.chars) ≡ true → IsCutOff x rest StringLit
+string_there x y rest q first quote apart e r c =
+    let q_is = quotation q quote apart in
+    string_off x y rest [] empty_string_prefix (quote_first 34 (bytes_of x.chars) (subst (λ k. IsFirst k (bytes_of x.chars)) q_is first)) e
+    (subst (λ k. rest ≡ behind y (quote_len k false (bytes_of y.chars))) q_is r) (subst (λ k. closes_quote k false (bytes_of y.chars) ≡ true) q_is c)

@@ -1,6 +1,6 @@
 -- From the item that is cut off to the one that stands next.
 use Rattle.std.proofs.Common.{◌≡◌, true, ℕ, suc, zero, ◌≤◌, ◌<◌, List, [], ◌∷◌, length, take, drop, refl, ◌∙◌, ap, subst, arith, inl, inr}
-use Rattle.std.specs.Prelude.{Option, Some, None, MatchOption, Result, Ok, Err, MatchResult, IsTrue, IsFalse}
+use Rattle.std.specs.Prelude.{Option, Some, None, IfSome, MatchOption, Result, Ok, Err, MatchResult, IsTrue, IsFalse}
 use Rattle.std.proofs.lemmas.List.{take-append-drop}
 use Rattle.c_chars.specs.Characters.{bytes_of}
 use Rattle.c_chars.specs.Coming.{Coming, passed, behind}
@@ -45,6 +45,10 @@ next_of_cut place x left kind some nothing c =
       left_is = c.left_is ∙ w.same;
       next = inr (λ e b. nothing e (subst BeginsHeader (take-append-drop w.k (bytes_of x.chars)) b), longest);
     }
+
+pub next_of_some : (place : Place) (x : Coming) (o : Option (ItemKind × Coming)) → 0 < length x.chars → (place ≡ AfterInclude → BeginsHeader (bytes_of x.chars) → ⊥) → IfSome o (λ r. IsCutOff x r.1 r.0) → IfSome o (λ r. IsCutNext place x r.1 r.0)
+next_of_some place x None some nothing c = c
+next_of_some place x (Some r) some nothing c = next_of_cut place x r.1 r.0 some nothing c
 
 pub next_header : (x left : Coming) → 0 < length x.chars → begins_header (bytes_of x.chars) ≡ true → left ≡ behind x (header_len (bytes_of x.chars)) → IsCutNext AfterInclude x left HeaderName
 next_header x left some h e =

@@ -1,6 +1,6 @@
 -- Characters that are bytes of their text by themselves, and those of items.
 use Rattle.std.proofs.Common.{◌≡◌, ◌==◌, ◌&&◌, ◌∙◌, Bool, true, false, not, ℕ, zero, suc, ◌+◌, ◌-◌, ◌<◌, ◌≤◌, List, [], ◌∷◌, ◌++◌, length, take, drop, get_or, refl, sym, ap, subst, arith}
-use Rattle.std.specs.Prelude.{⊤, Some, None, Option, IfSome, slice_get, codes, if◌then◌else◌}
+use Rattle.std.specs.Prelude.{⊤, Some, slice_get, codes, if◌then◌else◌}
 use Rattle.std.specs.Int.{is_in_range}
 use Rattle.std.specs.List.{list_all}
 use Rattle.std.proofs.lemmas.Bool.{and_from, and_parts, not-true}
@@ -190,10 +190,6 @@ words_items x y r = record {
   chars_are = r.chars_are;
   at_is = r.at_is;
 }
-
-pub digits_items : (first : LogicalChar) (y : Coming) (o : Option Coming) → is_digit first.byte ≡ true → IfSome o (λ left. AreBytesPassed is_word_byte y left) → IfSome o (λ left. AreOwnBytes first y left)
-digits_items first y None digit h = h
-digits_items first y (Some left) digit h = record { first_is = digit_item first.byte digit; rest_are = words_items y left h }
 
 pub item_printable : (b : ℕ) → is_own_byte b ≡ true → is_in_range 0x20 0x7E b ≡ true
 unfolding is_own_byte

@@ -1,6 +1,6 @@
 -- Numbers of letters and digits, cut off where a plain byte behind them ends them.
 use Rattle.std.proofs.Common.{◌≡◌, ◌==◌, ◌||◌, ◌∙◌, ◌≤◌, true, false, ℕ, zero, suc, List, [], ◌∷◌, drop, length, take, refl, sym, ap, subst, arith}
-use Rattle.std.specs.Prelude.{IfSome, None, Option, Some, slice_get}
+use Rattle.std.specs.Prelude.{Some, slice_get}
 use Rattle.std.specs.List.{list_all}
 use Rattle.std.proofs.lemmas.Bool.{and_parts, and_right, or_left, or_parts, not-true}
 use Rattle.std.proofs.lemmas.Bool.Decides.{nat_tests}
@@ -14,7 +14,7 @@ use Rattle.c_grammar.proofs.WordBytes.{word_byte}
 use Rattle.c_grammar.specs.Grammar.{is_letter, is_digit, is_exponent, is_sign, is_number_unit}
 use Rattle.c_grammar.specs.Touch.{starts}
 use Rattle.c_grammar.specs.declared.ItemKind.TheVariants.{Number}
-use Rattle.c_grammar.specs.Bytes.{is_beyond, IsFirst}
+use Rattle.c_grammar.specs.Bytes.{is_beyond}
 use Rattle.c_lexer.specs.Class.{ends_number}
 use Rattle.c_lexer.specs.Cut.{IsCutOff}
 use Rattle.c_lexer.specs.Reading.{IsBegun}
@@ -92,13 +92,10 @@ number_ended x y d c same passed next ends =
     subst (λ e. IsRunOff (is_number_unit e) x y) (sym same)
     (units_passed x.dialect x.at passed.n x.chars y passed.within passed.all passed.new_is (first_is is_sign y.chars c next ∙ far.0) (subst (λ e. IsRunOff (is_number_unit e) y y) same done))
 
-digit_off : (x y left : Coming) (d : Dialect) (f : ℕ) → d ≡ x.dialect → IsFirst f (bytes_of x.chars) → is_digit f ≡ true → y ≡ behind x 1 → IsRunOff (is_number_unit d) y left → IsCutOff x left Number
-digit_off x y left d f same first digit y_is run =
-    let starts_digit : starts is_digit (bytes_of x.chars) ≡ true = starts_so is_digit f (bytes_of x.chars) true first digit in
+pub digits_off : (x y left : Coming) (d : Dialect) (c : LogicalChar) → d ≡ x.dialect → IsBegun x c y → is_digit c.byte ≡ true → IsRunOff (is_number_unit d) y left → IsCutOff x left Number
+digits_off x y left d c same begun digit run =
+    let first = begun_first x y c begun in
+    let starts_digit : starts is_digit (bytes_of x.chars) ≡ true = starts_so is_digit c.byte (bytes_of x.chars) true first digit in
     let number : begins_number (bytes_of x.chars) ≡ true = ap begins_number first.whole ∙ rw digit refl in
     let head : head_len (bytes_of x.chars) ≡ 1 = rw starts_digit refl in
-    number_off x y left d same number (y_is ∙ ap (λ k. behind x k) (sym head)) run
-
-pub digits_off : (x y : Coming) (d : Dialect) (c : LogicalChar) (o : Option Coming) → d ≡ x.dialect → IsBegun x c y → is_digit c.byte ≡ true → IfSome o (λ left. IsRunOff (is_number_unit d) y left) → IfSome o (λ left. IsCutOff x left Number)
-digits_off x y d c None same begun digit run = run
-digits_off x y d c (Some left) same begun digit run = digit_off x y left d c.byte same (begun_first x y c begun) digit (one_behind x y c begun) run
+    number_off x y left d same number (one_behind x y c begun ∙ ap (λ k. behind x k) (sym head)) run

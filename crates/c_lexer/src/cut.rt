@@ -32,7 +32,7 @@ pub(crate) enum Stop {
 }
 
 /// What stands behind the block comment that the text begins with; none where nothing ends it.
-pub(crate) fn cut_block<'s>(text: &Chars<'s>) -> Option<Chars<'s>>
+fn cut_block<'s>(text: &Chars<'s>) -> Option<Chars<'s>>
     requires { IsTrue (starts_with nat_eq (bytes_of text.now.chars) (47 ∷ 42 ∷ [])) }
     ensures { MatchOption result
         (IsLongest text.now.dialect Unended (bytes_of text.now.chars) [])
@@ -42,80 +42,28 @@ pub(crate) fn cut_block<'s>(text: &Chars<'s>) -> Option<Chars<'s>>
 }
 
 /// What stands behind the line comment that the text begins with.
-pub(crate) fn cut_line<'s>(text: &Chars<'s>) -> Chars<'s>
+fn cut_line<'s>(text: &Chars<'s>) -> Chars<'s>
     requires { IsTrue (starts_with nat_eq (bytes_of text.now.chars) (47 ∷ 47 ∷ [])) }
     ensures { IsCutOff text.now result LineComment }
 {
     comment::behind_line(&front::behind(text, 2))
 }
 
-/// What stands behind the string literal that the text begins with, with this prefix; none where its
-/// line doesn't close it.
-pub(crate) fn cut_string<'s>(text: &Chars<'s>, prefix: &[u8]) -> Option<Chars<'s>>
-    requires prefix { IsTrue (is_string_prefix prefix.now) }
-    requires begins { IsTrue (starts_with nat_eq (bytes_of text.now.chars) (prefix.now ++ 34 ∷ [])) }
-    ensures { MatchOption result
-        (IsFalse (closes_quote 34 false (drop (length prefix.now + 1) (bytes_of text.now.chars))))
-        (λ left. IsCutOff text.now left StringLit) }
-{
-    let (closed, left) = quote::behind_quote(&front::behind(text, prefix.len() + 1), b'"');
-    if closed { Some(left) } else { None }
-}
-
-/// What stands behind the character constant that the text begins with, with this prefix; none where
-/// it is empty or its line doesn't close it.
-pub(crate) fn cut_char<'s>(text: &Chars<'s>, prefix: &[u8]) -> Option<Chars<'s>>
-    requires prefix { IsTrue (is_char_prefix text.now.dialect prefix.now) }
-    requires begins { IsTrue (starts_with nat_eq (bytes_of text.now.chars) (prefix.now ++ 39 ∷ [])) }
-    requires some { IsFalse (starts (λ c. c == 39) (drop (length prefix.now + 1) (bytes_of text.now.chars))) }
-    ensures { MatchOption result
-        (IsFalse (closes_quote 39 false (drop (length prefix.now + 1) (bytes_of text.now.chars))))
-        (λ left. IsCutOff text.now left CharConst) }
-{
-    let (closed, left) = quote::behind_quote(&front::behind(text, prefix.len() + 1), b'\'');
-    if closed { Some(left) } else { None }
-}
-
-/// What stands behind the quote that the text begins with, where its line doesn't close it: the
-/// line's end.
-pub(crate) fn cut_stray<'s>(text: &Chars<'s>, quote: u8) -> Chars<'s>
-    requires quote { IsTrue (is_of (codes "'\"") quote) }
-    requires begins { IsTrue (starts_with nat_eq (bytes_of text.now.chars) (quote ∷ [])) }
-    requires stray { IsFalse (closes_quote quote false (drop 1 (bytes_of text.now.chars))) }
-    ensures { IsCutOff text.now result StrayQuote }
-{
-    let (_, left) = quote::behind_quote(&front::behind(text, 1), quote);
-    left
-}
-
-/// What stands behind the two apostrophes that the text begins with: the line's end.
-pub(crate) fn cut_empty<'s>(text: &Chars<'s>) -> Chars<'s>
-    requires { IsTrue (starts_with nat_eq (bytes_of text.now.chars) (39 ∷ 39 ∷ [])) }
-    ensures { IsCutOff text.now result StrayQuote }
-{
-    line::behind_line(&front::behind(text, 2))
-}
-
-/// How many characters the head of the number has that the text begins with: a digit, or a point and a
-/// digit.
-fn head_len(text: &Chars) -> usize
-    ensures { result ≡ head_len (bytes_of text.now.chars) }
-{
-    if front::begins_digit(text) { 1 } else { 2 }
-}
-
-/// What stands behind the number that the text begins with.
-pub(crate) fn cut_number<'s>(dialect: Dialect, text: &Chars<'s>) -> Chars<'s>
+/// What stands behind the number that the text begins with, whose first byte is this one. Its head is a digit,
+/// or a point and a digit.
+fn cut_number<'s>(dialect: Dialect, text: &Chars<'s>, first: u8) -> Chars<'s>
     requires dialect { dialect ≡ text.now.dialect }
+    requires first { IsFirst first (bytes_of text.now.chars) }
     requires number { IsTrue (begins_number (bytes_of text.now.chars)) }
     ensures { IsCutOff text.now result Number }
 {
-    unit::behind_number(dialect, &front::behind(text, head_len(text)))
+    let head = if first == b'.' { 2 } else { 1 };
+    unit::behind_number(dialect, &front::behind(text, head))
 }
 
 /// What stands behind the character that the text begins with, where it begins nothing else. A byte
 /// past ASCII that begins no character stands for itself.
-pub(crate) fn cut_other<'s>(text: &Chars<'s>) -> Chars<'s>
+fn cut_other<'s>(text: &Chars<'s>) -> Chars<'s>
     requires blank { IsFalse (starts (λ c. is_white c || is_new_line c) (bytes_of text.now.chars)) }
     requires letter { IsFalse (starts is_letter (bytes_of text.now.chars)) }
     requires word { BeginsUnit (is_rare_unit is_xid_start) (bytes_of text.now.chars) → ⊥ }
@@ -131,8 +79,9 @@ pub(crate) fn cut_other<'s>(text: &Chars<'s>) -> Chars<'s>
     }
 }
 
-/// What stands behind the punctuator that the text begins with, whose first byte is this one.
-pub(crate) fn cut_mark<'s>(dialect: Dialect, text: &Chars<'s>, first: u8) -> Chars<'s>
+/// What stands behind the punctuator that the text begins with, whose first byte is this one. Most have one
+/// character, so the table is walked only where the first two allow a longer one.
+fn cut_mark<'s>(dialect: Dialect, text: &Chars<'s>, first: u8) -> Chars<'s>
     requires dialect { dialect ≡ text.now.dialect }
     requires mark { IsTrue (starts begins_punctuator (bytes_of text.now.chars)) }
     requires first { IsFirst first (bytes_of text.now.chars) }
@@ -141,45 +90,49 @@ pub(crate) fn cut_mark<'s>(dialect: Dialect, text: &Chars<'s>, first: u8) -> Cha
     requires line { IsFalse (starts_with nat_eq (bytes_of text.now.chars) (47 ∷ 47 ∷ [])) }
     ensures { IsCutOff text.now result Punct }
 {
-    if !punctuator::begins_long(first) {
+    if !punctuator::begins_long(first) || !front::goes_on_long(text) {
         return front::behind(text, 1);
     }
     front::behind(text, punctuator::text_len(dialect, text))
 }
 
-/// The literal that the text begins with, or its quote and the line, and what stands behind it.
-pub(crate) fn cut_quoted<'s>(text: &Chars<'s>) -> (ItemKind, Chars<'s>)
-    requires { IsTrue (starts is_quote_mark (bytes_of text.now.chars)) }
+/// The literal that the text begins with, or its quote and the line, and what stands behind it. `first` is the
+/// quote.
+fn cut_quoted<'s>(text: &Chars<'s>, first: u8) -> (ItemKind, Chars<'s>)
+    requires first { IsFirst first (bytes_of text.now.chars) }
+    requires quote { IsTrue (is_quote_mark first) }
     ensures { IsCutOff text.now result.1 result.0 }
 {
-    if front::begins_with(text, b"''") {
-        return (ItemKind::StrayQuote, cut_empty(text));
+    if front::begins_two(text, first, b'\'', b'\'') {
+        return (
+            ItemKind::StrayQuote,
+            line::behind_line(&front::behind(text, 2)),
+        );
     }
-    if front::begins_with(text, b"'") {
-        return match cut_char(text, b"") {
-            Some(left) => (ItemKind::CharConst, left),
-            None => (ItemKind::StrayQuote, cut_stray(text, b'\'')),
-        };
+    let (closed, left) = quote::behind_quote(&front::behind(text, 1), first);
+    if !closed {
+        return (ItemKind::StrayQuote, left);
     }
-    match cut_string(text, b"") {
-        Some(left) => (ItemKind::StringLit, left),
-        None => (ItemKind::StrayQuote, cut_stray(text, b'"')),
+    if first == b'\'' {
+        (ItemKind::CharConst, left)
+    } else {
+        (ItemKind::StringLit, left)
     }
 }
 
-/// What stands behind the punctuator that is begun, where its first byte and a plain byte behind it tell
-/// how long it is; none elsewhere.
+/// The punctuator that is begun and what stands behind it, where its first byte and a plain byte behind it
+/// tell how long it is; none elsewhere.
 #[inline(always)]
-fn behind_plain_mark<'s>(dialect: Dialect, begun: &Begun<'s>) -> Option<Chars<'s>>
+fn cut_plain_mark<'s>(dialect: Dialect, begun: &Begun<'s>) -> Option<(ItemKind, Chars<'s>)>
     requires dialect { dialect ≡ begun.now.text.dialect }
     requires begun { IsBegun begun.now.text begun.now.first begun.now.behind }
-    ensures off { IfSome result (λ left. IsCutOff begun.now.text left Punct) }
-    ensures plain { IfSome result (λ left. AreOwnBytes begun.now.first begun.now.behind left) }
+    ensures off { IfSome result (λ r. IsCutOff begun.now.text r.1 r.0) }
+    ensures plain { IfSome result (λ r. AreOwnBytes begun.now.first begun.now.behind r.1) }
 {
     let first = begun.first.byte;
     let left = begun.behind.ahead();
     if class::is_lone_mark(first) {
-        return Some(left);
+        return Some((ItemKind::Punct, left));
     }
     if !punctuator::begins_long(first) {
         return None;
@@ -187,29 +140,16 @@ fn behind_plain_mark<'s>(dialect: Dialect, begun: &Begun<'s>) -> Option<Chars<'s
     match left.peek_plain() {
         Some(second) => {
             if class::ends_mark(second.byte) {
-                return Some(left);
+                return Some((ItemKind::Punct, left));
             }
             if punctuator::is_pair(first, second.byte) {
-                Some(front::behind(&left, 1))
+                Some((ItemKind::Punct, front::behind(&left, 1)))
             } else {
                 None
             }
         }
         None => None,
     }
-}
-
-/// What stands behind the number that this digit begins, where it is of letters and digits and a plain byte
-/// behind it ends it; none elsewhere.
-#[inline(always)]
-fn behind_plain_number<'s>(dialect: Dialect, begun: &Begun<'s>) -> Option<Chars<'s>>
-    requires dialect { dialect ≡ begun.now.text.dialect }
-    requires begun { IsBegun begun.now.text begun.now.first begun.now.behind }
-    requires digit { IsTrue (is_digit begun.now.first.byte) }
-    ensures off { IfSome result (λ left. IsCutOff begun.now.text left Number) }
-    ensures plain { IfSome result (λ left. AreOwnBytes begun.now.first begun.now.behind left) }
-{
-    unit::behind_plain_number(dialect, &begun.behind)
 }
 
 /// The item that is begun, where it is a word, a number or a punctuator of plain bytes and one behind it
@@ -222,21 +162,12 @@ pub(crate) fn cut_plain<'s>(dialect: Dialect, begun: &Begun<'s>) -> Option<(Item
     ensures plain { IfSome result (λ r. AreOwnBytes begun.now.first begun.now.behind r.1) }
 {
     if bytes::is_letter(begun.first.byte) {
-        return match word::behind_plain_word(begun) {
-            Some(left) => Some((ItemKind::Identifier, left)),
-            None => None,
-        };
+        return word::cut_plain_word(begun);
     }
     if bytes::is_digit(begun.first.byte) {
-        return match behind_plain_number(dialect, begun) {
-            Some(left) => Some((ItemKind::Number, left)),
-            None => None,
-        };
+        return unit::cut_plain_number(dialect, begun);
     }
-    match behind_plain_mark(dialect, begun) {
-        Some(left) => Some((ItemKind::Punct, left)),
-        None => None,
-    }
+    cut_plain_mark(dialect, begun)
 }
 
 /// The item that the text begins with, wherever no header name is read, and what stands behind it.
@@ -256,7 +187,7 @@ pub(crate) fn cut_item<'s>(
         return Ok(word::cut_word(dialect, text));
     }
     if front::begins_number(text, first) {
-        return Ok((ItemKind::Number, cut_number(dialect, text)));
+        return Ok((ItemKind::Number, cut_number(dialect, text, first)));
     }
     if front::begins_two(text, first, b'/', b'*') {
         return match cut_block(text) {
@@ -271,7 +202,7 @@ pub(crate) fn cut_item<'s>(
         return Ok((ItemKind::Punct, cut_mark(dialect, text, first)));
     }
     if bytes::is_quote_mark(first) {
-        return Ok(cut_quoted(text));
+        return Ok(cut_quoted(text, first));
     }
     if unit::begins_rare_word(text) {
         return Ok(word::cut_word(dialect, text));

@@ -6,7 +6,7 @@ ghost use Rattle.c_chars.specs.Characters.{bytes_of};
 ghost use Rattle.c_grammar.specs.Grammar.{is_digit};
 ghost use Rattle.c_grammar.specs.Touch.{starts};
 ghost use Rattle.c_grammar.specs.Bytes.{is_quote_mark, is_beyond, IsFirst};
-ghost use Rattle.c_lexer.specs.Run.{begins_number, first_front, may_be_long, goes_on_long};
+ghost use Rattle.c_lexer.specs.Run.{begins_number, first_front, goes_on_long};
 
 use crate::punctuator;
 use c_chars::Chars;
@@ -23,17 +23,6 @@ pub(crate) fn first_front(table: &[&[u8]], text: &Chars) -> usize
         }
     }
     1
-}
-
-/// Whether a digit comes next.
-#[inline(always)]
-pub(crate) fn begins_digit(text: &Chars) -> bool
-    ensures { result ≡ starts is_digit (bytes_of text.now.chars) }
-{
-    match text.peek(0) {
-        Some(c) => bytes::is_digit(c.byte),
-        None => false,
-    }
 }
 
 /// Whether a digit comes behind the next character.
@@ -71,24 +60,12 @@ pub(crate) fn begins_two(text: &Chars, first: u8, one: u8, two: u8) -> bool
     }
 }
 
-/// Whether the next two characters can be those of a punctuator.
+/// Whether the second character of a punctuator comes behind the next character.
 #[inline(always)]
-pub(crate) fn may_be_long(text: &Chars) -> bool
-    ensures { result ≡ may_be_long (bytes_of text.now.chars) }
+pub(crate) fn goes_on_long(text: &Chars) -> bool
+    ensures { result ≡ starts goes_on_long (drop 1 (bytes_of text.now.chars)) }
 {
-    let mut rest = text.ahead();
-    match rest.next() {
-        Some(c) => punctuator::begins_long(c.byte) && goes_on_long(&rest),
-        None => false,
-    }
-}
-
-/// Whether the second character of a punctuator comes next.
-#[inline(always)]
-fn goes_on_long(text: &Chars) -> bool
-    ensures { result ≡ starts goes_on_long (bytes_of text.now.chars) }
-{
-    match text.peek(0) {
+    match text.peek(1) {
         Some(c) => punctuator::goes_on_long(c.byte),
         None => false,
     }

@@ -14,7 +14,7 @@ pub struct Item<'s> {
 }
 
 /// An item with what its characters and those of the gap before it tell, so that none is read twice.
-#[derive(Clone, Copy, Debug)]
+#[derive(Clone, Copy)]
 pub struct Lexeme<'s> {
     /// The item.
     pub item: Item<'s>,

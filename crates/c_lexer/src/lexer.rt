@@ -27,14 +27,6 @@ fn between(text: &[u8], from: usize, to: usize) -> &[u8]
     &text[from..to]
 }
 
-/// Whether a backslash may end with these two bytes.
-#[tactic(auto, unfolding(crate::specs::Reading::ends_backslash))]
-fn ends_backslash(before: u8, last: u8) -> bool
-    ensures { result ≡ ends_backslash before last }
-{
-    last == b'\\' || (before == b'?' && last == b'/')
-}
-
 /// Whether a backslash may end at this offset. Most items end in neither of the last bytes that it has.
 #[tactic(auto, unfolding(crate::specs::Reading::ends_backslash))]
 fn may_end_backslash(text: &[u8], at: usize) -> bool
@@ -43,10 +35,7 @@ fn may_end_backslash(text: &[u8], at: usize) -> bool
     ensures { result ≡ ends_backslash (get_or text.now (at - 2) 0) (get_or text.now (at - 1) 0) }
 {
     let last = text[at - 1];
-    if last != b'\\' && last != b'/' {
-        return false;
-    }
-    ends_backslash(text[at.saturating_sub(2)], last)
+    last == b'\\' || (last == b'/' && text[at.saturating_sub(2)] == b'?')
 }
 
 /// Whether a backslash is the last of the characters up to what is left of them.
@@ -79,17 +68,6 @@ fn is_backslash_last(text: &[u8], chars: &Chars, left: &Chars) -> bool
     ends_in_backslash(chars, left)
 }
 
-/// Whether the last bytes of an item tell that no backslash is its last character.
-#[inline(always)]
-fn ends_plainly(text: &[u8], chars: &Chars, left: &Chars) -> bool
-    requires some { 0 < left.now.at }
-    requires within { left.now.at ≤ length text.now }
-    requires slashed { AreSlashed text.now chars.now.chars }
-    ensures { IsTrue result → BeforeLeft chars.now left.now (λ s. IsFalse (ends_in_backslash s)) }
-{
-    !may_end_backslash(text, left.at())
-}
-
 /// Whether no backslash is the last character of an item: its bytes are known to be none, or the last of them tell it.
 #[inline(always)]
 fn has_no_backslash_last(known: bool, text: &[u8], chars: &Chars, left: &Chars) -> bool
@@ -99,7 +77,7 @@ fn has_no_backslash_last(known: bool, text: &[u8], chars: &Chars, left: &Chars) 
     requires known { IsTrue known → BeforeLeft chars.now left.now (λ s. IsFalse (ends_in_backslash s)) }
     ensures { IsTrue result → BeforeLeft chars.now left.now (λ s. IsFalse (ends_in_backslash s)) }
 {
-    known || ends_plainly(text, chars, left)
+    known || !may_end_backslash(text, left.at())
 }
 
 /// Reads the items of a text one after another.

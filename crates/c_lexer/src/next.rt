@@ -72,30 +72,12 @@ fn cut_any<'s>(dialect: Dialect, begun: &Begun<'s>) -> Option<(ItemKind, Chars<'
     requires ink { IsFalse (is_white begun.now.first.byte || is_new_line begun.now.first.byte) }
     ensures { IfSome result (λ r. IsCutOff begun.now.text r.1 r.0) }
 {
-    match cut::cut_item(dialect, &begun.text, begun.first.byte) {
-        Ok((kind, left)) => Some((kind, left)),
-        Err(Stop::Unterminated) => None,
-    }
+    cut::cut_item(dialect, &begun.text, begun.first.byte).ok()
 }
 
 /// The item that is begun and what stands behind it, where it is a word, a number or a punctuator of plain
-/// bytes; where `any` is true also of any other kind, by calls. None elsewhere.
-#[inline(always)]
-fn cut_off<'s>(any: bool, dialect: Dialect, begun: &Begun<'s>) -> Option<(ItemKind, Chars<'s>)>
-    requires dialect { dialect ≡ begun.now.text.dialect }
-    requires begun { IsBegun begun.now.text begun.now.first begun.now.behind }
-    requires ink { IsFalse (is_white begun.now.first.byte || is_new_line begun.now.first.byte) }
-    ensures off { IfSome result (λ r. IsCutOff begun.now.text r.1 r.0) }
-    ensures plain { IfSome result (λ r. IsFalse any → AreOwnBytes begun.now.first begun.now.behind r.1) }
-{
-    if let Some((kind, left)) = cut::cut_plain(dialect, begun) {
-        return Some((kind, left));
-    }
-    if any { cut_any(dialect, begun) } else { None }
-}
-
-/// The item that is begun and what stands behind it, where it can be cut off so and no header name may stand
-/// here; none elsewhere.
+/// bytes and no header name may stand here; where `any` is true also of any other kind, by calls. None
+/// elsewhere.
 #[inline(always)]
 pub(crate) fn cut_begun<'s>(
     any: bool,
@@ -112,8 +94,9 @@ pub(crate) fn cut_begun<'s>(
     if is_behind_include(standing) {
         return None;
     }
-    match cut_off(any, dialect, begun) {
-        Some((kind, left)) => Some((kind, left)),
+    match cut::cut_plain(dialect, begun) {
+        Some(cut) => Some(cut),
+        None if any => cut_any(dialect, begun),
         None => None,
     }
 }

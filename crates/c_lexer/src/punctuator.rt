@@ -1,19 +1,18 @@
 //! The punctuators of C11 6.4.6, and `::` of C23.
 
 ghost use Rattle.std.specs.Prelude.{◌≡◌};
-ghost use Rattle.c_chars.specs.declared.Dialect.TheVariants.{C23};
 ghost use Rattle.c_chars.specs.Characters.{bytes_of};
 ghost use Rattle.c_lexer.specs.Run.{long, first_front, begins_long, goes_on_long, is_pair_mark};
 
 use crate::front;
 use c_chars::{Chars, Dialect};
 
-/// The punctuators of two bytes and more that both dialects have, each before those that it begins
-/// with.
-const LONG: [&[u8]; 29] = [
-    b"->", b"==", b"&&", b"++", b"||", b"!=", b"+=", b"<=", b">=", b"--", b"<<=", b"<<", b">>=",
-    b">>", b"-=", b"|=", b"&=", b"*=", b"/=", b"%=", b"^=", b"...", b"##", b"<:", b":>", b"<%",
-    b"%>", b"%:%:", b"%:",
+/// The punctuators of two bytes and more, each before those that it begins with. Both dialects have all but
+/// the first.
+const LONG: [&[u8]; 30] = [
+    b"::", b"->", b"==", b"&&", b"++", b"||", b"!=", b"+=", b"<=", b">=", b"--", b"<<=", b"<<",
+    b">>=", b">>", b"-=", b"|=", b"&=", b"*=", b"/=", b"%=", b"^=", b"...", b"##", b"<:", b":>",
+    b"<%", b"%>", b"%:%:", b"%:",
 ];
 
 /// Of each byte, whether some punctuator of two bytes and more begins with it.
@@ -78,30 +77,13 @@ pub(crate) fn is_pair(first: u8, second: u8) -> bool
     matches!(second, b'&' | b'+' | b'|' | b'-' | b'#') && first == second
 }
 
-/// The length of the longest punctuator of C23 that the text begins with, otherwise 1.
-fn text_len_c23(text: &Chars) -> usize
-    ensures { result ≡ first_front (long C23) (bytes_of text.now.chars) }
-{
-    if front::begins_with(text, b"::") {
-        2
-    } else {
-        front::first_front(&LONG, text)
-    }
-}
-
 /// The length of the longest punctuator that the text begins with, otherwise 1.
-///
-/// Most punctuators of a text have one character, so the table is walked only where the first two
-/// allow a longer one.
-#[inline(always)]
 pub(crate) fn text_len(dialect: Dialect, text: &Chars) -> usize
     ensures { result ≡ first_front (long dialect) (bytes_of text.now.chars) }
 {
-    if !front::may_be_long(text) {
-        return 1;
-    }
-    match dialect {
-        Dialect::C11 => front::first_front(&LONG, text),
-        Dialect::C23 => text_len_c23(text),
-    }
+    let table: &[&[u8]] = match dialect {
+        Dialect::C11 => &LONG[1..],
+        Dialect::C23 => &LONG,
+    };
+    front::first_front(table, text)
 }

@@ -2,16 +2,18 @@
 
 ghost use Rattle.std.specs.Prelude.{◌≡◌, IsTrue, IsFalse, IfSome, MatchOption};
 ghost use Rattle.unicode_ident.specs.Ident.{is_xid_start, is_xid_continue};
-ghost use Rattle.c_chars.specs.Characters.{bytes_of, is_word_byte};
-ghost use Rattle.c_chars.specs.Coming.{AreBytesPassed};
-ghost use Rattle.c_grammar.specs.Grammar.{is_universal_name, is_word_unit, is_number_unit};
+ghost use Rattle.c_chars.specs.Characters.{bytes_of};
+ghost use Rattle.c_grammar.specs.Grammar.{is_digit, is_universal_name, is_word_unit, is_number_unit};
 ghost use Rattle.c_grammar.specs.Touch.{starts};
 ghost use Rattle.c_lexer.specs.Unit.{BeginsUnit, IsUnitOff, IsRunOff, is_rare_unit, is_single, begins_hex, begins_name};
 ghost use Rattle.c_lexer.specs.Unit.{begins_pair};
+ghost use Rattle.c_lexer.specs.Cut.{IsCutOff};
+ghost use Rattle.c_lexer.specs.Reading.{AreOwnBytes, IsBegun};
 
+use crate::line::Begun;
 use crate::{class, front, line, utf8};
 use c_chars::{Chars, Dialect};
-use c_grammar::bytes;
+use c_grammar::{ItemKind, bytes};
 
 /// Whether the text begins with so many hexadecimal digits.
 fn begins_hex(text: &Chars, count: usize) -> bool
@@ -150,20 +152,25 @@ fn behind_number_unit<'s>(dialect: Dialect, text: &Chars<'s>) -> Option<Chars<'s
     behind_rare(text)
 }
 
-/// What stands behind the number whose head stands before the text, where what the text goes on with is
-/// of letters and digits and a plain byte behind them ends it; none elsewhere.
+/// The number that a digit begins and what stands behind it, where it is of letters and digits and a plain byte
+/// behind it ends it; none elsewhere.
 #[inline(always)]
-pub(crate) fn behind_plain_number<'s>(dialect: Dialect, text: &Chars<'s>) -> Option<Chars<'s>>
-    requires { dialect ≡ text.now.dialect }
-    ensures off { IfSome result (λ left. IsRunOff (is_number_unit dialect) text.now left) }
-    ensures bytes { IfSome result (λ left. AreBytesPassed is_word_byte text.now left) }
+pub(crate) fn cut_plain_number<'s>(
+    dialect: Dialect,
+    begun: &Begun<'s>,
+) -> Option<(ItemKind, Chars<'s>)>
+    requires dialect { dialect ≡ begun.now.text.dialect }
+    requires begun { IsBegun begun.now.text begun.now.first begun.now.behind }
+    requires digit { IsTrue (is_digit begun.now.first.byte) }
+    ensures off { IfSome result (λ r. IsCutOff begun.now.text r.1 r.0) }
+    ensures plain { IfSome result (λ r. AreOwnBytes begun.now.first begun.now.behind r.1) }
 {
-    let mut left = text.ahead();
+    let mut left = begun.behind.ahead();
     left.pass_word();
     match left.peek_plain() {
         Some(c) => {
             if class::ends_number(c.byte) {
-                Some(left)
+                Some((ItemKind::Number, left))
             } else {
                 None
             }

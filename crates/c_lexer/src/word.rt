@@ -1,20 +1,22 @@
 //! Words, and the literals whose prefix a word is (C11 6.4.2.1, 6.4.4.4, 6.4.5).
 
-ghost use Rattle.std.specs.Prelude.{◌≡◌, ◌∷◌, ◌++◌, ◌+◌, ◌==◌, ◌&&◌, not, [], length, drop, codes, nat_eq, IsTrue};
+ghost use Rattle.std.specs.Prelude.{◌≡◌, ◌∷◌, ◌++◌, ◌+◌, ◌==◌, ◌&&◌, not, [], false, length, drop, codes, nat_eq, IsTrue};
 ghost use Rattle.std.specs.Prelude.{IsFalse, IfSome, MatchOption};
 ghost use Rattle.std.specs.List.{starts_with};
 ghost use Rattle.c_chars.specs.Characters.{bytes_of};
 ghost use Rattle.c_grammar.specs.Grammar.{is_letter, is_letter_unit, is_word_unit, is_char_prefix, is_string_prefix};
 ghost use Rattle.c_grammar.specs.Touch.{starts};
-ghost use Rattle.c_grammar.specs.declared.ItemKind.TheVariants.{CharConst, Identifier, StringLit};
+ghost use Rattle.c_grammar.specs.declared.ItemKind.TheVariants.{Identifier};
 ghost use Rattle.c_grammar.specs.Bytes.{is_quote_mark};
 ghost use Rattle.c_lexer.specs.Cut.{IsCutOff};
-ghost use Rattle.c_lexer.specs.Literal.{is_string_at, is_constant_at, is_literal, begins_literal};
+ghost use Rattle.c_lexer.specs.Literal.{is_literal, begins_literal};
+ghost use Rattle.c_lexer.specs.Quote.{IsClosed, closes_quote};
+ghost use Rattle.c_chars.specs.Coming.{behind};
 ghost use Rattle.c_lexer.specs.Reading.{AreOwnBytes, IsBegun};
 ghost use Rattle.c_lexer.specs.Unit.{BeginsUnit, IsRunOff};
 
 use crate::line::Begun;
-use crate::{class, cut, front, unit};
+use crate::{class, front, quote, unit};
 use c_chars::{Chars, Dialect};
 use c_grammar::ItemKind;
 
@@ -26,51 +28,28 @@ fn begins_quoted(text: &Chars, prefix: &[u8], quote: u8) -> bool
         && front::begins_with(&front::behind(text, prefix.len()), &[quote])
 }
 
-/// What stands behind the string literal with this prefix that the text begins with; none where it
-/// begins with none.
-fn string_with<'s>(text: &Chars<'s>, prefix: &[u8]) -> Option<Chars<'s>>
-    requires prefix { IsTrue (is_string_prefix prefix.now) }
-    ensures { MatchOption result
-        (IsFalse (is_string_at prefix.now (bytes_of text.now.chars)))
-        (λ left. IsCutOff text.now left StringLit) }
-{
-    if begins_quoted(text, prefix, b'"') {
-        cut::cut_string(text, prefix)
-    } else {
-        None
-    }
-}
-
 /// Whether a character stands behind this prefix and an apostrophe, and it is no apostrophe.
 fn begins_constant(text: &Chars, prefix: &[u8]) -> bool
     ensures { result ≡ (starts_with nat_eq (bytes_of text.now.chars) (prefix.now ++ 39 ∷ []) && not (starts (λ c. c == 39) (drop (length prefix.now + 1) (bytes_of text.now.chars)))) }
 {
-    begins_quoted(text, prefix, b'\'') && !begins_apostrophe(&front::behind(text, prefix.len() + 1))
+    begins_quoted(text, prefix, b'\'')
+        && !front::begins_with(&front::behind(text, prefix.len() + 1), b"'")
 }
 
-/// Whether an apostrophe comes next.
-fn begins_apostrophe(text: &Chars) -> bool
-    ensures { result ≡ starts (λ c. c == 39) (bytes_of text.now.chars) }
-{
-    match text.peek(0) {
-        Some(c) => c.byte == b'\'',
-        None => false,
-    }
-}
-
-/// What stands behind the character constant with this prefix that the text begins with; none where
-/// it begins with none.
-fn constant_with<'s>(text: &Chars<'s>, prefix: &[u8]) -> Option<Chars<'s>>
-    requires prefix { IsTrue (is_char_prefix text.now.dialect prefix.now) }
+/// The literal of this kind whose prefix and quote are so many characters, and what stands behind it; none where
+/// its line doesn't close it.
+fn cut_closed<'s>(
+    kind: ItemKind,
+    text: &Chars<'s>,
+    head: usize,
+    quote: u8,
+) -> Option<(ItemKind, Chars<'s>)>
     ensures { MatchOption result
-        (IsFalse (is_constant_at prefix.now (bytes_of text.now.chars)))
-        (λ left. IsCutOff text.now left CharConst) }
+        (IsFalse (closes_quote quote false (drop head (bytes_of text.now.chars))))
+        (λ r. IsClosed kind quote (behind text.now head) r.1 r.0) }
 {
-    if begins_constant(text, prefix) {
-        cut::cut_char(text, prefix)
-    } else {
-        None
-    }
+    let (closed, left) = quote::behind_quote(&front::behind(text, head), quote);
+    if closed { Some((kind, left)) } else { None }
 }
 
 /// The literal with this prefix that the text begins with, and what stands behind it; none where it
@@ -82,16 +61,13 @@ fn cut_with<'s>(text: &Chars<'s>, prefix: &[u8], of_char: bool) -> Option<(ItemK
         (IsFalse (is_literal text.now.dialect prefix.now (bytes_of text.now.chars)))
         (λ r. IsCutOff text.now r.1 r.0) }
 {
-    if let Some(left) = string_with(text, prefix) {
-        return Some((ItemKind::StringLit, left));
+    if begins_quoted(text, prefix, b'"') {
+        return cut_closed(ItemKind::StringLit, text, prefix.len() + 1, b'"');
     }
-    if !of_char {
-        return None;
+    if of_char && begins_constant(text, prefix) {
+        return cut_closed(ItemKind::CharConst, text, prefix.len() + 1, b'\'');
     }
-    match constant_with(text, prefix) {
-        Some(left) => Some((ItemKind::CharConst, left)),
-        None => None,
-    }
+    None
 }
 
 /// Whether `u8` is a prefix of character constants (C23 6.4.4.5).
@@ -158,21 +134,21 @@ pub(crate) fn cut_word<'s>(dialect: Dialect, text: &Chars<'s>) -> (ItemKind, Cha
     (ItemKind::Identifier, left)
 }
 
-/// What stands behind the word that is begun, where it is of plain bytes and one behind it ends it; none
+/// The word that is begun and what stands behind it, where it is of plain bytes and one behind it ends it; none
 /// elsewhere.
 #[inline(always)]
-pub(crate) fn behind_plain_word<'s>(begun: &Begun<'s>) -> Option<Chars<'s>>
+pub(crate) fn cut_plain_word<'s>(begun: &Begun<'s>) -> Option<(ItemKind, Chars<'s>)>
     requires begun { IsBegun begun.now.text begun.now.first begun.now.behind }
     requires letter { IsTrue (is_letter begun.now.first.byte) }
-    ensures off { IfSome result (λ left. IsCutOff begun.now.text left Identifier) }
-    ensures plain { IfSome result (λ left. AreOwnBytes begun.now.first begun.now.behind left) }
+    ensures off { IfSome result (λ r. IsCutOff begun.now.text r.1 r.0) }
+    ensures plain { IfSome result (λ r. AreOwnBytes begun.now.first begun.now.behind r.1) }
 {
     let mut left = begun.behind.ahead();
     left.pass_word();
     match left.peek_plain() {
         Some(c) => {
             if class::ends_word(c.byte) {
-                Some(left)
+                Some((ItemKind::Identifier, left))
             } else {
                 None
             }

@@ -3,7 +3,7 @@ use Rattle.c_chars.specs.Characters.{is_word_byte}
 use Rattle.c_chars.specs.Coming.{AreBytesPassed, ArePassed}
 use Rattle.c_lexer.proofs.PlainBytes.{letter_item, words_items}
 use Rattle.c_lexer.proofs.Plains.{word_ended}
-use Rattle.c_lexer.proofs.word.behind_plain_word.Goals as goal
+use Rattle.c_lexer.proofs.word.cut_plain_word.Goals as goal
 
 pub returns-then-ends_word-clause-off : goal.returns-then-ends_word-clause-off
 returns-then-ends_word-clause-off c =

@@ -6,7 +6,7 @@ use Rattle.c_lexer.specs.Cut.{IsCutOff}
 use Rattle.c_lexer.specs.Reading.{is_own_byte}
 use Rattle.c_lexer.proofs.PlainBytes.{lone_item, long_mark, mark_item, next_one, none_passed, second_item}
 use Rattle.c_lexer.proofs.Plains.{ended_off, lone_off, pair_off}
-use Rattle.c_lexer.proofs.cut.behind_plain_mark.Goals as goal
+use Rattle.c_lexer.proofs.cut.cut_plain_mark.Goals as goal
 
 pub returns-then-is_lone_mark-clause-off : goal.returns-then-is_lone_mark-clause-off
 returns-then-is_lone_mark-clause-off c =
