@@ -1,13 +1,16 @@
 -- What the first byte of a text tells.
-use Rattle.std.proofs.Common.{◌≡◌, ◌==◌, ◌&&◌, ◌||◌, ℕ, Bool, true, false, List, [], ◌∷◌, drop, nat_eq, refl, sym, ◌∙◌, ap, subst, inl, inr}
+use Rattle.std.proofs.Common.{◌≡◌, ◌==◌, ◌&&◌, ◌||◌, ℕ, Bool, true, false, List, [], ◌∷◌, drop, get_or, nat_eq, suc, zero, refl, sym, ◌∙◌, ap, subst, inl, inr}
 use Rattle.std.specs.Prelude.{Some, None, slice_get}
 use Rattle.std.specs.List.{starts_with}
 use Rattle.std.proofs.lemmas.Bool.{and_right, eq-eqb, ne_eqb, cases_Bool}
 use Rattle.c_chars.specs.Characters.{bytes_of}
 use Rattle.c_chars.specs.declared.LogicalChar.{LogicalChar}
 use Rattle.c_grammar.specs.Touch.{starts}
-use Rattle.c_grammar.specs.Bytes.{IsFirst}
-use Rattle.c_grammar.specs.Grammar.{is_digit}
+use Rattle.c_grammar.specs.Bytes.{is_beyond, is_quote_mark, IsFirst}
+use Rattle.c_chars.specs.declared.Dialect.{Dialect}
+use Rattle.c_chars.specs.declared.Dialect.TheVariants.{C11, C23}
+use Rattle.c_grammar.specs.Grammar.{is_digit, is_exponent, is_letter, is_sign}
+use Rattle.c_lexer.specs.Unit.{begins_pair, is_pair, is_single}
 use Rattle.c_lexer.specs.Run.{begins_long, begins_number, goes_on_long, head_len, may_be_long}
 
 pub first_there : (s : List LogicalChar) (c : LogicalChar) → slice_get s 0 ≡ Some c → IsFirst c.byte (bytes_of s)
@@ -26,6 +29,24 @@ pub second_missing : (p : ℕ → Bool) (s : List LogicalChar) → slice_get s 1
 second_missing p [] h = refl
 second_missing p (a ∷ []) h = refl
 second_missing p (a ∷ e ∷ s) h = cc
+
+-- the byte at an index
+pub at_there : (s : List LogicalChar) (n : ℕ) (c : LogicalChar) → slice_get s n ≡ Some c → c.byte ≡ get_or (bytes_of s) n 0
+at_there [] n c h = cc
+at_there (e ∷ s) zero c h = let same : e ≡ c = cc in sym (ap (λ z. z.byte) same)
+at_there (e ∷ s) (suc n) c h = at_there s n c h
+
+pub at_missing : (s : List LogicalChar) (n : ℕ) → slice_get s n ≡ None → 0 ≡ get_or (bytes_of s) n 0
+at_missing [] n h = refl
+at_missing (e ∷ s) zero h = cc
+at_missing (e ∷ s) (suc n) h = at_missing s n h
+
+-- what holds of no 0 holds of the byte at an index where a character begins that it holds of
+pub begins_at : (p : ℕ → Bool) (s : List ℕ) (n : ℕ) → p 0 ≡ false → p (get_or s n 0) ≡ starts p (drop n s)
+begins_at p [] zero none = none
+begins_at p [] (suc n) none = none
+begins_at p (c ∷ s) zero none = refl
+begins_at p (c ∷ s) (suc n) none = begins_at p s n none
 
 -- the first two bytes
 two_so : (a b c : ℕ) (s : List ℕ) → IsFirst c s → starts_with nat_eq s (a ∷ b ∷ []) ≡ ((a == c) && starts (λ e. b == e) (drop 1 s))
@@ -75,3 +96,48 @@ head_digit c s f number n =
     digit_of : (a b : Bool) → (a || (false && b)) ≡ true → a ≡ true
     digit_of true b h = refl
     digit_of false b h = h
+
+-- the classes that 0 isn't of
+
+digit_at : (s : List ℕ) (b : ℕ) → b ≡ get_or s 1 0 → is_digit b ≡ starts is_digit (drop 1 s)
+unfolding is_digit
+digit_at s b e = ap is_digit e ∙ begins_at is_digit s 1 refl
+
+pub long_at : (s : List ℕ) (b : ℕ) → b ≡ get_or s 1 0 → goes_on_long b ≡ starts goes_on_long (drop 1 s)
+unfolding goes_on_long
+long_at s b e = ap goes_on_long e ∙ begins_at goes_on_long s 1 refl
+
+pub quote_at : (s : List ℕ) (b : ℕ) → b ≡ get_or s 0 0 → is_quote_mark b ≡ starts is_quote_mark s
+quote_at s b e = ap is_quote_mark e ∙ begins_at is_quote_mark s 0 refl
+
+pub beyond_at : (s : List ℕ) (b : ℕ) → b ≡ get_or s 0 0 → is_beyond b ≡ starts is_beyond s
+unfolding is_beyond
+beyond_at s b e = ap is_beyond e ∙ begins_at is_beyond s 0 refl
+
+pub single_at : (s : List ℕ) (b : ℕ) → b ≡ get_or s 0 0 → is_single b ≡ starts is_single s
+unfolding is_letter is_digit
+single_at s b e = ap is_single e ∙ begins_at is_single s 0 refl
+
+no_first : (d : Dialect) (e : ℕ) → is_pair d 0 e ≡ false
+unfolding is_exponent
+no_first C11 e = refl
+no_first C23 e = refl
+
+no_next : (d : Dialect) (c : ℕ) → is_pair d c 0 ≡ false
+unfolding is_sign is_letter is_digit
+no_next C11 c = rw (and_right (is_exponent c) false refl) refl
+no_next C23 c = rw (and_right (is_exponent c) false refl) (and_right (c == 39) false refl)
+
+pub pair_at : (d : Dialect) (s : List ℕ) (b e : ℕ) → b ≡ get_or s 0 0 → e ≡ get_or s 1 0 → is_pair d b e ≡ begins_pair d s
+pair_at d s b e first next = ap (λ k. is_pair d k e) first ∙ (ap (is_pair d (get_or s 0 0)) next ∙ at s)
+  where
+    at : (s : List ℕ) → is_pair d (get_or s 0 0) (get_or s 1 0) ≡ begins_pair d s
+    at [] = no_first d 0
+    at (c ∷ []) = no_next d c
+    at (c ∷ e ∷ s) = refl
+
+-- behind a point
+pub point_number : (c : ℕ) (s : List ℕ) (b : ℕ) → IsFirst c s → is_digit c ≡ false → c ≡ 46 → b ≡ get_or s 1 0 → is_digit b ≡ begins_number s
+point_number c s b f other point e =
+    let same = eq-eqb c 46 point in
+    digit_at s b e ∙ (ap (λ z. starts is_digit (drop 1 z)) f.whole ∙ sym (ap begins_number f.whole ∙ rw (other, same) refl))

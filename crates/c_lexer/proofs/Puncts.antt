@@ -4,9 +4,9 @@ use Rattle.std.specs.Prelude.{codes}
 use Rattle.std.specs.List.{list_any, list_all, starts_with}
 use Rattle.std.proofs.lemmas.Bool.{and_parts, or_cases, and_from, or_left, or_right, eqb-true, eq-eqb, cases_Bool, not-true, both_ways, false_from_ne_true, cases_lt}
 use Rattle.std.proofs.lemmas.List.{take-append-drop}
-use Rattle.c_grammar.specs.Grammar.{is_same, is_digit, is_number_head, common_punctuators, punctuators, is_punctuator, Shape, Whole, Unended, Spells}
+use Rattle.c_grammar.specs.Grammar.{is_of, is_same, is_digit, is_number_head, common_punctuators, punctuators, is_punctuator, Shape, Whole, Unended, Spells}
 use Rattle.c_grammar.specs.Touch.{starts, is_front}
-use Rattle.c_lexer.specs.Run.{long, common_long, first_front, IsCut, begins_long, goes_on_long, may_be_long}
+use Rattle.c_lexer.specs.Run.{long, common_long, first_front, IsCut, begins_long, goes_on_long, is_pair_mark, may_be_long}
 use Rattle.c_chars.specs.declared.Dialect.{Dialect}
 use Rattle.c_chars.specs.declared.Dialect.TheVariants.{C11, C23}
 use Rattle.c_grammar.specs.declared.ItemKind.TheVariants.{Identifier, Number, CharConst, StringLit, Punct, HeaderName, StrayQuote, Other, BlockComment, LineComment}
@@ -208,3 +208,8 @@ long_all C23 = refl
 
 pub not_long : (d : Dialect) (s : List ℕ) → may_be_long s ≡ false → first_front (long d) s ≡ 1
 not_long d s n = no_entry (long d) s (long_all d) n
+
+-- one before an equals sign
+pub equals_pair : (a b : ℕ) → b ≡ 61 → is_of (codes "=!+<>-|&*/%^") a ≡ is_pair_mark a b
+unfolding is_pair_mark
+equals_pair a b e = let same = eq-eqb b 61 e in rw same refl

@@ -90,7 +90,7 @@ fn cut_mark<'s>(dialect: Dialect, text: &Chars<'s>, first: u8) -> Chars<'s>
     requires line { IsFalse (starts_with nat_eq (bytes_of text.now.chars) (47 ∷ 47 ∷ [])) }
     ensures { IsCutOff text.now result Punct }
 {
-    if !punctuator::begins_long(first) || !front::goes_on_long(text) {
+    if !punctuator::begins_long(first) || !punctuator::goes_on_long(front::byte_at(text, 1)) {
         return front::behind(text, 1);
     }
     front::behind(text, punctuator::text_len(dialect, text))

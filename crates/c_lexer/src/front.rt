@@ -1,14 +1,11 @@
 //! What a text begins with.
 
-ghost use Rattle.std.specs.Prelude.{◌≡◌, ◌∷◌, [], map, nat_eq, drop};
+ghost use Rattle.std.specs.Prelude.{◌≡◌, ◌≤◌, ◌∷◌, [], get_or, map, nat_eq};
 ghost use Rattle.std.specs.List.{starts_with};
 ghost use Rattle.c_chars.specs.Characters.{bytes_of};
-ghost use Rattle.c_grammar.specs.Grammar.{is_digit};
-ghost use Rattle.c_grammar.specs.Touch.{starts};
-ghost use Rattle.c_grammar.specs.Bytes.{is_quote_mark, is_beyond, IsFirst};
-ghost use Rattle.c_lexer.specs.Run.{begins_number, first_front, goes_on_long};
+ghost use Rattle.c_grammar.specs.Bytes.{IsFirst};
+ghost use Rattle.c_lexer.specs.Run.{begins_number, first_front};
 
-use crate::punctuator;
 use c_chars::Chars;
 pub(crate) use c_chars::{begins_with, behind};
 use c_grammar::bytes;
@@ -25,14 +22,15 @@ pub(crate) fn first_front(table: &[&[u8]], text: &Chars) -> usize
     1
 }
 
-/// Whether a digit comes behind the next character.
+/// The byte of the character that so many others stand before; 0, which begins nothing, where there is none.
 #[inline(always)]
-fn has_second_digit(text: &Chars) -> bool
-    ensures { result ≡ starts is_digit (drop 1 (bytes_of text.now.chars)) }
+pub(crate) fn byte_at(text: &Chars, index: usize) -> u8
+    requires { index ≤ 8 }
+    ensures { result ≡ get_or (bytes_of text.now.chars) index 0 }
 {
-    match text.peek(1) {
-        Some(c) => bytes::is_digit(c.byte),
-        None => false,
+    match text.peek(index) {
+        Some(c) => c.byte,
+        None => 0,
     }
 }
 
@@ -42,7 +40,7 @@ pub(crate) fn begins_number(text: &Chars, first: u8) -> bool
     requires { IsFirst first (bytes_of text.now.chars) }
     ensures { result ≡ begins_number (bytes_of text.now.chars) }
 {
-    bytes::is_digit(first) || (first == b'.' && has_second_digit(text))
+    bytes::is_digit(first) || (first == b'.' && bytes::is_digit(byte_at(text, 1)))
 }
 
 /// Whether the text, which begins with this byte, begins with these two.
@@ -56,39 +54,6 @@ pub(crate) fn begins_two(text: &Chars, first: u8, one: u8, two: u8) -> bool
     }
     match text.peek(1) {
         Some(c) => two == c.byte,
-        None => false,
-    }
-}
-
-/// Whether the second character of a punctuator comes behind the next character.
-#[inline(always)]
-pub(crate) fn goes_on_long(text: &Chars) -> bool
-    ensures { result ≡ starts goes_on_long (drop 1 (bytes_of text.now.chars)) }
-{
-    match text.peek(1) {
-        Some(c) => punctuator::goes_on_long(c.byte),
-        None => false,
-    }
-}
-
-/// Whether an apostrophe or a quotation mark comes next.
-#[inline(always)]
-pub(crate) fn begins_quote(text: &Chars) -> bool
-    ensures { result ≡ starts is_quote_mark (bytes_of text.now.chars) }
-{
-    match text.peek(0) {
-        Some(c) => bytes::is_quote_mark(c.byte),
-        None => false,
-    }
-}
-
-/// Whether a backslash or a byte past ASCII comes next.
-#[inline(always)]
-pub(crate) fn begins_beyond(text: &Chars) -> bool
-    ensures { result ≡ starts is_beyond (bytes_of text.now.chars) }
-{
-    match text.peek(0) {
-        Some(c) => bytes::is_beyond(c.byte),
         None => false,
     }
 }

@@ -47,17 +47,61 @@ pub(crate) fn begins_long(byte: u8) -> bool
     c_chars::told(&BEGINS_LONG, byte)
 }
 
+/// Of each byte, whether some punctuator has it behind its first.
+const GOES_ON_LONG: [bool; 256] = [
+    false, false, false, false, false, false, false, false, false, false, false, false, false,
+    false, false, false, false, false, false, false, false, false, false, false, false, false,
+    false, false, false, false, false, false, false, false, false, true, false, true, true, false,
+    false, false, false, true, false, true, true, false, false, false, false, false, false, false,
+    false, false, false, false, true, false, true, true, true, false, false, false, false, false,
+    false, false, false, false, false, false, false, false, false, false, false, false, false,
+    false, false, false, false, false, false, false, false, false, false, false, false, false,
+    false, false, false, false, false, false, false, false, false, false, false, false, false,
+    false, false, false, false, false, false, false, false, false, false, false, false, false,
+    false, false, false, false, true, false, false, false, false, false, false, false, false,
+    false, false, false, false, false, false, false, false, false, false, false, false, false,
+    false, false, false, false, false, false, false, false, false, false, false, false, false,
+    false, false, false, false, false, false, false, false, false, false, false, false, false,
+    false, false, false, false, false, false, false, false, false, false, false, false, false,
+    false, false, false, false, false, false, false, false, false, false, false, false, false,
+    false, false, false, false, false, false, false, false, false, false, false, false, false,
+    false, false, false, false, false, false, false, false, false, false, false, false, false,
+    false, false, false, false, false, false, false, false, false, false, false, false, false,
+    false, false, false, false, false, false, false, false, false, false, false, false, false,
+    false, false, false, false, false, false,
+];
+
 /// Whether some punctuator has this second byte.
-#[tactic(auto, unfolding(crate::specs::Run::goes_on_long))]
 #[inline(always)]
 pub(crate) fn goes_on_long(byte: u8) -> bool
     ensures { result ≡ goes_on_long byte }
 {
-    matches!(
-        byte,
-        b'=' | b'>' | b'&' | b'+' | b'|' | b'-' | b'<' | b'.' | b':' | b'#' | b'%'
-    )
+    c_chars::told(&GOES_ON_LONG, byte)
 }
+
+/// Of each byte, whether it and an equals sign are a punctuator.
+const TAKES_EQUALS: [bool; 256] = [
+    false, false, false, false, false, false, false, false, false, false, false, false, false,
+    false, false, false, false, false, false, false, false, false, false, false, false, false,
+    false, false, false, false, false, false, false, true, false, false, false, true, true, false,
+    false, false, true, true, false, true, false, true, false, false, false, false, false, false,
+    false, false, false, false, false, false, true, true, true, false, false, false, false, false,
+    false, false, false, false, false, false, false, false, false, false, false, false, false,
+    false, false, false, false, false, false, false, false, false, false, false, false, false,
+    true, false, false, false, false, false, false, false, false, false, false, false, false,
+    false, false, false, false, false, false, false, false, false, false, false, false, false,
+    false, false, false, false, true, false, false, false, false, false, false, false, false,
+    false, false, false, false, false, false, false, false, false, false, false, false, false,
+    false, false, false, false, false, false, false, false, false, false, false, false, false,
+    false, false, false, false, false, false, false, false, false, false, false, false, false,
+    false, false, false, false, false, false, false, false, false, false, false, false, false,
+    false, false, false, false, false, false, false, false, false, false, false, false, false,
+    false, false, false, false, false, false, false, false, false, false, false, false, false,
+    false, false, false, false, false, false, false, false, false, false, false, false, false,
+    false, false, false, false, false, false, false, false, false, false, false, false, false,
+    false, false, false, false, false, false, false, false, false, false, false, false, false,
+    false, false, false, false, false, false,
+];
 
 /// Whether the two bytes are a punctuator, and none that is longer begins with them.
 #[tactic(auto, unfolding(crate::specs::Run::is_pair_mark))]
@@ -66,10 +110,7 @@ pub(crate) fn is_pair(first: u8, second: u8) -> bool
     ensures { result ≡ is_pair_mark first second }
 {
     if second == b'=' {
-        return matches!(
-            first,
-            b'=' | b'!' | b'+' | b'<' | b'>' | b'-' | b'|' | b'&' | b'*' | b'/' | b'%' | b'^'
-        );
+        return c_chars::told(&TAKES_EQUALS, first);
     }
     if second == b'>' {
         return first == b'-';

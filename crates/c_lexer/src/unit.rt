@@ -4,8 +4,7 @@ ghost use Rattle.std.specs.Prelude.{◌≡◌, IsTrue, IsFalse, IfSome, MatchOpt
 ghost use Rattle.unicode_ident.specs.Ident.{is_xid_start, is_xid_continue};
 ghost use Rattle.c_chars.specs.Characters.{bytes_of};
 ghost use Rattle.c_grammar.specs.Grammar.{is_digit, is_universal_name, is_word_unit, is_number_unit};
-ghost use Rattle.c_grammar.specs.Touch.{starts};
-ghost use Rattle.c_lexer.specs.Unit.{BeginsUnit, IsUnitOff, IsRunOff, is_rare_unit, is_single, begins_hex, begins_name};
+ghost use Rattle.c_lexer.specs.Unit.{BeginsUnit, IsUnitOff, IsRunOff, is_rare_unit, begins_hex, begins_name};
 ghost use Rattle.c_lexer.specs.Unit.{begins_pair};
 ghost use Rattle.c_lexer.specs.Cut.{IsCutOff};
 ghost use Rattle.c_lexer.specs.Reading.{AreOwnBytes, IsBegun};
@@ -64,7 +63,7 @@ pub(crate) fn begins_rare_word(text: &Chars) -> bool
     ensures yes { IsTrue result → BeginsUnit (is_rare_unit is_xid_start) (bytes_of text.now.chars) }
     ensures no { IsFalse result → BeginsUnit (is_rare_unit is_xid_start) (bytes_of text.now.chars) → ⊥ }
 {
-    if !front::begins_beyond(text) {
+    if !bytes::is_beyond(front::byte_at(text, 0)) {
         return false;
     }
     if let Some(_) = behind_name(text) {
@@ -84,7 +83,7 @@ fn behind_rare<'s>(text: &Chars<'s>) -> Option<Chars<'s>>
         (BeginsUnit (is_rare_unit is_xid_continue) (bytes_of text.now.chars) → ⊥)
         (λ left. IsUnitOff (is_rare_unit is_xid_continue) text.now left) }
 {
-    if !front::begins_beyond(text) {
+    if !bytes::is_beyond(front::byte_at(text, 0)) {
         return None;
     }
     if let Some(left) = behind_name(text) {
@@ -117,24 +116,7 @@ pub(crate) fn behind_word<'s>(text: &Chars<'s>) -> Chars<'s>
 fn begins_pair(dialect: Dialect, text: &Chars) -> bool
     ensures { result ≡ begins_pair dialect (bytes_of text.now.chars) }
 {
-    match text.peek(0) {
-        Some(c) => match text.peek(1) {
-            Some(e) => class::is_pair(dialect, c.byte, e.byte),
-            None => false,
-        },
-        None => false,
-    }
-}
-
-/// Whether a character comes next with which a number goes on by itself.
-#[inline(always)]
-fn begins_single(text: &Chars) -> bool
-    ensures { result ≡ starts is_single (bytes_of text.now.chars) }
-{
-    match text.peek(0) {
-        Some(c) => class::is_single(c.byte),
-        None => false,
-    }
+    class::is_pair(dialect, front::byte_at(text, 0), front::byte_at(text, 1))
 }
 
 /// What stands behind the unit with which a number goes on; none where it doesn't.
@@ -146,7 +128,7 @@ fn behind_number_unit<'s>(dialect: Dialect, text: &Chars<'s>) -> Option<Chars<'s
     if begins_pair(dialect, text) {
         return Some(front::behind(text, 2));
     }
-    if begins_single(text) {
+    if class::is_single(front::byte_at(text, 0)) {
         return Some(front::behind(text, 1));
     }
     behind_rare(text)

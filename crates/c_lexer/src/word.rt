@@ -18,7 +18,7 @@ ghost use Rattle.c_lexer.specs.Unit.{BeginsUnit, IsRunOff};
 use crate::line::Begun;
 use crate::{class, front, quote, unit};
 use c_chars::{Chars, Dialect};
-use c_grammar::ItemKind;
+use c_grammar::{ItemKind, bytes};
 
 /// Whether the text begins with these bytes and then this quote.
 fn begins_quoted(text: &Chars, prefix: &[u8], quote: u8) -> bool
@@ -128,7 +128,7 @@ pub(crate) fn cut_word<'s>(dialect: Dialect, text: &Chars<'s>) -> (ItemKind, Cha
     ensures { IsCutOff text.now result.1 result.0 }
 {
     let left = unit::behind_word(text);
-    if front::begins_quote(&left) {
+    if bytes::is_quote_mark(front::byte_at(&left, 0)) {
         return cut_before_quote(dialect, text, left);
     }
     (ItemKind::Identifier, left)

@@ -1,11 +1,12 @@
 use Rattle.std.proofs.Common.{◌∙◌, sym}
 use Rattle.unicode_ident.specs.Ident.{is_xid_start}
 use Rattle.c_chars.specs.Characters.{bytes_of}
+use Rattle.c_lexer.proofs.FirstBytes.{beyond_at}
 use Rattle.c_lexer.proofs.UnitsOff.{rare_none, name_begins, wide_begins, rare_refused, rare_neither}
 use Rattle.c_lexer.proofs.unit.begins_rare_word.Goals as goal
 
-pub returns-then-not-begins_beyond-clause-no : goal.returns-then-not-begins_beyond-clause-no
-returns-then-not-begins_beyond-clause-no c = λ h. rare_none is_xid_start (bytes_of c.args.text.now.chars) (sym c.begins_beyond.ensures ∙ c.if-not-begins_beyond.true)
+pub returns-then-not-is_beyond-clause-no : goal.returns-then-not-is_beyond-clause-no
+returns-then-not-is_beyond-clause-no c = λ h. rare_none is_xid_start (bytes_of c.args.text.now.chars) (sym (c.is_beyond.ensures ∙ beyond_at (bytes_of c.args.text.now.chars) c.byte_at.result c.byte_at.ensures) ∙ c.if-not-is_beyond.true)
 
 pub returns-in-Some-clause-yes : goal.returns-in-Some-clause-yes
 returns-in-Some-clause-yes c = λ h. name_begins is_xid_start c.args.text.now c.in-Some.field-0 c.in-Some.ensures
