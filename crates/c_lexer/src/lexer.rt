@@ -68,18 +68,6 @@ fn is_backslash_last(text: &[u8], chars: &Chars, left: &Chars) -> bool
     ends_in_backslash(chars, left)
 }
 
-/// Whether no backslash is the last character of an item: its bytes are known to be none, or the last of them tell it.
-#[inline(always)]
-fn has_no_backslash_last(known: bool, text: &[u8], chars: &Chars, left: &Chars) -> bool
-    requires some { 0 < left.now.at }
-    requires within { left.now.at ≤ length text.now }
-    requires slashed { AreSlashed text.now chars.now.chars }
-    requires known { IsTrue known → BeforeLeft chars.now left.now (λ s. IsFalse (ends_in_backslash s)) }
-    ensures { IsTrue result → BeforeLeft chars.now left.now (λ s. IsFalse (ends_in_backslash s)) }
-{
-    known || !may_end_backslash(text, left.at())
-}
-
 /// Reads the items of a text one after another.
 #[derive(Drop)]
 pub struct Lexer<'s> {
@@ -124,59 +112,10 @@ impl<'s> Lexer<'s> {
         self.standing
     }
 
-    /// The next item, with what it and its gap tell, where its gap and its first byte are plain; none
-    /// elsewhere, where it stays. Where `again` is false only plain bytes tell an item, no character is read
-    /// again, and nothing is called.
-    #[inline(always)]
-    fn next_plain(&mut self, again: bool) -> Option<Lexeme<'s>>
-        ensures text { self.new.text ≡ self.old.text }
-        ensures dialect { self.new.dialect ≡ self.old.dialect }
-        ensures some { IfSome result (λ lexeme. IsNextLexeme self.old self.new lexeme) }
-        ensures plain { IfSome result (λ lexeme. IsFalse again → IsTrue (list_all (is_in_range 0x20 0x7E) lexeme.item.raw.now)) }
-        ensures itself { IfSome result (λ lexeme. IsFalse again → IsTrue (list_all is_plain lexeme.item.raw.now)) }
-        ensures none { IfNone result (self.new ≡ self.old) }
-    {
-        let Some(begun) = line::begin_plain(&self.chars) else {
-            return None;
-        };
-        let standing = self.standing.past_gap(begun.lines != 0);
-        let Some((kind, left)) = next::cut_begun(again, self.dialect, standing, &begun) else {
-            return None;
-        };
-        let Some(past) = place::past_begun(
-            again,
-            self.dialect,
-            standing,
-            kind,
-            begun.first.byte,
-            &begun.text,
-            &left,
-        ) else {
-            return None;
-        };
-        if !has_no_backslash_last(!again, self.text, &begun.text, &left) {
-            return None;
-        }
-        let raw = between(self.text, begun.first.from as usize, left.at());
-        self.standing = past;
-        self.chars = left;
-        Some(Lexeme {
-            item: Item {
-                kind,
-                raw,
-                start: begun.first.from,
-            },
-            lines: begun.lines,
-            bytes: begun.bytes,
-            white: begun.bytes != 0,
-            back: false,
-        })
-    }
-
-    /// The next item, with what it and its gap tell, whatever it is written as; none
-    /// exactly where no item is left.
+    /// The next item, with what it and its gap tell, whatever it is written as; none exactly where no item is
+    /// left.
     #[inline(never)]
-    fn next_rest(&mut self) -> Result<Option<Lexeme<'s>>, LexFault>
+    pub fn next_any(&mut self) -> Result<Option<Lexeme<'s>>, LexFault>
         ensures text { self.new.text ≡ self.old.text }
         ensures dialect { self.new.dialect ≡ self.old.dialect }
         ensures some { IfOk result (λ next. MatchOption next (IsTrue (is_gap (bytes_of self.old.left.chars))) (λ lexeme. IsNextLexeme self.old self.new lexeme)) }
@@ -211,23 +150,6 @@ impl<'s> Lexer<'s> {
         }
     }
 
-    /// The next item, with what it and its gap tell, where it isn't told at once; none exactly where no
-    /// item is left.
-    #[inline(never)]
-    pub fn next_any(&mut self) -> Result<Option<Lexeme<'s>>, LexFault>
-        ensures text { self.new.text ≡ self.old.text }
-        ensures dialect { self.new.dialect ≡ self.old.dialect }
-        ensures some { IfOk result (λ next. MatchOption next (IsTrue (is_gap (bytes_of self.old.left.chars))) (λ lexeme. IsNextLexeme self.old self.new lexeme)) }
-        ensures end { IfOk result (λ next. MatchOption next (self.new ≡ self.old) (λ lexeme. ⊤)) }
-        ensures fault { IfErr result (λ fault. IsFault self.old fault) }
-        ensures stays { IfErr result (λ fault. self.new ≡ self.old) }
-    {
-        match self.next_plain(true) {
-            Some(lexeme) => Ok(Some(lexeme)),
-            None => self.next_rest(),
-        }
-    }
-
     /// The next item, with what it and its gap tell, where it is a word, a number or a punctuator that plain bytes
     /// tell at once, each of them a printable character of ASCII that nothing behind it can change; none elsewhere,
     /// where the reader stays. It calls nothing.
@@ -240,7 +162,38 @@ impl<'s> Lexer<'s> {
         ensures itself { IfSome result (λ lexeme. IsTrue (list_all is_plain lexeme.item.raw.now)) }
         ensures none { IfNone result (self.new ≡ self.old) }
     {
-        self.next_plain(false)
+        let Some(begun) = line::begin_plain(&self.chars) else {
+            return None;
+        };
+        let standing = self.standing.past_gap(begun.lines != 0);
+        let Some((kind, left)) = next::cut_begun(self.dialect, standing, &begun) else {
+            return None;
+        };
+        let Some(past) = place::past_begun(
+            false,
+            self.dialect,
+            standing,
+            kind,
+            begun.first.byte,
+            &begun.text,
+            &left,
+        ) else {
+            return None;
+        };
+        let raw = between(self.text, begun.first.from as usize, left.at());
+        self.standing = past;
+        self.chars = left;
+        Some(Lexeme {
+            item: Item {
+                kind,
+                raw,
+                start: begun.first.from,
+            },
+            lines: begun.lines,
+            bytes: begun.bytes,
+            white: begun.bytes != 0,
+            back: false,
+        })
     }
 
     /// The next item, with what it and its gap tell; none exactly where no item is left.
@@ -253,7 +206,7 @@ impl<'s> Lexer<'s> {
         ensures fault { IfErr result (λ fault. IsFault self.old fault) }
         ensures stays { IfErr result (λ fault. self.new ≡ self.old) }
     {
-        match self.next_plain(false) {
+        match self.next_plain_lexeme() {
             Some(lexeme) => Ok(Some(lexeme)),
             None => {
                 // By a name of its own, so that what this function gives needs no place in memory.

@@ -7,7 +7,7 @@ ghost use Rattle.c_grammar.specs.Items.{AfterInclude, BeginsHeader};
 ghost use Rattle.c_grammar.specs.Touch.{starts};
 ghost use Rattle.c_grammar.specs.declared.ItemKind.TheVariants.{HeaderName};
 ghost use Rattle.c_grammar.specs.Bytes.{IsFirst};
-ghost use Rattle.c_lexer.specs.Cut.{IsCutOff, IsStop};
+ghost use Rattle.c_lexer.specs.Cut.{IsStop};
 ghost use Rattle.c_lexer.specs.Next.{IsCutNext};
 ghost use Rattle.c_grammar.specs.Place.{place_of};
 ghost use Rattle.c_lexer.specs.Reading.{AreOwnBytes, IsBegun};
@@ -64,39 +64,21 @@ fn is_behind_include(standing: Standing) -> bool
     matches!(standing, Standing::BehindInclude)
 }
 
-/// The item that is begun and what stands behind it, whatever its bytes are; none where nothing ends it.
-#[inline(always)]
-fn cut_any<'s>(dialect: Dialect, begun: &Begun<'s>) -> Option<(ItemKind, Chars<'s>)>
-    requires dialect { dialect ≡ begun.now.text.dialect }
-    requires begun { IsBegun begun.now.text begun.now.first begun.now.behind }
-    requires ink { IsFalse (is_white begun.now.first.byte || is_new_line begun.now.first.byte) }
-    ensures { IfSome result (λ r. IsCutOff begun.now.text r.1 r.0) }
-{
-    cut::cut_item(dialect, &begun.text, begun.first.byte).ok()
-}
-
 /// The item that is begun and what stands behind it, where it is a word, a number or a punctuator of plain
-/// bytes and no header name may stand here; where `any` is true also of any other kind, by calls. None
-/// elsewhere.
+/// bytes and no header name may stand here; none elsewhere.
 #[inline(always)]
 pub(crate) fn cut_begun<'s>(
-    any: bool,
     dialect: Dialect,
     standing: Standing,
     begun: &Begun<'s>,
 ) -> Option<(ItemKind, Chars<'s>)>
     requires dialect { dialect ≡ begun.now.text.dialect }
     requires begun { IsBegun begun.now.text begun.now.first begun.now.behind }
-    requires ink { IsFalse (is_white begun.now.first.byte || is_new_line begun.now.first.byte) }
     ensures next { IfSome result (λ r. IsCutNext (place_of standing) begun.now.text r.1 r.0) }
-    ensures plain { IfSome result (λ r. IsFalse any → AreOwnBytes begun.now.first begun.now.behind r.1) }
+    ensures plain { IfSome result (λ r. AreOwnBytes begun.now.first begun.now.behind r.1) }
 {
     if is_behind_include(standing) {
         return None;
     }
-    match cut::cut_plain(dialect, begun) {
-        Some(cut) => Some(cut),
-        None if any => cut_any(dialect, begun),
-        None => None,
-    }
+    cut::cut_plain(dialect, begun)
 }

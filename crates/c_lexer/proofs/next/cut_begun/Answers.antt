@@ -1,14 +1,9 @@
 use Rattle.std.proofs.Common.{◌<◌, length, subst, sym, arith}
 use Rattle.c_grammar.specs.Place.{place_of}
-use Rattle.c_lexer.proofs.Nexts.{next_of_cut, next_of_some}
+use Rattle.c_lexer.proofs.Nexts.{next_of_some}
 use Rattle.c_lexer.proofs.next.cut_begun.Goals as goal
 
-pub returns-in-Some-clause-next : goal.returns-in-Some-clause-next
-returns-in-Some-clause-next c =
-    next_of_cut (place_of c.args.standing) c.args.begun.now.text c.in-Some.cut.1 c.in-Some.cut.0 (subst (λ z. 0 < length z) (sym c.requires.begun.chars_are) (omega arith))
-    (λ e b. c.is_behind_include.ensures c.if-is_behind_include.false e) c.in-Some.ensures.off
-
-pub returns-in-None-clause-next : goal.returns-in-None-clause-next
-returns-in-None-clause-next c =
-    next_of_some (place_of c.args.standing) c.args.begun.now.text c.cut_any.result (subst (λ z. 0 < length z) (sym c.requires.begun.chars_are) (omega arith))
-    (λ e b. c.is_behind_include.ensures c.if-is_behind_include.false e) c.cut_any.ensures
+pub returns-clause-next : goal.returns-clause-next
+returns-clause-next c =
+    next_of_some (place_of c.args.standing) c.args.begun.now.text c.cut_plain.result (subst (λ z. 0 < length z) (sym c.requires.begun.chars_are) (omega arith))
+    (λ e b. c.is_behind_include.ensures c.if-is_behind_include.false e) c.cut_plain.ensures.off

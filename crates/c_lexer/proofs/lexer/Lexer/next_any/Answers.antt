@@ -12,7 +12,7 @@ use Rattle.c_lexer.proofs.Gaps.{gap_lines}
 use Rattle.c_lexer.proofs.Lexemes.{lexeme_there, some_before}
 use Rattle.c_lexer.proofs.NextItems.{gap_of, at_rest, spanned, begins_item, only_gap, bounds, fault_there, next_there}
 use Rattle.c_lexer.proofs.PlainBytes.{raw_rest}
-use Rattle.c_lexer.proofs.lexer.Lexer.next_rest.Goals as goal
+use Rattle.c_lexer.proofs.lexer.Lexer.next_any.Goals as goal
 
 pub returns-in_default-clause-some : goal.returns-in_default-clause-some
 returns-in_default-clause-some c =

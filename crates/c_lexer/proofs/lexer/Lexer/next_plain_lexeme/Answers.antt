@@ -1,6 +1,5 @@
 use Rattle.std.proofs.Common.{◌==◌, ◌∙◌, ◌-◌, false, not, refl, sym, subst, ap, take, drop}
 use Rattle.std.specs.Prelude.{slice_get}
-use Rattle.std.proofs.lemmas.Bool.{not-true}
 use Rattle.std.specs.Int.{is_in_range}
 use Rattle.std.specs.List.{list_all}
 use Rattle.c_chars.specs.Characters.{is_plain}
@@ -9,29 +8,16 @@ use Rattle.c_lexer.specs.Reading.{Reading, IsNextItem, IsNextLexeme}
 use Rattle.c_lexer.specs.declared.item.Lexeme.{Lexeme}
 use Rattle.c_lexer.proofs.Backslashes.{slashed_rest}
 use Rattle.c_lexer.proofs.Gaps.{gap_lines}
-use Rattle.c_lexer.proofs.Lexemes.{lexeme_there, some_before}
+use Rattle.c_lexer.proofs.Lexemes.{lexeme_there}
 use Rattle.c_lexer.proofs.Plains.{begun_first}
 use Rattle.c_lexer.proofs.PlainBytes.{item_plain, item_printable, items_told, raw_each, raw_rest}
 use Rattle.c_lexer.proofs.NextItems.{spanned, gap_of, at_rest, bounds, next_there}
-use Rattle.c_lexer.proofs.lexer.Lexer.next_plain.Goals as goal
+use Rattle.c_lexer.proofs.lexer.Lexer.next_plain_lexeme.Goals as goal
 
 pub cut_begun-requires-clause-dialect : goal.cut_begun-requires-clause-dialect
 cut_begun-requires-clause-dialect c =
     let rest = at_rest c.self.inside.text.now c.self.inside.dialect c.self.inside.chars c.in-Some.begun.text (gap_of c.self.inside.chars) c.self.invariant.0 c.in-Some.ensures.gap.rest_is in
     sym rest.dialect_is
-
-pub has_no_backslash_last-requires-clause-some : goal.has_no_backslash_last-requires-clause-some
-has_no_backslash_last-requires-clause-some c =
-    let rest = at_rest c.self.inside.text.now c.self.inside.dialect c.self.inside.chars c.in-Some.begun.text (gap_of c.self.inside.chars) c.self.invariant.0 c.in-Some.ensures.gap.rest_is in
-    some_before c.self.inside.text.now c.self.inside.dialect (place_of c.past_gap-standing.result) c.in-Some.begun.text c.in-Some-cut_begun.left c.in-Some-cut_begun.kind rest c.in-Some-cut_begun.ensures.next
-
-pub has_no_backslash_last-requires-clause-within : goal.has_no_backslash_last-requires-clause-within
-has_no_backslash_last-requires-clause-within c =
-    let rest = at_rest c.self.inside.text.now c.self.inside.dialect c.self.inside.chars c.in-Some.begun.text (gap_of c.self.inside.chars) c.self.invariant.0 c.in-Some.ensures.gap.rest_is in
-    (bounds c.self.inside.text.now c.self.inside.dialect (place_of c.past_gap-standing.result) c.in-Some.begun.text c.in-Some-cut_begun.left c.in-Some-cut_begun.kind c.in-Some.begun.first rest (ap (λ z. slice_get z 0) c.in-Some.ensures.begun.chars_are) c.in-Some-cut_begun.ensures.next).1
-
-pub has_no_backslash_last-requires-clause-slashed : goal.has_no_backslash_last-requires-clause-slashed
-has_no_backslash_last-requires-clause-slashed c = slashed_rest c.self.inside.text.now c.self.inside.chars c.in-Some.begun.text (gap_of c.self.inside.chars) c.self.invariant.1 c.in-Some.ensures.gap.rest_is
 
 pub between-raw-requires-clause-order : goal.between-raw-requires-clause-order
 between-raw-requires-clause-order c =
@@ -58,6 +44,9 @@ returns-clause-some c =
     let old : Reading = record { text = c.self.inside.text.now; dialect = c.self.inside.dialect; left = record { place = place_of c.self.inside.standing; chars = c.self.inside.chars.chars } } in
     let new : Reading = record { text = c.self.inside.text.now; dialect = c.self.inside.dialect; left = record { place = place_of c.in-Some-past_begun.past; chars = c.in-Some-cut_begun.left.chars } } in
     let gap = c.in-Some.ensures.gap in
+    let rest = at_rest c.self.inside.text.now c.self.inside.dialect c.self.inside.chars c.in-Some.begun.text (gap_of c.self.inside.chars) c.self.invariant.0 gap.rest_is in
+    let told = items_told c.in-Some.begun.text c.in-Some.begun.behind c.in-Some-cut_begun.left c.in-Some.begun.first (spanned c.self.inside.text.now c.self.inside.dialect c.in-Some.begun.text rest)
+    c.in-Some.ensures.begun.chars_are c.in-Some.ensures.begun.at_is c.in-Some.ensures.plain.0 c.in-Some.ensures.plain.1 c.in-Some-cut_begun.ensures.plain in
     let new_line = ap (λ k. not (k == 0)) gap.lines_are ∙ gap_lines c.self.inside.chars.chars in
     let next : IsNextItem old new c.in-Some-cut_begun.kind c.in-Some.begun.first.from c.between-raw.result.now =
     next_there c.self.inside.text.now c.self.inside.dialect (place_of c.self.inside.standing) (place_of c.past_gap-standing.result) (place_of c.in-Some-past_begun.past)
@@ -74,27 +63,27 @@ returns-clause-some c =
     } in
     subst (λ v. IsNextLexeme v new lexeme) c.self.view_is
     (lexeme_there old new c.self.inside.chars c.in-Some.begun.text c.in-Some-cut_begun.left (place_of c.past_gap-standing.result) c.in-Some-cut_begun.kind lexeme c.self.invariant.0 refl gap.rest_is
-    c.in-Some-cut_begun.ensures.next refl gap.lines_are gap.bytes_are refl (λ n within e. sym (c.has_no_backslash_last.ensures c.if-not-has_no_backslash_last.false n within e)) next)
+    c.in-Some-cut_begun.ensures.next refl gap.lines_are gap.bytes_are refl (λ n within e. sym (told n within e)) next)
 
 pub returns-clause-plain : goal.returns-clause-plain
-returns-clause-plain c = λ once.
+returns-clause-plain c =
     let rest = at_rest c.self.inside.text.now c.self.inside.dialect c.self.inside.chars c.in-Some.begun.text (gap_of c.self.inside.chars) c.self.invariant.0 c.in-Some.ensures.gap.rest_is in
     let within =
     (bounds c.self.inside.text.now c.self.inside.dialect (place_of c.past_gap-standing.result) c.in-Some.begun.text c.in-Some-cut_begun.left c.in-Some-cut_begun.kind c.in-Some.begun.first rest (ap (λ z. slice_get z 0) c.in-Some.ensures.begun.chars_are) c.in-Some-cut_begun.ensures.next).1 in
     let raw = raw_rest c.self.inside.text.now c.self.inside.chars c.in-Some.begun.text (gap_of c.self.inside.chars) c.self.invariant.2 c.in-Some.ensures.gap.rest_is in
     ap (list_all (is_in_range 0x20 0x7E)) (c.between-raw.ensures ∙ ap (λ k. take (k - c.in-Some.begun.first.from) (drop c.in-Some.begun.first.from c.self.inside.text.now)) c.at.ensures)
     ∙ raw_each (is_in_range 0x20 0x7E) c.self.inside.text.now c.in-Some.begun.text c.in-Some.begun.behind c.in-Some-cut_begun.left c.in-Some.begun.first raw within c.in-Some.ensures.begun.chars_are c.in-Some.ensures.begun.at_is
-    c.in-Some.ensures.plain.0 c.in-Some.ensures.plain.1 (c.in-Some-cut_begun.ensures.plain once) item_printable
+    c.in-Some.ensures.plain.0 c.in-Some.ensures.plain.1 c.in-Some-cut_begun.ensures.plain item_printable
 
 pub returns-clause-itself : goal.returns-clause-itself
-returns-clause-itself c = λ once.
+returns-clause-itself c =
     let rest = at_rest c.self.inside.text.now c.self.inside.dialect c.self.inside.chars c.in-Some.begun.text (gap_of c.self.inside.chars) c.self.invariant.0 c.in-Some.ensures.gap.rest_is in
     let within =
     (bounds c.self.inside.text.now c.self.inside.dialect (place_of c.past_gap-standing.result) c.in-Some.begun.text c.in-Some-cut_begun.left c.in-Some-cut_begun.kind c.in-Some.begun.first rest (ap (λ z. slice_get z 0) c.in-Some.ensures.begun.chars_are) c.in-Some-cut_begun.ensures.next).1 in
     let raw = raw_rest c.self.inside.text.now c.self.inside.chars c.in-Some.begun.text (gap_of c.self.inside.chars) c.self.invariant.2 c.in-Some.ensures.gap.rest_is in
     ap (list_all is_plain) (c.between-raw.ensures ∙ ap (λ k. take (k - c.in-Some.begun.first.from) (drop c.in-Some.begun.first.from c.self.inside.text.now)) c.at.ensures)
     ∙ raw_each is_plain c.self.inside.text.now c.in-Some.begun.text c.in-Some.begun.behind c.in-Some-cut_begun.left c.in-Some.begun.first raw within c.in-Some.ensures.begun.chars_are c.in-Some.ensures.begun.at_is
-    c.in-Some.ensures.plain.0 c.in-Some.ensures.plain.1 (c.in-Some-cut_begun.ensures.plain once) item_plain
+    c.in-Some.ensures.plain.0 c.in-Some.ensures.plain.1 c.in-Some-cut_begun.ensures.plain item_plain
 
 pub past_begun-requires-clause-spans : goal.past_begun-requires-clause-spans
 past_begun-requires-clause-spans c =
@@ -103,9 +92,3 @@ past_begun-requires-clause-spans c =
 
 pub past_begun-requires-clause-first : goal.past_begun-requires-clause-first
 past_begun-requires-clause-first c = begun_first c.in-Some.begun.text c.in-Some.begun.behind c.in-Some.begun.first c.in-Some.ensures.begun
-
-pub has_no_backslash_last-requires-clause-known : goal.has_no_backslash_last-requires-clause-known
-has_no_backslash_last-requires-clause-known c = λ once.
-    let rest = at_rest c.self.inside.text.now c.self.inside.dialect c.self.inside.chars c.in-Some.begun.text (gap_of c.self.inside.chars) c.self.invariant.0 c.in-Some.ensures.gap.rest_is in
-    items_told c.in-Some.begun.text c.in-Some.begun.behind c.in-Some-cut_begun.left c.in-Some.begun.first (spanned c.self.inside.text.now c.self.inside.dialect c.in-Some.begun.text rest)
-    c.in-Some.ensures.begun.chars_are c.in-Some.ensures.begun.at_is c.in-Some.ensures.plain.0 c.in-Some.ensures.plain.1 (c.in-Some-cut_begun.ensures.plain (not-true _ once))
