@@ -1,11 +1,15 @@
 -- The header name that the code cuts off is one, and where it finds none there is none.
-use Rattle.std.proofs.Common.{◌≡◌, ◌≢◌, ◌==◌, ◌&&◌, not, ℕ, suc, ◌+◌, Bool, true, false, List, [], ◌∷◌, ◌++◌, take, refl, sym, ◌∙◌, ap, subst, arith, inl, inr, ◌⊎◌, append_assoc}
+use Rattle.std.proofs.Common.{◌≡◌, ◌≢◌, ◌==◌, ◌&&◌, not, ℕ, suc, ◌+◌, Bool, true, false, List, [], ◌∷◌, ◌++◌, take, get_or, refl, sym, ◌∙◌, ap, subst, arith, inl, inr, ◌⊎◌, append_assoc}
 use Rattle.std.specs.Prelude.{if◌then◌else◌}
 use Rattle.std.specs.List.{list_all}
-use Rattle.std.proofs.lemmas.Bool.{and_parts, and_from, eqb-true, eq-eqb, cases_Bool, both_ways, not-true}
+use Rattle.std.proofs.lemmas.Bool.{and_parts, and_from, eqb-true, eq-eqb, ne_eqb, cases_Bool, both_ways, not-true}
+use Rattle.c_chars.specs.Characters.{bytes_of}
+use Rattle.c_chars.specs.Coming.{Coming, behind, passed}
+use Rattle.c_chars.specs.declared.LogicalChar.{LogicalChar}
 use Rattle.c_grammar.specs.Grammar.{is_new_line, IsHeaderName}
 use Rattle.c_grammar.specs.Items.{BeginsHeader}
 use Rattle.c_lexer.specs.Header.{ends_name, name_len, begins_header, header_len}
+use Rattle.c_lexer.proofs.Passing.{header_angle, header_quote}
 
 -- the characters of a name
 abbrev is_inner : ℕ → ℕ → Bool
@@ -93,3 +97,44 @@ no_header s h b =
     let whole : s ≡ name.first ∷ (name.body ++ name.last ∷ b.left) =
     b.whole ∙ (ap (λ z. z ++ b.left) name.whole ∙ ap (λ z. name.first ∷ z) (append_assoc name.body (name.last ∷ []) b.left)) in
     both_ways (begins_header s) h (subst (λ z. begins_header z ≡ true) (sym whole) (name_found name.first name.last name.body b.left name.inside name.not_empty name.ends))
+
+-- a header name from its first character on
+
+record FirstOf (x y : Coming) (b : ℕ) : Type 0 where
+  c : LogicalChar
+  chars_are : x.chars ≡ c ∷ y.chars
+  at_is : y.at ≡ c.to
+  dialect_is : y.dialect ≡ x.dialect
+  byte_is : c.byte ≡ b
+
+first_of : (x y : Coming) (b : ℕ) → get_or (bytes_of x.chars) 0 0 ≡ b → (0 ≡ b → ⊥) → y ≡ behind x 1 → FirstOf x y b
+first_of x y b e some y_is = at x.chars refl
+  where
+    at : (s : List LogicalChar) → x.chars ≡ s → FirstOf x y b
+    at [] w = absurd (some (sym (ap (λ z. get_or (bytes_of z) 0 0) w) ∙ e))
+    at (c ∷ s) w =
+        let left : y ≡ record { dialect = x.dialect; at = c.to; chars = s } = y_is ∙ ap (λ z. passed x.dialect x.at z 1) w in
+        record {
+          c = c;
+          chars_are = w ∙ ap (λ z. c ∷ z) (sym (ap (λ z. z.chars) left));
+          at_is = ap (λ z. z.at) left;
+          dialect_is = ap (λ z. z.dialect) left;
+          byte_is = sym (ap (λ z. get_or (bytes_of z) 0 0) w) ∙ e;
+        }
+
+pub angle_header : (x y : Coming) → get_or (bytes_of x.chars) 0 0 ≡ 60 → y ≡ behind x 1 →
+    (begins_header (bytes_of x.chars) ≡ ends_name 62 false (bytes_of y.chars)) × (behind x (header_len (bytes_of x.chars)) ≡ behind y (name_len 62 (bytes_of y.chars)))
+angle_header x y e y_is = let f = first_of x y 60 e (λ z. absurd (omega (arith, z))) y_is in header_angle x y f.c f.chars_are f.at_is f.dialect_is f.byte_is
+
+pub quote_header : (x y : Coming) → get_or (bytes_of x.chars) 0 0 ≡ 34 → y ≡ behind x 1 →
+    (begins_header (bytes_of x.chars) ≡ ends_name 34 false (bytes_of y.chars)) × (behind x (header_len (bytes_of x.chars)) ≡ behind y (name_len 34 (bytes_of y.chars)))
+quote_header x y e y_is =
+    let f = first_of x y 34 e (λ z. absurd (omega (arith, z))) y_is in
+    header_quote x y f.c f.chars_are f.at_is f.dialect_is (ap (λ k. k == 60) f.byte_is) f.byte_is
+
+pub no_header_mark : (s : List ℕ) (b : ℕ) → b ≡ get_or s 0 0 → (b ≡ 60 → ⊥) → (b ≡ 34 → ⊥) → begins_header s ≡ false
+no_header_mark [] b e angle quote = refl
+no_header_mark (c ∷ s) b e angle quote =
+    let x = ne_eqb c 60 (λ z. angle (e ∙ z)) in
+    let y = ne_eqb c 34 (λ z. quote (e ∙ z)) in
+    rw (x, y) refl

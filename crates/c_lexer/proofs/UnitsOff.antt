@@ -1,5 +1,5 @@
 -- Units and runs of them, cut off a text of characters.
-use Rattle.std.proofs.Common.{◌≡◌, ◌==◌, ◌||◌, ◌&&◌, ◌<◌, ◌-◌, ℕ, zero, suc, ◌+◌, Bool, true, false, List, [], ◌∷◌, ◌++◌, length, length-append, length-drop, take, drop, nat_eq, refl, sym, ◌∙◌, ap, subst, arith, inl, inr, ◌⊎◌, append_assoc}
+use Rattle.std.proofs.Common.{◌≡◌, ◌==◌, ◌||◌, ◌&&◌, ◌<◌, ◌-◌, ℕ, zero, suc, ◌+◌, Bool, true, false, List, [], ◌∷◌, ◌++◌, length, length-append, length-drop, take, drop, get_or, nat_eq, refl, sym, ◌∙◌, ap, subst, arith, inl, inr, ◌⊎◌, append_assoc}
 use Rattle.std.specs.Prelude.{Option, Some, None, MatchOption, slice_get, IsTrue}
 use Rattle.std.specs.List.{list_all, prefix_len, starts_with}
 use Rattle.std.proofs.Math.Seq.{drop-append_seam}
@@ -12,7 +12,7 @@ use Rattle.c_chars.specs.Coming.{Coming, behind}
 use Rattle.c_chars.specs.declared.Dialect.{Dialect}
 use Rattle.c_chars.specs.declared.Dialect.TheVariants.{C11, C23}
 use Rattle.c_chars.specs.declared.LogicalChar.{LogicalChar}
-use Rattle.c_grammar.specs.Grammar.{AreUnits, is_one, is_hex, is_sign, is_exponent, is_separated, is_wide, is_universal_name, is_word_unit, is_number_unit}
+use Rattle.c_grammar.specs.Grammar.{AreUnits, is_one, is_digit, is_hex, is_sign, is_exponent, is_separated, is_wide, is_universal_name, is_word_unit, is_number_unit}
 use Rattle.c_grammar.specs.Touch.{starts}
 use Rattle.c_grammar.proofs.Firsts.{is_rare}
 use Rattle.c_grammar.proofs.Lists.{two_cuts}
@@ -29,8 +29,25 @@ use Rattle.c_lexer.proofs.Units.{IsGreedy, NumberUnit, Single, Rare, Signed, Sep
 
 -- Hexadecimal digits and universal character names
 
-pub hex_next : (n m : ℕ) (x y : Coming) (c : LogicalChar) → n ≡ suc m → x.chars ≡ c ∷ y.chars → is_hex c.byte ≡ true → begins_hex n (bytes_of x.chars) ≡ begins_hex m (bytes_of y.chars)
-hex_next n m x y c e w h = rw (e, w, h) refl
+hex_step : (m i : ℕ) (s : List ℕ) → is_hex (get_or s i 0) ≡ true → begins_hex (suc m) (drop i s) ≡ begins_hex m (drop (suc i) s)
+unfolding is_hex is_digit
+hex_step m i [] h = cc
+hex_step m zero (c ∷ s) h = rw h refl
+hex_step m (suc i) (c ∷ s) h = hex_step m i s h
+
+hex_missing : (m i : ℕ) (s : List ℕ) → is_hex (get_or s i 0) ≡ false → begins_hex (suc m) (drop i s) ≡ false
+hex_missing m zero [] h = refl
+hex_missing m (suc i) [] h = refl
+hex_missing m zero (c ∷ s) h = rw h refl
+hex_missing m (suc i) (c ∷ s) h = hex_missing m i s h
+
+pub hex_next : (n m i : ℕ) (s : List ℕ) (b : ℕ) → n ≡ suc m → b ≡ get_or s i 0 → is_hex b ≡ true → begins_hex n (drop i s) ≡ begins_hex m (drop (i + 1) s)
+hex_next n m i s b e byte h =
+    let next : i + 1 ≡ suc i = omega arith in
+    ap (λ k. begins_hex k (drop i s)) e ∙ (hex_step m i s (subst (λ k. is_hex k ≡ true) byte h) ∙ ap (λ k. begins_hex m (drop k s)) (sym next))
+
+pub hex_stop : (n m i : ℕ) (s : List ℕ) (b : ℕ) → n ≡ suc m → b ≡ get_or s i 0 → is_hex b ≡ false → begins_hex n (drop i s) ≡ false
+hex_stop n m i s b e byte h = ap (λ k. begins_hex k (drop i s)) e ∙ hex_missing m i s (subst (λ k. is_hex k ≡ false) byte h)
 
 -- the digits that a text begins with
 record HexFront (n : ℕ) (s : List ℕ) : Type 0 where

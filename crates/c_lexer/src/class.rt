@@ -39,13 +39,36 @@ pub(crate) fn ends_word(byte: u8) -> bool
     c_chars::told(&ENDS_WORD, byte)
 }
 
+/// Of each byte, whether it ends a number.
+const ENDS_NUMBER: [bool; 256] = [
+    true, true, true, true, true, true, true, true, true, true, true, true, true, true, true, true,
+    true, true, true, true, true, true, true, true, true, true, true, true, true, true, true, true,
+    true, true, true, true, false, true, true, false, true, true, true, false, true, false, false,
+    true, false, false, false, false, false, false, false, false, false, false, true, true, true,
+    true, true, true, true, false, false, false, false, false, false, false, false, false, false,
+    false, false, false, false, false, false, false, false, false, false, false, false, false,
+    false, false, false, true, false, true, true, false, true, false, false, false, false, false,
+    false, false, false, false, false, false, false, false, false, false, false, false, false,
+    false, false, false, false, false, false, false, false, true, true, true, true, true, false,
+    false, false, false, false, false, false, false, false, false, false, false, false, false,
+    false, false, false, false, false, false, false, false, false, false, false, false, false,
+    false, false, false, false, false, false, false, false, false, false, false, false, false,
+    false, false, false, false, false, false, false, false, false, false, false, false, false,
+    false, false, false, false, false, false, false, false, false, false, false, false, false,
+    false, false, false, false, false, false, false, false, false, false, false, false, false,
+    false, false, false, false, false, false, false, false, false, false, false, false, false,
+    false, false, false, false, false, false, false, false, false, false, false, false, false,
+    false, false, false, false, false, false, false, false, false, false, false, false, false,
+    false, false, false, false, false, false, false, false, false, false,
+];
+
 /// What ends a number that stands before it: no part of one, no sign, no quote, no backslash and no byte
 /// past ASCII.
 #[inline(always)]
 pub(crate) fn ends_number(byte: u8) -> bool
     ensures { result ≡ ends_number byte }
 {
-    !(is_single(byte) || (bytes::is_sign(byte) || (bytes::is_beyond(byte) || byte == b'\'')))
+    c_chars::told(&ENDS_NUMBER, byte)
 }
 
 /// Of each byte, whether it is a punctuator by itself.

@@ -6,7 +6,7 @@ ghost use Rattle.c_chars.specs.Coming.{behind};
 ghost use Rattle.c_lexer.specs.Quote.{closes_quote, quote_len};
 ghost use Rattle.c_lexer.specs.Header.{ends_name, name_len, begins_header, header_len};
 
-use crate::line;
+use crate::{front, line};
 use c_chars::Chars;
 use c_grammar::bytes;
 
@@ -74,17 +74,12 @@ pub(crate) fn behind_header<'s>(text: &Chars<'s>) -> Option<Chars<'s>>
         (IsFalse (begins_header (bytes_of text.now.chars)))
         (λ rest. IsTrue (begins_header (bytes_of text.now.chars)) × (rest ≡ behind text.now (header_len (bytes_of text.now.chars)))) }
 {
-    let mut rest = text.ahead();
-    match rest.next() {
-        Some(c) => {
-            if c.byte == b'<' {
-                behind_name(&rest, b'>')
-            } else if c.byte == b'"' {
-                behind_name(&rest, b'"')
-            } else {
-                None
-            }
-        }
-        None => None,
+    let first = front::byte_at(text, 0);
+    if first == b'<' {
+        return behind_name(&front::behind(text, 1), b'>');
     }
+    if first == b'"' {
+        return behind_name(&front::behind(text, 1), b'"');
+    }
+    None
 }

@@ -1,6 +1,6 @@
 //! The units of words and numbers (C11 6.4.2.1, 6.4.3, 6.4.8), and their runs.
 
-ghost use Rattle.std.specs.Prelude.{◌≡◌, IsTrue, IsFalse, IfSome, MatchOption};
+ghost use Rattle.std.specs.Prelude.{◌≡◌, ◌≤◌, ◌==◌, IsTrue, IsFalse, IfSome, MatchOption};
 ghost use Rattle.unicode_ident.specs.Ident.{is_xid_start, is_xid_continue};
 ghost use Rattle.c_chars.specs.Characters.{bytes_of};
 ghost use Rattle.c_grammar.specs.Grammar.{is_digit, is_universal_name, is_word_unit, is_number_unit};
@@ -16,17 +16,12 @@ use c_grammar::{ItemKind, bytes};
 
 /// Whether the text begins with so many hexadecimal digits.
 fn begins_hex(text: &Chars, count: usize) -> bool
+    requires { count ≤ 8 }
     ensures { result ≡ begins_hex count (bytes_of text.now.chars) }
 {
-    let mut rest = text.ahead();
-    for _ in 0..count {
-        match rest.next() {
-            Some(c) => {
-                if !bytes::is_hex(c.byte) {
-                    return false;
-                }
-            }
-            None => return false,
+    for index in 0..count {
+        if !bytes::is_hex(front::byte_at(text, index)) {
+            return false;
         }
     }
     true
@@ -34,9 +29,13 @@ fn begins_hex(text: &Chars, count: usize) -> bool
 
 /// Whether the text begins with a backslash, this letter and so many hexadecimal digits.
 fn begins_name(text: &Chars, letter: u8, count: usize) -> bool
+    requires letter { IsFalse (letter == 0) }
+    requires count { count ≤ 8 }
     ensures { result ≡ begins_name letter count (bytes_of text.now.chars) }
 {
-    front::begins_with(text, &[b'\\', letter]) && begins_hex(&front::behind(text, 2), count)
+    front::byte_at(text, 0) == b'\\'
+        && front::byte_at(text, 1) == letter
+        && begins_hex(&front::behind(text, 2), count)
 }
 
 /// What stands behind the universal character name that the text begins with; none where it begins
