@@ -1,12 +1,13 @@
 -- What the first byte of a text tells.
 use Rattle.std.proofs.Common.{◌≡◌, ◌==◌, ◌&&◌, ◌||◌, ℕ, Bool, true, false, List, [], ◌∷◌, drop, get_or, nat_eq, suc, zero, refl, sym, ◌∙◌, ap, subst, inl, inr}
-use Rattle.std.specs.Prelude.{Some, None, slice_get}
+use Rattle.std.specs.Prelude.{IfNone, IfSome, Option, Some, None, slice_get}
 use Rattle.std.specs.List.{starts_with}
 use Rattle.std.proofs.lemmas.Bool.{and_right, eq-eqb, ne_eqb, cases_Bool}
 use Rattle.c_chars.specs.Characters.{bytes_of}
 use Rattle.c_chars.specs.declared.LogicalChar.{LogicalChar}
 use Rattle.c_grammar.specs.Touch.{starts}
 use Rattle.c_grammar.specs.Bytes.{is_beyond, is_quote_mark, IsFirst}
+use Rattle.c_chars.specs.Coming.{Coming}
 use Rattle.c_chars.specs.declared.Dialect.{Dialect}
 use Rattle.c_chars.specs.declared.Dialect.TheVariants.{C11, C23}
 use Rattle.c_grammar.specs.Grammar.{is_digit, is_exponent, is_letter, is_sign}
@@ -47,6 +48,20 @@ begins_at p [] zero none = none
 begins_at p [] (suc n) none = none
 begins_at p (c ∷ s) zero none = refl
 begins_at p (c ∷ s) (suc n) none = begins_at p s n none
+
+pub stopped : (p : ℕ → Bool) (s : List LogicalChar) (b : ℕ) → b ≡ get_or (bytes_of s) 0 0 → p b ≡ false → starts p (bytes_of s) ≡ false
+stopped p [] b e h = refl
+stopped p (c ∷ s) b e h = subst (λ k. p k ≡ false) e h
+
+-- a step over a character whose byte was seen
+pub stepped : (p : ℕ → Bool) (v : Bool) (old new : Coming) (b : ℕ) (o : Option LogicalChar) → b ≡ get_or (bytes_of old.chars) 0 0 → p b ≡ v → IfSome o (λ c. (old.chars ≡ c ∷ new.chars) × (new.at ≡ c.to))
+    → IfSome o (λ c. (old.chars ≡ c ∷ new.chars) × (new.at ≡ c.to) × (p c.byte ≡ v))
+stepped p v old new b None e h m = m
+stepped p v old new b (Some c) e h m = (m.0, m.1, subst (λ k. p k ≡ v) (e ∙ ap (λ z. get_or (bytes_of z) 0 0) m.0) h)
+
+pub at_end : (p : ℕ → Bool) (old new : Coming) (o : Option LogicalChar) → IfNone o ((old.chars ≡ []) × (new ≡ old)) → IfNone o ((starts p (bytes_of old.chars) ≡ false) × (new ≡ old))
+at_end p old new None m = (ap (λ z. starts p (bytes_of z)) m.0, m.1)
+at_end p old new (Some c) m = m
 
 -- the first two bytes
 two_so : (a b c : ℕ) (s : List ℕ) → IsFirst c s → starts_with nat_eq s (a ∷ b ∷ []) ≡ ((a == c) && starts (λ e. b == e) (drop 1 s))

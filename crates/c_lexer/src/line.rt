@@ -9,6 +9,7 @@ ghost use Rattle.c_grammar.specs.Place.{IsSpanned};
 ghost use Rattle.c_lexer.specs.Reading.{IsBegun, IsGap, new_lines, bytes_in, first_gap};
 ghost use Rattle.c_grammar.specs.Touch.{starts};
 
+use crate::front;
 use c_chars::{Chars, LogicalChar};
 use c_grammar::bytes;
 
@@ -19,15 +20,10 @@ pub(crate) fn next_of_line(chars: &mut Chars) -> Option<LogicalChar>
     ensures some { IfSome result (λ c. (chars.old.chars ≡ c ∷ chars.new.chars) × (chars.new.at ≡ c.to) × IsFalse (is_new_line c.byte)) }
     ensures none { IfNone result (IsFalse (starts (λ c. not (is_new_line c)) (bytes_of chars.old.chars)) × (chars.new ≡ chars.old)) }
 {
-    match chars.peek(0) {
-        Some(c) => {
-            if bytes::is_new_line(c.byte) {
-                return None;
-            }
-            chars.next()
-        }
-        None => None,
+    if bytes::is_new_line(front::byte_at(chars, 0)) {
+        return None;
     }
+    chars.next()
 }
 
 /// The next character of the gap; none behind it, where it stays.
@@ -37,15 +33,10 @@ fn next_blank(chars: &mut Chars) -> Option<LogicalChar>
     ensures some { IfSome result (λ c. (chars.old.chars ≡ c ∷ chars.new.chars) × (chars.new.at ≡ c.to) × IsTrue (is_white c.byte || is_new_line c.byte)) }
     ensures none { IfNone result (IsFalse (starts (λ c. is_white c || is_new_line c) (bytes_of chars.old.chars)) × (chars.new ≡ chars.old)) }
 {
-    match chars.peek(0) {
-        Some(c) => {
-            if !bytes::is_blank(c.byte) {
-                return None;
-            }
-            chars.next()
-        }
-        None => None,
+    if !bytes::is_blank(front::byte_at(chars, 0)) {
+        return None;
     }
+    chars.next()
 }
 
 /// The next letter or digit; none behind the word, where it stays.
@@ -55,15 +46,10 @@ fn next_of_word(chars: &mut Chars) -> Option<LogicalChar>
     ensures some { IfSome result (λ c. (chars.old.chars ≡ c ∷ chars.new.chars) × (chars.new.at ≡ c.to) × IsTrue (is_letter c.byte || is_digit c.byte)) }
     ensures none { IfNone result (IsFalse (starts (λ c. is_letter c || is_digit c) (bytes_of chars.old.chars)) × (chars.new ≡ chars.old)) }
 {
-    match chars.peek(0) {
-        Some(c) => {
-            if !bytes::is_word(c.byte) {
-                return None;
-            }
-            chars.next()
-        }
-        None => None,
+    if !bytes::is_word(front::byte_at(chars, 0)) {
+        return None;
     }
+    chars.next()
 }
 
 /// How many lines a character ends: one or none.
