@@ -1,8 +1,8 @@
 -- Literals with a prefix, as the lexer reads them.
-use Rattle.std.specs.Prelude.{◌==◌, ◌||◌, ◌&&◌, ◌+◌, not, ℕ, Bool, false, List, [], ◌∷◌, ◌++◌, length, drop, codes, nat_eq}
+use Rattle.std.specs.Prelude.{◌==◌, ◌||◌, ◌&&◌, ◌+◌, not, ℕ, Bool, false, List, [], ◌∷◌, ◌++◌, length, drop, codes, nat_eq, if◌then◌else◌}
 use Rattle.std.specs.List.{list_any, starts_with}
 use Rattle.c_chars.specs.declared.Dialect.{Dialect}
-use Rattle.c_grammar.specs.Grammar.{is_char_prefix}
+use Rattle.c_grammar.specs.Grammar.{is_char_prefix, is_of}
 use Rattle.c_grammar.specs.Touch.{starts}
 use Rattle.c_lexer.specs.Quote.{closes_quote}
 
@@ -21,3 +21,7 @@ is_literal d p s = is_string_at p s || (is_char_prefix d p && is_constant_at p s
 -- a literal with a prefix begins them
 abbrev pub begins_literal : Dialect → List ℕ → Bool
 begins_literal d s = list_any (λ p. is_literal d p s) (codes "L" ∷ codes "u" ∷ codes "U" ∷ codes "u8" ∷ [])
+
+-- how many characters the prefix of a literal has that begins them; 0 where none does
+abbrev pub prefix_len : List ℕ → ℕ
+prefix_len s = if starts_with nat_eq s (codes "u8") then 2 else (if starts (is_of (codes "LuU")) s then 1 else 0)

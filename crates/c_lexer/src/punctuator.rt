@@ -122,9 +122,9 @@ pub(crate) fn is_pair(first: u8, second: u8) -> bool
 pub(crate) fn text_len(dialect: Dialect, text: &Chars) -> usize
     ensures { result ≡ first_front (long dialect) (bytes_of text.now.chars) }
 {
-    let table: &[&[u8]] = match dialect {
-        Dialect::C11 => &LONG[1..],
-        Dialect::C23 => &LONG,
+    let from = match dialect {
+        Dialect::C11 => 1,
+        Dialect::C23 => 0,
     };
-    front::first_front(table, text)
+    front::first_front(&LONG[from..], text)
 }

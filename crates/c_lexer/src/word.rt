@@ -1,15 +1,14 @@
 //! Words, and the literals whose prefix a word is (C11 6.4.2.1, 6.4.4.4, 6.4.5).
 
-ghost use Rattle.std.specs.Prelude.{◌≡◌, ◌∷◌, ◌++◌, ◌+◌, ◌==◌, ◌&&◌, not, [], false, length, drop, codes, nat_eq, IsTrue};
+ghost use Rattle.std.specs.Prelude.{◌≡◌, ◌≤◌, ◌+◌, ◌==◌, ◌&&◌, ◌||◌, not, false, drop, codes, IsTrue};
 ghost use Rattle.std.specs.Prelude.{IsFalse, IfSome, MatchOption};
-ghost use Rattle.std.specs.List.{starts_with};
 ghost use Rattle.c_chars.specs.Characters.{bytes_of};
-ghost use Rattle.c_grammar.specs.Grammar.{is_letter, is_letter_unit, is_word_unit, is_char_prefix, is_string_prefix};
+ghost use Rattle.c_grammar.specs.Grammar.{is_letter, is_letter_unit, is_word_unit, is_char_prefix};
 ghost use Rattle.c_grammar.specs.Touch.{starts};
 ghost use Rattle.c_grammar.specs.declared.ItemKind.TheVariants.{Identifier};
 ghost use Rattle.c_grammar.specs.Bytes.{is_quote_mark};
 ghost use Rattle.c_lexer.specs.Cut.{IsCutOff};
-ghost use Rattle.c_lexer.specs.Literal.{is_literal, begins_literal};
+ghost use Rattle.c_lexer.specs.Literal.{begins_literal, prefix_len};
 ghost use Rattle.c_lexer.specs.Quote.{IsClosed, closes_quote};
 ghost use Rattle.c_chars.specs.Coming.{behind};
 ghost use Rattle.c_lexer.specs.Reading.{AreOwnBytes, IsBegun};
@@ -20,20 +19,19 @@ use crate::{class, front, quote, unit};
 use c_chars::{Chars, Dialect};
 use c_grammar::{ItemKind, bytes};
 
-/// Whether the text begins with these bytes and then this quote.
-fn begins_quoted(text: &Chars, prefix: &[u8], quote: u8) -> bool
-    ensures { result ≡ starts_with nat_eq (bytes_of text.now.chars) (prefix.now ++ quote ∷ []) }
+/// How many characters the prefix of a literal has that begins the text; 0 where none does.
+fn prefix_len(text: &Chars) -> usize
+    ensures len { result ≡ prefix_len (bytes_of text.now.chars) }
+    ensures few { result ≤ 2 }
 {
-    front::begins_with(text, prefix)
-        && front::begins_with(&front::behind(text, prefix.len()), &[quote])
-}
-
-/// Whether a character stands behind this prefix and an apostrophe, and it is no apostrophe.
-fn begins_constant(text: &Chars, prefix: &[u8]) -> bool
-    ensures { result ≡ (starts_with nat_eq (bytes_of text.now.chars) (prefix.now ++ 39 ∷ []) && not (starts (λ c. c == 39) (drop (length prefix.now + 1) (bytes_of text.now.chars)))) }
-{
-    begins_quoted(text, prefix, b'\'')
-        && !front::begins_with(&front::behind(text, prefix.len() + 1), b"'")
+    if front::begins_with(text, b"u8") {
+        return 2;
+    }
+    if matches!(front::byte_at(text, 0), b'L' | b'u' | b'U') {
+        1
+    } else {
+        0
+    }
 }
 
 /// The literal of this kind whose prefix and quote are so many characters, and what stands behind it; none where
@@ -52,24 +50,6 @@ fn cut_closed<'s>(
     if closed { Some((kind, left)) } else { None }
 }
 
-/// The literal with this prefix that the text begins with, and what stands behind it; none where it
-/// begins with none. `of_char`: character constants have this prefix.
-fn cut_with<'s>(text: &Chars<'s>, prefix: &[u8], of_char: bool) -> Option<(ItemKind, Chars<'s>)>
-    requires prefix { IsTrue (is_string_prefix prefix.now) }
-    requires of_char { of_char ≡ is_char_prefix text.now.dialect prefix.now }
-    ensures { MatchOption result
-        (IsFalse (is_literal text.now.dialect prefix.now (bytes_of text.now.chars)))
-        (λ r. IsCutOff text.now r.1 r.0) }
-{
-    if begins_quoted(text, prefix, b'"') {
-        return cut_closed(ItemKind::StringLit, text, prefix.len() + 1, b'"');
-    }
-    if of_char && begins_constant(text, prefix) {
-        return cut_closed(ItemKind::CharConst, text, prefix.len() + 1, b'\'');
-    }
-    None
-}
-
 /// Whether `u8` is a prefix of character constants (C23 6.4.4.5).
 fn has_u8_chars(dialect: Dialect) -> bool
     ensures { result ≡ is_char_prefix dialect (codes "u8") }
@@ -80,6 +60,14 @@ fn has_u8_chars(dialect: Dialect) -> bool
     }
 }
 
+/// Whether a prefix of so many characters is one of character constants, and no apostrophe stands behind it and one.
+fn begins_constant(dialect: Dialect, text: &Chars, len: usize) -> bool
+    requires { len ≤ 2 }
+    ensures { result ≡ ((len == 1 || is_char_prefix dialect (codes "u8")) && not (starts (λ c. c == 39) (drop (len + 1) (bytes_of text.now.chars)))) }
+{
+    (len == 1 || has_u8_chars(dialect)) && front::byte_at(text, len + 1) != b'\''
+}
+
 /// The literal with a prefix that the text begins with, and what stands behind it; none where it
 /// begins with none.
 fn cut_prefixed<'s>(dialect: Dialect, text: &Chars<'s>) -> Option<(ItemKind, Chars<'s>)>
@@ -88,16 +76,18 @@ fn cut_prefixed<'s>(dialect: Dialect, text: &Chars<'s>) -> Option<(ItemKind, Cha
         (IsFalse (begins_literal text.now.dialect (bytes_of text.now.chars)))
         (λ r. IsCutOff text.now r.1 r.0) }
 {
-    if let Some(cut) = cut_with(text, b"L", true) {
-        return Some(cut);
+    let len = prefix_len(text);
+    if len == 0 {
+        return None;
     }
-    if let Some(cut) = cut_with(text, b"u", true) {
-        return Some(cut);
+    let quote = front::byte_at(text, len);
+    if quote == b'"' {
+        return cut_closed(ItemKind::StringLit, text, len + 1, b'"');
     }
-    if let Some(cut) = cut_with(text, b"U", true) {
-        return Some(cut);
+    if quote == b'\'' && begins_constant(dialect, text, len) {
+        return cut_closed(ItemKind::CharConst, text, len + 1, b'\'');
     }
-    cut_with(text, b"u8", has_u8_chars(dialect))
+    None
 }
 
 /// The item that the text begins with a word of, before a quote, and what stands behind it: the
