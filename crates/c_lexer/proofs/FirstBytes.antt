@@ -12,7 +12,9 @@ use Rattle.c_chars.specs.declared.Dialect.{Dialect}
 use Rattle.c_chars.specs.declared.Dialect.TheVariants.{C11, C23}
 use Rattle.c_grammar.specs.Grammar.{is_digit, is_exponent, is_letter, is_sign}
 use Rattle.c_lexer.specs.Unit.{begins_pair, is_pair, is_single}
-use Rattle.c_lexer.specs.Run.{begins_long, begins_number, goes_on_long, head_len, may_be_long}
+use Rattle.c_lexer.specs.Run.{begins_long, begins_number, goes_on_long}
+use Rattle.c_lexer.proofs.Numbers.{head_len}
+use Rattle.c_lexer.proofs.Puncts.{may_be_long}
 
 pub first_there : (s : List LogicalChar) (c : LogicalChar) → slice_get s 0 ≡ Some c → IsFirst c.byte (bytes_of s)
 first_there [] c h = cc

@@ -1,6 +1,6 @@
 -- A number's head and then the most units are the longest that spells an item.
 use Rattle.std.proofs.Common.{◌≡◌, ◌==◌, ◌&&◌, ℕ, true, false, List, [], ◌∷◌, ◌++◌, length, refl, sym, ◌∙◌, ap, subst, inl, inr, append_assoc, arith}
-use Rattle.std.specs.Prelude.{codes}
+use Rattle.std.specs.Prelude.{codes, if◌then◌else◌}
 use Rattle.std.proofs.lemmas.Bool.{and_parts, or_cases, or_left, both_ways, eqb-true, cases_Bool}
 use Rattle.std.proofs.lemmas.Bool.Decides.{nat_tests}
 use Rattle.c_chars.specs.declared.Dialect.{Dialect}
@@ -14,8 +14,12 @@ use Rattle.c_grammar.proofs.Classes.{not_of, letter_start_not_digit, digit_not_m
 use Rattle.c_grammar.proofs.Goes.{BothBegin, both_begin, other_first, point_digit_no_punct, not_number_start}
 use Rattle.c_grammar.proofs.Sorts.{apart_at}
 use Rattle.c_grammar.proofs.Wide.{is_high}
-use Rattle.c_lexer.specs.Run.{begins_number, head_len}
+use Rattle.c_lexer.specs.Run.{begins_number}
 use Rattle.c_lexer.specs.Unit.{IsLongestHeld}
+
+-- how many characters the head of a number has
+abbrev pub head_len : List ℕ → ℕ
+head_len s = if starts is_digit s then 1 else 2
 
 -- a number isn't the front of a punctuator
 no_punct : (d : Dialect) (head rest : List ℕ) → is_number_head head ≡ true → is_punctuator d (head ++ rest) ≡ true → ⊥

@@ -18,9 +18,10 @@ use Rattle.c_grammar.specs.Bytes.{is_beyond}
 use Rattle.c_lexer.specs.Class.{ends_number}
 use Rattle.c_lexer.specs.Cut.{IsCutOff}
 use Rattle.c_lexer.specs.Reading.{IsBegun}
-use Rattle.c_lexer.specs.Run.{begins_number, head_len}
+use Rattle.c_lexer.specs.Run.{begins_number}
 use Rattle.c_lexer.specs.Unit.{IsRunOff, begins_pair, is_pair, is_single}
 use Rattle.c_lexer.proofs.FirstBytes.{starts_so}
+use Rattle.c_lexer.proofs.Numbers.{head_len}
 use Rattle.c_lexer.proofs.Passing.{first_is}
 use Rattle.c_lexer.proofs.Plains.{begun_first, next_bytes, one_behind}
 use Rattle.c_lexer.proofs.Units.{number_greedy, number_some}

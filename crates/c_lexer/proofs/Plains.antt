@@ -17,14 +17,14 @@ use Rattle.c_grammar.specs.Bytes.{begins_punctuator, is_beyond, is_quote_mark, I
 use Rattle.c_lexer.specs.Class.{ends_mark, ends_word, is_lone_mark}
 use Rattle.c_lexer.specs.Cut.{IsCutOff}
 use Rattle.c_lexer.specs.Reading.{IsBegun}
-use Rattle.c_lexer.specs.Run.{begins_long, begins_number, first_front, goes_on_long, is_pair_mark, long, may_be_long}
+use Rattle.c_lexer.specs.Run.{begins_long, begins_number, first_front, goes_on_long, is_pair_mark, long}
 use Rattle.c_lexer.proofs.CutOffs.{behind_again}
 use Rattle.c_lexer.proofs.FirstBytes.{stands_alone, starts_so, two_apart}
 use Rattle.c_lexer.proofs.MarksOff.{mark_off}
 use Rattle.c_grammar.proofs.WordBytes.{word_byte}
 use Rattle.c_chars.proofs.Steps.{behind_next}
 use Rattle.c_lexer.proofs.Passing.{first_is, passed_run, prefix_done, prefix_next}
-use Rattle.c_lexer.proofs.Puncts.{not_long}
+use Rattle.c_lexer.proofs.Puncts.{may_be_long, not_long}
 use Rattle.c_lexer.proofs.UnitsOff.{rare_none, run_at, word_none, word_run, word_stopped}
 use Rattle.c_lexer.proofs.WordsOff.{letter_first, word_off}
 

@@ -6,7 +6,7 @@ use Rattle.std.proofs.lemmas.Bool.{and_parts, or_cases, and_from, or_left, or_ri
 use Rattle.std.proofs.lemmas.List.{take-append-drop}
 use Rattle.c_grammar.specs.Grammar.{is_of, is_same, is_digit, is_number_head, common_punctuators, punctuators, is_punctuator, Shape, Whole, Unended, Spells}
 use Rattle.c_grammar.specs.Touch.{starts, is_front}
-use Rattle.c_lexer.specs.Run.{long, common_long, first_front, IsCut, begins_long, goes_on_long, is_pair_mark, may_be_long}
+use Rattle.c_lexer.specs.Run.{long, common_long, first_front, IsCut, begins_long, goes_on_long, is_pair_mark}
 use Rattle.c_chars.specs.declared.Dialect.{Dialect}
 use Rattle.c_chars.specs.declared.Dialect.TheVariants.{C11, C23}
 use Rattle.c_grammar.specs.declared.ItemKind.TheVariants.{Identifier, Number, CharConst, StringLit, Punct, HeaderName, StrayQuote, Other, BlockComment, LineComment}
@@ -14,6 +14,12 @@ use Rattle.c_grammar.proofs.Lists.{in_table, same_is, same_refl}
 use Rattle.c_grammar.proofs.Firsts.{Begins, high_not_mark, is_quote, is_mark, is_letter_start}
 use Rattle.c_grammar.proofs.Classes.{mark_not_letter_start, mark_not_quote, digit_not_mark, mark_is_punctuator}
 use Rattle.c_grammar.proofs.Goes.{BothBegin, both_begin, no_punct_front, mark_no_prefix, other_first}
+
+-- the first two characters can be those of a punctuator
+abbrev pub may_be_long : List ℕ → Bool
+may_be_long [] = false
+may_be_long (c ∷ []) = false
+may_be_long (c ∷ e ∷ s) = begins_long c && goes_on_long e
 
 front_same : (s p : List ℕ) → starts_with nat_eq s p ≡ is_front p s
 front_same s [] = refl

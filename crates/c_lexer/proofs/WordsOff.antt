@@ -19,13 +19,13 @@ use Rattle.c_grammar.proofs.Wide.{wide_alone}
 use Rattle.c_grammar.specs.Bytes.{is_quote_mark, begins_punctuator}
 use Rattle.c_lexer.specs.Cut.{IsCutOff}
 use Rattle.c_lexer.specs.Literal.{begins_literal}
-use Rattle.c_lexer.specs.Run.{begins_number, head_len}
+use Rattle.c_lexer.specs.Run.{begins_number}
 use Rattle.c_grammar.specs.Utf8.{any_char, only}
 use Rattle.c_lexer.specs.Unit.{BeginsUnit, IsUnitOff, IsRunOff, is_rare_unit}
 use Rattle.c_lexer.proofs.CutOffs.{left_bytes, behind_again}
 use Rattle.c_lexer.proofs.Literals.{word_longest_run, run_headed}
 use Rattle.c_lexer.proofs.MarksOff.{no_digit}
-use Rattle.c_lexer.proofs.Numbers.{number_longest_run, number_head}
+use Rattle.c_lexer.proofs.Numbers.{head_len, number_longest_run, number_head}
 use Rattle.c_lexer.proofs.Others.{other_longest}
 use Rattle.c_grammar.proofs.OneChar.{wide_any, wide_only}
 use Rattle.c_lexer.proofs.Units.{letter_is, rare_is_letter}

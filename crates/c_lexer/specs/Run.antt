@@ -12,10 +12,6 @@ abbrev pub begins_number : List ℕ → Bool
 begins_number [] = false
 begins_number (f ∷ s) = is_digit f || (f == 46 && starts is_digit s)
 
--- how many characters the head of a number has
-abbrev pub head_len : List ℕ → ℕ
-head_len s = if starts is_digit s then 1 else 2
-
 -- The first n characters are the longest that spell an item.
 abbrev pub IsCut : Dialect → Shape → List ℕ → ℕ → Type 0
 IsCut d k s n = IsLongest d k (take n s) (drop n s)
@@ -49,9 +45,3 @@ goes_on_long c = is_of (codes "=>&+|-<.:#%") c
 unfoldable pub is_pair_mark : ℕ → ℕ → Bool
 is_pair_mark a b =
     if b == 61 then is_of (codes "=!+<>-|&*/%^") a else (if b == 62 then a == 45 else (is_of (codes "&+|-#") b && a == b))
-
--- the first two characters can be those of a punctuator
-abbrev pub may_be_long : List ℕ → Bool
-may_be_long [] = false
-may_be_long (c ∷ []) = false
-may_be_long (c ∷ e ∷ s) = begins_long c && goes_on_long e

@@ -1,21 +1,19 @@
 //! Cuts off the item that a text begins with.
 
-ghost use Rattle.std.specs.Prelude.{◌≡◌, ◌∷◌, ◌++◌, ◌+◌, ◌||◌, ◌<◌, ◌^◌, length, true, false, codes, [], ◌==◌, nat_eq};
-ghost use Rattle.std.specs.Prelude.{not, drop, IsTrue, IsFalse, IfSome, MatchOption, MatchResult};
+ghost use Rattle.std.specs.Prelude.{◌≡◌, ◌∷◌, ◌||◌, ◌<◌, length, [], nat_eq};
+ghost use Rattle.std.specs.Prelude.{IsTrue, IsFalse, IfSome, MatchOption, MatchResult};
 ghost use Rattle.std.specs.List.{starts_with};
 ghost use Rattle.c_chars.specs.Characters.{bytes_of};
 ghost use Rattle.c_chars.specs.Coming.{behind};
-ghost use Rattle.c_grammar.specs.Grammar.{Unended, is_of, is_letter, is_digit, is_white, is_new_line, is_char_prefix};
-ghost use Rattle.c_grammar.specs.Grammar.{is_string_prefix};
+ghost use Rattle.c_grammar.specs.Grammar.{Unended, is_letter, is_white, is_new_line};
 ghost use Rattle.c_grammar.specs.Touch.{starts};
-ghost use Rattle.c_lexer.specs.Quote.{closes_quote};
 ghost use Rattle.c_grammar.specs.Items.{IsLongest};
-ghost use Rattle.c_grammar.specs.declared.ItemKind.TheVariants.{Identifier, Number, Punct, Other, CharConst, StringLit};
-ghost use Rattle.c_grammar.specs.declared.ItemKind.TheVariants.{StrayQuote, LineComment, BlockComment};
+ghost use Rattle.c_grammar.specs.declared.ItemKind.TheVariants.{Number, Punct, Other};
+ghost use Rattle.c_grammar.specs.declared.ItemKind.TheVariants.{LineComment, BlockComment};
 ghost use Rattle.c_lexer.specs.Cut.{IsCutOff, IsStop};
 ghost use Rattle.c_grammar.specs.Bytes.{begins_punctuator, is_quote_mark, IsFirst};
 ghost use Rattle.c_lexer.specs.Reading.{AreOwnBytes, IsBegun};
-ghost use Rattle.c_lexer.specs.Run.{begins_number, head_len};
+ghost use Rattle.c_lexer.specs.Run.{begins_number};
 ghost use Rattle.c_lexer.specs.Unit.{BeginsUnit, is_rare_unit};
 ghost use Rattle.unicode_ident.specs.Ident.{is_xid_start};
 

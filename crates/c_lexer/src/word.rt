@@ -5,7 +5,6 @@ ghost use Rattle.std.specs.Prelude.{IsFalse, IfSome, MatchOption};
 ghost use Rattle.c_chars.specs.Characters.{bytes_of};
 ghost use Rattle.c_grammar.specs.Grammar.{is_letter, is_letter_unit, is_word_unit, is_char_prefix};
 ghost use Rattle.c_grammar.specs.Touch.{starts};
-ghost use Rattle.c_grammar.specs.declared.ItemKind.TheVariants.{Identifier};
 ghost use Rattle.c_grammar.specs.Bytes.{is_quote_mark};
 ghost use Rattle.c_lexer.specs.Cut.{IsCutOff};
 ghost use Rattle.c_lexer.specs.Literal.{begins_literal, prefix_len};

@@ -1,8 +1,7 @@
 use Rattle.std.proofs.Common.{◌≡◌, ◌∙◌, false, sym}
 use Rattle.c_chars.specs.Characters.{bytes_of}
-use Rattle.c_lexer.specs.Run.{may_be_long}
 use Rattle.c_lexer.proofs.FirstBytes.{long_at, no_second, stands_alone}
-use Rattle.c_lexer.proofs.Puncts.{not_long}
+use Rattle.c_lexer.proofs.Puncts.{may_be_long, not_long}
 use Rattle.c_lexer.proofs.MarksOff.{mark_off}
 use Rattle.c_lexer.proofs.cut.cut_mark.Goals.{then-not-begins_long-via-then-not-begins_long, then-not-begins_long-via-else-not-begins_long+then-not-goes_on_long}
 use Rattle.c_lexer.proofs.cut.cut_mark.Goals as goal
