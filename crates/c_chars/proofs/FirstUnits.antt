@@ -148,12 +148,6 @@ no_chars d at (c ∷ s) l = absurd (omega arith)
 made_of : ℕ → ℕ → ℕ → LogicalChar
 made_of b f t = record { byte = b; from = f; to = t }
 
-char_is : (r : LogicalChar) (b f t : ℕ) → r.byte ≡ b → r.from ≡ f → r.to ≡ t → r ≡ record { byte = b; from = f; to = t }
+pub char_is : (r : LogicalChar) (b f t : ℕ) → r.byte ≡ b → r.from ≡ f → r.to ≡ t → r ≡ record { byte = b; from = f; to = t }
 unfolding made_of
 char_is r b f t x y z = let same : made_of r.byte r.from r.to ≡ made_of b f t = cc in same
-
-pub plain_from : (d d2 : Dialect) (at at2 : ℕ) (s rest rest2 : List ℕ) (b n : ℕ) (first : List LogicalChar) (r : LogicalChar) → IsUnit d s b n → rest ≡ drop n s → (b == 92) ≡ false → chars d at s ≡ first →
-    r.byte ≡ b → r.from ≡ at → r.to ≡ at + n → d2 ≡ d → at2 ≡ at + n → rest2 ≡ rest → first ≡ r ∷ chars d2 at2 rest2
-plain_from d d2 at at2 s rest rest2 b n first r u e p i x y z dd aa rr =
-    let made = char_is r b at (at + n) x y z in
-    sym i ∙ (step_plain d s rest b n at u e p ∙ rw (made, dd, aa, rr) refl)

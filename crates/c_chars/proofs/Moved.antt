@@ -1,12 +1,12 @@
 -- Characters of bytes, wherever the bytes stand.
 use Rattle.std.proofs.Common.{◌≡◌, ◌==◌, ℕ, ◌+◌, arith, length, false, List, [], ◌∷◌, map, drop, refl, ◌∙◌, ap}
 use Rattle.c_chars.specs.Characters.{chars, bytes_of, moved, IsUnit}
-use Rattle.c_chars.specs.Alone.{IsFirstCharacter}
+use Rattle.c_chars.specs.Alone.{HasNoCharacter, IsFirstCharacter}
 use Rattle.c_chars.specs.declared.Dialect.{Dialect}
 use Rattle.c_chars.specs.declared.LogicalChar.{LogicalChar}
 use Rattle.std.proofs.lemmas.List.{drop-drop}
 use Rattle.c_chars.proofs.Cuts.{chars_moved}
-use Rattle.c_chars.proofs.FirstUnits.{step_last, step_plain, step_kept, step_splice}
+use Rattle.c_chars.proofs.FirstUnits.{no_chars, step_last, step_plain, step_kept, step_splice}
 
 pub bytes_moved : (n : ℕ) (s : List LogicalChar) → bytes_of (map (moved n) s) ≡ bytes_of s
 bytes_moved n [] = refl
@@ -48,6 +48,9 @@ found_last d s rest behind m b n passed u e l = found d s rest behind m b n pass
 pub found_kept : (d : Dialect) (s rest behind : List ℕ) (m b n c k : ℕ) → IsPassed d s rest m → IsUnit d rest b n → behind ≡ drop n rest → IsUnit d behind c k → (c == 10) ≡ false
     → IsFirstCharacter d s (record { byte = b; before = m; len = n })
 found_kept d s rest behind m b n c k passed u e v p = found d s rest behind m b n passed e (λ at. step_kept d rest behind b n c k at u e v p)
+
+pub found_none : (d : Dialect) (s rest : List ℕ) (m : ℕ) → IsPassed d s rest m → length rest ≡ 0 → HasNoCharacter d s
+found_none d s rest m passed l at = passed.same at ∙ no_chars d (at + m) rest l
 
 pub passed_more : (d : Dialect) (s rest behind after : List ℕ) (m b n c k : ℕ) → IsPassed d s rest m → IsUnit d rest b n → behind ≡ drop n rest → IsUnit d behind c k → after ≡ drop k behind → b ≡ 92 → c ≡ 10
     → IsPassed d s after (m + (n + k))

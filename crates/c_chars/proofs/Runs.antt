@@ -9,7 +9,7 @@ use Rattle.c_chars.specs.Characters.{bytes_of, chars, placed, IsUnit, begins_tri
 use Rattle.c_chars.specs.Coming.{Coming, AreBytesPassed, ArePassed, AreSpacesPassed}
 use Rattle.c_chars.specs.declared.Dialect.{Dialect}
 use Rattle.c_chars.specs.declared.LogicalChar.{LogicalChar}
-use Rattle.c_chars.proofs.FirstUnits.{at_plain, step_plain}
+use Rattle.c_chars.proofs.FirstUnits.{at_plain, char_is, step_plain}
 use Rattle.c_chars.proofs.Moved.{bytes_at}
 
 no_trigraph : (d : Dialect) (b : ℕ) (s : List ℕ) → (b == 63) ≡ false → (has_trigraphs d && begins_trigraph (b ∷ s)) ≡ false
@@ -146,3 +146,13 @@ plain_byte d [] some h = absurd (omega (arith, some))
 plain_byte d (b ∷ s) some h =
     let few : length s ≤ length (b ∷ s) - 1 = omega arith in
     ap bytes_of (plain_first d 0 b s h) ∙ (ap (λ z. b ∷ z) (bytes_at d (0 + 1) s) ∙ sym (ap (λ z. b ∷ bytes_of (chars d 0 z)) (take_all (length (b ∷ s) - 1) s few)))
+
+-- A reader that took such a byte stands behind the first character.
+pub plain_taken : (d d2 : Dialect) (at at2 : ℕ) (s rest : List ℕ) (r : LogicalChar) → 1 ≤ length s → is_plain (get_or s 0 0) ≡ true → r.byte ≡ get_or s 0 0 → r.from ≡ at → r.to ≡ at + 1 → d2 ≡ d → at2 ≡ at + 1 → rest ≡ take (length s - 1) (drop 1 s) →
+    chars d at s ≡ r ∷ chars d2 at2 rest
+plain_taken d d2 at at2 [] rest r some h byte from to dd aa rr = absurd (omega (arith, some))
+plain_taken d d2 at at2 (b ∷ s) rest r some h byte from to dd aa rr =
+    let few : length s ≤ length (b ∷ s) - 1 = omega arith in
+    let made = char_is r b at (at + 1) byte from to in
+    let left : rest ≡ s = rr ∙ take_all (length (b ∷ s) - 1) s few in
+    plain_first d at b s h ∙ rw (made, dd, aa, left) refl

@@ -88,7 +88,7 @@ replaced_split (a ∷ b ∷ c ∷ s) (t ∷ u) v h = elim (cases_Bool (is_trigra
       record {
         front = a ∷ b ∷ c ∷ r.front;
         back = r.back;
-        whole = ap (λ z. a ∷ b ∷ c ∷ z) r.whole;
+        whole = ap (λ z. a ∷ b ∷ c ∷ z) {y = r.front ++ r.back} r.whole;
         before = rw y (ap (λ z. record { byte = trigraph c.byte; from = a.from; to = c.to } ∷ z) r.before ∙ ap (λ z. z ∷ u) heads);
         behind = r.behind;
         clean = over_behind a b c r.front r.back (third_not_query c.byte third) r.clean;
@@ -165,7 +165,7 @@ lines_split (a ∷ b ∷ s) (t ∷ u) v h = elim (cases_Bool ((a.byte == 13) && 
       record {
         front = a ∷ b ∷ r.front;
         back = r.back;
-        whole = ap (λ z. a ∷ b ∷ z) r.whole;
+        whole = ap (λ z. a ∷ b ∷ z) {y = r.front ++ r.back} r.whole;
         before = rw y (ap (λ z. record { byte = 10; from = a.from; to = b.to } ∷ z) r.before ∙ ap (λ z. z ∷ u) heads);
         behind = r.behind;
         clean = pair_behind 13 a b r.front r.back (line_is_none 13 b.byte refl (and_parts (a.byte == 13) (b.byte == 10) y).1) r.clean;

@@ -20,7 +20,7 @@ pub use reader::Chars;
 pub const LIMIT: usize = 8_388_608;
 
 /// Which edition of the C standard a text is read by.
-#[derive(Clone, Copy, Debug, PartialEq, Eq)]
+#[derive(Clone, Copy)]
 pub enum Dialect {
     /// ISO/IEC 9899:2011.
     C11,
@@ -29,7 +29,7 @@ pub enum Dialect {
 }
 
 /// A character after phases 1 and 2 of C11 5.1.1.2.
-#[derive(Clone, Copy, Debug, PartialEq, Eq)]
+#[derive(Clone, Copy)]
 pub struct LogicalChar {
     /// Its byte. A new-line is 10, also where it is written `\r\n`.
     pub byte: u8,

@@ -7,9 +7,8 @@ use std::process::Abort;
 /// A character by its byte, the offset of its first raw byte and the one behind its last.
 type Span = (u8, u32, u32);
 
-fn char_of(span: Span) -> LogicalChar {
-    let (byte, from, to) = span;
-    LogicalChar { byte, from, to }
+fn span_of(c: LogicalChar) -> Span {
+    (c.byte, c.from, c.to)
 }
 
 /// The characters of a text.
@@ -22,16 +21,11 @@ fn chars_of<'s>(rt: &impl Abort, text: &'s [u8], dialect: Dialect) -> Chars<'s> 
 fn compare(rt: &impl Abort, name: &str, left: Chars<'_>, spans: &[Span]) {
     let mut chars = left;
     for span in spans {
-        let expected = char_of(*span);
-        let peeked = chars.peek(0);
-        same(
-            rt,
-            name,
-            (peeked, chars.next()),
-            (Some(expected), Some(expected)),
-        );
+        let peeked = chars.peek(0).map(span_of);
+        let next = chars.next().map(span_of);
+        same(rt, name, (peeked, next), (Some(*span), Some(*span)));
     }
-    same(rt, name, chars.next(), None);
+    same(rt, name, chars.next().map(span_of), None);
 }
 
 /// A text and its characters.
@@ -86,7 +80,7 @@ fn looks_ahead(rt: HostRuntime) {
     for case in AHEAD {
         let (name, k, span) = *case;
         assert!(rt; k <= 8);
-        same(&rt, name, chars.ahead().peek(k), span.map(char_of));
+        same(&rt, name, chars.ahead().peek(k).map(span_of), span);
     }
 }
 
@@ -105,9 +99,9 @@ fn takes_plain_bytes_at_once(rt: HostRuntime) {
     for case in PLAIN {
         let (name, text, span) = *case;
         let mut chars = chars_of(rt, text, Dialect::C11);
-        let want = span.map(char_of);
-        let peeked = chars.peek_plain();
-        same(rt, name, (peeked, chars.next_plain()), (want, want));
+        let peeked = chars.peek_plain().map(span_of);
+        let next = chars.next_plain().map(span_of);
+        same(rt, name, (peeked, next), (span, span));
     }
 }
 
