@@ -1,11 +1,10 @@
 //! Classes of bytes, and how many of a class some bytes begin with.
 
-ghost use Rattle.std.specs.Prelude.{◌≡◌, ◌≤◌, false, get_or, length, take, IsTrue};
+ghost use Rattle.std.specs.Prelude.{◌≡◌, ◌<◌, ◌≤◌, false, get_or, length, take, IsTrue};
 ghost use Rattle.std.specs.List.{prefix_len};
-ghost use Rattle.c_chars.specs.Characters.{are_words, is_comment_byte, is_comment_ink, is_ink_byte, is_plain};
-ghost use Rattle.c_chars.specs.Characters.{is_space_byte, is_text_byte, is_word_byte};
+ghost use Rattle.c_chars.specs.Characters.{are_words, is_plain, is_space_byte, is_word_byte};
 
-use crate::lanes::{comment_stops, text_stops, word_stops};
+use crate::lanes::{ByteClass, CommentBytes, WordBytes};
 use std::simd::prelude::*;
 
 /// What a table tells of a byte.
@@ -77,17 +76,32 @@ pub fn is_word_byte(byte: u8) -> bool
     told(&WORD_BYTES, byte)
 }
 
-/// How many letters, digits, `_` and `$` the bytes begin with, told byte by byte.
-#[inline(always)]
-fn each_word_len(bytes: &[u8]) -> usize
-    ensures { result ≡ prefix_len is_word_byte bytes.now }
+/// How many bytes of the class these begin with, fewer than sixteen.
+#[inline(never)]
+fn short_len<C: ByteClass>(bytes: &[u8]) -> usize
+    requires { length bytes.now < 16 }
+    ensures { result ≡ prefix_len C.holds bytes.now }
 {
-    for i in 0..bytes.len() {
-        if !is_word_byte(bytes[i]) {
-            return i;
+    let mut sixteen = [0; 16];
+    sixteen[..bytes.len()].copy_from_slice(bytes);
+    let stops = C::stops(u8x16::from_array(sixteen));
+    bytes.len().min(stops.trailing_zeros() as usize)
+}
+
+/// How many bytes of the class these begin with, however many.
+#[inline(always)]
+pub(crate) fn run_len<C: ByteClass>(bytes: &[u8]) -> usize
+    ensures { result ≡ prefix_len C.holds bytes.now }
+{
+    let mut rest = bytes;
+    while let Some((sixteen, behind)) = rest.split_first_chunk::<16>() {
+        let stops = C::stops(u8x16::from_array(*sixteen));
+        if stops != 0 {
+            return bytes.len() - rest.len() + stops.trailing_zeros() as usize;
         }
+        rest = behind;
     }
-    bytes.len()
+    bytes.len() - rest.len() + short_len::<C>(rest)
 }
 
 /// How many letters, digits, `_` and `$` the bytes begin with, however many.
@@ -95,15 +109,7 @@ fn each_word_len(bytes: &[u8]) -> usize
 fn long_word_len(bytes: &[u8]) -> usize
     ensures { result ≡ prefix_len is_word_byte bytes.now }
 {
-    let mut rest = bytes;
-    while let Some((sixteen, behind)) = rest.split_first_chunk::<16>() {
-        let stops = word_stops(u8x16::from_array(*sixteen));
-        if stops != 0 {
-            return bytes.len() - rest.len() + stops.trailing_zeros() as usize;
-        }
-        rest = behind;
-    }
-    bytes.len() - rest.len() + each_word_len(rest)
+    run_len::<WordBytes>(bytes)
 }
 
 /// How many letters, digits, `_` and `$` the bytes begin with. Most words end within sixteen bytes, and are told
@@ -113,7 +119,7 @@ pub(crate) fn word_len(bytes: &[u8]) -> usize
     ensures { result ≡ prefix_len is_word_byte bytes.now }
 {
     if let Some((sixteen, _)) = bytes.split_first_chunk::<16>() {
-        let stops = word_stops(u8x16::from_array(*sixteen));
+        let stops = WordBytes::stops(u8x16::from_array(*sixteen));
         if stops != 0 {
             return stops.trailing_zeros() as usize;
         }
@@ -143,111 +149,13 @@ pub(crate) fn space_len(bytes: &[u8]) -> usize
     bytes.len()
 }
 
-/// Whether the byte is a character by itself that is no white space, and that literals don't look at: none of
-/// `"'*?\\`.
-#[tactic(auto, unfolding(crate::specs::Characters::is_ink_byte))]
-#[inline(always)]
-fn is_ink_byte(byte: u8) -> bool
-    ensures { result ≡ is_ink_byte byte }
-{
-    byte > b'\\'
-        || (byte > b' '
-            && byte != b'"'
-            && (byte != b'\'' && byte != b'*' && (byte != b'?' && byte != b'\\')))
-}
-
-/// Such a byte, a space or a tab.
-#[tactic(auto, unfolding(crate::specs::Characters::is_text_byte))]
-#[inline(always)]
-fn is_text_byte(byte: u8) -> bool
-    ensures { result ≡ is_text_byte byte }
-{
-    is_ink_byte(byte) || is_space_byte(byte)
-}
-
-/// How many such bytes, spaces and tabs the bytes begin with, told byte by byte.
-#[inline(never)]
-fn each_text_len(bytes: &[u8]) -> usize
-    ensures { result ≡ prefix_len is_text_byte bytes.now }
-{
-    for i in 0..bytes.len() {
-        if !is_text_byte(bytes[i]) {
-            return i;
-        }
-    }
-    bytes.len()
-}
-
-/// How many such bytes, spaces and tabs the bytes begin with.
-#[inline(always)]
-pub(crate) fn text_len(bytes: &[u8]) -> usize
-    ensures { result ≡ prefix_len is_text_byte bytes.now }
-{
-    let mut rest = bytes;
-    while let Some((sixteen, behind)) = rest.split_first_chunk::<16>() {
-        let stops = text_stops(u8x16::from_array(*sixteen));
-        if stops != 0 {
-            return bytes.len() - rest.len() + stops.trailing_zeros() as usize;
-        }
-        rest = behind;
-    }
-    bytes.len() - rest.len() + each_text_len(rest)
-}
-
-/// Whether the byte is a character by itself that is no white space, and that comments don't look at: none of `*?\\`.
-#[tactic(auto, unfolding(crate::specs::Characters::is_comment_ink))]
-#[inline(always)]
-fn is_comment_ink(byte: u8) -> bool
-    ensures { result ≡ is_comment_ink byte }
-{
-    byte > b'\\' || (byte > b' ' && byte != b'*' && (byte != b'?' && byte != b'\\'))
-}
-
-/// Such a byte, a space or a tab.
-#[tactic(auto, unfolding(crate::specs::Characters::is_comment_byte))]
-#[inline(always)]
-fn is_comment_byte(byte: u8) -> bool
-    ensures { result ≡ is_comment_byte byte }
-{
-    is_comment_ink(byte) || is_space_byte(byte)
-}
-
-/// How many bytes of comments the bytes begin with, told byte by byte.
-#[inline(never)]
-fn each_comment_len(bytes: &[u8]) -> usize
-    ensures { result ≡ prefix_len is_comment_byte bytes.now }
-{
-    for i in 0..bytes.len() {
-        if !is_comment_byte(bytes[i]) {
-            return i;
-        }
-    }
-    bytes.len()
-}
-
-/// How many bytes of comments the bytes begin with.
-#[inline(always)]
-pub(crate) fn comment_len(bytes: &[u8]) -> usize
-    ensures { result ≡ prefix_len is_comment_byte bytes.now }
-{
-    let mut rest = bytes;
-    while let Some((sixteen, behind)) = rest.split_first_chunk::<16>() {
-        let stops = comment_stops(u8x16::from_array(*sixteen));
-        if stops != 0 {
-            return bytes.len() - rest.len() + stops.trailing_zeros() as usize;
-        }
-        rest = behind;
-    }
-    bytes.len() - rest.len() + each_comment_len(rest)
-}
-
-/// How many of them there are up to the last that is no space or tab.
+/// How many bytes of comments these begin with, up to the last that is no space or tab.
 #[inline(always)]
 pub(crate) fn words_len(bytes: &[u8]) -> usize
     ensures within { result ≤ length bytes.now }
     ensures words { IsTrue (are_words (take result bytes.now)) }
 {
-    let mut len = comment_len(bytes);
+    let mut len = run_len::<CommentBytes>(bytes);
     while len > 0 && is_space_byte(bytes[len - 1]) {
         len -= 1;
     }

@@ -6,7 +6,8 @@ ghost use Rattle.c_chars.specs.Characters.{chars, logical, mark_len, is_comment_
 ghost use Rattle.c_chars.specs.Coming.{AreBetween, AreBytesPassed, ArePassed, AreSpacesPassed, AreWordsPassed};
 
 use crate::alone::first_character;
-use crate::classes::{comment_len, is_plain, space_len, text_len, word_len, words_len};
+use crate::classes::{is_plain, run_len, space_len, word_len, words_len};
+use crate::lanes::{CommentBytes, TextBytes};
 use crate::{Dialect, LIMIT, LogicalChar};
 use std::marker::Model;
 
@@ -256,7 +257,7 @@ impl<'s> Chars<'s> {
     pub fn pass_text(&mut self)
         ensures { ArePassed is_text_byte self.old self.new }
     {
-        let len = text_len(self.cursor.rest);
+        let len = run_len::<TextBytes>(self.cursor.rest);
         self.cursor.pass(len);
     }
 
@@ -268,7 +269,7 @@ impl<'s> Chars<'s> {
     pub fn pass_comment(&mut self)
         ensures { ArePassed is_comment_byte self.old self.new }
     {
-        let len = comment_len(self.cursor.rest);
+        let len = run_len::<CommentBytes>(self.cursor.rest);
         self.cursor.pass(len);
     }
 

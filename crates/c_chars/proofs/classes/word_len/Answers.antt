@@ -8,7 +8,7 @@ use Rattle.c_chars.proofs.classes.word_len.Goals as goal
 pub returns-then-stops-ne0 : goal.returns-then-stops-ne0
 returns-then-stops-ne0 c =
     let cases = c.in-Some.ensures.cases in
-    let mask = c.word_stops-stops.ensures ∙ ap (λ z. mask_l (map (λ b. not (is_word_byte b)) z)) cases.0 in
+    let mask = c.stops-stops.ensures ∙ ap (λ z. mask_l (map (λ b. not (is_word_byte b)) z)) cases.0 in
     let run = run_stops is_word_byte c.args.bytes.now 16 (omega (arith, cases.2)) (omega arith) (subst (λ m. 0 < m) mask (omega arith)) in
     let zeros = ap (count_trailing_zeros 64) mask in
     omega (arith, run, zeros)

@@ -2,7 +2,7 @@ use Rattle.std.proofs.Common.{ℕ, not, leb, cond, bit_and, refl}
 use Rattle.std.proofs.lemmas.Simd.{splat_is_map, zip2_of_maps, zip2_splat}
 use Rattle.c_chars.specs.Characters.{is_word_byte}
 use Rattle.c_chars.proofs.Sixteen.{masked}
-use Rattle.c_chars.proofs.lanes.word_stops.Goals as goal
+use Rattle.c_chars.proofs.lanes.WordBytesByteClass.stops.Goals as goal
 
 pub returns : goal.returns
 unfolding is_word_byte

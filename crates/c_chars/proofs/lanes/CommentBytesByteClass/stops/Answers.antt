@@ -3,7 +3,7 @@ use lib.Bits.{bit_or}
 use Rattle.std.proofs.lemmas.Simd.{zip2_of_maps, zip2_splat}
 use Rattle.c_chars.specs.Characters.{is_comment_byte, is_comment_ink, is_space_byte}
 use Rattle.c_chars.proofs.Sixteen.{masked}
-use Rattle.c_chars.proofs.lanes.comment_stops.Goals as goal
+use Rattle.c_chars.proofs.lanes.CommentBytesByteClass.stops.Goals as goal
 
 pub returns : goal.returns
 unfolding is_comment_byte is_comment_ink is_space_byte
