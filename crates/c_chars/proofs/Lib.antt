@@ -7,5 +7,6 @@ pub mod Runs
 pub mod Tables
 pub mod Moved
 pub mod Steps
+pub mod Fronts
 pub mod Sixteen
 pub mod Words

@@ -1,5 +1,5 @@
 -- Runs of bytes that are characters by themselves.
-use Rattle.std.proofs.Common.{◌≡◌, ◌==◌, ◌&&◌, not, ℕ, suc, ◌+◌, ◌-◌, ◌≤◌, arith, length, get_or, Bool, true, false, List, [], ◌∷◌, ◌++◌, take, drop, refl, sym, ◌∙◌, ap, subst, inl, inr}
+use Rattle.std.proofs.Common.{◌≡◌, ◌==◌, ◌&&◌, not, ℕ, suc, ◌+◌, ◌-◌, ◌≤◌, ◌<◌, add-one, arith, drop-cons, length, get_or, Bool, true, false, List, [], ◌∷◌, ◌++◌, take, drop, refl, sym, ◌∙◌, ap, subst, inl, inr}
 use Rattle.std.specs.List.{list_all, prefix_len}
 use Rattle.std.proofs.lemmas.List.{take_all}
 use Rattle.std.proofs.lemmas.List.Folds.{length-prefix_len}
@@ -156,3 +156,11 @@ plain_taken d d2 at at2 (b ∷ s) rest r some h byte from to dd aa rr =
     let made = char_is r b at (at + 1) byte from to in
     let left : rest ≡ s = rr ∙ take_all (length (b ∷ s) - 1) s few in
     plain_first d at b s h ∙ rw (made, dd, aa, left) refl
+
+-- The run of a class from one place on.
+
+pub stops_there : (p : ℕ → Bool) (s : List ℕ) (i : ℕ) → i < length s → p (get_or s i 0) ≡ false → prefix_len p (drop i s) ≡ 0
+stops_there p s i room other = rw (drop-cons s i 0, other) refl
+
+pub goes_on : (p : ℕ → Bool) (s : List ℕ) (i : ℕ) → i < length s → p (get_or s i 0) ≡ true → prefix_len p (drop i s) ≡ 1 + prefix_len p (drop (i + 1) s)
+goes_on p s i room same = rw (add-one, drop-cons s i 0, same) refl

@@ -7,6 +7,7 @@ ghost use Rattle.c_chars.specs.Coming.{AreBetween, AreBytesPassed, ArePassed, Ar
 
 use crate::alone::first_character;
 use crate::classes::{is_plain, run_len, space_len, word_len, words_len};
+use crate::front::behind;
 use crate::lanes::{CommentBytes, TextBytes};
 use crate::{Dialect, LIMIT, LogicalChar};
 use std::marker::Model;
@@ -125,20 +126,6 @@ impl<'s> Cursor<'s> {
     {
         self.rest = &self.rest[count..];
         self.at += count;
-    }
-
-    /// The character that so many others stand before.
-    #[inline(always)]
-    fn peek(&self, index: usize) -> Option<LogicalChar>
-        ensures { result ≡ slice_get (chars self.now.dialect self.now.at self.now.rest.now) index }
-    {
-        let mut ahead = *self;
-        for _ in 0..index {
-            if ahead.next().is_none() {
-                return None;
-            }
-        }
-        ahead.next()
     }
 }
 
@@ -290,7 +277,7 @@ impl<'s> Chars<'s> {
         requires { index ≤ 8 }
         ensures { result ≡ slice_get self.now.chars index }
     {
-        self.cursor.peek(index)
+        behind(self, index).next()
     }
 
     /// The offset behind the last character that was read; where none was, the one of the text behind
