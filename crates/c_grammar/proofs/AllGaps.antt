@@ -1,17 +1,17 @@
 -- Another first gap and another last gap leave the items.
-use Rattle.std.proofs.Common.{◌≡◌, not, ℕ, true, false, List, [], ◌∷◌, ◌++◌, refl, sym, ◌∙◌, ap, subst, inl, inr, append_assoc}
+use Rattle.std.proofs.Common.{◌≡◌, ℕ, true, List, [], ◌∷◌, ◌++◌, refl, sym, ◌∙◌, ap, subst, inl, inr, append_assoc}
 use Rattle.std.specs.List.{list_any}
-use Rattle.std.proofs.lemmas.Bool.{and_parts, cases_Bool, not-true}
+use Rattle.std.proofs.lemmas.Bool.{and_parts, cases_Bool}
 use Rattle.c_chars.specs.declared.Dialect.{Dialect}
 use Rattle.c_grammar.specs.declared.ItemKind.{ItemKind}
 use Rattle.c_grammar.specs.Grammar.{is_new_line}
-use Rattle.c_grammar.specs.Items.{Place, LineStart, past_gap, past_item, is_gap, IsNext, BeginsHeader, Piece, Reads, written}
-use Rattle.c_grammar.specs.Touch.{takes_line, regapped}
+use Rattle.c_grammar.specs.Items.{LineStart, past_gap, past_item, is_gap, IsNext, BeginsHeader, Piece, Reads, written}
+use Rattle.c_grammar.specs.Touch.{regapped}
 use Rattle.c_grammar.specs.Regapping.{IsSameItem}
 use Rattle.c_grammar.proofs.Lists.{two_cuts}
 use Rattle.c_grammar.proofs.Firsts.{starts_or_empty}
 use Rattle.c_grammar.proofs.Unique.{is_blank}
-use Rattle.c_grammar.proofs.OtherGap.{other_gap, other_rest, MayFollow, like_gaps, gap_at, gap_front, no_end_in_gap}
+use Rattle.c_grammar.proofs.OtherGap.{MayFollow, gap_front, no_end_in_gap}
 
 -- The last gap
 

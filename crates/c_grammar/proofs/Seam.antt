@@ -1,10 +1,9 @@
 -- Two items that may touch are read as they were when what stands between them is taken away: the left item.
-use Rattle.std.proofs.Common.{◌≡◌, ◌==◌, ◌||◌, ◌&&◌, ℕ, Bool, true, false, List, [], ◌∷◌, ◌++◌, refl, subst, inl, inr}
+use Rattle.std.proofs.Common.{◌≡◌, ◌==◌, ◌||◌, ◌&&◌, ℕ, Bool, true, false, List, [], ◌∷◌, ◌++◌, refl, inl, inr}
 use Rattle.std.specs.Prelude.{codes}
 use Rattle.std.specs.List.{list_any}
 use Rattle.std.proofs.lemmas.Bool.{and_parts, or_cases, and_from, or_left, or_right, not-true, both_ways, or_parts}
 use Rattle.c_grammar.specs.Grammar.{is_same, is_of, is_letter, is_digit, is_sign, is_exponent, is_string_prefix, Shape, Whole, Spells}
-use Rattle.c_grammar.specs.Items.{IsLongest}
 use Rattle.c_grammar.specs.Touch.{starts, ends, is_front, is_identifier, is_number, is_other_kind, is_literal, takes_line, word_by_word, prefix_by_quote, number_goes_on, point_by_number, punct_goes_on, trigraph_comes, may_touch}
 use Rattle.c_chars.specs.declared.Dialect.{Dialect}
 use Rattle.c_grammar.specs.declared.ItemKind.{ItemKind}

@@ -98,12 +98,12 @@ pub fn is_letter(byte: u8) -> bool
 }
 
 /// A hexadecimal digit (C11 6.4.4.1).
-#[tactic(auto, unfolding(crate::specs::Grammar::is_hex))]
+#[tactic(auto, unfolding(crate::specs::Grammar::is_digit, crate::specs::Grammar::is_hex))]
 #[inline(always)]
 pub fn is_hex(byte: u8) -> bool
     ensures { result ≡ is_hex byte }
 {
-    is_digit(byte) || matches!(byte, b'A'..=b'F' | b'a'..=b'f')
+    byte.is_ascii_hexdigit()
 }
 
 /// A sign, as it stands behind an exponent (C11 6.4.8).
@@ -150,39 +150,36 @@ pub fn is_beyond(byte: u8) -> bool
     byte == b'\\' || byte >= 128
 }
 
+/// Of each byte, whether it is the first of a punctuator.
+const PUNCTUATOR_BYTES: [bool; 256] = [
+    false, false, false, false, false, false, false, false, false, false, false, false, false,
+    false, false, false, false, false, false, false, false, false, false, false, false, false,
+    false, false, false, false, false, false, false, true, false, true, false, true, true, false,
+    true, true, true, true, true, true, true, true, false, false, false, false, false, false,
+    false, false, false, false, true, true, true, true, true, true, false, false, false, false,
+    false, false, false, false, false, false, false, false, false, false, false, false, false,
+    false, false, false, false, false, false, false, false, false, false, true, false, true, true,
+    false, false, false, false, false, false, false, false, false, false, false, false, false,
+    false, false, false, false, false, false, false, false, false, false, false, false, false,
+    false, false, true, true, true, true, false, false, false, false, false, false, false, false,
+    false, false, false, false, false, false, false, false, false, false, false, false, false,
+    false, false, false, false, false, false, false, false, false, false, false, false, false,
+    false, false, false, false, false, false, false, false, false, false, false, false, false,
+    false, false, false, false, false, false, false, false, false, false, false, false, false,
+    false, false, false, false, false, false, false, false, false, false, false, false, false,
+    false, false, false, false, false, false, false, false, false, false, false, false, false,
+    false, false, false, false, false, false, false, false, false, false, false, false, false,
+    false, false, false, false, false, false, false, false, false, false, false, false, false,
+    false, false, false, false, false, false, false, false, false, false, false, false, false,
+    false, false, false, false,
+];
+
 /// The first byte of a punctuator (C11 6.4.6).
-#[tactic(auto, unfolding(crate::specs::Bytes::begins_punctuator))]
 #[inline(always)]
 pub fn begins_punctuator(byte: u8) -> bool
     ensures { result ≡ begins_punctuator byte }
 {
-    matches!(
-        byte,
-        b'[' | b']'
-            | b'('
-            | b')'
-            | b'{'
-            | b'}'
-            | b'.'
-            | b'-'
-            | b'+'
-            | b'&'
-            | b'*'
-            | b'~'
-            | b'!'
-            | b'/'
-            | b'%'
-            | b'<'
-            | b'>'
-            | b'='
-            | b'^'
-            | b'|'
-            | b'?'
-            | b':'
-            | b';'
-            | b','
-            | b'#'
-    )
+    c_chars::told(&PUNCTUATOR_BYTES, byte)
 }
 
 /// What may stand behind a separator of digits (C23 6.4.4.1).
@@ -191,7 +188,7 @@ pub fn begins_punctuator(byte: u8) -> bool
 pub fn is_separable(next: u8) -> bool
     ensures { result ≡ (is_digit next || ((nat_le 65 next && nat_le next 90) || (nat_le 97 next && nat_le next 122) || next == 95)) }
 {
-    next.is_ascii_digit() || (next.is_ascii_alphabetic() || next == b'_')
+    next.is_ascii_alphanumeric() || next == b'_'
 }
 
 /// Whether these two are a separator of digits and what it separates (C23 6.4.4.1).

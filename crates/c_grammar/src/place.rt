@@ -16,7 +16,7 @@ use crate::ItemKind;
 use c_chars::{Chars, Dialect};
 
 /// Where an item stands.
-#[derive(Clone, Copy, Debug)]
+#[derive(Clone, Copy)]
 pub enum Standing {
     /// First in its line, comments aside.
     FirstInLine,
@@ -94,14 +94,10 @@ fn past_name(dialect: Dialect, text: &Chars, left: &Chars) -> Standing
 fn past_comment(standing: Standing) -> Standing
     ensures { place_of result ≡ past_comment (place_of standing) }
 {
-    match standing {
-        Standing::BehindMacroName => Standing::WithinDirective,
-        Standing::FirstInLine => Standing::FirstInLine,
-        Standing::BehindHash => Standing::BehindHash,
-        Standing::BehindInclude => Standing::BehindInclude,
-        Standing::BehindDefine => Standing::BehindDefine,
-        Standing::WithinDirective => Standing::WithinDirective,
-        Standing::WithinText => Standing::WithinText,
+    if matches!(standing, Standing::BehindMacroName) {
+        Standing::WithinDirective
+    } else {
+        standing
     }
 }
 
@@ -244,17 +240,25 @@ fn is_mark(kind: ItemKind) -> bool
     matches!(kind, ItemKind::Punct)
 }
 
+/// Whether the characters of the text up to what is left of it are a `#` of one byte.
+#[inline(always)]
+fn is_plain_hash(text: &Chars, left: &Chars) -> bool
+    requires { IsSpanned text.now }
+    ensures { IsTrue result → SpelledBy text.now left.now (λ s. IsTrue (is_hash s)) }
+{
+    match text.peek_plain() {
+        Some(mark) => mark.byte == b'#' && mark.to as usize == left.at(),
+        None => false,
+    }
+}
+
 /// Behind an item of this kind that is a `#` first in its line; none elsewhere.
 #[inline(always)]
 fn past_hash(standing: Standing, kind: ItemKind, text: &Chars, left: &Chars) -> Option<Standing>
     requires { IsSpanned text.now }
     ensures { IfSome result (λ past. (d : Dialect) → SpelledBy text.now left.now (λ s. place_of past ≡ past_item d (place_of standing) kind s)) }
 {
-    let mark = text.peek_plain()?;
-    if mark.byte != b'#' || mark.to as usize != left.at() {
-        return None;
-    }
-    if is_first_in_line(standing) && is_mark(kind) {
+    if is_first_in_line(standing) && is_mark(kind) && is_plain_hash(text, left) {
         Some(Standing::BehindHash)
     } else {
         None
