@@ -54,7 +54,9 @@ fn next_written<'s>(dialect: Dialect, bytes: &'s [u8]) -> Option<(u8, &'s [u8])>
         (bytes_of (chars dialect 0 bytes.now) ≡ [])
         (λ c. bytes_of (chars dialect 0 bytes.now) ≡ c.0 ∷ bytes_of (chars dialect 0 c.1.now)) }
 {
-    let first = first_character(dialect, bytes)?;
+    let Some(first) = first_character(dialect, bytes) else {
+        return None;
+    };
     let (_, behind) = bytes.split_at(first.before + first.len);
     Some((first.byte, behind))
 }

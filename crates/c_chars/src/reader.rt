@@ -30,11 +30,8 @@ impl<'s> Cursor<'s> {
             ((chars self.old.dialect self.old.at self.old.rest.now ≡ []) × (self.new.at ≡ self.old.at) × (self.new.rest.now ≡ self.old.rest.now))
             (λ c. (chars self.old.dialect self.old.at self.old.rest.now ≡ c ∷ chars self.new.dialect self.new.at self.new.rest.now) × (self.new.at ≡ c.to)) }
     {
-        let [byte, behind @ ..] = self.rest else {
-            return None;
-        };
-        if is_plain(*byte) {
-            return Some(self.take_unit(*byte, self.at, 1, behind));
+        if let Some(plain) = self.next_plain() {
+            return Some(plain);
         }
         self.step_any()
     }
@@ -81,21 +78,13 @@ impl<'s> Cursor<'s> {
             ((chars self.entry.dialect self.entry.at self.entry.rest.now ≡ []) × (result.1.at ≡ self.entry.at) × (result.1.rest.now ≡ self.entry.rest.now))
             (λ c. (chars self.entry.dialect self.entry.at self.entry.rest.now ≡ c ∷ chars result.1.dialect result.1.at result.1.rest.now) × (result.1.at ≡ c.to)) }
     {
-        let mut left = self;
-        let next = left.read_any();
-        (next, left)
-    }
-
-    /// Reads the next character, whatever it is written as.
-    fn read_any(&mut self) -> Option<LogicalChar>
-        ensures dialect { self.new.dialect ≡ self.old.dialect }
-        ensures next { MatchOption result
-            ((chars self.old.dialect self.old.at self.old.rest.now ≡ []) × (self.new.at ≡ self.old.at) × (self.new.rest.now ≡ self.old.rest.now))
-            (λ c. (chars self.old.dialect self.old.at self.old.rest.now ≡ c ∷ chars self.new.dialect self.new.at self.new.rest.now) × (self.new.at ≡ c.to)) }
-    {
-        let first = first_character(self.dialect, self.rest)?;
+        let Some(first) = first_character(self.dialect, self.rest) else {
+            return (None, self);
+        };
         let (_, behind) = self.rest.split_at(first.before + first.len);
-        Some(self.take_unit(first.byte, self.at + first.before, first.len, behind))
+        let mut left = self;
+        let next = left.take_unit(first.byte, self.at + first.before, first.len, behind);
+        (Some(next), left)
     }
 
     /// Steps behind a character of this byte, that so many bytes at this offset are.
@@ -135,9 +124,9 @@ fn behind_mark(text: &[u8]) -> (usize, &[u8])
     ensures rest { result.1.now ≡ drop (mark_len text.now) text.now }
     ensures len { result.0 + length result.1.now ≡ length text.now }
 {
-    match text {
-        [0xef, 0xbb, 0xbf, rest @ ..] => (3, rest),
-        _ => (0, text),
+    match text.strip_prefix(b"\xef\xbb\xbf") {
+        Some(rest) => (3, rest),
+        None => (0, text),
     }
 }
 

@@ -5,5 +5,5 @@ use Rattle.c_chars.proofs.alone.next_written.Goals as goal
 
 pub returns : goal.returns
 returns c =
-    let first = c.in_ok-first.first in
-    ap bytes_of (c.in_ok-first.ensures.first 0) ∙ (ap (λ z. first.byte ∷ z) (bytes_at c.args.dialect ((0 + first.before) + first.len) _) ∙ ap (λ z. first.byte ∷ bytes_of (chars c.args.dialect 0 z)) (sym c.split_at.ensures.back))
+    let first = c.in-Some.first in
+    ap bytes_of (c.in-Some.ensures.first 0) ∙ (ap (λ z. first.byte ∷ z) (bytes_at c.args.dialect ((0 + first.before) + first.len) _) ∙ ap (λ z. first.byte ∷ bytes_of (chars c.args.dialect 0 z)) (sym c.split_at.ensures.back))
