@@ -1,3 +1,4 @@
 pub mod Characters
 pub mod Alone
 pub mod Coming
+pub mod Inside

@@ -2,7 +2,7 @@
 
 ghost use Rattle.std.specs.Prelude.{◌≡◌, ◌+◌, ◌<◌, ◌≤◌, ◌^◌, length, drop, MatchOption, Some, IfSome, IfNone, ◌∷◌, []};
 ghost use Rattle.std.specs.Prelude.{slice_get};
-ghost use Rattle.c_chars.specs.Characters.{chars, logical, mark_len, is_comment_byte, is_text_byte, is_word_byte};
+ghost use Rattle.c_chars.specs.Characters.{logical, mark_len, is_comment_byte, is_text_byte, is_word_byte};
 ghost use Rattle.c_chars.specs.Coming.{AreBetween, AreBytesPassed, ArePassed, AreSpacesPassed, AreWordsPassed};
 
 use crate::alone::first_character;
@@ -22,13 +22,13 @@ struct Cursor<'s> {
 }
 
 impl<'s> Cursor<'s> {
+    ghost use Rattle.c_chars.specs.Inside.{chars_behind, IsPastNext};
+
     /// The next character; none exactly at the end. Most bytes are plain, and taken here.
     #[inline(always)]
     fn next(&mut self) -> Option<LogicalChar>
         ensures dialect { self.new.dialect ≡ self.old.dialect }
-        ensures next { MatchOption result
-            ((chars self.old.dialect self.old.at self.old.rest.now ≡ []) × (self.new.at ≡ self.old.at) × (self.new.rest.now ≡ self.old.rest.now))
-            (λ c. (chars self.old.dialect self.old.at self.old.rest.now ≡ c ∷ chars self.new.dialect self.new.at self.new.rest.now) × (self.new.at ≡ c.to)) }
+        ensures next { IsPastNext self.old result self.new }
     {
         if let Some(plain) = self.next_plain() {
             return Some(plain);
@@ -43,7 +43,7 @@ impl<'s> Cursor<'s> {
         ensures dialect { self.new.dialect ≡ self.old.dialect }
         ensures next { MatchOption result
             ((self.new.at ≡ self.old.at) × (self.new.rest.now ≡ self.old.rest.now))
-            (λ c. (chars self.old.dialect self.old.at self.old.rest.now ≡ c ∷ chars self.new.dialect self.new.at self.new.rest.now) × (self.new.at ≡ c.to)) }
+            (λ c. (chars_behind self.old ≡ c ∷ chars_behind self.new) × (self.new.at ≡ c.to)) }
         ensures plain { IfSome result (λ c. (c.from ≡ self.old.at) × (c.to ≡ self.old.at + 1)) }
     {
         let [byte, behind @ ..] = self.rest else {
@@ -60,9 +60,7 @@ impl<'s> Cursor<'s> {
     #[inline(always)]
     fn step_any(&mut self) -> Option<LogicalChar>
         ensures dialect { self.new.dialect ≡ self.old.dialect }
-        ensures next { MatchOption result
-            ((chars self.old.dialect self.old.at self.old.rest.now ≡ []) × (self.new.at ≡ self.old.at) × (self.new.rest.now ≡ self.old.rest.now))
-            (λ c. (chars self.old.dialect self.old.at self.old.rest.now ≡ c ∷ chars self.new.dialect self.new.at self.new.rest.now) × (self.new.at ≡ c.to)) }
+        ensures next { IsPastNext self.old result self.new }
     {
         let (next, left) = self.next_any();
         *self = left;
@@ -74,9 +72,7 @@ impl<'s> Cursor<'s> {
     #[inline(never)]
     fn next_any(self) -> (Option<LogicalChar>, Cursor<'s>)
         ensures dialect { result.1.dialect ≡ self.entry.dialect }
-        ensures next { MatchOption result.0
-            ((chars self.entry.dialect self.entry.at self.entry.rest.now ≡ []) × (result.1.at ≡ self.entry.at) × (result.1.rest.now ≡ self.entry.rest.now))
-            (λ c. (chars self.entry.dialect self.entry.at self.entry.rest.now ≡ c ∷ chars result.1.dialect result.1.at result.1.rest.now) × (result.1.at ≡ c.to)) }
+        ensures next { IsPastNext self.entry result.0 result.1 }
     {
         let Some(first) = first_character(self.dialect, self.rest) else {
             return (None, self);
