@@ -1,8 +1,8 @@
 -- White space between two items with nothing between them leaves the items of a text.
-use Rattle.std.proofs.Common.{◌≡◌, ℕ, Bool, true, false, List, [], ◌∷◌, ◌++◌, refl, sym, ◌∙◌, ap, subst, arith, inl, inr, append_assoc}
+use Rattle.std.proofs.Common.{◌≡◌, ℕ, Bool, true, false, List, [], ◌∷◌, ◌++◌, refl, sym, ◌∙◌, ap, subst, inl, inr, append_assoc}
 use Rattle.std.specs.Prelude.{if◌then◌else◌, codes}
 use Rattle.std.specs.List.{list_any}
-use Rattle.std.proofs.lemmas.Bool.{cases_Bool, or_parts, both_ways, and_parts}
+use Rattle.std.proofs.lemmas.Bool.{cases_Bool, or_parts, or_right, both_ways, and_parts}
 use Rattle.c_chars.specs.declared.Dialect.{Dialect}
 use Rattle.c_grammar.specs.declared.ItemKind.{ItemKind}
 use Rattle.c_grammar.specs.declared.ItemKind.TheVariants.{Identifier, BlockComment}
@@ -83,7 +83,7 @@ apart_rest d place (x ∷ xs) l ns ms last end h blank t text rest =
 
     any_behind : (a b : List ℕ) → list_any is_new_line b ≡ true → list_any is_new_line (a ++ b) ≡ true
     any_behind [] b h = h
-    any_behind (c ∷ a) b h = let rest = any_behind a b h in grind (arith, rest)
+    any_behind (c ∷ a) b h = or_right (is_new_line c) (list_any is_new_line (a ++ b)) (any_behind a b h)
 
     no_header : here ≡ AfterInclude → (BeginsHeader (x.spelling ++ written (xs ++ l ∷ ns) last) → ⊥) → BeginsHeader (x.spelling ++ written (xs ++ l ∷ ms) end) → ⊥
     no_header p none k =

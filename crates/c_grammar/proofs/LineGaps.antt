@@ -1,8 +1,8 @@
 -- Where the rest of a text differs from the next new-line on alone, the items before it stay, whatever kind they are.
-use Rattle.std.proofs.Common.{◌≡◌, ◌==◌, ◌&&◌, not, ℕ, Bool, true, false, List, [], ◌∷◌, ◌++◌, refl, sym, ◌∙◌, ap, subst, arith, inl, inr, append_assoc}
+use Rattle.std.proofs.Common.{◌≡◌, ◌==◌, ◌&&◌, not, ℕ, Bool, true, false, List, [], ◌∷◌, ◌++◌, refl, sym, ◌∙◌, ap, subst, inl, inr, append_assoc}
 use Rattle.std.specs.Prelude.{codes}
 use Rattle.std.specs.List.{list_any, list_all}
-use Rattle.std.proofs.lemmas.Bool.{and_parts, or_cases, and_from, eqb-true, both_ways}
+use Rattle.std.proofs.lemmas.Bool.{and_parts, or_cases, or_right, and_from, eqb-true, both_ways}
 use Rattle.std.proofs.lemmas.List.{append-nil}
 use Rattle.c_grammar.specs.Grammar.{is_one, is_two, IsHeaded, is_digit, is_white, is_new_line, is_sign, is_exponent, is_number_head, is_number_unit, is_punctuator, punctuators, is_other, is_other_unit, IsHeaderName, Shape, Whole, Unended, Spells}
 use Rattle.c_grammar.specs.Items.{IsLongest, Place, AfterInclude, past_gap, past_item, BeginsHeader, IsNext, Piece, written, Reads}
@@ -117,7 +117,7 @@ holds_line d Unended s h n = (h.body, h.whole)
 
 any_middle : (a : List ℕ) (e : ℕ) (b : List ℕ) → is_new_line e ≡ true → list_any is_new_line (a ++ e ∷ b) ≡ true
 any_middle [] e b h = rw h refl
-any_middle (c ∷ a) e b h = let rest = any_middle a e b h in grind (arith, rest)
+any_middle (c ∷ a) e b h = or_right (is_new_line c) (list_any is_new_line (a ++ e ∷ b)) (any_middle a e b h)
 
 no_star : (e : ℕ) → is_new_line e ≡ true → e ≡ 42 → ⊥
 unfolding is_new_line

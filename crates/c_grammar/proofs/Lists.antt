@@ -1,7 +1,7 @@
 -- Lists of characters, apart from any grammar.
 use Rattle.std.proofs.Common.{not, false, ◌≡◌, ◌==◌, ◌&&◌, ℕ, suc, Bool, true, List, [], ◌∷◌, ◌++◌, length, refl, sym, arith, inl, inr, ◌⊎◌}
 use Rattle.std.specs.List.{list_any, list_all}
-use Rattle.std.proofs.lemmas.Bool.{not-true, both_ways, false_from_ne_true, and_parts, or_cases, and_from, eqb-true, ne_eqb, cases_Bool}
+use Rattle.std.proofs.lemmas.Bool.{not-true, both_ways, false_from_ne_true, and_parts, or_cases, and_from, eq-eqb, eqb-true, ne_eqb, cases_Bool}
 use Rattle.c_grammar.specs.Grammar.{is_same, is_of, joined, AreUnits, is_one}
 
 -- Two ways to cut one list: one front is the other and more.
@@ -44,7 +44,7 @@ same_is (x ∷ xs) (y ∷ ys) h =
 
 pub same_refl : (s : List ℕ) → is_same s s ≡ true
 same_refl [] = refl
-same_refl (x ∷ xs) = let h = same_refl xs in grind (arith, h)
+same_refl (x ∷ xs) = and_from (x == x) (is_same xs xs) (eq-eqb x x refl) (same_refl xs)
 
 -- what each entry of a table passes, what passes as one of its entries passes
 pub in_table : (q : List ℕ → Bool) (table : List (List ℕ)) → list_all q table ≡ true → (s : List ℕ) → list_any (is_same s) table ≡ true → q s ≡ true
@@ -67,7 +67,7 @@ of_table q (t ∷ ts) h c e =
 
 pub all_append : (p : ℕ → Bool) (s t : List ℕ) → list_all p (s ++ t) ≡ (list_all p s && list_all p t)
 all_append p [] t = refl
-all_append p (x ∷ s) t = let h = all_append p s t in elim (cases_Bool (p x)) [ inl e ↦ grind (arith, e, h) | inr e ↦ grind (arith, e, h) ]
+all_append p (x ∷ s) t = let h = all_append p s t in elim (cases_Bool (p x)) [ inl e ↦ rw e h | inr e ↦ rw e refl ]
 
 -- the characters of units, where each unit's characters pass
 pub joined_all : (p : List ℕ → Bool) (q : ℕ → Bool) → ((u : List ℕ) → p u ≡ true → list_all q u ≡ true) → (us : List (List ℕ)) → list_all p us ≡ true → list_all q (joined us) ≡ true
