@@ -30,8 +30,11 @@ impl<'s> Cursor<'s> {
         ensures dialect { self.new.dialect ≡ self.old.dialect }
         ensures next { IsPastNext self.old result self.new }
     {
-        if let Some(plain) = self.next_plain() {
-            return Some(plain);
+        let [byte, behind @ ..] = self.rest else {
+            return None;
+        };
+        if is_plain(*byte) {
+            return Some(self.take_unit(*byte, self.at, 1, behind));
         }
         self.step_any()
     }
