@@ -32,7 +32,7 @@ impl ByteClass for WordBytes {
     }
 }
 
-/// The bytes of comments: all that stand for themselves but `*` and line ends.
+/// The bytes of comments: spaces, tabs, and what is no white space and none of `*?\\`.
 pub(crate) struct CommentBytes;
 
 impl ByteClass for CommentBytes {
@@ -47,7 +47,7 @@ impl ByteClass for CommentBytes {
     }
 }
 
-/// The bytes of strings: those of comments but quotes.
+/// The bytes of strings: those of comments, without quotes.
 pub(crate) struct TextBytes;
 
 impl ByteClass for TextBytes {
