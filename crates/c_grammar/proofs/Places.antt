@@ -207,8 +207,8 @@ hash_there d at high (suc (suc n)) (e ∷ f ∷ s) c between first hash within t
     let on = onwards d f.to n high s between.2.2 in
     absurd (omega (arith, to, low, some, on, there))
 
-pub hash_spelled : (x left : Coming) (c : LogicalChar) (n : ℕ) → IsSpanned x → slice_get x.chars 0 ≡ Some c → c.byte ≡ 35 → c.to ≡ left.at → n ≤ length x.chars → left ≡ behind x n → is_hash (take n (bytes_of x.chars)) ≡ true
-hash_spelled x left c n spanned first hash at within left_is = hash_there x.dialect x.at spanned.high n x.chars c spanned.spans first hash within (at ∙ ap (λ z. z.at) left_is)
-
-pub hash_place : (d : Dialect) (place : Place) (kind : ItemKind) (s : List ℕ) → place ≡ LineStart → kind ≡ Punct → is_hash s ≡ true → AfterHash ≡ past_item d place kind s
-hash_place d place kind s start mark is = sym (rw (start, mark, is) refl)
+pub hash_place : (d : Dialect) (x left : Coming) (c : LogicalChar) (place : Place) (kind : ItemKind) (n : ℕ) → IsSpanned x → slice_get x.chars 0 ≡ Some c → c.byte ≡ 35 → c.to ≡ left.at → place ≡ LineStart → kind ≡ Punct
+    → n ≤ length x.chars → left ≡ behind x n → AfterHash ≡ past_item d place kind (take n (bytes_of x.chars))
+hash_place d x left c place kind n spanned first hash at start mark within left_is =
+    let is = hash_there x.dialect x.at spanned.high n x.chars c spanned.spans first hash within (at ∙ ap (λ z. z.at) left_is) in
+    sym (rw (start, mark, is) refl)

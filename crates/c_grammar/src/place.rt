@@ -240,25 +240,17 @@ fn is_mark(kind: ItemKind) -> bool
     matches!(kind, ItemKind::Punct)
 }
 
-/// Whether the characters of the text up to what is left of it are a `#` of one byte.
-#[inline(always)]
-fn is_plain_hash(text: &Chars, left: &Chars) -> bool
-    requires { IsSpanned text.now }
-    ensures { IsTrue result → SpelledBy text.now left.now (λ s. IsTrue (is_hash s)) }
-{
-    match text.peek_plain() {
-        Some(mark) => mark.byte == b'#' && mark.to as usize == left.at(),
-        None => false,
-    }
-}
-
 /// Behind an item of this kind that is a `#` first in its line; none elsewhere.
 #[inline(always)]
 fn past_hash(standing: Standing, kind: ItemKind, text: &Chars, left: &Chars) -> Option<Standing>
     requires { IsSpanned text.now }
     ensures { IfSome result (λ past. (d : Dialect) → SpelledBy text.now left.now (λ s. place_of past ≡ past_item d (place_of standing) kind s)) }
 {
-    if is_first_in_line(standing) && is_mark(kind) && is_plain_hash(text, left) {
+    let mark = text.peek_plain()?;
+    if mark.byte != b'#' || mark.to as usize != left.at() {
+        return None;
+    }
+    if is_first_in_line(standing) && is_mark(kind) {
         Some(Standing::BehindHash)
     } else {
         None
