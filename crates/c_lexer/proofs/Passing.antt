@@ -114,6 +114,14 @@ pub name_done : (last : ℕ) (some : Bool) (s : List ℕ) → starts (λ c. not 
 name_done last some [] h = refl
 name_done last some (c ∷ s) h = let line = not-false (is_new_line c) h in rw line refl
 
+pub name_found : (last : ℕ) (some : Bool) (x y : Coming) (c : LogicalChar) → x.chars ≡ c ∷ y.chars → y.at ≡ c.to → y.dialect ≡ x.dialect → is_new_line c.byte ≡ false → c.byte ≡ last →
+    (ends_name last some (bytes_of x.chars) ≡ some) × (behind x (name_len last (bytes_of x.chars)) ≡ y)
+name_found last some x y c chars at dialect l e =
+    let same = eq-eqb c.byte last e in (
+      ap (λ s. ends_name last some (bytes_of s)) chars ∙ (rw (l, same) refl),
+      ap (λ s. behind x (name_len last (bytes_of s))) chars ∙ (rw same (behind_next x y c 0 chars at dialect)),
+    )
+
 pub header_angle : (x y : Coming) (c : LogicalChar) → x.chars ≡ c ∷ y.chars → y.at ≡ c.to → y.dialect ≡ x.dialect → c.byte ≡ 60 →
     (begins_header (bytes_of x.chars) ≡ ends_name 62 false (bytes_of y.chars)) × (behind x (header_len (bytes_of x.chars)) ≡ behind y (name_len 62 (bytes_of y.chars)))
 header_angle x y c chars at dialect e =

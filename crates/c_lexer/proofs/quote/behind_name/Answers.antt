@@ -1,7 +1,7 @@
 use Rattle.std.proofs.Common.{◌∙◌, sym}
 use Rattle.std.proofs.lemmas.Bool.{ne_eqb}
 use Rattle.c_chars.specs.Characters.{bytes_of}
-use Rattle.c_lexer.proofs.Passing.{name_next, name_done}
+use Rattle.c_lexer.proofs.Passing.{name_done, name_found, name_next}
 use Rattle.c_lexer.proofs.quote.behind_name.Goals as goal
 
 pub loop-c-preserved : goal.loop-c-preserved
@@ -12,3 +12,13 @@ loop-c-preserved c =
 
 pub returns : goal.returns
 returns c = sym c.loop-c.invariant.0 ∙ name_done c.args.last c.loop-c.some (bytes_of c.loop-c.rest.chars) c.in_default.ensures.none.0
+
+pub returns-then-some : goal.returns-then-some
+returns-then-some c =
+    let step = name_found c.args.last c.loop-c.some c.loop-c.rest c.next_of_line.new.chars c.in-Some.c c.in-Some.ensures.some.0 c.in-Some.ensures.some.1 c.next_of_line.ensures.dialect c.in-Some.ensures.some.2 c.if-c-last.true in
+    (sym c.loop-c.invariant.0 ∙ (step.0 ∙ c.if-some.true), sym step.1 ∙ c.loop-c.invariant.1)
+
+pub returns-else-some : goal.returns-else-some
+returns-else-some c =
+    let step = name_found c.args.last c.loop-c.some c.loop-c.rest c.next_of_line.new.chars c.in-Some.c c.in-Some.ensures.some.0 c.in-Some.ensures.some.1 c.next_of_line.ensures.dialect c.in-Some.ensures.some.2 c.if-c-last.true in
+    sym c.loop-c.invariant.0 ∙ (step.0 ∙ c.if-some.false)
