@@ -4,11 +4,13 @@ ghost use Rattle.std.specs.Prelude.{◌≡◌};
 ghost use Rattle.c_lexer.specs.Fault.{fault_of};
 
 use crate::cut::Stop;
+use thiserror::Error;
 
 /// Why no item is read. What is left stays as it was, so the next call gives the same fault.
-#[derive(Clone, Copy, Debug, PartialEq, Eq)]
+#[derive(Clone, Copy, Debug, PartialEq, Eq, Error)]
 pub enum LexFault {
     /// A block comment begins at this offset, and nothing ends it (C11 6.4.9).
+    #[error("the comment at byte {start} doesn't end")]
     UnterminatedComment { start: u32 },
 }
 

@@ -2,16 +2,22 @@
 ghost use Rattle.std.specs.Prelude.{ℕ, List, Option};
 ghost use Rattle.fmt_ports.specs.Files.{FileCounts, Finds, KeepsAll, KeepsOthers, Reads, Writes};
 
+use thiserror::Error;
+
 /// Why a file can't be had or written.
-#[derive(Clone, Copy)]
+#[derive(Clone, Copy, Debug, PartialEq, Eq, Error)]
 pub enum FileFault {
     /// No file has the name.
+    #[error("missing")]
     Missing,
     /// A call on the file failed.
+    #[error("failed")]
     Failed,
     /// The file has more bytes than the limit.
+    #[error("too long")]
     TooLong,
     /// There is not enough memory.
+    #[error("out of memory")]
     NoMemory,
 }
 

@@ -30,10 +30,12 @@ pub use real::{RealIn, RealOut};
 pub use real_files::RealFiles;
 pub use streams::{PIECE, Stream, bytes_of, is_same, write_in_pieces};
 pub use text::TextSink;
+use thiserror::Error;
 pub use whole::{BUFFER, InFault, read_all, write_all};
 
 /// A call on the outside failed.
-#[derive(Clone, Copy)]
+#[derive(Clone, Copy, Debug, PartialEq, Eq, Error)]
+#[error("failed")]
 pub struct Failed;
 
 /// Where bytes come from.

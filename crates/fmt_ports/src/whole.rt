@@ -6,15 +6,19 @@ ghost use Rattle.fmt_ports.specs.Whole.{ConsumesAtMost, InCounts, TellsAll};
 
 use crate::{Failed, Sink, Source};
 use std::alloc::Global;
+use thiserror::Error;
 
 /// Why the bytes of a source can't be had.
-#[derive(Clone, Copy)]
+#[derive(Clone, Copy, Debug, PartialEq, Eq, Error)]
 pub enum InFault {
     /// A read failed.
+    #[error("failed")]
     Failed,
     /// There are more bytes than the limit.
+    #[error("too long")]
     TooLong,
     /// There is not enough memory for the bytes.
+    #[error("out of memory")]
     NoMemory,
 }
 

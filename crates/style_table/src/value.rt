@@ -17,16 +17,19 @@ use crate::words::{
     BREAK_BEFORE_BRACES_WORDS, INDENT_PP_DIRECTIVES_WORDS, LINE_ENDING_WORDS,
     POINTER_ALIGNMENT_WORDS, SPACE_BEFORE_PARENS_WORDS, USE_TAB_WORDS, bool_word, value_in,
 };
+use thiserror::Error;
 
 /// What a break or a column past the limit costs at most.
 const MOST_PENALTY: u32 = 100_000_000;
 
 /// What is wrong with a value.
-#[derive(Clone, Copy, Debug, PartialEq, Eq)]
+#[derive(Clone, Copy, Debug, PartialEq, Eq, Error)]
 pub enum ValueFault {
     /// It is none of the key's values, or no number of 1 to 9 decimal digits.
+    #[error("bad value")]
     BadValue,
     /// It is a number that the key does not take.
+    #[error("out of range")]
     OutOfRange,
 }
 
