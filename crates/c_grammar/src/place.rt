@@ -197,7 +197,8 @@ fn past_plain_word(standing: Standing) -> Option<Standing>
 /// tell something.
 #[inline(always)]
 fn past_plain_mark(standing: Standing, first: u8) -> Option<Standing>
-    ensures { IfSome result (λ past. (s : List ℕ) → IsFalse (starts (λ c. not (c == first)) s) → place_of past ≡ past_mark (place_of standing) s) }
+    ensures { IfSome result (λ past.
+        (s : List ℕ) → IsFalse (starts (λ c. not (c == first)) s) → place_of past ≡ past_mark (place_of standing) s) }
 {
     if first == b'#' || first == b'%' {
         return None;
@@ -208,7 +209,9 @@ fn past_plain_mark(standing: Standing, first: u8) -> Option<Standing>
 /// Behind an item of this kind that begins with this byte, where that tells the place; none elsewhere.
 #[inline(always)]
 fn past_plain(dialect: Dialect, standing: Standing, kind: ItemKind, first: u8) -> Option<Standing>
-    ensures { IfSome result (λ past. (s : List ℕ) → IsFalse (starts (λ c. not (c == first)) s) → place_of past ≡ past_item dialect (place_of standing) kind s) }
+    ensures { IfSome result (λ past.
+        (s : List ℕ) → IsFalse (starts (λ c. not (c == first)) s) →
+        place_of past ≡ past_item dialect (place_of standing) kind s) }
 {
     match kind {
         ItemKind::Identifier => past_plain_word(standing),
@@ -244,7 +247,8 @@ fn is_mark(kind: ItemKind) -> bool
 #[inline(always)]
 fn past_hash(standing: Standing, kind: ItemKind, text: &Chars, left: &Chars) -> Option<Standing>
     requires { IsSpanned text.now }
-    ensures { IfSome result (λ past. (d : Dialect) → SpelledBy text.now left.now (λ s. place_of past ≡ past_item d (place_of standing) kind s)) }
+    ensures { IfSome result (λ past.
+        (d : Dialect) → SpelledBy text.now left.now (λ s. place_of past ≡ past_item d (place_of standing) kind s)) }
 {
     let mark = text.peek_plain()?;
     if mark.byte != b'#' || mark.to as usize != left.at() {
@@ -258,11 +262,9 @@ fn past_hash(standing: Standing, kind: ItemKind, text: &Chars, left: &Chars) -> 
 }
 
 /// Behind an item of this kind that begins with this byte, whose characters are those of the text up to
-/// what is left of it. Where `again` is false they are not read again, and none is told where they would
-/// have to be.
+/// what is left of it. They are not read again, and none is told where they would have to be.
 #[inline(always)]
 pub fn past_begun(
-    again: bool,
     dialect: Dialect,
     standing: Standing,
     kind: ItemKind,
@@ -272,11 +274,9 @@ pub fn past_begun(
 ) -> Option<Standing>
     requires spans { IsSpanned text.now }
     requires first { IsFirst first (bytes_of text.now.chars) }
-    ensures { IfSome result (λ past. SpelledBy text.now left.now (λ s. place_of past ≡ past_item dialect (place_of standing) kind s)) }
+    ensures { IfSome result
+        (λ past. SpelledBy text.now left.now (λ s. place_of past ≡ past_item dialect (place_of standing) kind s)) }
 {
-    if again {
-        return Some(past_item(dialect, standing, kind, text, left));
-    }
     match past_plain(dialect, standing, kind, first) {
         Some(past) => Some(past),
         None => past_hash(standing, kind, text, left),

@@ -84,9 +84,15 @@ impl<'s> Model for Lexer<'s> {
 
     ghost Value = { Reading };
 
-    ghost view = { λ a. record { text = a.text.now; dialect = a.dialect; left = record { place = place_of a.standing; chars = a.chars.chars } } };
+    ghost view = { λ a.
+        record {
+          text = a.text.now;
+          dialect = a.dialect;
+          left = record { place = place_of a.standing; chars = a.chars.chars };
+        } };
 
-    ghost invariant = { λ a. IsAt a.text.now a.dialect a.chars × AreSlashed a.text.now a.chars.chars × AreRaw a.text.now a.chars.chars };
+    ghost invariant = { λ a.
+        IsAt a.text.now a.dialect a.chars × AreSlashed a.text.now a.chars.chars × AreRaw a.text.now a.chars.chars };
 }
 
 impl<'s> Lexer<'s> {
@@ -118,7 +124,9 @@ impl<'s> Lexer<'s> {
     pub fn next_any(&mut self) -> Result<Option<Lexeme<'s>>, LexFault>
         ensures text { self.new.text ≡ self.old.text }
         ensures dialect { self.new.dialect ≡ self.old.dialect }
-        ensures some { IfOk result (λ next. MatchOption next (IsTrue (is_gap (bytes_of self.old.left.chars))) (λ lexeme. IsNextLexeme self.old self.new lexeme)) }
+        ensures some { IfOk result (λ next.
+            MatchOption next (IsTrue (is_gap (bytes_of self.old.left.chars)))
+            (λ lexeme. IsNextLexeme self.old self.new lexeme)) }
         ensures end { IfOk result (λ next. MatchOption next (self.new ≡ self.old) (λ lexeme. ⊤)) }
         ensures fault { IfErr result (λ fault. IsFault self.old fault) }
         ensures stays { IfErr result (λ fault. self.new ≡ self.old) }
@@ -170,7 +178,6 @@ impl<'s> Lexer<'s> {
             return None;
         };
         let Some(past) = place::past_begun(
-            false,
             self.dialect,
             standing,
             kind,
@@ -201,7 +208,9 @@ impl<'s> Lexer<'s> {
     pub fn next_lexeme(&mut self) -> Result<Option<Lexeme<'s>>, LexFault>
         ensures text { self.new.text ≡ self.old.text }
         ensures dialect { self.new.dialect ≡ self.old.dialect }
-        ensures some { IfOk result (λ next. MatchOption next (IsTrue (is_gap (bytes_of self.old.left.chars))) (λ lexeme. IsNextLexeme self.old self.new lexeme)) }
+        ensures some { IfOk result (λ next.
+            MatchOption next (IsTrue (is_gap (bytes_of self.old.left.chars)))
+            (λ lexeme. IsNextLexeme self.old self.new lexeme)) }
         ensures end { IfOk result (λ next. MatchOption next (self.new ≡ self.old) (λ lexeme. ⊤)) }
         ensures fault { IfErr result (λ fault. IsFault self.old fault) }
         ensures stays { IfErr result (λ fault. self.new ≡ self.old) }
@@ -220,7 +229,9 @@ impl<'s> Lexer<'s> {
     pub fn next_item(&mut self) -> Result<Option<Item<'s>>, LexFault>
         ensures text { self.new.text ≡ self.old.text }
         ensures dialect { self.new.dialect ≡ self.old.dialect }
-        ensures some { IfOk result (λ next. MatchOption next (IsTrue (is_gap (bytes_of self.old.left.chars))) (λ item. IsNextItem self.old self.new item.kind item.start item.raw.now)) }
+        ensures some { IfOk result (λ next.
+            MatchOption next (IsTrue (is_gap (bytes_of self.old.left.chars)))
+            (λ item. IsNextItem self.old self.new item.kind item.start item.raw.now)) }
         ensures end { IfOk result (λ next. MatchOption next (self.new ≡ self.old) (λ item. ⊤)) }
         ensures fault { IfErr result (λ fault. IsFault self.old fault) }
         ensures stays { IfErr result (λ fault. self.new ≡ self.old) }
