@@ -36,4 +36,11 @@ item_tok arena id apart = record {
 
 -- a token with what its line tells of its place
 abbrev pub told : LineTok → Mark → Bool → LineTok
-told tok mark held = record tok { role = mark.seen.role; power = mark.power; depth = mark.around.depth; trailing_list = mark.trailing_list; held = held }
+told tok mark held =
+    record tok {
+      role = mark.seen.role;
+      power = mark.power;
+      depth = mark.around.depth;
+      trailing_list = mark.trailing_list;
+      held = held;
+    }

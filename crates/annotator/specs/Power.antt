@@ -2,7 +2,8 @@
 use Rattle.std.specs.Prelude.{ℕ, if◌then◌else◌}
 use Rattle.line_tokens.specs.Roles.{is_binary}
 use Rattle.token_classes.specs.declared.class.TokenClass.{TokenClass}
-use Rattle.token_classes.specs.declared.class.TokenClass.TheVariants.{Or, And, Bar, Caret, Ampersand, Equality, Relation, Shift, Sign, Star, Divide}
+use Rattle.token_classes.specs.declared.class.TokenClass.TheVariants.{Or, And, Bar, Caret, Ampersand, Equality}
+use Rattle.token_classes.specs.declared.class.TokenClass.TheVariants.{Relation, Shift, Sign, Star, Divide}
 use Rattle.annotator.specs.declared.left.Seen.{Seen}
 
 -- how tightly an operator between two operands binds

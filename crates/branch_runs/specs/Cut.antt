@@ -11,7 +11,8 @@ BeginsNoText (mark ∷ marks) = mark.kind ≢ Text
 -- The sections follow one another from a place on, none is empty, and no text stands directly behind a text.
 abbrev pub IsCutFrom : ℕ → List Mark → Type 0
 IsCutFrom at [] = ⊤
-IsCutFrom at (mark ∷ marks) = (mark.first ≡ at) × (mark.first < mark.end) × (mark.kind ≡ Text → BeginsNoText marks) × IsCutFrom mark.end marks
+IsCutFrom at (mark ∷ marks) =
+    (mark.first ≡ at) × (mark.first < mark.end) × (mark.kind ≡ Text → BeginsNoText marks) × IsCutFrom mark.end marks
 
 -- the place behind the last of the sections that begin at a place
 abbrev pub end_of : ℕ → List Mark → ℕ

@@ -25,10 +25,13 @@ groups_around kind outer = outer
 abbrev pub has_item : Mark → ℕ → Bool
 has_item mark i = nat_le mark.first i && nat_lt i mark.end
 
--- the item stands in the group of a literal `#if 0`, where these conditionals are open before sections that do what they say
+-- the item stands in the group of a literal `#if 0`, where these conditionals are open before sections that do what
+-- they say
 abbrev pub is_dead_in : List Open → List Mark → ℕ → Bool
 is_dead_in outer [] i = false
-is_dead_in outer (mark ∷ marks) i = if has_item mark i then has_zero (groups_around mark.kind outer) else is_dead_in (open_after mark.kind outer) marks i
+is_dead_in outer (mark ∷ marks) i =
+    if has_item mark i then has_zero (groups_around mark.kind outer)
+    else is_dead_in (open_after mark.kind outer) marks i
 
 -- the item stands in the group of a literal `#if 0`
 abbrev pub is_dead : List Mark → ℕ → Bool

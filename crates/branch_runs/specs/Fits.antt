@@ -13,8 +13,8 @@ use Rattle.branch_runs.specs.Links.{node_mark}
 abbrev pub rest_at : List Mark → ℕ → Group × Around
 rest_at marks at = rest_of (drop at marks)
 
--- What is kept of the innermost conditional: how many runs the branches that follow in it need, and which section begins the next one or
--- ends it.
+-- What is kept of the innermost conditional: how many runs the branches that follow in it need, and which section
+-- begins the next one or ends it.
 pub record Leads (marks : List Mark) (later next : ℕ) (around : Around) : Type 0 where
   pub later_is : later ≡ needs (branches_of around)
   pub next_is : rest_at marks next ≡ (nothing, around)

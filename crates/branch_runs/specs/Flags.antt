@@ -11,7 +11,9 @@ use Rattle.branch_runs.specs.Dead.{has_zero, groups_around}
 -- for each item of the sections, one behind another, whether it is dead
 abbrev pub flags_in : List Open → List Mark → List Bool
 flags_in outer [] = []
-flags_in outer (mark ∷ marks) = replicate (mark.end - mark.first) (has_zero (groups_around mark.kind outer)) ++ flags_in (open_after mark.kind outer) marks
+flags_in outer (mark ∷ marks) =
+    replicate (mark.end - mark.first) (has_zero (groups_around mark.kind outer))
+    ++ flags_in (open_after mark.kind outer) marks
 
 -- how many of these conditionals are in the group of a literal `#if 0`
 abbrev pub zeros : List Open → ℕ

@@ -10,4 +10,5 @@ text_bounds seen = (seen.first, seen.end)
 abbrev pub inside : ℕ → ℕ → List (ℕ × ℕ) → List (ℕ × ℕ)
 inside first end [] = []
 inside first end (stretch ∷ stretches) =
-    if nat_lt (max first stretch.0) (min end stretch.1) then (max first stretch.0, min end stretch.1) ∷ inside first end stretches else inside first end stretches
+    if nat_lt (max first stretch.0) (min end stretch.1)
+    then (max first stretch.0, min end stretch.1) ∷ inside first end stretches else inside first end stretches

@@ -16,7 +16,8 @@ use Rattle.branch_runs.specs.Seen.{seen_texts}
 use Rattle.branch_runs.specs.Inside.{text_bounds}
 
 -- The flags, texts, changes and count are those of the marks that the nodes have.
-pub record IsKept (nodes : List Node) (dead : List Bool) (texts : List SeenText) (changes : List Change) (count : ℕ) : Type 0 where
+pub record IsKept (nodes : List Node) (dead : List Bool) (texts : List SeenText) (changes : List Change) (count : ℕ) :
+    Type 0 where
   -- each node says what is read behind its section
   pub fit : FitNodes (map node_mark nodes) 0 nodes
   -- the sections follow one another from the first item on

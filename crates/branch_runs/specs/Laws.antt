@@ -21,7 +21,8 @@ IsCovered marks = (i : ℕ) → kind_at marks i ≡ Text → is_dead marks i ≡
 
 -- Each item that a run sees is one of a text, where the sections cut the items: docs/PROFILE.md, "Runs".
 abbrev pub ViewsAreOfTexts : Type 0
-ViewsAreOfTexts = (marks : List Mark) → IsCutFrom 0 marks → (r : ℕ) → All (λ i. kind_at marks i ≡ Text) (view_of (tree_of marks) r)
+ViewsAreOfTexts =
+    (marks : List Mark) → IsCutFrom 0 marks → (r : ℕ) → All (λ i. kind_at marks i ≡ Text) (view_of (tree_of marks) r)
 
 -- no directive begins between the first item and the second, which comes later
 abbrev pub NoneBetween : List Mark → ℕ → ℕ → Type 0

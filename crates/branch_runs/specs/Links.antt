@@ -16,14 +16,24 @@ abbrev pub below : List Level → List Level
 below [] = []
 below (level ∷ levels) = levels
 
--- how many runs the rest of the group needs and the levels, from a section on, where these are the same from behind it on
+-- how many runs the rest of the group needs and the levels, from a section on, where these are the same from behind it
+-- on
 abbrev pub links_after : ℕ → ℕ → MarkKind → ℕ → List Level → ℕ × List Level
 links_after count at Text need levels = (need, levels)
 links_after count at Flat need levels = (need, levels)
 links_after count at IfZero need levels = (max (level_of count levels).later (level_of count levels).need, below levels)
-links_after count at Opens need levels = (max (need + (level_of count levels).later) (level_of count levels).need, below levels)
-links_after count at Branch need levels = (1, record { later = need + (level_of count levels).later; need = (level_of count levels).need; next = at } ∷ below levels)
-links_after count at LastBranch need levels = (1, record { later = need + (level_of count levels).later; need = (level_of count levels).need; next = at } ∷ below levels)
+links_after count at Opens need levels =
+    (max (need + (level_of count levels).later) (level_of count levels).need, below levels)
+links_after count at Branch need levels = (
+  1,
+  record { later = need + (level_of count levels).later; need = (level_of count levels).need; next = at }
+      ∷ below levels,
+)
+links_after count at LastBranch need levels = (
+  1,
+  record { later = need + (level_of count levels).later; need = (level_of count levels).need; next = at }
+      ∷ below levels,
+)
 links_after count at Ends need levels = (1, record { later = 0; need = need; next = at } ∷ levels)
 
 -- all runs that the levels count

@@ -24,7 +24,12 @@ kind_by is_zero Flat = kind.Flat
 -- the mark of a section
 abbrev pub mark_of : Contents → Section → Mark
 mark_of arena (Text first end) = record { first = first; end = end; kind = kind.Text }
-mark_of arena (Dir directive) = record { first = directive.first; end = directive.end; kind = kind_by (is_if_zero arena directive) (nesting_of directive.kind) }
+mark_of arena (Dir directive) =
+    record {
+      first = directive.first;
+      end = directive.end;
+      kind = kind_by (is_if_zero arena directive) (nesting_of directive.kind);
+    }
 
 -- the marks of a text's sections
 abbrev pub marks_of : Contents → List Mark

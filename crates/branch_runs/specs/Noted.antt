@@ -1,5 +1,6 @@
 -- What the code keeps of how the views of runs differ.
-use Rattle.std.specs.Prelude.{◌≡◌, ◌<◌, ◌≤◌, ◌⊎◌, ℕ, ◌-◌, nat_lt, min, max, true, false, List, [], ◌∷◌, if◌then◌else◌, slice_index_or, slice_set, length, ⊤}
+use Rattle.std.specs.Prelude.{◌≡◌, ◌<◌, ◌≤◌, ◌⊎◌, ℕ, ◌-◌, nat_lt, min, max, true, false, List, [], ◌∷◌, if◌then◌else◌}
+use Rattle.std.specs.Prelude.{slice_index_or, slice_set, length, ⊤}
 use Rattle.branch_runs.specs.declared.change.Change.{Change}
 use Rattle.branch_runs.specs.declared.seen.SeenText.{SeenText}
 use Rattle.branch_runs.specs.Seen.{is_seen, taken}
@@ -8,11 +9,16 @@ use Rattle.branch_runs.specs.Anew.{no_change}
 -- the changes with that of a run made wider
 abbrev pub widened : List Change → ℕ → ℕ → ℕ → List Change
 widened changes run first end =
-    slice_set changes run (record { first = min (slice_index_or changes run no_change).first first; end = max (slice_index_or changes run no_change).end end })
+    slice_set changes run (record {
+      first = min (slice_index_or changes run no_change).first first;
+      end = max (slice_index_or changes run no_change).end end;
+    })
 
 -- with the runs that a text begins and ends with
 abbrev pub noted_one : List Change → SeenText → List Change
-noted_one changes seen = if nat_lt seen.from seen.till then widened (widened changes seen.from seen.first seen.end) seen.till seen.first 0 else changes
+noted_one changes seen =
+    if nat_lt seen.from seen.till then widened (widened changes seen.from seen.first seen.end) seen.till seen.first 0
+    else changes
 
 -- with those of these texts
 abbrev pub noted : List Change → List SeenText → List Change
@@ -21,9 +27,12 @@ noted changes (seen ∷ texts) = noted (noted_one changes seen) texts
 
 -- The changes of the runs that the text begins and ends with hold it.
 pub record Notes (changes : List Change) (seen : SeenText) : Type 0 where
-  pub begins : seen.from < seen.till → seen.from < length changes → (slice_index_or changes seen.from no_change).first ≤ seen.first
-  pub holds : seen.from < seen.till → seen.from < length changes → seen.end ≤ (slice_index_or changes seen.from no_change).end
-  pub ends : seen.from < seen.till → seen.till < length changes → (slice_index_or changes seen.till no_change).first ≤ seen.first
+  pub begins : seen.from < seen.till → seen.from < length changes →
+      (slice_index_or changes seen.from no_change).first ≤ seen.first
+  pub holds : seen.from < seen.till → seen.from < length changes →
+      seen.end ≤ (slice_index_or changes seen.from no_change).end
+  pub ends : seen.from < seen.till → seen.till < length changes →
+      (slice_index_or changes seen.till no_change).first ≤ seen.first
 
 abbrev pub AreNoted : List Change → List SeenText → Type 0
 AreNoted changes [] = ⊤
@@ -33,7 +42,8 @@ AreNoted changes (seen ∷ texts) = Notes changes seen × AreNoted changes texts
 abbrev pub BeginsAlone : List SeenText → ℕ → ℕ → ℕ → Type 0
 BeginsAlone [] one other first = ⊥
 BeginsAlone (seen ∷ texts) one other first =
-    ((is_seen seen one ≡ true) × (is_seen seen other ≡ false) × (seen.first ≡ first)) ⊎ BeginsAlone texts one other first
+    ((is_seen seen one ≡ true) × (is_seen seen other ≡ false) × (seen.first ≡ first))
+    ⊎ BeginsAlone texts one other first
 
 -- one of these texts, which one run sees and another doesn't, ends before this item
 abbrev pub EndsAlone : List SeenText → ℕ → ℕ → ℕ → Type 0

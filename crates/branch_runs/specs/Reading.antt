@@ -9,8 +9,8 @@ use Rattle.branch_runs.specs.Tree.{Group, Branches, nothing, text, conditional, 
 
 -- First, what has no effect is taken for a flat directive.
 
--- What a section does where these conditionals are open, the innermost first: a branch or an end that fits no open conditional
--- does nothing, nor does a branch behind the last one.
+-- What a section does where these conditionals are open, the innermost first: a branch or an end that fits no open
+-- conditional does nothing, nor does a branch behind the last one.
 abbrev pub kind_in : MarkKind → List Open → MarkKind
 kind_in Branch [] = Flat
 kind_in Branch (Last ∷ outer) = Flat
@@ -42,8 +42,8 @@ effects = effects_in []
 
 -- Then the groups are read from the last section to the first.
 
--- What follows around the innermost group at a place: for each open conditional, the innermost first, the branches that follow in it,
--- and the rest of the group that it stands in.
+-- What follows around the innermost group at a place: for each open conditional, the innermost first, the branches that
+-- follow in it, and the rest of the group that it stands in.
 abbrev pub Around : Type 0
 Around = List (Branches × Group)
 
@@ -62,14 +62,19 @@ abbrev pub outside : Around → Around
 outside [] = []
 outside (level ∷ around) = around
 
--- the rest of the innermost group and what follows around it, from a section on, where these are the same from behind it on
+-- the rest of the innermost group and what follows around it, from a section on, where these are the same from behind
+-- it on
 abbrev pub rest_with : MarkKind → ℕ → ℕ → Group → Around → Group × Around
 rest_with Text first end group around = (text first end group, around)
 rest_with Flat first end group around = (group, around)
-rest_with IfZero first end group around = (conditional (branch false group (branches_of around)) (group_of around), outside around)
-rest_with Opens first end group around = (conditional (branch true group (branches_of around)) (group_of around), outside around)
-rest_with Branch first end group around = (nothing, (branch true group (branches_of around), group_of around) ∷ outside around)
-rest_with LastBranch first end group around = (nothing, (branch true group (branches_of around), group_of around) ∷ outside around)
+rest_with IfZero first end group around =
+    (conditional (branch false group (branches_of around)) (group_of around), outside around)
+rest_with Opens first end group around =
+    (conditional (branch true group (branches_of around)) (group_of around), outside around)
+rest_with Branch first end group around =
+    (nothing, (branch true group (branches_of around), group_of around) ∷ outside around)
+rest_with LastBranch first end group around =
+    (nothing, (branch true group (branches_of around), group_of around) ∷ outside around)
 rest_with Ends first end group around = (nothing, (none, group) ∷ around)
 
 abbrev pub rest_of : List Mark → Group × Around

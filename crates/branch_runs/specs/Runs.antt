@@ -1,5 +1,6 @@
 -- Runs, and what each sees. docs/PROFILE.md, "Runs", says the rules.
-use Rattle.std.specs.Prelude.{ℕ, ◌+◌, ◌-◌, nat_lt, max, Bool, true, false, not, ◌||◌, List, [], ◌∷◌, ◌++◌, if◌then◌else◌}
+use Rattle.std.specs.Prelude.{ℕ, ◌+◌, ◌-◌, nat_lt, max, Bool, true, false, not, ◌||◌, List, [], ◌∷◌, ◌++◌}
+use Rattle.std.specs.Prelude.{if◌then◌else◌}
 pub use Rattle.token_arena.specs.Segments.{ids_of}
 use Rattle.branch_runs.specs.Tree.{Group, Branches, nothing, text, conditional, none, branch}
 
@@ -22,9 +23,9 @@ has_live none = false
 has_live (branch true group branches) = true
 has_live (branch false group branches) = has_live branches
 
--- The texts that a group takes where the local number is r. The slots of a conditional's live branches follow one another from 0, each as
--- long as its branch's need. It takes the live branch in whose slot r falls, or the last one where r is past all slots. Inside
--- that branch the local number is r less the start of the slot.
+-- The texts that a group takes where the local number is r. The slots of a conditional's live branches follow one
+-- another from 0, each as long as its branch's need. It takes the live branch in whose slot r falls, or the last one
+-- where r is past all slots. Inside that branch the local number is r less the start of the slot.
 abbrev mutual
   pub texts : Group → ℕ → List (ℕ × ℕ)
   texts nothing r = []
@@ -33,7 +34,8 @@ abbrev mutual
 
   pub texts_in : Branches → ℕ → List (ℕ × ℕ)
   texts_in none r = []
-  texts_in (branch true group branches) r = if nat_lt r (need group) || not (has_live branches) then texts group r else texts_in branches (r - need group)
+  texts_in (branch true group branches) r =
+      if nat_lt r (need group) || not (has_live branches) then texts group r else texts_in branches (r - need group)
   texts_in (branch false group branches) r = texts_in branches r
 
 -- the items that run r sees

@@ -35,7 +35,8 @@ pub record FitsSpan (texts : List SeenText) (at : ℕ) (span : Span) : Type 0 wh
 
 -- These are spans that begin at the places from this one on.
 abbrev pub FitSpansFrom : ℕ → List SeenText → List Span → Type 0
-FitSpansFrom first texts spans = (at : ℕ) → first ≤ at → at < length texts → FitsSpan texts at (slice_index_or spans at no_span)
+FitSpansFrom first texts spans =
+    (at : ℕ) → first ≤ at → at < length texts → FitsSpan texts at (slice_index_or spans at no_span)
 
 -- These are spans that begin at each place.
 pub record FitSpans (texts : List SeenText) (spans : List Span) : Type 0 where

@@ -15,7 +15,8 @@ use Rattle.token_arena.specs.declared.directives.DirectiveKind.TheVariants.{If}
 -- these items without the comments among them
 abbrev pub without_comments : List Stored → List Stored
 without_comments [] = []
-without_comments (token ∷ tokens) = if is_comment token.kind then without_comments tokens else token ∷ without_comments tokens
+without_comments (token ∷ tokens) =
+    if is_comment token.kind then without_comments tokens else token ∷ without_comments tokens
 
 -- it is the Number `0`, splices taken out
 abbrev pub is_zero : Dialect → Stored → Bool
@@ -37,4 +38,5 @@ is_if _ = false
 
 -- it is a literal `#if 0`
 abbrev pub is_if_zero : Contents → Directive → Bool
-is_if_zero arena directive = is_if directive.kind && tests_zero arena.dialect (slice_range arena.tokens (directive.hash.0 + 1) directive.end)
+is_if_zero arena directive =
+    is_if directive.kind && tests_zero arena.dialect (slice_range arena.tokens (directive.hash.0 + 1) directive.end)

@@ -1,5 +1,7 @@
--- What each whole breaking costs at least beyond a layout: it breaks in the stretch of tokens ahead, or leaves that on one row.
-use Rattle.std.specs.Prelude.{◌≡◌, ℕ, ◌+◌, ◌-◌, ◌*◌, min, max, Bool, ◌&&◌, not, ◌==◌, nat_lt, if◌then◌else◌, Option, Some, None, List, length, slice_get, zero, suc}
+-- What each whole breaking costs at least beyond a layout: it breaks in the stretch of tokens ahead, or leaves that on
+-- one row.
+use Rattle.std.specs.Prelude.{◌≡◌, ℕ, ◌+◌, ◌-◌, ◌*◌, min, max, Bool, ◌&&◌, not, ◌==◌, nat_lt, if◌then◌else◌, Option}
+use Rattle.std.specs.Prelude.{Some, None, List, length, slice_get, zero, suc}
 use Rattle.line_tokens.specs.Columns.{columns}
 use Rattle.line_tokens.specs.Roles.{is_trailing}
 use Rattle.line_tokens.specs.declared.LineTok.{LineTok}
@@ -20,7 +22,9 @@ no_stretch = record { width = 0; least = most_told }
 
 -- the gap may stay, and its token is one row whose columns past the limit cost
 abbrev pub can_stay : GapRule → LineTok → Option Fixed → Bool
-can_stay rule token decision = not (is_some_decision decision) && not rule.must && not (is_trailing token.role) && not (nat_lt 1 token.rows) && (token.first_width == token.last_width)
+can_stay rule token decision =
+    not (is_some_decision decision) && not rule.must && not (is_trailing token.role) && not (nat_lt 1 token.rows)
+    && (token.first_width == token.last_width)
 
 abbrev pub stretch_with : GapRules → LineTok → Option Fixed → Stretch → Stretch
 stretch_with rules token decision next =
@@ -32,7 +36,10 @@ stretch_with rules token decision next =
 
 abbrev pub stretch_over : Style → Option Gap → Stretch → Stretch
 stretch_over style None next = no_stretch
-stretch_over style (Some gap) next = stretch_with (record { rule = gap_rule style gap.left gap.right; spaces = spaces_before style gap.left gap.right }) gap.right gap.fixed next
+stretch_over style (Some gap) next =
+    stretch_with
+    (record { rule = gap_rule style gap.left gap.right; spaces = spaces_before style gap.left gap.right })
+    gap.right gap.fixed next
 
 -- the stretch ahead where so many tokens are left: its width on one row, and what a break in it costs at least
 abbrev pub stretch_of : Line → ℕ → Stretch

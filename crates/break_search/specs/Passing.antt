@@ -13,11 +13,14 @@ pub record StandsAhead (t s : Layout) : Type 0 where
   pub column : t.column ≤ s.column
 
 abbrev pub IsAhead : List (Vertex Layout) → ℕ → ℕ → Type 0
-IsAhead table v w = (x y : Vertex Layout) → slice_get table v ≡ Some x → slice_get table w ≡ Some y → StandsAhead x.state y.state
+IsAhead table v w =
+    (x y : Vertex Layout) → slice_get table v ≡ Some x → slice_get table w ≡ Some y → StandsAhead x.state y.state
 
 -- the way to the vertex at v is no worse than that to the one at w
 abbrev pub IsBetter : List (Vertex Layout) → ℕ → ℕ → Type 0
-IsBetter table v w = (x y : Vertex Layout) → slice_get table v ≡ Some x → slice_get table w ≡ Some y → AtMost x.cost (rank_at table v) y.cost (rank_at table w)
+IsBetter table v w =
+    (x y : Vertex Layout) → slice_get table v ≡ Some x → slice_get table w ≡ Some y →
+    AtMost x.cost (rank_at table v) y.cost (rank_at table w)
 
 -- another vertex, at v, is settled, stands ahead of the one at w, and has a way that is no worse
 pub record Passes (table : List (Vertex Layout)) (v w : ℕ) : Type 0 where

@@ -15,7 +15,9 @@ gap_into line (suc i) = gap_at line (suc i)
 
 -- as far as the gap and its token can move a column
 abbrev pub reach : Style → Gap → ℕ
-reach style gap = spaces_before style gap.left gap.right + stored_or gap.fixed 0 + gap.right.first_width + gap.right.last_width + style.continuation_indent_width
+reach style gap =
+    spaces_before style gap.left gap.right + stored_or gap.fixed 0 + gap.right.first_width + gap.right.last_width
+    + style.continuation_indent_width
 
 -- no token moves a column further than `width`, and so many as there are don't reach the largest number
 pub record IsNarrow (line : Line) : Type 0 where

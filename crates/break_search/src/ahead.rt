@@ -84,7 +84,9 @@ pub(crate) fn stretches_of<'r>(
 ) -> Result<&'r [Stretch], NoMemory>
     requires some { 0 < length tokens.now }
     requires count { length rules.now + 1 ≡ length tokens.now }
-    ensures { IfOk result (λ stretches. (style : Style) (column : ℕ) → HaveRules style tokens.now rules.now → HaveStretches (line_of style column tokens.now fixed.now) stretches.now) }
+    ensures { IfOk result (λ stretches.
+        (style : Style) (column : ℕ) → HaveRules style tokens.now rules.now →
+        HaveStretches (line_of style column tokens.now fixed.now) stretches.now) }
 {
     let count = tokens.len();
     let mut stretches = Vec::with_capacity(run, count + 1)?;

@@ -213,7 +213,8 @@ impl<'a> SearchedLine<'a> {
     fn rules_before(&self, at: usize) -> &GapRules
         requires some { 0 < at }
         requires at { at < length self.now.tokens }
-        ensures { (left right : LineTok) → slice_get self.now.tokens (at - 1) ≡ Some left → slice_get self.now.tokens at ≡ Some right → AreRules self.now.style left right result.now }
+        ensures { (left right : LineTok) → slice_get self.now.tokens (at - 1) ≡ Some left →
+            slice_get self.now.tokens at ≡ Some right → AreRules self.now.style left right result.now }
     {
         rules_at(self.rules, at - 1)
     }
@@ -253,7 +254,8 @@ impl<'a> SearchedLine<'a> {
     fn rules_into(&self, at: usize) -> GapRules
         requires line { IsSearchable self.now }
         requires at { at < length self.now.tokens }
-        ensures { (left right : LineTok) → slice_get self.now.tokens (at - 1) ≡ Some left → slice_get self.now.tokens at ≡ Some right → AreRules self.now.style left right result }
+        ensures { (left right : LineTok) → slice_get self.now.tokens (at - 1) ≡ Some left →
+            slice_get self.now.tokens at ≡ Some right → AreRules self.now.style left right result }
     {
         if at == 0 {
             let token = self.token(0);
@@ -325,7 +327,8 @@ impl<'a> SearchedLine<'a> {
         requires some { 0 < state.now.index }
         requires next { state.now.index < length self.now.tokens }
         requires cheap { state.now.cost ≤ state.now.index * 18446744073709551615 }
-        ensures gives { IfOk result (λ next. IsSuccessor self.now (state_in store.old state.now) brk (states_in store.new next)) }
+        ensures gives { IfOk result
+            (λ next. IsSuccessor self.now (state_in store.old state.now) brk (states_in store.new next)) }
         ensures known { IfOk result (λ next. IfSome next (IsIn store.new)) }
         ensures grown { IsGrown store.old store.new }
     {

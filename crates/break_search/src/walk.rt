@@ -49,8 +49,11 @@ fn lay_next(
     requires some { 0 < state.old.index }
     requires next { state.old.index < length line.now }
     requires leads { LeadsOn (line_of style.now column line.now fixed.now) (layout_of state.old) brk }
-    ensures start { IfOk result (λ start. (gap : Gap) → gap_at (line_of style.now column line.now fixed.now) (layout_of state.old).index ≡ Some gap → start ≡ start_of style.now (layout_of state.old) gap brk) }
-    ensures next { OnOk result (LeadsTo (line_of style.now column line.now fixed.now) (layout_of state.old) brk (layout_of state.new)) }
+    ensures start { IfOk result (λ start.
+        (gap : Gap) → gap_at (line_of style.now column line.now fixed.now) (layout_of state.old).index ≡ Some gap →
+        start ≡ start_of style.now (layout_of state.old) gap brk) }
+    ensures next { OnOk result
+        (LeadsTo (line_of style.now column line.now fixed.now) (layout_of state.old) brk (layout_of state.new)) }
 {
     let _ = column;
     let at = state.index as usize;
@@ -80,7 +83,10 @@ pub fn starts<'r>(
     requires even { length fixed.now ≡ length line.now }
     requires range { IsInRange style.now }
     requires admissible { IsAdmissible (line_of style.now column line.now fixed.now) breaks.now }
-    ensures { IfOk result (λ starts. starts.now ≡ starts_of (line_of style.now column line.now fixed.now) (first_layout (line_of style.now column line.now fixed.now)) breaks.now) }
+    ensures { IfOk result (λ starts.
+        starts.now
+        ≡ starts_of (line_of style.now column line.now fixed.now)
+        (first_layout (line_of style.now column line.now fixed.now)) breaks.now) }
 {
     let mut state = lay_first(alloc, style, line, column, fixed)?;
     let mut starts = Vec::with_capacity(run, breaks.len())?;
@@ -103,7 +109,8 @@ fn least_next<'r>(
     requires next { state.now.index < length line.now.tokens }
     requires cheap { state.now.cost ≤ state.now.index * 18446744073709551615 }
     requires stay { MayStay (layout_in store.old state.now) }
-    ensures next { IfOk result (λ x. IsNextState line.now (layout_in store.old state.now) state.now.cost x.1 (state_in store.new x.0)) }
+    ensures next { IfOk result
+        (λ x. IsNextState line.now (layout_in store.old state.now) state.now.cost x.1 (state_in store.new x.0)) }
     ensures known { IfOk result (λ x. IsIn store.new x.0) }
     ensures stay { IfOk result (λ x. MayStay (layout_in store.new x.0)) }
 {

@@ -5,7 +5,8 @@ use Rattle.c_chars.specs.Characters.{are_words, bytes_of, placed, is_space_byte}
 use Rattle.c_chars.specs.declared.Dialect.{Dialect}
 use Rattle.c_chars.specs.declared.LogicalChar.{LogicalChar}
 
--- the dialect that a text is read in, the offset behind the last character that was read, and the characters that are still to come
+-- the dialect that a text is read in, the offset behind the last character that was read, and the characters that are
+-- still to come
 pub record Coming : Type 0 where
   pub dialect : Dialect
   pub at : ℕ
@@ -33,14 +34,16 @@ pub record ArePassed (p : ℕ → Bool) (old new : Coming) : Type 0 where
   pub all : IsTrue (list_all p (take n (bytes_of old.chars)))
   pub new_is : new ≡ behind old n
 
--- Bytes were passed of which each holds: `old` begins with them, each one byte of the text, and `new` is what is to come behind them.
+-- Bytes were passed of which each holds: `old` begins with them, each one byte of the text, and `new` is what is to
+-- come behind them.
 pub record AreBytesPassed (p : ℕ → Bool) (old new : Coming) : Type 0 where
   pub bytes : List ℕ
   pub all : IsTrue (list_all p bytes)
   pub chars_are : old.chars ≡ placed old.at bytes ++ new.chars
   pub at_is : new.at ≡ old.at + length bytes
 
--- Spaces and tabs were passed: `old` begins with n of them, each one byte of the text, and `new` is what is to come behind them.
+-- Spaces and tabs were passed: `old` begins with n of them, each one byte of the text, and `new` is what is to come
+-- behind them.
 pub record AreSpacesPassed (old new : Coming) (n : ℕ) : Type 0 where
   pub bytes : List ℕ
   pub count : n ≡ length bytes

@@ -11,4 +11,5 @@ chars_behind place = chars place.dialect place.at place.rest.now
 -- `new` stands behind the next character of `old`; both are one place where there is none
 abbrev pub IsPastNext : Cursor → Option LogicalChar → Cursor → Type 0
 IsPastNext old next new =
-    MatchOption next ((chars_behind old ≡ []) × (new.at ≡ old.at) × (new.rest.now ≡ old.rest.now)) (λ c. (chars_behind old ≡ c ∷ chars_behind new) × (new.at ≡ c.to))
+    MatchOption next ((chars_behind old ≡ []) × (new.at ≡ old.at) × (new.rest.now ≡ old.rest.now))
+    (λ c. (chars_behind old ≡ c ∷ chars_behind new) × (new.at ≡ c.to))

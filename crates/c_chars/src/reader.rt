@@ -155,7 +155,8 @@ impl<'s> Chars<'s> {
     /// The characters of a text of at most [`LIMIT`] bytes.
     pub fn new(text: &'s [u8], dialect: Dialect) -> Chars<'s>
         requires { length text.now ≤ LIMIT }
-        ensures coming { result ≡ record { dialect = dialect; at = mark_len text.now; chars = logical dialect text.now } }
+        ensures coming { result
+            ≡ record { dialect = dialect; at = mark_len text.now; chars = logical dialect text.now } }
         ensures spans { AreBetween result.at result.chars (length text.now) }
     {
         let (at, rest) = behind_mark(text);

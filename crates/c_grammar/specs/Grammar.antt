@@ -1,12 +1,15 @@
--- What spells an item of each kind (C11 6.4), over lists of logical characters. A character past ASCII stands as its bytes.
-use Rattle.std.specs.Prelude.{◌≡◌, ◌≢◌, ◌==◌, ◌||◌, ◌&&◌, not, ℕ, Bool, true, false, List, [], ◌∷◌, ◌++◌, length, nat_le, IsTrue, IsFalse, codes, ◌⊎◌}
+-- What spells an item of each kind (C11 6.4), over lists of logical characters. A character past ASCII stands as its
+-- bytes.
+use Rattle.std.specs.Prelude.{◌≡◌, ◌≢◌, ◌==◌, ◌||◌, ◌&&◌, not, ℕ, Bool, true, false, List, [], ◌∷◌, ◌++◌, length}
+use Rattle.std.specs.Prelude.{nat_le, IsTrue, IsFalse, codes, ◌⊎◌}
 use Rattle.std.specs.List.{list_any, list_all}
 use Rattle.std.specs.Str.{is_utf8, chars}
 use Rattle.unicode_ident.specs.Ident.{is_xid_start, is_xid_continue}
 use Rattle.c_chars.specs.declared.Dialect.{Dialect}
 use Rattle.c_chars.specs.declared.Dialect.TheVariants.{C11, C23}
 use Rattle.c_grammar.specs.declared.ItemKind.{ItemKind}
-use Rattle.c_grammar.specs.declared.ItemKind.TheVariants.{Identifier, Number, CharConst, StringLit, Punct, HeaderName, StrayQuote, Other, BlockComment, LineComment}
+use Rattle.c_grammar.specs.declared.ItemKind.TheVariants.{Identifier, Number, CharConst, StringLit, Punct, HeaderName}
+use Rattle.c_grammar.specs.declared.ItemKind.TheVariants.{StrayQuote, Other, BlockComment, LineComment}
 
 -- Characters.
 
@@ -106,9 +109,12 @@ is_number_head u = is_one is_digit u || is_two (λ c. c == 46) is_digit u
 -- C23 has digit separators
 abbrev pub is_separated : Dialect → List ℕ → Bool
 is_separated C11 u = false
-is_separated C23 u = is_two (λ c. c == 39) (λ c. is_digit c || ((nat_le 65 c && nat_le c 90) || (nat_le 97 c && nat_le c 122) || c == 95)) u
+is_separated C23 u =
+    is_two (λ c. c == 39)
+    (λ c. is_digit c || ((nat_le 65 c && nat_le c 90) || (nat_le 97 c && nat_le c 122) || c == 95)) u
 
--- what may stand behind the head: a letter or a digit, a point, an exponent with its sign, a separator with what it separates
+-- what may stand behind the head: a letter or a digit, a point, an exponent with its sign, a separator with what it
+-- separates
 unfoldable pub is_number_unit : Dialect → List ℕ → Bool
 is_number_unit d u = is_word_unit u || is_one (λ c. c == 46) u || is_two is_exponent is_sign u || is_separated d u
 
@@ -124,10 +130,14 @@ is_same (x ∷ xs) [] = false
 -- the punctuators of C11, digraphs among them
 abbrev pub common_punctuators : List (List ℕ)
 common_punctuators =
-    codes "[" ∷ codes "]" ∷ codes "(" ∷ codes ")" ∷ codes "{" ∷ codes "}" ∷ codes "." ∷ codes "->" ∷ codes "++" ∷ codes "--"
-    ∷ codes "&" ∷ codes "*" ∷ codes "+" ∷ codes "-" ∷ codes "~" ∷ codes "!" ∷ codes "/" ∷ codes "%" ∷ codes "<<" ∷ codes ">>"
-    ∷ codes "<" ∷ codes ">" ∷ codes "<=" ∷ codes ">=" ∷ codes "==" ∷ codes "!=" ∷ codes "^" ∷ codes "|" ∷ codes "&&" ∷ codes "||"
-    ∷ codes "?" ∷ codes ":" ∷ codes ";" ∷ codes "..." ∷ codes "=" ∷ codes "*=" ∷ codes "/=" ∷ codes "%=" ∷ codes "+=" ∷ codes "-="
+    codes "[" ∷ codes "]" ∷ codes "(" ∷ codes ")" ∷ codes "{" ∷ codes "}" ∷ codes "." ∷ codes "->" ∷ codes "++"
+    ∷ codes "--"
+    ∷ codes "&" ∷ codes "*" ∷ codes "+" ∷ codes "-" ∷ codes "~" ∷ codes "!" ∷ codes "/" ∷ codes "%" ∷ codes "<<"
+    ∷ codes ">>"
+    ∷ codes "<" ∷ codes ">" ∷ codes "<=" ∷ codes ">=" ∷ codes "==" ∷ codes "!=" ∷ codes "^" ∷ codes "|" ∷ codes "&&"
+    ∷ codes "||"
+    ∷ codes "?" ∷ codes ":" ∷ codes ";" ∷ codes "..." ∷ codes "=" ∷ codes "*=" ∷ codes "/=" ∷ codes "%=" ∷ codes "+="
+    ∷ codes "-="
     ∷ codes "<<=" ∷ codes ">>=" ∷ codes "&=" ∷ codes "^=" ∷ codes "|=" ∷ codes "," ∷ codes "#" ∷ codes "##"
     ∷ codes "<:" ∷ codes ":>" ∷ codes "<%" ∷ codes "%>" ∷ codes "%:" ∷ codes "%:%:" ∷ []
 
@@ -145,7 +155,8 @@ is_punctuator d s = list_any (is_same s) (punctuators d)
 -- inside quotes a backslash and any next character but a new-line stand for one
 unfoldable pub is_quoted_unit : ℕ → List ℕ → Bool
 is_quoted_unit q u =
-    is_one (λ c. not (c == q) && not (c == 92) && not (is_new_line c)) u || is_two (λ c. c == 92) (λ c. not (is_new_line c)) u
+    is_one (λ c. not (c == q) && not (c == 92) && not (is_new_line c)) u
+    || is_two (λ c. c == 92) (λ c. not (is_new_line c)) u
 
 -- a prefix of a character constant, or none; C23 has `u8` besides
 unfoldable pub is_char_prefix : Dialect → List ℕ → Bool
@@ -210,7 +221,8 @@ pub record IsTrimmed (s : List ℕ) : Type 0 where
   pub ends : IsTrue ((is_one (λ c. not (is_white c)) last && is_same white []) || is_same last (92 ∷ []))
   pub whole : s ≡ front ++ (last ++ white)
 
--- Two slashes and what stands behind them in the line. Its white space at the end isn't part of it, unless it would then end in a backslash.
+-- Two slashes and what stands behind them in the line. Its white space at the end isn't part of it, unless it would
+-- then end in a backslash.
 pub record IsLine (s : List ℕ) : Type 0 where
   pub body : List ℕ
   pub in_line : IsTrue (list_all (λ c. not (is_new_line c)) body)
@@ -231,7 +243,9 @@ pub record IsHeaderName (s : List ℕ) : Type 0 where
 
 -- one that begins nothing else
 unfoldable pub is_other : Dialect → ℕ → Bool
-is_other d c = not (is_white c || is_new_line c || is_letter c || is_digit c || is_of (codes "'\"") c || is_punctuator d (c ∷ []))
+is_other d c =
+    not (is_white c || is_new_line c || is_letter c || is_digit c || is_of (codes "'\"") c
+    || is_punctuator d (c ∷ []))
 
 -- A character that begins nothing else, or a byte past ASCII that is in no character.
 unfoldable pub is_other_unit : Dialect → List ℕ → Bool

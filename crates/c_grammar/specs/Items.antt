@@ -10,7 +10,8 @@ use Rattle.c_grammar.specs.declared.ItemKind.TheVariants.{Identifier, Punct, Hea
 -- The spelling is of this shape, and nothing that goes on from it into the rest spells anything.
 pub record IsLongest (d : Dialect) (shape : Shape) (spelling rest : List ℕ) : Type 0 where
   pub spells : Spells d shape spelling
-  pub longest : (other : Shape) (c : ℕ) (more left : List ℕ) → rest ≡ (c ∷ more) ++ left → Spells d other (spelling ++ (c ∷ more)) → ⊥
+  pub longest : (other : Shape) (c : ℕ) (more left : List ℕ) → rest ≡ (c ∷ more) ++ left →
+      Spells d other (spelling ++ (c ∷ more)) → ⊥
 
 -- white space and new-lines
 abbrev pub is_gap : List ℕ → Bool
@@ -38,7 +39,8 @@ is_include C23 s = is_same s (codes "include") || is_same s (codes "embed")
 
 -- behind the name of a directive
 abbrev pub past_name : Dialect → List ℕ → Place
-past_name d s = if is_include d s then AfterInclude else (if is_same s (codes "define") then AfterDefine else InDirective)
+past_name d s =
+    if is_include d s then AfterInclude else (if is_same s (codes "define") then AfterDefine else InDirective)
 
 -- A comment keeps the place, but what stands behind it isn't directly behind a macro's name.
 abbrev pub past_comment : Place → Place
@@ -67,7 +69,8 @@ pub record BeginsHeader (text : List ℕ) : Type 0 where
   pub is_name : IsHeaderName name
   pub whole : text ≡ name ++ left
 
--- The item that stands next at this place, before this rest. Behind `include` a header name goes before every other item (6.4p4).
+-- The item that stands next at this place, before this rest. Behind `include` a header name goes before every other
+-- item (6.4p4).
 abbrev pub IsNext : Dialect → Place → ItemKind → List ℕ → List ℕ → Type 0
 IsNext d place kind s rest =
     ((place ≡ AfterInclude) × (kind ≡ HeaderName) × IsHeaderName s)

@@ -3,9 +3,11 @@ use Rattle.std.specs.Prelude.{◌≡◌, ℕ, ◌≤◌, List, length, take, if�
 use Rattle.c_chars.specs.Characters.{bytes_of}
 use Rattle.c_chars.specs.Coming.{Coming, AreBetween, behind}
 use Rattle.c_chars.specs.declared.Dialect.{Dialect}
-use Rattle.c_grammar.specs.Items.{Place, LineStart, AfterHash, AfterInclude, AfterDefine, AfterMacroName, InDirective, InText, is_hash, past_name}
+use Rattle.c_grammar.specs.Items.{Place, LineStart, AfterHash, AfterInclude, AfterDefine, AfterMacroName, InDirective}
+use Rattle.c_grammar.specs.Items.{InText, is_hash, past_name}
 use Rattle.c_grammar.specs.declared.place.Standing.{Standing}
-use Rattle.c_grammar.specs.declared.place.Standing.TheVariants.{FirstInLine, BehindHash, BehindInclude, BehindDefine, BehindMacroName, WithinDirective, WithinText}
+use Rattle.c_grammar.specs.declared.place.Standing.TheVariants.{FirstInLine, BehindHash, BehindInclude, BehindDefine}
+use Rattle.c_grammar.specs.declared.place.Standing.TheVariants.{BehindMacroName, WithinDirective, WithinText}
 
 -- the place that an item has that stands so
 abbrev pub place_of : Standing → Place
@@ -41,4 +43,5 @@ pub record IsSpanned (x : Coming) : Type 0 where
 
 -- It holds of the characters of the text up to what is left of it.
 abbrev pub SpelledBy : Coming → Coming → (List ℕ → Type 0) → Type 0
-SpelledBy text left Holds = (n : ℕ) → n ≤ length text.chars → left ≡ behind text n → Holds (take n (bytes_of text.chars))
+SpelledBy text left Holds =
+    (n : ℕ) → n ≤ length text.chars → left ≡ behind text n → Holds (take n (bytes_of text.chars))

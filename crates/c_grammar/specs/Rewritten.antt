@@ -1,5 +1,6 @@
 -- Other bytes between the items of a text.
-use Rattle.std.specs.Prelude.{◌≡◌, ◌==◌, ◌||◌, ◌&&◌, not, ℕ, ◌-◌, Bool, true, false, List, [], ◌∷◌, ◌++◌, take, drop, map, IsTrue, IsFalse, ⊤}
+use Rattle.std.specs.Prelude.{◌≡◌, ◌==◌, ◌||◌, ◌&&◌, not, ℕ, ◌-◌, Bool, true, false, List, [], ◌∷◌, ◌++◌, take, drop}
+use Rattle.std.specs.Prelude.{map, IsTrue, IsFalse, ⊤}
 use Rattle.c_chars.specs.Characters.{bytes_of, chars, mark_len, begins_line_end}
 use Rattle.c_chars.specs.declared.Dialect.{Dialect}
 use Rattle.c_chars.specs.declared.LogicalChar.{LogicalChar}
@@ -20,7 +21,8 @@ pub record IsGuarded (left : ReadItem) (new : List ℕ) : Type 0 where
   pub backslash : IsFalse (ends (λ c. c == 92) (bytes_of left.chars) && begins_line_end new)
   pub return : IsFalse (ends (λ c. c == 13) (bytes_of left.chars) && starts (λ c. c == 10) new)
 
--- Bytes that may stand between two items, the right one at this place: what they read as may stand for the gap, they are guarded, and there are none only where there were none.
+-- Bytes that may stand between two items, the right one at this place: what they read as may stand for the gap, they
+-- are guarded, and there are none only where there were none.
 pub record AreFitBytes (d : Dialect) (place : Place) (left item : ReadItem) (new : List ℕ) : Type 0 where
   pub fits : IsFitGap place left.kind (bytes_of item.gap) (read_alone d new)
   pub guarded : IsGuarded left new
@@ -30,21 +32,27 @@ pub record AreFitBytes (d : Dialect) (place : Place) (left item : ReadItem) (new
 abbrev pub FitBehind : Dialect → Place → ReadItem → List (List ℕ) → List ReadItem → List ℕ → Type 0
 FitBehind d place left [] [] end = IsGuarded left end
 FitBehind d place left (gap ∷ gaps) (item ∷ items) end =
-    AreFitBytes d place left item gap × FitBehind d (past_item d (past_gap place (bytes_of item.gap)) item.kind (bytes_of item.chars)) item gaps items end
+    AreFitBytes d place left item gap
+    × FitBehind d (past_item d (past_gap place (bytes_of item.gap)) item.kind (bytes_of item.chars)) item gaps items
+    end
 FitBehind d place left [] (item ∷ items) end = ⊥
 FitBehind d place left (gap ∷ gaps) [] end = ⊥
 
 -- bytes before each item of a text: any gap before the first, and such ones before the others
 abbrev pub FitText : Dialect → List (List ℕ) → List ReadItem → List ℕ → Type 0
 FitText d [] [] end = ⊤
-FitText d (gap ∷ gaps) (item ∷ items) end = IsTrue (is_gap (read_alone d gap)) × FitBehind d (past_item d LineStart item.kind (bytes_of item.chars)) item gaps items end
+FitText d (gap ∷ gaps) (item ∷ items) end =
+    IsTrue (is_gap (read_alone d gap))
+    × FitBehind d (past_item d LineStart item.kind (bytes_of item.chars)) item gaps items end
 FitText d [] (item ∷ items) end = ⊥
 FitText d (gap ∷ gaps) [] end = ⊥
 
--- Other bytes between the items, of which none read otherwise than as gaps that may stand for the old ones, give a twin, where no byte order mark comes.
+-- Other bytes between the items, of which none read otherwise than as gaps that may stand for the old ones, give a
+-- twin, where no byte order mark comes.
 abbrev pub RewritesGaps : Type 0
 RewritesGaps =
-    (d : Dialect) (text : List ℕ) (items : List ReadItem) (last : List LogicalChar) (gaps : List (List ℕ)) (end : List ℕ) →
+    (d : Dialect) (text : List ℕ) (items : List ReadItem) (last : List LogicalChar) (gaps : List (List ℕ))
+    (end : List ℕ) →
     LexesText d text items last →
     FitText d gaps items end →
     IsFitEnd (map piece_of items) (bytes_of last) (read_alone d end) →
@@ -58,7 +66,8 @@ kept_bytes text left item = take (start_of item - end_of left) (drop (end_of lef
 -- The bytes between two items that stand side by side may stay there.
 abbrev pub KeptBytesFit : Type 0
 KeptBytesFit =
-    (d : Dialect) (text : List ℕ) (before after : List ReadItem) (left item : ReadItem) (last : List LogicalChar) (place : Place) →
+    (d : Dialect) (text : List ℕ) (before after : List ReadItem) (left item : ReadItem) (last : List LogicalChar)
+    (place : Place) →
     LexesText d text (before ++ left ∷ item ∷ after) last →
     AreFitBytes d place left item (kept_bytes text left item)
 

@@ -1,11 +1,14 @@
 -- Which two items keep apart with nothing between them.
-use Rattle.std.specs.Prelude.{◌≡◌, ◌≢◌, ◌==◌, ◌||◌, ◌&&◌, not, ℕ, Bool, true, false, List, [], ◌∷◌, ◌++◌, codes, IsTrue, IsFalse}
+use Rattle.std.specs.Prelude.{◌≡◌, ◌≢◌, ◌==◌, ◌||◌, ◌&&◌, not, ℕ, Bool, true, false, List, [], ◌∷◌, ◌++◌, codes, IsTrue}
+use Rattle.std.specs.Prelude.{IsFalse}
 use Rattle.std.specs.List.{list_any}
 use Rattle.c_grammar.specs.Items.{Piece, Lexes, written, is_gap}
 use Rattle.c_chars.specs.declared.Dialect.{Dialect}
-use Rattle.c_grammar.specs.Grammar.{is_new_line, is_same, is_of, is_letter, is_sign, is_exponent, is_string_prefix, common_punctuators}
+use Rattle.c_grammar.specs.Grammar.{is_new_line, is_same, is_of, is_letter, is_sign, is_exponent, is_string_prefix}
+use Rattle.c_grammar.specs.Grammar.{common_punctuators}
 use Rattle.c_grammar.specs.declared.ItemKind.{ItemKind}
-use Rattle.c_grammar.specs.declared.ItemKind.TheVariants.{Identifier, Number, CharConst, StringLit, Punct, StrayQuote, Other, LineComment}
+use Rattle.c_grammar.specs.declared.ItemKind.TheVariants.{Identifier, Number, CharConst, StringLit, Punct, StrayQuote}
+use Rattle.c_grammar.specs.declared.ItemKind.TheVariants.{Other, LineComment}
 
 -- the first character passes
 abbrev pub starts : (ℕ → Bool) → List ℕ → Bool
@@ -63,7 +66,9 @@ takes_line _ = false
 
 -- an identifier or a number, and what would go on with it: another, or a literal with a prefix
 abbrev pub word_by_word : ItemKind → ItemKind → List ℕ → Bool
-word_by_word left right r = (is_identifier left || is_number left) && (is_identifier right || is_number right || (is_literal right && starts is_letter r))
+word_by_word left right r =
+    (is_identifier left || is_number left)
+    && (is_identifier right || is_number right || (is_literal right && starts is_letter r))
 
 -- an identifier that is a prefix, and a quote
 abbrev pub prefix_by_quote : ItemKind → List ℕ → List ℕ → Bool
@@ -79,7 +84,8 @@ point_by_number l right = is_same l (codes ".") && is_number right
 
 -- a punctuator that with the next character begins a punctuator of an edition or a comment
 abbrev pub punct_goes_on : ItemKind → List ℕ → List ℕ → Bool
-punct_goes_on left l r = is_punct left && list_any (is_front (l ++ first_of r)) (codes "::" ∷ codes "//" ∷ codes "/*" ∷ common_punctuators)
+punct_goes_on left l r =
+    is_punct left && list_any (is_front (l ++ first_of r)) (codes "::" ∷ codes "//" ∷ codes "/*" ∷ common_punctuators)
 
 -- a `?`, and what could make a trigraph of it
 abbrev pub trigraph_comes : List ℕ → List ℕ → Bool
@@ -97,7 +103,9 @@ closed_up p = record { gap = []; kind = p.kind; spelling = p.spelling }
 
 -- A text has one list of items.
 abbrev pub HasOneList : Type 0
-HasOneList = (d : Dialect) (text : List ℕ) (ps qs : List Piece) (last end : List ℕ) → Lexes d text ps last → Lexes d text qs end → (ps ≡ qs) × (last ≡ end)
+HasOneList =
+    (d : Dialect) (text : List ℕ) (ps qs : List Piece) (last end : List ℕ) → Lexes d text ps last →
+    Lexes d text qs end → (ps ≡ qs) × (last ≡ end)
 
 -- Where two items may touch, taking away a gap without a new-line between them leaves all items as they were.
 abbrev pub KeepsItems : Type 0
@@ -112,7 +120,8 @@ KeepsItems =
 abbrev pub regapped : List ℕ → Piece → Piece
 regapped g p = record { gap = g; kind = p.kind; spelling = p.spelling }
 
--- Another gap in the place of a gap, none of them empty, both with a new-line or both without, leaves all items as they were, behind an item that doesn't take its line.
+-- Another gap in the place of a gap, none of them empty, both with a new-line or both without, leaves all items as they
+-- were, behind an item that doesn't take its line.
 abbrev pub KeepsItemsOverGaps : Type 0
 KeepsItemsOverGaps =
     (d : Dialect) (text : List ℕ) (before after : List Piece) (l r : Piece) (last gap : List ℕ) →

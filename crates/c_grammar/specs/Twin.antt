@@ -9,7 +9,8 @@ use Rattle.c_chars.specs.declared.Dialect.{Dialect}
 use Rattle.c_chars.specs.declared.LogicalChar.{LogicalChar}
 use Rattle.c_grammar.specs.declared.ItemKind.{ItemKind}
 
--- What an item is to a directive: of a text and none of its business; the `#` that begins it; the `(` that makes its macro function-like; of it otherwise.
+-- What an item is to a directive: of a text and none of its business; the `#` that begins it; the `(` that makes its
+-- macro function-like; of it otherwise.
 pub data Part : Type 0 where
   OfText : Part
   BeginsDirective : Part
@@ -20,17 +21,19 @@ pub data Part : Type 0 where
 abbrev pub part_of : Place → List ℕ → ItemKind → List ℕ → Part
 part_of LineStart gap kind s = if is_punct kind && is_hash s then BeginsDirective else OfText
 part_of InText gap kind s = OfText
-part_of AfterMacroName gap kind s = if is_same gap [] && (is_punct kind && is_same s (codes "(")) then OpensParameters else OfDirective
+part_of AfterMacroName gap kind s =
+    if is_same gap [] && (is_punct kind && is_same s (codes "(")) then OpensParameters else OfDirective
 part_of place gap kind s = OfDirective
 
 -- the part of each item
 abbrev pub parts_of : Dialect → Place → List Piece → List Part
 parts_of d place [] = []
 parts_of d place (p ∷ ps) =
-    part_of (past_gap place p.gap) p.gap p.kind p.spelling ∷ parts_of d (past_item d (past_gap place p.gap) p.kind p.spelling) ps
+    part_of (past_gap place p.gap) p.gap p.kind p.spelling
+    ∷ parts_of d (past_item d (past_gap place p.gap) p.kind p.spelling) ps
 
--- The same kinds and bytes of items in order; the same ones begin, continue and end directives, and the same macros are function-like;
--- both texts begin with a byte order mark, or neither does.
+-- The same kinds and bytes of items in order; the same ones begin, continue and end directives, and the same macros are
+-- function-like; both texts begin with a byte order mark, or neither does.
 pub record IsTwin (d : Dialect) (b c : List ℕ) : Type 0 where
   pub items : List ReadItem
   pub last : List LogicalChar

@@ -186,7 +186,9 @@ pub fn begins_punctuator(byte: u8) -> bool
 #[tactic(auto, unfolding(crate::specs::Grammar::is_digit))]
 #[inline(always)]
 pub fn is_separable(next: u8) -> bool
-    ensures { result ≡ (is_digit next || ((nat_le 65 next && nat_le next 90) || (nat_le 97 next && nat_le next 122) || next == 95)) }
+    ensures { result
+        ≡ (is_digit next
+        || ((nat_le 65 next && nat_le next 90) || (nat_le 97 next && nat_le next 122) || next == 95)) }
 {
     next.is_ascii_alphanumeric() || next == b'_'
 }

@@ -19,4 +19,5 @@ over_white keeps m = if m == 0 && not keeps then 0 else 1 + m
 -- how many characters the line comment has whose last character that isn't white space is this one
 abbrev pub line_len : ℕ → List ℕ → ℕ
 line_len last [] = 0
-line_len last (c ∷ s) = if is_new_line c then 0 else (if is_white c then over_white (last == 92) (line_len last s) else 1 + line_len c s)
+line_len last (c ∷ s) =
+    if is_new_line c then 0 else (if is_white c then over_white (last == 92) (line_len last s) else 1 + line_len c s)

@@ -20,7 +20,9 @@ past_blank s = drop (prefix_len (λ c. is_white c || is_new_line c) (bytes_of s)
 
 -- Behind the gap a block comment begins that nothing ends.
 abbrev pub IsFault : Reading → LexFault → Type 0
-IsFault old (UnterminatedComment start) = (start ≡ begin_of (past_blank old.left.chars)) × IsLongest old.dialect Unended (bytes_of (past_blank old.left.chars)) []
+IsFault old (UnterminatedComment start) =
+    (start ≡ begin_of (past_blank old.left.chars))
+    × IsLongest old.dialect Unended (bytes_of (past_blank old.left.chars)) []
 
 -- why no item is cut off at this offset
 abbrev pub fault_of : Stop → ℕ → LexFault
@@ -31,7 +33,8 @@ pub record IsAt (text : List ℕ) (dialect : Dialect) (chars : Coming) : Type 0 
   pub dialect_is : chars.dialect ≡ dialect
   pub spans : AreBetween chars.at chars.chars (length text)
 
--- The text doesn't lex: behind these items and the gap after them a block comment begins at this offset, and nothing ends it.
+-- The text doesn't lex: behind these items and the gap after them a block comment begins at this offset, and nothing
+-- ends it.
 pub record IsOpenAt (d : Dialect) (text : List ℕ) (at : ℕ) : Type 0 where
   pub items : List ReadItem
   pub left : Left

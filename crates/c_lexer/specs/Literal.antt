@@ -1,5 +1,6 @@
 -- Literals with a prefix, as the lexer reads them.
-use Rattle.std.specs.Prelude.{◌==◌, ◌||◌, ◌&&◌, ◌+◌, not, ℕ, Bool, false, List, [], ◌∷◌, ◌++◌, length, drop, codes, nat_eq, if◌then◌else◌}
+use Rattle.std.specs.Prelude.{◌==◌, ◌||◌, ◌&&◌, ◌+◌, not, ℕ, Bool, false, List, [], ◌∷◌, ◌++◌, length, drop, codes}
+use Rattle.std.specs.Prelude.{nat_eq, if◌then◌else◌}
 use Rattle.std.specs.List.{list_any, starts_with}
 use Rattle.c_chars.specs.declared.Dialect.{Dialect}
 use Rattle.c_grammar.specs.Grammar.{is_char_prefix, is_of}
@@ -12,7 +13,9 @@ is_string_at p s = starts_with nat_eq s (p ++ 34 ∷ []) && closes_quote 34 fals
 
 -- this prefix and a character constant's body between its apostrophes begin them
 abbrev pub is_constant_at : List ℕ → List ℕ → Bool
-is_constant_at p s = starts_with nat_eq s (p ++ 39 ∷ []) && (not (starts (λ c. c == 39) (drop (length p + 1) s)) && closes_quote 39 false (drop (length p + 1) s))
+is_constant_at p s =
+    starts_with nat_eq s (p ++ 39 ∷ [])
+    && (not (starts (λ c. c == 39) (drop (length p + 1) s)) && closes_quote 39 false (drop (length p + 1) s))
 
 -- a literal with this prefix begins them
 abbrev pub is_literal : Dialect → List ℕ → List ℕ → Bool

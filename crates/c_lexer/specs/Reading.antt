@@ -1,5 +1,6 @@
 -- A text that is being read, the item that comes next, and what it and the gap before it tell.
-use Rattle.std.specs.Prelude.{◌≡◌, ◌≤◌, ◌==◌, ◌||◌, ◌&&◌, not, ℕ, ◌+◌, ◌-◌, Bool, false, List, [], ◌∷◌, ⊤, length, take, get_or, sum_by, count_by, IsTrue}
+use Rattle.std.specs.Prelude.{◌≡◌, ◌≤◌, ◌==◌, ◌||◌, ◌&&◌, not, ℕ, ◌+◌, ◌-◌, Bool, false, List, [], ◌∷◌, ⊤, length, take}
+use Rattle.std.specs.Prelude.{get_or, sum_by, count_by, IsTrue}
 use Rattle.std.specs.Int.{is_in_range}
 use Rattle.std.specs.List.{prefix_len}
 use Rattle.c_chars.specs.Characters.{bytes_of, is_plain}
@@ -59,7 +60,8 @@ pub record IsBegun (text : Coming) (first : LogicalChar) (left : Coming) : Type 
 unfoldable pub is_own_byte : ℕ → Bool
 is_own_byte b = is_in_range 0x20 0x7E b && is_plain b
 
--- An item begins with this character, goes on behind it up to what is left, and is of such characters; those behind the first are bytes by themselves.
+-- An item begins with this character, goes on behind it up to what is left, and is of such characters; those behind the
+-- first are bytes by themselves.
 pub record AreOwnBytes (first : LogicalChar) (behind left : Coming) : Type 0 where
   pub first_is : IsTrue (is_own_byte first.byte)
   pub rest_are : AreBytesPassed is_own_byte behind left
@@ -79,7 +81,8 @@ ends_backslash before last = last == 92 || (before == 63 && last == 47)
 -- The raw bytes of each backslash among these characters of the text end so.
 abbrev pub AreSlashed : List ℕ → List LogicalChar → Type 0
 AreSlashed text [] = ⊤
-AreSlashed text (c ∷ s) = (c.byte ≡ 92 → IsTrue (ends_backslash (get_or text (c.to - 2) 0) (get_or text (c.to - 1) 0))) × AreSlashed text s
+AreSlashed text (c ∷ s) =
+    (c.byte ≡ 92 → IsTrue (ends_backslash (get_or text (c.to - 2) 0) (get_or text (c.to - 1) 0))) × AreSlashed text s
 
 -- Each of these characters of the text that has one byte is that byte.
 abbrev pub AreRaw : List ℕ → List LogicalChar → Type 0

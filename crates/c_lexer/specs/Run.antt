@@ -1,5 +1,6 @@
 -- How far the lexer reads on.
-use Rattle.std.specs.Prelude.{◌==◌, ◌||◌, ◌&&◌, ℕ, Bool, false, List, [], ◌∷◌, if◌then◌else◌, take, drop, length, codes, nat_eq}
+use Rattle.std.specs.Prelude.{◌==◌, ◌||◌, ◌&&◌, ℕ, Bool, false, List, [], ◌∷◌, if◌then◌else◌, take, drop, length, codes}
+use Rattle.std.specs.Prelude.{nat_eq}
 use Rattle.std.specs.List.{starts_with}
 use Rattle.c_grammar.specs.Grammar.{is_of, is_digit, Shape}
 use Rattle.c_grammar.specs.Items.{IsLongest}
@@ -19,9 +20,12 @@ IsCut d k s n = IsLongest d k (take n s) (drop n s)
 -- the punctuators of two characters and more that both dialects have, each before those that it begins with
 abbrev pub common_long : List (List ℕ)
 common_long =
-    codes "->" ∷ codes "==" ∷ codes "&&" ∷ codes "++" ∷ codes "||" ∷ codes "!=" ∷ codes "+=" ∷ codes "<=" ∷ codes ">=" ∷ codes "--"
-    ∷ codes "<<=" ∷ codes "<<" ∷ codes ">>=" ∷ codes ">>" ∷ codes "-=" ∷ codes "|=" ∷ codes "&=" ∷ codes "*=" ∷ codes "/=" ∷ codes "%="
-    ∷ codes "^=" ∷ codes "..." ∷ codes "##" ∷ codes "<:" ∷ codes ":>" ∷ codes "<%" ∷ codes "%>" ∷ codes "%:%:" ∷ codes "%:" ∷ []
+    codes "->" ∷ codes "==" ∷ codes "&&" ∷ codes "++" ∷ codes "||" ∷ codes "!=" ∷ codes "+=" ∷ codes "<=" ∷ codes ">="
+    ∷ codes "--"
+    ∷ codes "<<=" ∷ codes "<<" ∷ codes ">>=" ∷ codes ">>" ∷ codes "-=" ∷ codes "|=" ∷ codes "&=" ∷ codes "*="
+    ∷ codes "/=" ∷ codes "%="
+    ∷ codes "^=" ∷ codes "..." ∷ codes "##" ∷ codes "<:" ∷ codes ":>" ∷ codes "<%" ∷ codes "%>" ∷ codes "%:%:"
+    ∷ codes "%:" ∷ []
 
 -- those of the dialect
 abbrev pub long : Dialect → List (List ℕ)
@@ -44,4 +48,5 @@ goes_on_long c = is_of (codes "=>&+|-<.:#%") c
 -- these two characters are a punctuator, and none that is longer begins with them
 unfoldable pub is_pair_mark : ℕ → ℕ → Bool
 is_pair_mark a b =
-    if b == 61 then is_of (codes "=!+<>-|&*/%^") a else (if b == 62 then a == 45 else (is_of (codes "&+|-#") b && a == b))
+    if b == 61 then is_of (codes "=!+<>-|&*/%^") a
+    else (if b == 62 then a == 45 else (is_of (codes "&+|-#") b && a == b))

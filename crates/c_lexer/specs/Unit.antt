@@ -1,10 +1,12 @@
 -- Units of words and numbers, and the longest front of a text.
-use Rattle.std.specs.Prelude.{◌≡◌, ◌==◌, ◌||◌, ◌&&◌, ℕ, zero, suc, Bool, true, false, List, [], ◌∷◌, ◌++◌, length, drop, nat_eq, IsTrue}
+use Rattle.std.specs.Prelude.{◌≡◌, ◌==◌, ◌||◌, ◌&&◌, ℕ, zero, suc, Bool, true, false, List, [], ◌∷◌, ◌++◌, length, drop}
+use Rattle.std.specs.Prelude.{nat_eq, IsTrue}
 use Rattle.std.specs.List.{starts_with}
 use Rattle.c_chars.specs.Characters.{bytes_of}
 use Rattle.c_chars.specs.Coming.{Coming, behind}
 use Rattle.c_chars.specs.declared.Dialect.{Dialect}
-use Rattle.c_grammar.specs.Grammar.{AreUnits, is_letter, is_digit, is_hex, is_sign, is_exponent, is_separated, is_universal_name, is_wide}
+use Rattle.c_grammar.specs.Grammar.{AreUnits, is_letter, is_digit, is_hex, is_sign, is_exponent, is_separated}
+use Rattle.c_grammar.specs.Grammar.{is_universal_name, is_wide}
 
 -- A unit begins the text.
 pub record BeginsUnit (p : List ℕ → Bool) (s : List ℕ) : Type 0 where

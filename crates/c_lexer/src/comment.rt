@@ -21,7 +21,8 @@ fn ends_block(star: bool, byte: u8) -> bool
 #[inline(always)]
 fn pass_within_block(chars: &mut Chars, star: bool)
     ensures closes { closes_block star (bytes_of chars.new.chars) ≡ closes_block star (bytes_of chars.old.chars) }
-    ensures rest { behind chars.new (block_len star (bytes_of chars.new.chars)) ≡ behind chars.old (block_len star (bytes_of chars.old.chars)) }
+    ensures rest { behind chars.new (block_len star (bytes_of chars.new.chars))
+        ≡ behind chars.old (block_len star (bytes_of chars.old.chars)) }
     ensures fewer { length chars.new.chars ≤ length chars.old.chars }
 {
     if !star {
@@ -31,9 +32,9 @@ fn pass_within_block(chars: &mut Chars, star: bool)
 
 /// What stands behind the first `*/`; none where there is none.
 pub(crate) fn behind_block<'s>(text: &Chars<'s>) -> Option<Chars<'s>>
-    ensures { MatchOption result
-        (IsFalse (closes_block false (bytes_of text.now.chars)))
-        (λ rest. IsTrue (closes_block false (bytes_of text.now.chars)) × (rest ≡ behind text.now (block_len false (bytes_of text.now.chars)))) }
+    ensures { MatchOption result (IsFalse (closes_block false (bytes_of text.now.chars))) (λ rest.
+        IsTrue (closes_block false (bytes_of text.now.chars))
+        × (rest ≡ behind text.now (block_len false (bytes_of text.now.chars)))) }
 {
     let mut rest = text.ahead();
     let mut star = false;
@@ -52,7 +53,8 @@ pub(crate) fn behind_block<'s>(text: &Chars<'s>) -> Option<Chars<'s>>
 /// passes nothing behind a backslash, which may be the comment's last character.
 #[inline(always)]
 fn pass_within_line(chars: &mut Chars, last: u8)
-    ensures rest { behind chars.new (line_len last (bytes_of chars.new.chars)) ≡ behind chars.old (line_len last (bytes_of chars.old.chars)) }
+    ensures rest { behind chars.new (line_len last (bytes_of chars.new.chars))
+        ≡ behind chars.old (line_len last (bytes_of chars.old.chars)) }
     ensures fewer { length chars.new.chars ≤ length chars.old.chars }
 {
     if last != b'\\' {

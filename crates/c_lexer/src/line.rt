@@ -17,8 +17,10 @@ use c_grammar::bytes;
 #[inline(always)]
 pub(crate) fn next_of_line(chars: &mut Chars) -> Option<LogicalChar>
     ensures dialect { chars.new.dialect ≡ chars.old.dialect }
-    ensures some { IfSome result (λ c. (chars.old.chars ≡ c ∷ chars.new.chars) × (chars.new.at ≡ c.to) × IsFalse (is_new_line c.byte)) }
-    ensures none { IfNone result (IsFalse (starts (λ c. not (is_new_line c)) (bytes_of chars.old.chars)) × (chars.new ≡ chars.old)) }
+    ensures some { IfSome result
+        (λ c. (chars.old.chars ≡ c ∷ chars.new.chars) × (chars.new.at ≡ c.to) × IsFalse (is_new_line c.byte)) }
+    ensures none { IfNone result
+        (IsFalse (starts (λ c. not (is_new_line c)) (bytes_of chars.old.chars)) × (chars.new ≡ chars.old)) }
 {
     if bytes::is_new_line(front::byte_at(chars, 0)) {
         return None;
@@ -30,8 +32,11 @@ pub(crate) fn next_of_line(chars: &mut Chars) -> Option<LogicalChar>
 #[inline(always)]
 fn next_blank(chars: &mut Chars) -> Option<LogicalChar>
     ensures dialect { chars.new.dialect ≡ chars.old.dialect }
-    ensures some { IfSome result (λ c. (chars.old.chars ≡ c ∷ chars.new.chars) × (chars.new.at ≡ c.to) × IsTrue (is_white c.byte || is_new_line c.byte)) }
-    ensures none { IfNone result (IsFalse (starts (λ c. is_white c || is_new_line c) (bytes_of chars.old.chars)) × (chars.new ≡ chars.old)) }
+    ensures some { IfSome result (λ c.
+        (chars.old.chars ≡ c ∷ chars.new.chars) × (chars.new.at ≡ c.to)
+        × IsTrue (is_white c.byte || is_new_line c.byte)) }
+    ensures none { IfNone result
+        (IsFalse (starts (λ c. is_white c || is_new_line c) (bytes_of chars.old.chars)) × (chars.new ≡ chars.old)) }
 {
     if !bytes::is_blank(front::byte_at(chars, 0)) {
         return None;
@@ -43,8 +48,11 @@ fn next_blank(chars: &mut Chars) -> Option<LogicalChar>
 #[inline(always)]
 fn next_of_word(chars: &mut Chars) -> Option<LogicalChar>
     ensures dialect { chars.new.dialect ≡ chars.old.dialect }
-    ensures some { IfSome result (λ c. (chars.old.chars ≡ c ∷ chars.new.chars) × (chars.new.at ≡ c.to) × IsTrue (is_letter c.byte || is_digit c.byte)) }
-    ensures none { IfNone result (IsFalse (starts (λ c. is_letter c || is_digit c) (bytes_of chars.old.chars)) × (chars.new ≡ chars.old)) }
+    ensures some { IfSome result (λ c.
+        (chars.old.chars ≡ c ∷ chars.new.chars) × (chars.new.at ≡ c.to)
+        × IsTrue (is_letter c.byte || is_digit c.byte)) }
+    ensures none { IfNone result
+        (IsFalse (starts (λ c. is_letter c || is_digit c) (bytes_of chars.old.chars)) × (chars.new ≡ chars.old)) }
 {
     if !bytes::is_word(front::byte_at(chars, 0)) {
         return None;
@@ -75,7 +83,8 @@ pub(crate) fn behind_gap<'s>(text: &Chars<'s>) -> Gap<'s>
     requires { IsSpanned text.now }
     ensures lines { result.lines ≡ new_lines (first_gap text.now.chars) }
     ensures bytes { result.bytes ≡ bytes_in (first_gap text.now.chars) }
-    ensures rest { result.rest ≡ behind text.now (prefix_len (λ c. is_white c || is_new_line c) (bytes_of text.now.chars)) }
+    ensures rest { result.rest
+        ≡ behind text.now (prefix_len (λ c. is_white c || is_new_line c) (bytes_of text.now.chars)) }
 {
     let mut rest = text.ahead();
     let mut lines = 0;

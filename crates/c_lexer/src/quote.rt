@@ -21,8 +21,10 @@ fn stands_for(escaped: bool, mark: u8, byte: u8) -> bool
 /// Passes characters that close no quote, unless a backslash takes the meaning of the first.
 #[inline(always)]
 fn pass_within_quote(chars: &mut Chars, quote: u8, escaped: bool)
-    ensures closes { closes_quote quote escaped (bytes_of chars.new.chars) ≡ closes_quote quote escaped (bytes_of chars.old.chars) }
-    ensures rest { behind chars.new (quote_len quote escaped (bytes_of chars.new.chars)) ≡ behind chars.old (quote_len quote escaped (bytes_of chars.old.chars)) }
+    ensures closes { closes_quote quote escaped (bytes_of chars.new.chars)
+        ≡ closes_quote quote escaped (bytes_of chars.old.chars) }
+    ensures rest { behind chars.new (quote_len quote escaped (bytes_of chars.new.chars))
+        ≡ behind chars.old (quote_len quote escaped (bytes_of chars.old.chars)) }
     ensures fewer { length chars.new.chars ≤ length chars.old.chars }
 {
     if !escaped && bytes::is_quote_mark(quote) {
@@ -52,9 +54,9 @@ pub(crate) fn behind_quote<'s>(text: &Chars<'s>, quote: u8) -> (bool, Chars<'s>)
 /// What stands behind a name that ends in this byte, whose first byte stands before the text; none
 /// where the line has no such name.
 fn behind_name<'s>(text: &Chars<'s>, last: u8) -> Option<Chars<'s>>
-    ensures { MatchOption result
-        (IsFalse (ends_name last false (bytes_of text.now.chars)))
-        (λ rest. IsTrue (ends_name last false (bytes_of text.now.chars)) × (rest ≡ behind text.now (name_len last (bytes_of text.now.chars)))) }
+    ensures { MatchOption result (IsFalse (ends_name last false (bytes_of text.now.chars))) (λ rest.
+        IsTrue (ends_name last false (bytes_of text.now.chars))
+        × (rest ≡ behind text.now (name_len last (bytes_of text.now.chars)))) }
 {
     let mut rest = text.ahead();
     let mut some = false;
@@ -70,9 +72,9 @@ fn behind_name<'s>(text: &Chars<'s>, last: u8) -> Option<Chars<'s>>
 /// What stands behind the header name that the text begins with (C11 6.4.7); none where it begins
 /// with none.
 pub(crate) fn behind_header<'s>(text: &Chars<'s>) -> Option<Chars<'s>>
-    ensures { MatchOption result
-        (IsFalse (begins_header (bytes_of text.now.chars)))
-        (λ rest. IsTrue (begins_header (bytes_of text.now.chars)) × (rest ≡ behind text.now (header_len (bytes_of text.now.chars)))) }
+    ensures { MatchOption result (IsFalse (begins_header (bytes_of text.now.chars))) (λ rest.
+        IsTrue (begins_header (bytes_of text.now.chars))
+        × (rest ≡ behind text.now (header_len (bytes_of text.now.chars)))) }
 {
     let first = front::byte_at(text, 0);
     if first == b'<' {

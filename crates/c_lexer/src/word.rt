@@ -62,7 +62,9 @@ fn has_u8_chars(dialect: Dialect) -> bool
 /// Whether character constants have a prefix of so many characters, and the one behind its apostrophe isn't empty.
 fn begins_constant(dialect: Dialect, text: &Chars, len: usize) -> bool
     requires { len ≤ 2 }
-    ensures { result ≡ ((len == 1 || is_char_prefix dialect (codes "u8")) && not (starts (λ c. c == 39) (drop (len + 1) (bytes_of text.now.chars)))) }
+    ensures { result
+        ≡ ((len == 1 || is_char_prefix dialect (codes "u8"))
+        && not (starts (λ c. c == 39) (drop (len + 1) (bytes_of text.now.chars)))) }
 {
     (len == 1 || has_u8_chars(dialect)) && front::byte_at(text, len + 1) != b'\''
 }

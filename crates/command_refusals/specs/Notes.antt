@@ -7,7 +7,12 @@ use Rattle.style_config.specs.declared.fault.ConfigFault.{ConfigFault}
 use Rattle.style_config.specs.declared.fault.ConfigFault.TheVariants as Config
 use Rattle.style_config.specs.declared.skipped.SkippedKey.{SkippedKey}
 use Rattle.command_refusals.specs.declared.refusal.Refusal.{Refusal}
-use Rattle.command_refusals.specs.declared.refusal.Refusal.TheVariants.{BadWords, BadLines, BadStates, NoInput, ManyFiles, BadGenerate, GenerateBeside, UnknownStyle, LongConfiguration, BadConfiguration, TooLarge, OpenComment, SourceFailed, FileFailed, OutFailed, NotesFailed, Missing, NoMemory}
+use Rattle.command_refusals.specs.declared.refusal.Refusal.TheVariants.{BadWords, BadLines, BadStates, NoInput}
+use Rattle.command_refusals.specs.declared.refusal.Refusal.TheVariants.{ManyFiles, BadGenerate, GenerateBeside}
+use Rattle.command_refusals.specs.declared.refusal.Refusal.TheVariants.{UnknownStyle, LongConfiguration}
+use Rattle.command_refusals.specs.declared.refusal.Refusal.TheVariants.{BadConfiguration, TooLarge, OpenComment}
+use Rattle.command_refusals.specs.declared.refusal.Refusal.TheVariants.{SourceFailed, FileFailed, OutFailed}
+use Rattle.command_refusals.specs.declared.refusal.Refusal.TheVariants.{NotesFailed, Missing, NoMemory}
 
 -- a row with a number in it
 abbrev pub numbered_row : (name before : List ℕ) → ℕ → (end : List ℕ) → List ℕ
@@ -33,7 +38,10 @@ range_row Range.NoMemory = codes ": no memory\n"
 
 -- The row of a refusal, with the new-line that ends it. Notes that have failed take none.
 abbrev pub row_of : Refusal → List ℕ
-row_of BadWords = codes "usage: clang_format [--style S] [--lines L] [--states N] [-i] [--dry-run] [--Werror] [--dump-config] [--generate N:COUNT] [FILE ..]" ++ codes "\n"
+row_of BadWords =
+    codes
+    "usage: clang_format [--style S] [--lines L] [--states N] [-i] [--dry-run] [--Werror] [--dump-config] [--generate N:COUNT] [FILE ..]"
+    ++ codes "\n"
 row_of (BadLines word fault) = codes "clang_format: --lines " ++ word.now ++ range_row fault
 row_of (BadStates word) = codes "clang_format: --states " ++ word.now ++ codes ": not 1 to 16000000\n"
 row_of NoInput = codes "clang_format: -i needs a file\n"

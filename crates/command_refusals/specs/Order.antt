@@ -22,7 +22,8 @@ IsThere P (Some text) = P text
 abbrev pub IsBadConfiguration : List ℕ → Type 0
 IsBadConfiguration text = (CONFIGURATION_LIMIT < length text) ⊎ ((fault : ConfigFault) × IsAtFault text fault)
 
--- The choice of a style is refused with this status: the name or the configuration with 3, a PATH that isn't there with 6.
+-- The choice of a style is refused with this status: the name or the configuration with 3, a PATH that isn't there with
+-- 6.
 abbrev pub StyleStops : StyleChoice → Held → ℕ → Type 0
 StyleStops (Named name) held status = (named name.now ≡ None) × (status ≡ 3)
 StyleStops (FileAt path) held status =
@@ -33,4 +34,5 @@ StyleStops DefaultFile held status = Tells held default_file (λ file. IsThere I
 abbrev pub HasStyle : StyleChoice → Held → Type 0
 HasStyle (Named name) held = named name.now ≢ None
 HasStyle (FileAt path) held = Tells held path.now (IsThere (λ text. ¬ IsBadConfiguration text))
-HasStyle DefaultFile held = Tells held default_file (λ file. (file ≡ None) ⊎ IsThere (λ text. ¬ IsBadConfiguration text) file)
+HasStyle DefaultFile held =
+    Tells held default_file (λ file. (file ≡ None) ⊎ IsThere (λ text. ¬ IsBadConfiguration text) file)

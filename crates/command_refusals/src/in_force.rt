@@ -36,10 +36,16 @@ pub fn style_in_force<'w, E: Sink, F: Files>(
     files: &mut F,
 ) -> Result<Style, Refusal<'w>>
     ensures range { IfOk result (λ style. IsInRange style) }
-    ensures chosen { IfOk result (λ style. (rows : List ℕ) × IsInForce choice.entry (F.holds files.old) style rows × Appends (E.taken notes.old) (E.taken notes.new) rows) }
-    ensures refused { IfErr result (IsStyleRefused choice.entry (F.holds files.old) (E.taken notes.old) (E.taken notes.new)) }
+    ensures chosen { IfOk result (λ style.
+        (rows : List ℕ) × IsInForce choice.entry (F.holds files.old) style rows
+        × Appends (E.taken notes.old) (E.taken notes.new) rows) }
+    ensures refused { IfErr result
+        (IsStyleRefused choice.entry (F.holds files.old) (E.taken notes.old) (E.taken notes.new)) }
     ensures same { KeepsAll (F.holds files.old) (F.holds files.new) }
-    ensures counts { (f : Faults) → Counted (record f { notes = E.faults notes.old; files = F.faults files.old; misses = F.misses files.old }) (record f { notes = E.faults notes.new; files = F.faults files.new; misses = F.misses files.new }) result }
+    ensures counts { (f : Faults) →
+        Counted (record f { notes = E.faults notes.old; files = F.faults files.old; misses = F.misses files.old })
+        (record f { notes = E.faults notes.new; files = F.faults files.new; misses = F.misses files.new })
+        result }
 {
     match choice {
         StyleChoice::Named(name) => named_style(name),
@@ -59,7 +65,8 @@ pub fn style_in_force<'w, E: Sink, F: Files>(
 fn named_style<'w>(name: &'w str) -> Result<Style, Refusal<'w>>
     ensures range { IfOk result (λ style. IsInRange style) }
     ensures table { IfOk result (λ style. named name.entry.now ≡ Some style) }
-    ensures unknown { IfErr result (λ refusal. (refusal ≡ Refusal.UnknownStyle name.entry) × (named name.entry.now ≡ None)) }
+    ensures unknown { IfErr result
+        (λ refusal. (refusal ≡ Refusal.UnknownStyle name.entry) × (named name.entry.now ≡ None)) }
 {
     match Style::named(name) {
         Some(style) => Ok(style),
@@ -88,9 +95,13 @@ fn configured<'w, E: Sink>(
 ) -> Result<Style, Refusal<'w>>
     requires { length text.now ≤ CONFIGURATION_LIMIT }
     ensures range { IfOk result (λ style. IsInRange style) }
-    ensures made { IfOk result (λ style. (rows : List ℕ) × Configures file.entry.now text.now style rows × Appends (E.taken notes.old) (E.taken notes.new) rows) }
-    ensures refused { IfErr result (IsConfigurationRefused file.entry text.now (E.taken notes.old) (E.taken notes.new)) }
-    ensures counts { (f : Faults) → Counted (record f { notes = E.faults notes.old }) (record f { notes = E.faults notes.new }) result }
+    ensures made { IfOk result (λ style.
+        (rows : List ℕ) × Configures file.entry.now text.now style rows
+        × Appends (E.taken notes.old) (E.taken notes.new) rows) }
+    ensures refused { IfErr result
+        (IsConfigurationRefused file.entry text.now (E.taken notes.old) (E.taken notes.new)) }
+    ensures counts { (f : Faults) →
+        Counted (record f { notes = E.faults notes.old }) (record f { notes = E.faults notes.new }) result }
 {
     let base = named_style(BASE)?;
     match style_config::read(alloc, text, base) {

@@ -146,8 +146,10 @@ fn write_row<E: Sink>(refusal: Refusal, notes: &mut E) -> Result<(), Failed>
 
 /// Writes the row that tells the fault of a value of `--lines`.
 fn tell_lines<E: Sink>(word: &str, fault: RangeFault, notes: &mut E) -> Result<(), Failed>
-    ensures part { AppendsPart (E.taken notes.old) (E.taken notes.new) (codes "clang_format: --lines " ++ word.now ++ range_row fault) }
-    ensures ok { OnOk result (Appends (E.taken notes.old) (E.taken notes.new) (codes "clang_format: --lines " ++ word.now ++ range_row fault)) }
+    ensures part { AppendsPart (E.taken notes.old) (E.taken notes.new)
+        (codes "clang_format: --lines " ++ word.now ++ range_row fault) }
+    ensures ok { OnOk result (Appends (E.taken notes.old) (E.taken notes.new)
+        (codes "clang_format: --lines " ++ word.now ++ range_row fault)) }
     ensures counts { Counts (E.faults notes.old) (E.faults notes.new) result }
 {
     write_two("clang_format: --lines ", word, notes)?;
@@ -172,7 +174,8 @@ fn tell_range<E: Sink>(fault: RangeFault, notes: &mut E) -> Result<(), Failed>
 /// Writes a text, a number and a new-line.
 fn write_place<E: Sink>(before: &str, place: u64, notes: &mut E) -> Result<(), Failed>
     ensures part { AppendsPart (E.taken notes.old) (E.taken notes.new) (numbered_row [] before.now place (codes "\n")) }
-    ensures ok { OnOk result (Appends (E.taken notes.old) (E.taken notes.new) (numbered_row [] before.now place (codes "\n"))) }
+    ensures ok { OnOk result
+        (Appends (E.taken notes.old) (E.taken notes.new) (numbered_row [] before.now place (codes "\n"))) }
     ensures counts { Counts (E.faults notes.old) (E.faults notes.new) result }
 {
     let mut buffer = Buffer::new();
@@ -214,8 +217,10 @@ pub fn write_number<E: Sink>(
     end: &str,
     notes: &mut E,
 ) -> Result<(), Failed>
-    ensures part { AppendsPart (E.taken notes.old) (E.taken notes.new) (name.now ++ before.now ++ decimal number ++ end.now) }
-    ensures ok { OnOk result (Appends (E.taken notes.old) (E.taken notes.new) (name.now ++ before.now ++ decimal number ++ end.now)) }
+    ensures part { AppendsPart (E.taken notes.old) (E.taken notes.new)
+        (name.now ++ before.now ++ decimal number ++ end.now) }
+    ensures ok { OnOk result
+        (Appends (E.taken notes.old) (E.taken notes.new) (name.now ++ before.now ++ decimal number ++ end.now)) }
     ensures counts { Counts (E.faults notes.old) (E.faults notes.new) result }
 {
     let mut buffer = Buffer::new();

@@ -11,7 +11,8 @@ are_digits text = list_all (λ c. is_digit c 10) text
 
 -- the number that 1 to 9 decimal digits write
 abbrev pub number_of : Text → Option ℕ
-number_of text = if nat_le 1 (length text) && nat_le (length text) 9 && are_digits text then Some (digits_value 10 text) else None
+number_of text =
+    if nat_le 1 (length text) && nat_le (length text) 9 && are_digits text then Some (digits_value 10 text) else None
 
 -- a number that a budget may be: 1 to 16000000
 abbrev pub as_budget : Option ℕ → Option ℕ

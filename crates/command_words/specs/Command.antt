@@ -1,7 +1,8 @@
 -- The command, its form, and what words of the form give: docs/PROFILE.md, "Words of the command".
 -- The form is that of a simple command of the library `clap`.
 use Rattle.std.specs.Prelude.{◌≡◌, List, ℕ, [], ◌∷◌, true, Option, Some, codes, unwrap_or, fold}
-use Rattle.clap.specs.Words.{App, Kinds, Row, Rule, Text, all_of, fault_of, first_of, matches_of, new_app, new_rule, with_rule}
+use Rattle.clap.specs.Words.{App, Kinds, Row, Rule, Text, all_of, fault_of, first_of, matches_of, new_app, new_rule}
+use Rattle.clap.specs.Words.{with_rule}
 use Rattle.clap.specs.declared.builder.action.ArgAction.TheVariants.{Set, Append, SetTrue}
 
 -- ---- the kinds of words
@@ -27,9 +28,11 @@ names_rule name = record (new_rule name) { action = Some Append }
 -- a command without words of its own: no `--help`, no `--version`, and no program's name before the words
 abbrev pub bare : App
 bare = let start = new_app (codes "clang_format") in
-    record start { top = record start.top { no_binary_name = true; disable_help_flag = true; disable_version_flag = true } }
+    record start
+    { top = record start.top { no_binary_name = true; disable_help_flag = true; disable_version_flag = true } }
 
--- the words that are built: `--style S`, `--lines L`, `--states N`, `-i` (the letter's code is 105), `--dry-run`, `--Werror`, `--dump-config`, `--generate N:COUNT` and FILE
+-- the words that are built: `--style S`, `--lines L`, `--states N`, `-i` (the letter's code is 105), `--dry-run`,
+-- `--Werror`, `--dump-config`, `--generate N:COUNT` and FILE
 abbrev pub rules : List Rule
 rules = option_rule (codes "style")
     ∷ option_rule (codes "lines")

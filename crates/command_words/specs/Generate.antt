@@ -12,7 +12,8 @@ is_colon c = c == 58
 abbrev pub numbers_of : (seed count : Option ℕ) → Option Generate
 numbers_of None count = None
 numbers_of (Some seed) None = None
-numbers_of (Some seed) (Some count) = if nat_le 1 count && nat_le count 100000 then Some (record { seed = seed; count = count }) else None
+numbers_of (Some seed) (Some count) =
+    if nat_le 1 count && nat_le count 100000 then Some (record { seed = seed; count = count }) else None
 
 -- what a value of `--generate` tells: the numbers before and behind its first colon
 abbrev pub generate_in : Text → Option Generate

@@ -8,15 +8,18 @@ value_of seed i = (seed + 37 * i) % 1000
 
 -- the four kinds of pieces, by the digits of a piece's place and of its number
 abbrev pub function_parts : (place value : List ℕ) → List (List ℕ)
-function_parts place value = codes "static int f" ∷ place ∷ codes "(int a,int b){return a+b*" ∷ value ∷ codes ";}\n" ∷ []
+function_parts place value =
+    codes "static int f" ∷ place ∷ codes "(int a,int b){return a+b*" ∷ value ∷ codes ";}\n" ∷ []
 
 abbrev pub branch_parts : (place value : List ℕ) → List (List ℕ)
 branch_parts place value =
-    codes "#ifdef C" ∷ place ∷ codes "\nint v" ∷ place ∷ codes "=" ∷ value ∷ codes ";\n#else\nlong v" ∷ place ∷ codes "=" ∷ value ∷ codes ";\n#endif\n" ∷ []
+    codes "#ifdef C" ∷ place ∷ codes "\nint v" ∷ place ∷ codes "=" ∷ value ∷ codes ";\n#else\nlong v" ∷ place
+    ∷ codes "=" ∷ value ∷ codes ";\n#endif\n" ∷ []
 
 abbrev pub call_parts : (place value : List ℕ) → List (List ℕ)
 call_parts place value =
-    codes "void g" ∷ place ∷ codes "(void){call(a,b," ∷ value ∷ codes ",first_argument_of_call,second_argument_of_call,third_argument_of_call);}\n" ∷ []
+    codes "void g" ∷ place ∷ codes "(void){call(a,b," ∷ value
+    ∷ codes ",first_argument_of_call,second_argument_of_call,third_argument_of_call);}\n" ∷ []
 
 abbrev pub macro_parts : (place value : List ℕ) → List (List ℕ)
 macro_parts place value = codes "#define M" ∷ place ∷ codes "(x) ((x)+" ∷ value ∷ codes ")\n" ∷ []
@@ -25,7 +28,8 @@ macro_parts place value = codes "#define M" ∷ place ∷ codes "(x) ((x)+" ∷ 
 abbrev pub parts_of : (kind : ℕ) (place value : List ℕ) → List (List ℕ)
 parts_of kind place value =
     if kind == 0 then function_parts place value
-    else (if kind == 1 then branch_parts place value else (if kind == 2 then call_parts place value else macro_parts place value))
+    else (if kind == 1 then branch_parts place value
+    else (if kind == 2 then call_parts place value else macro_parts place value))
 
 -- the piece i
 unfoldable pub piece : (seed i : ℕ) → List ℕ

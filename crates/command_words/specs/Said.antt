@@ -1,8 +1,10 @@
 -- What the command's words say, and how reading them ends: docs/PROFILE.md, "Words of the command".
-use Rattle.std.specs.Prelude.{◌≡◌, ◌≢◌, ◌≤◌, ◌↔◌, ◌⊎◌, ◌++◌, List, [], ⊤, IsTrue, IsOk, IsSome, length, None, Some, Ok, Err, codes, map, option_map}
+use Rattle.std.specs.Prelude.{◌≡◌, ◌≢◌, ◌≤◌, ◌↔◌, ◌⊎◌, ◌++◌, List, [], ⊤, IsTrue, IsOk, IsSome, length, None, Some, Ok}
+use Rattle.std.specs.Prelude.{Err, codes, map, option_map}
 use Rattle.std.specs.declared.result.Result.{Result}
 use Rattle.clap.specs.Words.{Row, Text}
-use Rattle.command_words.specs.Command.{Gives, IsOfForm, file_names, generate_word, lines_word, rows_of_words, states_word, style_word}
+use Rattle.command_words.specs.Command.{Gives, IsOfForm, file_names, generate_word, lines_word, rows_of_words}
+use Rattle.command_words.specs.Command.{states_word, style_word}
 use Rattle.command_words.specs.Budget.{budget_of}
 use Rattle.command_words.specs.Generate.{generate_in, generate_of}
 use Rattle.command_words.specs.Lines.{IsBadLines, lines_of}
@@ -12,7 +14,8 @@ use Rattle.command_words.specs.declared.read.StyleChoice.TheVariants.{File, File
 use Rattle.command_words.specs.declared.read.Words.{Words}
 use Rattle.command_words.specs.declared.read.Given.{Given}
 use Rattle.command_words.specs.declared.fault.WordsFault.{WordsFault}
-use Rattle.command_words.specs.declared.fault.WordsFault.TheVariants.{Form, BadLines, BadStates, NoInput, ManyFiles, BadGenerate, GenerateBeside, NoMemory}
+use Rattle.command_words.specs.declared.fault.WordsFault.TheVariants.{Form, BadLines, BadStates, NoInput, ManyFiles}
+use Rattle.command_words.specs.declared.fault.WordsFault.TheVariants.{BadGenerate, GenerateBeside, NoMemory}
 
 -- `file` is the file of the working folder, `file:PATH` is the file PATH, and any other word is a style's name
 abbrev pub Chooses : Text → StyleChoice → Type 0
@@ -78,23 +81,29 @@ pub record AreOthersFine (rows : List Row) : Type 0 where
   pub file : ¬ LacksFile rows
   pub files : ¬ HasManyFiles rows
 
--- Words are read exactly where they are of the form, `--lines` is a list of ranges, `--states` tells a budget, `-i` has its
--- FILE and `--lines` no more than one, and `--generate` is in form and stands alone; each fault has its own cause, in this
--- order, and want of memory may come at any time.
+-- Words are read exactly where they are of the form, `--lines` is a list of ranges, `--states` tells a budget, `-i` has
+-- its FILE and `--lines` no more than one, and `--generate` is in form and stands alone; each fault has its own cause,
+-- in this order, and want of memory may come at any time.
 abbrev pub Reads : List Text → Result Words WordsFault → Type 0
 Reads words (Ok said) =
-    IsOfForm words × (¬ LacksFile (rows_of_words words)) × Says (rows_of_words words) said × (¬ HasManyFiles (rows_of_words words))
+    IsOfForm words × (¬ LacksFile (rows_of_words words)) × Says (rows_of_words words) said
+    × (¬ HasManyFiles (rows_of_words words))
     × Generates (rows_of_words words) said
 Reads words (Err Form) = ¬ IsOfForm words
 Reads words (Err (BadLines word fault)) = IsOfForm words × HasBadLines (rows_of_words words) word.now fault
-Reads words (Err (BadStates word)) = IsOfForm words × HasLines (rows_of_words words) × HasBadStates (rows_of_words words) word.now
+Reads words (Err (BadStates word)) =
+    IsOfForm words × HasLines (rows_of_words words) × HasBadStates (rows_of_words words) word.now
 Reads words (Err NoInput) =
-    IsOfForm words × HasLines (rows_of_words words) × IsSome (budget_of (states_word (rows_of_words words))) × LacksFile (rows_of_words words)
+    IsOfForm words × HasLines (rows_of_words words) × IsSome (budget_of (states_word (rows_of_words words)))
+    × LacksFile (rows_of_words words)
 Reads words (Err ManyFiles) =
-    IsOfForm words × HasLines (rows_of_words words) × IsSome (budget_of (states_word (rows_of_words words))) × HasManyFiles (rows_of_words words)
-Reads words (Err (BadGenerate word)) = IsOfForm words × AreOthersFine (rows_of_words words) × HasBadGenerate (rows_of_words words) word.now
+    IsOfForm words × HasLines (rows_of_words words) × IsSome (budget_of (states_word (rows_of_words words)))
+    × HasManyFiles (rows_of_words words)
+Reads words (Err (BadGenerate word)) =
+    IsOfForm words × AreOthersFine (rows_of_words words) × HasBadGenerate (rows_of_words words) word.now
 Reads words (Err GenerateBeside) =
-    IsOfForm words × AreOthersFine (rows_of_words words) × IsSome (generate_of (generate_word (rows_of_words words))) × GeneratesBeside (rows_of_words words)
+    IsOfForm words × AreOthersFine (rows_of_words words) × IsSome (generate_of (generate_word (rows_of_words words)))
+    × GeneratesBeside (rows_of_words words)
 Reads words (Err NoMemory) = ⊤
 
 -- what the words say, but for `--generate`, of which this is the value
@@ -106,14 +115,18 @@ pub record SaysBut (rows : List Row) (given : Given) : Type 0 where
 -- the same without the rules on `--generate`
 abbrev pub ReadsOthers : List Text → Result Given WordsFault → Type 0
 ReadsOthers words (Ok given) =
-    IsOfForm words × (¬ LacksFile (rows_of_words words)) × SaysBut (rows_of_words words) given × (¬ HasManyFiles (rows_of_words words))
+    IsOfForm words × (¬ LacksFile (rows_of_words words)) × SaysBut (rows_of_words words) given
+    × (¬ HasManyFiles (rows_of_words words))
 ReadsOthers words (Err Form) = ¬ IsOfForm words
 ReadsOthers words (Err (BadLines word fault)) = IsOfForm words × HasBadLines (rows_of_words words) word.now fault
-ReadsOthers words (Err (BadStates word)) = IsOfForm words × HasLines (rows_of_words words) × HasBadStates (rows_of_words words) word.now
+ReadsOthers words (Err (BadStates word)) =
+    IsOfForm words × HasLines (rows_of_words words) × HasBadStates (rows_of_words words) word.now
 ReadsOthers words (Err NoInput) =
-    IsOfForm words × HasLines (rows_of_words words) × IsSome (budget_of (states_word (rows_of_words words))) × LacksFile (rows_of_words words)
+    IsOfForm words × HasLines (rows_of_words words) × IsSome (budget_of (states_word (rows_of_words words)))
+    × LacksFile (rows_of_words words)
 ReadsOthers words (Err ManyFiles) =
-    IsOfForm words × HasLines (rows_of_words words) × IsSome (budget_of (states_word (rows_of_words words))) × HasManyFiles (rows_of_words words)
+    IsOfForm words × HasLines (rows_of_words words) × IsSome (budget_of (states_word (rows_of_words words)))
+    × HasManyFiles (rows_of_words words)
 ReadsOthers words (Err (BadGenerate word)) = ⊥
 ReadsOthers words (Err GenerateBeside) = ⊥
 ReadsOthers words (Err NoMemory) = ⊤
@@ -123,7 +136,8 @@ abbrev pub ReadsForm : List Text → Result Given WordsFault → Type 0
 ReadsForm words (Ok given) = IsOfForm words × SaysBut (rows_of_words words) given
 ReadsForm words (Err Form) = ¬ IsOfForm words
 ReadsForm words (Err (BadLines word fault)) = IsOfForm words × HasBadLines (rows_of_words words) word.now fault
-ReadsForm words (Err (BadStates word)) = IsOfForm words × HasLines (rows_of_words words) × HasBadStates (rows_of_words words) word.now
+ReadsForm words (Err (BadStates word)) =
+    IsOfForm words × HasLines (rows_of_words words) × HasBadStates (rows_of_words words) word.now
 ReadsForm words (Err NoInput) = ⊥
 ReadsForm words (Err ManyFiles) = ⊥
 ReadsForm words (Err (BadGenerate word)) = ⊥

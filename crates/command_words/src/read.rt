@@ -105,9 +105,11 @@ fn lines_of<'w>(alloc: Global, matches: &ArgMatches<'w>) -> Result<Option<Ranges
 
 /// The budget, or the value of `--states` that tells none.
 fn budget_of<'w>(matches: &ArgMatches<'w>) -> Result<u64, &'w str>
-    ensures some { IfOk result (λ budget. budget_of (first_value (found_of matches.now) (codes "states")) ≡ Some budget) }
+    ensures some { IfOk result
+        (λ budget. budget_of (first_value (found_of matches.now) (codes "states")) ≡ Some budget) }
     ensures most { IfOk result (λ budget. budget ≤ 16000000) }
-    ensures none { IfErr result (λ word. (first_value (found_of matches.now) (codes "states") ≡ Some word.now) × (budget_of (Some word.now) ≡ None)) }
+    ensures none { IfErr result (λ word.
+        (first_value (found_of matches.now) (codes "states") ≡ Some word.now) × (budget_of (Some word.now) ≡ None)) }
 {
     match matches.get_str("states") {
         None => Ok(DEFAULT_BUDGET),
@@ -120,7 +122,9 @@ fn budget_of<'w>(matches: &ArgMatches<'w>) -> Result<u64, &'w str>
 
 /// The FILEs that were given.
 fn files_of<'w>(alloc: Global, matches: &ArgMatches<'w>) -> Result<Vec<&'w str>, AllocError>
-    ensures { IfOk result (λ files. map (λ name. name.now) files.items ≡ unwrap_or (option_map raw_values (matched_of (found_of matches.now) (codes "file"))) []) }
+    ensures { IfOk result (λ files.
+        map (λ name. name.now) files.items
+        ≡ unwrap_or (option_map raw_values (matched_of (found_of matches.now) (codes "file"))) []) }
 {
     match matches.get_strs("file") {
         Some(files) => Ok(Vec::from_slice(alloc, files)?),

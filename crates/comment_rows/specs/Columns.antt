@@ -16,9 +16,11 @@ shared_column (Some column) rows = column
 
 -- the row with its comment at a column, unless that is decided
 abbrev pub moved_to : ℕ → TrailRow → TrailRow
-moved_to column row = if row.fixed then row else record { end = row.end; column = column; next = row.next; fixed = row.fixed }
+moved_to column row =
+    if row.fixed then row else record { end = row.end; column = column; next = row.next; fixed = row.fixed }
 
--- the rows with the comments of those that directly follow one another at the largest of their columns, where the row before goes on with them at a column, or none does
+-- the rows with the comments of those that directly follow one another at the largest of their columns, where the row
+-- before goes on with them at a column, or none does
 abbrev pub lined_up : Option ℕ → List TrailRow → List TrailRow
 lined_up before [] = []
 lined_up before (row ∷ rows) =

@@ -42,7 +42,8 @@ fn token_at(tokens: &[LineTok], at: usize) -> &LineTok
 /// Whether the gap before a trailing comment is open.
 fn has_open_comment(plan: &Plan<'_>, tokens: &[LineTok]) -> bool
     requires { All (λ token. token.id.0 < length plan.now) tokens.now }
-    ensures { OnFalse result (All (λ token. is_trailing token.role ≡ true → IsSome (slot_of plan.now token.id.0)) tokens.now) }
+    ensures { OnFalse result
+        (All (λ token. is_trailing token.role ≡ true → IsSome (slot_of plan.now token.id.0)) tokens.now) }
 {
     for token in tokens {
         if token.role.is_trailing() && plan.slot(token.id.0).is_none() {
@@ -144,7 +145,11 @@ fn keep_comment(
     requires known { known.old.column ≡ column_behind style.now plan.now tokens.now known.old.place }
     ensures order { OnOk result (known.new.place < at) }
     ensures known { OnOk result (known.new.column ≡ column_behind style.now plan.now tokens.now known.new.place) }
-    ensures comments { OnOk result (comments.new.items ≡ comments.old.items ++ comment_at style.now plan.now (get_or tokens.now (at - 1) no_token) (column_behind style.now plan.now tokens.now (at - 1)) (get_or tokens.now at no_token) (drop (at + 1) tokens.now)) }
+    ensures comments { OnOk result (comments.new.items
+        ≡ comments.old.items
+        ++ comment_at style.now plan.now (get_or tokens.now (at - 1) no_token)
+        (column_behind style.now plan.now tokens.now (at - 1)) (get_or tokens.now at no_token)
+        (drop (at + 1) tokens.now)) }
 {
     let token = token_at(tokens, at);
     if token.role.is_trailing() {
@@ -197,7 +202,9 @@ fn rows_of<'r>(comments: &[Comment], run: &'r Bump) -> Result<Vec<TrailRow, &'r 
 /// Decides the gap before a comment in this row, where it is open.
 fn place(comment: &Comment, row: &TrailRow, plan: &mut Plan<'_>)
     requires { comment.now.id < length plan.old }
-    ensures plan { plan.new ≡ (if comment.now.row.fixed then plan.old else decided plan.old comment.now.id (placed_slot comment.now row.now)) }
+    ensures plan { plan.new
+        ≡ (if comment.now.row.fixed then plan.old
+        else decided plan.old comment.now.id (placed_slot comment.now row.now)) }
     ensures len { length plan.new ≡ length plan.old }
 {
     if !comment.row.fixed {

@@ -1,9 +1,11 @@
--- Inside how many conditionals a directive stands (C11 6.10p1): docs/PROFILE.md, "Layout of directives". "Runs" there says what a directive does.
+-- Inside how many conditionals a directive stands (C11 6.10p1): docs/PROFILE.md, "Layout of directives". "Runs" there
+-- says what a directive does.
 use Rattle.std.specs.Prelude.{ℕ, Bool, true, false, List, [], ◌∷◌, length}
 use Rattle.token_arena.specs.declared.directives.nesting.Nesting.{Nesting}
 use Rattle.token_arena.specs.declared.directives.nesting.Nesting.TheVariants.{Opens, Branch, LastBranch, Ends, Flat}
 
--- The open conditionals are told by a list, the innermost first: of each whether its last branch, that of its `#else`, has begun.
+-- The open conditionals are told by a list, the innermost first: of each whether its last branch, that of its `#else`,
+-- has begun.
 
 -- those that stand around the innermost; an end that fits no open conditional stands inside none
 abbrev pub around_innermost : List Bool → List Bool

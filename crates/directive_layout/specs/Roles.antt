@@ -19,7 +19,8 @@ use Rattle.directive_layout.specs.declared.staying.Staying.TheVariants.{Nothing,
 abbrev pub one_line : ℕ → ULine
 one_line count = record { first = 0; last = count - 1; level = 0; kind = Simple }
 
--- the roles of the items from one up to another as one such line, with the partners that their brackets have among themselves
+-- the roles of the items from one up to another as one such line, with the partners that their brackets have among
+-- themselves
 abbrev pub roles_between : Contents → ℕ → ℕ → List LineTok
 roles_between arena first end =
     let ids = range_with_len first (end - first) in
@@ -37,4 +38,5 @@ has_roles style arena dir = is_free (staying_in style arena dir) && nat_lt (oper
 
 -- the roles of a directive's operand, where they matter
 abbrev pub operand_roles : Style → Contents → Directive → List LineTok
-operand_roles style arena dir = if has_roles style arena dir then roles_between arena (operand_first arena dir) dir.end else []
+operand_roles style arena dir =
+    if has_roles style arena dir then roles_between arena (operand_first arena dir) dir.end else []

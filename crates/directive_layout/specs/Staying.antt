@@ -10,7 +10,9 @@ use Rattle.token_arena.specs.declared.directives.DirectiveKind.TheVariants.{Defi
 use Rattle.style_table.specs.declared.style.Style.{Style}
 use Rattle.directive_layout.specs.Parts.{opens_list}
 use Rattle.directive_layout.specs.declared.part.HeadPart.{HeadPart}
-use Rattle.directive_layout.specs.declared.part.HeadPart.TheVariants.{Before, Hash, BeforeName, Name, BeforeMacro, Nameless, Macro, Opening, Parameter, Closing, Operand}
+use Rattle.directive_layout.specs.declared.part.HeadPart.TheVariants.{Before, Hash, BeforeName, Name, BeforeMacro}
+use Rattle.directive_layout.specs.declared.part.HeadPart.TheVariants.{Nameless, Macro, Opening, Parameter, Closing}
+use Rattle.directive_layout.specs.declared.part.HeadPart.TheVariants.{Operand}
 use Rattle.directive_layout.specs.declared.staying.Staying.{Staying}
 use Rattle.directive_layout.specs.declared.staying.Staying.TheVariants.{Nothing, BehindName, Body}
 
@@ -28,7 +30,8 @@ is_behind_name Parameter = false
 is_behind_name Closing = false
 is_behind_name Operand = true
 
--- Directly before a body or in it, behind an item of a definition that is this part: a body follows the macro's name or the list of its parameters.
+-- Directly before a body or in it, behind an item of a definition that is this part: a body follows the macro's name or
+-- the list of its parameters.
 abbrev pub is_body_gap : Dialect → HeadPart → Stored → Bool
 is_body_gap d Before token = false
 is_body_gap d Hash token = false

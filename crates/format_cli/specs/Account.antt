@@ -1,5 +1,6 @@
 -- What a call did, from the words to its last input.
-use Rattle.std.specs.Prelude.{◌≡◌, ◌≢◌, ◌⊎◌, ◌↔◌, ℕ, Bool, true, false, List, [], Option, Some, None, Ok, Err, IsTrue, IsFalse, ◌&&◌, if◌then◌else◌, map}
+use Rattle.std.specs.Prelude.{◌≡◌, ◌≢◌, ◌⊎◌, ◌↔◌, ℕ, Bool, true, false, List, [], Option, Some, None, Ok, Err, IsTrue}
+use Rattle.std.specs.Prelude.{IsFalse, ◌&&◌, if◌then◌else◌, map}
 use Rattle.std.proofs.Common.{inl, inr}
 use Rattle.std.specs.Io.KnownBytes.{Appends, Keeps}
 use Rattle.fmt_ports.specs.Causes.{AppendsPart, Rose}
@@ -11,7 +12,9 @@ use Rattle.command_words.specs.declared.read.Words.{Words}
 use Rattle.command_words.specs.declared.fault.WordsFault.TheVariants as Fault
 use Rattle.command_words.specs.Said.{Reads}
 use Rattle.command_refusals.specs.declared.refusal.Refusal.{Refusal}
-use Rattle.command_refusals.specs.declared.refusal.Refusal.TheVariants.{BadWords, BadLines, BadStates, NoInput, ManyFiles, BadGenerate, GenerateBeside, OutFailed, NoMemory}
+use Rattle.command_refusals.specs.declared.refusal.Refusal.TheVariants.{BadWords, BadLines, BadStates, NoInput}
+use Rattle.command_refusals.specs.declared.refusal.Refusal.TheVariants.{ManyFiles, BadGenerate, GenerateBeside}
+use Rattle.command_refusals.specs.declared.refusal.Refusal.TheVariants.{OutFailed, NoMemory}
 use Rattle.command_refusals.specs.InForce.{IsInForce, IsStyleRefused}
 use Rattle.command_refusals.specs.Notes.{row_of, status_of}
 use Rattle.format_cli.specs.declared.command.Outcome.{Outcome}
@@ -71,25 +74,31 @@ pub record IsGeneratedTold (said : Words) (style : Style) (before now : World) :
   pub held : KeepsAll before.ends.held now.ends.held
   pub left : now.left ≡ before.left
 
--- What the words ask for was done: the style was dumped, or else every input was done, or the one that `--generate` makes.
+-- What the words ask for was done: the style was dumped, or else every input was done, or the one that `--generate`
+-- makes.
 abbrev pub IsPerformed : Words → Style → World → World → Type 0
 IsPerformed said style before now =
     (IsTrue said.dump_config × IsDumped style before now)
-    ⊎ (IsFalse said.dump_config × (files_of said ≡ []) × IsSourceWritten (options_of said style) (place_of said.dry_run said.in_place) before now × (said.generate ≡ None))
+    ⊎ (IsFalse said.dump_config × (files_of said ≡ [])
+    × IsSourceWritten (options_of said style) (place_of said.dry_run said.in_place) before now
+    × (said.generate ≡ None))
     ⊎ (IsFalse said.dump_config × AreFilesWritten said style before now)
     ⊎ (IsFalse said.dump_config × IsGeneratedTold said style before now)
 
 -- what the words ask for was done, and the text of some input changes
-abbrev pub TextChanges : (said : Words) (style : Style) (before now : World) → IsPerformed said style before now → Type 0
+abbrev pub TextChanges : (said : Words) (style : Style) (before now : World) → IsPerformed said style before now →
+    Type 0
 TextChanges said style before now (inl dumped) = ⊥
 TextChanges said style before now (inr (inl source)) = source.2.done.1 ≢ source.2.done.0
 TextChanges said style before now (inr (inr (inl files))) =
-    SomeChanges (options_of said style) (place_of said.dry_run said.in_place) (files_of said) before.ends now.ends files.1.done
+    SomeChanges (options_of said style) (place_of said.dry_run said.in_place) (files_of said) before.ends now.ends
+    files.1.done
 TextChanges said style before now (inr (inr (inr made))) = made.1.done.0 ≢ text_of made.1.generate
 
 -- what the words ask for was done, and this tells whether some text changes
 abbrev pub IsPerformedWith : Words → Style → World → World → (changes : Bool) → Type 0
-IsPerformedWith said style before now changes = (performed : IsPerformed said style before now) × (IsTrue changes ↔ TextChanges said style before now performed)
+IsPerformedWith said style before now changes =
+    (performed : IsPerformed said style before now) × (IsTrue changes ↔ TextChanges said style before now performed)
 
 -- the output failed and took a front of the style's text
 pub record IsDumpRefused (style : Style) (before now : World) (refusal : Refusal) : Type 0 where
@@ -100,14 +109,17 @@ pub record IsDumpRefused (style : Style) (before now : World) (refusal : Refusal
   pub left : now.left ≡ before.left
 
 -- standard input was refused
-pub record IsSourceNotWritten (options : Options) (place : Place) (before now : World) (refusal : Refusal) : Type 0 where
-  pub refused : IsSourceRefused options place before.left before.ends.taken now.ends.taken before.ends.told now.ends.told refusal
-  pub held : KeepsAll before.ends.held now.ends.held
+pub record IsSourceNotWritten (options : Options) (place : Place) (before now : World) (refusal : Refusal) : Type 0
+  where
+    pub refused : IsSourceRefused options place before.left before.ends.taken now.ends.taken before.ends.told
+        now.ends.told refusal
+    pub held : KeepsAll before.ends.held now.ends.held
 
 -- one of the FILEs was refused, those before it done, and standard input wasn't read
 pub record AreFilesNotWritten (said : Words) (style : Style) (before now : World) (refusal : Refusal) : Type 0 where
   pub some : files_of said ≢ []
-  pub refused : AreRefused (options_of said style) (place_of said.dry_run said.in_place) (files_of said) before.ends now.ends refusal
+  pub refused : AreRefused (options_of said style) (place_of said.dry_run said.in_place) (files_of said) before.ends
+      now.ends refusal
   pub left : now.left ≡ before.left
 
 -- the text that `--generate` makes was refused, nothing but rows was written, and standard input wasn't read
@@ -123,7 +135,8 @@ pub record IsGeneratedNotTold (said : Words) (style : Style) (before now : World
 abbrev pub IsNotPerformed : Words → Style → World → World → Refusal → Type 0
 IsNotPerformed said style before now refusal =
     (IsTrue said.dump_config × IsDumpRefused style before now refusal)
-    ⊎ (IsFalse said.dump_config × (files_of said ≡ []) × IsSourceNotWritten (options_of said style) (place_of said.dry_run said.in_place) before now refusal
+    ⊎ (IsFalse said.dump_config × (files_of said ≡ [])
+    × IsSourceNotWritten (options_of said style) (place_of said.dry_run said.in_place) before now refusal
     × (said.generate ≡ None))
     ⊎ (IsFalse said.dump_config × AreFilesNotWritten said style before now refusal)
     ⊎ (IsFalse said.dump_config × IsGeneratedNotTold said style before now refusal)
@@ -161,7 +174,8 @@ pub record EndsAtStyle (words : List (List ℕ)) (before now : World) (refusal :
   pub refused : IsStyleRefused said.style before.ends.held before.ends.told now.ends.told refusal
   pub untouched : IsUntouched before now
 
--- The words and the style in force are these, `begun` is the world after the style was read, and the notes took the rows of the skipped keys.
+-- The words and the style in force are these, `begun` is the world after the style was read, and the notes took the
+-- rows of the skipped keys.
 pub record IsBegun (words : List (List ℕ)) (before begun : World) (said : Words) (style : Style) : Type 0 where
   pub reads : Reads words (Ok said)
   pub rows : List ℕ
@@ -182,7 +196,8 @@ abbrev pub outcome_status : Outcome → ℕ
 outcome_status Done = 0
 outcome_status WouldChange = 1
 
--- how a call ends, where all was done, and these tell whether the words ask for texts that change and whether some text does
+-- how a call ends, where all was done, and these tell whether the words ask for texts that change and whether some text
+-- does
 abbrev pub outcome_of : (asks changes : Bool) → Outcome
 outcome_of asks changes = if asks && changes then WouldChange else Done
 
@@ -194,7 +209,8 @@ WouldFail said changes = IsTrue said.dry_run × IsTrue said.werror × changes
 abbrev pub Answers : (fails : Type 0) → (status : ℕ) → Type 0
 Answers fails status = (fails × (status ≡ 1)) ⊎ ((¬ fails) × (status ≡ 0))
 
--- A call did all that its words ask for, and this is its status: the notes took the rows of the skipped keys, and then those of each input.
+-- A call did all that its words ask for, and this is its status: the notes took the rows of the skipped keys, and then
+-- those of each input.
 pub record EndsWell (words : List (List ℕ)) (before now : World) (status : ℕ) : Type 0 where
   pub said : Words
   pub style : Style
@@ -205,16 +221,20 @@ pub record EndsWell (words : List (List ℕ)) (before now : World) (status : ℕ
 
 -- a call was refused so: for its words, for its style, or at its output or inputs
 abbrev pub IsRefused : List (List ℕ) → World → World → Refusal → Type 0
-IsRefused words before now refusal = EndsAtWords words before now refusal ⊎ EndsAtStyle words before now refusal ⊎ EndsAtInputs words before now refusal
+IsRefused words before now refusal =
+    EndsAtWords words before now refusal ⊎ EndsAtStyle words before now refusal
+    ⊎ EndsAtInputs words before now refusal
 
 -- the same world, where the notes have taken this
 abbrev pub where_told : World → Option (List ℕ) → World
 where_told now told = world now.left now.ends.taken now.ends.held told
 
--- A call was refused with this status, and the notes took the row of the refusal last; or a front of it, where their faults rose.
+-- A call was refused with this status, and the notes took the row of the refusal last; or a front of it, where their
+-- faults rose.
 pub record IsRefusedWith (words : List (List ℕ)) (before now : World) (faults faults' : ℕ) (status : ℕ) : Type 0 where
   pub refusal : Refusal
   pub is_its : status ≡ status_of refusal
   pub told : Option (List ℕ)
   pub refused : IsRefused words before (where_told now told) refusal
-  pub row : Appends told now.ends.told (row_of refusal) ⊎ (Rose faults faults' × AppendsPart told now.ends.told (row_of refusal))
+  pub row : Appends told now.ends.told (row_of refusal)
+      ⊎ (Rose faults faults' × AppendsPart told now.ends.told (row_of refusal))

@@ -16,14 +16,19 @@ text_of generate = generated generate.seed generate.count
 
 -- the notes took the rows of this text that was made, and its summary
 abbrev pub IsGeneratedDone : Options → (b : List ℕ) → (told told' : Option (List ℕ)) → Type 0
-IsGeneratedDone options b told told' = (c : List ℕ) × (made : IsFormatted options b c) × Appends told told' (rows_told Nowhere (codes "<generated>") made)
+IsGeneratedDone options b told told' =
+    (c : List ℕ) × (made : IsFormatted options b c)
+    × Appends told told' (rows_told Nowhere (codes "<generated>") made)
 
 -- a text that was made was done, and this tells whether it changes
 abbrev pub IsGeneratedDoneWith : Options → (b : List ℕ) → (told told' : Option (List ℕ)) → (changes : Bool) → Type 0
-IsGeneratedDoneWith options b told told' changes = (done : IsGeneratedDone options b told told') × (IsTrue changes ↔ (done.0 ≢ b))
+IsGeneratedDoneWith options b told told' changes =
+    (done : IsGeneratedDone options b told told') × (IsTrue changes ↔ (done.0 ≢ b))
 
 -- A text that was made was refused: no row was told, for this cause, or the notes failed and took a front of its rows.
 abbrev pub IsGeneratedRefused : Options → (b : List ℕ) → (told told' : Option (List ℕ)) → Refusal → Type 0
 IsGeneratedRefused options b told told' refusal =
     (Keeps told told' × IsTextCause (codes "<generated>") b refusal)
-    ⊎ ((refusal ≡ NotesFailed) × ((c : List ℕ) × (made : IsFormatted options b c) × AppendsPart told told' (rows_told Nowhere (codes "<generated>") made)))
+    ⊎ ((refusal ≡ NotesFailed)
+    × ((c : List ℕ) × (made : IsFormatted options b c)
+    × AppendsPart told told' (rows_told Nowhere (codes "<generated>") made)))

@@ -24,7 +24,8 @@ change_word false = codes ", unchanged\n"
 
 -- what a summary tells of the lines that a text's runs saw: those left over and the costs of those searched
 abbrev pub cost_row : Counts → Bool → List ℕ
-cost_row counts changed = numbered_row [] [] counts.over (codes ", cost ") ++ numbered_row [] [] counts.cost (change_word changed)
+cost_row counts changed =
+    numbered_row [] [] counts.over (codes ", cost ") ++ numbered_row [] [] counts.cost (change_word changed)
 
 -- how many lines were searched, and what comes behind it
 abbrev pub lines_row : Counts → Bool → List ℕ
@@ -32,10 +33,12 @@ lines_row counts changed = numbered_row [] [] counts.searched (codes ", over ") 
 
 -- the summary of an input of this name: `NAME: runs R, searched S, over O, cost C, changed`, or `unchanged`
 abbrev pub summary_row : List ℕ → Counts → Bool → List ℕ
-summary_row name counts changed = numbered_row name (codes ": runs ") counts.runs (codes ", searched ") ++ lines_row counts changed
+summary_row name counts changed =
+    numbered_row name (codes ": runs ") counts.runs (codes ", searched ") ++ lines_row counts changed
 
 -- the rows of an input: those of its reports, and in a dry run its summary
 abbrev pub input_rows : Place → (name : List ℕ) → ℕ → List Report → Counts → (changed : Bool) → List ℕ
 input_rows Output name budget reports counts changed = report_rows name budget reports
 input_rows Itself name budget reports counts changed = report_rows name budget reports
-input_rows Nowhere name budget reports counts changed = report_rows name budget reports ++ summary_row name counts changed
+input_rows Nowhere name budget reports counts changed =
+    report_rows name budget reports ++ summary_row name counts changed

@@ -33,11 +33,13 @@ abbrev pub AreDifferent : List (List ℕ) → Type 0
 AreDifferent [] = ⊤
 AreDifferent (name ∷ names) = (¬ IsOneOf name names) × AreDifferent names
 
--- The first input that is refused is refused with this status. With `-i`, but in a dry run, this is told of FILEs that are named once.
+-- The first input that is refused is refused with this status. With `-i`, but in a dry run, this is told of FILEs that
+-- are named once.
 abbrev pub InputsStop : Words → Option (List ℕ) → Held → ℕ → Type 0
 InputsStop said left held status =
     ((files_of said ≡ []) × IsThere IsBadText left × (status ≡ 4) × (said.generate ≡ None))
-    ⊎ (FilesStop held (files_of said) status × (IsTrue said.in_place → IsFalse said.dry_run → AreDifferent (files_of said)))
+    ⊎ (FilesStop held (files_of said) status
+    × (IsTrue said.in_place → IsFalse said.dry_run → AreDifferent (files_of said)))
     ⊎ ((generate : Generate) × (said.generate ≡ Some generate) × IsBadText (text_of generate) × (status ≡ 4))
 
 -- ---- a whole call
@@ -47,11 +49,13 @@ InputsStop said left held status =
 pub record StopsWith (words : List (List ℕ)) (left : Option (List ℕ)) (held : Held) (status : ℕ) : Type 0 where
   pub said : Words
   pub reads : Reads words (Ok said)
-  pub stops : StyleStops said.style held status ⊎ (HasStyle said.style held × IsFalse said.dump_config × InputsStop said left held status)
+  pub stops : StyleStops said.style held status
+      ⊎ (HasStyle said.style held × IsFalse said.dump_config × InputsStop said left held status)
 
 -- A style is in force, and the notes haven't taken the rows of all its skipped keys.
 pub record LacksRows (words : List (List ℕ)) (held : Held) (notes notes' : Option (List ℕ)) : Type 0 where
   pub said : Words
   pub reads : Reads words (Ok said)
   pub has_style : HasStyle said.style held
-  pub lacks : (style : Style) (rows more : List ℕ) → IsInForce said.style held style rows → ¬ Appends notes notes' (rows ++ more)
+  pub lacks : (style : Style) (rows more : List ℕ) → IsInForce said.style held style rows →
+      ¬ Appends notes notes' (rows ++ more)

@@ -9,7 +9,8 @@ use Rattle.off_regions.specs.declared.fault.RangeFault.{RangeFault}
 use Rattle.command_words.specs.Budget.{budget_of}
 use Rattle.command_words.specs.Command.{Gives, IsOfForm, generate_word, rows_of_words, states_word}
 use Rattle.command_words.specs.Generate.{generate_of}
-use Rattle.command_words.specs.Said.{AreOthersFine, GeneratesBeside, HasBadGenerate, HasBadLines, HasBadStates, HasLines, HasManyFiles, LacksFile, Reads}
+use Rattle.command_words.specs.Said.{AreOthersFine, GeneratesBeside, HasBadGenerate, HasBadLines, HasBadStates}
+use Rattle.command_words.specs.Said.{HasLines, HasManyFiles, LacksFile, Reads}
 use Rattle.command_refusals.specs.declared.refusal.Refusal.{Refusal}
 use Rattle.command_refusals.specs.InForce.{IsMissing, IsStyleCause}
 use Rattle.command_refusals.specs.Notes.{status_of}
@@ -19,19 +20,25 @@ use Rattle.format_cli.specs.Inputs.{IsFileCause, IsSourceCause, IsTextCause}
 
 -- the statuses that there are
 abbrev pub IsStatus : ℕ → Type 0
-IsStatus status = (status ≡ 0) ⊎ (status ≡ 1) ⊎ (status ≡ 2) ⊎ (status ≡ 3) ⊎ (status ≡ 4) ⊎ (status ≡ 5) ⊎ (status ≡ 6) ⊎ (status ≡ 7)
+IsStatus status =
+    (status ≡ 0) ⊎ (status ≡ 1) ⊎ (status ≡ 2) ⊎ (status ≡ 3) ⊎ (status ≡ 4) ⊎ (status ≡ 5) ⊎ (status ≡ 6)
+    ⊎ (status ≡ 7)
 
--- the words aren't of the command's form, `--lines` is no list of ranges, `--states` tells no budget, `-i` lacks its FILE, `--lines` has two or
--- more, or `--generate` isn't in form or stands beside a FILE, `-i` or `--dump-config`
+-- the words aren't of the command's form, `--lines` is no list of ranges, `--states` tells no budget, `-i` lacks its
+-- FILE, `--lines` has two or more, or `--generate` isn't in form or stands beside a FILE, `-i` or `--dump-config`
 abbrev pub AreBadWords : List (List ℕ) → Type 0
 AreBadWords words =
     (¬ IsOfForm words)
     ⊎ (IsOfForm words × ((word : List ℕ) × (fault : RangeFault) × HasBadLines (rows_of_words words) word fault))
     ⊎ (IsOfForm words × HasLines (rows_of_words words) × ((word : List ℕ) × HasBadStates (rows_of_words words) word))
-    ⊎ (IsOfForm words × HasLines (rows_of_words words) × IsSome (budget_of (states_word (rows_of_words words))) × LacksFile (rows_of_words words))
-    ⊎ (IsOfForm words × HasLines (rows_of_words words) × IsSome (budget_of (states_word (rows_of_words words))) × HasManyFiles (rows_of_words words))
-    ⊎ (IsOfForm words × AreOthersFine (rows_of_words words) × ((word : List ℕ) × HasBadGenerate (rows_of_words words) word))
-    ⊎ (IsOfForm words × AreOthersFine (rows_of_words words) × IsSome (generate_of (generate_word (rows_of_words words))) × GeneratesBeside (rows_of_words words))
+    ⊎ (IsOfForm words × HasLines (rows_of_words words) × IsSome (budget_of (states_word (rows_of_words words)))
+    × LacksFile (rows_of_words words))
+    ⊎ (IsOfForm words × HasLines (rows_of_words words) × IsSome (budget_of (states_word (rows_of_words words)))
+    × HasManyFiles (rows_of_words words))
+    ⊎ (IsOfForm words × AreOthersFine (rows_of_words words)
+    × ((word : List ℕ) × HasBadGenerate (rows_of_words words) word))
+    ⊎ (IsOfForm words × AreOthersFine (rows_of_words words)
+    × IsSome (generate_of (generate_word (rows_of_words words))) × GeneratesBeside (rows_of_words words))
 
 -- The words choose a style, and it isn't in force, for a cause of this status.
 pub record HasNoStyle (words : List (List ℕ)) (held : Held) (status : ℕ) : Type 0 where
@@ -51,7 +58,8 @@ abbrev pub IsPath : StyleChoice → List ℕ → Type 0
 IsPath (FileAt path) name = path.now ≡ name
 IsPath choice name = ⊥
 
--- The words name a file that isn't there: the PATH of `file:PATH`, or a FILE, which counts only without `--dump-config`.
+-- The words name a file that isn't there: the PATH of `file:PATH`, or a FILE, which counts only without
+-- `--dump-config`.
 pub record LacksName (words : List (List ℕ)) (held : Held) : Type 0 where
   pub said : Words
   pub reads : Reads words (Ok said)
@@ -59,7 +67,8 @@ pub record LacksName (words : List (List ℕ)) (held : Held) : Type 0 where
   pub named : IsPath said.style name ⊎ (IsFalse said.dump_config × IsOneOf name (files_of said))
   pub missing : IsMissing held name
 
--- An input is refused for its text, at this status: standard input, where the words give no FILE, one of the FILEs, or the text that `--generate` makes.
+-- An input is refused for its text, at this status: standard input, where the words give no FILE, one of the FILEs, or
+-- the text that `--generate` makes.
 pub record HasRefusedInput (words : List (List ℕ)) (input : Option (List ℕ)) (held : Held) (status : ℕ) : Type 0 where
   pub said : Words
   pub reads : Reads words (Ok said)
@@ -67,20 +76,24 @@ pub record HasRefusedInput (words : List (List ℕ)) (input : Option (List ℕ))
   pub is_its : status_of refusal ≡ status
   pub cause : ((files_of said ≡ []) × IsSourceCause input refusal × (said.generate ≡ None))
       ⊎ ((name : List ℕ) × IsOneOf name (files_of said) × IsFileCause held name refusal)
-      ⊎ ((generate : Generate) × (said.generate ≡ Some generate) × IsTextCause (codes "<generated>") (text_of generate) refusal)
+      ⊎ ((generate : Generate) × (said.generate ≡ Some generate)
+      × IsTextCause (codes "<generated>") (text_of generate) refusal)
 
 -- the words have `-i`, `--dry-run` or `--generate`, and not `--dump-config`
 abbrev pub LeavesOutput : List (List ℕ) → Type 0
 LeavesOutput words =
-    (Gives (codes "in-place") (rows_of_words words) ⊎ Gives (codes "dry-run") (rows_of_words words) ⊎ IsSome (generate_word (rows_of_words words)))
+    (Gives (codes "in-place") (rows_of_words words) ⊎ Gives (codes "dry-run") (rows_of_words words)
+    ⊎ IsSome (generate_word (rows_of_words words)))
     × (¬ Gives (codes "dump-config") (rows_of_words words))
 
 -- the words don't have `-i`, or have `--dry-run` or `--dump-config`
 abbrev pub LeavesFiles : List (List ℕ) → Type 0
 LeavesFiles words =
-    (¬ Gives (codes "in-place") (rows_of_words words)) ⊎ Gives (codes "dry-run") (rows_of_words words) ⊎ Gives (codes "dump-config") (rows_of_words words)
+    (¬ Gives (codes "in-place") (rows_of_words words)) ⊎ Gives (codes "dry-run") (rows_of_words words)
+    ⊎ Gives (codes "dump-config") (rows_of_words words)
 
 -- the words have `--dry-run` and `--Werror`, and not `--dump-config`
 abbrev pub AsksWhetherChanged : List (List ℕ) → Type 0
 AsksWhetherChanged words =
-    Gives (codes "dry-run") (rows_of_words words) × Gives (codes "Werror") (rows_of_words words) × (¬ Gives (codes "dump-config") (rows_of_words words))
+    Gives (codes "dry-run") (rows_of_words words) × Gives (codes "Werror") (rows_of_words words)
+    × (¬ Gives (codes "dump-config") (rows_of_words words))

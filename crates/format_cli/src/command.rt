@@ -55,9 +55,28 @@ fn perform<'w, S: Source, K: Sink, E: Sink, F: Files>(
 ) -> Result<bool, Refusal<'w>>
     requires range { IsInRange style.now }
     requires budget { said.budget ≤ 16000000 }
-    ensures done { IfOk result (λ changes. IsPerformedWith said.entry style.now (world (S.left source.old) (K.taken out.old) (F.holds files.old) (E.taken notes.old)) (world (S.left source.new) (K.taken out.new) (F.holds files.new) (E.taken notes.new)) changes) }
-    ensures refused { IfErr result (IsNotPerformed said.entry style.now (world (S.left source.old) (K.taken out.old) (F.holds files.old) (E.taken notes.old)) (world (S.left source.new) (K.taken out.new) (F.holds files.new) (E.taken notes.new))) }
-    ensures counts { (f : Faults) → Counted (record f { source = S.faults source.old; out = K.faults out.old; notes = E.faults notes.old; files = F.faults files.old; misses = F.misses files.old }) (record f { source = S.faults source.new; out = K.faults out.new; notes = E.faults notes.new; files = F.faults files.new; misses = F.misses files.new }) result }
+    ensures done { IfOk result (λ changes.
+        IsPerformedWith said.entry style.now
+        (world (S.left source.old) (K.taken out.old) (F.holds files.old) (E.taken notes.old))
+        (world (S.left source.new) (K.taken out.new) (F.holds files.new) (E.taken notes.new)) changes) }
+    ensures refused { IfErr result (IsNotPerformed said.entry style.now
+        (world (S.left source.old) (K.taken out.old) (F.holds files.old) (E.taken notes.old))
+        (world (S.left source.new) (K.taken out.new) (F.holds files.new) (E.taken notes.new))) }
+    ensures counts { (f : Faults) →
+        Counted (record f {
+          source = S.faults source.old;
+          out = K.faults out.old;
+          notes = E.faults notes.old;
+          files = F.faults files.old;
+          misses = F.misses files.old;
+        })
+        (record f {
+          source = S.faults source.new;
+          out = K.faults out.new;
+          notes = E.faults notes.new;
+          files = F.faults files.new;
+          misses = F.misses files.new;
+        }) result }
 {
     if said.dump_config {
         return match dump(style, out) {
@@ -108,9 +127,28 @@ fn run<'w, S: Source, K: Sink, E: Sink, F: Files>(
     notes: &mut E,
     files: &mut F,
 ) -> Result<Outcome, Refusal<'w>>
-    ensures done { IfOk result (λ outcome. EndsWell (map string_bytes words.entry.now) (world (S.left source.old) (K.taken out.old) (F.holds files.old) (E.taken notes.old)) (world (S.left source.new) (K.taken out.new) (F.holds files.new) (E.taken notes.new)) (outcome_status outcome)) }
-    ensures refused { IfErr result (IsRefused (map string_bytes words.entry.now) (world (S.left source.old) (K.taken out.old) (F.holds files.old) (E.taken notes.old)) (world (S.left source.new) (K.taken out.new) (F.holds files.new) (E.taken notes.new))) }
-    ensures counts { Counted (record { source = S.faults source.old; out = K.faults out.old; notes = E.faults notes.old; files = F.faults files.old; misses = F.misses files.old }) (record { source = S.faults source.new; out = K.faults out.new; notes = E.faults notes.new; files = F.faults files.new; misses = F.misses files.new }) result }
+    ensures done { IfOk result (λ outcome.
+        EndsWell (map string_bytes words.entry.now)
+        (world (S.left source.old) (K.taken out.old) (F.holds files.old) (E.taken notes.old))
+        (world (S.left source.new) (K.taken out.new) (F.holds files.new) (E.taken notes.new))
+        (outcome_status outcome)) }
+    ensures refused { IfErr result (IsRefused (map string_bytes words.entry.now)
+        (world (S.left source.old) (K.taken out.old) (F.holds files.old) (E.taken notes.old))
+        (world (S.left source.new) (K.taken out.new) (F.holds files.new) (E.taken notes.new))) }
+    ensures counts { Counted (record {
+      source = S.faults source.old;
+      out = K.faults out.old;
+      notes = E.faults notes.old;
+      files = F.faults files.old;
+      misses = F.misses files.old;
+    })
+        (record {
+          source = S.faults source.new;
+          out = K.faults out.new;
+          notes = E.faults notes.new;
+          files = F.faults files.new;
+          misses = F.misses files.new;
+        }) result }
 {
     let said = match read_words(alloc, words) {
         Ok(said) => said,
@@ -155,11 +193,31 @@ pub fn format_command<S: Source, K: Sink, E: Sink, F: Files>(
     // preprocesses alike, which stands in its place; and the notes took the rows of the skipped keys and then those of
     // each input. The status is 1 exactly where the words have `--dry-run` and `--Werror` and some input's text
     // changes.
-    ensures done { (result ≡ 0) ⊎ (result ≡ 1) → EndsWell (map string_bytes words.now) (world (S.left source.old) (K.taken out.old) (F.holds files.old) (E.taken notes.old)) (world (S.left source.new) (K.taken out.new) (F.holds files.new) (E.taken notes.new)) result }
+    ensures done { (result ≡ 0) ⊎ (result ≡ 1) →
+        EndsWell (map string_bytes words.now)
+        (world (S.left source.old) (K.taken out.old) (F.holds files.old) (E.taken notes.old))
+        (world (S.left source.new) (K.taken out.new) (F.holds files.new) (E.taken notes.new)) result }
 
     // What was done before a refusal, its cause, what the notes took, and the count that it raised: that of what its
     // row names, and no other. Where the notes don't tell what they take, all but the row is said.
-    ensures refused { result ≢ 0 → result ≢ 1 → IsRefusedFor (map string_bytes words.now) (world (S.left source.old) (K.taken out.old) (F.holds files.old) (E.taken notes.old)) (world (S.left source.new) (K.taken out.new) (F.holds files.new) (E.taken notes.new)) (record { source = S.faults source.old; out = K.faults out.old; notes = E.faults notes.old; files = F.faults files.old; misses = F.misses files.old }) (record { source = S.faults source.new; out = K.faults out.new; notes = E.faults notes.new; files = F.faults files.new; misses = F.misses files.new }) result }
+    ensures refused { result ≢ 0 → result ≢ 1 →
+        IsRefusedFor (map string_bytes words.now)
+        (world (S.left source.old) (K.taken out.old) (F.holds files.old) (E.taken notes.old))
+        (world (S.left source.new) (K.taken out.new) (F.holds files.new) (E.taken notes.new))
+        (record {
+          source = S.faults source.old;
+          out = K.faults out.old;
+          notes = E.faults notes.old;
+          files = F.faults files.old;
+          misses = F.misses files.old;
+        })
+        (record {
+          source = S.faults source.new;
+          out = K.faults out.new;
+          notes = E.faults notes.new;
+          files = F.faults files.new;
+          misses = F.misses files.new;
+        }) result }
     ensures known { IsStatus result }
 
     // 1 only where the words ask for it.
@@ -176,22 +234,29 @@ pub fn format_command<S: Source, K: Sink, E: Sink, F: Files>(
 
     // 3, 4 and 6 always where names and bytes tell a first refusal of that status, a fault of a port and want of memory
     // aside.
-    ensures first { (status : ℕ) → StopsWith (map string_bytes words.now) (S.left source.old) (F.holds files.old) status → (result ≡ status) ⊎ (result ≡ 5) ⊎ (result ≡ 7) }
+    ensures first { (status : ℕ) →
+        StopsWith (map string_bytes words.now) (S.left source.old) (F.holds files.old) status →
+        (result ≡ status) ⊎ (result ≡ 5) ⊎ (result ≡ 7) }
 
     // 4 only for the text of an input: its size or a comment without an end. Where files are written it is the text
     // that stands there at its turn (`refused`).
-    ensures input { result ≡ 4 → LeavesFiles (map string_bytes words.now) → HasRefusedInput (map string_bytes words.now) (S.left source.old) (F.holds files.old) 4 }
+    ensures input { result ≡ 4 → LeavesFiles (map string_bytes words.now) →
+        HasRefusedInput (map string_bytes words.now) (S.left source.old) (F.holds files.old) 4 }
 
     // 5 only where a count of faults rose, and always where one is greater than at entry, but for the notes' while a
     // refusal is told.
-    ensures failed { result ≡ 5 → Rose (S.faults source.old) (S.faults source.new) ⊎ Rose (K.faults out.old) (K.faults out.new) ⊎ Rose (E.faults notes.old) (E.faults notes.new) ⊎ Rose (F.faults files.old) (F.faults files.new) }
+    ensures failed { result ≡ 5 →
+        Rose (S.faults source.old) (S.faults source.new) ⊎ Rose (K.faults out.old) (K.faults out.new)
+        ⊎ Rose (E.faults notes.old) (E.faults notes.new) ⊎ Rose (F.faults files.old) (F.faults files.new) }
     ensures source_fault { S.faults source.old < S.faults source.new → result ≡ 5 }
     ensures out_fault { K.faults out.old < K.faults out.new → result ≡ 5 }
     ensures file_fault { F.faults files.old < F.faults files.new → result ≡ 5 }
     ensures note_fault { E.faults notes.old < E.faults notes.new → (result ≢ 0) × (result ≢ 1) }
 
     // 5 where the notes don't take the rows of all skipped keys, want of memory aside.
-    ensures skipped { LacksRows (map string_bytes words.now) (F.holds files.old) (E.taken notes.old) (E.taken notes.new) → (result ≡ 5) ⊎ (result ≡ 7) }
+    ensures skipped { LacksRows (map string_bytes words.now) (F.holds files.old) (E.taken notes.old)
+        (E.taken notes.new) →
+        (result ≡ 5) ⊎ (result ≡ 7) }
 
     // With `-i`, `--dry-run` or `--generate` nothing goes to the output; without `-i`, and with `--dry-run`, no file is
     // written. `--dump-config` goes before both.

@@ -56,7 +56,9 @@ fn formatted<'a, 's, 'w>(
 ) -> Result<Formatted<'a, 's>, Refusal<'w>>
     requires range { IsInRange options.now.style }
     requires budget { options.now.budget ≤ 16000000 }
-    ensures formats { IfOk result (λ made. (is : IsFormatted options.now text.now (laid_text made.laid)) × (made.reports.now ≡ is.reports) × (made.counts ≡ is.counts)) }
+    ensures formats { IfOk result (λ made.
+        (is : IsFormatted options.now text.now (laid_text made.laid)) × (made.reports.now ≡ is.reports)
+        × (made.counts ≡ is.counts)) }
     ensures changed { IfOk result (λ made. made.changed ≡ not (is_same (laid_text made.laid) text.now)) }
     ensures refused { IfErr result (IsTextCause name.entry.now text.now) }
     ensures counts { (f : Faults) → Counted f f result }
@@ -85,7 +87,8 @@ fn put_source<'a, 's, K: Sink>(
     out: &mut K,
 ) -> Result<(), Failed>
     ensures ok { OnOk result (SourcePuts place (laid_text formatted.now.laid) (K.taken out.old) (K.taken out.new)) }
-    ensures part { IfErr result (λ _. SourcePutFails place (laid_text formatted.now.laid) (K.taken out.old) (K.taken out.new)) }
+    ensures part { IfErr result
+        (λ _. SourcePutFails place (laid_text formatted.now.laid) (K.taken out.old) (K.taken out.new)) }
     ensures counts { Counts (K.faults out.old) (K.faults out.new) result }
 {
     match place {
@@ -107,9 +110,14 @@ pub fn format_source<S: Source, K: Sink, E: Sink>(
 ) -> Result<bool, Refusal<'static>>
     requires range { IsInRange options.now.style }
     requires budget { options.now.budget ≤ 16000000 }
-    ensures done { IfOk result (λ changes. IsSourceDoneWith options.now place (S.left source.old) (K.taken out.old) (K.taken out.new) (E.taken notes.old) (E.taken notes.new) changes) }
-    ensures refused { IfErr result (IsSourceRefused options.now place (S.left source.old) (K.taken out.old) (K.taken out.new) (E.taken notes.old) (E.taken notes.new)) }
-    ensures counts { (f : Faults) → Counted (record f { source = S.faults source.old; out = K.faults out.old; notes = E.faults notes.old }) (record f { source = S.faults source.new; out = K.faults out.new; notes = E.faults notes.new }) result }
+    ensures done { IfOk result (λ changes.
+        IsSourceDoneWith options.now place (S.left source.old) (K.taken out.old) (K.taken out.new) (E.taken notes.old)
+        (E.taken notes.new) changes) }
+    ensures refused { IfErr result (IsSourceRefused options.now place (S.left source.old) (K.taken out.old)
+        (K.taken out.new) (E.taken notes.old) (E.taken notes.new)) }
+    ensures counts { (f : Faults) →
+        Counted (record f { source = S.faults source.old; out = K.faults out.old; notes = E.faults notes.old })
+        (record f { source = S.faults source.new; out = K.faults out.new; notes = E.faults notes.new }) result }
 {
     let text = match read_all(alloc, source, LIMIT as u64) {
         Ok(text) => text,
@@ -146,9 +154,12 @@ pub fn format_generated<E: Sink>(
 ) -> Result<bool, Refusal<'static>>
     requires range { IsInRange options.now.style }
     requires budget { options.now.budget ≤ 16000000 }
-    ensures done { IfOk result (λ changes. IsGeneratedDoneWith options.now (text_of generate) (E.taken notes.old) (E.taken notes.new) changes) }
-    ensures refused { IfErr result (IsGeneratedRefused options.now (text_of generate) (E.taken notes.old) (E.taken notes.new)) }
-    ensures counts { (f : Faults) → Counted (record f { notes = E.faults notes.old }) (record f { notes = E.faults notes.new }) result }
+    ensures done { IfOk result (λ changes.
+        IsGeneratedDoneWith options.now (text_of generate) (E.taken notes.old) (E.taken notes.new) changes) }
+    ensures refused { IfErr result
+        (IsGeneratedRefused options.now (text_of generate) (E.taken notes.old) (E.taken notes.new)) }
+    ensures counts { (f : Faults) →
+        Counted (record f { notes = E.faults notes.old }) (record f { notes = E.faults notes.new }) result }
 {
     let text = match generated(alloc, generate.seed, generate.count) {
         Ok(text) => text,
@@ -174,7 +185,9 @@ fn read_file<'w, F: Files>(name: &'w str, files: &mut F) -> Result<Vec<u8>, Refu
     ensures bytes { IfOk result (λ text. IsHeld (F.holds files.old) name.entry.now text.items) }
     ensures refused { IfErr result (IsFileCause (F.holds files.old) name.entry.now) }
     ensures same { KeepsAll (F.holds files.old) (F.holds files.new) }
-    ensures counts { (f : Faults) → Counted (record f { files = F.faults files.old; misses = F.misses files.old }) (record f { files = F.faults files.new; misses = F.misses files.new }) result }
+    ensures counts { (f : Faults) →
+        Counted (record f { files = F.faults files.old; misses = F.misses files.old })
+        (record f { files = F.faults files.new; misses = F.misses files.new }) result }
 {
     match files.read(name, LIMIT as u64) {
         Ok(text) => Ok(text),
@@ -192,9 +205,13 @@ fn write_back<'w, F: Files>(
     formatted: &Formatted<'_, '_>,
     files: &mut F,
 ) -> Result<(), Refusal<'w>>
-    ensures done { IfOk result (λ _. IsHeld (F.holds files.new) name.entry.now (laid_text formatted.now.laid) × KeepsOthers name.entry.now (F.holds files.old) (F.holds files.new)) }
+    ensures done { IfOk result (λ _.
+        IsHeld (F.holds files.new) name.entry.now (laid_text formatted.now.laid)
+        × KeepsOthers name.entry.now (F.holds files.old) (F.holds files.new)) }
     ensures refused { IfErr result (IsWriteRefused name.entry.now (F.holds files.old) (F.holds files.new)) }
-    ensures counts { (f : Faults) → Counted (record f { files = F.faults files.old; misses = F.misses files.old }) (record f { files = F.faults files.new; misses = F.misses files.new }) result }
+    ensures counts { (f : Faults) →
+        Counted (record f { files = F.faults files.old; misses = F.misses files.old })
+        (record f { files = F.faults files.new; misses = F.misses files.new }) result }
 {
     let text = match formatted.bytes(alloc) {
         Ok(text) => text,
@@ -222,9 +239,24 @@ fn format_file<'w, K: Sink, E: Sink, F: Files>(
 ) -> Result<bool, Refusal<'w>>
     requires range { IsInRange options.now.style }
     requires budget { options.now.budget ≤ 16000000 }
-    ensures done { IfOk result (λ changes. IsDoneWith options.now place name.entry.now (ends (K.taken out.old) (F.holds files.old) (E.taken notes.old)) (ends (K.taken out.new) (F.holds files.new) (E.taken notes.new)) changes) }
-    ensures refused { IfErr result (IsFileRefused options.now place name.entry.now (ends (K.taken out.old) (F.holds files.old) (E.taken notes.old)) (ends (K.taken out.new) (F.holds files.new) (E.taken notes.new))) }
-    ensures counts { (f : Faults) → Counted (record f { out = K.faults out.old; notes = E.faults notes.old; files = F.faults files.old; misses = F.misses files.old }) (record f { out = K.faults out.new; notes = E.faults notes.new; files = F.faults files.new; misses = F.misses files.new }) result }
+    ensures done { IfOk result (λ changes.
+        IsDoneWith options.now place name.entry.now (ends (K.taken out.old) (F.holds files.old) (E.taken notes.old))
+        (ends (K.taken out.new) (F.holds files.new) (E.taken notes.new)) changes) }
+    ensures refused { IfErr result (IsFileRefused options.now place name.entry.now
+        (ends (K.taken out.old) (F.holds files.old) (E.taken notes.old))
+        (ends (K.taken out.new) (F.holds files.new) (E.taken notes.new))) }
+    ensures counts { (f : Faults) →
+        Counted (record f {
+          out = K.faults out.old;
+          notes = E.faults notes.old;
+          files = F.faults files.old;
+          misses = F.misses files.old;
+        }) (record f {
+          out = K.faults out.new;
+          notes = E.faults notes.new;
+          files = F.faults files.new;
+          misses = F.misses files.new;
+        }) result }
 {
     let text = read_file(name, files)?;
     let bump = Bump::new(alloc);
@@ -270,9 +302,25 @@ pub fn format_files<'w, K: Sink, E: Sink, F: Files>(
 ) -> Result<bool, Refusal<'w>>
     requires range { IsInRange options.now.style }
     requires budget { options.now.budget ≤ 16000000 }
-    ensures done { IfOk result (λ changes. AreDoneWith options.now place (map (λ name. name.now) names.now) (ends (K.taken out.old) (F.holds files.old) (E.taken notes.old)) (ends (K.taken out.new) (F.holds files.new) (E.taken notes.new)) changes) }
-    ensures refused { IfErr result (AreRefused options.now place (map (λ name. name.now) names.now) (ends (K.taken out.old) (F.holds files.old) (E.taken notes.old)) (ends (K.taken out.new) (F.holds files.new) (E.taken notes.new))) }
-    ensures counts { (f : Faults) → Counted (record f { out = K.faults out.old; notes = E.faults notes.old; files = F.faults files.old; misses = F.misses files.old }) (record f { out = K.faults out.new; notes = E.faults notes.new; files = F.faults files.new; misses = F.misses files.new }) result }
+    ensures done { IfOk result (λ changes.
+        AreDoneWith options.now place (map (λ name. name.now) names.now)
+        (ends (K.taken out.old) (F.holds files.old) (E.taken notes.old))
+        (ends (K.taken out.new) (F.holds files.new) (E.taken notes.new)) changes) }
+    ensures refused { IfErr result (AreRefused options.now place (map (λ name. name.now) names.now)
+        (ends (K.taken out.old) (F.holds files.old) (E.taken notes.old))
+        (ends (K.taken out.new) (F.holds files.new) (E.taken notes.new))) }
+    ensures counts { (f : Faults) →
+        Counted (record f {
+          out = K.faults out.old;
+          notes = E.faults notes.old;
+          files = F.faults files.old;
+          misses = F.misses files.old;
+        }) (record f {
+          out = K.faults out.new;
+          notes = E.faults notes.new;
+          files = F.faults files.new;
+          misses = F.misses files.new;
+        }) result }
 {
     let mut changes = false;
     for name in names {

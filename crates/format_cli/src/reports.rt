@@ -20,7 +20,8 @@ pub fn tell_reports<E: Sink>(
     notes: &mut E,
 ) -> Result<(), Failed>
     requires { budget ≤ 16000000 }
-    ensures ok { OnOk result (Appends (E.taken notes.old) (E.taken notes.new) (report_rows name.now budget reports.now)) }
+    ensures ok { OnOk result
+        (Appends (E.taken notes.old) (E.taken notes.new) (report_rows name.now budget reports.now)) }
     ensures part { AppendsPart (E.taken notes.old) (E.taken notes.new) (report_rows name.now budget reports.now) }
     ensures counts { Counts (E.faults notes.old) (E.faults notes.new) result }
 {
@@ -72,8 +73,10 @@ fn tell_report<E: Sink>(
 /// Tells in which run a line is reported, and for how many cells.
 fn tell_run<E: Sink>(run: u32, budget: u64, notes: &mut E) -> Result<(), Failed>
     requires { budget ≤ 16000000 }
-    ensures ok { OnOk result (Appends (E.taken notes.old) (E.taken notes.new) (numbered_row [] [] run (codes ": not searched within ") ++ numbered_row [] [] budget (codes " cells\n"))) }
-    ensures part { AppendsPart (E.taken notes.old) (E.taken notes.new) (numbered_row [] [] run (codes ": not searched within ") ++ numbered_row [] [] budget (codes " cells\n")) }
+    ensures ok { OnOk result (Appends (E.taken notes.old) (E.taken notes.new)
+        (numbered_row [] [] run (codes ": not searched within ") ++ numbered_row [] [] budget (codes " cells\n"))) }
+    ensures part { AppendsPart (E.taken notes.old) (E.taken notes.new)
+        (numbered_row [] [] run (codes ": not searched within ") ++ numbered_row [] [] budget (codes " cells\n")) }
     ensures counts { Counts (E.faults notes.old) (E.faults notes.new) result }
 {
     write_number("", "", run, ": not searched within ", notes)?;

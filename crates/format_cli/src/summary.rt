@@ -25,8 +25,10 @@ pub fn tell_input<'a, 's, E: Sink>(
     notes: &mut E,
 ) -> Result<(), Failed>
     requires { budget ≤ 16000000 }
-    ensures ok { OnOk result (Appends (E.taken notes.old) (E.taken notes.new) (input_rows place name.now budget formatted.now.reports.now formatted.now.counts formatted.now.changed)) }
-    ensures part { AppendsPart (E.taken notes.old) (E.taken notes.new) (input_rows place name.now budget formatted.now.reports.now formatted.now.counts formatted.now.changed) }
+    ensures ok { OnOk result (Appends (E.taken notes.old) (E.taken notes.new)
+        (input_rows place name.now budget formatted.now.reports.now formatted.now.counts formatted.now.changed)) }
+    ensures part { AppendsPart (E.taken notes.old) (E.taken notes.new)
+        (input_rows place name.now budget formatted.now.reports.now formatted.now.counts formatted.now.changed) }
     ensures counts { FaultCounts (E.faults notes.old) (E.faults notes.new) result }
 {
     match place {
@@ -64,7 +66,8 @@ fn tell_summary<E: Sink>(
     changed: bool,
     notes: &mut E,
 ) -> Result<(), Failed>
-    ensures ok { OnOk result (Appends (E.taken notes.old) (E.taken notes.new) (summary_row name.now counts.now changed)) }
+    ensures ok { OnOk result
+        (Appends (E.taken notes.old) (E.taken notes.new) (summary_row name.now counts.now changed)) }
     ensures part { AppendsPart (E.taken notes.old) (E.taken notes.new) (summary_row name.now counts.now changed) }
     ensures counts { FaultCounts (E.faults notes.old) (E.faults notes.new) result }
 {

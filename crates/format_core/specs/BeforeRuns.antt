@@ -1,5 +1,6 @@
 -- What is decided before the runs: docs/PROFILE.md, "Gaps that no run decides".
-use Rattle.std.specs.Prelude.{◌==◌, ◌&&◌, not, ℕ, ◌+◌, Bool, false, Option, Some, None, List, [], ◌∷◌, ◌++◌, length, replicate, if◌then◌else◌}
+use Rattle.std.specs.Prelude.{◌==◌, ◌&&◌, not, ℕ, ◌+◌, Bool, false, Option, Some, None, List, [], ◌∷◌, ◌++◌, length}
+use Rattle.std.specs.Prelude.{replicate, if◌then◌else◌}
 use Rattle.style_table.specs.declared.style.Style.{Style}
 use Rattle.token_arena.specs.Stored.{Stored}
 use Rattle.token_arena.specs.Gaps.{Contents}
@@ -23,7 +24,8 @@ abbrev pub ends_in_backslash : Option Stored → Bool
 ends_in_backslash None = false
 ends_in_backslash (Some token) = is_behind_backslash (guard_of token)
 
--- a line end where there was one, or where the style wants one behind items; what stood there behind a last backslash; otherwise nothing
+-- a line end where there was one, or where the style wants one behind items; what stood there behind a last backslash;
+-- otherwise nothing
 abbrev pub last_decision : Style → Contents → Decision
 last_decision style arena =
     let place = length arena.tokens in
@@ -37,7 +39,8 @@ last_slot style arena = record { decision = last_decision style arena; end = 0 }
 
 -- ## All gaps
 
--- the decisions before the runs, where these lines are asked for: first the gaps that stay, then those of directives, and the last gap
+-- the decisions before the runs, where these lines are asked for: first the gaps that stay, then those of directives,
+-- and the last gap
 abbrev pub early_decisions : Style → Contents → Option (List LineRange) → List (ℕ × Slot)
 early_decisions style arena ranges =
     made_from (kept_at style.tab_width arena (frozen_gaps arena ranges)) 0 (length arena.tokens + 1)
@@ -45,4 +48,5 @@ early_decisions style arena ranges =
 
 -- the plan before the runs
 abbrev pub early_plan : Style → Contents → Option (List LineRange) → List (Option Slot)
-early_plan style arena ranges = decided_all (replicate (length arena.tokens + 1) None) (early_decisions style arena ranges)
+early_plan style arena ranges =
+    decided_all (replicate (length arena.tokens + 1) None) (early_decisions style arena ranges)

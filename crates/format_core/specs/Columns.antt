@@ -5,7 +5,9 @@ use Rattle.run_layout.specs.InputColumns.{column_through}
 use Rattle.run_layout.specs.Rows.{column_behind}
 use Rattle.token_classes.specs.Items.{item_at}
 
--- The column at which what stands behind the gap at a place begins in the input: an item there, or the end behind the last gap. Items are passed by the widths of their rows, and gaps byte by byte.
+-- The column at which what stands behind the gap at a place begins in the input: an item there, or the end behind the
+-- last gap. Items are passed by the widths of their rows, and gaps byte by byte.
 abbrev pub column_at : ℕ → Contents → ℕ → ℕ
 column_at tab arena zero = column_through tab 0 (gap_of arena 0)
-column_at tab arena (suc id) = column_through tab (column_behind (column_at tab arena id) (item_at arena id)) (gap_of arena (suc id))
+column_at tab arena (suc id) =
+    column_through tab (column_behind (column_at tab arena id) (item_at arena id)) (gap_of arena (suc id))

@@ -19,18 +19,25 @@ use Rattle.format_core.specs.Kept.{is_kept}
 
 -- The plan before the runs decides only what may stand.
 abbrev pub EarlyPlansAreSound : Type 0
-EarlyPlansAreSound = (style : Style) (arena : Contents) (ranges : Option (List LineRange)) → HoldsItems arena → IsSound arena (early_plan style arena ranges)
+EarlyPlansAreSound =
+    (style : Style) (arena : Contents) (ranges : Option (List LineRange)) → HoldsItems arena →
+    IsSound arena (early_plan style arena ranges)
 
 -- A gap that stays has its bytes there, and what stands behind it its column of the input.
 abbrev pub EarlyPlansKeep : Type 0
-EarlyPlansKeep = (style : Style) (arena : Contents) (ranges : Option (List LineRange)) (place : ℕ) → place ≤ length arena.tokens → is_kept arena (frozen_gaps arena ranges) place ≡ true
+EarlyPlansKeep =
+    (style : Style) (arena : Contents) (ranges : Option (List LineRange)) (place : ℕ) → place ≤ length arena.tokens →
+    is_kept arena (frozen_gaps arena ranges) place ≡ true
     → slot_of (early_plan style arena ranges) place ≡ Some (kept_slot (column_at style.tab_width arena place))
 
 -- the item at a place is there, of a text and not dead
 abbrev pub IsLeft : Contents → ℕ → Type 0
-IsLeft arena place = (place < length arena.tokens) × (stance_in (sections_of arena) place ≡ OfText) × (is_dead (marks_of arena) place ≡ false)
+IsLeft arena place =
+    (place < length arena.tokens) × (stance_in (sections_of arena) place ≡ OfText)
+    × (is_dead (marks_of arena) place ≡ false)
 
 -- Each gap is decided that isn't before a live item of a text, which some run sees.
 abbrev pub EarlyOrLeft : Type 0
-EarlyOrLeft = (style : Style) (arena : Contents) (ranges : Option (List LineRange)) (place : ℕ) → place ≤ length arena.tokens
+EarlyOrLeft =
+    (style : Style) (arena : Contents) (ranges : Option (List LineRange)) (place : ℕ) → place ≤ length arena.tokens
     → IsSome (slot_of (early_plan style arena ranges) place) ⊎ IsLeft arena place

@@ -16,8 +16,11 @@ use Rattle.format_core.specs.LineEnds.{ends_by}
 use Rattle.format_core.specs.Plans.{IsPlanOf}
 use Rattle.format_core.specs.Reports.{AreCounts}
 
--- The second text is that of a plan for the items of the first in this style, read in this dialect, where these lines are asked for, or all without ranges; no line that the budget suffices for is left out of the search, and these are the reports of those that are.
-pub record Formats (style : Style) (ranges : Option (List LineRange)) (budget : ℕ) (d : Dialect) (b c : List ℕ) (reports : List Report) : Type 0 where
+-- The second text is that of a plan for the items of the first in this style, read in this dialect, where these lines
+-- are asked for, or all without ranges; no line that the budget suffices for is left out of the search, and these are
+-- the reports of those that are.
+pub record Formats (style : Style) (ranges : Option (List LineRange)) (budget : ℕ) (d : Dialect) (b c : List ℕ)
+    (reports : List Report) : Type 0 where
   pub contents : Contents
   pub text : contents.text ≡ b
   pub dialect : contents.dialect ≡ d
@@ -29,6 +32,7 @@ pub record Formats (style : Style) (ranges : Option (List LineRange)) (budget : 
   pub reported : reports ≡ reports_of done
 
 -- the same, and these are the counts of that plan's lines
-pub record IsFormatted (style : Style) (ranges : Option (List LineRange)) (budget : ℕ) (d : Dialect) (b c : List ℕ) (reports : List Report) (counts : Counts) : Type 0 where
+pub record IsFormatted (style : Style) (ranges : Option (List LineRange)) (budget : ℕ) (d : Dialect) (b c : List ℕ)
+    (reports : List Report) (counts : Counts) : Type 0 where
   pub formats : Formats style ranges budget d b c reports
   pub counted : AreCounts formats.contents formats.done counts

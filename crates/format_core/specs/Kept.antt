@@ -10,13 +10,15 @@ use Rattle.format_core.specs.Joined.{is_backslash, is_beside_joined, is_behind_j
 use Rattle.format_core.specs.declared.early_gaps.behind.Behind.{Behind}
 use Rattle.format_core.specs.declared.early_gaps.columns.InputColumn.{InputColumn}
 
--- The gap at a place stays: it is marked, since formatting is off there or nobody asked for its line; or it stands beside a dead item, or in a row behind a backslash.
+-- The gap at a place stays: it is marked, since formatting is off there or nobody asked for its line; or it stands
+-- beside a dead item, or in a row behind a backslash.
 abbrev pub is_kept : Contents → List Bool → ℕ → Bool
 is_kept arena frozen place = get_or frozen place false || (is_beside_dead arena place || is_beside_joined arena place)
 
 -- Its bytes stay, and what stands behind it has its column of the input.
 abbrev pub kept_at : ℕ → Contents → List Bool → ℕ → Option Slot
-kept_at tab arena frozen place = if is_kept arena frozen place then Some (kept_slot (column_at tab arena place)) else None
+kept_at tab arena frozen place =
+    if is_kept arena frozen place then Some (kept_slot (column_at tab arena place)) else None
 
 -- What the code keeps.
 

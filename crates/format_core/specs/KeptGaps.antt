@@ -7,7 +7,8 @@ pub use Rattle.run_layout.specs.InputColumns.{column_past, column_through, input
 use Rattle.run_layout.specs.Rows.{column_behind}
 use Rattle.token_classes.specs.Items.{item_at}
 
--- The decisions for the gaps of these items that are marked, where the item before them ends at this column of the input.
+-- The decisions for the gaps of these items that are marked, where the item before them ends at this column of the
+-- input.
 abbrev pub kept_decisions : Style → Contents → ℕ → List ℕ → List Bool → List (ℕ × Slot)
 kept_decisions style arena column [] marks = []
 kept_decisions style arena column (id ∷ ids) [] = []

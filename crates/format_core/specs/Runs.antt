@@ -26,7 +26,8 @@ seen_by arena run = view_of (tree_of (marks_of arena)) run
 
 -- the plan after what stays as it is between these items is decided
 abbrev pub after_kept : Style → Contents → List (Option Slot) → List ℕ → List (Option Slot)
-after_kept style arena plan ids = decided_all plan (kept_decisions style arena 0 ids (kept_gaps_of (classes_of arena ids)))
+after_kept style arena plan ids =
+    decided_all plan (kept_decisions style arena 0 ids (kept_gaps_of (classes_of arena ids)))
 
 -- the gap before each of these items is decided
 abbrev pub AreDecided : List (Option Slot) → List ℕ → Type 0
@@ -34,4 +35,5 @@ AreDecided plan ids = (place : ℕ) → place < length ids → IsSome (slot_of p
 
 -- the gap before each item of parts that are noted in a row is decided
 abbrev pub AreRowsDecided : List (Option Slot) → List KnownEnd → Type 0
-AreRowsDecided plan knowns = (id : ℕ) (row : KnownRow) → row_of (get_or knowns id Unknown) ≡ Some row → IsRowDecided plan id row.end
+AreRowsDecided plan knowns =
+    (id : ℕ) (row : KnownRow) → row_of (get_or knowns id Unknown) ≡ Some row → IsRowDecided plan id row.end

@@ -15,31 +15,37 @@ use Rattle.format_core.specs.Runs.{runs_of}
 use Rattle.format_core.specs.declared.runs.Planned.{Planned}
 
 -- behind a part of these items stands this plan, and its lines are told so
-pub record AreItemsTold (style : Style) (budget : ℕ) (arena : Contents) (run : ℕ) (plan : List (Option Slot)) (ids : List ℕ) (final : List (Option Slot)) (before after : Tally) : Type 0 where
+pub record AreItemsTold (style : Style) (budget : ℕ) (arena : Contents) (run : ℕ) (plan : List (Option Slot))
+    (ids : List ℕ) (final : List (Option Slot)) (before after : Tally) : Type 0 where
   pub done : List LaidLine
   pub items : AfterItems style budget arena run plan ids final done
   pub told : IsToldOf done before after
 
 -- the same behind the parts of a view that end so, the first of which begins at this place
-pub record ArePartsTold (style : Style) (budget : ℕ) (arena : Contents) (run : ℕ) (plan : List (Option Slot)) (ids : List ℕ) (begins : Option Place) (first : ℕ) (ends : List PartStop) (final : List (Option Slot)) (before after : Tally) : Type 0 where
+pub record ArePartsTold (style : Style) (budget : ℕ) (arena : Contents) (run : ℕ) (plan : List (Option Slot))
+    (ids : List ℕ) (begins : Option Place) (first : ℕ) (ends : List PartStop) (final : List (Option Slot))
+    (before after : Tally) : Type 0 where
   pub done : List LaidLine
   pub parts : AfterParts style budget arena run plan ids begins first ends final done
   pub told : IsToldOf done before after
 
 -- the same behind the run that sees these items
-pub record AreSeenTold (style : Style) (budget : ℕ) (arena : Contents) (run : ℕ) (plan : List (Option Slot)) (ids : List ℕ) (final : List (Option Slot)) (before after : Tally) : Type 0 where
+pub record AreSeenTold (style : Style) (budget : ℕ) (arena : Contents) (run : ℕ) (plan : List (Option Slot))
+    (ids : List ℕ) (final : List (Option Slot)) (before after : Tally) : Type 0 where
   pub done : List LaidLine
   pub seen : AfterSeen style budget arena run plan ids final done
   pub told : IsToldOf done before after
 
 -- the same behind so many runs from this one on
-pub record AreRunsTold (style : Style) (budget : ℕ) (arena : Contents) (plan : List (Option Slot)) (run count : ℕ) (final : List (Option Slot)) (before after : Tally) : Type 0 where
+pub record AreRunsTold (style : Style) (budget : ℕ) (arena : Contents) (plan : List (Option Slot)) (run count : ℕ)
+    (final : List (Option Slot)) (before after : Tally) : Type 0 where
   pub done : List LaidLine
   pub runs : AfterRuns style budget arena plan run count final done
   pub told : IsToldOf done before after
 
 -- this is the plan of a text, with all that is told of its lines
-pub record IsPlanned (style : Style) (ranges : Option (List LineRange)) (budget : ℕ) (arena : Contents) (made : Planned) : Type 0 where
+pub record IsPlanned (style : Style) (ranges : Option (List LineRange)) (budget : ℕ) (arena : Contents)
+    (made : Planned) : Type 0 where
   pub done : List LaidLine
   pub planned : IsPlanOf style ranges budget arena made.plan done
   pub runs : made.runs ≡ runs_of arena

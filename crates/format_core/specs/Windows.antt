@@ -29,8 +29,10 @@ pub record AreInStep (arena : Contents) (made : Made) (knowns : List KnownEnd) (
   pub rows : AreRowsDecided made.plan knowns
   pub spans : AreSpans arena kept
 
--- the items of a window from one place to before another tell where parts end that begin there, outside brackets or in a body
-pub record AreToldIn (arena : Contents) (view : List ℕ) (begins : Option Place) (first end : ℕ) (inside : Option Place) (told : ℕ) : Type 0 where
+-- the items of a window from one place to before another tell where parts end that begin there, outside brackets or in
+-- a body
+pub record AreToldIn (arena : Contents) (view : List ℕ) (begins : Option Place) (first end : ℕ)
+    (inside : Option Place) (told : ℕ) : Type 0 where
   pub tell : TellParts arena begins (slice_range view first told) (end - first) inside
   pub later : end < told
   pub below : told ≤ length view

@@ -22,8 +22,10 @@ pub(crate) struct KnownBound<'k> {
 /// Takes away the bounds that are told by this item or one behind it. The result is the last one that is left.
 pub(crate) fn last_bound<'k>(bounds: &mut Vec<KnownBound<'k>, &Bump>, first: u32) -> KnownBound<'k>
     ensures low { result.told ≤ first }
-    ensures bounds { (arena : Contents) (view : List ℕ) (told : ℕ) → AreBounds arena view bounds.old.items told → AreBounds arena view bounds.new.items result.told }
-    ensures last { (arena : Contents) (view : List ℕ) (told : ℕ) → AreBounds arena view bounds.old.items told → IsBound arena view result.item result.told (place_in result.inside) }
+    ensures bounds { (arena : Contents) (view : List ℕ) (told : ℕ) → AreBounds arena view bounds.old.items told →
+        AreBounds arena view bounds.new.items result.told }
+    ensures last { (arena : Contents) (view : List ℕ) (told : ℕ) → AreBounds arena view bounds.old.items told →
+        IsBound arena view result.item result.told (place_in result.inside) }
 {
     let mut count = bounds.len();
     while count > 0 {

@@ -50,8 +50,8 @@ pub struct Formatted<'a, 's> {
     pub changed: bool,
 }
 
-/// Formats a text of at most [`LIMIT`] bytes in a style. Where formatting is off, or none of the ranges has the line, the
-/// gaps keep the bytes of the input.
+/// Formats a text of at most [`LIMIT`] bytes in a style. Where formatting is off, or none of the ranges has the line,
+/// the gaps keep the bytes of the input.
 pub fn format<'a, 's>(
     alloc: Global,
     bump: &'a Bump,
@@ -61,7 +61,9 @@ pub fn format<'a, 's>(
 ) -> Result<Formatted<'a, 's>, FormatFault>
     requires range { IsInRange style.now }
     requires budget { job.now.budget ≤ 16000000 }
-    ensures formats { IfOk result (λ f. IsFormatted style.now (option_map (λ ranges. ranges.now) job.now.ranges) job.now.budget job.now.dialect text.now (text_of f.laid) f.reports.now f.counts) }
+    ensures formats { IfOk result (λ f.
+        IsFormatted style.now (option_map (λ ranges. ranges.now) job.now.ranges) job.now.budget job.now.dialect
+        text.now (text_of f.laid) f.reports.now f.counts) }
     ensures twins { IfOk result (λ f. IsTwin job.now.dialect text.now (text_of f.laid)) }
     ensures changed { IfOk result (λ f. f.changed ≡ not (is_same (text_of f.laid) text.now)) }
     ensures fits { IfOk result (λ _. length text.now ≤ LIMIT) }

@@ -24,8 +24,8 @@ pub fn kept_gaps_stay()
     ensures { KeptGapsStay }
 {}
 
-/// Each gap of a text is decided in each of its plans, before the runs or by one of them: no gap keeps its bytes for want
-/// of a decision.
+/// Each gap of a text is decided in each of its plans, before the runs or by one of them: no gap keeps its bytes for
+/// want of a decision.
 pub fn every_gap_is_decided()
     ensures { EveryGapIsDecided }
 {}

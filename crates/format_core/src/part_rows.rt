@@ -27,7 +27,8 @@ pub(crate) fn row_of_part(
     requires some { first < end }
     requires inside { end ≤ length view.now }
     requires item { (d : ℕ) → get_or view.now first d ≡ id.0 }
-    ensures items { IfSome result (λ row. slice_range view.now first end ≡ range_with_len row.first (row.end - row.first)) }
+    ensures items { IfSome result
+        (λ row. slice_range view.now first end ≡ range_with_len row.first (row.end - row.first)) }
     ensures some { IfSome result (λ row. row.first < row.end) }
     ensures below { IfSome result (λ row. row.end ≤ length arena.now.tokens) }
     ensures before { IfSome result (λ row. row.before ≡ 0) }

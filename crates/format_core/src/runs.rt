@@ -87,7 +87,8 @@ fn lay_out_items(
     requires room { made.old.tally.searched + length view.now < 2 ^ 60 }
     requires cheap { made.old.tally.cost ≤ made.old.tally.searched * 18446744073709551615 }
     requires counted { IsCounted context.now.arena.now made.old.tally.lines }
-    ensures told { OnOk result (AreItemsTold context.now.style.now context.now.budget context.now.arena.now number made.old.plan view.now made.new.plan made.old.tally made.new.tally) }
+    ensures told { OnOk result (AreItemsTold context.now.style.now context.now.budget context.now.arena.now number
+        made.old.plan view.now made.new.plan made.old.tally made.new.tally) }
     ensures len { OnOk result (length made.new.plan ≡ length made.old.plan) }
     ensures room { OnOk result (made.new.tally.searched ≤ made.old.tally.searched + length view.now) }
     ensures cheap { OnOk result (made.new.tally.cost ≤ made.new.tally.searched * 18446744073709551615) }
@@ -161,7 +162,9 @@ fn lay_out_part(
     requires room { made.old.tally.searched + 67 * (end - first) < 2 ^ 60 }
     requires cheap { made.old.tally.cost ≤ made.old.tally.searched * 18446744073709551615 }
     requires counted { IsCounted context.now.arena.now made.old.tally.lines }
-    ensures told { OnOk result (AreItemsTold context.now.style.now context.now.budget context.now.arena.now window.now.number made.old.plan (laid_items (place_in inside.entry) window.now.view first end) made.new.plan made.old.tally made.new.tally) }
+    ensures told { OnOk result (AreItemsTold context.now.style.now context.now.budget context.now.arena.now
+        window.now.number made.old.plan (laid_items (place_in inside.entry) window.now.view first end) made.new.plan
+        made.old.tally made.new.tally) }
     ensures len { OnOk result (length made.new.plan ≡ length made.old.plan) }
     ensures room { OnOk result (made.new.tally.searched ≤ made.old.tally.searched + 67 * (end - first)) }
     ensures cheap { OnOk result (made.new.tally.cost ≤ made.new.tally.searched * 18446744073709551615) }
@@ -244,14 +247,18 @@ fn pass_row(
     requires known { AreKnown arena.now known.old }
     ensures known { AreKnown arena.now known.new }
     ensures rows { (plan : List (Option Slot)) → AreRowsDecided plan known.old → AreRowsDecided plan known.new }
-    ensures parts { IfSome result (λ parts. ArePartsUpTo arena.now view.now None way.old.first (record { end = parts.end; inside = None })) }
-    ensures decided { IfSome result (λ parts. (plan : List (Option Slot)) → AreRowsDecided plan known.old → AreDecided plan (slice_range view.now way.old.first parts.end)) }
+    ensures parts { IfSome result
+        (λ parts. ArePartsUpTo arena.now view.now None way.old.first (record { end = parts.end; inside = None })) }
+    ensures decided { IfSome result (λ parts.
+        (plan : List (Option Slot)) → AreRowsDecided plan known.old →
+        AreDecided plan (slice_range view.now way.old.first parts.end)) }
     ensures begins { IfSome result (λ parts. way.old.inside ≡ None) }
     ensures outside { IfSome result (λ parts. parts.inside ≡ None) }
     ensures some { IfSome result (λ parts. way.old.first < parts.end) }
     ensures inside { IfSome result (λ parts. parts.end ≤ length view.now) }
     ensures end { IfSome result (λ parts. way.new.first ≡ parts.end) }
-    ensures told { IfSome result (λ parts. ForSome parts.told (λ told. AreToldIn arena.now view.now None way.old.first parts.end None told)) }
+    ensures told { IfSome result
+        (λ parts. ForSome parts.told (λ told. AreToldIn arena.now view.now None way.old.first parts.end None told)) }
     ensures whole { IfSome result (λ parts. ForNone parts.told (parts.end ≡ length view.now)) }
     ensures always { IfSome result (λ parts. IsSome parts.told) }
     ensures stays { ForNone result (way.new.first ≡ way.old.first) }
@@ -309,25 +316,43 @@ fn lay_out_next<'k>(
     requires window { IsWindow context.now.arena.now window.now.number window.now.view window.now.first window.now.end }
     requires here { way.old.first < length window.now.view }
     requires item { (d : ℕ) → get_or window.now.view way.old.first d ≡ id.0 }
-    requires begins { ForSome (place_in way.old.inside) (λ place. StandsBefore place (get_or window.now.view way.old.first 0)) }
+    requires begins { ForSome (place_in way.old.inside)
+        (λ place. StandsBefore place (get_or window.now.view way.old.first 0)) }
     requires items { All (λ id. id < length context.now.arena.now.tokens) (items_before (place_in way.old.inside)) }
     requires decided { All (λ id. IsSome (slot_of made.old.plan id)) (items_before (place_in way.old.inside)) }
     requires room { made.old.tally.searched + 67 * (length window.now.view - way.old.first) < 2 ^ 60 }
     requires state { AreInStep context.now.arena.now made.old known.old.ends known.old.spans.spans.items }
     ensures state { OnOk result (AreInStep context.now.arena.now made.new known.new.ends known.new.spans.spans.items) }
-    ensures on { OnOk result ((plan : List (Option Slot)) (before : Tally) → GoesOnFrom context.now.style.now context.now.budget context.now.arena.now window.now.number plan (seen_by context.now.arena.now window.now.number) before made.old.plan (place_in way.old.inside) (place_before context.now.arena.now window.now.number window.now.first + way.old.first) made.old.tally → GoesOnFrom context.now.style.now context.now.budget context.now.arena.now window.now.number plan (seen_by context.now.arena.now window.now.number) before made.new.plan (place_in way.new.inside) (place_before context.now.arena.now window.now.number window.now.first + way.new.first) made.new.tally) }
-    ensures room { OnOk result (made.new.tally.searched ≤ made.old.tally.searched + 67 * (way.new.first - way.old.first)) }
+    ensures on { OnOk result ((plan : List (Option Slot)) (before : Tally) →
+        GoesOnFrom context.now.style.now context.now.budget context.now.arena.now window.now.number plan
+        (seen_by context.now.arena.now window.now.number) before made.old.plan (place_in way.old.inside)
+        (place_before context.now.arena.now window.now.number window.now.first + way.old.first) made.old.tally →
+        GoesOnFrom context.now.style.now context.now.budget context.now.arena.now window.now.number plan
+        (seen_by context.now.arena.now window.now.number) before made.new.plan (place_in way.new.inside)
+        (place_before context.now.arena.now window.now.number window.now.first + way.new.first) made.new.tally) }
+    ensures room { OnOk result
+        (made.new.tally.searched ≤ made.old.tally.searched + 67 * (way.new.first - way.old.first)) }
     ensures within { OnOk result (way.new.first ≤ length window.now.view) }
     ensures end { IfOk result (λ found. IfSome found (λ parts. way.new.first ≡ parts.end)) }
     ensures inside { IfOk result (λ found. IfSome found (λ parts. way.new.inside ≡ parts.inside)) }
-    ensures place { IfOk result (λ found. IfSome found (λ parts. ForSome (place_in parts.inside) (λ place. StandsBefore place (get_or window.now.view parts.end 0)))) }
-    ensures items { OnOk result (All (λ id. id < length context.now.arena.now.tokens) (items_before (place_in way.new.inside))) }
-    ensures decided { OnOk result (All (λ id. IsSome (slot_of made.new.plan id)) (items_before (place_in way.new.inside))) }
+    ensures place { IfOk result (λ found.
+        IfSome found (λ parts.
+        ForSome (place_in parts.inside) (λ place. StandsBefore place (get_or window.now.view parts.end 0)))) }
+    ensures items { OnOk result
+        (All (λ id. id < length context.now.arena.now.tokens) (items_before (place_in way.new.inside))) }
+    ensures decided { OnOk result
+        (All (λ id. IsSome (slot_of made.new.plan id)) (items_before (place_in way.new.inside))) }
     ensures some { IfOk result (λ found. IfSome found (λ parts. way.old.first < parts.end)) }
-    ensures told { IfOk result (λ found. IfSome found (λ parts. ForSome parts.told (λ told. AreToldIn context.now.arena.now window.now.view (place_in way.old.inside) way.old.first parts.end (place_in parts.inside) told))) }
-    ensures whole { IfOk result (λ found. IfSome found (λ parts. ForNone parts.told (parts.end ≡ length window.now.view))) }
+    ensures told { IfOk result (λ found.
+        IfSome found (λ parts.
+        ForSome parts.told (λ told.
+        AreToldIn context.now.arena.now window.now.view (place_in way.old.inside) way.old.first parts.end
+        (place_in parts.inside) told))) }
+    ensures whole { IfOk result
+        (λ found. IfSome found (λ parts. ForNone parts.told (parts.end ≡ length window.now.view))) }
     ensures none { IfOk result (λ found. ForNone found (window.now.end < length context.now.arena.now.tokens)) }
-    ensures stays { IfOk result (λ found. ForNone found ((way.new.first ≡ way.old.first) × (way.new.inside ≡ way.old.inside))) }
+    ensures stays { IfOk result
+        (λ found. ForNone found ((way.new.first ≡ way.old.first) × (way.new.inside ≡ way.old.inside))) }
     ensures bounds { OnOk result (known.new.bounds.items ≡ known.old.bounds.items) }
     ensures same { OnOk result (way.new.told ≡ way.old.told) }
 {
@@ -376,14 +401,21 @@ fn note_bound<'k>(
     requires within { AreWithin arena.now window.now.view }
     requires window { IsWindow arena.now window.now.number window.now.view window.now.first window.now.end }
     requires some { first < parts.end }
-    requires told { ForSome parts.told (λ told. AreToldIn arena.now window.now.view (place_in begins) first parts.end (place_in parts.inside) told) }
+    requires told { ForSome parts.told
+        (λ told. AreToldIn arena.now window.now.view (place_in begins) first parts.end (place_in parts.inside) told) }
     requires whole { ForNone parts.told (parts.end ≡ length window.now.view) }
-    requires begin { IsTrue window.now.later → BeginTold arena.now (items_between 0 way.old.told (seen_by arena.now window.now.number)) (place_before arena.now window.now.number window.now.first + first) (place_in begins) }
+    requires begin { IsTrue window.now.later →
+        BeginTold arena.now (items_between 0 way.old.told (seen_by arena.now window.now.number))
+        (place_before arena.now window.now.number window.now.first + first) (place_in begins) }
     requires bounds { AreBounds arena.now (seen_by arena.now window.now.number) bounds.old.items way.old.told }
     ensures first { OnOk result (way.new.first ≡ way.old.first) }
     ensures inside { OnOk result (way.new.inside ≡ way.old.inside) }
-    ensures begin { OnOk result (IsTrue window.now.later → parts.entry.end < length window.now.view → BeginTold arena.now (items_between 0 way.new.told (seen_by arena.now window.now.number)) (place_before arena.now window.now.number window.now.first + parts.entry.end) (place_in parts.entry.inside)) }
-    ensures bounds { OnOk result (AreBounds arena.now (seen_by arena.now window.now.number) bounds.new.items way.new.told) }
+    ensures begin { OnOk result (IsTrue window.now.later → parts.entry.end < length window.now.view →
+        BeginTold arena.now (items_between 0 way.new.told (seen_by arena.now window.now.number))
+        (place_before arena.now window.now.number window.now.first + parts.entry.end)
+        (place_in parts.entry.inside)) }
+    ensures bounds { OnOk result
+        (AreBounds arena.now (seen_by arena.now window.now.number) bounds.new.items way.new.told) }
 {
     if !window.later {
         return Ok(());
@@ -431,26 +463,53 @@ fn lay_out_window<'k>(
     requires window { IsWindow context.now.arena.now window.now.number window.now.view window.now.first window.now.end }
     requires new { window.now.new_end ≤ window.now.end }
     requires start { way.old.first ≡ 0 }
-    requires begins { ForSome (place_in way.old.inside) (λ place. StandsBefore place (get_or (seen_by context.now.arena.now window.now.number) (place_before context.now.arena.now window.now.number window.now.first) 0)) }
+    requires begins { ForSome (place_in way.old.inside) (λ place.
+        StandsBefore place (get_or (seen_by context.now.arena.now window.now.number)
+        (place_before context.now.arena.now window.now.number window.now.first) 0)) }
     requires items { All (λ id. id < length context.now.arena.now.tokens) (items_before (place_in way.old.inside)) }
     requires decided { All (λ id. IsSome (slot_of made.old.plan id)) (items_before (place_in way.old.inside)) }
     requires room { made.old.tally.searched ≤ 2 ^ 59 + 4294967296 }
     requires state { AreInStep context.now.arena.now made.old known.old.ends known.old.spans.spans.items }
-    requires begin { IsTrue window.now.later → BeginTold context.now.arena.now (items_between 0 way.old.told (seen_by context.now.arena.now window.now.number)) (place_before context.now.arena.now window.now.number window.now.first) (place_in way.old.inside) }
-    requires bounds { AreBounds context.now.arena.now (seen_by context.now.arena.now window.now.number) known.old.bounds.items way.old.told }
+    requires begin { IsTrue window.now.later →
+        BeginTold context.now.arena.now
+        (items_between 0 way.old.told (seen_by context.now.arena.now window.now.number))
+        (place_before context.now.arena.now window.now.number window.now.first) (place_in way.old.inside) }
+    requires bounds { AreBounds context.now.arena.now (seen_by context.now.arena.now window.now.number)
+        known.old.bounds.items way.old.told }
     ensures state { OnOk result (AreInStep context.now.arena.now made.new known.new.ends known.new.spans.spans.items) }
-    ensures on { OnOk result ((plan : List (Option Slot)) (before : Tally) → GoesOnFrom context.now.style.now context.now.budget context.now.arena.now window.now.number plan (seen_by context.now.arena.now window.now.number) before made.old.plan (place_in way.old.inside) (place_before context.now.arena.now window.now.number window.now.first) made.old.tally → GoesOnFrom context.now.style.now context.now.budget context.now.arena.now window.now.number plan (seen_by context.now.arena.now window.now.number) before made.new.plan (place_in way.new.inside) (place_before context.now.arena.now window.now.number window.now.first + way.new.first) made.new.tally) }
+    ensures on { OnOk result ((plan : List (Option Slot)) (before : Tally) →
+        GoesOnFrom context.now.style.now context.now.budget context.now.arena.now window.now.number plan
+        (seen_by context.now.arena.now window.now.number) before made.old.plan (place_in way.old.inside)
+        (place_before context.now.arena.now window.now.number window.now.first) made.old.tally →
+        GoesOnFrom context.now.style.now context.now.budget context.now.arena.now window.now.number plan
+        (seen_by context.now.arena.now window.now.number) before made.new.plan (place_in way.new.inside)
+        (place_before context.now.arena.now window.now.number window.now.first + way.new.first) made.new.tally) }
     ensures room { OnOk result (made.new.tally.searched ≤ made.old.tally.searched + 67 * way.new.first) }
     ensures inside { OnOk result (way.new.first ≤ length window.now.view) }
-    ensures bounds { OnOk result (AreBounds context.now.arena.now (seen_by context.now.arena.now window.now.number) known.new.bounds.items way.new.told) }
-    ensures begin { IfOk result (λ found. IfSome found (λ id. IsTrue window.now.later → BeginTold context.now.arena.now (items_between 0 way.new.told (seen_by context.now.arena.now window.now.number)) (place_before context.now.arena.now window.now.number window.now.first + way.new.first) (place_in way.new.inside))) }
+    ensures bounds { OnOk result (AreBounds context.now.arena.now (seen_by context.now.arena.now window.now.number)
+        known.new.bounds.items way.new.told) }
+    ensures begin { IfOk result (λ found.
+        IfSome found (λ id.
+        IsTrue window.now.later →
+        BeginTold context.now.arena.now
+        (items_between 0 way.new.told (seen_by context.now.arena.now window.now.number))
+        (place_before context.now.arena.now window.now.number window.now.first + way.new.first)
+        (place_in way.new.inside))) }
     ensures stopped { IfOk result (λ found. IfSome found (λ id. id.0 ≡ get_or window.now.view way.new.first 0)) }
     ensures here { IfOk result (λ found. IfSome found (λ id. way.new.first < length window.now.view)) }
-    ensures place { OnOk result (ForSome (place_in way.new.inside) (λ place. StandsBefore place (get_or (seen_by context.now.arena.now window.now.number) (place_before context.now.arena.now window.now.number window.now.first + way.new.first) 0))) }
-    ensures items { OnOk result (All (λ id. id < length context.now.arena.now.tokens) (items_before (place_in way.new.inside))) }
-    ensures decided { OnOk result (All (λ id. IsSome (slot_of made.new.plan id)) (items_before (place_in way.new.inside))) }
+    ensures place { OnOk result (ForSome (place_in way.new.inside) (λ place.
+        StandsBefore place (get_or (seen_by context.now.arena.now window.now.number)
+        (place_before context.now.arena.now window.now.number window.now.first + way.new.first) 0))) }
+    ensures items { OnOk result
+        (All (λ id. id < length context.now.arena.now.tokens) (items_before (place_in way.new.inside))) }
+    ensures decided { OnOk result
+        (All (λ id. IsSome (slot_of made.new.plan id)) (items_before (place_in way.new.inside))) }
     ensures short { IfOk result (λ found. IfSome found (λ id. window.now.end < length context.now.arena.now.tokens)) }
-    ensures done { IfOk result (λ found. ForNone found ((k : ℕ) → place_before context.now.arena.now window.now.number window.now.first + way.new.first ≤ k → k < length (seen_by context.now.arena.now window.now.number) → window.now.new_end ≤ get_or (seen_by context.now.arena.now window.now.number) k 0)) }
+    ensures done { IfOk result (λ found.
+        ForNone found ((k : ℕ) →
+        place_before context.now.arena.now window.now.number window.now.first + way.new.first ≤ k →
+        k < length (seen_by context.now.arena.now window.now.number) →
+        window.now.new_end ≤ get_or (seen_by context.now.arena.now window.now.number) k 0)) }
 {
     let view = &window.view;
     let count = view.len();
@@ -502,15 +561,23 @@ fn lay_out_seen<'k>(
     requires number { turn.now.number < runs_of context.now.arena.now }
     requires room { made.old.tally.searched ≤ 2 ^ 59 }
     requires state { AreInStep context.now.arena.now made.old known.old.ends known.old.spans.spans.items }
-    requires bound { IsBound context.now.arena.now (seen_by context.now.arena.now turn.now.number) turn.now.bound.item turn.now.bound.told (place_in turn.now.bound.inside) }
-    requires bounds { AreBounds context.now.arena.now (seen_by context.now.arena.now turn.now.number) known.old.bounds.items turn.now.bound.told }
+    requires bound { IsBound context.now.arena.now (seen_by context.now.arena.now turn.now.number) turn.now.bound.item
+        turn.now.bound.told (place_in turn.now.bound.inside) }
+    requires bounds { AreBounds context.now.arena.now (seen_by context.now.arena.now turn.now.number)
+        known.old.bounds.items turn.now.bound.told }
     requires new { turn.now.new_end ≤ length context.now.arena.now.tokens }
-    requires before { (id : ℕ) → id < turn.now.bound.item → Contains (seen_by context.now.arena.now turn.now.number) id → IsSome (slot_of made.old.plan id) }
-    requires behind { (id : ℕ) → turn.now.new_end ≤ id → Contains (seen_by context.now.arena.now turn.now.number) id → IsSome (slot_of made.old.plan id) }
-    ensures told { OnOk result (AreSeenTold context.now.style.now context.now.budget context.now.arena.now turn.now.number made.old.plan (seen_by context.now.arena.now turn.now.number) made.new.plan made.old.tally made.new.tally) }
+    requires before { (id : ℕ) → id < turn.now.bound.item →
+        Contains (seen_by context.now.arena.now turn.now.number) id → IsSome (slot_of made.old.plan id) }
+    requires behind { (id : ℕ) → turn.now.new_end ≤ id → Contains (seen_by context.now.arena.now turn.now.number) id →
+        IsSome (slot_of made.old.plan id) }
+    ensures told { OnOk result (AreSeenTold context.now.style.now context.now.budget context.now.arena.now
+        turn.now.number made.old.plan (seen_by context.now.arena.now turn.now.number) made.new.plan made.old.tally
+        made.new.tally) }
     ensures room { OnOk result (made.new.tally.searched ≤ made.old.tally.searched + 4294967296) }
     ensures state { OnOk result (AreInStep context.now.arena.now made.new known.new.ends known.new.spans.spans.items) }
-    ensures bounds { OnOk result ((told : ℕ) × AreBounds context.now.arena.now (seen_by context.now.arena.now turn.now.number) known.new.bounds.items told) }
+    ensures bounds { OnOk result ((told : ℕ)
+        × AreBounds context.now.arena.now (seen_by context.now.arena.now turn.now.number) known.new.bounds.items
+        told) }
 {
     let items = context.arena.len();
     let mut first = turn.bound.item;
@@ -569,8 +636,11 @@ fn change_of(context: &Context<'_>, tree: &CondTree<'_>, number: u32) -> Change
     requires number { number < runs_of context.now.arena.now }
     ensures end { result.end ≤ length context.now.arena.now.tokens }
     ensures first { number ≡ 0 → result.first ≡ 0 }
-    ensures before { 0 < number → items_between 0 result.first (seen_by context.now.arena.now number) ≡ items_between 0 result.first (seen_by context.now.arena.now (number - 1)) }
-    ensures behind { 0 < number → (id : ℕ) → result.end ≤ id → Contains (seen_by context.now.arena.now number) id → Contains (seen_by context.now.arena.now (number - 1)) id }
+    ensures before { 0 < number →
+        items_between 0 result.first (seen_by context.now.arena.now number)
+        ≡ items_between 0 result.first (seen_by context.now.arena.now (number - 1)) }
+    ensures behind { 0 < number → (id : ℕ) → result.end ≤ id → Contains (seen_by context.now.arena.now number) id →
+        Contains (seen_by context.now.arena.now (number - 1)) id }
     ensures all { number ≡ 0 → result.end ≡ length context.now.arena.now.tokens }
 {
     let items = context.arena.len();
@@ -603,7 +673,8 @@ fn lay_out_runs(
     requires none { made.old.tally.searched ≡ 0 }
     requires free { made.old.tally.cost ≡ 0 }
     requires counted { IsCounted context.now.arena.now made.old.tally.lines }
-    ensures told { OnOk result (AreRunsTold context.now.style.now context.now.budget context.now.arena.now made.old.plan 0 (runs_of context.now.arena.now) made.new.plan made.old.tally made.new.tally) }
+    ensures told { OnOk result (AreRunsTold context.now.style.now context.now.budget context.now.arena.now
+        made.old.plan 0 (runs_of context.now.arena.now) made.new.plan made.old.tally made.new.tally) }
     ensures len { OnOk result (length made.new.plan ≡ length made.old.plan) }
 {
     let count = tree.runs();

@@ -1,9 +1,15 @@
 -- Whether a row may end between two tokens, and what that costs: the table of docs/PROFILE.md, "Breaks".
 use Rattle.std.specs.Prelude.{ℕ, ◌+◌, ◌-◌, ◌*◌, Bool, true, false, ◌&&◌, ◌||◌, not, ◌==◌, if◌then◌else◌, [], ◌∷◌}
 use Rattle.line_tokens.specs.Table.{first_row}
-use Rattle.line_tokens.specs.Roles.{is_own, is_decl_name, is_call_or_decl_open, is_ctrl_or_group_open, is_comma_or_semi, is_list_open, is_assign, is_binary, is_ternary, is_round_close, is_member, is_asm_colon}
+use Rattle.line_tokens.specs.Roles.{is_own, is_decl_name, is_call_or_decl_open, is_ctrl_or_group_open, is_comma_or_semi}
+use Rattle.line_tokens.specs.Roles.{is_list_open, is_assign, is_binary, is_ternary, is_round_close, is_member}
+use Rattle.line_tokens.specs.Roles.{is_asm_colon}
 use Rattle.line_tokens.specs.declared.role.Role.{Role}
-use Rattle.line_tokens.specs.declared.role.Role.TheVariants.{Trailing, CtrlOpen, CallOpen, DeclOpen, IndexOpen, DesigOpen, BlockOpen, CtrlClose, CallClose, CastClose, DeclClose, GroupClose, IndexClose, ListClose, Pointer, Unary, Prefix, Postfix, LabelColon, DesigDot, Member, Comma, Semi}
+use Rattle.line_tokens.specs.declared.role.Role.TheVariants.{Trailing, CtrlOpen, CallOpen, DeclOpen, IndexOpen}
+use Rattle.line_tokens.specs.declared.role.Role.TheVariants.{DesigOpen, BlockOpen, CtrlClose, CallClose, CastClose}
+use Rattle.line_tokens.specs.declared.role.Role.TheVariants.{DeclClose, GroupClose, IndexClose, ListClose, Pointer}
+use Rattle.line_tokens.specs.declared.role.Role.TheVariants.{Unary, Prefix, Postfix, LabelColon, DesigDot, Member}
+use Rattle.line_tokens.specs.declared.role.Role.TheVariants.{Comma, Semi}
 use Rattle.line_tokens.specs.declared.LineTok.{LineTok}
 use Rattle.c_grammar.specs.declared.ItemKind.{ItemKind}
 use Rattle.c_grammar.specs.declared.ItemKind.TheVariants.{LineComment, StrayQuote, StringLit}
@@ -95,7 +101,11 @@ break_by_table style left right =
     ∷ (is_decl_name r, Costs style.penalty_return_type_on_its_own_line)
     ∷ (is_never_first r, Not)
     ∷ (is_never_last l, Not)
-    ∷ (is_call_or_decl_open l, Costs (style.penalty_break_before_first_call_parameter + style.penalty_break_open_parenthesis))
+    ∷ (
+      is_call_or_decl_open l,
+      Costs
+          (style.penalty_break_before_first_call_parameter + style.penalty_break_open_parenthesis),
+    )
     ∷ (is_ctrl_or_group_open l, Costs (100 + style.penalty_break_open_parenthesis))
     ∷ (is_comma_or_semi l, Costs 1)
     ∷ (is_list_open l, Costs 10)

@@ -1,5 +1,7 @@
--- Where the row of a line starts, and how many empty lines stand before it. docs/PROFILE.md has both under "Rows of lines".
-use Rattle.std.specs.Prelude.{ℕ, ◌*◌, ◌-◌, ◌==◌, ◌&&◌, ◌||◌, not, min, Bool, true, false, Option, Some, None, if◌then◌else◌}
+-- Where the row of a line starts, and how many empty lines stand before it. docs/PROFILE.md has both under "Rows of
+-- lines".
+use Rattle.std.specs.Prelude.{ℕ, ◌*◌, ◌-◌, ◌==◌, ◌&&◌, ◌||◌, not, min, Bool, true, false, Option, Some, None}
+use Rattle.std.specs.Prelude.{if◌then◌else◌}
 use Rattle.std.specs.Borrow.{Bor}
 use Rattle.style_table.specs.declared.style.Style.{Style}
 use Rattle.line_tokens.specs.declared.LineTok.{LineTok}
@@ -29,10 +31,12 @@ abbrev pub opens_block : Option (Bor LineTok) → Bool
 opens_block None = false
 opens_block (Some token) = is_block_open token.now.role
 
--- No empty line is kept at the file's start, before a `}` that begins a line, and behind the `{` of a block unless the style keeps them there.
+-- No empty line is kept at the file's start, before a `}` that begins a line, and behind the `{` of a block unless the
+-- style keeps them there.
 abbrev pub keeps_none : Style → Option (Bor LineTok) → ULine → LineTok → Bool
 keeps_none style before line first =
-    (first.id.0 == 0) || (begins_with_close line first || (not style.keep_empty_lines_at_the_start_of_blocks && opens_block before))
+    (first.id.0 == 0)
+    || (begins_with_close line first || (not style.keep_empty_lines_at_the_start_of_blocks && opens_block before))
 
 -- the empty lines of the gap before the token, at most MaxEmptyLinesToKeep of them
 abbrev pub empty_lines : Style → Option (Bor LineTok) → ULine → LineTok → ℕ

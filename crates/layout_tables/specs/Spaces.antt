@@ -1,7 +1,10 @@
 -- The blanks between two tokens of a row: the table of docs/PROFILE.md, "Spaces without a break".
 use Rattle.std.specs.Prelude.{ℕ, Bool, true, false, ◌&&◌, ◌||◌, not, ◌==◌, if◌then◌else◌, [], ◌∷◌}
 use Rattle.line_tokens.specs.Table.{first_row}
-use Rattle.line_tokens.specs.Roles.{is_trailing, is_ctrl_open, is_list_open, is_list_close, is_block_open, is_block_close, is_cast_close, is_pointer, is_asm_colon, is_member, is_bracket_open, is_bracket_close, is_comma_or_semi, is_inner_or_stray, is_call_or_decl_open, is_unary_or_prefix, is_member_or_desig_dot}
+use Rattle.line_tokens.specs.Roles.{is_trailing, is_ctrl_open, is_list_open, is_list_close, is_block_open}
+use Rattle.line_tokens.specs.Roles.{is_block_close, is_cast_close, is_pointer, is_asm_colon, is_member, is_bracket_open}
+use Rattle.line_tokens.specs.Roles.{is_bracket_close, is_comma_or_semi, is_inner_or_stray, is_call_or_decl_open}
+use Rattle.line_tokens.specs.Roles.{is_unary_or_prefix, is_member_or_desig_dot}
 use Rattle.line_tokens.specs.declared.role.Role.{Role}
 use Rattle.line_tokens.specs.declared.role.Role.TheVariants.{IndexOpen, Postfix, LabelColon}
 use Rattle.line_tokens.specs.declared.LineTok.{LineTok}

@@ -223,7 +223,9 @@ pub fn gap_rule(style: &Style, left: &LineTok, right: &LineTok) -> GapRule
 /// Whether one of the table's first rows holds, by which a row has to end.
 #[inline(always)]
 fn ends_by_first_rows(style: &Style, left: &LineTok, right: &LineTok) -> bool
-    ensures { result ≡ (((right.now.directive || ends_its_row left.now.kind || is_own right.now.role) || right.now.trailing_list) || ((style.now.column_limit == 0) && not (right.now.gap.lines == 0))) }
+    ensures { result
+        ≡ (((right.now.directive || ends_its_row left.now.kind || is_own right.now.role) || right.now.trailing_list)
+        || ((style.now.column_limit == 0) && not (right.now.gap.lines == 0))) }
 {
     (right.directive | right.trailing_list | ends_its_row(left.kind) | right.role.is_own())
         || (style.column_limit == 0 && right.gap.lines != 0)
@@ -249,7 +251,8 @@ fn is_own_or_trailing(role: Role) -> bool
 /// first in its row. Where there is a limit of columns, nothing else makes a row end there.
 #[inline(always)]
 pub fn stands_behind(left: &LineTok, right: &LineTok) -> bool
-    ensures stays { IsTrue result → (style : Style) → 0 < style.column_limit → (gap_rule style left.now right.now).must ≡ false }
+    ensures stays { IsTrue result → (style : Style) → 0 < style.column_limit →
+        (gap_rule style left.now right.now).must ≡ false }
     ensures places { IsTrue result → is_trailing right.now.role ≡ false }
 {
     let waits = is_own_or_trailing(right.role);

@@ -22,4 +22,5 @@ pub record IsPlain (layout : Layout) (gap : Gap) (rule : GapRule) (brk : Bool) :
 
 -- the columns past the limit that a token adds to the row of the token before it
 abbrev pub excess_beside : Style → ℕ → ℕ → LineTok → ℕ
-excess_beside style column start token = if is_trailing token.role then 0 else excess style (columns start token.first_width) - excess style column
+excess_beside style column start token =
+    if is_trailing token.role then 0 else excess style (columns start token.first_width) - excess style column

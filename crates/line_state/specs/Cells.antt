@@ -16,10 +16,12 @@ HasCounted {S} step root n layouts = (s : S) → IsCounted step root n s → Con
 
 -- the number isn't above the line's cells: whatever list has every counted layout, the sum of its cells is no less
 abbrev pub IsWithinCells : {S : Type 0} → (S → Bool → S → ℕ → Type 0) → S → ℕ → (S → ℕ) → ℕ → Type 0
-IsWithinCells {S} step root n cells told = (layouts : List S) → HasCounted step root n layouts → told ≤ sum_by cells layouts
+IsWithinCells {S} step root n cells told =
+    (layouts : List S) → HasCounted step root n layouts → told ≤ sum_by cells layouts
 
 -- the line's cells: the sum over a list that has the counted layouts and no others, each once
-pub record IsTotal {S : Type 0} (step : S → Bool → S → ℕ → Type 0) (root : S) (n : ℕ) (cells : S → ℕ) (total : ℕ) : Type 0 where
+pub record IsTotal {S : Type 0} (step : S → Bool → S → ℕ → Type 0) (root : S) (n : ℕ) (cells : S → ℕ) (total : ℕ) :
+    Type 0 where
   pub layouts : List S
   pub all : HasCounted step root n layouts
   pub only : (s : S) → Contains layouts s → IsCounted step root n s

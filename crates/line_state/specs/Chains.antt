@@ -1,5 +1,5 @@
--- Groups of numbers by digests: each slot of a group has a chain of links, the last one first. A group without slots has
--- one chain.
+-- Groups of numbers by digests: each slot of a group has a chain of links, the last one first. A group without slots
+-- has one chain.
 use Rattle.std.specs.Prelude.{◌≡◌, ℕ, ◌≤◌, ◌⊎◌, ◌%◌, suc, zero, Some, List, length, slice_get}
 use Rattle.line_state.specs.declared.group.Link.{Link}
 
@@ -14,7 +14,9 @@ IsTold link digest u = (link.digest ≡ digest) × (link.number ≡ u)
 -- the chain that ends there, behind its last link, has the number among its last n links
 abbrev pub IsChained : ℕ → List Link → ℕ → ℕ → ℕ → Type 0
 IsChained zero links end digest u = ⊥
-IsChained (suc n) links end digest u = (at : ℕ) × (link : Link) × (end ≡ suc at) × (slice_get links at ≡ Some link) × (IsTold link digest u ⊎ ((link.before ≤ at) × IsChained n links link.before digest u))
+IsChained (suc n) links end digest u =
+    (at : ℕ) × (link : Link) × (end ≡ suc at) × (slice_get links at ≡ Some link)
+    × (IsTold link digest u ⊎ ((link.before ≤ at) × IsChained n links link.before digest u))
 
 -- .. among all of them
 abbrev pub IsOnChain : List Link → ℕ → ℕ → ℕ → Type 0
@@ -33,7 +35,9 @@ pub record Chained : Type 0 where
 
 -- where the chain ends that has the numbers of a digest
 abbrev pub EndsAt : Chained → ℕ → ℕ → Type 0
-EndsAt group digest end = ((length group.ends ≡ 0) × (end ≡ length group.links)) ⊎ (slice_get group.ends (slot_of (length group.ends) digest) ≡ Some end)
+EndsAt group digest end =
+    ((length group.ends ≡ 0) × (end ≡ length group.links))
+    ⊎ (slice_get group.ends (slot_of (length group.ends) digest) ≡ Some end)
 
 -- the group lists the number under its digest
 abbrev pub Lists : Chained → ℕ → ℕ → Type 0

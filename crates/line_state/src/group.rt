@@ -95,7 +95,8 @@ fn list_in_room(
 ) -> Result<(), AllocError>
     requires slot { slot < length ends.old.items }
     requires room { vec_len links.old < vec_capacity links.old }
-    ensures kept { (i d u : ℕ) → IsListed ends.old.items links.old.items i d u → IsListed ends.new.items links.new.items i d u }
+    ensures kept { (i d u : ℕ) → IsListed ends.old.items links.old.items i d u →
+        IsListed ends.new.items links.new.items i d u }
     ensures len { length ends.new.items ≡ length ends.old.items }
     ensures added { OnOk result (IsListed ends.new.items links.new.items slot digest number) }
 {
@@ -119,7 +120,8 @@ fn list(
     number: usize,
 ) -> Result<(), AllocError>
     requires { slot < length ends.old.items }
-    ensures kept { (i d u : ℕ) → IsListed ends.old.items links.old.items i d u → IsListed ends.new.items links.new.items i d u }
+    ensures kept { (i d u : ℕ) → IsListed ends.old.items links.old.items i d u →
+        IsListed ends.new.items links.new.items i d u }
     ensures len { length ends.new.items ≡ length ends.old.items }
     ensures added { OnOk result (IsListed ends.new.items links.new.items slot digest number) }
 {
@@ -130,7 +132,8 @@ fn list(
 /// Puts a link behind the only chain.
 #[inline(always)]
 fn chain(links: &mut Vec<Link, &Bump>, digest: u64, number: usize) -> Result<(), AllocError>
-    ensures kept { (d u : ℕ) → IsOnChain links.old.items (length links.old.items) d u → IsOnChain links.new.items (length links.new.items) d u }
+    ensures kept { (d u : ℕ) → IsOnChain links.old.items (length links.old.items) d u →
+        IsOnChain links.new.items (length links.new.items) d u }
     ensures added { OnOk result (IsOnChain links.new.items (length links.new.items) digest number) }
 {
     let before = links.len();

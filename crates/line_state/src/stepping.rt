@@ -77,7 +77,11 @@ fn is_just_opened(gap: &Gap, count: u32) -> bool
 fn spot_in(store: &FrameStore<'_>, state: &NodeState, gap: &Gap, left_open: u32) -> Spot
     requires known { IsIn store.now state.now }
     requires known_open { left_open < length store.now }
-    requires list { list_at store.now left_open ≡ record { base = (list_at store.now state.now.node).base; frames = open_frames (layout_in store.now state.now) gap.now } }
+    requires list { list_at store.now left_open
+        ≡ record {
+          base = (list_at store.now state.now.node).base;
+          frames = open_frames (layout_in store.now state.now) gap.now;
+        } }
     ensures { result ≡ spot_of (layout_in store.now state.now) gap.now }
 {
     Spot {
@@ -101,7 +105,12 @@ fn place_in<'r>(
     requires { left_open < length store.old }
     ensures known { IfOk result (λ node. node < length store.new) }
     ensures list { let list = list_at store.old left_open in
-        IfOk result (λ node. list_at store.new node ≡ record { base = list.base; frames = with_opened style.now gap.now.right.role list.base (with_topmost list.frames top) }) }
+        IfOk result (λ node.
+        list_at store.new node
+        ≡ record {
+          base = list.base;
+          frames = with_opened style.now gap.now.right.role list.base (with_topmost list.frames top);
+        }) }
     ensures grown { IsGrown store.old store.new }
 {
     let node = store.with_topmost(left_open, top)?;
@@ -130,11 +139,17 @@ fn step_from<'r>(
     requires index { state.now.index < 4294967295 }
     requires cost { state.now.cost ≤ state.now.index * 18446744073709551615 }
     requires known_open { left_open < length store.old }
-    requires list { list_at store.old left_open ≡ record { base = (list_at store.old state.now.node).base; frames = open_frames (layout_in store.old state.now) gap.now } }
+    requires list { list_at store.old left_open
+        ≡ record {
+          base = (list_at store.old state.now.node).base;
+          frames = open_frames (layout_in store.old state.now) gap.now;
+        } }
     requires spot { spot.now ≡ spot_of (layout_in store.old state.now) gap.now }
     requires rules { AreRules style.now gap.now.left gap.now.right rules.now }
-    ensures layout { IfOk result (λ next. layout_in store.new next ≡ layout_after style.now (layout_in store.old state.now) gap.now brk) }
-    ensures cost { IfOk result (λ next. next.cost ≡ state.now.cost + cost_of style.now (layout_in store.old state.now) gap.now brk) }
+    ensures layout { IfOk result
+        (λ next. layout_in store.new next ≡ layout_after style.now (layout_in store.old state.now) gap.now brk) }
+    ensures cost { IfOk result
+        (λ next. next.cost ≡ state.now.cost + cost_of style.now (layout_in store.old state.now) gap.now brk) }
     ensures bound { IfOk result (λ next. next.cost ≤ next.index * 18446744073709551615) }
     ensures known { IfOk result (IsIn store.new) }
     ensures grown { IsGrown store.old store.new }
@@ -236,7 +251,9 @@ fn step_beside(style: &Style, state: &NodeState, gap: &Gap, rules: &GapRules) ->
     ensures index { result.index ≡ state.now.index + 1 }
     ensures node { result.node ≡ state.now.node }
     ensures column { result.column ≡ end_of gap.now.right (columns state.now.column rules.now.spaces) }
-    ensures cost { result.cost ≡ state.now.cost + style.now.penalty_excess_character * excess_beside style.now state.now.column (columns state.now.column rules.now.spaces) gap.now.right }
+    ensures cost { result.cost
+        ≡ state.now.cost + style.now.penalty_excess_character
+        * excess_beside style.now state.now.column (columns state.now.column rules.now.spaces) gap.now.right }
     ensures bound { result.cost ≤ result.index * 18446744073709551615 }
 {
     let start = state.column.saturating_add(u32::from(rules.spaces));

@@ -13,4 +13,5 @@ is_label _ = false
 -- the lines cut the places from one to before another whole and in order
 abbrev pub CutPlaces : ℕ → ℕ → List ULine → Type 0
 CutPlaces at count [] = at ≡ count
-CutPlaces at count (line ∷ lines) = (line.first ≡ at) × ((line.first ≤ line.last) × CutPlaces (line.last + 1) count lines)
+CutPlaces at count (line ∷ lines) =
+    (line.first ≡ at) × ((line.first ≤ line.last) × CutPlaces (line.last + 1) count lines)

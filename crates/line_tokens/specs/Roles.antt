@@ -1,7 +1,13 @@
 -- Sets of roles: the tests that the tables of spaces, breaks and joined lines are made of.
 use Rattle.std.specs.Prelude.{Bool, true, false}
 use Rattle.line_tokens.specs.declared.role.Role.{Role}
-use Rattle.line_tokens.specs.declared.role.Role.TheVariants.{Own, Trailing, Inner, CtrlOpen, CallOpen, CastOpen, DeclOpen, GroupOpen, IndexOpen, DesigOpen, ListOpen, BlockOpen, CtrlClose, CallClose, CastClose, DeclClose, GroupClose, IndexClose, DesigClose, ListClose, BlockClose, Pointer, Unary, Binary, Prefix, Assign, Question, TernColon, AsmColon, DesigDot, Member, Comma, Semi, DeclName, Stray}
+use Rattle.line_tokens.specs.declared.role.Role.TheVariants.{Own, Trailing, Inner, CtrlOpen, CallOpen, CastOpen}
+use Rattle.line_tokens.specs.declared.role.Role.TheVariants.{DeclOpen, GroupOpen, IndexOpen, DesigOpen, ListOpen}
+use Rattle.line_tokens.specs.declared.role.Role.TheVariants.{BlockOpen, CtrlClose, CallClose, CastClose, DeclClose}
+use Rattle.line_tokens.specs.declared.role.Role.TheVariants.{GroupClose, IndexClose, DesigClose, ListClose, BlockClose}
+use Rattle.line_tokens.specs.declared.role.Role.TheVariants.{Pointer, Unary, Binary, Prefix, Assign, Question}
+use Rattle.line_tokens.specs.declared.role.Role.TheVariants.{TernColon, AsmColon, DesigDot, Member, Comma, Semi}
+use Rattle.line_tokens.specs.declared.role.Role.TheVariants.{DeclName, Stray}
 
 abbrev pub is_own : Role → Bool
 is_own Own = true

@@ -1,15 +1,20 @@
--- Where declarations of the file end in a view, and the next begins on a line of its own: docs/PROFILE.md, "Parts". Between two such places stand whole declarations; where a view is cut inside functions' bodies plays no part here.
-use Rattle.std.specs.Prelude.{ℕ, zero, suc, ◌+◌, nat_lt, Bool, true, false, ◌&&◌, ◌||◌, not, if◌then◌else◌, Option, Some, None, List, [], ◌∷◌, length, drop}
+-- Where declarations of the file end in a view, and the next begins on a line of its own: docs/PROFILE.md, "Parts".
+-- Between two such places stand whole declarations; where a view is cut inside functions' bodies plays no part here.
+use Rattle.std.specs.Prelude.{ℕ, zero, suc, ◌+◌, nat_lt, Bool, true, false, ◌&&◌, ◌||◌, not, if◌then◌else◌, Option}
+use Rattle.std.specs.Prelude.{Some, None, List, [], ◌∷◌, length, drop}
 use Rattle.token_arena.specs.Gaps.{Contents, item_began}
 use Rattle.token_classes.specs.declared.class.TokenClass.{TokenClass}
-use Rattle.token_classes.specs.Classes.{is_opener, is_open_round, is_open_brace, is_semicolon, is_plain, is_assigning, is_control, is_case, is_default, is_comment, is_word}
+use Rattle.token_classes.specs.Classes.{is_opener, is_open_round, is_open_brace, is_semicolon, is_plain, is_assigning}
+use Rattle.token_classes.specs.Classes.{is_control, is_case, is_default, is_comment, is_word}
 use Rattle.token_classes.specs.Viewed.{item_class}
 use Rattle.token_classes.specs.declared.pairing.Opener.{Opener}
 use Rattle.token_classes.specs.Partners.{bracket_step}
 
 -- ## What is known on the way
 
--- What stands directly before a place, outside brackets: a word that may be a function's name; the group directly behind such a word; the `;` that ends a declaration; a function's body; comments behind the end of a declaration, or nothing; anything else. In a group it is what will stand before the place behind it.
+-- What stands directly before a place, outside brackets: a word that may be a function's name; the group directly
+-- behind such a word; the `;` that ends a declaration; a function's body; comments behind the end of a declaration, or
+-- nothing; anything else. In a group it is what will stand before the place behind it.
 pub data Before : Type 0 where
   Name : Before
   Parameters : Before
@@ -43,7 +48,8 @@ start = record { place = 0; before = Between; assigned = false; commented = fals
 
 -- ## One item
 
--- behind a group with this opener: directly behind a name a `(` opens what may be the parameters of a function, and directly behind those a `{` its body; where an `=` or `return` stands before, it opens a list
+-- behind a group with this opener: directly behind a name a `(` opens what may be the parameters of a function, and
+-- directly behind those a `{` its body; where an `=` or `return` stands before, it opens a list
 abbrev pub behind_group : Walk → TokenClass → Before
 behind_group walk opener =
     elim walk.before [
@@ -85,20 +91,26 @@ abbrev pub is_between_comments : Before → Bool
 is_between_comments Between = true
 is_between_comments _ = false
 
--- Behind how many items declarations end, where one begins with the next. Comments of rows that follow one another are lined up. None on the last row before a place and on the row of the declaration there are, where no comment stands in the declaration before, or one on lines of its own begins this one.
+-- Behind how many items declarations end, where one begins with the next. Comments of rows that follow one another are
+-- lined up. None on the last row before a place and on the row of the declaration there are, where no comment stands in
+-- the declaration before, or one on lines of its own begins this one.
 abbrev pub asked_behind : Option ℕ → Walk → TokenClass → Option ℕ
 asked_behind (Some place) walk class = Some place
-asked_behind None walk class = if is_end walk.before && (is_comment class || not walk.commented) then Some walk.place else None
+asked_behind None walk class =
+    if is_end walk.before && (is_comment class || not walk.commented) then Some walk.place else None
 
 -- The same, of an item that begins the declaration, or the comments before it: it began its line.
 abbrev pub asked_at : Contents → Walk → ℕ → TokenClass → Option ℕ
 asked_at arena walk id class = if item_began arena id then asked_behind walk.asked walk class else None
 
--- a comment stands behind the first token of the declaration that goes on or ends behind this token, which stands outside brackets
+-- a comment stands behind the first token of the declaration that goes on or ends behind this token, which stands
+-- outside brackets
 abbrev pub is_commented : Walk → Before → TokenClass → Bool
-is_commented walk before class = not (is_between_comments before) && ((not (is_between walk.before) && walk.commented) || is_comment class)
+is_commented walk before class =
+    not (is_between_comments before) && ((not (is_between walk.before) && walk.commented) || is_comment class)
 
--- behind the next token, which stands in a group: comments in a function's body don't count, since they stand on earlier rows than its `}`
+-- behind the next token, which stands in a group: comments in a function's body don't count, since they stand on
+-- earlier rows than its `}`
 abbrev pub inside : Walk → TokenClass → Walk
 inside walk class = record {
   place = walk.place + 1;
@@ -134,14 +146,16 @@ reading arena walk false id class =
 
 -- the openers that wait behind a token ("Partners")
 abbrev pub waiting_behind : TokenClass → ℕ → List Opener → List Opener
-waiting_behind class place waiting = (bracket_step class place (record { open_brackets = waiting; partners = [] })).open_brackets
+waiting_behind class place waiting =
+    (bracket_step class place (record { open_brackets = waiting; partners = [] })).open_brackets
 
 -- a group is open
 abbrev pub is_open : List Opener → Bool
 is_open [] = false
 is_open (opener ∷ below) = true
 
--- behind how many items declarations end, read so far, where these openers wait and these items follow; none where they go on up to the end of the items
+-- behind how many items declarations end, read so far, where these openers wait and these items follow; none where they
+-- go on up to the end of the items
 abbrev pub next_end : Contents → Walk → List Opener → List ℕ → Option ℕ
 next_end arena walk waiting [] = None
 next_end arena walk waiting (id ∷ ids) =
@@ -159,7 +173,8 @@ or_all (Some count) all = count
 abbrev pub first_len : Contents → List ℕ → ℕ
 first_len arena ids = or_all (next_end arena start [] ids) (length ids)
 
--- the places of such ends from this place on, and of the end of the items; each is behind the one before, so the number of places suffices for `n`
+-- the places of such ends from this place on, and of the end of the items; each is behind the one before, so the number
+-- of places suffices for `n`
 abbrev pub ends_from : ℕ → Contents → List ℕ → ℕ → List ℕ
 ends_from zero arena ids first = []
 ends_from (suc n) arena ids first =

@@ -1,5 +1,6 @@
 -- A view of two parts, and what is asked of the cut between them.
-use Rattle.std.specs.Prelude.{◌≡◌, ℕ, Bool, true, false, ◌&&◌, ◌||◌, not, if◌then◌else◌, IsTrue, IsFalse, Option, List, [], ◌∷◌, ◌++◌, length, map}
+use Rattle.std.specs.Prelude.{◌≡◌, ℕ, Bool, true, false, ◌&&◌, ◌||◌, not, if◌then◌else◌, IsTrue, IsFalse, Option, List}
+use Rattle.std.specs.Prelude.{[], ◌∷◌, ◌++◌, length, map}
 use Rattle.line_tokens.specs.declared.LineTok.{LineTok}
 use Rattle.line_tokens.specs.declared.line.ULine.{ULine}
 use Rattle.line_tokens.specs.Lines.{CutPlaces}
@@ -21,7 +22,8 @@ pub record ItemRun : Type 0 where
   pub partners : List (Option ℕ)
   pub lines : List ULine
 
--- the items of two parts, the second behind the first: no bracket of one has its partner in the other, and no line goes over the cut
+-- the items of two parts, the second behind the first: no bracket of one has its partner in the other, and no line goes
+-- over the cut
 abbrev pub joined : ItemRun → ItemRun → ItemRun
 joined earlier later = record {
   ids = earlier.ids ++ later.ids;
@@ -48,9 +50,12 @@ ends_inner last (tok ∷ toks) = ends_inner (is_inner tok.role) toks
 -- the comments before the first token that is none began their lines
 abbrev pub comments_begin : Contents → List ℕ → Bool
 comments_begin arena [] = true
-comments_begin arena (id ∷ ids) = not (is_comment (item_class arena id)) || (item_began arena id && comments_begin arena ids)
+comments_begin arena (id ∷ ids) =
+    not (is_comment (item_class arena id)) || (item_began arena id && comments_begin arena ids)
 
--- A view may be cut between two parts of which each has whole lines: the last token before the cut that is no comment tells nothing of a `{` behind it, the last token before it is no inner comment, and the comments directly behind it began their lines.
+-- A view may be cut between two parts of which each has whole lines: the last token before the cut that is no comment
+-- tells nothing of a `{` behind it, the last token before it is no inner comment, and the comments directly behind it
+-- began their lines.
 pub record IsCut (arena : Contents) (earlier later : ItemRun) : Type 0 where
   pub earlier_items : AreWithin arena earlier.ids
   pub later_items : AreWithin arena later.ids
@@ -72,4 +77,6 @@ with_first_apart apart (tok ∷ toks) = record tok { directive = apart } ∷ tok
 -- the tokens of both parts are those of each by itself, but that the first behind the cut tells of the item before it
 abbrev pub TellsParts : Type 0
 TellsParts = (arena : Contents) (earlier later : ItemRun) → IsCut arena earlier later
-    → toks_of arena (joined earlier later) ≡ toks_of arena earlier ++ with_first_apart (stands_apart (earlier.ids ++ later.ids) (length earlier.ids)) (toks_of arena later)
+    → toks_of arena (joined earlier later)
+    ≡ toks_of arena earlier
+    ++ with_first_apart (stands_apart (earlier.ids ++ later.ids) (length earlier.ids)) (toks_of arena later)

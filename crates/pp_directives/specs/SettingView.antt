@@ -15,7 +15,13 @@ body_token_shown t = record { token = shown t.token; white = t.white }
 -- a macro
 abbrev pub definition_shown : MacroDefinition → MacroDef
 definition_shown d =
-    record { name = d.name.items; function_like = d.function_like; params = map (λ n. n.items) d.params.items; variadic = d.variadic; body = map body_token_shown d.body.items }
+    record {
+      name = d.name.items;
+      function_like = d.function_like;
+      params = map (λ n. n.items) d.params.items;
+      variadic = d.variadic;
+      body = map body_token_shown d.body.items;
+    }
 
 -- the bytes under a key
 abbrev pub text_shown : TextValue → IncludeText
@@ -28,4 +34,10 @@ condition_shown c = record { key = map shown c.key.items; holds = c.holds }
 -- a setting
 abbrev pub setting_shown : SettingValue → Setting
 setting_shown s =
-    record { macros = map definition_shown s.macros.items; includes = map text_shown s.includes.items; conditions = map condition_shown s.conditions.items; depth = s.depth; turns = s.turns }
+    record {
+      macros = map definition_shown s.macros.items;
+      includes = map text_shown s.includes.items;
+      conditions = map condition_shown s.conditions.items;
+      depth = s.depth;
+      turns = s.turns;
+    }

@@ -63,7 +63,8 @@ behind_expansion (Some ts) turns w = with_turns turns w
 -- the name in front that a macro may have
 abbrev pub front_name : List Token → Option Name
 front_name [] = None
-front_name (t ∷ ts) = elim (is_name t && not (is_kept_name (text_of t.token))) [ true ↦ Some (text_of t.token) | false ↦ None ]
+front_name (t ∷ ts) =
+    elim (is_name t && not (is_kept_name (text_of t.token))) [ true ↦ Some (text_of t.token) | false ↦ None ]
 
 -- whether the name in front is defined; none where there is no name
 abbrev pub front_defined : Table → List Token → Option Bool

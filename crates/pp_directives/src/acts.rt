@@ -33,7 +33,11 @@ impl World {
     /// Begins a directive that acts in an active group alone: it first expands the text before it.
     /// Whether the directive acts.
     pub fn acts<R: Spellings>(&mut self, alloc: Global, reader: &R) -> Result<bool, AllocError>
-        ensures { IfOk result (λ r. (go : Worlds → Worlds) → acted_on (is_active (conds_shown self.old.conds)) go (flush (R.kinds reader.now) (world_shown self.old)) (world_shown self.old) ≡ goes_on r go (world_shown self.new)) }
+        ensures { IfOk result (λ r.
+            (go : Worlds → Worlds) →
+            acted_on (is_active (conds_shown self.old.conds)) go (flush (R.kinds reader.now) (world_shown self.old))
+            (world_shown self.old)
+            ≡ goes_on r go (world_shown self.new)) }
     {
         if self.conds.is_active() {
             self.flush(alloc, reader)?;
@@ -50,7 +54,9 @@ impl World {
         function_like: bool,
         tokens: VecDeque<Tok>,
     ) -> Result<(), AllocError>
-        ensures { IfOk result (λ _. world_shown self.new ≡ defined_as (world_shown self.old) (define_of function_like (map tok_shown tokens.items))) }
+        ensures { IfOk result (λ _.
+            world_shown self.new
+            ≡ defined_as (world_shown self.old) (define_of function_like (map tok_shown tokens.items))) }
     {
         match define_of(alloc, function_like, tokens)? {
             None => self.malformed(alloc),
@@ -81,7 +87,10 @@ impl World {
         reader: &R,
         tokens: VecDeque<Tok>,
     ) -> Result<(), AllocError>
-        ensures { IfOk result (λ _. world_shown self.new ≡ line_read (world_shown self.old) (expand (R.kinds reader.now) (world_shown self.old).table (world_shown self.old).turns (map tok_shown tokens.items))) }
+        ensures { IfOk result (λ _.
+            world_shown self.new
+            ≡ line_read (world_shown self.old) (expand (R.kinds reader.now) (world_shown self.old).table
+            (world_shown self.old).turns (map tok_shown tokens.items))) }
     {
         match self.expanded(alloc, reader, tokens)? {
             None => Ok(()),
@@ -94,28 +103,36 @@ impl World {
 
     /// An error directive.
     pub fn error(&mut self, alloc: Global, tokens: VecDeque<Tok>) -> Result<(), AllocError>
-        ensures { IfOk result (λ _. world_shown self.new ≡ emit (ErrorEvent (spelled (map tok_shown tokens.items)) ∷ []) (world_shown self.old)) }
+        ensures { IfOk result (λ _.
+            world_shown self.new
+            ≡ emit (ErrorEvent (spelled (map tok_shown tokens.items)) ∷ []) (world_shown self.old)) }
     {
         self.emit(Event::Error(spelled(alloc, tokens)?))
     }
 
     /// A warning directive.
     pub fn warning(&mut self, alloc: Global, tokens: VecDeque<Tok>) -> Result<(), AllocError>
-        ensures { IfOk result (λ _. world_shown self.new ≡ emit (WarningEvent (spelled (map tok_shown tokens.items)) ∷ []) (world_shown self.old)) }
+        ensures { IfOk result (λ _.
+            world_shown self.new
+            ≡ emit (WarningEvent (spelled (map tok_shown tokens.items)) ∷ []) (world_shown self.old)) }
     {
         self.emit(Event::Warning(spelled(alloc, tokens)?))
     }
 
     /// A pragma directive.
     pub fn pragma(&mut self, alloc: Global, tokens: VecDeque<Tok>) -> Result<(), AllocError>
-        ensures { IfOk result (λ _. world_shown self.new ≡ emit (PragmaEvent (spelled (map tok_shown tokens.items)) ∷ []) (world_shown self.old)) }
+        ensures { IfOk result (λ _.
+            world_shown self.new
+            ≡ emit (PragmaEvent (spelled (map tok_shown tokens.items)) ∷ []) (world_shown self.old)) }
     {
         self.emit(Event::Pragma(spelled(alloc, tokens)?))
     }
 
     /// A directive of another name.
     pub fn unknown(&mut self, alloc: Global, tokens: VecDeque<Tok>) -> Result<(), AllocError>
-        ensures { IfOk result (λ _. world_shown self.new ≡ emit (Malformed (spelled (map tok_shown tokens.items)) ∷ []) (world_shown self.old)) }
+        ensures { IfOk result (λ _.
+            world_shown self.new
+            ≡ emit (Malformed (spelled (map tok_shown tokens.items)) ∷ []) (world_shown self.old)) }
     {
         self.emit(Event::Malformed(spelled(alloc, tokens)?))
     }
@@ -127,7 +144,9 @@ impl World {
         reader: &R,
         tokens: VecDeque<Tok>,
     ) -> Result<(), AllocError>
-        ensures { IfOk result (λ _. world_shown self.new ≡ embedded (R.kinds reader.now) (map tok_shown tokens.items) (world_shown self.old)) }
+        ensures { IfOk result (λ _.
+            world_shown self.new
+            ≡ embedded (R.kinds reader.now) (map tok_shown tokens.items) (world_shown self.old)) }
     {
         if names_header(&tokens) {
             self.emit(Event::Embed(spelled(alloc, tokens)?))

@@ -110,7 +110,8 @@ fn next_plain(
     paste_is_next: bool,
 ) -> Next
     requires { is_hash_before (before_shown before) ≡ false }
-    ensures { (ts : List Token) → paste_next ts ≡ paste_is_next → parts_of_body (map (λ n. n.items) names.now) function_like (before_shown before) (tok_shown token.now ∷ ts)
+    ensures { (ts : List Token) → paste_next ts ≡ paste_is_next →
+        parts_of_body (map (λ n. n.items) names.now) function_like (before_shown before) (tok_shown token.now ∷ ts)
         ≡ next_parts result (map (λ n. n.items) names.now) function_like (tok_shown token.now) ts }
 {
     let glue = before.is_paste();
@@ -138,7 +139,8 @@ fn next_of(
     token: &Tok,
     paste_is_next: bool,
 ) -> Next
-    ensures { (ts : List Token) → paste_next ts ≡ paste_is_next → parts_of_body (map (λ n. n.items) names.now) function_like (before_shown before) (tok_shown token.now ∷ ts)
+    ensures { (ts : List Token) → paste_next ts ≡ paste_is_next →
+        parts_of_body (map (λ n. n.items) names.now) function_like (before_shown before) (tok_shown token.now ∷ ts)
         ≡ next_parts result (map (λ n. n.items) names.now) function_like (tok_shown token.now) ts }
 {
     match before {
@@ -170,7 +172,9 @@ fn what_of(stand: Stand, token: Tok) -> What
 /// Adds what a token of a body is.
 #[tactic(auto, using(crate::proofs::BodyParts::behind_part))]
 fn add_token(parts: &mut Vec<Part>, next: Next, token: Tok) -> Result<Option<Before>, AllocError>
-    ensures { IfOk result (λ r. (names : List Name) (fl : Bool) (ts : List Token) → behind (map part_shown parts.old.items) (next_parts next names fl (tok_shown token) ts)
+    ensures { IfOk result (λ r.
+        (names : List Name) (fl : Bool) (ts : List Token) →
+        behind (map part_shown parts.old.items) (next_parts next names fl (tok_shown token) ts)
         ≡ goes_on r (λ b. behind (map part_shown parts.new.items) (parts_of_body names fl (before_shown b) ts))) }
 {
     match next {
@@ -205,7 +209,9 @@ pub fn parts_of_body(
     function_like: bool,
     body: VecDeque<Tok>,
 ) -> Result<Option<Vec<Part>>, AllocError>
-    ensures { IfOk result (λ r. some_parts r ≡ parts_of_body (map (λ n. n.items) names.now) function_like Nothing (map tok_shown body.items)) }
+    ensures { IfOk result (λ r.
+        some_parts r
+        ≡ parts_of_body (map (λ n. n.items) names.now) function_like Nothing (map tok_shown body.items)) }
 {
     let mut parts = Vec::new(alloc);
     let mut before = Before::Nothing;

@@ -44,7 +44,8 @@ impl Conditionals {
     /// The innermost.
     #[tactic(auto, using(crate::proofs::Nests::innermost_is, crate::proofs::Nests::none_is_open))]
     pub(crate) fn innermost(&self) -> Option<Cond>
-        ensures { MatchOption result (conds_shown self.now ≡ []) (λ c. conds_shown self.now ≡ cond_shown c ∷ drop 1 (conds_shown self.now)) }
+        ensures { MatchOption result (conds_shown self.now ≡ [])
+            (λ c. conds_shown self.now ≡ cond_shown c ∷ drop 1 (conds_shown self.now)) }
     {
         match self.open.front() {
             None => None,

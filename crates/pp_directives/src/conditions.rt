@@ -33,7 +33,11 @@ impl World {
         conditions: &[Condition],
         tokens: VecDeque<Tok>,
     ) -> Result<Option<bool>, AllocError>
-        ensures shown { IfOk result (λ r. (go : Bool → Worlds → Worlds) → test (R.kinds reader.now) (holds_in (map condition_shown conditions.now)) go (map tok_shown tokens.items) (world_shown self.old) ≡ goes_with r go (world_shown self.new)) }
+        ensures shown { IfOk result (λ r.
+            (go : Bool → Worlds → Worlds) →
+            test (R.kinds reader.now) (holds_in (map condition_shown conditions.now)) go (map tok_shown tokens.items)
+            (world_shown self.old)
+            ≡ goes_with r go (world_shown self.new)) }
         ensures conds { self.new.conds ≡ self.old.conds }
     {
         let resolved = resolve(alloc, self.table.as_slice(), tokens)?;
@@ -52,7 +56,9 @@ impl World {
         sense: bool,
         tokens: &VecDeque<Tok>,
     ) -> Result<bool, AllocError>
-        ensures shown { IfOk result (λ r. (go : Bool → Worlds → Worlds) → asked sense go (map tok_shown tokens.now.items) (world_shown self.old) ≡ go r (world_shown self.new)) }
+        ensures shown { IfOk result (λ r.
+            (go : Bool → Worlds → Worlds) →
+            asked sense go (map tok_shown tokens.now.items) (world_shown self.old) ≡ go r (world_shown self.new)) }
         ensures conds { self.new.conds ≡ self.old.conds }
     {
         match front_defined(self.table.as_slice(), tokens) {
@@ -73,7 +79,10 @@ impl World {
         conditions: &[Condition],
         tokens: VecDeque<Tok>,
     ) -> Result<(), AllocError>
-        ensures { IfOk result (λ _. world_shown self.new ≡ if_active (test (R.kinds reader.now) (holds_in (map condition_shown conditions.now)) begin_if (map tok_shown tokens.items)) (world_shown self.old)) }
+        ensures { IfOk result (λ _.
+            world_shown self.new
+            ≡ if_active (test (R.kinds reader.now) (holds_in (map condition_shown conditions.now)) begin_if
+            (map tok_shown tokens.items)) (world_shown self.old)) }
     {
         if self.conds.is_active() {
             match self.test(alloc, reader, conditions, tokens)? {
@@ -95,7 +104,9 @@ impl World {
         sense: bool,
         tokens: VecDeque<Tok>,
     ) -> Result<(), AllocError>
-        ensures { IfOk result (λ _. world_shown self.new ≡ if_active (asked sense begin_if (map tok_shown tokens.items)) (world_shown self.old)) }
+        ensures { IfOk result (λ _.
+            world_shown self.new
+            ≡ if_active (asked sense begin_if (map tok_shown tokens.items)) (world_shown self.old)) }
     {
         if self.conds.is_active() {
             let holds = self.asked(alloc, sense, &tokens)?;
@@ -108,7 +119,10 @@ impl World {
     /// Malformed, but in a skipped group.
     #[tactic(auto, using(crate::proofs::Branches::blame_skipped, crate::proofs::Branches::blame_taken))]
     fn blame(&mut self, alloc: Global, skipped: bool) -> Result<(), AllocError>
-        ensures { IfOk result (λ _. world_shown self.new ≡ blame (record { taken = true; active = false; had_else = true; skipped = skipped }) (world_shown self.old)) }
+        ensures { IfOk result (λ _.
+            world_shown self.new
+            ≡ blame (record { taken = true; active = false; had_else = true; skipped = skipped })
+            (world_shown self.old)) }
     {
         if skipped {
             Ok(())
@@ -122,7 +136,9 @@ impl World {
     fn enter(&mut self, conditional: Cond, holds: bool) -> Result<(), AllocError>
         requires innermost { conds_shown self.old.conds ≡ cond_shown conditional ∷ drop 1 (conds_shown self.old.conds) }
         requires open { conditional.taken ≡ false }
-        ensures { IfOk result (λ _. world_shown self.new ≡ entered (cond_shown conditional) (drop 1 (conds_shown self.old.conds)) holds (world_shown self.old)) }
+        ensures { IfOk result (λ _.
+            world_shown self.new
+            ≡ entered (cond_shown conditional) (drop 1 (conds_shown self.old.conds)) holds (world_shown self.old)) }
     {
         self.conds.replace(Cond {
             taken: holds,
@@ -136,9 +152,13 @@ impl World {
     /// none where the next group asks nothing, which is then begun.
     #[tactic(auto, using(crate::proofs::Branches::had_else_branch, crate::proofs::Branches::asking_branch, crate::proofs::Nests::done_nests))]
     fn next_asked(&mut self, alloc: Global) -> Result<Option<Cond>, AllocError>
-        ensures shown { IfOk result (λ r. (go : Conds → List Conds → Worlds → Worlds) → branch go (conds_shown self.old.conds) (world_shown self.old) ≡ asked_next r go (drop 1 (conds_shown self.old.conds)) (world_shown self.new)) }
+        ensures shown { IfOk result (λ r.
+            (go : Conds → List Conds → Worlds → Worlds) →
+            branch go (conds_shown self.old.conds) (world_shown self.old)
+            ≡ asked_next r go (drop 1 (conds_shown self.old.conds)) (world_shown self.new)) }
         ensures same { IfOk result (λ r. IfSome r (λ c. world_shown self.new ≡ world_shown self.old)) }
-        ensures innermost { IfOk result (λ r. IfSome r (λ c. conds_shown self.old.conds ≡ cond_shown c ∷ drop 1 (conds_shown self.old.conds))) }
+        ensures innermost { IfOk result
+            (λ r. IfSome r (λ c. conds_shown self.old.conds ≡ cond_shown c ∷ drop 1 (conds_shown self.old.conds))) }
         ensures open { IfOk result (λ r. IfSome r (λ c. c.taken ≡ false)) }
     {
         match self.conds.innermost() {
@@ -173,7 +193,11 @@ impl World {
         conditions: &[Condition],
         tokens: VecDeque<Tok>,
     ) -> Result<(), AllocError>
-        ensures { IfOk result (λ _. world_shown self.new ≡ branch (λ c cs. test (R.kinds reader.now) (holds_in (map condition_shown conditions.now)) (entered c cs) (map tok_shown tokens.items)) (conds_shown self.old.conds) (world_shown self.old)) }
+        ensures { IfOk result (λ _.
+            world_shown self.new
+            ≡ branch (λ c cs.
+            test (R.kinds reader.now) (holds_in (map condition_shown conditions.now)) (entered c cs)
+            (map tok_shown tokens.items)) (conds_shown self.old.conds) (world_shown self.old)) }
     {
         if let Some(c) = self.next_asked(alloc)? {
             if let Some(holds) = self.test(alloc, reader, conditions, tokens)? {
@@ -190,7 +214,10 @@ impl World {
         sense: bool,
         tokens: VecDeque<Tok>,
     ) -> Result<(), AllocError>
-        ensures { IfOk result (λ _. world_shown self.new ≡ branch (λ c cs. asked sense (entered c cs) (map tok_shown tokens.items)) (conds_shown self.old.conds) (world_shown self.old)) }
+        ensures { IfOk result (λ _.
+            world_shown self.new
+            ≡ branch (λ c cs. asked sense (entered c cs) (map tok_shown tokens.items)) (conds_shown self.old.conds)
+            (world_shown self.old)) }
     {
         if let Some(c) = self.next_asked(alloc)? {
             let holds = self.asked(alloc, sense, &tokens)?;
@@ -202,7 +229,8 @@ impl World {
     /// An `#else`.
     #[tactic(auto, using(crate::proofs::Branches::had_else_last))]
     pub fn otherwise(&mut self, alloc: Global) -> Result<(), AllocError>
-        ensures { IfOk result (λ _. world_shown self.new ≡ otherwise (conds_shown self.old.conds) (world_shown self.old)) }
+        ensures { IfOk result
+            (λ _. world_shown self.new ≡ otherwise (conds_shown self.old.conds) (world_shown self.old)) }
     {
         match self.conds.innermost() {
             None => self.malformed(alloc),
@@ -255,7 +283,8 @@ fn blame_open(
     conds: &Conditionals,
     events: &mut Vec<Event>,
 ) -> Result<(), AllocError>
-    ensures { IfOk result (λ _. map event_shown events.new.items ≡ map event_shown events.old.items ++ left_open (conds_shown conds.now)) }
+    ensures { IfOk result (λ _.
+        map event_shown events.new.items ≡ map event_shown events.old.items ++ left_open (conds_shown conds.now)) }
 {
     let open = &conds.open;
     for i in 0..open.len() {

@@ -28,7 +28,10 @@ pub fn macro_of(
     names: &[Vec<u8>],
     body: VecDeque<Tok>,
 ) -> Result<Option<Macro>, AllocError>
-    ensures { IfOk result (λ r. some_macro r ≡ option_map (with_body name.now form.function_like form.arity form.variadic) (parts_of_body (map (λ n. n.items) names.now) form.function_like Nothing (map tok_shown body.items))) }
+    ensures { IfOk result (λ r.
+        some_macro r
+        ≡ option_map (with_body name.now form.function_like form.arity form.variadic)
+        (parts_of_body (map (λ n. n.items) names.now) form.function_like Nothing (map tok_shown body.items))) }
 {
     match parts_of_body(alloc, names, form.function_like, body)? {
         None => Ok(None),
@@ -50,7 +53,10 @@ fn function_of(
     variadic: bool,
     body: VecDeque<Tok>,
 ) -> Result<Option<Macro>, AllocError>
-    ensures { IfOk result (λ r. some_macro r ≡ function_of name.now (record { names = map (λ n. n.items) params.items; variadic = variadic; body = map tok_shown body.items })) }
+    ensures { IfOk result (λ r.
+        some_macro r
+        ≡ function_of name.now (record
+        { names = map (λ n. n.items) params.items; variadic = variadic; body = map tok_shown body.items })) }
 {
     let form = Form {
         function_like: true,

@@ -32,7 +32,8 @@ pub fn is_key_of(key: &[PpToken], tokens: &[Tok]) -> bool
 
 /// The bytes that an include of these tokens finds; the first entry decides.
 pub fn find_text<'s>(includes: &'s [IncludeText], tokens: &[Tok]) -> Option<&'s [u8]>
-    ensures { option_map (λ b. b.now) result ≡ find_text (map text_shown includes.now) (key_of (map tok_shown tokens.now)) }
+    ensures { option_map (λ b. b.now) result
+        ≡ find_text (map text_shown includes.now) (key_of (map tok_shown tokens.now)) }
 {
     for i in includes {
         if is_key_of(i.key.as_slice(), tokens) {

@@ -85,7 +85,8 @@ pub enum Listed {
 
 /// What a token of a parameter list is at this place, behind these names.
 fn what_is_listed(place: Place, names: &[Vec<u8>], token: &Tok) -> Listed
-    ensures { (ts : List Token) → params_of (map (λ n. n.items) names.now) (place_shown place) (tok_shown token.now ∷ ts)
+    ensures { (ts : List Token) →
+        params_of (map (λ n. n.items) names.now) (place_shown place) (tok_shown token.now ∷ ts)
         ≡ listed_on result (map (λ n. n.items) names.now) (place_shown place) (tok_shown token.now) ts }
 {
     if is_spelled(token, b")") && place.may_end() {
@@ -140,7 +141,10 @@ pub fn add_variadic(
     names: &mut Vec<Vec<u8>>,
     variadic: bool,
 ) -> Result<(), AllocError>
-    ensures { IfOk result (λ _. (body : List Token) → map (λ n. n.items) names.new.items ≡ all_names (record { names = map (λ n. n.items) names.old.items; variadic = variadic; body = body })) }
+    ensures { IfOk result (λ _.
+        (body : List Token) →
+        map (λ n. n.items) names.new.items
+        ≡ all_names (record { names = map (λ n. n.items) names.old.items; variadic = variadic; body = body })) }
 {
     if variadic {
         add_name(alloc, names, b"__VA_ARGS__")?;

@@ -60,7 +60,10 @@ fn asks(token: &Tok) -> bool
 
 /// A number in the place of a `defined`.
 fn number_tok(alloc: Global, token: &Tok, text: &[u8]) -> Result<Tok, AllocError>
-    ensures { IfOk result (λ r. tok_shown r ≡ record { token = Plain text.now; kind = Number; hide = []; white = token.now.white; line = token.now.line }) }
+    ensures { IfOk result (λ r.
+        tok_shown r
+        ≡ record
+        { token = Plain text.now; kind = Number; hide = []; white = token.now.white; line = token.now.line }) }
 {
     let text = copy_bytes(alloc, text)?;
     Ok(Tok {
@@ -86,7 +89,8 @@ fn answer(alloc: Global, token: &Tok, holds: bool) -> Result<Tok, AllocError>
 /// What a token does behind those that are held back.
 fn act_of(table: &[Macro], held: &[Tok], token: &Tok) -> Act
     requires { length held.now ≤ 3 }
-    ensures acts { (ts : List Token) → resolve (map macro_shown table.now) (held_of (map tok_shown held.now)) (tok_shown token.now ∷ ts)
+    ensures acts { (ts : List Token) →
+        resolve (map macro_shown table.now) (held_of (map tok_shown held.now)) (tok_shown token.now ∷ ts)
         ≡ acted (map macro_shown table.now) result (map tok_shown held.now ++ tok_shown token.now ∷ []) ts }
     ensures few { length held.now + more_held result ≤ 3 }
 {
@@ -127,8 +131,11 @@ fn read_token(
     token: Tok,
 ) -> Result<(), AllocError>
     requires { length held.old.items ≤ 3 }
-    ensures read { IfOk result (λ _. (ts : List Token) → map tok_shown out.new.items ++ resolve (map macro_shown table.now) (held_of (map tok_shown held.new.items)) ts
-        ≡ map tok_shown out.old.items ++ resolve (map macro_shown table.now) (held_of (map tok_shown held.old.items)) (tok_shown token ∷ ts)) }
+    ensures read { IfOk result (λ _.
+        (ts : List Token) →
+        map tok_shown out.new.items ++ resolve (map macro_shown table.now) (held_of (map tok_shown held.new.items)) ts
+        ≡ map tok_shown out.old.items
+        ++ resolve (map macro_shown table.now) (held_of (map tok_shown held.old.items)) (tok_shown token ∷ ts)) }
     ensures few { IfOk result (λ _. length held.new.items ≤ 3) }
 {
     let act = act_of(table, held.as_slice(), &token);
@@ -155,7 +162,8 @@ pub fn resolve(
     table: &[Macro],
     tokens: VecDeque<Tok>,
 ) -> Result<VecDeque<Tok>, AllocError>
-    ensures { IfOk result (λ r. map tok_shown r.items ≡ resolve (map macro_shown table.now) Free (map tok_shown tokens.items)) }
+    ensures { IfOk result
+        (λ r. map tok_shown r.items ≡ resolve (map macro_shown table.now) Free (map tok_shown tokens.items)) }
 {
     let mut out = Vec::new(alloc);
     let mut held = Vec::new(alloc);

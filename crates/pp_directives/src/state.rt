@@ -91,7 +91,9 @@ impl World {
 
     /// The text that waits, more of it.
     pub fn wait(&mut self, tokens: VecDeque<Tok>) -> Result<(), AllocError>
-        ensures { IfOk result (λ _. world_shown self.new ≡ with_pending ((world_shown self.old).pending ++ map tok_shown tokens.items) (world_shown self.old)) }
+        ensures { IfOk result (λ _.
+            world_shown self.new
+            ≡ with_pending ((world_shown self.old).pending ++ map tok_shown tokens.items) (world_shown self.old)) }
     {
         let mut tokens = tokens;
         self.pending.append(&mut tokens)?;
@@ -105,8 +107,12 @@ impl World {
         reader: &R,
         tokens: VecDeque<Tok>,
     ) -> Result<Option<Vec<Tok>>, AllocError>
-        ensures expansion { IfOk result (λ r. expansion_of r self.new.turns ≡ expand (R.kinds reader.now) (world_shown self.old).table (world_shown self.old).turns (map tok_shown tokens.items)) }
-        ensures shown { IfOk result (λ r. world_shown self.new ≡ behind_expansion r self.new.turns (world_shown self.old)) }
+        ensures expansion { IfOk result (λ r.
+            expansion_of r self.new.turns
+            ≡ expand (R.kinds reader.now) (world_shown self.old).table (world_shown self.old).turns
+            (map tok_shown tokens.items)) }
+        ensures shown { IfOk result
+            (λ r. world_shown self.new ≡ behind_expansion r self.new.turns (world_shown self.old)) }
         ensures conds { self.new.conds ≡ self.old.conds }
     {
         match expand(alloc, reader, self.table.as_slice(), self.turns, tokens)? {
@@ -136,7 +142,9 @@ impl World {
 
 /// An event for each token, behind the others.
 fn token_events(tokens: Vec<Tok>, events: &mut Vec<Event>) -> Result<(), AllocError>
-    ensures { IfOk result (λ _. map event_shown events.new.items ≡ map event_shown events.old.items ++ token_events (map tok_shown tokens.items)) }
+    ensures { IfOk result (λ _.
+        map event_shown events.new.items
+        ≡ map event_shown events.old.items ++ token_events (map tok_shown tokens.items)) }
 {
     for t in tokens {
         events.push(Event::Token(t.token))?;

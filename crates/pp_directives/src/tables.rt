@@ -51,7 +51,8 @@ fn toks_by<R: Spellings>(
     reader: &R,
     body: &[BodyToken],
 ) -> Result<VecDeque<Tok>, AllocError>
-    ensures { IfOk result (λ r. map tok_shown r.items ≡ map (tok_by (R.kinds reader.now)) (map body_token_shown body.now)) }
+    ensures { IfOk result
+        (λ r. map tok_shown r.items ≡ map (tok_by (R.kinds reader.now)) (map body_token_shown body.now)) }
 {
     let mut out = VecDeque::new(alloc);
     for t in body {
@@ -135,7 +136,8 @@ pub fn table_by<R: Spellings>(
     reader: &R,
     definitions: &[MacroDefinition],
 ) -> Result<Vec<Macro>, AllocError>
-    ensures { IfOk result (λ r. map macro_shown r.items ≡ table_by (R.kinds reader.now) (map definition_shown definitions.now)) }
+    ensures { IfOk result
+        (λ r. map macro_shown r.items ≡ table_by (R.kinds reader.now) (map definition_shown definitions.now)) }
 {
     let mut table = Vec::new(alloc);
     for d in definitions {

@@ -14,7 +14,13 @@ use Rattle.pp_events.specs.declared.state.Begun.{Begun as BegunValue}
 
 -- a replacement that begins
 abbrev pub begun_shown : BegunValue → Begun
-begun_shown b = record { macro = macro_shown b.named.now; hide = map (λ n. n.items) b.hide.items; args = map toks_shown b.args.items; after = map tok_shown b.after.items }
+begun_shown b =
+    record {
+      macro = macro_shown b.named.now;
+      hide = map (λ n. n.items) b.hide.items;
+      args = map toks_shown b.args.items;
+      after = map tok_shown b.after.items;
+    }
 
 -- an open call
 abbrev pub call_shown : CallValue → Call
@@ -36,7 +42,8 @@ calls_shown cs = map call_shown cs.items
 
 -- where an expansion stands
 abbrev pub state_shown : StateValue → State
-state_shown s = record { rest = map tok_shown s.rest.items; out = map tok_shown s.out.items; calls = calls_shown s.calls }
+state_shown s =
+    record { rest = map tok_shown s.rest.items; out = map tok_shown s.out.items; calls = calls_shown s.calls }
 
 -- the result of an expansion
 abbrev pub expanded_shown : Option (Vec TokValue Global × ℕ) → Expanded

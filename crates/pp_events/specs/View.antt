@@ -1,7 +1,8 @@
 -- What the values of tokens and macros stand for in the model.
 use Rattle.std.specs.Prelude.{Bool, false, List, [], ◌∷◌, map, drop, Option, Some, None, option_map, Vec}
 use Rattle.std.specs.declared.alloc.Global.{Global}
-use Rattle.pp_model.specs.Token.{PpToken, Plain, Line, Str, Pasted, Spaceds, no_part, part, PpTokens, no_token, one_more, Tok}
+use Rattle.pp_model.specs.Token.{PpToken, Plain, Line, Str, Pasted, Spaceds, no_part, part, PpTokens, no_token}
+use Rattle.pp_model.specs.Token.{one_more, Tok}
 use Rattle.pp_model.specs.Call.{Actuals}
 use Rattle.pp_model.specs.Macro.{What, Part, Macro}
 use Rattle.pp_model.specs.Replace.{Piece}
@@ -53,7 +54,14 @@ shown = fold-PpToken PpToken PpTokens (Bool × PpToken) Spaceds token_step token
 
 -- a token while it is expanded
 abbrev pub tok_shown : TokValue → Tok
-tok_shown t = record { token = shown t.token; kind = t.kind; hide = map (λ n. n.items) t.hide.items; white = t.white; line = t.line }
+tok_shown t =
+    record {
+      token = shown t.token;
+      kind = t.kind;
+      hide = map (λ n. n.items) t.hide.items;
+      white = t.white;
+      line = t.line;
+    }
 
 -- a list of those
 abbrev pub toks_shown : Vec TokValue Global → List Tok
@@ -61,7 +69,12 @@ toks_shown v = map tok_shown v.items
 
 -- the arguments of a call, which these tokens begin with
 abbrev pub actuals_shown : List TokValue → ActualsValue → Actuals
-actuals_shown rest a = record { args = map toks_shown a.args.items; close = map (λ n. n.items) a.close.items; after = map tok_shown (drop a.taken rest) }
+actuals_shown rest a =
+    record {
+      args = map toks_shown a.args.items;
+      close = map (λ n. n.items) a.close.items;
+      after = map tok_shown (drop a.taken rest);
+    }
 
 -- the arguments of a call, or none
 abbrev pub some_actuals : List TokValue → Option ActualsValue → Option Actuals
@@ -78,7 +91,8 @@ shown_spaced = fold-Spaced PpToken PpTokens (Bool × PpToken) Spaceds token_step
 
 -- a list of those
 abbrev pub shown_spaceds : PartsValue → Spaceds
-shown_spaceds = fold-SpacedList PpToken PpTokens (Bool × PpToken) Spaceds token_step tokens_step spaced_step spaceds_step
+shown_spaceds =
+    fold-SpacedList PpToken PpTokens (Bool × PpToken) Spaceds token_step tokens_step spaced_step spaceds_step
 
 -- what comes in the place of a part
 abbrev pub what_shown : WhatValue → What
@@ -93,7 +107,14 @@ part_shown p = record { what = what_shown p.what; white = p.white; glue = p.glue
 
 -- a macro
 abbrev pub macro_shown : MacroValue → Macro
-macro_shown m = record { name = m.name.items; function_like = m.function_like; arity = m.arity; variadic = m.variadic; body = map part_shown m.body.items }
+macro_shown m =
+    record {
+      name = m.name.items;
+      function_like = m.function_like;
+      arity = m.arity;
+      variadic = m.variadic;
+      body = map part_shown m.body.items;
+    }
 
 -- a piece of a replacement
 abbrev pub piece_shown : PieceValue → Piece

@@ -59,7 +59,9 @@ pub enum Mark {
 /// What a token is, where so many brackets are open and so many commas still part arguments.
 fn mark_of(token: &Tok, depth: usize, limit: Option<usize>) -> Mark
     requires { suc depth < 2 ^ 64 }
-    ensures marks { (arg : List Token) (args : List (List Token)) (ts : List Token) → collect limit depth arg args (tok_shown token.now ∷ ts) ≡ collect_on result limit depth arg args (tok_shown token.now) ts }
+    ensures marks { (arg : List Token) (args : List (List Token)) (ts : List Token) →
+        collect limit depth arg args (tok_shown token.now ∷ ts)
+        ≡ collect_on result limit depth arg args (tok_shown token.now) ts }
     ensures bound { depth_behind result ≤ suc depth }
     ensures limit { result ≡ MarkValue.Comma → may_part limit ≡ true }
 {
@@ -97,7 +99,9 @@ fn read_args(
     rest: &VecDeque<Tok>,
     args: &mut Vec<Vec<Tok>>,
 ) -> Result<Option<usize>, AllocError>
-    ensures read { IfOk result (λ r. collected r (map toks_shown args.new.items) rest.now.items ≡ collect limit 0 [] (map toks_shown args.old.items) (map tok_shown (drop 1 rest.now.items))) }
+    ensures read { IfOk result (λ r.
+        collected r (map toks_shown args.new.items) rest.now.items
+        ≡ collect limit 0 [] (map toks_shown args.old.items) (map tok_shown (drop 1 rest.now.items))) }
     ensures bound { IfOk result (λ r. IfSome r (λ i. i < length rest.now.items)) }
 {
     let mut limit = limit;
@@ -130,7 +134,8 @@ pub fn collect_actuals(
     limit: Option<usize>,
     rest: &VecDeque<Tok>,
 ) -> Result<Option<Actuals>, AllocError>
-    ensures read { IfOk result (λ r. some_actuals rest.now.items r ≡ collect limit 0 [] [] (map tok_shown (drop 1 rest.now.items))) }
+    ensures read { IfOk result
+        (λ r. some_actuals rest.now.items r ≡ collect limit 0 [] [] (map tok_shown (drop 1 rest.now.items))) }
     ensures taken { IfOk result (λ r. IfSome r (λ a. a.taken ≤ length rest.now.items)) }
 {
     let mut args = Vec::new(alloc);

@@ -87,7 +87,8 @@ pub fn copy_parts(alloc: Global, ps: &SpacedList) -> Result<SpacedList, AllocErr
 
 /// A copy of a name behind others.
 pub fn add_name(alloc: Global, names: &mut Vec<Vec<u8>>, name: &[u8]) -> Result<(), AllocError>
-    ensures { IfOk result (λ _. map (λ n. n.items) names.new.items ≡ map (λ n. n.items) names.old.items ++ name.now ∷ []) }
+    ensures { IfOk result
+        (λ _. map (λ n. n.items) names.new.items ≡ map (λ n. n.items) names.old.items ++ name.now ∷ []) }
 {
     let copy = copy_bytes(alloc, name)?;
     names.push(copy)?;
@@ -96,7 +97,8 @@ pub fn add_name(alloc: Global, names: &mut Vec<Vec<u8>>, name: &[u8]) -> Result<
 
 /// Copies of names behind others.
 pub fn add_names(alloc: Global, out: &mut Vec<Vec<u8>>, names: &[Vec<u8>]) -> Result<(), AllocError>
-    ensures { IfOk result (λ _. map (λ n. n.items) out.new.items ≡ map (λ n. n.items) out.old.items ++ map (λ n. n.items) names.now) }
+    ensures { IfOk result
+        (λ _. map (λ n. n.items) out.new.items ≡ map (λ n. n.items) out.old.items ++ map (λ n. n.items) names.now) }
 {
     for n in names {
         add_name(alloc, out, n.as_slice())?;

@@ -104,7 +104,9 @@ fn call_hide(
     token: &Tok,
     close: &[Vec<u8>],
 ) -> Result<Vec<Vec<u8>>, AllocError>
-    ensures { IfOk result (λ r. map (λ n. n.items) r.items ≡ (macro_shown definition.now).name ∷ common (tok_shown token.now).hide (map (λ n. n.items) close.now)) }
+    ensures { IfOk result (λ r.
+        map (λ n. n.items) r.items
+        ≡ (macro_shown definition.now).name ∷ common (tok_shown token.now).hide (map (λ n. n.items) close.now)) }
 {
     let both = common_names(alloc, token.hide.as_slice(), close)?;
     with_name(alloc, definition.name.as_slice(), both.as_slice())
@@ -119,7 +121,9 @@ fn with_arguments<'t>(
     rest: &mut VecDeque<Tok>,
 ) -> Result<Option<Begun<'t>>, AllocError>
     requires { actuals.taken ≤ length rest.old.items }
-    ensures begun { IfOk result (λ r. option_map begun_shown r ≡ with_actuals (macro_shown definition.now) (tok_shown token.now) (actuals_shown rest.old.items actuals)) }
+    ensures begun { IfOk result (λ r.
+        option_map begun_shown r
+        ≡ with_actuals (macro_shown definition.now) (tok_shown token.now) (actuals_shown rest.old.items actuals)) }
     ensures waiting { IfOk result (λ r. IfSome r (λ b. map toks_shown b.waiting.items ≡ map toks_shown b.args.items)) }
     ensures kept { IfOk result (λ r. IfNone r (rest.new.items ≡ rest.old.items)) }
 {
@@ -146,7 +150,9 @@ fn begin_function<'t>(
     token: &Tok,
     rest: &mut VecDeque<Tok>,
 ) -> Result<Option<Begun<'t>>, AllocError>
-    ensures begun { IfOk result (λ r. option_map begun_shown r ≡ begin_call (macro_shown definition.now) (tok_shown token.now) (map tok_shown rest.old.items)) }
+    ensures begun { IfOk result (λ r.
+        option_map begun_shown r
+        ≡ begin_call (macro_shown definition.now) (tok_shown token.now) (map tok_shown rest.old.items)) }
     ensures waiting { IfOk result (λ r. IfSome r (λ b. map toks_shown b.waiting.items ≡ map toks_shown b.args.items)) }
     ensures kept { IfOk result (λ r. IfNone r (rest.new.items ≡ rest.old.items)) }
 {
@@ -177,7 +183,9 @@ fn begin_named<'t>(
     token: &Tok,
     rest: &mut VecDeque<Tok>,
 ) -> Result<Option<Begun<'t>>, AllocError>
-    ensures begun { IfOk result (λ r. option_map begun_shown r ≡ begin_macro (tok_shown token.now) (map tok_shown rest.old.items) (macro_shown definition.now)) }
+    ensures begun { IfOk result (λ r.
+        option_map begun_shown r
+        ≡ begin_macro (tok_shown token.now) (map tok_shown rest.old.items) (macro_shown definition.now)) }
     ensures waiting { IfOk result (λ r. IfSome r (λ b. map toks_shown b.waiting.items ≡ map toks_shown b.args.items)) }
     ensures kept { IfOk result (λ r. IfNone r (rest.new.items ≡ rest.old.items)) }
 {
@@ -202,7 +210,9 @@ fn begin_at<'t>(
     token: &Tok,
     rest: &mut VecDeque<Tok>,
 ) -> Result<Option<Begun<'t>>, AllocError>
-    ensures begun { IfOk result (λ r. option_map begun_shown r ≡ begin (map macro_shown table.now) (tok_shown token.now) (map tok_shown rest.old.items)) }
+    ensures begun { IfOk result (λ r.
+        option_map begun_shown r
+        ≡ begin (map macro_shown table.now) (tok_shown token.now) (map tok_shown rest.old.items)) }
     ensures waiting { IfOk result (λ r. IfSome r (λ b. map toks_shown b.waiting.items ≡ map toks_shown b.args.items)) }
     ensures kept { IfOk result (λ r. IfNone r (rest.new.items ≡ rest.old.items)) }
 {
@@ -274,7 +284,10 @@ fn resume_call<'t, R: Spellings>(
     mut call: Call<'t>,
     state: &mut State<'t>,
 ) -> Result<(), AllocError>
-    ensures { IfOk result (λ _. state_shown state.new ≡ resume (R.kinds reader.now) (call_shown call.entry) (calls_shown state.old.calls) (map toks_shown call.entry.waiting.items)) }
+    ensures { IfOk result (λ _.
+        state_shown state.new
+        ≡ resume (R.kinds reader.now) (call_shown call.entry) (calls_shown state.old.calls)
+        (map toks_shown call.entry.waiting.items)) }
 {
     match call.waiting.pop_front() {
         None => {
@@ -315,7 +328,9 @@ fn close_call<'t, R: Spellings>(
     state: &mut State<'t>,
 ) -> Result<(), AllocError>
     requires { state.old.rest.items ≡ [] }
-    ensures { IfOk result (λ _. state_shown state.new ≡ close (R.kinds reader.now) (map tok_shown state.old.out.items) (calls_shown state.old.calls)) }
+    ensures { IfOk result (λ _.
+        state_shown state.new
+        ≡ close (R.kinds reader.now) (map tok_shown state.old.out.items) (calls_shown state.old.calls)) }
 {
     match state.calls.pop_front() {
         None => Ok(()),
@@ -334,7 +349,8 @@ fn step_once<'t, R: Spellings>(
     table: &'t [Macro],
     state: &mut State<'t>,
 ) -> Result<(), AllocError>
-    ensures { IfOk result (λ _. state_shown state.new ≡ step (R.kinds reader.now) (map macro_shown table.now) (state_shown state.old)) }
+    ensures { IfOk result
+        (λ _. state_shown state.new ≡ step (R.kinds reader.now) (map macro_shown table.now) (state_shown state.old)) }
 {
     match state.rest.pop_front() {
         None => close_call(alloc, reader, state),
@@ -369,7 +385,8 @@ fn run_all<'t, R: Spellings>(
     turns: u64,
     start: State<'t>,
 ) -> Result<Option<(Vec<Tok>, u64)>, AllocError>
-    ensures { IfOk result (λ r. expanded_shown r ≡ run (R.kinds reader.now) (map macro_shown table.now) turns (state_shown start.entry)) }
+    ensures { IfOk result (λ r.
+        expanded_shown r ≡ run (R.kinds reader.now) (map macro_shown table.now) turns (state_shown start.entry)) }
 {
     let mut left = turns;
     let mut state = start;
@@ -396,7 +413,8 @@ pub fn expand<R: Spellings>(
     turns: u64,
     text: VecDeque<Tok>,
 ) -> Result<Option<(Vec<Tok>, u64)>, AllocError>
-    ensures { IfOk result (λ r. expanded_shown r ≡ expand (R.kinds reader.now) (map macro_shown table.now) turns (map tok_shown text.items)) }
+    ensures { IfOk result (λ r.
+        expanded_shown r ≡ expand (R.kinds reader.now) (map macro_shown table.now) turns (map tok_shown text.items)) }
 {
     let start = State {
         rest: text,

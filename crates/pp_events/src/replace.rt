@@ -37,7 +37,8 @@ pub fn common_names(
     left: &[Vec<u8>],
     right: &[Vec<u8>],
 ) -> Result<Vec<Vec<u8>>, AllocError>
-    ensures { IfOk result (λ r. map (λ n. n.items) r.items ≡ common (map (λ n. n.items) left.now) (map (λ n. n.items) right.now)) }
+    ensures { IfOk result
+        (λ r. map (λ n. n.items) r.items ≡ common (map (λ n. n.items) left.now) (map (λ n. n.items) right.now)) }
 {
     let mut out = Vec::new(alloc);
     for n in left {
@@ -120,7 +121,8 @@ fn pasted_item<R: Spellings>(
     left: &PpToken,
     right: &PpToken,
 ) -> Result<Option<(Vec<u8>, ItemKind)>, AllocError>
-    ensures { IfOk result (λ r. item_shown r ≡ item_read (R.kinds reader.now) (joined (shown left.now) (shown right.now))) }
+    ensures { IfOk result
+        (λ r. item_shown r ≡ item_read (R.kinds reader.now) (joined (shown left.now) (shown right.now))) }
 {
     match joined_text(alloc, left, right)? {
         None => Ok(None),
@@ -139,7 +141,9 @@ fn paste_of<R: Spellings>(
     left: PpToken,
     right: PpToken,
 ) -> Result<(PpToken, ItemKind), AllocError>
-    ensures { IfOk result (λ r. (s t : Token) → s.token ≡ shown left → t.token ≡ shown right → paste (R.kinds reader.now) s t ≡ made (shown r.0) r.1 s t) }
+    ensures { IfOk result (λ r.
+        (s t : Token) → s.token ≡ shown left → t.token ≡ shown right →
+        paste (R.kinds reader.now) s t ≡ made (shown r.0) r.1 s t) }
 {
     match pasted_item(alloc, reader, &left, &right)? {
         Some((text, kind)) => Ok((PpToken::Plain { text }, kind)),
@@ -258,7 +262,9 @@ fn tokens_of_part(
     full: &[Vec<Tok>],
     what: &What,
 ) -> Result<Vec<Tok>, AllocError>
-    ensures { IfOk result (λ r. map tok_shown r.items ≡ tokens_of line (map toks_shown written.now) (map toks_shown full.now) (what_shown what.now)) }
+    ensures { IfOk result (λ r.
+        map tok_shown r.items
+        ≡ tokens_of line (map toks_shown written.now) (map toks_shown full.now) (what_shown what.now)) }
 {
     match what {
         What::Word(t) => {
@@ -294,7 +300,9 @@ fn add_pieces(
     white: bool,
     toks: VecDeque<Tok>,
 ) -> Result<(), AllocError>
-    ensures { IfOk result (λ _. map piece_shown out.new.items ≡ map piece_shown out.old.items ++ pieces glue white (map tok_shown toks.items)) }
+    ensures { IfOk result (λ _.
+        map piece_shown out.new.items
+        ≡ map piece_shown out.old.items ++ pieces glue white (map tok_shown toks.items)) }
 {
     let mut toks = toks;
     match toks.pop_front() {
@@ -314,7 +322,8 @@ fn add_pieces(
 
 /// Tokens with no paste before them, after other pieces.
 fn add_free(out: &mut VecDeque<Piece>, toks: VecDeque<Tok>) -> Result<(), AllocError>
-    ensures { IfOk result (λ _. map piece_shown out.new.items ≡ map piece_shown out.old.items ++ map free (map tok_shown toks.items)) }
+    ensures { IfOk result
+        (λ _. map piece_shown out.new.items ≡ map piece_shown out.old.items ++ map free (map tok_shown toks.items)) }
 {
     let mut toks = toks;
     while let Some(t) = toks.pop_front() {
@@ -334,7 +343,10 @@ fn body_pieces(
     full: &[Vec<Tok>],
     body: &[Part],
 ) -> Result<VecDeque<Piece>, AllocError>
-    ensures { IfOk result (λ r. map piece_shown r.items ≡ flat_map (pieces_of line (map toks_shown written.now) (map toks_shown full.now)) (map part_shown body.now)) }
+    ensures { IfOk result (λ r.
+        map piece_shown r.items
+        ≡ flat_map (pieces_of line (map toks_shown written.now) (map toks_shown full.now))
+        (map part_shown body.now)) }
 {
     let mut out = VecDeque::new(alloc);
     for p in body {
@@ -351,7 +363,8 @@ fn join_toks<R: Spellings>(
     left: Option<Tok>,
     right: Option<Tok>,
 ) -> Result<Option<Tok>, AllocError>
-    ensures { IfOk result (λ r. option_map tok_shown r ≡ join (R.kinds reader.now) (option_map tok_shown left) (option_map tok_shown right)) }
+    ensures { IfOk result (λ r.
+        option_map tok_shown r ≡ join (R.kinds reader.now) (option_map tok_shown left) (option_map tok_shown right)) }
 {
     match left {
         None => Ok(right),
@@ -372,7 +385,9 @@ fn glued<R: Spellings>(
     left: Piece,
     right: Piece,
 ) -> Result<Piece, AllocError>
-    ensures { IfOk result (λ r. piece_shown r ≡ record { tok = join (R.kinds reader.now) (piece_shown left).tok (piece_shown right).tok; glue = false }) }
+    ensures { IfOk result (λ r.
+        piece_shown r
+        ≡ record { tok = join (R.kinds reader.now) (piece_shown left).tok (piece_shown right).tok; glue = false }) }
 {
     let tok = join_toks(alloc, reader, left.tok, right.tok)?;
     Ok(Piece { tok, glue: false })
@@ -385,7 +400,8 @@ fn paste_rest<R: Spellings>(
     first: Piece,
     rest: VecDeque<Piece>,
 ) -> Result<VecDeque<Piece>, AllocError>
-    ensures { IfOk result (λ r. map piece_shown r.items ≡ paste_from (R.kinds reader.now) (piece_shown first) (map piece_shown rest.items)) }
+    ensures { IfOk result (λ r.
+        map piece_shown r.items ≡ paste_from (R.kinds reader.now) (piece_shown first) (map piece_shown rest.items)) }
 {
     let mut out = VecDeque::new(alloc);
     let mut p = first;
@@ -430,7 +446,8 @@ fn hidden_tok(alloc: Global, hide: &[Vec<u8>], tok: Tok) -> Result<Tok, AllocErr
 
 /// The tokens of pieces, without placemarkers, each with more names in its hide set.
 fn kept_toks(alloc: Global, hide: &[Vec<u8>], ps: VecDeque<Piece>) -> Result<Vec<Tok>, AllocError>
-    ensures { IfOk result (λ r. map tok_shown r.items ≡ map (hidden (map (λ n. n.items) hide.now)) (kept (map piece_shown ps.items))) }
+    ensures { IfOk result
+        (λ r. map tok_shown r.items ≡ map (hidden (map (λ n. n.items) hide.now)) (kept (map piece_shown ps.items))) }
 {
     let mut out = Vec::new(alloc);
     let mut ps = ps;
@@ -453,7 +470,10 @@ pub fn replacement_of<R: Spellings>(
     full: &[Vec<Tok>],
     body: &[Part],
 ) -> Result<Vec<Tok>, AllocError>
-    ensures { IfOk result (λ r. map tok_shown r.items ≡ replacement (R.kinds reader.now) line (map (λ n. n.items) hide.now) (map toks_shown written.now) (map toks_shown full.now) (map part_shown body.now)) }
+    ensures { IfOk result (λ r.
+        map tok_shown r.items
+        ≡ replacement (R.kinds reader.now) line (map (λ n. n.items) hide.now) (map toks_shown written.now)
+        (map toks_shown full.now) (map part_shown body.now)) }
 {
     let made = body_pieces(alloc, line, written, full, body)?;
     let pasted = paste_pieces(alloc, reader, made)?;

@@ -9,7 +9,8 @@ use Rattle.pp_items.specs.declared.cut.Within.TheVariants.{Text, Directive}
 
 -- the sections that are cut, and those that these items go on with
 abbrev pub sections_with : Cutter → List Streamed → List Section
-sections_with c rest = map section_shown c.done.items ++ cut_from c.dialect (within_shown c.within (items_shown c.items)) rest
+sections_with c rest =
+    map section_shown c.done.items ++ cut_from c.dialect (within_shown c.within (items_shown c.items)) rest
 
 -- a directive that defines a function-like macro
 abbrev pub opened : Within → Within

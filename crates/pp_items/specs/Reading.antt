@@ -15,8 +15,10 @@ pub record IsReaderOf (text : List ℕ) (r : Reader) : Type 0 where
   pub text_is : r.lines.text.now ≡ text
   pub spans : AreBetween r.lines.at r.chars.chars (length text)
 
--- The reader has read this item, as phase 4 meets it, where what stands before its gap has this place, and stands behind it.
-pub record IsRead (text : List ℕ) (place : Place) (old new : Reader) (s : Streamed) (read : ReadItem) (rest : List LogicalChar) : Type 0 where
+-- The reader has read this item, as phase 4 meets it, where what stands before its gap has this place, and stands
+-- behind it.
+pub record IsRead (text : List ℕ) (place : Place) (old new : Reader) (s : Streamed) (read : ReadItem)
+    (rest : List LogicalChar) : Type 0 where
   pub item : streamed_shown s ≡ streamed_at text old.after_comment place read
   pub chars : new.chars.chars ≡ rest
   pub after : new.after_comment ≡ is_comment read.kind

@@ -43,7 +43,8 @@ kind_shown KindValue.Unknown = SectionKind.Unknown
 
 -- a section
 abbrev pub section_shown : PpSection → Section
-section_shown s = record { kind = kind_shown s.kind; function_like = s.function_like; items = items_shown s.items; next = s.next }
+section_shown s =
+    record { kind = kind_shown s.kind; function_like = s.function_like; items = items_shown s.items; next = s.next }
 
 -- the sections of a text, or none where it doesn't lex
 abbrev pub source_shown : Option (Vec PpSection Global) → Source
@@ -59,7 +60,15 @@ part_shown PartValue.OfDirective = Part.OfDirective
 
 -- an item as it is read
 abbrev pub streamed_shown : StreamedValue → Streamed
-streamed_shown s = record { part = part_shown s.part; kind = s.item.kind; text = s.item.text.items; white = s.item.white; line = s.item.line; begun = s.begun }
+streamed_shown s =
+    record {
+      part = part_shown s.part;
+      kind = s.item.kind;
+      text = s.item.text.items;
+      white = s.item.white;
+      line = s.item.line;
+      begun = s.begun;
+    }
 
 -- the section that is read, with its items so far
 abbrev pub within_shown : WithinValue → List Item → Inside

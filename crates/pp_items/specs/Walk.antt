@@ -1,5 +1,6 @@
 -- A walk over the characters of a text, item by item.
-use Rattle.std.specs.Prelude.{◌≡◌, ◌<◌, ◌==◌, ◌||◌, not, ℕ, Bool, List, [], ◌∷◌, ◌++◌, length, find, Option, option_map, codes, nat_lt, if◌then◌else◌}
+use Rattle.std.specs.Prelude.{◌≡◌, ◌<◌, ◌==◌, ◌||◌, not, ℕ, Bool, List, [], ◌∷◌, ◌++◌, length, find, Option, option_map}
+use Rattle.std.specs.Prelude.{codes, nat_lt, if◌then◌else◌}
 use Rattle.c_chars.specs.Characters.{bytes_of}
 use Rattle.c_chars.specs.declared.LogicalChar.{LogicalChar}
 use Rattle.c_grammar.specs.Grammar.{is_new_line, is_same}
@@ -41,7 +42,8 @@ streamed_at text after place i = record {
 }
 
 -- The lexer tells of these characters that this item is next, and then the rest comes.
-pub record IsNextOf (text : List ℕ) (chars : List LogicalChar) (lexeme : Lexeme) (read : ReadItem) (rest : List LogicalChar) : Type 0 where
+pub record IsNextOf (text : List ℕ) (chars : List LogicalChar) (lexeme : Lexeme) (read : ReadItem)
+    (rest : List LogicalChar) : Type 0 where
   pub whole : chars ≡ read.gap ++ (read.chars ++ rest)
   pub some : 0 < length read.chars
   pub kind_is : lexeme.item.kind ≡ read.kind

@@ -75,7 +75,9 @@ impl Cutter {
 
     /// Ends the section that is read, before a line of this number, and begins another.
     fn end_section(&mut self, next: u32, within: Within) -> Result<(), AllocError>
-        ensures done { OnOk result (map section_shown self.new.done.items ≡ map section_shown self.old.done.items ++ ended self.old.dialect (within_shown self.old.within (items_shown self.old.items)) next ∷ []) }
+        ensures done { OnOk result (map section_shown self.new.done.items
+            ≡ map section_shown self.old.done.items
+            ++ ended self.old.dialect (within_shown self.old.within (items_shown self.old.items)) next ∷ []) }
         ensures within { OnOk result (self.new.within ≡ within) }
         ensures items { OnOk result (self.new.items.items ≡ []) }
         ensures dialect { self.new.dialect ≡ self.old.dialect }
@@ -99,7 +101,8 @@ impl Cutter {
 
     /// Keeps an item, unless it is a comment.
     fn keep(&mut self, streamed: Streamed) -> Result<(), AllocError>
-        ensures items { OnOk result (items_shown self.new.items ≡ add_item (items_shown self.old.items) (streamed_shown streamed)) }
+        ensures items { OnOk result
+            (items_shown self.new.items ≡ add_item (items_shown self.old.items) (streamed_shown streamed)) }
         ensures done { self.new.done ≡ self.old.done }
         ensures within { self.new.within ≡ self.old.within }
         ensures dialect { self.new.dialect ≡ self.old.dialect }
@@ -113,7 +116,11 @@ impl Cutter {
 
     /// Ends a directive, before a line of this number. A text goes on.
     fn end_directive(&mut self, next: u32) -> Result<(), AllocError>
-        ensures sections { OnOk result ((s : ReadStreamed) (rest : List ReadStreamed) → s.part ≡ OfText → s.begun ≡ next → sections_with self.old (s ∷ rest) ≡ map section_shown self.new.done.items ++ cut_from self.new.dialect (InText (add_item (items_shown self.new.items) s)) rest) }
+        ensures sections { OnOk result ((s : ReadStreamed) (rest : List ReadStreamed) → s.part ≡ OfText →
+            s.begun ≡ next →
+            sections_with self.old (s ∷ rest)
+            ≡ map section_shown self.new.done.items
+            ++ cut_from self.new.dialect (InText (add_item (items_shown self.new.items) s)) rest) }
         ensures text { OnOk result (self.new.within ≡ Within.Text) }
         ensures dialect { self.new.dialect ≡ self.old.dialect }
     {
@@ -140,7 +147,8 @@ impl Cutter {
 
     /// Takes the next item.
     pub fn take(&mut self, streamed: Streamed) -> Result<(), AllocError>
-        ensures sections { OnOk result ((rest : List ReadStreamed) → sections_with self.new rest ≡ sections_with self.old (streamed_shown streamed ∷ rest)) }
+        ensures sections { OnOk result ((rest : List ReadStreamed) →
+            sections_with self.new rest ≡ sections_with self.old (streamed_shown streamed ∷ rest)) }
         ensures dialect { self.new.dialect ≡ self.old.dialect }
     {
         match streamed.part {

@@ -99,7 +99,10 @@ impl<'s> Reader<'s> {
     ) -> Result<Streamed, AllocError>
         requires reader { IsReaderOf self.old.lines.text.now self.old }
         requires next { HasNext self.old.lines.text.now self.old.chars.chars lexeme.now }
-        ensures read { IfOk result (λ s. (read : ReadItem) (rest : List LogicalChar) → IsNextOf self.old.lines.text.now self.old.chars.chars lexeme.now read rest → IsRead self.old.lines.text.now (place_of stood) self.old self.new s read rest) }
+        ensures read { IfOk result (λ s.
+            (read : ReadItem) (rest : List LogicalChar) →
+            IsNextOf self.old.lines.text.now self.old.chars.chars lexeme.now read rest →
+            IsRead self.old.lines.text.now (place_of stood) self.old self.new s read rest) }
         ensures reader { IfOk result (λ s. IsReaderOf self.old.lines.text.now self.new) }
     {
         let start = lexeme.item.start as usize;

@@ -25,10 +25,11 @@ pub record AreTwinSettings (d : Dialect) (s t : Setting) : Type 0 where
   pub depth : s.depth ≡ t.depth
   pub turns : s.turns ≡ t.turns
 
--- Under every setting both give the same events in order, but for the numbers that `__LINE__` became and for the amounts
--- of white space in strings that `#` made.
+-- Under every setting both give the same events in order, but for the numbers that `__LINE__` became and for the
+-- amounts of white space in strings that `#` made.
 abbrev pub Alike : Dialect → List ℕ → List ℕ → Type 0
-Alike d b c = (s t : Setting) → AreTwinSettings d s t → map erase_event (Preprocess d s b) ≡ map erase_event (Preprocess d t c)
+Alike d b c =
+    (s t : Setting) → AreTwinSettings d s t → map erase_event (Preprocess d s b) ≡ map erase_event (Preprocess d t c)
 
 -- Twins preprocess alike: under every setting and number of turns, with included files replaced by twins or not.
 abbrev pub TwinsPreprocessAlike : Type 0

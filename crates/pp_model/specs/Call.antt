@@ -1,5 +1,6 @@
 -- Whether a token begins a replacement (C11 6.10.3p9, p10), and the collection of a call's arguments (6.10.3p11, p12).
-use Rattle.std.specs.Prelude.{ℕ, suc, ◌-◌, ◌+◌, nat_eq, Bool, true, false, not, ◌&&◌, ◌||◌, List, [], ◌∷◌, ◌++◌, length, Option, Some, None, option_and_then}
+use Rattle.std.specs.Prelude.{ℕ, suc, ◌-◌, ◌+◌, nat_eq, Bool, true, false, not, ◌&&◌, ◌||◌, List, [], ◌∷◌, ◌++◌, length}
+use Rattle.std.specs.Prelude.{Option, Some, None, option_and_then}
 use Rattle.pp_model.specs.Token.{Tok, Name, is_text, is_in, common, text_of}
 use Rattle.c_grammar.specs.Touch.{is_identifier}
 use Rattle.pp_model.specs.Macro.{Macro, Table, lookup}
@@ -56,11 +57,14 @@ abbrev pub no_tokens : List (List Tok) → Bool
 no_tokens ([] ∷ []) = true
 no_tokens _ = false
 
--- The number of arguments is right (6.10.3p4): one for each parameter and at least one for `...`; `F()` gives none to a macro
--- without parameters.
+-- The number of arguments is right (6.10.3p4): one for each parameter and at least one for `...`; `F()` gives none to a
+-- macro without parameters.
 abbrev pub fits : Macro → List (List Tok) → Bool
 fits m args =
-    elim m.variadic [ true ↦ nat_eq (length args) (m.arity + 1) | false ↦ nat_eq (length args) m.arity || (nat_eq m.arity 0 && no_tokens args) ]
+    elim m.variadic [
+      | true ↦ nat_eq (length args) (m.arity + 1)
+      | false ↦ nat_eq (length args) m.arity || (nat_eq m.arity 0 && no_tokens args)
+    ]
 
 -- a replacement that begins: its macro, what will hide its result, the arguments, and what follows
 pub record Begun : Type 0 where
@@ -76,7 +80,10 @@ limit_of m = elim m.variadic [ true ↦ Some m.arity | false ↦ None ]
 -- A call hides its result by its own name, and by what hides both its name and its `)`.
 abbrev pub with_actuals : Macro → Tok → Actuals → Option Begun
 with_actuals m t a =
-    elim (fits m a.args) [ true ↦ Some record { macro = m; hide = m.name ∷ common t.hide a.close; args = a.args; after = a.after } | false ↦ None ]
+    elim (fits m a.args) [
+      | true ↦ Some record { macro = m; hide = m.name ∷ common t.hide a.close; args = a.args; after = a.after }
+      | false ↦ None
+    ]
 
 -- a function-like macro's name is a call only before `(`
 abbrev pub begin_call : Macro → Tok → List Tok → Option Begun
@@ -87,12 +94,16 @@ begin_call m t (u ∷ us) =
 -- An object-like macro hides its result by its own name, and by what hides that name.
 abbrev pub begin_macro : Tok → List Tok → Macro → Option Begun
 begin_macro t ts m =
-    elim m.function_like [ true ↦ begin_call m t ts | false ↦ Some record { macro = m; hide = m.name ∷ t.hide; args = []; after = ts } ]
+    elim m.function_like [
+      | true ↦ begin_call m t ts
+      | false ↦ Some record { macro = m; hide = m.name ∷ t.hide; args = []; after = ts }
+    ]
 
 -- the macro that a token names: an identifier that its own hide set doesn't have
 abbrev pub named : Table → Tok → Option Macro
 named table t =
-    elim (is_identifier t.kind && not (is_in (text_of t.token) t.hide)) [ true ↦ lookup table (text_of t.token) | false ↦ None ]
+    elim (is_identifier t.kind && not (is_in (text_of t.token) t.hide))
+    [ true ↦ lookup table (text_of t.token) | false ↦ None ]
 
 -- the replacement that begins with this token before these
 abbrev pub begin : Table → Tok → List Tok → Option Begun

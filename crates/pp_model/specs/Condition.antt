@@ -27,7 +27,14 @@ is_defined table t = is_some (lookup table (text_of t.token))
 
 -- 1 or 0 in the place of a `defined`
 abbrev pub answer : Tok → Bool → Tok
-answer d b = record { token = Plain (elim b [ true ↦ codes "1" | false ↦ codes "0" ]); kind = Number; hide = []; white = d.white; line = d.line }
+answer d b =
+    record {
+      token = Plain (elim b [ true ↦ codes "1" | false ↦ codes "0" ]);
+      kind = Number;
+      hide = [];
+      white = d.white;
+      line = d.line;
+    }
 
 -- an identifier
 abbrev pub is_name : Tok → Bool
@@ -49,7 +56,10 @@ resolve table (Asked d) (t ∷ ts) =
 resolve table (Opened d o) (t ∷ ts) =
     elim (is_name t) [ true ↦ resolve table (Named d o t) ts | false ↦ d ∷ o ∷ t ∷ resolve table Free ts ]
 resolve table (Named d o x) (t ∷ ts) =
-    elim (closes t) [ true ↦ answer d (is_defined table x) ∷ resolve table Free ts | false ↦ d ∷ o ∷ x ∷ t ∷ resolve table Free ts ]
+    elim (closes t) [
+      | true ↦ answer d (is_defined table x) ∷ resolve table Free ts
+      | false ↦ d ∷ o ∷ x ∷ t ∷ resolve table Free ts
+    ]
 
 -- An open conditional: whether a branch was taken, whether the group is, whether an #else was read, and whether it
 -- stands in a skipped group.

@@ -1,5 +1,6 @@
 -- How the operand of a define directive is read (C11 6.10.3): the name, the parameters, and the body cut into parts.
-use Rattle.std.specs.Prelude.{ℕ, zero, suc, Bool, true, false, not, ◌&&◌, ◌||◌, List, [], ◌∷◌, ◌++◌, length, codes, Option, Some, None, option_map, option_and_then, bytes_eq}
+use Rattle.std.specs.Prelude.{ℕ, zero, suc, Bool, true, false, not, ◌&&◌, ◌||◌, List, [], ◌∷◌, ◌++◌, length, codes}
+use Rattle.std.specs.Prelude.{Option, Some, None, option_map, option_and_then, bytes_eq}
 use Rattle.pp_model.specs.Token.{Tok, Name, is_text, is_in, text_of}
 use Rattle.c_grammar.specs.Touch.{is_identifier}
 use Rattle.pp_model.specs.Macro.{Macro, Part, What, Word, Full, Written, Quoted}
@@ -25,8 +26,8 @@ is_name t = is_identifier t.kind
 abbrev pub is_kept_name : Name → Bool
 is_kept_name s = is_in s (codes "defined" ∷ codes "__LINE__" ∷ codes "__VA_ARGS__" ∷ [])
 
--- Where a parameter list is read (6.10p1): behind its (, where a name, ... or ) may follow; behind a name, where a comma or )
--- may; behind a comma, where a name or ... may; behind ..., where ) may.
+-- Where a parameter list is read (6.10p1): behind its (, where a name, ... or ) may follow; behind a name, where a
+-- comma or ) may; behind a comma, where a name or ... may; behind ..., where ) may.
 pub data Place : Type 0 where
   AfterOpen : Place
   AfterName : Place
@@ -60,7 +61,8 @@ abbrev pub is_after_dots : Place → Bool
 is_after_dots AfterDots = true
 is_after_dots _ = false
 
--- The parameter list, from this place on, behind these names. Each name is another one, and none is `__VA_ARGS__` (6.10.3p5, p6).
+-- The parameter list, from this place on, behind these names. Each name is another one, and none is `__VA_ARGS__`
+-- (6.10.3p5, p6).
 abbrev pub params_of : List Name → Place → List Tok → Option Params
 params_of names place [] = None
 params_of names place (t ∷ ts) =
@@ -70,10 +72,11 @@ params_of names place (t ∷ ts) =
         | true ↦ params_of names AfterComma ts
         | false ↦ elim (is_dots t && may_name place) [
           | true ↦ params_of names AfterDots ts
-          | false ↦ elim (is_name t && (may_name place && not (is_in (text_of t.token) (codes "__VA_ARGS__" ∷ names)))) [
-            | true ↦ params_of (names ++ text_of t.token ∷ []) AfterName ts
-            | false ↦ None
-          ]
+          | false ↦
+              elim (is_name t && (may_name place && not (is_in (text_of t.token) (codes "__VA_ARGS__" ∷ names)))) [
+                | true ↦ params_of (names ++ text_of t.token ∷ []) AfterName ts
+                | false ↦ None
+              ]
         ]
       ]
     ]
@@ -131,8 +134,8 @@ abbrev pub quoted_part : Bool → Bool → Option ℕ → Option (List Part) →
 quoted_part glue white None ps = None
 quoted_part glue white (Some i) ps = and_part (record { what = Quoted i; white = white; glue = glue }) ps
 
--- The parts of a body, or none where it is malformed: ## stands between two items (6.10.3.3p1), and in a function-like macro #
--- stands before a parameter (6.10.3.2p1).
+-- The parts of a body, or none where it is malformed: ## stands between two items (6.10.3.3p1), and in a function-like
+-- macro # stands before a parameter (6.10.3.2p1).
 abbrev pub parts_of_body : List Name → Bool → Before → List Tok → Option (List Part)
 parts_of_body names function_like before [] = ends_body before
 parts_of_body names function_like (Hash glue white) (t ∷ ts) =
@@ -143,7 +146,11 @@ parts_of_body names function_like before (t ∷ ts) =
       | false ↦ elim (function_like && is_hash t) [
         | true ↦ parts_of_body names function_like (Hash (is_paste_before before) t.white) ts
         | false ↦ and_part
-            (record { what = what_of (is_paste_before before || paste_next ts) t (param_of names t); white = t.white; glue = is_paste_before before })
+            (record {
+              what = what_of (is_paste_before before || paste_next ts) t (param_of names t);
+              white = t.white;
+              glue = is_paste_before before;
+            })
             (parts_of_body names function_like Item ts)
       ]
     ]

@@ -1,5 +1,5 @@
--- Macro expansion (C11 6.10.3.1, 6.10.3.4) by Prosser's hide sets, as a machine. Each step spends one turn: to read a token, a
--- whole call where it begins one, or to end an argument.
+-- Macro expansion (C11 6.10.3.1, 6.10.3.4) by Prosser's hide sets, as a machine. Each step spends one turn: to read a
+-- token, a whole call where it begins one, or to end an argument.
 use Rattle.std.specs.Prelude.{ℕ, zero, suc, Bool, true, false, ◌&&◌, List, [], ◌∷◌, ◌++◌, codes, Option, Some, None}
 use Rattle.pp_model.specs.Token.{Tok, Name, Line, is_text}
 use Rattle.c_grammar.specs.Touch.{is_identifier}
@@ -8,8 +8,8 @@ use Rattle.pp_model.specs.Macro.{Macro, Table}
 use Rattle.pp_model.specs.Call.{Begun, begin}
 use Rattle.pp_model.specs.Replace.{Reader, replacement}
 
--- A call whose arguments are being expanded, each as if it were all that is left of the file (6.10.3.1p1): the arguments as
--- written, those that are expanded, those that wait, and what stands before and after the call.
+-- A call whose arguments are being expanded, each as if it were all that is left of the file (6.10.3.1p1): the
+-- arguments as written, those that are expanded, those that wait, and what stands before and after the call.
 pub record Call : Type 0 where
   pub macro : Macro
   pub line : ℕ
@@ -26,16 +26,31 @@ pub record State : Type 0 where
   pub out : List Tok
   pub calls : List Call
 
--- With every argument expanded, the replacement is read again with what follows it (6.10.3.4p1). Otherwise the next argument
--- is read.
+-- With every argument expanded, the replacement is read again with what follows it (6.10.3.4p1). Otherwise the next
+-- argument is read.
 abbrev pub resume : Reader → Call → List Call → List (List Tok) → State
 resume read c calls [] =
-    record { rest = replacement read c.line c.hide c.written c.full c.macro.body ++ c.after; out = c.before; calls = calls }
+    record {
+      rest = replacement read c.line c.hide c.written c.full c.macro.body ++ c.after;
+      out = c.before;
+      calls = calls;
+    }
 resume read c calls (a ∷ waiting) =
     record {
       rest = a;
       out = [];
-      calls = record { macro = c.macro; line = c.line; hide = c.hide; written = c.written; full = c.full; waiting = waiting; before = c.before; after = c.after } ∷ calls;
+      calls =
+          record {
+            macro = c.macro;
+            line = c.line;
+            hide = c.hide;
+            written = c.written;
+            full = c.full;
+            waiting = waiting;
+            before = c.before;
+            after = c.after;
+          }
+          ∷ calls;
     }
 
 -- `__LINE__`
@@ -53,7 +68,16 @@ settle t = elim (is_line t) [ true ↦ line_token t | false ↦ t ]
 -- a call that begins, with what was read before it
 abbrev pub opened : Tok → List Tok → Begun → Call
 opened t out b =
-    record { macro = b.macro; line = t.line; hide = b.hide; written = b.args; full = []; waiting = b.args; before = out; after = b.after }
+    record {
+      macro = b.macro;
+      line = t.line;
+      hide = b.hide;
+      written = b.args;
+      full = [];
+      waiting = b.args;
+      before = out;
+      after = b.after;
+    }
 
 -- reads a token that begins no replacement, or one that does
 abbrev pub read_on : Reader → Tok → List Tok → List Tok → List Call → Option Begun → State
@@ -63,7 +87,16 @@ read_on read t ts out calls (Some b) = resume read (opened t out b) calls b.args
 -- with one more argument expanded
 abbrev pub expanded : Call → List Tok → Call
 expanded c out =
-    record { macro = c.macro; line = c.line; hide = c.hide; written = c.written; full = c.full ++ out ∷ []; waiting = c.waiting; before = c.before; after = c.after }
+    record {
+      macro = c.macro;
+      line = c.line;
+      hide = c.hide;
+      written = c.written;
+      full = c.full ++ out ∷ [];
+      waiting = c.waiting;
+      before = c.before;
+      after = c.after;
+    }
 
 -- the end of an argument
 abbrev pub close : Reader → List Tok → List Call → State

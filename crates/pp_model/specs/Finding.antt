@@ -1,15 +1,19 @@
--- The grammar of items as functions: the kind of a spelling, and the items of a text. What they find is what the grammar's
--- relations say, and nothing else (`KindsAreFound`, `ItemsAreFound`).
-use Rattle.std.specs.Prelude.{◌≡◌, ◌==◌, ◌↔◌, ℕ, zero, suc, Bool, true, false, not, ◌&&◌, ◌||◌, List, [], ◌∷◌, ◌++◌, length, Option, Some, None, option_map, option_and_then, find, codes, IsFalse}
+-- The grammar of items as functions: the kind of a spelling, and the items of a text. What they find is what the
+-- grammar's relations say, and nothing else (`KindsAreFound`, `ItemsAreFound`).
+use Rattle.std.specs.Prelude.{◌≡◌, ◌==◌, ◌↔◌, ℕ, zero, suc, Bool, true, false, not, ◌&&◌, ◌||◌, List, [], ◌∷◌, ◌++◌}
+use Rattle.std.specs.Prelude.{length, Option, Some, None, option_map, option_and_then, find, codes, IsFalse}
 use Rattle.std.specs.List.{list_all}
 use Rattle.c_chars.specs.Characters.{bytes_of, logical}
 use Rattle.c_chars.specs.declared.Dialect.{Dialect}
 use Rattle.c_chars.specs.declared.LogicalChar.{LogicalChar}
-use Rattle.c_grammar.specs.Grammar.{is_of, is_new_line, is_white, is_one, is_same, is_letter_unit, is_word_unit, is_number_head, is_number_unit, is_punctuator, is_char_prefix, is_string_prefix, is_quoted_unit, has_end, is_other_unit, Shape, Whole, Unended, Spells}
+use Rattle.c_grammar.specs.Grammar.{is_of, is_new_line, is_white, is_one, is_same, is_letter_unit, is_word_unit}
+use Rattle.c_grammar.specs.Grammar.{is_number_head, is_number_unit, is_punctuator, is_char_prefix, is_string_prefix}
+use Rattle.c_grammar.specs.Grammar.{is_quoted_unit, has_end, is_other_unit, Shape, Whole, Unended, Spells}
 use Rattle.c_grammar.specs.Items.{Place, LineStart, AfterInclude, past_gap, past_item}
 use Rattle.c_grammar.specs.Text.{ReadItem, LexesText}
 use Rattle.c_grammar.specs.declared.ItemKind.{ItemKind}
-use Rattle.c_grammar.specs.declared.ItemKind.TheVariants.{Identifier, Number, CharConst, StringLit, Punct, HeaderName, StrayQuote, Other, BlockComment, LineComment}
+use Rattle.c_grammar.specs.declared.ItemKind.TheVariants.{Identifier, Number, CharConst, StringLit, Punct, HeaderName}
+use Rattle.c_grammar.specs.declared.ItemKind.TheVariants.{StrayQuote, Other, BlockComment, LineComment}
 
 -- ## Whether a spelling is of a shape
 
@@ -45,12 +49,14 @@ is_inside q may_be_empty b = (may_be_empty || not (is_same b [])) && are_units (
 
 -- a prefix, and the units between two quotes
 abbrev pub is_quoted : (List ℕ → Bool) → ℕ → Bool → List ℕ → Bool
-is_quoted prefix q may_be_empty s = cuts prefix (cuts (is_same (q ∷ [])) (cuts (is_inside q may_be_empty) (is_same (q ∷ [])))) s
+is_quoted prefix q may_be_empty s =
+    cuts prefix (cuts (is_same (q ∷ [])) (cuts (is_inside q may_be_empty) (is_same (q ∷ [])))) s
 
 -- a quote that isn't closed
 abbrev pub is_unclosed : List ℕ → Bool
 is_unclosed [] = false
-is_unclosed (q ∷ s) = is_of (codes "'\"") q && cuts (are_units (is_quoted_unit q)) (λ l. is_same l [] || is_same l (92 ∷ [])) s
+is_unclosed (q ∷ s) =
+    is_of (codes "'\"") q && cuts (are_units (is_quoted_unit q)) (λ l. is_same l [] || is_same l (92 ∷ [])) s
 
 -- no new-line in it
 abbrev pub is_in_line : List ℕ → Bool
@@ -72,14 +78,16 @@ is_open s = cuts (is_same (47 ∷ 42 ∷ [])) (λ b. not (has_end b)) s
 abbrev pub is_trim : List ℕ → Bool
 is_trim s = is_one (λ c. not (is_white c)) s || cuts (is_same (92 ∷ [])) (list_all is_white) s
 
--- two slashes and what stands behind them in the line, without white space at the end unless it would then end in a backslash
+-- two slashes and what stands behind them in the line, without white space at the end unless it would then end in a
+-- backslash
 abbrev pub is_line : List ℕ → Bool
 is_line s = cuts (is_same (47 ∷ [])) (λ t. cuts (is_same (47 ∷ [])) is_in_line t && cuts (λ f. true) is_trim t) s
 
 -- what stands between two such characters in one line; there is something
 abbrev pub is_between : ℕ → ℕ → List ℕ → Bool
 is_between first last s =
-    cuts (is_same (first ∷ [])) (cuts (λ b. list_all (λ c. not (c == last) && not (is_new_line c)) b && not (is_same b [])) (is_same (last ∷ []))) s
+    cuts (is_same (first ∷ [])) (cuts
+    (λ b. list_all (λ c. not (c == last) && not (is_new_line c)) b && not (is_same b [])) (is_same (last ∷ []))) s
 
 -- a header name
 abbrev pub is_header_name : List ℕ → Bool
@@ -102,7 +110,8 @@ spells d Unended s = is_open s
 -- all shapes
 abbrev pub shapes : List Shape
 shapes =
-    Whole Identifier ∷ Whole Number ∷ Whole CharConst ∷ Whole StringLit ∷ Whole Punct ∷ Whole HeaderName ∷ Whole StrayQuote ∷ Whole Other
+    Whole Identifier ∷ Whole Number ∷ Whole CharConst ∷ Whole StringLit ∷ Whole Punct ∷ Whole HeaderName
+    ∷ Whole StrayQuote ∷ Whole Other
     ∷ Whole BlockComment ∷ Whole LineComment ∷ Unended ∷ []
 
 -- the shape of a spelling
@@ -126,7 +135,9 @@ kind_of d s = option_and_then token_kind (shape_of d s)
 
 -- A kind is found exactly where the spelling is one of this kind.
 abbrev pub KindsAreFound : Type 0
-KindsAreFound = (d : Dialect) (s : List ℕ) (kind : ItemKind) → (kind_of d s ≡ Some kind) ↔ (Spells d (Whole kind) s × IsFalse (is_comment kind))
+KindsAreFound =
+    (d : Dialect) (s : List ℕ) (kind : ItemKind) → (kind_of d s ≡ Some kind) ↔
+    (Spells d (Whole kind) s × IsFalse (is_comment kind))
 
 -- ## The items of a text
 
@@ -192,9 +203,12 @@ abbrev pub with_item : ReadItem → Items → Items
 with_item i is = record { items = i ∷ is.items; last = is.last }
 
 -- the item found behind this gap at this place, and then those that `go` finds in the rest
-abbrev pub item_found : Dialect → Place → List LogicalChar → (Place → List LogicalChar → Option Items) → Found → Option Items
+abbrev pub item_found : Dialect → Place → List LogicalChar → (Place → List LogicalChar → Option Items) → Found →
+    Option Items
 item_found d place gap go f = elim f.shape [
-  | Whole kind ↦ option_map (with_item (record { kind = kind; gap = gap; chars = f.chars })) (go (past_item d place kind (bytes_of f.chars)) f.rest)
+  | Whole kind ↦
+      option_map (with_item (record { kind = kind; gap = gap; chars = f.chars }))
+      (go (past_item d place kind (bytes_of f.chars)) f.rest)
   | Unended ↦ None
 ]
 
@@ -203,14 +217,16 @@ abbrev pub no_items : List LogicalChar → Items
 no_items s = record { items = []; last = s }
 
 -- what stands behind the gap: nothing, or the next item
-abbrev pub found_behind : Dialect → Place → List LogicalChar → (Place → List LogicalChar → Option Items) → List LogicalChar → Option Items
+abbrev pub found_behind : Dialect → Place → List LogicalChar → (Place → List LogicalChar → Option Items) →
+    List LogicalChar → Option Items
 found_behind d place gap go [] = Some (no_items gap)
 found_behind d place gap go (c ∷ s) = option_and_then (item_found d place gap go) (next_at d place (c ∷ s))
 
 -- the items of these characters, at most n of them, from this place on; none where something else is left
 abbrev pub items_from : Dialect → ℕ → Place → List LogicalChar → Option Items
 items_from d zero place s = elim (behind_gap s) [ [] ↦ Some (no_items s) | c ∷ r ↦ None ]
-items_from d (suc n) place s = found_behind d (past_gap place (bytes_of (gap_of s))) (gap_of s) (λ p r. items_from d n p r) (behind_gap s)
+items_from d (suc n) place s =
+    found_behind d (past_gap place (bytes_of (gap_of s))) (gap_of s) (λ p r. items_from d n p r) (behind_gap s)
 
 -- the items of a text, or none where it doesn't lex
 abbrev pub items_of : Dialect → List ℕ → Option Items

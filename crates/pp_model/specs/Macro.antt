@@ -2,8 +2,8 @@
 use Rattle.std.specs.Prelude.{ℕ, Bool, List, Option, find, bytes_eq}
 use Rattle.pp_model.specs.Token.{Tok, Name}
 
--- A part of a body: a token; a parameter in whose place the expanded argument comes (6.10.3.1); one beside ##, in whose place
--- it comes as it is written (6.10.3.3p2); one behind #, in whose place it comes as a string (6.10.3.2).
+-- A part of a body: a token; a parameter in whose place the expanded argument comes (6.10.3.1); one beside ##, in whose
+-- place it comes as it is written (6.10.3.3p2); one behind #, in whose place it comes as a string (6.10.3.2).
 pub data What : Type 0 where
   Word : Tok → What
   Full : ℕ → What

@@ -1,5 +1,6 @@
 -- Translation phase 4 (C11 5.1.1.2, 6.10) over the sections of a text.
-use Rattle.std.specs.Prelude.{ℕ, zero, suc, ◌+◌, ◌-◌, ◌*◌, nat_le, Bool, true, false, not, ◌&&◌, List, [], ◌∷◌, ◌++◌, map, filter, Option, Some, None, bytes_eq, fold}
+use Rattle.std.specs.Prelude.{ℕ, zero, suc, ◌+◌, ◌-◌, ◌*◌, nat_le, Bool, true, false, not, ◌&&◌, List, [], ◌∷◌, ◌++◌}
+use Rattle.std.specs.Prelude.{map, filter, Option, Some, None, bytes_eq, fold}
 use Rattle.std.specs.Str.{all_ascii_digits}
 use Rattle.pp_model.specs.Token.{PpToken, Plain, erase, Tok, Name, text_of}
 use Rattle.c_grammar.specs.declared.ItemKind.{ItemKind}
@@ -12,7 +13,8 @@ use Rattle.pp_model.specs.Condition.{Free, resolve, is_defined, Cond, is_active,
 
 -- ## What is read
 
--- an item of a section, comments aside: its kind and spelling, whether white space stands before it, and its physical line
+-- an item of a section, comments aside: its kind and spelling, whether white space stands before it, and its physical
+-- line
 pub record Item : Type 0 where
   pub kind : ItemKind
   pub text : List ℕ
@@ -41,8 +43,8 @@ pub data SectionKind : Type 0 where
   Null : SectionKind
   Unknown : SectionKind
 
--- A text, or a directive with the items behind its name (behind the # of an unknown one); whether it defines a function-like
--- macro; the physical line behind it.
+-- A text, or a directive with the items behind its name (behind the # of an unknown one); whether it defines a
+-- function-like macro; the physical line behind it.
 pub record Section : Type 0 where
   pub kind : SectionKind
   pub function_like : Bool
@@ -56,8 +58,8 @@ pub data Source : Type 0 where
 
 -- ## What comes out
 
--- What comes out, in order: tokens, directives that are left to the compiler, and what went wrong. The tokens of Malformed are
--- those of an unknown directive, and otherwise none.
+-- What comes out, in order: tokens, directives that are left to the compiler, and what went wrong. The tokens of
+-- Malformed are those of an unknown directive, and otherwise none.
 pub data Event : Type 0 where
   TokenEvent : PpToken → Event
   PragmaEvent : List PpToken → Event
@@ -85,8 +87,9 @@ erase_event TurnsSpent = TurnsSpent
 
 -- ## The state
 
--- The macros, the turns that are left, the events so far, whether the turns were spent, the text that waits for its expansion,
--- the open conditionals, the innermost first, and the number that the section just read gives to the next line.
+-- The macros, the turns that are left, the events so far, whether the turns were spent, the text that waits for its
+-- expansion, the open conditionals, the innermost first, and the number that the section just read gives to the next
+-- line.
 pub record World : Type 0 where
   pub table : Table
   pub turns : ℕ
@@ -98,31 +101,94 @@ pub record World : Type 0 where
 
 -- with this table
 abbrev pub with_table : Table → World → World
-with_table table w = record { table = table; turns = w.turns; events = w.events; over = w.over; pending = w.pending; conds = w.conds; jump = w.jump }
+with_table table w =
+    record {
+      table = table;
+      turns = w.turns;
+      events = w.events;
+      over = w.over;
+      pending = w.pending;
+      conds = w.conds;
+      jump = w.jump;
+    }
 
 -- with so many turns left
 abbrev pub with_turns : ℕ → World → World
-with_turns turns w = record { table = w.table; turns = turns; events = w.events; over = w.over; pending = w.pending; conds = w.conds; jump = w.jump }
+with_turns turns w =
+    record {
+      table = w.table;
+      turns = turns;
+      events = w.events;
+      over = w.over;
+      pending = w.pending;
+      conds = w.conds;
+      jump = w.jump;
+    }
 
 -- with this pending text
 abbrev pub with_pending : List Tok → World → World
-with_pending pending w = record { table = w.table; turns = w.turns; events = w.events; over = w.over; pending = pending; conds = w.conds; jump = w.jump }
+with_pending pending w =
+    record {
+      table = w.table;
+      turns = w.turns;
+      events = w.events;
+      over = w.over;
+      pending = pending;
+      conds = w.conds;
+      jump = w.jump;
+    }
 
 -- with these open conditionals
 abbrev pub with_conds : List Cond → World → World
-with_conds conds w = record { table = w.table; turns = w.turns; events = w.events; over = w.over; pending = w.pending; conds = conds; jump = w.jump }
+with_conds conds w =
+    record {
+      table = w.table;
+      turns = w.turns;
+      events = w.events;
+      over = w.over;
+      pending = w.pending;
+      conds = conds;
+      jump = w.jump;
+    }
 
 -- with this number, or none, for the next line
 abbrev pub with_jump : Option ℕ → World → World
-with_jump jump w = record { table = w.table; turns = w.turns; events = w.events; over = w.over; pending = w.pending; conds = w.conds; jump = jump }
+with_jump jump w =
+    record {
+      table = w.table;
+      turns = w.turns;
+      events = w.events;
+      over = w.over;
+      pending = w.pending;
+      conds = w.conds;
+      jump = jump;
+    }
 
 -- with these events behind the others
 abbrev pub emit : List Event → World → World
-emit es w = record { table = w.table; turns = w.turns; events = w.events ++ es; over = w.over; pending = w.pending; conds = w.conds; jump = w.jump }
+emit es w =
+    record {
+      table = w.table;
+      turns = w.turns;
+      events = w.events ++ es;
+      over = w.over;
+      pending = w.pending;
+      conds = w.conds;
+      jump = w.jump;
+    }
 
 -- no turn is left
 abbrev pub spend : World → World
-spend w = record { table = w.table; turns = 0; events = w.events ++ TurnsSpent ∷ []; over = true; pending = []; conds = w.conds; jump = w.jump }
+spend w =
+    record {
+      table = w.table;
+      turns = 0;
+      events = w.events ++ TurnsSpent ∷ [];
+      over = true;
+      pending = [];
+      conds = w.conds;
+      jump = w.jump;
+    }
 
 -- something that 6.10 doesn't allow
 abbrev pub malformed : World → World
@@ -197,7 +263,8 @@ left c cs w = with_conds (record { taken = true; active = false; had_else = c.ha
 -- conditional, nor behind an #else.
 abbrev pub branch : (Cond → List Cond → World → World) → List Cond → World → World
 branch go [] w = malformed w
-branch go (c ∷ cs) w = elim c.had_else [ true ↦ blame c w | false ↦ elim c.taken [ true ↦ left c cs w | false ↦ go c cs w ] ]
+branch go (c ∷ cs) w =
+    elim c.had_else [ true ↦ blame c w | false ↦ elim c.taken [ true ↦ left c cs w | false ↦ go c cs w ] ]
 
 -- the last group, taken where none before it was
 abbrev pub otherwise : List Cond → World → World
@@ -228,7 +295,8 @@ without name table = filter (λ m. not (bytes_eq m.name name)) table
 abbrev pub undef : List Tok → World → World
 undef [] w = malformed w
 undef (t ∷ ts) w =
-    elim (is_name t && not (is_kept_name (text_of t.token))) [ true ↦ with_table (without (text_of t.token) w.table) w | false ↦ malformed w ]
+    elim (is_name t && not (is_kept_name (text_of t.token)))
+    [ true ↦ with_table (without (text_of t.token) w.table) w | false ↦ malformed w ]
 
 -- the value of decimal digits
 abbrev pub number_of : List ℕ → ℕ
@@ -262,7 +330,8 @@ embed_read w Spent = spend w
 -- an embed directive
 abbrev pub embedded : Reader → List Tok → World → World
 embedded read ts w =
-    elim (names_header ts) [ true ↦ emit (EmbedEvent (spelled ts) ∷ []) w | false ↦ embed_read w (expand read w.table w.turns ts) ]
+    elim (names_header ts)
+    [ true ↦ emit (EmbedEvent (spelled ts) ∷ []) w | false ↦ embed_read w (expand read w.table w.turns ts) ]
 
 -- what a directive does: 6.10.3, 6.10.3.5, 6.10.4, 6.10.5, 6.10.6 and 6.10.7
 abbrev pub act : Reader → SectionKind → Bool → List Tok → World → World
@@ -287,7 +356,8 @@ acted read kind function_like ts w =
 
 -- every section but an include directive; conditionals don't cut the pending text
 abbrev pub plain : Reader → (List PpToken → Bool) → SectionKind → Bool → List Tok → World → World
-plain read holds Text function_like ts w = elim (is_active w.conds) [ true ↦ with_pending (w.pending ++ ts) w | false ↦ w ]
+plain read holds Text function_like ts w =
+    elim (is_active w.conds) [ true ↦ with_pending (w.pending ++ ts) w | false ↦ w ]
 plain read holds If function_like ts w = if_active (test read holds begin_if ts) w
 plain read holds Ifdef function_like ts w = if_active (asked true begin_if ts) w
 plain read holds Ifndef function_like ts w = if_active (asked false begin_if ts) w
@@ -358,7 +428,10 @@ tok_of s i = record { token = Plain i.text; kind = i.kind; hide = []; white = i.
 -- one section
 abbrev pub one_section : Reader → (List PpToken → Bool) → Includer → Shift → Section → World → World
 one_section read holds include shift x w =
-    elim (is_include x.kind) [ true ↦ included read include (map (tok_of shift) x.items) (with_jump None w) | false ↦ plain read holds x.kind x.function_like (map (tok_of shift) x.items) (with_jump None w) ]
+    elim (is_include x.kind) [
+      | true ↦ included read include (map (tok_of shift) x.items) (with_jump None w)
+      | false ↦ plain read holds x.kind x.function_like (map (tok_of shift) x.items) (with_jump None w)
+    ]
 
 -- a Malformed for each conditional that is open, but for those in skipped groups
 abbrev pub left_open : List Cond → List Event
@@ -385,8 +458,8 @@ abbrev pub read_source : Reader → (List PpToken → Bool) → Includer → Wor
 read_source read holds include w (Lexed xs) = walk read holds include unmoved w xs
 read_source read holds include w NotLexed = emit (Unlexed ∷ []) w
 
--- An included text begins with no pending text and no open conditional, and leaves those of the text around it. It has its own
--- lines; its macros stay.
+-- An included text begins with no pending text and no open conditional, and leaves those of the text around it. It has
+-- its own lines; its macros stay.
 abbrev pub inside : World → World
 inside w = with_conds [] (with_pending [] w)
 
@@ -407,9 +480,11 @@ includer read holds files (suc d) w key =
 
 -- at the start
 abbrev pub starting : Table → ℕ → World
-starting table turns = record { table = table; turns = turns; events = []; over = false; pending = []; conds = []; jump = None }
+starting table turns =
+    record { table = table; turns = turns; events = []; over = false; pending = []; conds = []; jump = None }
 
 -- the events of a text
-abbrev pub preprocess : Reader → (List PpToken → Bool) → (List PpToken → Option Source) → ℕ → Table → ℕ → Source → List Event
+abbrev pub preprocess : Reader → (List PpToken → Bool) → (List PpToken → Option Source) → ℕ → Table → ℕ → Source →
+    List Event
 preprocess read holds files depth table turns src =
     (read_source read holds (includer read holds files depth) (starting table turns) src).events

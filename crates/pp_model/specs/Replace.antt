@@ -1,7 +1,8 @@
--- What a macro's body becomes (C11 6.10.3.1 to 6.10.3.3): parameters are replaced, then ## pastes from left to right, then
--- placemarkers vanish.
+-- What a macro's body becomes (C11 6.10.3.1 to 6.10.3.3): parameters are replaced, then ## pastes from left to right,
+-- then placemarkers vanish.
 use Rattle.std.specs.Prelude.{ℕ, zero, suc, Bool, true, false, List, [], ◌∷◌, ◌++◌, map, Option, Some, None, flat_map}
-use Rattle.pp_model.specs.Token.{Tok, Name, PpToken, Plain, Line, Str, Pasted, Spaceds, no_part, part, PpTokens, no_token, one_more, common}
+use Rattle.pp_model.specs.Token.{Tok, Name, PpToken, Plain, Line, Str, Pasted, Spaceds, no_part, part, PpTokens}
+use Rattle.pp_model.specs.Token.{no_token, one_more, common}
 use Rattle.c_grammar.specs.declared.ItemKind.{ItemKind}
 use Rattle.c_grammar.specs.declared.ItemKind.TheVariants.{Other}
 use Rattle.pp_model.specs.Macro.{Part, What, Word, Full, Written, Quoted}
@@ -43,7 +44,8 @@ lined line t = record { token = t.token; kind = t.kind; hide = t.hide; white = t
 abbrev pub free : Tok → Piece
 free t = record { tok = Some t; glue = false }
 
--- The tokens that come in the place of a part. Only the first is pasted to what stands before; none is a placemarker (6.10.3.3p2).
+-- The tokens that come in the place of a part. Only the first is pasted to what stands before; none is a placemarker
+-- (6.10.3.3p2).
 abbrev pub pieces : Bool → Bool → List Tok → List Piece
 pieces glue white [] = record { tok = None; glue = glue } ∷ []
 pieces glue white (t ∷ ts) = record { tok = Some (placed white t); glue = glue } ∷ map free ts
@@ -112,7 +114,10 @@ join read (Some a) (Some b) = Some (paste read a b)
 abbrev pub paste_from : Reader → Piece → List Piece → List Piece
 paste_from read p [] = p ∷ []
 paste_from read p (q ∷ qs) =
-    elim q.glue [ true ↦ paste_from read (record { tok = join read p.tok q.tok; glue = false }) qs | false ↦ p ∷ paste_from read q qs ]
+    elim q.glue [
+      | true ↦ paste_from read (record { tok = join read p.tok q.tok; glue = false }) qs
+      | false ↦ p ∷ paste_from read q qs
+    ]
 
 -- all pastes of a body
 abbrev pub paste_all : Reader → List Piece → List Piece
@@ -133,7 +138,8 @@ kept (p ∷ ps) = add_kept p.tok (kept ps)
 abbrev pub hidden : List Name → Tok → Tok
 hidden hide t = record { token = t.token; kind = t.kind; hide = hide ++ t.hide; white = t.white; line = t.line }
 
--- What a body becomes with these arguments, as written and expanded, for a name on this line. All of it is hidden by `hide`.
+-- What a body becomes with these arguments, as written and expanded, for a name on this line. All of it is hidden by
+-- `hide`.
 abbrev pub replacement : Reader → ℕ → List Name → List (List Tok) → List (List Tok) → List Part → List Tok
 replacement read line hide written full body =
     map (hidden hide) (kept (paste_all read (flat_map (pieces_of line written full) body)))

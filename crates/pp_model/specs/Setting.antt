@@ -1,6 +1,7 @@
--- What a text is preprocessed with: the macros that are defined from the start, the texts that includes find, the answers
--- to conditions, how deep includes go, and how many turns of expansion there are.
-use Rattle.std.specs.Prelude.{ℕ, Bool, true, false, not, ◌&&◌, ◌||◌, List, [], ◌∷◌, map, length, filter_map, codes, Option, Some, None, option_map, unwrap_or}
+-- What a text is preprocessed with: the macros that are defined from the start, the texts that includes find, the
+-- answers to conditions, how deep includes go, and how many turns of expansion there are.
+use Rattle.std.specs.Prelude.{ℕ, Bool, true, false, not, ◌&&◌, ◌||◌, List, [], ◌∷◌, map, length, filter_map, codes}
+use Rattle.std.specs.Prelude.{Option, Some, None, option_map, unwrap_or}
 use Rattle.c_chars.specs.declared.Dialect.{Dialect}
 use Rattle.c_grammar.specs.declared.ItemKind.{ItemKind}
 use Rattle.c_grammar.specs.declared.ItemKind.TheVariants.{Other}
@@ -64,13 +65,16 @@ is_allowed d = not (is_kept_name d.name) && (not d.function_like || are_differen
 -- the names that stand for arguments in the body
 abbrev pub parameters : MacroDef → List Name
 parameters d =
-    elim d.function_like [ true ↦ all_names (record { names = d.params; variadic = d.variadic; body = [] }) | false ↦ [] ]
+    elim d.function_like
+    [ true ↦ all_names (record { names = d.params; variadic = d.variadic; body = [] }) | false ↦ [] ]
 
 -- the macro of a definition; none where 6.10.3 doesn't allow it
 abbrev pub macro_by : Reader → MacroDef → Option Macro
 macro_by read d =
     elim (is_allowed d) [
-      | true ↦ option_map (with_body d.name d.function_like (length d.params) (d.function_like && d.variadic)) (parts_of_body (parameters d) d.function_like Nothing (map (tok_by read) d.body))
+      | true ↦
+          option_map (with_body d.name d.function_like (length d.params) (d.function_like && d.variadic))
+          (parts_of_body (parameters d) d.function_like Nothing (map (tok_by read) d.body))
       | false ↦ None
     ]
 

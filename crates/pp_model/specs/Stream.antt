@@ -1,5 +1,7 @@
--- The items of a text cut into sections: texts and directives (C11 6.10p2), each item with its white space and its line.
-use Rattle.std.specs.Prelude.{◌==◌, ◌+◌, ◌||◌, not, ℕ, Bool, true, false, List, [], ◌∷◌, ◌++◌, map, filter, length, take, codes, Option, Some, None, bytes_eq}
+-- The items of a text cut into sections: texts and directives (C11 6.10p2), each item with its white space and its
+-- line.
+use Rattle.std.specs.Prelude.{◌==◌, ◌+◌, ◌||◌, not, ℕ, Bool, true, false, List, [], ◌∷◌, ◌++◌, map, filter, length}
+use Rattle.std.specs.Prelude.{take, codes, Option, Some, None, bytes_eq}
 use Rattle.c_chars.specs.Characters.{bytes_of}
 use Rattle.c_chars.specs.declared.Dialect.{Dialect}
 use Rattle.c_chars.specs.declared.Dialect.TheVariants.{C11, C23}
@@ -11,10 +13,12 @@ use Rattle.c_grammar.specs.Touch.{is_identifier}
 use Rattle.c_grammar.specs.Twin.{Part, OfText, BeginsDirective, OpensParameters, OfDirective, parts_of}
 use Rattle.c_grammar.specs.declared.ItemKind.{ItemKind}
 use Rattle.pp_model.specs.Finding.{is_comment, Items, items_of}
-use Rattle.pp_model.specs.Preprocess.{Item, SectionKind, Text, If, Ifdef, Ifndef, Elif, Elifdef, Elifndef, Else, Endif, Include, Define, Undef, LineNumber, Error, Warning, Embed, Pragma, Null, Unknown, Section, Source, Lexed, NotLexed}
+use Rattle.pp_model.specs.Preprocess.{Item, SectionKind, Text, If, Ifdef, Ifndef, Elif, Elifdef, Elifndef, Else, Endif}
+use Rattle.pp_model.specs.Preprocess.{Include, Define, Undef, LineNumber, Error, Warning, Embed, Pragma, Null, Unknown}
+use Rattle.pp_model.specs.Preprocess.{Section, Source, Lexed, NotLexed}
 
--- An item as phase 4 meets it: what it is to a directive, its kind and spelling; whether white space stands before it, its
--- physical line, and the line that the first new-line before it begins.
+-- An item as phase 4 meets it: what it is to a directive, its kind and spelling; whether white space stands before it,
+-- its physical line, and the line that the first new-line before it begins.
 pub record Streamed : Type 0 where
   pub part : Part
   pub kind : ItemKind
@@ -37,7 +41,14 @@ abbrev pub streamed : List ℕ → (after_comment : Bool) → List ReadItem → 
 streamed text after [] ps = []
 streamed text after (i ∷ is) [] = []
 streamed text after (i ∷ is) (p ∷ ps) =
-    record { part = p; kind = i.kind; text = bytes_of i.chars; white = after || not (is_same (bytes_of i.gap) []); line = line_at text (start_of i); begun = line_begun text i.gap }
+    record {
+      part = p;
+      kind = i.kind;
+      text = bytes_of i.chars;
+      white = after || not (is_same (bytes_of i.gap) []);
+      line = line_at text (start_of i);
+      begun = line_begun text i.gap;
+    }
     ∷ streamed text (is_comment i.kind) is ps
 
 -- the stream of a text's items
@@ -46,7 +57,9 @@ stream_of d text items = streamed text false items (parts_of d LineStart (map pi
 
 -- the item, unless it is a comment
 abbrev pub add_item : List Item → Streamed → List Item
-add_item is s = elim (is_comment s.kind) [ true ↦ is | false ↦ is ++ record { kind = s.kind; text = s.text; white = s.white; line = s.line } ∷ [] ]
+add_item is s =
+    elim (is_comment s.kind)
+    [ true ↦ is | false ↦ is ++ record { kind = s.kind; text = s.text; white = s.white; line = s.line } ∷ [] ]
 
 -- the directive of this name
 abbrev pub named_kind : List (List ℕ × SectionKind) → List ℕ → SectionKind
@@ -63,7 +76,9 @@ common_names =
 -- those of the edition
 abbrev pub directive_names : Dialect → List (List ℕ × SectionKind)
 directive_names C11 = common_names
-directive_names C23 = (codes "elifdef", Elifdef) ∷ (codes "elifndef", Elifndef) ∷ (codes "warning", Warning) ∷ (codes "embed", Embed) ∷ common_names
+directive_names C23 =
+    (codes "elifdef", Elifdef) ∷ (codes "elifndef", Elifndef) ∷ (codes "warning", Warning) ∷ (codes "embed", Embed)
+    ∷ common_names
 
 -- no directive that has a name
 abbrev pub is_unknown : SectionKind → Bool
@@ -77,7 +92,12 @@ kind_named d i = elim (is_identifier i.kind) [ true ↦ named_kind (directive_na
 -- A directive without its name, but for an unknown one.
 abbrev pub known_or_not : Bool → ℕ → Item → List Item → SectionKind → Section
 known_or_not fl next i is kind =
-    record { kind = kind; function_like = fl; items = elim (is_unknown kind) [ true ↦ i ∷ is | false ↦ is ]; next = next }
+    record {
+      kind = kind;
+      function_like = fl;
+      items = elim (is_unknown kind) [ true ↦ i ∷ is | false ↦ is ];
+      next = next;
+    }
 
 -- the directive of the items behind its #; without any it is a null directive, 6.10.7
 abbrev pub directive : Dialect → Bool → ℕ → List Item → Section
@@ -108,7 +128,8 @@ abbrev pub in_text : Inside → Bool
 in_text (InText is) = true
 in_text (InDirective fl is) = false
 
--- The sections in order: a `#` that begins a directive ends what is read, and so does an item of a text behind a directive.
+-- The sections in order: a `#` that begins a directive ends what is read, and so does an item of a text behind a
+-- directive.
 abbrev pub cut_from : Dialect → Inside → List Streamed → List Section
 cut_from d at [] = ended d at 0 ∷ []
 cut_from d at (s ∷ ss) = elim s.part [

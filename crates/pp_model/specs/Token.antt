@@ -1,4 +1,5 @@
--- Preprocessing tokens (C11 6.4): those of events, and those of an expansion that is under way; and what Erase leaves of each.
+-- Preprocessing tokens (C11 6.4): those of events, and those of an expansion that is under way; and what Erase leaves
+-- of each.
 use Rattle.std.specs.Prelude.{ℕ, Bool, true, false, cond, not, ◌&&◌, nat_eq, List, [], ◌∷◌, bytes_eq}
 use Rattle.std.specs.List.{list_any, filter}
 use Rattle.c_grammar.specs.declared.ItemKind.{ItemKind}
@@ -7,8 +8,9 @@ use Rattle.c_grammar.specs.declared.ItemKind.{ItemKind}
 abbrev pub same_bool : Bool → Bool → Bool
 same_bool v w = cond v w (not w)
 
--- A token of an event: an item by its spelling; the number that `__LINE__` became (6.10.8.1); the string that # made of an
--- argument, each of its tokens with `white before` (6.10.3.2); a paste that is no item (6.10.3.3p3), with what was pasted.
+-- A token of an event: an item by its spelling; the number that `__LINE__` became (6.10.8.1); the string that # made of
+-- an argument, each of its tokens with `white before` (6.10.3.2); a paste that is no item (6.10.3.3p3), with what was
+-- pasted.
 mutual
   pub data PpToken : Type 0 where
     Plain : List ℕ → PpToken
@@ -69,8 +71,9 @@ list_eq _ _ = false
 abbrev pub Name : Type 0
 Name = List ℕ
 
--- A token while it is expanded: its kind as an item, Other for one that no item spells; the names that hide it from being
--- replaced again (6.10.3.4p2, as Prosser's hide sets have it); whether white space stands before it; its presumed line.
+-- A token while it is expanded: its kind as an item, Other for one that no item spells; the names that hide it from
+-- being replaced again (6.10.3.4p2, as Prosser's hide sets have it); whether white space stands before it; its presumed
+-- line.
 pub record Tok : Type 0 where
   pub token : PpToken
   pub kind : ItemKind

@@ -23,7 +23,8 @@ rules_shown r =
     record {
       kinds = kind_of r.spellings.dialect;
       holds = holds_in (map condition_shown r.setting.now.conditions.items);
-      files = λ k. option_map (source_of r.spellings.dialect) (find_text (map text_shown r.setting.now.includes.items) k);
+      files =
+          λ k. option_map (source_of r.spellings.dialect) (find_text (map text_shown r.setting.now.includes.items) k);
     }
 
 -- what is left of a text
@@ -36,7 +37,8 @@ waiting_shown s = record { text = unread_shown s.text; conds = conds_shown s.con
 
 -- where a reading stands
 abbrev pub reading_shown : ReadingValue → Reading
-reading_shown r = record { world = world_shown r.world; text = unread_shown r.text; waiting = map waiting_shown r.waiting.items }
+reading_shown r =
+    record { world = world_shown r.world; text = unread_shown r.text; waiting = map waiting_shown r.waiting.items }
 
 -- the sections of a text, or none
 abbrev pub sections_shown : Option (Vec PpSection Global) → Option (List Section)

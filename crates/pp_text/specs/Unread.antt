@@ -3,7 +3,8 @@ use Rattle.std.specs.Prelude.{ℕ, ◌-◌, Bool, List, [], ◌∷◌, Option, S
 use Rattle.pp_model.specs.Token.{PpToken}
 use Rattle.pp_model.specs.Condition.{Cond}
 use Rattle.pp_model.specs.Replace.{Reader}
-use Rattle.pp_model.specs.Preprocess.{Section, Source, Shift, World, Includer, walk, includer, moved, unmoved, inside, outside, with_jump, with_conds, with_pending}
+use Rattle.pp_model.specs.Preprocess.{Section, Source, Shift, World, Includer, walk, includer, moved, unmoved, inside}
+use Rattle.pp_model.specs.Preprocess.{outside, with_jump, with_conds, with_pending}
 
 -- what texts are read by: the kinds of spellings, the answers to conditions, and the texts that includes find
 pub record Rules : Type 0 where
@@ -60,7 +61,8 @@ behind_section rules t next ss v = unwound rules ss (read_rest rules (moved_text
 -- behind an include: these sections are those of the text that it finds, or it finds none
 abbrev pub entered : Rules → ℕ → Option (List Section) → World → World
 entered rules depth None w = w
-entered rules depth (Some xs) w = outside w (walk rules.kinds rules.holds (includes_of rules (depth - 1)) unmoved (inside w) xs)
+entered rules depth (Some xs) w =
+    outside w (walk rules.kinds rules.holds (includes_of rules (depth - 1)) unmoved (inside w) xs)
 
 -- where reading stands once an included text begins
 abbrev pub begun_text : List Section → Reading → Reading

@@ -31,7 +31,10 @@ fn operand(
     world: &mut World,
     tokens: VecDeque<Tok>,
 ) -> Result<Option<Vec<Tok>>, AllocError>
-    ensures { IfOk result (λ r. (include : Includer) → include_by (rules_shown rules.now).kinds include (map tok_shown tokens.items) (world_shown world.old) ≡ included_by include r (world_shown world.new)) }
+    ensures { IfOk result (λ r.
+        (include : Includer) →
+        include_by (rules_shown rules.now).kinds include (map tok_shown tokens.items) (world_shown world.old)
+        ≡ included_by include r (world_shown world.new)) }
 {
     if names_file(&tokens) {
         return Ok(Some(Vec::from(tokens)));
@@ -61,8 +64,14 @@ fn open_text(
     world: &mut World,
     bytes: &[u8],
 ) -> Result<Option<Vec<PpSection>>, EventsFault>
-    ensures shown { IfOk result (λ r. (depth : ℕ) → outside (world_shown world.old) (read_source (rules_shown rules.now).kinds (rules_shown rules.now).holds (includes_of (rules_shown rules.now) (depth - 1)) (inside (world_shown world.old)) (source_of rules.now.spellings.dialect bytes.now)) ≡ entered (rules_shown rules.now) depth (sections_shown r) (world_shown world.new)) }
-    ensures counted { IfOk result (λ r. IfSome r (λ v. length v.items ≡ count_of (source_of rules.now.spellings.dialect bytes.now))) }
+    ensures shown { IfOk result (λ r.
+        (depth : ℕ) →
+        outside (world_shown world.old) (read_source (rules_shown rules.now).kinds (rules_shown rules.now).holds
+        (includes_of (rules_shown rules.now) (depth - 1)) (inside (world_shown world.old))
+        (source_of rules.now.spellings.dialect bytes.now))
+        ≡ entered (rules_shown rules.now) depth (sections_shown r) (world_shown world.new)) }
+    ensures counted { IfOk result
+        (λ r. IfSome r (λ v. length v.items ≡ count_of (source_of rules.now.spellings.dialect bytes.now))) }
     ensures small { length bytes.now ≤ LIMIT → ¬ IsErrOf result EventsFault.TooLarge }
 {
     if bytes.len() > LIMIT {
@@ -87,9 +96,14 @@ fn find(
     world: &mut World,
     key: &[Tok],
 ) -> Result<Option<Vec<PpSection>>, EventsFault>
-    ensures shown { IfOk result (λ r. includes_of (rules_shown rules.now) depth (world_shown world.old) (key_of (map tok_shown key.now)) ≡ entered (rules_shown rules.now) depth (sections_shown r) (world_shown world.new)) }
+    ensures shown { IfOk result (λ r.
+        includes_of (rules_shown rules.now) depth (world_shown world.old) (key_of (map tok_shown key.now))
+        ≡ entered (rules_shown rules.now) depth (sections_shown r) (world_shown world.new)) }
     ensures deep { IfOk result (λ r. IfSome r (λ _. 0 < depth)) }
-    ensures counted { IfOk result (λ r. IfSome r (λ v. length v.items ≤ count_in rules.now.spellings.dialect (map text_shown rules.now.setting.now.includes.items))) }
+    ensures counted { IfOk result (λ r.
+        IfSome r (λ v.
+        length v.items
+        ≤ count_in rules.now.spellings.dialect (map text_shown rules.now.setting.now.includes.items))) }
     ensures small { IncludesFit rules.now.setting.now → ¬ IsErrOf result EventsFault.TooLarge }
 {
     if depth == 0 {
@@ -113,9 +127,15 @@ pub(crate) fn included(
     world: &mut World,
     tokens: VecDeque<Tok>,
 ) -> Result<Option<Vec<PpSection>>, EventsFault>
-    ensures shown { IfOk result (λ r. included (rules_shown rules.now).kinds (includes_of (rules_shown rules.now) depth) (map tok_shown tokens.items) (world_shown world.old) ≡ entered (rules_shown rules.now) depth (sections_shown r) (world_shown world.new)) }
+    ensures shown { IfOk result (λ r.
+        included (rules_shown rules.now).kinds (includes_of (rules_shown rules.now) depth)
+        (map tok_shown tokens.items) (world_shown world.old)
+        ≡ entered (rules_shown rules.now) depth (sections_shown r) (world_shown world.new)) }
     ensures deep { IfOk result (λ r. IfSome r (λ _. 0 < depth)) }
-    ensures counted { IfOk result (λ r. IfSome r (λ v. length v.items ≤ count_in rules.now.spellings.dialect (map text_shown rules.now.setting.now.includes.items))) }
+    ensures counted { IfOk result (λ r.
+        IfSome r (λ v.
+        length v.items
+        ≤ count_in rules.now.spellings.dialect (map text_shown rules.now.setting.now.includes.items))) }
     ensures small { IncludesFit rules.now.setting.now → ¬ IsErrOf result EventsFault.TooLarge }
 {
     if world.acts(rules.alloc, &rules.spellings)? {

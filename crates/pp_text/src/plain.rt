@@ -22,7 +22,10 @@ fn act(
     function_like: bool,
     tokens: VecDeque<Tok>,
 ) -> Result<(), AllocError>
-    ensures { IfOk result (λ _. world_shown world.new ≡ act (rules_shown rules.now).kinds (kind_shown kind) function_like (map tok_shown tokens.items) (world_shown world.old)) }
+    ensures { IfOk result (λ _.
+        world_shown world.new
+        ≡ act (rules_shown rules.now).kinds (kind_shown kind) function_like (map tok_shown tokens.items)
+        (world_shown world.old)) }
 {
     let alloc = rules.alloc;
     match kind {
@@ -56,7 +59,10 @@ fn acted(
     function_like: bool,
     tokens: VecDeque<Tok>,
 ) -> Result<(), AllocError>
-    ensures { IfOk result (λ _. world_shown world.new ≡ acted (rules_shown rules.now).kinds (kind_shown kind) function_like (map tok_shown tokens.items) (world_shown world.old)) }
+    ensures { IfOk result (λ _.
+        world_shown world.new
+        ≡ acted (rules_shown rules.now).kinds (kind_shown kind) function_like (map tok_shown tokens.items)
+        (world_shown world.old)) }
 {
     if world.acts(rules.alloc, &rules.spellings)? {
         act(rules, world, kind, function_like, tokens)
@@ -73,7 +79,10 @@ pub(crate) fn plain(
     function_like: bool,
     tokens: VecDeque<Tok>,
 ) -> Result<(), AllocError>
-    ensures { IfOk result (λ _. world_shown world.new ≡ plain (rules_shown rules.now).kinds (rules_shown rules.now).holds (kind_shown kind) function_like (map tok_shown tokens.items) (world_shown world.old)) }
+    ensures { IfOk result (λ _.
+        world_shown world.new
+        ≡ plain (rules_shown rules.now).kinds (rules_shown rules.now).holds (kind_shown kind) function_like
+        (map tok_shown tokens.items) (world_shown world.old)) }
 {
     let alloc = rules.alloc;
     let spellings = &rules.spellings;

@@ -63,8 +63,11 @@ impl Reading {
     /// Begins an included text, with no pending text and no open conditional.
     fn begin_text(&mut self, alloc: Global, sections: Vec<PpSection>) -> Result<(), AllocError>
         requires { 0 < self.old.text.depth }
-        ensures shown { IfOk result (λ _. reading_shown self.new ≡ begun_text (map section_shown sections.items) (reading_shown self.old)) }
-        ensures waiting { IfOk result (λ _. self.new.waiting.items ≡ record { text = self.old.text; conds = self.old.world.conds } ∷ self.old.waiting.items) }
+        ensures shown { IfOk result
+            (λ _. reading_shown self.new ≡ begun_text (map section_shown sections.items) (reading_shown self.old)) }
+        ensures waiting { IfOk result (λ _.
+            self.new.waiting.items
+            ≡ record { text = self.old.text; conds = self.old.world.conds } ∷ self.old.waiting.items) }
         ensures depth { IfOk result (λ _. self.new.text.depth ≡ self.old.text.depth - 1) }
         ensures sections { IfOk result (λ _. self.new.text.sections.items ≡ sections.items) }
     {
@@ -82,7 +85,10 @@ impl Reading {
 
     /// Goes on with the text around the included one that has ended.
     fn resume(&mut self, alloc: Global, outer: Waiting)
-        ensures shown { (rules : TextRules) → whole rules (reading_shown self.new) ≡ unwound rules (waiting_shown outer ∷ map waiting_shown self.old.waiting.items) (world_shown self.old.world) }
+        ensures shown { (rules : TextRules) →
+            whole rules (reading_shown self.new)
+            ≡ unwound rules (waiting_shown outer ∷ map waiting_shown self.old.waiting.items)
+            (world_shown self.old.world) }
         ensures text { self.new.text ≡ outer.text }
         ensures waiting { self.new.waiting ≡ self.old.waiting }
     {
@@ -101,8 +107,16 @@ impl Reading {
         next: u32,
         tokens: VecDeque<Tok>,
     ) -> Result<(), EventsFault>
-        ensures shown { IfOk result (λ _. whole (rules_shown rules.now) (reading_shown self.new) ≡ behind_section (rules_shown rules.now) (unread_shown self.old.text) next (map waiting_shown self.old.waiting.items) (included (rules_shown rules.now).kinds (includes_of (rules_shown rules.now) self.old.text.depth) (map tok_shown tokens.items) (world_shown self.old.world))) }
-        ensures work { IfOk result (λ _. (most : ℕ) → count_in rules.now.spellings.dialect (map text_shown rules.now.setting.now.includes.items) ≤ most → work most self.new < work most self.old + cost most self.old.text.depth) }
+        ensures shown { IfOk result (λ _.
+            whole (rules_shown rules.now) (reading_shown self.new)
+            ≡ behind_section (rules_shown rules.now) (unread_shown self.old.text) next
+            (map waiting_shown self.old.waiting.items) (included (rules_shown rules.now).kinds
+            (includes_of (rules_shown rules.now) self.old.text.depth) (map tok_shown tokens.items)
+            (world_shown self.old.world))) }
+        ensures work { IfOk result (λ _.
+            (most : ℕ) →
+            count_in rules.now.spellings.dialect (map text_shown rules.now.setting.now.includes.items) ≤ most →
+            work most self.new < work most self.old + cost most self.old.text.depth) }
         ensures small { IncludesFit rules.now.setting.now → ¬ IsErrOf result EventsFault.TooLarge }
     {
         match included(rules, self.text.depth, &mut self.world, tokens)? {
@@ -122,8 +136,14 @@ impl Reading {
         next: u32,
         tokens: VecDeque<Tok>,
     ) -> Result<(), EventsFault>
-        ensures shown { IfOk result (λ _. whole (rules_shown rules.now) (reading_shown self.new) ≡ behind_section (rules_shown rules.now) (unread_shown self.old.text) next (map waiting_shown self.old.waiting.items) (plain (rules_shown rules.now).kinds (rules_shown rules.now).holds (kind_shown kind) function_like (map tok_shown tokens.items) (world_shown self.old.world))) }
-        ensures work { IfOk result (λ _. (most : ℕ) → work most self.new < work most self.old + cost most self.old.text.depth) }
+        ensures shown { IfOk result (λ _.
+            whole (rules_shown rules.now) (reading_shown self.new)
+            ≡ behind_section (rules_shown rules.now) (unread_shown self.old.text) next
+            (map waiting_shown self.old.waiting.items) (plain (rules_shown rules.now).kinds
+            (rules_shown rules.now).holds (kind_shown kind) function_like (map tok_shown tokens.items)
+            (world_shown self.old.world))) }
+        ensures work { IfOk result
+            (λ _. (most : ℕ) → work most self.new < work most self.old + cost most self.old.text.depth) }
         ensures small { ¬ IsErrOf result EventsFault.TooLarge }
     {
         plain(rules, &mut self.world, kind, function_like, tokens)?;
@@ -134,8 +154,16 @@ impl Reading {
     /// Reads a section, which stands before those that are left.
     #[tactic(auto, using(crate::proofs::Walks::include_section, crate::proofs::Walks::plain_section))]
     fn read_section(&mut self, rules: &Rules, section: PpSection) -> Result<(), EventsFault>
-        ensures shown { IfOk result (λ _. whole (rules_shown rules.now) (reading_shown self.new) ≡ behind_section (rules_shown rules.now) (unread_shown self.old.text) section.next (map waiting_shown self.old.waiting.items) (one_section (rules_shown rules.now).kinds (rules_shown rules.now).holds (includes_of (rules_shown rules.now) self.old.text.depth) (shift_shown self.old.text.shift) (section_shown section) (world_shown self.old.world))) }
-        ensures work { IfOk result (λ _. (most : ℕ) → count_in rules.now.spellings.dialect (map text_shown rules.now.setting.now.includes.items) ≤ most → work most self.new < work most self.old + cost most self.old.text.depth) }
+        ensures shown { IfOk result (λ _.
+            whole (rules_shown rules.now) (reading_shown self.new)
+            ≡ behind_section (rules_shown rules.now) (unread_shown self.old.text) section.next
+            (map waiting_shown self.old.waiting.items) (one_section (rules_shown rules.now).kinds
+            (rules_shown rules.now).holds (includes_of (rules_shown rules.now) self.old.text.depth)
+            (shift_shown self.old.text.shift) (section_shown section) (world_shown self.old.world))) }
+        ensures work { IfOk result (λ _.
+            (most : ℕ) →
+            count_in rules.now.spellings.dialect (map text_shown rules.now.setting.now.includes.items) ≤ most →
+            work most self.new < work most self.old + cost most self.old.text.depth) }
         ensures small { IncludesFit rules.now.setting.now → ¬ IsErrOf result EventsFault.TooLarge }
     {
         let tokens = toks_of(rules.alloc, self.text.shift, section.items)?;
@@ -156,7 +184,8 @@ impl Reading {
     /// Reads all that is left, and tells what came out.
     #[tactic(auto, using(crate::proofs::Walks::whole_section, crate::proofs::Walks::whole_end))]
     pub fn read_all(self, rules: &Rules) -> Result<Vec<Event>, EventsFault>
-        ensures shown { IfOk result (λ events. map event_shown events.items ≡ (whole (rules_shown rules.now) (reading_shown self)).events) }
+        ensures shown { IfOk result
+            (λ events. map event_shown events.items ≡ (whole (rules_shown rules.now) (reading_shown self)).events) }
         ensures small { IncludesFit rules.now.setting.now → ¬ IsErrOf result EventsFault.TooLarge }
     {
         let mut reading = self;

@@ -27,7 +27,8 @@ pub fn events(
     setting: &Setting,
     text: &[u8],
 ) -> Result<Vec<Event>, EventsFault>
-    ensures events { IfOk result (λ r. map event_shown r.items ≡ Preprocess dialect (setting_shown setting.now) text.now) }
+    ensures events { IfOk result
+        (λ r. map event_shown r.items ≡ Preprocess dialect (setting_shown setting.now) text.now) }
     ensures too_large { LIMIT < length text.now → IsErrOf result EventsFault.TooLarge }
     ensures small { length text.now ≤ LIMIT → IncludesFit setting.now → ¬ IsErrOf result EventsFault.TooLarge }
 {

@@ -17,7 +17,8 @@ has_line_end (Spaces count) old = false
 has_line_end (Lines count column level) old = nat_lt 0 count
 has_line_end (Splice pad column) old = true
 
--- whether the gap before this item has a new-line, or where there is no item the last gap, whose bytes are read as characters (C11 5.1.1.2p1)
+-- whether the gap before this item has a new-line, or where there is no item the last gap, whose bytes are read as
+-- characters (C11 5.1.1.2p1)
 abbrev pub has_new_line_before : Contents → ℕ → Option Stored → Bool
 has_new_line_before arena place (Some token) = nat_lt 0 token.gap.lines
 has_new_line_before arena place None = list_any is_new_line (read_alone arena.dialect (gap_of arena place))
@@ -29,4 +30,5 @@ has_new_line_at arena place = has_new_line_before arena place (slice_get arena.t
 -- where the item behind a gap starts for which this is decided, and whether a line ends in the gap
 abbrev pub fixed_by : Contents → ℕ → Option Slot → Option Fixed
 fixed_by arena place None = None
-fixed_by arena place (Some slot) = Some (record { column = slot.end; broken = has_line_end slot.decision (has_new_line_at arena place) })
+fixed_by arena place (Some slot) =
+    Some (record { column = slot.end; broken = has_line_end slot.decision (has_new_line_at arena place) })

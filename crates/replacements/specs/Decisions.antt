@@ -1,5 +1,7 @@
--- What is decided for the gaps of a text, one decision after another. docs/PROFILE.md, "Runs": the first run that sees a gap decides it.
-use Rattle.std.specs.Prelude.{◌≡◌, ◌==◌, ◌<◌, ◌≤◌, ℕ, List, [], ◌∷◌, Option, Some, None, is_some, IsSome, if◌then◌else◌, slice_index_or, slice_set}
+-- What is decided for the gaps of a text, one decision after another. docs/PROFILE.md, "Runs": the first run that sees
+-- a gap decides it.
+use Rattle.std.specs.Prelude.{◌≡◌, ◌==◌, ◌<◌, ◌≤◌, ℕ, List, [], ◌∷◌, Option, Some, None, is_some, IsSome, if◌then◌else◌}
+use Rattle.std.specs.Prelude.{slice_index_or, slice_set}
 use Rattle.replacements.specs.declared.slot.Slot.{Slot}
 
 -- what a plan has for the gap at a place: nothing where it is open

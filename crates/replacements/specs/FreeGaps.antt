@@ -15,8 +15,8 @@ use Rattle.c_grammar.specs.Rewritten.{read_alone, IsGuarded, AreFitBytes}
 use Rattle.touching.specs.Spelling.{spelling}
 use Rattle.replacements.specs.OneLine.{AreLineBytes}
 
--- Between an item of this kind at this place and this item, before these others, a line may end or go on: the place is in no directive (C11 6.10p2, p5),
--- the left item doesn't take its line, and no `#` stands next, comments aside.
+-- Between an item of this kind at this place and this item, before these others, a line may end or go on: the place is
+-- in no directive (C11 6.10p2, p5), the left item doesn't take its line, and no `#` stands next, comments aside.
 pub record MayBreak (place : Place) (left : ItemKind) (item : Piece) (after : List Piece) : Type 0 where
   pub in_text : IsFalse (in_directive place)
   pub goes_on : IsFalse (takes_line left)
@@ -29,28 +29,36 @@ pub record IsTextGap (place : Place) (left : ItemKind) (item : Piece) (after : L
   pub some : IsFalse (is_same new [])
 
 -- Bytes that read as such a gap, and are guarded.
-pub record AreTextBytes (d : Dialect) (place : Place) (left item : ReadItem) (after : List ReadItem) (new : List ℕ) : Type 0 where
+pub record AreTextBytes (d : Dialect) (place : Place) (left item : ReadItem) (after : List ReadItem) (new : List ℕ) :
+    Type 0 where
   pub gap : IsTextGap place left.kind (piece_of item) (map piece_of after) (read_alone d new)
   pub guarded : IsGuarded left new
 
 -- Where a line may end or go on, what stands between the two may go: they may touch as they are spelled.
-pub record MayClose (d : Dialect) (text : List ℕ) (place : Place) (left item : ReadItem) (after : List ReadItem) : Type 0 where
+pub record MayClose (d : Dialect) (text : List ℕ) (place : Place) (left item : ReadItem) (after : List ReadItem) :
+    Type 0 where
   pub touch : IsTrue (may_touch left.kind (spelling d (raw_of text left)) item.kind (spelling d (raw_of text item)))
   pub breaks : MayBreak place left.kind (piece_of item) (map piece_of after)
 
--- Bytes that may stand between two items, the left one at the first place and the gap at the second, before these others: such as may stand for the old ones, such as read as a gap of a text, none where those may go, or such as may stand in a line.
-pub data AreFreeBytes (d : Dialect) (text : List ℕ) (stood place : Place) (left item : ReadItem) (after : List ReadItem) (new : List ℕ) : Type 0 where
+-- Bytes that may stand between two items, the left one at the first place and the gap at the second, before these
+-- others: such as may stand for the old ones, such as read as a gap of a text, none where those may go, or such as may
+-- stand in a line.
+pub data AreFreeBytes (d : Dialect) (text : List ℕ) (stood place : Place) (left item : ReadItem)
+    (after : List ReadItem) (new : List ℕ) : Type 0 where
   FitBytes : AreFitBytes d place left item new → AreFreeBytes d text stood place left item after new
   TextBytes : AreTextBytes d place left item after new → AreFreeBytes d text stood place left item after new
-  NoBytes : IsTrue (is_same new []) → MayClose d text place left item after → AreFreeBytes d text stood place left item after new
+  NoBytes : IsTrue (is_same new []) → MayClose d text place left item after →
+      AreFreeBytes d text stood place left item after new
   LineBytes : AreLineBytes d text stood place left item new → AreFreeBytes d text stood place left item after new
 
--- such bytes before each of the items that come behind this one, which stands at the first place and leads to the second, its places in the old text, and guarded bytes at the end
+-- such bytes before each of the items that come behind this one, which stands at the first place and leads to the
+-- second, its places in the old text, and guarded bytes at the end
 abbrev pub FreeBehind : Dialect → List ℕ → Place → Place → ReadItem → List (List ℕ) → List ReadItem → List ℕ → Type 0
 FreeBehind d text stood place left [] [] end = IsGuarded left end
 FreeBehind d text stood place left (gap ∷ gaps) (item ∷ items) end =
     AreFreeBytes d text stood place left item items gap
-    × FreeBehind d text (past_gap place (bytes_of item.gap)) (past_item d (past_gap place (bytes_of item.gap)) item.kind (bytes_of item.chars)) item gaps items end
+    × FreeBehind d text (past_gap place (bytes_of item.gap))
+    (past_item d (past_gap place (bytes_of item.gap)) item.kind (bytes_of item.chars)) item gaps items end
 FreeBehind d text stood place left [] (item ∷ items) end = ⊥
 FreeBehind d text stood place left (gap ∷ gaps) [] end = ⊥
 
@@ -58,14 +66,17 @@ FreeBehind d text stood place left (gap ∷ gaps) [] end = ⊥
 abbrev pub FreeText : Dialect → List ℕ → List (List ℕ) → List ReadItem → List ℕ → Type 0
 FreeText d text [] [] end = ⊤
 FreeText d text (gap ∷ gaps) (item ∷ items) end =
-    IsTrue (is_gap (read_alone d gap)) × FreeBehind d text LineStart (past_item d LineStart item.kind (bytes_of item.chars)) item gaps items end
+    IsTrue (is_gap (read_alone d gap))
+    × FreeBehind d text LineStart (past_item d LineStart item.kind (bytes_of item.chars)) item gaps items end
 FreeText d text [] (item ∷ items) end = ⊥
 FreeText d text (gap ∷ gaps) [] end = ⊥
 
--- Such bytes between the items of a text, and a last gap that may stand for the old one, give a twin, where no byte order mark comes.
+-- Such bytes between the items of a text, and a last gap that may stand for the old one, give a twin, where no byte
+-- order mark comes.
 abbrev pub RewritesFreeGaps : Type 0
 RewritesFreeGaps =
-    (d : Dialect) (text : List ℕ) (items : List ReadItem) (last : List LogicalChar) (gaps : List (List ℕ)) (end : List ℕ) →
+    (d : Dialect) (text : List ℕ) (items : List ReadItem) (last : List LogicalChar) (gaps : List (List ℕ))
+    (end : List ℕ) →
     LexesText d text items last →
     FreeText d text gaps items end →
     IsFitEnd (map piece_of items) (bytes_of last) (read_alone d end) →
@@ -81,7 +92,8 @@ BeginsNoMark text [] items = ⊤
 -- Then no byte order mark comes of such bytes.
 abbrev pub KeepsMarksAway : Type 0
 KeepsMarksAway =
-    (d : Dialect) (text : List ℕ) (items : List ReadItem) (last : List LogicalChar) (gaps : List (List ℕ)) (end : List ℕ) →
+    (d : Dialect) (text : List ℕ) (items : List ReadItem) (last : List LogicalChar) (gaps : List (List ℕ))
+    (end : List ℕ) →
     LexesText d text items last →
     FreeText d text gaps items end →
     IsTrue (is_gap (read_alone d end)) →

@@ -1,8 +1,10 @@
 -- The white space that stands for a decision: docs/PROFILE.md, "White space of a decision".
-use Rattle.std.specs.Prelude.{ℕ, ◌-◌, ◌*◌, ◌/◌, ◌%◌, min, zero, suc, Bool, if◌then◌else◌, List, [], ◌∷◌, ◌++◌, replicate}
+use Rattle.std.specs.Prelude.{ℕ, ◌-◌, ◌*◌, ◌/◌, ◌%◌, min, zero, suc, Bool, if◌then◌else◌, List, [], ◌∷◌, ◌++◌}
+use Rattle.std.specs.Prelude.{replicate}
 use Rattle.style_table.specs.declared.style.Style.{Style}
 use Rattle.style_table.specs.declared.style.UseTab.{UseTab}
-use Rattle.style_table.specs.declared.style.UseTab.TheVariants.{Never, ForIndentation, ForContinuationAndIndentation, AlignWithSpaces, Always}
+use Rattle.style_table.specs.declared.style.UseTab.TheVariants.{Never, ForIndentation, ForContinuationAndIndentation}
+use Rattle.style_table.specs.declared.style.UseTab.TheVariants.{AlignWithSpaces, Always}
 use Rattle.replacements.specs.declared.gap_text.Decision.{Decision}
 use Rattle.replacements.specs.declared.gap_text.Decision.TheVariants.{Old, Spaces, Lines, Splice}
 
@@ -43,5 +45,6 @@ line_ends crlf (suc count) = line_ends crlf count ++ line_end crlf
 abbrev pub gap_text : Style → Bool → Decision → List ℕ → List ℕ
 gap_text style crlf Old old = old
 gap_text style crlf (Spaces count) old = blanks count
-gap_text style crlf (Lines count column level) old = line_ends crlf count ++ indentation style (level_columns style level column) column
+gap_text style crlf (Lines count column level) old =
+    line_ends crlf count ++ indentation style (level_columns style level column) column
 gap_text style crlf (Splice pad column) old = blanks pad ++ (92 ∷ line_end crlf ++ indentation style column column)

@@ -1,4 +1,5 @@
--- Guards: docs/PROFILE.md, "Guards". What stands before a line end behind an item, so that the two don't read as something else.
+-- Guards: docs/PROFILE.md, "Guards". What stands before a line end behind an item, so that the two don't read as
+-- something else.
 use Rattle.std.specs.Prelude.{◌==◌, ◌++◌, ℕ, zero, suc, Bool, true, false, List, [], ◌∷◌, if◌then◌else◌}
 use Rattle.c_grammar.specs.Touch.{takes_line, ends}
 use Rattle.token_arena.specs.Stored.{Stored}
@@ -9,9 +10,12 @@ use Rattle.replacements.specs.declared.gap_text.Decision.TheVariants.{Old, Space
 use Rattle.replacements.specs.declared.guard.Guard.{Guard}
 use Rattle.replacements.specs.declared.guard.Guard.TheVariants as guard
 
--- What a line end behind an item needs: behind a last backslash a blank, or a splice where the blank would be the item's own; `\r\n` behind a last `\r`.
+-- What a line end behind an item needs: behind a last backslash a blank, or a splice where the blank would be the
+-- item's own; `\r\n` behind a last `\r`.
 abbrev pub guard_of : Stored → Guard
-guard_of token = if token.back then (if takes_line token.kind then guard.Splice else guard.Blank) else (if ends (λ b. b == 13) token.raw then guard.Return else guard.Free)
+guard_of token =
+    if token.back then (if takes_line token.kind then guard.Splice else guard.Blank)
+    else (if ends (λ b. b == 13) token.raw then guard.Return else guard.Free)
 
 -- what a line end needs in the gap at a place, where these items' first one stands behind this guard
 abbrev pub guard_from : Guard → List Stored → ℕ → Guard
@@ -46,7 +50,8 @@ guarded_ends crlf guard.Return = true
 
 -- so many line ends behind a guard, and indentation to a column of a line at this level
 abbrev pub guarded_lines : Style → Bool → Guard → ℕ → ℕ → ℕ → List ℕ
-guarded_lines style crlf guard count column level = guard_text crlf guard ++ gap_text style (guarded_ends crlf guard) (Lines count column level) []
+guarded_lines style crlf guard count column level =
+    guard_text crlf guard ++ gap_text style (guarded_ends crlf guard) (Lines count column level) []
 
 -- the guard that a decision needs: only line ends that are decided need one
 abbrev pub guard_for : Guard → Decision → Guard
@@ -57,4 +62,5 @@ guard_for g (Splice pad column) = guard.Free
 
 -- The bytes of a decision behind an item that leaves this guard, where the input's gap has these.
 abbrev pub guarded_text : Style → Bool → Guard → Decision → List ℕ → List ℕ
-guarded_text style crlf g decision old = guard_text crlf (guard_for g decision) ++ gap_text style (guarded_ends crlf (guard_for g decision)) decision old
+guarded_text style crlf g decision old =
+    guard_text crlf (guard_for g decision) ++ gap_text style (guarded_ends crlf (guard_for g decision)) decision old

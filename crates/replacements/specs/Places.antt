@@ -25,7 +25,8 @@ place_from d place (token ∷ tokens) (suc n) = place_from d (behind_item d (sta
 abbrev pub place_in : Contents → ℕ → Place
 place_in arena n = place_from arena.dialect LineStart arena.tokens n
 
--- The place leads directly from a macro's name to this item, and it is a `(`: it opens the macro's parameters where no white space stands before it (6.10.3p10).
+-- The place leads directly from a macro's name to this item, and it is a `(`: it opens the macro's parameters where no
+-- white space stands before it (6.10.3p10).
 abbrev pub would_open : Dialect → Place → Stored → Bool
 would_open d AfterMacroName token = is_opening d token
 would_open d place token = false

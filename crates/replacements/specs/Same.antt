@@ -14,12 +14,15 @@ use Rattle.replacements.specs.declared.stance.Stance.{Stance}
 abbrev pub ComesNoHash : Stored → Type 0
 ComesNoHash token = (d : Dialect) (tokens : List Stored) → hash_comes d (token ∷ tokens) ≡ false
 
--- However the item stands in its text, and whatever comes then: what is written before it is what the input has there, behind this offset.
+-- However the item stands in its text, and whatever comes then: what is written before it is what the input has there,
+-- behind this offset.
 abbrev pub IsSame : Style → Bool → Contents → ℕ → ℕ → Decision → Stored → Type 0
 IsSame style crlf arena at place decision token =
     (stance : Stance) (tokens : List Stored)
-    → planned_gap style crlf arena (guard_before arena.tokens place) at place stance decision token tokens ≡ bytes_between arena.text at token.start
+    → planned_gap style crlf arena (guard_before arena.tokens place) at place stance decision token tokens
+    ≡ bytes_between arena.text at token.start
 
--- one more than the blanks that stand before an item behind this byte, the first behind the item before it: one blank where it is a blank, and none where it spells no `#`
+-- one more than the blanks that stand before an item behind this byte, the first behind the item before it: one blank
+-- where it is a blank, and none where it spells no `#`
 abbrev pub standing : ℕ → ℕ
 standing b = if b == 32 then 2 else if may_begin_hash b then 0 else 1

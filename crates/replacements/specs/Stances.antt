@@ -1,5 +1,6 @@
 -- How an item stands in its text (C11 6.10p2), and what that means for the gap before it.
-use Rattle.std.specs.Prelude.{◌≡◌, ◌==◌, ◌&&◌, ◌||◌, ◌<◌, ◌≤◌, not, ℕ, nat_lt, Bool, false, Some, slice_get, List, [], ◌∷◌, drop, if◌then◌else◌}
+use Rattle.std.specs.Prelude.{◌≡◌, ◌==◌, ◌&&◌, ◌||◌, ◌<◌, ◌≤◌, not, ℕ, nat_lt, Bool, false, Some, slice_get, List, []}
+use Rattle.std.specs.Prelude.{◌∷◌, drop, if◌then◌else◌}
 use Rattle.c_chars.specs.declared.Dialect.{Dialect}
 use Rattle.c_grammar.specs.Fitting.{is_comment}
 use Rattle.c_grammar.specs.Items.{is_hash}
@@ -15,12 +16,14 @@ use Rattle.replacements.specs.declared.stance.Stance.TheVariants.{OfText, Leads,
 abbrev pub stance_in : List Section → ℕ → Stance
 stance_in [] place = OfText
 stance_in (Text first end ∷ sections) place = if nat_lt place end then OfText else stance_in sections place
-stance_in (Dir dir ∷ sections) place = if nat_lt place dir.end then (if place == dir.first then Leads else Within) else stance_in sections place
+stance_in (Dir dir ∷ sections) place =
+    if nat_lt place dir.end then (if place == dir.first then Leads else Within) else stance_in sections place
 
 -- A `#` stands next in the line, comments aside, and doesn't begin it.
 abbrev pub hash_comes : Dialect → List Stored → Bool
 hash_comes d [] = false
-hash_comes d (token ∷ tokens) = not token.gap.began && (if is_comment token.kind then hash_comes d tokens else is_hash_token d token)
+hash_comes d (token ∷ tokens) =
+    not token.gap.began && (if is_comment token.kind then hash_comes d tokens else is_hash_token d token)
 
 -- A `#` may be spelled from this byte on: it is `#` or `%`, or a trigraph, a splice or a line end begins with it.
 abbrev pub may_begin_hash : ℕ → Bool

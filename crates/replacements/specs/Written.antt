@@ -1,5 +1,6 @@
 -- The text of a plan: docs/PROFILE.md, "The text of a plan".
-use Rattle.std.specs.Prelude.{◌==◌, ◌&&◌, ◌||◌, not, ℕ, ◌+◌, ◌-◌, Bool, true, false, Option, Some, None, List, [], ◌∷◌, ◌++◌, take, drop, nat_lt, if◌then◌else◌}
+use Rattle.std.specs.Prelude.{◌==◌, ◌&&◌, ◌||◌, not, ℕ, ◌+◌, ◌-◌, Bool, true, false, Option, Some, None, List, [], ◌∷◌}
+use Rattle.std.specs.Prelude.{◌++◌, take, drop, nat_lt, if◌then◌else◌}
 use Rattle.c_chars.specs.Characters.{mark_len}
 use Rattle.token_arena.specs.Stored.{Stored}
 use Rattle.token_arena.specs.Gaps.{Contents, behind}
@@ -50,7 +51,8 @@ is_of_text OfText = true
 is_of_text Leads = false
 is_of_text Within = false
 
--- What is written anew before an item that stands so, in front of these: before the first item no decision counts; in a text stands one blank where a `#` comes that begins no directive.
+-- What is written anew before an item that stands so, in front of these: before the first item no decision counts; in a
+-- text stands one blank where a `#` comes that begins no directive.
 abbrev pub laid_gap : Style → Bool → Contents → Guard → ℕ → Stance → Decision → Stored → List Stored → List ℕ
 laid_gap style crlf arena guard place stance decision token tokens =
     if place == 0 then first_gap arena.text token
@@ -60,11 +62,15 @@ laid_gap style crlf arena guard place stance decision token tokens =
 -- Before an item behind this offset: the input's bytes where they stay.
 abbrev pub planned_gap : Style → Bool → Contents → Guard → ℕ → ℕ → Stance → Decision → Stored → List Stored → List ℕ
 planned_gap style crlf arena guard at place stance decision token tokens =
-    if is_old decision then bytes_between arena.text at token.start else laid_gap style crlf arena guard place stance decision token tokens
+    if is_old decision then bytes_between arena.text at token.start
+    else laid_gap style crlf arena guard place stance decision token tokens
 
--- The text of these items, the first of which has this number in these sections, and of the last gap. What stands before them ends at this offset, and leaves this guard.
-abbrev pub written_from : Style → Bool → Contents → List Section → List (Option Slot) → Guard → ℕ → ℕ → List Stored → List ℕ
-written_from style crlf arena sections plan guard at place [] = guarded_text style crlf guard (decision_at plan place) (drop at arena.text)
+-- The text of these items, the first of which has this number in these sections, and of the last gap. What stands
+-- before them ends at this offset, and leaves this guard.
+abbrev pub written_from : Style → Bool → Contents → List Section → List (Option Slot) → Guard → ℕ → ℕ → List Stored →
+    List ℕ
+written_from style crlf arena sections plan guard at place [] =
+    guarded_text style crlf guard (decision_at plan place) (drop at arena.text)
 written_from style crlf arena sections plan guard at place (token ∷ tokens) =
     planned_gap style crlf arena guard at place (stance_in sections place) (decision_at plan place) token tokens
     ++ (token.raw ++ written_from style crlf arena sections plan (guard_of token) (behind token) (place + 1) tokens)
@@ -72,4 +78,5 @@ written_from style crlf arena sections plan guard at place (token ∷ tokens) =
 -- the text of a plan: the byte order mark, then each item behind the text of its gap, and the last gap's text
 unfoldable pub written : Style → Bool → Contents → List Section → List (Option Slot) → List ℕ
 written style crlf arena sections plan =
-    mark_bytes (mark_len arena.text) ++ written_from style crlf arena sections plan Free (mark_len arena.text) 0 arena.tokens
+    mark_bytes (mark_len arena.text)
+    ++ written_from style crlf arena sections plan Free (mark_len arena.text) 0 arena.tokens

@@ -124,7 +124,8 @@ impl Entry {
     /// The line ends and the indentation that are decided, where the entry has them.
     #[inline(always)]
     pub(crate) fn lines(self) -> Option<LineGap>
-        ensures { (apart : List Slot) → IfSome result (λ gap. decision_of (slot_in apart self) ≡ Lines gap.count gap.column gap.level) }
+        ensures { (apart : List Slot) →
+            IfSome result (λ gap. decision_of (slot_in apart self) ≡ Lines gap.count gap.column gap.level) }
     {
         match self {
             Entry::Lines {

@@ -80,7 +80,8 @@ fn are_same_blanks(
     count: u32,
 ) -> bool
     requires stands { Stands arena.now.text at (told_by token.now) }
-    ensures { IsTrue result → (style : Style) (crlf : Bool) → IsSame style crlf arena.now at place (Spaces count) (told_by token.now) }
+    ensures { IsTrue result → (style : Style) (crlf : Bool) →
+        IsSame style crlf arena.now at place (Spaces count) (told_by token.now) }
 {
     if token.item.start as usize - at != count as usize {
         return false;
@@ -118,7 +119,8 @@ fn are_same_lines(
     requires later { at ≤ token.now.item.start }
     requires within { token.now.item.start ≤ length arena.now.text }
     requires here { place ≤ length arena.now.tokens }
-    ensures { IsTrue result → (level : ℕ) → IsSame style.now crlf arena.now at place (Lines count column level) (told_by token.now) }
+    ensures { IsTrue result → (level : ℕ) →
+        IsSame style.now crlf arena.now at place (Lines count column level) (told_by token.now) }
 {
     if place == 0 {
         return false;
@@ -162,7 +164,8 @@ pub(crate) fn is_same(
     requires whole { place < length plan.now }
     requires stands { Stands arena.now.text at (told_by token.now) }
     requires here { place ≤ length arena.now.tokens }
-    ensures same { IsTrue result → IsSame style.now crlf arena.now at place (decision_at plan.now place) (told_by token.now) }
+    ensures same { IsTrue result →
+        IsSame style.now crlf arena.now at place (decision_at plan.now place) (told_by token.now) }
     ensures old { is_old (decision_at plan.now place) ≡ true → IsTrue result }
 {
     if let Some(count) = plan.blanks(place) {

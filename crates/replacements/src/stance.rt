@@ -21,7 +21,8 @@ pub enum Stance {
 pub fn stance_at(sections: &[Section], next: &mut usize, place: u32) -> Stance
     requires { next.old ≤ length sections.now }
     ensures within { next.new ≤ length sections.now }
-    ensures later { (k : ℕ) → place ≤ k → stance_in (drop next.new sections.now) k ≡ stance_in (drop next.old sections.now) k }
+    ensures later { (k : ℕ) → place ≤ k →
+        stance_in (drop next.new sections.now) k ≡ stance_in (drop next.old sections.now) k }
     ensures is { result ≡ stance_in (drop next.old sections.now) place }
 {
     while *next < sections.len() {

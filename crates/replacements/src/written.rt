@@ -83,7 +83,8 @@ fn blank_comes(
     ensures later { (k : ℕ) → place ≤ k → stance_in (drop walk.new.section sections.now) k ≡ stance_in sections.now k }
     ensures known { IsKnown arena.now.dialect arena.now.tokens place walk.new.run.end walk.new.run.hash }
     ensures kept { (walk.new.at ≡ walk.old.at) × (walk.new.held ≡ walk.old.held) }
-    ensures is { result ≡ (is_of_text (stance_in sections.now place) && hash_comes arena.now.dialect (drop place arena.now.tokens)) }
+    ensures is { result
+        ≡ (is_of_text (stance_in sections.now place) && hash_comes arena.now.dialect (drop place arena.now.tokens)) }
 {
     if comes_no_hash(token) {
         return false;
@@ -106,8 +107,10 @@ fn write_with_guard<K: Sink>(
     sink: &mut K,
 ) -> Result<(), Failed>
     requires { 1 ≤ style.now.tab_width }
-    ensures ok { OnOk result (Appends (K.taken sink.old) (K.taken sink.new) (guarded_text style.now crlf guard decision old.now)) }
-    ensures part { AppendsPart (K.taken sink.old) (K.taken sink.new) (guarded_text style.now crlf guard decision old.now) }
+    ensures ok { OnOk result
+        (Appends (K.taken sink.old) (K.taken sink.new) (guarded_text style.now crlf guard decision old.now)) }
+    ensures part { AppendsPart (K.taken sink.old) (K.taken sink.new)
+        (guarded_text style.now crlf guard decision old.now) }
     ensures counts { Counts (K.faults sink.old) (K.faults sink.new) result }
 {
     let needed = guard_for(guard, decision);
@@ -126,8 +129,10 @@ fn write_guarded<K: Sink>(
     sink: &mut K,
 ) -> Result<(), Failed>
     requires { 1 ≤ style.now.tab_width }
-    ensures ok { OnOk result (Appends (K.taken sink.old) (K.taken sink.new) (guarded_text style.now crlf guard decision old.now)) }
-    ensures part { AppendsPart (K.taken sink.old) (K.taken sink.new) (guarded_text style.now crlf guard decision old.now) }
+    ensures ok { OnOk result
+        (Appends (K.taken sink.old) (K.taken sink.new) (guarded_text style.now crlf guard decision old.now)) }
+    ensures part { AppendsPart (K.taken sink.old) (K.taken sink.new)
+        (guarded_text style.now crlf guard decision old.now) }
     ensures counts { Counts (K.faults sink.old) (K.faults sink.new) result }
 {
     // Behind most items nothing has to stand.
@@ -159,8 +164,12 @@ fn write_laid<K: Sink>(
     ensures later { (k : ℕ) → place ≤ k → stance_in (drop walk.new.section sections.now) k ≡ stance_in sections.now k }
     ensures known { IsKnown arena.now.dialect arena.now.tokens place walk.new.run.end walk.new.run.hash }
     ensures kept { (walk.new.at ≡ walk.old.at) × (walk.new.held ≡ walk.old.held) }
-    ensures ok { OnOk result (Appends (K.taken sink.old) (K.taken sink.new) (laid_gap style.now crlf arena.now (guard_before arena.now.tokens place) place (stance_in sections.now place) decision (told_by token.now) (drop (place + 1) arena.now.tokens))) }
-    ensures part { AppendsPart (K.taken sink.old) (K.taken sink.new) (laid_gap style.now crlf arena.now (guard_before arena.now.tokens place) place (stance_in sections.now place) decision (told_by token.now) (drop (place + 1) arena.now.tokens)) }
+    ensures ok { OnOk result (Appends (K.taken sink.old) (K.taken sink.new)
+        (laid_gap style.now crlf arena.now (guard_before arena.now.tokens place) place (stance_in sections.now place)
+        decision (told_by token.now) (drop (place + 1) arena.now.tokens))) }
+    ensures part { AppendsPart (K.taken sink.old) (K.taken sink.new)
+        (laid_gap style.now crlf arena.now (guard_before arena.now.tokens place) place (stance_in sections.now place)
+        decision (told_by token.now) (drop (place + 1) arena.now.tokens)) }
     ensures counts { Counts (K.faults sink.old) (K.faults sink.new) result }
 {
     if place == 0 {
@@ -200,10 +209,13 @@ fn write_anew<K: Sink>(
     ensures held { walk.new.held ≤ token.now.item.start }
     ensures ok { OnOk result ((piece : List ℕ) × Appends (K.taken sink.old) (K.taken sink.new) piece
         × (bytes_between arena.now.text walk.old.held walk.old.at
-        ++ planned_gap style.now crlf arena.now (guard_before arena.now.tokens place) walk.old.at place (stance_in sections.now place) decision (told_by token.now) (drop (place + 1) arena.now.tokens)
+        ++ planned_gap style.now crlf arena.now (guard_before arena.now.tokens place) walk.old.at place
+        (stance_in sections.now place) decision (told_by token.now) (drop (place + 1) arena.now.tokens)
         ≡ piece ++ bytes_between arena.now.text walk.new.held token.now.item.start)) }
-    ensures part { AppendsPart (K.taken sink.old) (K.taken sink.new) (bytes_between arena.now.text walk.old.held walk.old.at
-        ++ planned_gap style.now crlf arena.now (guard_before arena.now.tokens place) walk.old.at place (stance_in sections.now place) decision (told_by token.now) (drop (place + 1) arena.now.tokens)) }
+    ensures part { AppendsPart (K.taken sink.old) (K.taken sink.new)
+        (bytes_between arena.now.text walk.old.held walk.old.at
+        ++ planned_gap style.now crlf arena.now (guard_before arena.now.tokens place) walk.old.at place
+        (stance_in sections.now place) decision (told_by token.now) (drop (place + 1) arena.now.tokens)) }
     ensures counts { Counts (K.faults sink.old) (K.faults sink.new) result }
 {
     write_all(sink, between(arena.text(), walk.held, walk.at))?;
@@ -239,14 +251,21 @@ fn write_token<K: Sink>(
     ensures within { walk.new.section ≤ length sections.now }
     ensures known { IsKnown arena.now.dialect arena.now.tokens place walk.new.run.end walk.new.run.hash }
     ensures later { (k : ℕ) → place ≤ k → stance_in (drop walk.new.section sections.now) k ≡ stance_in sections.now k }
-    ensures at { OnOk result ((walk.new.at ≡ gap_start (mark_len arena.now.text) arena.now.tokens (place + 1)) × (walk.new.held ≤ walk.new.at)) }
+    ensures at { OnOk result ((walk.new.at ≡ gap_start (mark_len arena.now.text) arena.now.tokens (place + 1))
+        × (walk.new.held ≤ walk.new.at)) }
     ensures ok { OnOk result ((piece : List ℕ) × Appends (K.taken sink.old) (K.taken sink.new) piece
         × (bytes_between arena.now.text walk.old.held walk.old.at
-        ++ written_from style.now crlf arena.now sections.now plan.now (guard_before arena.now.tokens place) walk.old.at place (drop place arena.now.tokens)
-        ≡ piece ++ (bytes_between arena.now.text walk.new.held walk.new.at
-        ++ written_from style.now crlf arena.now sections.now plan.now (guard_before arena.now.tokens (place + 1)) walk.new.at (place + 1) (drop (place + 1) arena.now.tokens)))) }
-    ensures part { AppendsPart (K.taken sink.old) (K.taken sink.new) (bytes_between arena.now.text walk.old.held walk.old.at
-        ++ written_from style.now crlf arena.now sections.now plan.now (guard_before arena.now.tokens place) walk.old.at place (drop place arena.now.tokens)) }
+        ++ written_from style.now crlf arena.now sections.now plan.now (guard_before arena.now.tokens place)
+        walk.old.at place (drop place arena.now.tokens)
+        ≡ piece
+        ++ (bytes_between arena.now.text walk.new.held walk.new.at
+        ++ written_from style.now crlf arena.now sections.now plan.now
+        (guard_before arena.now.tokens (place + 1)) walk.new.at (place + 1)
+        (drop (place + 1) arena.now.tokens)))) }
+    ensures part { AppendsPart (K.taken sink.old) (K.taken sink.new)
+        (bytes_between arena.now.text walk.old.held walk.old.at
+        ++ written_from style.now crlf arena.now sections.now plan.now (guard_before arena.now.tokens place)
+        walk.old.at place (drop place arena.now.tokens)) }
     ensures counts { Counts (K.faults sink.old) (K.faults sink.new) result }
 {
     let token = arena.get(TokenId(place));
@@ -290,9 +309,12 @@ fn pass_same(
     ensures at { at.new ≡ gap_start (mark_len arena.now.text) arena.now.tokens result }
     ensures on { at.old ≤ at.new }
     ensures anew { result < length arena.now.tokens → is_old (decision_at plan.now result) ≡ false }
-    ensures same { (sections : List Section) → written_from style.now crlf arena.now sections plan.now (guard_before arena.now.tokens place) at.old place (drop place arena.now.tokens)
+    ensures same { (sections : List Section) →
+        written_from style.now crlf arena.now sections plan.now (guard_before arena.now.tokens place) at.old place
+        (drop place arena.now.tokens)
         ≡ bytes_between arena.now.text at.old at.new
-        ++ written_from style.now crlf arena.now sections plan.now (guard_before arena.now.tokens result) at.new result (drop result arena.now.tokens) }
+        ++ written_from style.now crlf arena.now sections plan.now (guard_before arena.now.tokens result) at.new
+        result (drop result arena.now.tokens) }
 {
     let count = arena.len();
     let mut here = *at;
@@ -319,8 +341,12 @@ fn write_tokens<K: Sink>(
 ) -> Result<(), Failed>
     requires tab { 1 ≤ style.now.tab_width }
     requires whole { length plan.now ≡ length arena.now.tokens + 1 }
-    ensures ok { OnOk result (Appends (K.taken sink.old) (K.taken sink.new) (written_from style.now crlf arena.now sections.now plan.now Free (mark_len arena.now.text) 0 arena.now.tokens)) }
-    ensures part { AppendsPart (K.taken sink.old) (K.taken sink.new) (written_from style.now crlf arena.now sections.now plan.now Free (mark_len arena.now.text) 0 arena.now.tokens) }
+    ensures ok { OnOk result (Appends (K.taken sink.old) (K.taken sink.new)
+        (written_from style.now crlf arena.now sections.now plan.now Free (mark_len arena.now.text) 0
+        arena.now.tokens)) }
+    ensures part { AppendsPart (K.taken sink.old) (K.taken sink.new)
+        (written_from style.now crlf arena.now sections.now plan.now Free (mark_len arena.now.text) 0
+        arena.now.tokens) }
     ensures counts { Counts (K.faults sink.old) (K.faults sink.new) result }
 {
     let count = arena.len();
@@ -356,8 +382,10 @@ pub fn write_out<K: Sink>(
 ) -> Result<(), Failed>
     requires tab { 1 ≤ style.now.tab_width }
     requires whole { length plan.now ≡ length arena.now.tokens + 1 }
-    ensures ok { OnOk result (Appends (K.taken sink.old) (K.taken sink.new) (written style.now crlf arena.now sections.now plan.now)) }
-    ensures part { AppendsPart (K.taken sink.old) (K.taken sink.new) (written style.now crlf arena.now sections.now plan.now) }
+    ensures ok { OnOk result
+        (Appends (K.taken sink.old) (K.taken sink.new) (written style.now crlf arena.now sections.now plan.now)) }
+    ensures part { AppendsPart (K.taken sink.old) (K.taken sink.new)
+        (written style.now crlf arena.now sections.now plan.now) }
     ensures counts { Counts (K.faults sink.old) (K.faults sink.new) result }
 {
     write_all(sink, mark_of(arena))?;

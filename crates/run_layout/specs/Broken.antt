@@ -1,5 +1,6 @@
 -- What stands before the items of a line whose breaks are known: docs/PROFILE.md, "Layout of lines".
-use Rattle.std.specs.Prelude.{ℕ, zero, suc, ◌+◌, ◌-◌, ◌||◌, ◌&&◌, not, Bool, Option, Some, None, List, [], ◌∷◌, get_or, map, take, drop, if◌then◌else◌}
+use Rattle.std.specs.Prelude.{ℕ, zero, suc, ◌+◌, ◌-◌, ◌||◌, ◌&&◌, not, Bool, Option, Some, None, List, [], ◌∷◌, get_or}
+use Rattle.std.specs.Prelude.{map, take, drop, if◌then◌else◌}
 use Rattle.style_table.specs.declared.style.Style.{Style}
 use Rattle.line_tokens.specs.declared.LineTok.{LineTok}
 use Rattle.line_tokens.specs.declared.Fixed.{Fixed}
@@ -66,17 +67,22 @@ empty_inside style line token = if token.directive then empty_lines style None l
 
 -- before a token that starts at this column: a row begins there, or the blanks of the table stand
 abbrev pub decision_by : Style → ULine → LineTok → LineTok → Bool → ℕ → Decision
-decision_by style line left right brk start = if brk then Lines (1 + empty_inside style line right) start line.level else Spaces (spaces_before style left right)
+decision_by style line left right brk start =
+    if brk then Lines (1 + empty_inside style line right) start line.level
+    else Spaces (spaces_before style left right)
 
 -- at a gap behind this layout, which tells where the token starts
 abbrev pub inside_decision : Style → ULine → Layout → Gap → Bool → Decision
-inside_decision style line layout gap brk = decision_by style line gap.left gap.right brk (start_of style layout gap brk)
+inside_decision style line layout gap brk =
+    decision_by style line gap.left gap.right brk (start_of style layout gap brk)
 
 -- the decision for a gap inside a line, behind this layout
 abbrev pub inside_slot : Style → ULine → Layout → Gap → Bool → Slot
-inside_slot style line layout gap brk = record { decision = inside_decision style line layout gap brk; end = start_of style layout gap brk }
+inside_slot style line layout gap brk =
+    record { decision = inside_decision style line layout gap brk; end = start_of style layout gap brk }
 
--- A trailing comment that stays on its row waits: the gap before it is decided when the rows of the whole view are known.
+-- A trailing comment that stays on its row waits: the gap before it is decided when the rows of the whole view are
+-- known.
 abbrev pub waits : LineTok → Bool → Bool
 waits token brk = not brk && is_trailing token.role
 
@@ -87,17 +93,21 @@ made_if_open gap brk id slot later = if is_decided gap || waits gap.right brk th
 -- the decision for a gap, and those behind it by the layout that it leads to
 abbrev pub made_at : Style → ULine → List ℕ → Layout → Bool → (Layout → List (ℕ × Slot)) → Option Gap → List (ℕ × Slot)
 made_at style line items layout brk later None = []
-made_at style line items layout brk later (Some gap) = made_if_open gap brk (get_or items layout.index 0) (inside_slot style line layout gap brk) (later (layout_after style layout gap brk))
+made_at style line items layout brk later (Some gap) =
+    made_if_open gap brk (get_or items layout.index 0) (inside_slot style line layout gap brk)
+    (later (layout_after style layout gap brk))
 
 -- the decisions for the open gaps behind a layout of a line with these items, by these choices
 abbrev pub inside_made : ULine → List ℕ → Line → Layout → List Bool → List (ℕ × Slot)
 inside_made line items l layout [] = []
-inside_made line items l layout (brk ∷ breaks) = made_at l.style line items layout brk (λ next. inside_made line items l next breaks) (gap_at l layout.index)
+inside_made line items l layout (brk ∷ breaks) =
+    made_at l.style line items layout brk (λ next. inside_made line items l next breaks) (gap_at l layout.index)
 
 -- ## The decisions
 
 -- for a line that is broken so
-abbrev pub broken_made : Style → Contents → List ℕ → List LineTok → List (Option Slot) → ULine → List Bool → List (ℕ × Slot)
+abbrev pub broken_made : Style → Contents → List ℕ → List LineTok → List (Option Slot) → ULine → List Bool →
+    List (ℕ × Slot)
 broken_made style arena ids toks plan line breaks =
     let l = broken_line style arena ids toks plan line in
     first_made style arena ids line ∷ inside_made line (of_line line ids) l (first_layout l) breaks

@@ -8,16 +8,20 @@ use Rattle.replacements.specs.declared.slot.Slot.{Slot}
 use Rattle.run_layout.specs.Rows.{column_behind}
 use Rattle.token_classes.specs.Items.{item_at}
 
--- the column behind a byte of white space that stands at a column: a row begins behind a line end, a tab goes to the next multiple of its width
+-- the column behind a byte of white space that stands at a column: a row begins behind a line end, a tab goes to the
+-- next multiple of its width
 abbrev pub column_past : ℕ → ℕ → ℕ → ℕ
-column_past tab column byte = if byte == 10 then 0 else (if byte == 9 then min (column + (tab - column % tab)) most_column else min (column + 1) most_column)
+column_past tab column byte =
+    if byte == 10 then 0
+    else (if byte == 9 then min (column + (tab - column % tab)) most_column else min (column + 1) most_column)
 
 -- the column behind the bytes of a gap that begins at a column
 abbrev pub column_through : ℕ → ℕ → List ℕ → ℕ
 column_through tab column [] = column
 column_through tab column (byte ∷ gap) = column_through tab (column_past tab column byte) gap
 
--- the column at which the item with this number stands in the input, where the one before it in the view ends at this column
+-- the column at which the item with this number stands in the input, where the one before it in the view ends at this
+-- column
 abbrev pub input_column : Style → Contents → ℕ → ℕ → ℕ
 input_column style arena column id = column_through style.tab_width column (gap_of arena id)
 
@@ -34,9 +38,11 @@ input_before style arena ids (suc k) = input_behind style arena (input_before st
 abbrev pub kept_slot : ℕ → Slot
 kept_slot column = record { decision = Old; end = column }
 
--- the bytes stay before so many items of a view from this place on, where the item before ends at this column of the input
+-- the bytes stay before so many items of a view from this place on, where the item before ends at this column of the
+-- input
 abbrev pub old_from : Style → Contents → List ℕ → ℕ → ℕ → ℕ → List (ℕ × Slot)
 old_from style arena ids column k zero = []
 old_from style arena ids column k (suc count) =
     let id = get_or ids k 0 in
-    (id, kept_slot (input_column style arena column id)) ∷ old_from style arena ids (input_behind style arena column id) (k + 1) count
+    (id, kept_slot (input_column style arena column id))
+    ∷ old_from style arena ids (input_behind style arena column id) (k + 1) count

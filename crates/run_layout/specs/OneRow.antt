@@ -1,5 +1,6 @@
 -- Lines that stay on one row: nothing in them breaks, and no token goes past the limit. They need no search.
-use Rattle.std.specs.Prelude.{◌≡◌, ◌==◌, ◌<◌, ◌≤◌, ◌⊎◌, ◌+◌, ◌*◌, ◌-◌, ℕ, zero, suc, min, All, drop, get_or, Bool, true, false, Option, Some, None, List, [], ◌∷◌, length, replicate, slice_get, if◌then◌else◌}
+use Rattle.std.specs.Prelude.{◌≡◌, ◌==◌, ◌<◌, ◌≤◌, ◌⊎◌, ◌+◌, ◌*◌, ◌-◌, ℕ, zero, suc, min, All, drop, get_or, Bool, true}
+use Rattle.std.specs.Prelude.{false, Option, Some, None, List, [], ◌∷◌, length, replicate, slice_get, if◌then◌else◌}
 use Rattle.line_state.proofs.Thrift.{IsThrifty}
 use Rattle.line_tokens.specs.declared.LineTok.{LineTok}
 use Rattle.line_tokens.specs.declared.Fixed.{Fixed}
@@ -28,7 +29,8 @@ IsOpenInside l = (i : ℕ) → 0 < i → decision_at l i ≡ None
 
 -- the gaps before the tokens behind the first are open
 abbrev pub AreOpenInside : List (Option Slot) → List LineTok → Type 0
-AreOpenInside plan tokens = (i : ℕ) (token : LineTok) → 0 < i → slice_get tokens i ≡ Some token → slot_of plan token.id.0 ≡ None
+AreOpenInside plan tokens =
+    (i : ℕ) (token : LineTok) → 0 < i → slice_get tokens i ≡ Some token → slot_of plan token.id.0 ≡ None
 
 -- the column where a token starts that stays behind another
 abbrev pub stay_start : Style → ℕ → LineTok → LineTok → ℕ
@@ -74,31 +76,36 @@ row_made style column left [] = []
 row_made style column left (token ∷ tokens) =
     let start = stay_start style column left token in
     let later = row_made style (end_of token start) token tokens in
-    if is_trailing token.role then later else (token.id.0, record { decision = Spaces (spaces_before style left token); end = start }) ∷ later
+    if is_trailing token.role then later
+    else (token.id.0, record { decision = Spaces (spaces_before style left token); end = start }) ∷ later
 
 -- how many columns the tokens behind the first take up to one of them, with one blank before each
 abbrev pub width_to : List LineTok → ℕ → ℕ
 width_to tokens zero = 0
 width_to tokens (suc i) = width_to tokens i + (1 + (get_or tokens (suc i) no_token).last_width)
 
--- So many tokens of a line, whose first ends at a column, stand in its row, and behind them wait trailing comments alone.
+-- So many tokens of a line, whose first ends at a column, stand in its row, and behind them wait trailing comments
+-- alone.
 pub record IsShortRow (tokens : List LineTok) (behind count : ℕ) : Type 0 where
   pub some : 0 < count
   pub within : count ≤ length tokens
-  pub stand : (i : ℕ) (token : LineTok) → 0 < i → i < count → slice_get tokens i ≡ Some token → is_trailing token.role ≡ false
+  pub stand : (i : ℕ) (token : LineTok) → 0 < i → i < count → slice_get tokens i ≡ Some token →
+      is_trailing token.role ≡ false
   pub wait : All (λ token. is_trailing token.role ≡ true) (drop count tokens)
   pub few : behind + width_to tokens (count - 1) ≤ 1000
 
--- Lines of at most so many tokens need no count of their cells, since so few have never more than the budget, and there is a limit of columns. Without one, or with a smaller budget, it is none.
+-- Lines of at most so many tokens need no count of their cells, since so few have never more than the budget, and there
+-- is a limit of columns. Without one, or with a smaller budget, it is none.
 pub record NeedNoCount (style : Style) (budget few : ℕ) : Type 0 where
   pub most : few ≤ 1000
   pub limit : 0 < few → 0 < style.column_limit
   pub rich : 0 < few → 1001000 ≤ budget
 
 -- this is the line with these tokens, none of whose inner gaps is decided
-pub record IsRowLine (l : Line) (style : Style) (column : ℕ) (tokens : List LineTok) (first : Option Fixed) : Type 0 where
-  pub style_is : l.style ≡ style
-  pub column_is : l.column ≡ column
-  pub tokens_are : l.tokens ≡ tokens
-  pub first_is : decision_at l 0 ≡ first
-  pub inside : IsOpenInside l
+pub record IsRowLine (l : Line) (style : Style) (column : ℕ) (tokens : List LineTok) (first : Option Fixed) : Type 0
+  where
+    pub style_is : l.style ≡ style
+    pub column_is : l.column ≡ column
+    pub tokens_are : l.tokens ≡ tokens
+    pub first_is : decision_at l 0 ≡ first
+    pub inside : IsOpenInside l

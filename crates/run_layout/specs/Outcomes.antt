@@ -26,25 +26,33 @@ pub data LineOutcome : Type 0 where
   -- it has more cells than the budget: it is reported with this number
   Over : ℕ → LineOutcome
 
--- This comes of a line behind a plan: of one without an open gap nothing. What is free is only whether a line whose cells exceed the budget is reported.
+-- This comes of a line behind a plan: of one without an open gap nothing. What is free is only whether a line whose
+-- cells exceed the budget is reported.
 abbrev pub ComesOf : Style → ℕ → Contents → List ℕ → List LineTok → List (Option Slot) → ULine → LineOutcome → Type 0
 ComesOf style budget arena ids toks plan line Kept = AreDecided plan ids line
-ComesOf style budget arena ids toks plan line (Only breaks) = IsOpen plan ids line × (style.column_limit ≡ 0) × IsAdmissible (broken_line style arena ids toks plan line) breaks
-ComesOf style budget arena ids toks plan line (Least breaks cost) = IsOpen plan ids line × (0 < style.column_limit) × IsFound (broken_line style arena ids toks plan line) budget breaks cost
-ComesOf style budget arena ids toks plan line (Over cells) = IsOpen plan ids line × (0 < style.column_limit) × IsOver (broken_line style arena ids toks plan line) budget cells
+ComesOf style budget arena ids toks plan line (Only breaks) =
+    IsOpen plan ids line × (style.column_limit ≡ 0) × IsAdmissible (broken_line style arena ids toks plan line) breaks
+ComesOf style budget arena ids toks plan line (Least breaks cost) =
+    IsOpen plan ids line × (0 < style.column_limit)
+    × IsFound (broken_line style arena ids toks plan line) budget breaks cost
+ComesOf style budget arena ids toks plan line (Over cells) =
+    IsOpen plan ids line × (0 < style.column_limit) × IsOver (broken_line style arena ids toks plan line) budget cells
 
 -- the decisions for the gaps inside a line that is reported: each keeps its bytes
 abbrev pub reported_made : Style → Contents → List ℕ → ULine → List (ℕ × Slot)
 reported_made style arena ids line =
     let first = get_or ids line.first 0 in
-    old_from style arena ids (input_behind style arena (input_before style arena ids line.first) first) (line.first + 1) (line.last - line.first)
+    old_from style arena ids (input_behind style arena (input_before style arena ids line.first) first)
+    (line.first + 1) (line.last - line.first)
 
 -- the decisions that follow
-abbrev pub outcome_made : Style → Contents → List ℕ → List LineTok → List (Option Slot) → ULine → LineOutcome → List (ℕ × Slot)
+abbrev pub outcome_made : Style → Contents → List ℕ → List LineTok → List (Option Slot) → ULine → LineOutcome →
+    List (ℕ × Slot)
 outcome_made style arena ids toks plan line Kept = []
 outcome_made style arena ids toks plan line (Only breaks) = broken_made style arena ids toks plan line breaks
 outcome_made style arena ids toks plan line (Least breaks cost) = broken_made style arena ids toks plan line breaks
-outcome_made style arena ids toks plan line (Over cells) = first_made style arena ids line ∷ reported_made style arena ids line
+outcome_made style arena ids toks plan line (Over cells) =
+    first_made style arena ids line ∷ reported_made style arena ids line
 
 -- ## All lines of a run
 
@@ -59,10 +67,12 @@ abbrev pub row_of : Contents → List ℕ → ULine → ℕ
 row_of arena ids line = (item_at arena (get_or ids line.first 0)).line
 
 -- Behind these lines of a run stands this plan, and this came of them in their order.
-abbrev pub AfterLines : Style → ℕ → Contents → List ℕ → List LineTok → ℕ → List (Option Slot) → List ULine → List (Option Slot) → List LaidLine → Type 0
+abbrev pub AfterLines : Style → ℕ → Contents → List ℕ → List LineTok → ℕ → List (Option Slot) → List ULine →
+    List (Option Slot) → List LaidLine → Type 0
 AfterLines style budget arena ids toks run plan [] final done = (final ≡ plan) × (done ≡ [])
 AfterLines style budget arena ids toks run plan (line ∷ lines) final done =
     (outcome : LineOutcome) × (later : List LaidLine)
     × ComesOf style budget arena ids toks plan line outcome
     × (done ≡ record { run = run; row = row_of arena ids line; outcome = outcome } ∷ later)
-    × AfterLines style budget arena ids toks run (decided_all plan (outcome_made style arena ids toks plan line outcome)) lines final later
+    × AfterLines style budget arena ids toks run
+    (decided_all plan (outcome_made style arena ids toks plan line outcome)) lines final later

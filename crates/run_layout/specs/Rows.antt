@@ -1,5 +1,6 @@
 -- What stands before the items of a line that isn't searched for breaks: docs/PROFILE.md, "Layout of lines".
-use Rattle.std.specs.Prelude.{◌==◌, ◌&&◌, not, min, ℕ, zero, suc, ◌+◌, Bool, false, Option, Some, None, List, get_or, if◌then◌else◌}
+use Rattle.std.specs.Prelude.{◌==◌, ◌&&◌, not, min, ℕ, zero, suc, ◌+◌, Bool, false, Option, Some, None, List, get_or}
+use Rattle.std.specs.Prelude.{if◌then◌else◌}
 use Rattle.style_table.specs.declared.style.Style.{Style}
 use Rattle.line_tokens.specs.declared.LineTok.{LineTok}
 use Rattle.line_tokens.specs.declared.role.Role.{Role}
@@ -59,19 +60,23 @@ opens_before classes (suc k) = is_open_brace (get_or classes k Nothing)
 
 -- the empty lines before an item, where the `{` of a block stands directly before it or doesn't
 abbrev pub empty_rows : Style → ULine → Bool → LineTok → ℕ
-empty_rows style line opened token = if opened && not style.keep_empty_lines_at_the_start_of_blocks then 0 else empty_lines style None line token
+empty_rows style line opened token =
+    if opened && not style.keep_empty_lines_at_the_start_of_blocks then 0 else empty_lines style None line token
 
 -- ## Decisions
 
--- before the first item of a line, of this class and behind a `{` or not, stand its empty lines; before the file's first item nothing
+-- before the first item of a line, of this class and behind a `{` or not, stand its empty lines; before the file's
+-- first item nothing
 abbrev pub first_of_line : Style → Contents → ULine → Bool → TokenClass → ℕ → Decision
 first_of_line style arena line opened class id =
     if id == 0 then Spaces 0
-    else Lines (1 + empty_rows style line opened (row_token arena id (first_role class))) (start_column style line) line.level
+    else Lines (1 + empty_rows style line opened (row_token arena id (first_role class))) (start_column style line)
+    line.level
 
 -- before the first item of a line
 abbrev pub first_decision : Style → Contents → ULine → Option ℕ → ℕ → Decision
-first_decision style arena line before id = first_of_line style arena line (is_behind_brace arena before) (item_class arena id) id
+first_decision style arena line before id =
+    first_of_line style arena line (is_behind_brace arena before) (item_class arena id) id
 
 -- ## Columns
 

@@ -16,7 +16,9 @@ pub record IsToldOf (done : List LaidLine) (before after : Tally) : Type 0 where
   pub cost : after.cost ≡ before.cost + cost_of done
 
 -- behind the lines of a run stands this plan, and they are told so
-pub record IsRunLaid (style : Style) (budget : ℕ) (arena : Contents) (ids : List ℕ) (toks : List LineTok) (run : ℕ) (plan : List (Option Slot)) (lines : List ULine) (final : List (Option Slot)) (before after : Tally) : Type 0 where
-  pub done : List LaidLine
-  pub lines_are : AfterLines style budget arena ids toks run plan lines final done
-  pub told : IsToldOf done before after
+pub record IsRunLaid (style : Style) (budget : ℕ) (arena : Contents) (ids : List ℕ) (toks : List LineTok) (run : ℕ)
+    (plan : List (Option Slot)) (lines : List ULine) (final : List (Option Slot)) (before after : Tally) : Type 0
+  where
+    pub done : List LaidLine
+    pub lines_are : AfterLines style budget arena ids toks run plan lines final done
+    pub told : IsToldOf done before after

@@ -19,7 +19,8 @@ IsTold (Over cells) (laid.Over told) = told ≡ cells
 IsTold _ _ = ⊥
 
 -- A line is laid out: this stands behind it, by something that comes of it.
-pub record IsLaid (style : Style) (budget : ℕ) (arena : Contents) (ids : List ℕ) (toks : List LineTok) (plan : List (Option Slot)) (line : ULine) (after : List (Option Slot)) (told : Laid) : Type 0 where
+pub record IsLaid (style : Style) (budget : ℕ) (arena : Contents) (ids : List ℕ) (toks : List LineTok)
+    (plan : List (Option Slot)) (line : ULine) (after : List (Option Slot)) (told : Laid) : Type 0 where
   pub outcome : LineOutcome
   pub comes : ComesOf style budget arena ids toks plan line outcome
   pub plan_is : after ≡ decided_all plan (outcome_made style arena ids toks plan line outcome)

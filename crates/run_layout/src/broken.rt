@@ -82,7 +82,9 @@ fn decide_open(
     start: u32,
 )
     requires { token.now.id.0 < length plan.old }
-    ensures plan { plan.new ≡ (if is_some_decision fixed || waits token.now brk then plan.old else decided plan.old token.now.id.0 (record { decision = decision; end = start })) }
+    ensures plan { plan.new
+        ≡ (if is_some_decision fixed || waits token.now brk then plan.old
+        else decided plan.old token.now.id.0 (record { decision = decision; end = start })) }
     ensures len { length plan.new ≡ length plan.old }
 {
     if fixed.is_none() && !waits(token, brk) {
@@ -105,11 +107,17 @@ fn write_breaks(
     requires tell { TellBlanks style.now blanks.now.of_group }
     requires some { 0 < length tokens.now }
     requires even { length fixed.now ≡ length tokens.now }
-    requires admissible { IsAdmissible (line_of style.now (start_column style.now line.now) tokens.now fixed.now) breaks.now }
-    requires starts { starts.now ≡ starts_of (line_of style.now (start_column style.now line.now) tokens.now fixed.now) (first_layout (line_of style.now (start_column style.now line.now) tokens.now fixed.now)) breaks.now }
+    requires admissible { IsAdmissible (line_of style.now (start_column style.now line.now) tokens.now fixed.now)
+        breaks.now }
+    requires starts { starts.now
+        ≡ starts_of (line_of style.now (start_column style.now line.now) tokens.now fixed.now)
+        (first_layout (line_of style.now (start_column style.now line.now) tokens.now fixed.now)) breaks.now }
     requires aligned { length starts.now ≡ length breaks.now }
     requires within { All (λ token. token.id.0 < length plan.old) tokens.now }
-    ensures plan { plan.new ≡ decided_all plan.old (inside_made line.now (map number tokens.now) (line_of style.now (start_column style.now line.now) tokens.now fixed.now) (first_layout (line_of style.now (start_column style.now line.now) tokens.now fixed.now)) breaks.now) }
+    ensures plan { plan.new
+        ≡ decided_all plan.old (inside_made line.now (map number tokens.now)
+        (line_of style.now (start_column style.now line.now) tokens.now fixed.now)
+        (first_layout (line_of style.now (start_column style.now line.now) tokens.now fixed.now)) breaks.now) }
     ensures len { length plan.new ≡ length plan.old }
 {
     for at in 0..breaks.len() {
@@ -127,7 +135,8 @@ fn write_breaks(
 fn are_eight_open(plan: &Plan<'_>, tokens: &[LineTok], first: usize) -> bool
     requires room { first + 8 ≤ length tokens.now }
     requires within { All (λ token. token.id.0 < length plan.now) tokens.now }
-    ensures { IsTrue result → (i : ℕ) (d : LineTok) → first ≤ i → i < first + 8 → slot_of plan.now (get_or tokens.now i d).id.0 ≡ None }
+    ensures { IsTrue result → (i : ℕ) (d : LineTok) → first ≤ i → i < first + 8 →
+        slot_of plan.now (get_or tokens.now i d).id.0 ≡ None }
 {
     for at in first..first + 8 {
         if plan.slot(token_at(tokens, at).id.0).is_some() {
@@ -279,14 +288,22 @@ pub(crate) fn write_broken(
     requires some { 0 < length tokens.now }
     requires short { length tokens.now < 4294967296 }
     requires even { length fixed.now ≡ length tokens.now }
-    requires admissible { IsAdmissible (line_of layout.now.style.now (start_column layout.now.style.now line.now) tokens.now fixed.now) breaks.now }
+    requires admissible { IsAdmissible
+        (line_of layout.now.style.now (start_column layout.now.style.now line.now) tokens.now fixed.now) breaks.now }
     requires inside { All (λ token. token.id.0 < length plan.old) tokens.now }
     requires classes { layout.now.classes.now ≡ classes_of layout.now.arena.now layout.now.view.now }
     requires place { line.now.first < length layout.now.view.now }
     requires items { AreWithin layout.now.arena.now layout.now.view.now }
-    requires first { (token : LineTok) → slice_get tokens.now 0 ≡ Some token → get_or layout.now.view.now line.now.first 0 ≡ token.id.0 }
+    requires first { (token : LineTok) → slice_get tokens.now 0 ≡ Some token →
+        get_or layout.now.view.now line.now.first 0 ≡ token.id.0 }
     requires whole { length plan.old ≡ length layout.now.arena.now.tokens + 1 }
-    ensures plan { OnOk result (plan.new ≡ decided_all plan.old (first_made layout.now.style.now layout.now.arena.now layout.now.view.now line.now ∷ inside_made line.now (map number tokens.now) (line_of layout.now.style.now (start_column layout.now.style.now line.now) tokens.now fixed.now) (first_layout (line_of layout.now.style.now (start_column layout.now.style.now line.now) tokens.now fixed.now)) breaks.now)) }
+    ensures plan { OnOk result (plan.new
+        ≡ decided_all plan.old (first_made layout.now.style.now layout.now.arena.now layout.now.view.now line.now
+        ∷ inside_made line.now (map number tokens.now)
+        (line_of layout.now.style.now (start_column layout.now.style.now line.now) tokens.now fixed.now)
+        (first_layout
+        (line_of layout.now.style.now (start_column layout.now.style.now line.now) tokens.now fixed.now))
+        breaks.now)) }
     ensures len { OnOk result (length plan.new ≡ length plan.old) }
 {
     let style = layout.style;

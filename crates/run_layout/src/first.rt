@@ -127,7 +127,9 @@ fn first_decision(layout: &ViewLayout<'_>, line: &ULine, id: u32) -> Decision
     requires place { line.now.first < length layout.now.view.now }
     requires items { AreWithin layout.now.arena.now layout.now.view.now }
     requires id { get_or layout.now.view.now line.now.first 0 ≡ id }
-    ensures { result ≡ first_decision layout.now.style.now layout.now.arena.now line.now (item_before layout.now.view.now line.now.first) id }
+    ensures { result
+        ≡ first_decision layout.now.style.now layout.now.arena.now line.now
+        (item_before layout.now.view.now line.now.first) id }
 {
     let classes = layout.classes;
     let count = classes.len();
@@ -149,7 +151,8 @@ pub(crate) fn decide_first(layout: &ViewLayout<'_>, line: &ULine, id: u32, plan:
     requires items { AreWithin layout.now.arena.now layout.now.view.now }
     requires id { get_or layout.now.view.now line.now.first 0 ≡ id }
     requires whole { length plan.old ≡ length layout.now.arena.now.tokens + 1 }
-    ensures plan { plan.new ≡ decided plan.old id (first_slot layout.now.style.now layout.now.arena.now layout.now.view.now line.now) }
+    ensures plan { plan.new
+        ≡ decided plan.old id (first_slot layout.now.style.now layout.now.arena.now layout.now.view.now line.now) }
     ensures len { length plan.new ≡ length plan.old }
 {
     let items = layout.arena.len();

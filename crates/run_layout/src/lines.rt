@@ -62,10 +62,15 @@ fn lay_out_short_row(
     requires some { line.now.first ≤ line.now.last }
     requires places { line.now.last < length layout.now.view.now }
     requires whole { length plan.old ≡ length layout.now.arena.now.tokens + 1 }
-    ensures row { OnTrue result (IsRow (broken_line layout.now.style.now layout.now.arena.now layout.now.view.now layout.now.tokens.now plan.old line.now) layout.now.budget) }
+    ensures row { OnTrue result (IsRow (broken_line layout.now.style.now layout.now.arena.now layout.now.view.now
+        layout.now.tokens.now plan.old line.now) layout.now.budget) }
     ensures opens { OnTrue result (IsOpen plan.old layout.now.view.now line.now) }
     ensures limit { OnTrue result (0 < layout.now.style.now.column_limit) }
-    ensures plan { OnTrue result (plan.new ≡ decided_all plan.old (broken_made layout.now.style.now layout.now.arena.now layout.now.view.now layout.now.tokens.now plan.old line.now (stays (gaps (broken_line layout.now.style.now layout.now.arena.now layout.now.view.now layout.now.tokens.now plan.old line.now))))) }
+    ensures plan { OnTrue result (plan.new
+        ≡ decided_all plan.old (broken_made layout.now.style.now layout.now.arena.now layout.now.view.now
+        layout.now.tokens.now plan.old line.now (stays (gaps
+        (broken_line layout.now.style.now layout.now.arena.now layout.now.view.now layout.now.tokens.now
+        plan.old line.now))))) }
     ensures same { OnFalse result (plan.new ≡ plan.old) }
     ensures len { length plan.new ≡ length plan.old }
 {
@@ -105,9 +110,14 @@ fn lay_out_row(
     requires some { line.now.first ≤ line.now.last }
     requires places { line.now.last < length layout.now.view.now }
     requires whole { length plan.old ≡ length layout.now.arena.now.tokens + 1 }
-    ensures row { OnTrue result (IsRow (broken_line layout.now.style.now layout.now.arena.now layout.now.view.now layout.now.tokens.now plan.old line.now) layout.now.budget) }
+    ensures row { OnTrue result (IsRow (broken_line layout.now.style.now layout.now.arena.now layout.now.view.now
+        layout.now.tokens.now plan.old line.now) layout.now.budget) }
     ensures limit { OnTrue result (0 < layout.now.style.now.column_limit) }
-    ensures plan { OnTrue result (plan.new ≡ decided_all plan.old (broken_made layout.now.style.now layout.now.arena.now layout.now.view.now layout.now.tokens.now plan.old line.now (stays (gaps (broken_line layout.now.style.now layout.now.arena.now layout.now.view.now layout.now.tokens.now plan.old line.now))))) }
+    ensures plan { OnTrue result (plan.new
+        ≡ decided_all plan.old (broken_made layout.now.style.now layout.now.arena.now layout.now.view.now
+        layout.now.tokens.now plan.old line.now (stays (gaps
+        (broken_line layout.now.style.now layout.now.arena.now layout.now.view.now layout.now.tokens.now
+        plan.old line.now))))) }
     ensures same { OnFalse result (plan.new ≡ plan.old) }
     ensures len { length plan.new ≡ length plan.old }
 {
@@ -149,11 +159,14 @@ fn lay_out_searched(
     requires whole { length plan.old ≡ length layout.now.arena.now.tokens + 1 }
     requires opens { IsOpen plan.old layout.now.view.now line.now }
     requires before { cursor.old.place ≤ line.now.first }
-    requires column { cursor.old.column ≡ input_before layout.now.style.now layout.now.arena.now layout.now.view.now cursor.old.place }
-    ensures laid { IfOk result (IsLaid layout.now.style.now layout.now.budget layout.now.arena.now layout.now.view.now layout.now.tokens.now plan.old line.now plan.new) }
+    requires column { cursor.old.column
+        ≡ input_before layout.now.style.now layout.now.arena.now layout.now.view.now cursor.old.place }
+    ensures laid { IfOk result (IsLaid layout.now.style.now layout.now.budget layout.now.arena.now layout.now.view.now
+        layout.now.tokens.now plan.old line.now plan.new) }
     ensures len { OnOk result (length plan.new ≡ length plan.old) }
     ensures before { OnOk result (cursor.new.place ≤ line.now.last + 1) }
-    ensures column { OnOk result (cursor.new.column ≡ input_before layout.now.style.now layout.now.arena.now layout.now.view.now cursor.new.place) }
+    ensures column { OnOk result (cursor.new.column
+        ≡ input_before layout.now.style.now layout.now.arena.now layout.now.view.now cursor.new.place) }
 {
     let alloc = layout.alloc;
     let style = layout.style;
@@ -221,11 +234,14 @@ fn lay_out_other_line(
     requires places { line.now.last < length layout.now.view.now }
     requires whole { length plan.old ≡ length layout.now.arena.now.tokens + 1 }
     requires before { cursor.old.place ≤ line.now.first }
-    requires column { cursor.old.column ≡ input_before layout.now.style.now layout.now.arena.now layout.now.view.now cursor.old.place }
-    ensures laid { IfOk result (IsLaid layout.now.style.now layout.now.budget layout.now.arena.now layout.now.view.now layout.now.tokens.now plan.old line.now plan.new) }
+    requires column { cursor.old.column
+        ≡ input_before layout.now.style.now layout.now.arena.now layout.now.view.now cursor.old.place }
+    ensures laid { IfOk result (IsLaid layout.now.style.now layout.now.budget layout.now.arena.now layout.now.view.now
+        layout.now.tokens.now plan.old line.now plan.new) }
     ensures len { OnOk result (length plan.new ≡ length plan.old) }
     ensures before { OnOk result (cursor.new.place ≤ line.now.last + 1) }
-    ensures column { OnOk result (cursor.new.column ≡ input_before layout.now.style.now layout.now.arena.now layout.now.view.now cursor.new.place) }
+    ensures column { OnOk result (cursor.new.column
+        ≡ input_before layout.now.style.now layout.now.arena.now layout.now.view.now cursor.new.place) }
 {
     if is_line_decided(layout, line, plan, segment) {
         return Ok(Laid::Unsearched);
@@ -256,11 +272,14 @@ fn lay_out_line(
     requires places { line.now.last < length layout.now.view.now }
     requires whole { length plan.old ≡ length layout.now.arena.now.tokens + 1 }
     requires before { cursor.old.place ≤ line.now.first }
-    requires column { cursor.old.column ≡ input_before layout.now.style.now layout.now.arena.now layout.now.view.now cursor.old.place }
-    ensures laid { IfOk result (IsLaid layout.now.style.now layout.now.budget layout.now.arena.now layout.now.view.now layout.now.tokens.now plan.old line.now plan.new) }
+    requires column { cursor.old.column
+        ≡ input_before layout.now.style.now layout.now.arena.now layout.now.view.now cursor.old.place }
+    ensures laid { IfOk result (IsLaid layout.now.style.now layout.now.budget layout.now.arena.now layout.now.view.now
+        layout.now.tokens.now plan.old line.now plan.new) }
     ensures len { OnOk result (length plan.new ≡ length plan.old) }
     ensures before { OnOk result (cursor.new.place ≤ line.now.last + 1) }
-    ensures column { OnOk result (cursor.new.column ≡ input_before layout.now.style.now layout.now.arena.now layout.now.view.now cursor.new.place) }
+    ensures column { OnOk result (cursor.new.column
+        ≡ input_before layout.now.style.now layout.now.arena.now layout.now.view.now cursor.new.place) }
 {
     if lay_out_short_row(layout, line, blanks, few, plan) {
         return Ok(Laid::Least { cost: 0 });
@@ -289,7 +308,8 @@ pub fn lay_out_lines(
     requires room { tally.old.searched + length lines.now < 2 ^ 60 }
     requires cheap { tally.old.cost ≤ tally.old.searched * 18446744073709551615 }
     requires counted { IsCounted layout.now.arena.now tally.old.lines }
-    ensures laid { OnOk result (IsRunLaid layout.now.style.now layout.now.budget layout.now.arena.now layout.now.view.now layout.now.tokens.now number plan.old lines.now plan.new tally.old tally.new) }
+    ensures laid { OnOk result (IsRunLaid layout.now.style.now layout.now.budget layout.now.arena.now
+        layout.now.view.now layout.now.tokens.now number plan.old lines.now plan.new tally.old tally.new) }
     ensures len { OnOk result (length plan.new ≡ length plan.old) }
     ensures room { OnOk result (tally.new.searched ≤ tally.old.searched + length lines.now) }
     ensures cheap { OnOk result (tally.new.cost ≤ tally.new.searched * 18446744073709551615) }

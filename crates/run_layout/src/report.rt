@@ -81,7 +81,8 @@ pub(crate) fn note_line(
     requires room { tally.old.searched < 2 ^ 60 }
     requires cheap { tally.old.cost ≤ tally.old.searched * 18446744073709551615 }
     requires counted { IsCounted arena.now tally.old.lines }
-    ensures reports { OnOk result (tally.new.reports.items ≡ tally.old.reports.items ++ report_told run (item_at arena.now id).line laid) }
+    ensures reports { OnOk result
+        (tally.new.reports.items ≡ tally.old.reports.items ++ report_told run (item_at arena.now id).line laid) }
     ensures searched { OnOk result (tally.new.searched ≡ tally.old.searched + searched_told laid) }
     ensures cost { OnOk result (tally.new.cost ≡ tally.old.cost + cost_told laid) }
     ensures room { OnOk result (tally.new.searched ≤ tally.old.searched + 1) }

@@ -98,11 +98,15 @@ pub(crate) fn report_line(
     requires places { line.now.last < length layout.now.view.now }
     requires whole { length plan.old ≡ length layout.now.arena.now.tokens + 1 }
     requires before { cursor.old.place ≤ line.now.first }
-    requires column { cursor.old.column ≡ input_before layout.now.style.now layout.now.arena.now layout.now.view.now cursor.old.place }
-    ensures plan { plan.new ≡ decided_all plan.old (first_made layout.now.style.now layout.now.arena.now layout.now.view.now line.now ∷ reported_made layout.now.style.now layout.now.arena.now layout.now.view.now line.now) }
+    requires column { cursor.old.column
+        ≡ input_before layout.now.style.now layout.now.arena.now layout.now.view.now cursor.old.place }
+    ensures plan { plan.new
+        ≡ decided_all plan.old (first_made layout.now.style.now layout.now.arena.now layout.now.view.now line.now
+        ∷ reported_made layout.now.style.now layout.now.arena.now layout.now.view.now line.now) }
     ensures len { length plan.new ≡ length plan.old }
     ensures place { cursor.new.place ≡ line.now.last + 1 }
-    ensures column { cursor.new.column ≡ input_before layout.now.style.now layout.now.arena.now layout.now.view.now (line.now.last + 1) }
+    ensures column { cursor.new.column
+        ≡ input_before layout.now.style.now layout.now.arena.now layout.now.view.now (line.now.last + 1) }
 {
     let style = layout.style;
     let arena = layout.arena;

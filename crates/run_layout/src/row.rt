@@ -238,8 +238,10 @@ pub(crate) fn short_row(
     requires few { length tokens.now ≤ 1000 }
     requires within { All (λ token. token.id.0 < length plan.now) tokens.now }
     ensures inside { IfSome result (λ count. AreOpenInside plan.now tokens.now) }
-    ensures row { IfSome result (λ count. (l : Line) (budget : ℕ) → 1001000 ≤ budget → IsRowLine l style.now column tokens.now None → IsRow l budget) }
-    ensures short { IfSome result (λ count. IsShortRow tokens.now (end_of (get_or tokens.now 0 no_token) column) count) }
+    ensures row { IfSome result (λ count.
+        (l : Line) (budget : ℕ) → 1001000 ≤ budget → IsRowLine l style.now column tokens.now None → IsRow l budget) }
+    ensures short { IfSome result
+        (λ count. IsShortRow tokens.now (end_of (get_or tokens.now 0 no_token) column) count) }
 {
     let limit = u64::from(style.column_limit);
     let mut left = token_at(tokens, 0);
@@ -305,7 +307,9 @@ pub(crate) fn is_open_row(
 #[inline(always)]
 fn write_stay(token: &LineTok, spaces: u32, start: u32, plan: &mut Plan<'_>)
     requires { token.now.id.0 < length plan.old }
-    ensures plan { plan.new ≡ (if is_trailing token.now.role then plan.old else decided plan.old token.now.id.0 (record { decision = Spaces spaces; end = start })) }
+    ensures plan { plan.new
+        ≡ (if is_trailing token.now.role then plan.old
+        else decided plan.old token.now.id.0 (record { decision = Spaces spaces; end = start })) }
     ensures len { length plan.new ≡ length plan.old }
 {
     if !token.role.is_trailing() {
@@ -339,7 +343,8 @@ pub(crate) fn write_short_row(
     requires tell { TellBlanks style.now blanks.now.of_group }
     requires short { IsShortRow tokens.now column count }
     requires within { All (λ token. token.id.0 < length plan.old) tokens.now }
-    ensures plan { plan.new ≡ decided_all plan.old (row_made style.now column (get_or tokens.now 0 no_token) (drop 1 tokens.now)) }
+    ensures plan { plan.new
+        ≡ decided_all plan.old (row_made style.now column (get_or tokens.now 0 no_token) (drop 1 tokens.now)) }
     ensures len { length plan.new ≡ length plan.old }
 {
     let mut left = token_at(tokens, 0);
@@ -366,7 +371,8 @@ pub(crate) fn write_row(
     requires tell { TellBlanks style.now blanks.now.of_group }
     requires some { 0 < length tokens.now }
     requires within { All (λ token. token.id.0 < length plan.old) tokens.now }
-    ensures plan { plan.new ≡ decided_all plan.old (row_made style.now column (get_or tokens.now 0 no_token) (drop 1 tokens.now)) }
+    ensures plan { plan.new
+        ≡ decided_all plan.old (row_made style.now column (get_or tokens.now 0 no_token) (drop 1 tokens.now)) }
     ensures len { length plan.new ≡ length plan.old }
 {
     let mut left = token_at(tokens, 0);

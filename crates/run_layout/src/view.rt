@@ -39,7 +39,8 @@ pub fn lay_out_view(
     requires room { tally.old.searched + length layout.now.view.now < 2 ^ 60 }
     requires cheap { tally.old.cost ≤ tally.old.searched * 18446744073709551615 }
     requires counted { IsCounted layout.now.arena.now tally.old.lines }
-    ensures laid { OnOk result (IsViewLaid layout.now.style.now layout.now.budget layout.now.arena.now layout.now.view.now layout.now.tokens.now number plan.old lines.now plan.new tally.old tally.new) }
+    ensures laid { OnOk result (IsViewLaid layout.now.style.now layout.now.budget layout.now.arena.now
+        layout.now.view.now layout.now.tokens.now number plan.old lines.now plan.new tally.old tally.new) }
     ensures len { OnOk result (length plan.new ≡ length plan.old) }
     ensures room { OnOk result (tally.new.searched ≤ tally.old.searched + length layout.now.view.now) }
     ensures cheap { OnOk result (tally.new.cost ≤ tally.new.searched * 18446744073709551615) }

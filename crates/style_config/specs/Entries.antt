@@ -1,5 +1,6 @@
 -- The entries of a document: which key each of its lines sets. docs/PROFILE.md states the rules under "Configuration".
-use Rattle.std.specs.Prelude.{ℕ, Bool, true, false, ◌==◌, Option, Some, None, if◌then◌else◌, List, [], ◌∷◌, bytes_eq, codes}
+use Rattle.std.specs.Prelude.{ℕ, Bool, true, false, ◌==◌, Option, Some, None, if◌then◌else◌, List, [], ◌∷◌, bytes_eq}
+use Rattle.std.specs.Prelude.{codes}
 use Rattle.style_config.specs.Texts.{Pair, pair_of}
 use Rattle.style_config.specs.Lines.{Line, Marker, Entry, Nested, Malformed, NumberedLine}
 use Rattle.style_config.specs.declared.entry.Outer.{Outer}
@@ -37,8 +38,8 @@ owner_after AnyKey (Nested width text) = AnyKey
 owner_after (OuterKey outer None) (Nested width text) = OuterKey outer (Some width)
 owner_after (OuterKey outer (Some first)) (Nested width text) = OuterKey outer (Some first)
 
--- a key with its value, its line, the outer key that it stands under, whether quotes stood around the value, and whether
--- lines belong to the key
+-- a key with its value, its line, the outer key that it stands under, whether quotes stood around the value, and
+-- whether lines belong to the key
 pub record Setting : Type 0 where
   pub line : ℕ
   pub outer : Option Outer
@@ -60,7 +61,14 @@ has_width (Some first) width = width == first
 -- what a line under an outer key gives
 abbrev pub inner_item : ℕ → Outer → Option Pair → Item
 inner_item number outer (Some pair) =
-    Given (record { line = number; outer = Some outer; label = pair.key; value = pair.value; is_quoted = pair.is_quoted; has_lines = false })
+    Given (record {
+      line = number;
+      outer = Some outer;
+      label = pair.key;
+      value = pair.value;
+      is_quoted = pair.is_quoted;
+      has_lines = false;
+    })
 inner_item number outer None = Wrong number
 
 -- what a line gives, if anything; `next` says whether a line follows that belongs to the same key
@@ -68,7 +76,14 @@ abbrev pub item_of : Owner → ℕ → Line → Bool → Option Item
 item_of owner number Marker next = None
 item_of owner number Malformed next = Some (Wrong number)
 item_of owner number (Entry pair) next =
-    Some (Given (record { line = number; outer = None; label = pair.key; value = pair.value; is_quoted = pair.is_quoted; has_lines = next }))
+    Some (Given (record {
+      line = number;
+      outer = None;
+      label = pair.key;
+      value = pair.value;
+      is_quoted = pair.is_quoted;
+      has_lines = next;
+    }))
 item_of NoKey number (Nested width text) next = Some (Wrong number)
 item_of AnyKey number (Nested width text) next = None
 item_of (OuterKey outer first) number (Nested width text) next =
@@ -109,7 +124,14 @@ items_of document = items_from NoKey document
 -- the texts of what was read
 abbrev pub setting_text : ReadSetting → Setting
 setting_text setting =
-    record { line = setting.line; outer = setting.outer; label = setting.label.now; value = setting.value.now; is_quoted = setting.is_quoted; has_lines = setting.has_lines }
+    record {
+      line = setting.line;
+      outer = setting.outer;
+      label = setting.label.now;
+      value = setting.value.now;
+      is_quoted = setting.is_quoted;
+      has_lines = setting.has_lines;
+    }
 
 abbrev pub item_text : ReadItem → Item
 item_text (Read.Wrong line) = Wrong line

@@ -1,11 +1,13 @@
 -- The lines of a configuration, and its documents. docs/PROFILE.md states the rules under "Configuration".
-use Rattle.std.specs.Prelude.{ℕ, ◌+◌, Bool, true, false, ◌==◌, ◌||◌, ◌&&◌, Option, Some, None, if◌then◌else◌, List, [], ◌∷◌, map, filter, length, nat_lt, bytes_eq, codes, slice_index, unwrap_or}
+use Rattle.std.specs.Prelude.{ℕ, ◌+◌, Bool, true, false, ◌==◌, ◌||◌, ◌&&◌, Option, Some, None, if◌then◌else◌, List, []}
+use Rattle.std.specs.Prelude.{◌∷◌, map, filter, length, nat_lt, bytes_eq, codes, slice_index, unwrap_or}
 use Rattle.std.specs.List.{slice_split}
 use Rattle.std.specs.Borrow.{Bor}
 use Rattle.bstr.specs.Text.{lines_of, without_terminator}
 use Rattle.style_table.specs.declared.style.Style.{Style}
 use Rattle.style_table.specs.Named.{named}
-use Rattle.style_config.specs.Texts.{Pair, pair_of, blanks_of, without_first_blanks, without_last_blanks, begins_with_hash}
+use Rattle.style_config.specs.Texts.{Pair, pair_of, blanks_of, without_first_blanks, without_last_blanks}
+use Rattle.style_config.specs.Texts.{begins_with_hash}
 use Rattle.style_config.specs.declared.pair.Pair.{Pair as ReadPair}
 use Rattle.style_config.specs.declared.line.Line.{Line as ReadLine}
 use Rattle.style_config.specs.declared.line.Line.TheVariants as Read

@@ -1,6 +1,8 @@
 -- What a configuration makes of a style: its first fault, or the style in force and the keys that were skipped.
 -- docs/PROFILE.md states the rules under "Configuration".
-use Rattle.std.specs.Prelude.{◌≡◌, ⊤, ℕ, Bool, true, false, ◌==◌, ◌&&◌, ◌||◌, Option, Some, None, Result, Ok, Err, if◌then◌else◌, List, [], ◌∷◌, ◌++◌, length, map, bytes_eq, codes, is_some, IsUtf8, String, string_bytes}
+use Rattle.std.specs.Prelude.{◌≡◌, ⊤, ℕ, Bool, true, false, ◌==◌, ◌&&◌, ◌||◌, Option, Some, None, Result, Ok, Err}
+use Rattle.std.specs.Prelude.{if◌then◌else◌, List, [], ◌∷◌, ◌++◌, length, map, bytes_eq, codes, is_some, IsUtf8, String}
+use Rattle.std.specs.Prelude.{string_bytes}
 use Rattle.std.specs.List.{list_any}
 use Rattle.std.specs.declared.alloc.Global.{Global}
 use Rattle.indexmap.specs.IndexSet.{IndexSet}
@@ -22,7 +24,8 @@ use Rattle.style_config.specs.declared.reading.Meaning.{Meaning}
 use Rattle.style_config.specs.declared.reading.Meaning.TheVariants.{Language, BasedOnStyle, OuterKey, Known, Unknown}
 use Rattle.style_config.specs.declared.skipped.SkippedKey.{SkippedKey}
 use Rattle.style_config.specs.declared.fault.ConfigFault.{ConfigFault}
-use Rattle.style_config.specs.declared.fault.ConfigFault.TheVariants.{NotUtf8, BadLine, UnknownStyle, BadValue, OutOfRange, Repeated, NoMemory}
+use Rattle.style_config.specs.declared.fault.ConfigFault.TheVariants.{NotUtf8, BadLine, UnknownStyle, BadValue}
+use Rattle.style_config.specs.declared.fault.ConfigFault.TheVariants.{OutOfRange, Repeated, NoMemory}
 
 -- the name of a key, with the outer key that it stands under
 abbrev pub path : Option Outer → List ℕ → List ℕ
@@ -63,8 +66,10 @@ with_read line skipped (Err Value.OutOfRange) = Err (OutOfRange line)
 
 -- an outer key's own boolean says whether trailing comments are aligned
 abbrev pub aligned : Effect → ℕ → Result Bool ValueFault → Result Effect ConfigFault
-aligned effect line (Ok true) = Ok (record effect { style = record effect.style { align_trailing_comments_kind = Kind.Always } })
-aligned effect line (Ok false) = Ok (record effect { style = record effect.style { align_trailing_comments_kind = Kind.Never } })
+aligned effect line (Ok true) =
+    Ok (record effect { style = record effect.style { align_trailing_comments_kind = Kind.Always } })
+aligned effect line (Ok false) =
+    Ok (record effect { style = record effect.style { align_trailing_comments_kind = Kind.Never } })
 aligned effect line (Err fault) = Err (BadValue line)
 
 -- what `BasedOnStyle` may have: the name of a style, or quotes with nothing in them, which name no base

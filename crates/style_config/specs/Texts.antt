@@ -1,6 +1,7 @@
 -- The parts of a line of a configuration: blanks, comments, quotes, keys and values.
 -- docs/PROFILE.md states the rules under "Configuration".
-use Rattle.std.specs.Prelude.{ℕ, suc, ◌+◌, ◌-◌, Bool, false, ◌==◌, ◌||◌, ◌&&◌, Option, Some, None, if◌then◌else◌, List, [], ◌∷◌, length, take, drop, nat_le, nat_lt, slice_index}
+use Rattle.std.specs.Prelude.{ℕ, suc, ◌+◌, ◌-◌, Bool, false, ◌==◌, ◌||◌, ◌&&◌, Option, Some, None, if◌then◌else◌, List}
+use Rattle.std.specs.Prelude.{[], ◌∷◌, length, take, drop, nat_le, nat_lt, slice_index}
 use Rattle.std.specs.List.{prefix_len, suffix_len}
 use Rattle.std.specs.Char.{is_ascii_alphanumeric}
 

@@ -93,7 +93,8 @@ fn is_base(setting: &Setting<'_>) -> bool
 // The style by the own value of the key `AlignTrailingComments`.
 fn aligned(mut style: Style, setting: &Setting<'_>) -> Result<Style, ConfigFault>
     ensures read { (skipped : List SkippedKey) →
-        Gives (aligned (record { style = style; skipped = skipped }) setting.now.line (value_in bool_words setting.now.value.now)) result skipped }
+        Gives (aligned (record { style = style; skipped = skipped }) setting.now.line
+        (value_in bool_words setting.now.value.now)) result skipped }
     ensures range { IsInRange style → IfOk result (λ style. IsInRange style) }
 {
     let Ok(is_aligned) = bool_from_word(setting.value) else {
@@ -127,8 +128,9 @@ pub(crate) fn read_setting(
     style: Style,
     skipped: &mut Vec<SkippedKey>,
 ) -> Result<Style, ConfigFault>
-    ensures read { Gives (read_setting (record { style = style; skipped = skipped.old.items }) (setting_text setting.now))
-        result skipped.new.items }
+    ensures read { Gives
+        (read_setting (record { style = style; skipped = skipped.old.items }) (setting_text setting.now)) result
+        skipped.new.items }
     ensures range { IsInRange style → IfOk result (λ style. IsInRange style) }
 {
     let line = setting.line;

@@ -35,7 +35,8 @@ fn note_key(
     setting: &Setting<'_>,
     seen: &mut IndexSet<String>,
 ) -> Result<(), ConfigFault>
-    ensures { Notes (path_of (setting_text setting.now)) setting.now.line (key_paths seen.old) (key_paths seen.new) result }
+    ensures { Notes (path_of (setting_text setting.now)) setting.now.line (key_paths seen.old) (key_paths seen.new)
+        result }
 {
     let name = path(alloc, setting.outer, setting.label)?;
     let (_, is_new) = seen.insert_full(name)?;
@@ -54,9 +55,10 @@ fn read_item(
     seen: &mut IndexSet<String>,
     skipped: &mut Vec<SkippedKey>,
 ) -> Result<Style, ConfigFault>
-    ensures read { Gives (read_given (key_paths seen.old) (record { style = style; skipped = skipped.old.items }) (option_map item_text item.entry))
-        result skipped.new.items }
-    ensures seen { IfOk result (λ _. key_paths seen.new ≡ before_given (key_paths seen.old) (option_map item_text item.entry)) }
+    ensures read { Gives (read_given (key_paths seen.old) (record { style = style; skipped = skipped.old.items })
+        (option_map item_text item.entry)) result skipped.new.items }
+    ensures seen { IfOk result
+        (λ _. key_paths seen.new ≡ before_given (key_paths seen.old) (option_map item_text item.entry)) }
     ensures range { IsInRange style → IfOk result (λ style. IsInRange style) }
 {
     match item {
@@ -76,8 +78,8 @@ fn read_document(
     style: Style,
     skipped: &mut Vec<SkippedKey>,
 ) -> Result<Style, ConfigFault>
-    ensures read { Gives (read_items [] (record { style = style; skipped = skipped.old.items }) (items_of (document_text document.now)))
-        result skipped.new.items }
+    ensures read { Gives (read_items [] (record { style = style; skipped = skipped.old.items })
+        (items_of (document_text document.now))) result skipped.new.items }
     ensures range { IsInRange style → IfOk result (λ style. IsInRange style) }
 {
     let mut style = style;
@@ -101,8 +103,9 @@ pub(crate) fn read_documents(
     style: Style,
     skipped: &mut Vec<SkippedKey>,
 ) -> Result<Style, ConfigFault>
-    ensures read { Gives (read_documents (record { style = style; skipped = skipped.old.items }) (documents_text documents.now))
-        result skipped.new.items }
+    ensures read { Gives
+        (read_documents (record { style = style; skipped = skipped.old.items }) (documents_text documents.now)) result
+        skipped.new.items }
     ensures range { IsInRange style → IfOk result (λ style. IsInRange style) }
 {
     let mut style = style;

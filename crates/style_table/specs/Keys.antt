@@ -1,6 +1,7 @@
 -- The table of keys: how each is spelled, how its value is written, and how a value is read back.
 -- docs/PROFILE.md has the table under "Styles", in this order.
-use Rattle.std.specs.Prelude.{ℕ, Bool, true, false, ◌&&◌, not, nat_le, Option, Result, Ok, Err, if◌then◌else◌, List, [], ◌∷◌, length, codes, bytes_eq, find, decimal}
+use Rattle.std.specs.Prelude.{ℕ, Bool, true, false, ◌&&◌, not, nat_le, Option, Result, Ok, Err, if◌then◌else◌, List, []}
+use Rattle.std.specs.Prelude.{◌∷◌, length, codes, bytes_eq, find, decimal}
 use Rattle.std.specs.List.{list_all}
 use Rattle.std.specs.Char.{is_digit}
 use Rattle.std.specs.Str.Parse.{digits_value}
@@ -8,7 +9,22 @@ use Rattle.style_table.specs.declared.style.Style.{Style}
 use Rattle.style_table.specs.declared.key.Key.{Key}
 use Rattle.style_table.specs.declared.value.ValueFault.{ValueFault}
 use Rattle.style_table.specs.declared.value.ValueFault.TheVariants.{BadValue, OutOfRange}
-use Rattle.style_table.specs.Words.{value_in, bool_word, bool_words, use_tab_word, use_tab_words, break_before_braces_word, break_before_braces_words, brace_wrapping_after_control_statement_word, brace_wrapping_after_control_statement_words, pointer_alignment_word, pointer_alignment_words, space_before_parens_word, space_before_parens_words, align_after_open_bracket_word, align_after_open_bracket_words, break_before_binary_operators_word, break_before_binary_operators_words, indent_pp_directives_word, indent_pp_directives_words, allow_short_functions_on_a_single_line_word, allow_short_functions_on_a_single_line_words, allow_short_if_statements_on_a_single_line_word, allow_short_if_statements_on_a_single_line_words, allow_short_blocks_on_a_single_line_word, allow_short_blocks_on_a_single_line_words, align_escaped_newlines_word, align_escaped_newlines_words, align_trailing_comments_kind_word, align_trailing_comments_kind_words, line_ending_word, line_ending_words}
+use Rattle.style_table.specs.Words.{value_in, bool_word, bool_words, use_tab_word, use_tab_words}
+use Rattle.style_table.specs.Words.{break_before_braces_word, break_before_braces_words}
+use Rattle.style_table.specs.Words.{brace_wrapping_after_control_statement_word}
+use Rattle.style_table.specs.Words.{brace_wrapping_after_control_statement_words, pointer_alignment_word}
+use Rattle.style_table.specs.Words.{pointer_alignment_words, space_before_parens_word, space_before_parens_words}
+use Rattle.style_table.specs.Words.{align_after_open_bracket_word, align_after_open_bracket_words}
+use Rattle.style_table.specs.Words.{break_before_binary_operators_word, break_before_binary_operators_words}
+use Rattle.style_table.specs.Words.{indent_pp_directives_word, indent_pp_directives_words}
+use Rattle.style_table.specs.Words.{allow_short_functions_on_a_single_line_word}
+use Rattle.style_table.specs.Words.{allow_short_functions_on_a_single_line_words}
+use Rattle.style_table.specs.Words.{allow_short_if_statements_on_a_single_line_word}
+use Rattle.style_table.specs.Words.{allow_short_if_statements_on_a_single_line_words}
+use Rattle.style_table.specs.Words.{allow_short_blocks_on_a_single_line_word, allow_short_blocks_on_a_single_line_words}
+use Rattle.style_table.specs.Words.{align_escaped_newlines_word, align_escaped_newlines_words}
+use Rattle.style_table.specs.Words.{align_trailing_comments_kind_word, align_trailing_comments_kind_words}
+use Rattle.style_table.specs.Words.{line_ending_word, line_ending_words}
 
 -- the keys in the order in which a style is written
 abbrev pub keys : List Key
@@ -146,7 +162,8 @@ shown style Key.BraceWrappingAfterStruct = bool_word style.brace_wrapping_after_
 shown style Key.BraceWrappingAfterUnion = bool_word style.brace_wrapping_after_union
 shown style Key.BraceWrappingBeforeElse = bool_word style.brace_wrapping_before_else
 shown style Key.BraceWrappingBeforeWhile = bool_word style.brace_wrapping_before_while
-shown style Key.BraceWrappingAfterControlStatement = brace_wrapping_after_control_statement_word style.brace_wrapping_after_control_statement
+shown style Key.BraceWrappingAfterControlStatement =
+    brace_wrapping_after_control_statement_word style.brace_wrapping_after_control_statement
 shown style Key.PointerAlignment = pointer_alignment_word style.pointer_alignment
 shown style Key.SpaceBeforeParens = space_before_parens_word style.space_before_parens
 shown style Key.AlignAfterOpenBracket = align_after_open_bracket_word style.align_after_open_bracket
@@ -159,10 +176,13 @@ shown style Key.KeepEmptyLinesAtTheStartOfBlocks = bool_word style.keep_empty_li
 shown style Key.IndentCaseLabels = bool_word style.indent_case_labels
 shown style Key.IndentGotoLabels = bool_word style.indent_goto_labels
 shown style Key.IndentPPDirectives = indent_pp_directives_word style.indent_pp_directives
-shown style Key.AllowShortFunctionsOnASingleLine = allow_short_functions_on_a_single_line_word style.allow_short_functions_on_a_single_line
-shown style Key.AllowShortIfStatementsOnASingleLine = allow_short_if_statements_on_a_single_line_word style.allow_short_if_statements_on_a_single_line
+shown style Key.AllowShortFunctionsOnASingleLine =
+    allow_short_functions_on_a_single_line_word style.allow_short_functions_on_a_single_line
+shown style Key.AllowShortIfStatementsOnASingleLine =
+    allow_short_if_statements_on_a_single_line_word style.allow_short_if_statements_on_a_single_line
 shown style Key.AllowShortLoopsOnASingleLine = bool_word style.allow_short_loops_on_a_single_line
-shown style Key.AllowShortBlocksOnASingleLine = allow_short_blocks_on_a_single_line_word style.allow_short_blocks_on_a_single_line
+shown style Key.AllowShortBlocksOnASingleLine =
+    allow_short_blocks_on_a_single_line_word style.allow_short_blocks_on_a_single_line
 shown style Key.AllowShortCaseLabelsOnASingleLine = bool_word style.allow_short_case_labels_on_a_single_line
 shown style Key.AllowShortEnumsOnASingleLine = bool_word style.allow_short_enums_on_a_single_line
 shown style Key.SpacesBeforeTrailingComments = decimal style.spaces_before_trailing_comments
@@ -203,47 +223,94 @@ changed change (Err fault) = Err fault
 abbrev pub with_value : Style → Key → List ℕ → Result Style ValueFault
 with_value style Key.ColumnLimit text = changed (λ v. record style { column_limit = v }) (number_in 0 1000 text)
 with_value style Key.IndentWidth text = changed (λ v. record style { indent_width = v }) (number_in 0 16 text)
-with_value style Key.ContinuationIndentWidth text = changed (λ v. record style { continuation_indent_width = v }) (number_in 0 16 text)
+with_value style Key.ContinuationIndentWidth text =
+    changed (λ v. record style { continuation_indent_width = v }) (number_in 0 16 text)
 with_value style Key.TabWidth text = changed (λ v. record style { tab_width = v }) (number_in 1 16 text)
 with_value style Key.UseTab text = changed (λ v. record style { use_tab = v }) (value_in use_tab_words text)
-with_value style Key.BreakBeforeBraces text = changed (λ v. record style { break_before_braces = v }) (value_in break_before_braces_words text)
-with_value style Key.BraceWrappingAfterCaseLabel text = changed (λ v. record style { brace_wrapping_after_case_label = v }) (value_in bool_words text)
-with_value style Key.BraceWrappingAfterEnum text = changed (λ v. record style { brace_wrapping_after_enum = v }) (value_in bool_words text)
-with_value style Key.BraceWrappingAfterExternBlock text = changed (λ v. record style { brace_wrapping_after_extern_block = v }) (value_in bool_words text)
-with_value style Key.BraceWrappingAfterFunction text = changed (λ v. record style { brace_wrapping_after_function = v }) (value_in bool_words text)
-with_value style Key.BraceWrappingAfterStruct text = changed (λ v. record style { brace_wrapping_after_struct = v }) (value_in bool_words text)
-with_value style Key.BraceWrappingAfterUnion text = changed (λ v. record style { brace_wrapping_after_union = v }) (value_in bool_words text)
-with_value style Key.BraceWrappingBeforeElse text = changed (λ v. record style { brace_wrapping_before_else = v }) (value_in bool_words text)
-with_value style Key.BraceWrappingBeforeWhile text = changed (λ v. record style { brace_wrapping_before_while = v }) (value_in bool_words text)
-with_value style Key.BraceWrappingAfterControlStatement text = changed (λ v. record style { brace_wrapping_after_control_statement = v }) (value_in brace_wrapping_after_control_statement_words text)
-with_value style Key.PointerAlignment text = changed (λ v. record style { pointer_alignment = v }) (value_in pointer_alignment_words text)
-with_value style Key.SpaceBeforeParens text = changed (λ v. record style { space_before_parens = v }) (value_in space_before_parens_words text)
-with_value style Key.AlignAfterOpenBracket text = changed (λ v. record style { align_after_open_bracket = v }) (value_in align_after_open_bracket_words text)
-with_value style Key.BinPackArguments text = changed (λ v. record style { bin_pack_arguments = v }) (value_in bool_words text)
-with_value style Key.BinPackParameters text = changed (λ v. record style { bin_pack_parameters = v }) (value_in bool_words text)
-with_value style Key.BreakBeforeBinaryOperators text = changed (λ v. record style { break_before_binary_operators = v }) (value_in break_before_binary_operators_words text)
-with_value style Key.BreakBeforeTernaryOperators text = changed (λ v. record style { break_before_ternary_operators = v }) (value_in bool_words text)
-with_value style Key.MaxEmptyLinesToKeep text = changed (λ v. record style { max_empty_lines_to_keep = v }) (number_in 0 100 text)
-with_value style Key.KeepEmptyLinesAtTheStartOfBlocks text = changed (λ v. record style { keep_empty_lines_at_the_start_of_blocks = v }) (value_in bool_words text)
-with_value style Key.IndentCaseLabels text = changed (λ v. record style { indent_case_labels = v }) (value_in bool_words text)
-with_value style Key.IndentGotoLabels text = changed (λ v. record style { indent_goto_labels = v }) (value_in bool_words text)
-with_value style Key.IndentPPDirectives text = changed (λ v. record style { indent_pp_directives = v }) (value_in indent_pp_directives_words text)
-with_value style Key.AllowShortFunctionsOnASingleLine text = changed (λ v. record style { allow_short_functions_on_a_single_line = v }) (value_in allow_short_functions_on_a_single_line_words text)
-with_value style Key.AllowShortIfStatementsOnASingleLine text = changed (λ v. record style { allow_short_if_statements_on_a_single_line = v }) (value_in allow_short_if_statements_on_a_single_line_words text)
-with_value style Key.AllowShortLoopsOnASingleLine text = changed (λ v. record style { allow_short_loops_on_a_single_line = v }) (value_in bool_words text)
-with_value style Key.AllowShortBlocksOnASingleLine text = changed (λ v. record style { allow_short_blocks_on_a_single_line = v }) (value_in allow_short_blocks_on_a_single_line_words text)
-with_value style Key.AllowShortCaseLabelsOnASingleLine text = changed (λ v. record style { allow_short_case_labels_on_a_single_line = v }) (value_in bool_words text)
-with_value style Key.AllowShortEnumsOnASingleLine text = changed (λ v. record style { allow_short_enums_on_a_single_line = v }) (value_in bool_words text)
-with_value style Key.SpacesBeforeTrailingComments text = changed (λ v. record style { spaces_before_trailing_comments = v }) (number_in 0 16 text)
-with_value style Key.SpaceAfterCStyleCast text = changed (λ v. record style { space_after_c_style_cast = v }) (value_in bool_words text)
-with_value style Key.Cpp11BracedListStyle text = changed (λ v. record style { cpp11_braced_list_style = v }) (value_in bool_words text)
-with_value style Key.AlignEscapedNewlines text = changed (λ v. record style { align_escaped_newlines = v }) (value_in align_escaped_newlines_words text)
-with_value style Key.AlignTrailingCommentsKind text = changed (λ v. record style { align_trailing_comments_kind = v }) (value_in align_trailing_comments_kind_words text)
+with_value style Key.BreakBeforeBraces text =
+    changed (λ v. record style { break_before_braces = v }) (value_in break_before_braces_words text)
+with_value style Key.BraceWrappingAfterCaseLabel text =
+    changed (λ v. record style { brace_wrapping_after_case_label = v }) (value_in bool_words text)
+with_value style Key.BraceWrappingAfterEnum text =
+    changed (λ v. record style { brace_wrapping_after_enum = v }) (value_in bool_words text)
+with_value style Key.BraceWrappingAfterExternBlock text =
+    changed (λ v. record style { brace_wrapping_after_extern_block = v }) (value_in bool_words text)
+with_value style Key.BraceWrappingAfterFunction text =
+    changed (λ v. record style { brace_wrapping_after_function = v }) (value_in bool_words text)
+with_value style Key.BraceWrappingAfterStruct text =
+    changed (λ v. record style { brace_wrapping_after_struct = v }) (value_in bool_words text)
+with_value style Key.BraceWrappingAfterUnion text =
+    changed (λ v. record style { brace_wrapping_after_union = v }) (value_in bool_words text)
+with_value style Key.BraceWrappingBeforeElse text =
+    changed (λ v. record style { brace_wrapping_before_else = v }) (value_in bool_words text)
+with_value style Key.BraceWrappingBeforeWhile text =
+    changed (λ v. record style { brace_wrapping_before_while = v }) (value_in bool_words text)
+with_value style Key.BraceWrappingAfterControlStatement text =
+    changed (λ v. record style { brace_wrapping_after_control_statement = v })
+    (value_in brace_wrapping_after_control_statement_words text)
+with_value style Key.PointerAlignment text =
+    changed (λ v. record style { pointer_alignment = v }) (value_in pointer_alignment_words text)
+with_value style Key.SpaceBeforeParens text =
+    changed (λ v. record style { space_before_parens = v }) (value_in space_before_parens_words text)
+with_value style Key.AlignAfterOpenBracket text =
+    changed (λ v. record style { align_after_open_bracket = v }) (value_in align_after_open_bracket_words text)
+with_value style Key.BinPackArguments text =
+    changed (λ v. record style { bin_pack_arguments = v }) (value_in bool_words text)
+with_value style Key.BinPackParameters text =
+    changed (λ v. record style { bin_pack_parameters = v }) (value_in bool_words text)
+with_value style Key.BreakBeforeBinaryOperators text =
+    changed (λ v. record style { break_before_binary_operators = v })
+    (value_in break_before_binary_operators_words text)
+with_value style Key.BreakBeforeTernaryOperators text =
+    changed (λ v. record style { break_before_ternary_operators = v }) (value_in bool_words text)
+with_value style Key.MaxEmptyLinesToKeep text =
+    changed (λ v. record style { max_empty_lines_to_keep = v }) (number_in 0 100 text)
+with_value style Key.KeepEmptyLinesAtTheStartOfBlocks text =
+    changed (λ v. record style { keep_empty_lines_at_the_start_of_blocks = v }) (value_in bool_words text)
+with_value style Key.IndentCaseLabels text =
+    changed (λ v. record style { indent_case_labels = v }) (value_in bool_words text)
+with_value style Key.IndentGotoLabels text =
+    changed (λ v. record style { indent_goto_labels = v }) (value_in bool_words text)
+with_value style Key.IndentPPDirectives text =
+    changed (λ v. record style { indent_pp_directives = v }) (value_in indent_pp_directives_words text)
+with_value style Key.AllowShortFunctionsOnASingleLine text =
+    changed (λ v. record style { allow_short_functions_on_a_single_line = v })
+    (value_in allow_short_functions_on_a_single_line_words text)
+with_value style Key.AllowShortIfStatementsOnASingleLine text =
+    changed (λ v. record style { allow_short_if_statements_on_a_single_line = v })
+    (value_in allow_short_if_statements_on_a_single_line_words text)
+with_value style Key.AllowShortLoopsOnASingleLine text =
+    changed (λ v. record style { allow_short_loops_on_a_single_line = v }) (value_in bool_words text)
+with_value style Key.AllowShortBlocksOnASingleLine text =
+    changed (λ v. record style { allow_short_blocks_on_a_single_line = v })
+    (value_in allow_short_blocks_on_a_single_line_words text)
+with_value style Key.AllowShortCaseLabelsOnASingleLine text =
+    changed (λ v. record style { allow_short_case_labels_on_a_single_line = v }) (value_in bool_words text)
+with_value style Key.AllowShortEnumsOnASingleLine text =
+    changed (λ v. record style { allow_short_enums_on_a_single_line = v }) (value_in bool_words text)
+with_value style Key.SpacesBeforeTrailingComments text =
+    changed (λ v. record style { spaces_before_trailing_comments = v }) (number_in 0 16 text)
+with_value style Key.SpaceAfterCStyleCast text =
+    changed (λ v. record style { space_after_c_style_cast = v }) (value_in bool_words text)
+with_value style Key.Cpp11BracedListStyle text =
+    changed (λ v. record style { cpp11_braced_list_style = v }) (value_in bool_words text)
+with_value style Key.AlignEscapedNewlines text =
+    changed (λ v. record style { align_escaped_newlines = v }) (value_in align_escaped_newlines_words text)
+with_value style Key.AlignTrailingCommentsKind text =
+    changed (λ v. record style { align_trailing_comments_kind = v })
+    (value_in align_trailing_comments_kind_words text)
 with_value style Key.LineEnding text = changed (λ v. record style { line_ending = v }) (value_in line_ending_words text)
-with_value style Key.InsertNewlineAtEOF text = changed (λ v. record style { insert_newline_at_eof = v }) (value_in bool_words text)
-with_value style Key.SkipMacroDefinitionBody text = changed (λ v. record style { skip_macro_definition_body = v }) (value_in bool_words text)
-with_value style Key.PenaltyBreakAssignment text = changed (λ v. record style { penalty_break_assignment = v }) (number_in 0 100000000 text)
-with_value style Key.PenaltyBreakBeforeFirstCallParameter text = changed (λ v. record style { penalty_break_before_first_call_parameter = v }) (number_in 0 100000000 text)
-with_value style Key.PenaltyBreakOpenParenthesis text = changed (λ v. record style { penalty_break_open_parenthesis = v }) (number_in 0 100000000 text)
-with_value style Key.PenaltyExcessCharacter text = changed (λ v. record style { penalty_excess_character = v }) (number_in 0 100000000 text)
-with_value style Key.PenaltyReturnTypeOnItsOwnLine text = changed (λ v. record style { penalty_return_type_on_its_own_line = v }) (number_in 0 100000000 text)
+with_value style Key.InsertNewlineAtEOF text =
+    changed (λ v. record style { insert_newline_at_eof = v }) (value_in bool_words text)
+with_value style Key.SkipMacroDefinitionBody text =
+    changed (λ v. record style { skip_macro_definition_body = v }) (value_in bool_words text)
+with_value style Key.PenaltyBreakAssignment text =
+    changed (λ v. record style { penalty_break_assignment = v }) (number_in 0 100000000 text)
+with_value style Key.PenaltyBreakBeforeFirstCallParameter text =
+    changed (λ v. record style { penalty_break_before_first_call_parameter = v }) (number_in 0 100000000 text)
+with_value style Key.PenaltyBreakOpenParenthesis text =
+    changed (λ v. record style { penalty_break_open_parenthesis = v }) (number_in 0 100000000 text)
+with_value style Key.PenaltyExcessCharacter text =
+    changed (λ v. record style { penalty_excess_character = v }) (number_in 0 100000000 text)
+with_value style Key.PenaltyReturnTypeOnItsOwnLine text =
+    changed (λ v. record style { penalty_return_type_on_its_own_line = v }) (number_in 0 100000000 text)

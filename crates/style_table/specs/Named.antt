@@ -50,7 +50,9 @@ style_of name = record {
   continuation_indent_width = column name 4 4 4 2 4;
   tab_width = column name 8 8 8 8 4;
   use_tab = UseTab.Never;
-  break_before_braces = column name BreakBeforeBraces.Attach BreakBeforeBraces.Attach BreakBeforeBraces.WebKit BreakBeforeBraces.Mozilla BreakBeforeBraces.Custom;
+  break_before_braces =
+      column name BreakBeforeBraces.Attach BreakBeforeBraces.Attach BreakBeforeBraces.WebKit BreakBeforeBraces.Mozilla
+      BreakBeforeBraces.Custom;
   brace_wrapping_after_case_label = false;
   brace_wrapping_after_enum = column name false false false false true;
   brace_wrapping_after_extern_block = column name false false false false true;
@@ -59,30 +61,51 @@ style_of name = record {
   brace_wrapping_after_union = false;
   brace_wrapping_before_else = column name false false false false true;
   brace_wrapping_before_while = false;
-  brace_wrapping_after_control_statement = column name BraceWrappingAfterControlStatement.Never BraceWrappingAfterControlStatement.Never BraceWrappingAfterControlStatement.Never BraceWrappingAfterControlStatement.Never BraceWrappingAfterControlStatement.Always;
-  pointer_alignment = column name PointerAlignment.Right PointerAlignment.Left PointerAlignment.Left PointerAlignment.Left PointerAlignment.Right;
+  brace_wrapping_after_control_statement =
+      column name BraceWrappingAfterControlStatement.Never BraceWrappingAfterControlStatement.Never
+      BraceWrappingAfterControlStatement.Never BraceWrappingAfterControlStatement.Never
+      BraceWrappingAfterControlStatement.Always;
+  pointer_alignment =
+      column name PointerAlignment.Right PointerAlignment.Left PointerAlignment.Left PointerAlignment.Left
+      PointerAlignment.Right;
   space_before_parens = SpaceBeforeParens.ControlStatements;
-  align_after_open_bracket = column name AlignAfterOpenBracket.Align AlignAfterOpenBracket.Align AlignAfterOpenBracket.DontAlign AlignAfterOpenBracket.Align AlignAfterOpenBracket.Align;
+  align_after_open_bracket =
+      column name AlignAfterOpenBracket.Align AlignAfterOpenBracket.Align AlignAfterOpenBracket.DontAlign
+      AlignAfterOpenBracket.Align AlignAfterOpenBracket.Align;
   bin_pack_arguments = column name true true true false true;
   bin_pack_parameters = column name true true true false true;
-  break_before_binary_operators = column name BreakBeforeBinaryOperators.None BreakBeforeBinaryOperators.None BreakBeforeBinaryOperators.All BreakBeforeBinaryOperators.None BreakBeforeBinaryOperators.None;
+  break_before_binary_operators =
+      column name BreakBeforeBinaryOperators.None BreakBeforeBinaryOperators.None BreakBeforeBinaryOperators.All
+      BreakBeforeBinaryOperators.None BreakBeforeBinaryOperators.None;
   break_before_ternary_operators = true;
   max_empty_lines_to_keep = 1;
   keep_empty_lines_at_the_start_of_blocks = column name true false true true true;
   indent_case_labels = column name false true false true false;
   indent_goto_labels = true;
   indent_pp_directives = IndentPPDirectives.None;
-  allow_short_functions_on_a_single_line = column name AllowShortFunctionsOnASingleLine.All AllowShortFunctionsOnASingleLine.All AllowShortFunctionsOnASingleLine.All AllowShortFunctionsOnASingleLine.Inline AllowShortFunctionsOnASingleLine.None;
-  allow_short_if_statements_on_a_single_line = column name AllowShortIfStatementsOnASingleLine.Never AllowShortIfStatementsOnASingleLine.WithoutElse AllowShortIfStatementsOnASingleLine.Never AllowShortIfStatementsOnASingleLine.Never AllowShortIfStatementsOnASingleLine.Never;
+  allow_short_functions_on_a_single_line =
+      column name AllowShortFunctionsOnASingleLine.All AllowShortFunctionsOnASingleLine.All
+      AllowShortFunctionsOnASingleLine.All AllowShortFunctionsOnASingleLine.Inline
+      AllowShortFunctionsOnASingleLine.None;
+  allow_short_if_statements_on_a_single_line =
+      column name AllowShortIfStatementsOnASingleLine.Never AllowShortIfStatementsOnASingleLine.WithoutElse
+      AllowShortIfStatementsOnASingleLine.Never AllowShortIfStatementsOnASingleLine.Never
+      AllowShortIfStatementsOnASingleLine.Never;
   allow_short_loops_on_a_single_line = column name false true false false false;
-  allow_short_blocks_on_a_single_line = column name AllowShortBlocksOnASingleLine.Never AllowShortBlocksOnASingleLine.Never AllowShortBlocksOnASingleLine.Empty AllowShortBlocksOnASingleLine.Never AllowShortBlocksOnASingleLine.Never;
+  allow_short_blocks_on_a_single_line =
+      column name AllowShortBlocksOnASingleLine.Never AllowShortBlocksOnASingleLine.Never
+      AllowShortBlocksOnASingleLine.Empty AllowShortBlocksOnASingleLine.Never AllowShortBlocksOnASingleLine.Never;
   allow_short_case_labels_on_a_single_line = false;
   allow_short_enums_on_a_single_line = column name true true true true false;
   spaces_before_trailing_comments = column name 1 2 1 1 1;
   space_after_c_style_cast = false;
   cpp11_braced_list_style = column name true true false false true;
-  align_escaped_newlines = column name AlignEscapedNewlines.Right AlignEscapedNewlines.Left AlignEscapedNewlines.Right AlignEscapedNewlines.Right AlignEscapedNewlines.Right;
-  align_trailing_comments_kind = column name AlignTrailingCommentsKind.Always AlignTrailingCommentsKind.Always AlignTrailingCommentsKind.Never AlignTrailingCommentsKind.Always AlignTrailingCommentsKind.Always;
+  align_escaped_newlines =
+      column name AlignEscapedNewlines.Right AlignEscapedNewlines.Left AlignEscapedNewlines.Right
+      AlignEscapedNewlines.Right AlignEscapedNewlines.Right;
+  align_trailing_comments_kind =
+      column name AlignTrailingCommentsKind.Always AlignTrailingCommentsKind.Always AlignTrailingCommentsKind.Never
+      AlignTrailingCommentsKind.Always AlignTrailingCommentsKind.Always;
   line_ending = LineEnding.DeriveLF;
   insert_newline_at_eof = false;
   skip_macro_definition_body = false;

@@ -168,7 +168,8 @@ abbrev pub allow_short_if_statements_on_a_single_line_word : AllowShortIfStateme
 allow_short_if_statements_on_a_single_line_word AllowShortIfStatementsOnASingleLine.Never = codes "Never"
 allow_short_if_statements_on_a_single_line_word AllowShortIfStatementsOnASingleLine.WithoutElse = codes "WithoutElse"
 allow_short_if_statements_on_a_single_line_word AllowShortIfStatementsOnASingleLine.OnlyFirstIf = codes "OnlyFirstIf"
-allow_short_if_statements_on_a_single_line_word AllowShortIfStatementsOnASingleLine.AllIfsAndElse = codes "AllIfsAndElse"
+allow_short_if_statements_on_a_single_line_word AllowShortIfStatementsOnASingleLine.AllIfsAndElse =
+    codes "AllIfsAndElse"
 
 abbrev pub allow_short_if_statements_on_a_single_line_words : List (List ℕ × AllowShortIfStatementsOnASingleLine)
 allow_short_if_statements_on_a_single_line_words =

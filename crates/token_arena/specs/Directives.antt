@@ -8,7 +8,9 @@ use Rattle.c_grammar.specs.Fitting.{is_comment}
 use Rattle.c_grammar.specs.Rewritten.{read_alone}
 use Rattle.token_arena.specs.Stored.{Stored}
 use Rattle.token_arena.specs.declared.directives.DirectiveKind.{DirectiveKind}
-use Rattle.token_arena.specs.declared.directives.DirectiveKind.TheVariants.{If, Ifdef, Ifndef, Elif, Else, Endif, Include, Define, Undef, Line, Error, Pragma, Null, Unknown}
+use Rattle.token_arena.specs.declared.directives.DirectiveKind.TheVariants.{If, Ifdef, Ifndef, Elif, Else, Endif}
+use Rattle.token_arena.specs.declared.directives.DirectiveKind.TheVariants.{Include, Define, Undef, Line, Error, Pragma}
+use Rattle.token_arena.specs.declared.directives.DirectiveKind.TheVariants.{Null, Unknown}
 
 -- how an item is spelled, splices taken out and trigraphs replaced
 abbrev pub spelling : Dialect → Stored → List ℕ
@@ -21,10 +23,19 @@ is_hash_token d token = is_punct token.kind && is_hash (spelling d token)
 -- the directive of this name, 6.10p1
 abbrev pub kind_named : List ℕ → DirectiveKind
 kind_named s =
-    if is_same s (codes "if") then If else (if is_same s (codes "ifdef") then Ifdef else (if is_same s (codes "ifndef") then Ifndef
-    else (if is_same s (codes "elif") then Elif else (if is_same s (codes "else") then Else else (if is_same s (codes "endif") then Endif
-    else (if is_same s (codes "include") then Include else (if is_same s (codes "define") then Define else (if is_same s (codes "undef") then Undef
-    else (if is_same s (codes "line") then Line else (if is_same s (codes "error") then Error else (if is_same s (codes "pragma") then Pragma else Unknown)))))))))))
+    if is_same s (codes "if") then If
+    else (if is_same s (codes "ifdef") then Ifdef
+    else (if is_same s (codes "ifndef") then Ifndef
+    else (if is_same s (codes "elif") then Elif
+    else (if is_same s (codes "else") then Else
+    else (if is_same s (codes "endif") then Endif
+    else (if is_same s (codes "include") then Include
+    else (if is_same s (codes "define") then Define
+    else (if is_same s (codes "undef") then Undef
+    else (if is_same s (codes "line") then Line
+    else (if is_same s (codes "error") then Error
+    else (if is_same s (codes "pragma") then Pragma
+    else Unknown)))))))))))
 
 -- these items from the first that is no comment on
 abbrev pub past_comments : List Stored → List Stored

@@ -1,5 +1,6 @@
 -- How the items lie in memory.
-use Rattle.std.specs.Prelude.{◌==◌, ◌||◌, ◌≤◌, ◌+◌, ◌-◌, not, ℕ, Bool, true, false, List, [], ◌∷◌, ⊤, All, length, take, drop, count_by, IsTrue}
+use Rattle.std.specs.Prelude.{◌==◌, ◌||◌, ◌≤◌, ◌+◌, ◌-◌, not, ℕ, Bool, true, false, List, [], ◌∷◌, ⊤, All, length, take}
+use Rattle.std.specs.Prelude.{drop, count_by, IsTrue}
 use Rattle.std.specs.Int.{is_in_range}
 use Rattle.std.specs.List.{list_all}
 use Rattle.token_arena.specs.Gaps.{Contents}
@@ -43,7 +44,8 @@ spelled false Told.Itself = Itself
 spelled false Told.Printable = Plain
 spelled false Told.Nothing = Other
 
--- what an entry says of the gap of its item, which is the first of its text or not: without a character and a splice it is empty
+-- what an entry says of the gap of its item, which is the first of its text or not: without a character and a splice it
+-- is empty
 abbrev pub gap_kept : Bool → Entry → GapFacts
 gap_kept is_first entry = record {
   lines = entry.lines;
@@ -53,7 +55,8 @@ gap_kept is_first entry = record {
   began = is_first || not (entry.lines == 0);
 }
 
--- what an entry says of an item of this text, the first or another: its line is that of its first byte, and its rows are those of its bytes
+-- what an entry says of an item of this text, the first or another: its line is that of its first byte, and its rows
+-- are those of its bytes
 abbrev pub kept_by : List ℕ → Bool → Entry → Stored
 kept_by text is_first entry = record {
   kind = entry.kind;
@@ -125,7 +128,8 @@ pub record AreEntries (text : List ℕ) (dialect : Dialect) (entries : List Entr
   pub plain : ArePlain text entries
   pub sound : IsSound (contents_of text dialect entries)
 
--- the entry of this item, of whose bytes this is told, behind a gap that begins at this offset: a spliced line end is in no character
+-- the entry of this item, of whose bytes this is told, behind a gap that begins at this offset: a spliced line end is
+-- in no character
 abbrev pub entry_of : Lexeme → ℕ → Told → Entry
 entry_of lexeme gap told = record {
   start = lexeme.item.start;

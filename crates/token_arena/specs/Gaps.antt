@@ -1,5 +1,6 @@
 -- The bytes between the items that are kept of a text.
-use Rattle.std.specs.Prelude.{◌≡◌, ◌≤◌, ◌<◌, ◌+◌, ◌-◌, ℕ, Bool, false, Option, None, Some, slice_get, List, zero, suc, [], ◌∷◌, ◌++◌, length, take, drop}
+use Rattle.std.specs.Prelude.{◌≡◌, ◌≤◌, ◌<◌, ◌+◌, ◌-◌, ℕ, Bool, false, Option, None, Some, slice_get, List, zero, suc}
+use Rattle.std.specs.Prelude.{[], ◌∷◌, ◌++◌, length, take, drop}
 use Rattle.c_chars.specs.Characters.{mark_len}
 use Rattle.c_chars.specs.declared.Dialect.{Dialect}
 use Rattle.token_arena.specs.Stored.{Stored}
@@ -28,14 +29,16 @@ gap_from text at [] place = drop at text
 gap_from text at (token ∷ tokens) zero = take (token.start - at) (drop at text)
 gap_from text at (token ∷ tokens) (suc place) = gap_from text (behind token) tokens place
 
--- the gap before the item with this number; behind the last item the last gap. The first gap begins behind the byte order mark.
+-- the gap before the item with this number; behind the last item the last gap. The first gap begins behind the byte
+-- order mark.
 abbrev pub gap_of : Contents → ℕ → List ℕ
 gap_of arena place = gap_from arena.text (mark_len arena.text) arena.tokens place
 
 -- gaps and items in their order, where the first gap begins at this offset
 abbrev pub joined_from : List ℕ → ℕ → List Stored → List ℕ
 joined_from text at [] = drop at text
-joined_from text at (token ∷ tokens) = take (token.start - at) (drop at text) ++ (token.raw ++ joined_from text (behind token) tokens)
+joined_from text at (token ∷ tokens) =
+    take (token.start - at) (drop at text) ++ (token.raw ++ joined_from text (behind token) tokens)
 
 -- all gaps and items in their order
 abbrev pub joined : Contents → List ℕ

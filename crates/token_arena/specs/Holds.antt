@@ -14,7 +14,8 @@ pub record HoldsItems (arena : Contents) : Type 0 where
   pub lexes : LexesText arena.dialect arena.text items last
   pub tokens : arena.tokens ≡ stored_items arena.text items
 
--- What every arena keeps: the items stand in their text in order, the text is within the limit, and these are its items.
+-- What every arena keeps: the items stand in their text in order, the text is within the limit, and these are its
+-- items.
 pub record IsSound (arena : Contents) : Type 0 where
   pub stand : StandFrom arena.text (mark_len arena.text) arena.tokens
   pub fits : length arena.text ≤ LIMIT

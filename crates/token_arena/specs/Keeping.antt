@@ -11,7 +11,9 @@ use Rattle.token_arena.specs.Gaps.{Contents}
 use Rattle.token_arena.specs.Directives.{spelling}
 use Rattle.token_arena.specs.declared.directives.Directive.{Directive}
 use Rattle.token_arena.specs.declared.directives.DirectiveKind.{DirectiveKind}
-use Rattle.token_arena.specs.declared.directives.DirectiveKind.TheVariants.{If, Ifdef, Ifndef, Elif, Else, Endif, Include, Define, Undef, Line, Error, Pragma, Null, Unknown}
+use Rattle.token_arena.specs.declared.directives.DirectiveKind.TheVariants.{If, Ifdef, Ifndef, Elif, Else, Endif}
+use Rattle.token_arena.specs.declared.directives.DirectiveKind.TheVariants.{Include, Define, Undef, Line, Error, Pragma}
+use Rattle.token_arena.specs.declared.directives.DirectiveKind.TheVariants.{Null, Unknown}
 
 -- the items of a directive behind its `#`
 abbrev pub behind_of : Contents → Directive → List Stored
@@ -41,8 +43,9 @@ operand behind = drop 1 (without_comments behind)
 abbrev pub asks_whether_there : Dialect → Stored → Bool
 asks_whether_there d token = is_identifier token.kind && is_front (codes "__has_") (spelling d token)
 
--- The gaps behind its name are kept in an include whose operand isn't one header name or one string literal, in a pragma, an error, a line and an unknown directive,
--- and in a condition that names an identifier beginning with `__has_`; the items are those behind the directive's `#`.
+-- The gaps behind its name are kept in an include whose operand isn't one header name or one string literal, in a
+-- pragma, an error, a line and an unknown directive, and in a condition that names an identifier beginning with
+-- `__has_`; the items are those behind the directive's `#`.
 abbrev pub keeps_after_name : Dialect → DirectiveKind → List Stored → Bool
 keeps_after_name d Include behind = not (is_one_file_name (operand behind))
 keeps_after_name d Pragma behind = true

@@ -1,6 +1,8 @@
 -- What a directive does to the conditionals around it (C11 6.10.1).
 use Rattle.token_arena.specs.declared.directives.DirectiveKind.{DirectiveKind}
-use Rattle.token_arena.specs.declared.directives.DirectiveKind.TheVariants.{If, Ifdef, Ifndef, Elif, Else, Endif, Include, Define, Undef, Line, Error, Pragma, Null, Unknown}
+use Rattle.token_arena.specs.declared.directives.DirectiveKind.TheVariants.{If, Ifdef, Ifndef, Elif, Else, Endif}
+use Rattle.token_arena.specs.declared.directives.DirectiveKind.TheVariants.{Include, Define, Undef, Line, Error, Pragma}
+use Rattle.token_arena.specs.declared.directives.DirectiveKind.TheVariants.{Null, Unknown}
 use Rattle.token_arena.specs.declared.directives.nesting.Nesting.{Nesting}
 use Rattle.token_arena.specs.declared.directives.nesting.Nesting.TheVariants.{Opens, Branch, LastBranch, Ends, Flat}
 

@@ -49,10 +49,12 @@ abbrev pub line_before : Dialect → ℕ → ℕ → Option (List Stored) → Li
 line_before d first end None sections = text_before first end sections
 line_before d first end (Some behind) sections = Dir (directive d first end behind) ∷ sections
 
--- the sections of lines whose first item has this number: a line is a directive where its first item, comments aside, is a `#`
+-- the sections of lines whose first item has this number: a line is a directive where its first item, comments aside,
+-- is a `#`
 abbrev pub sections_from : Dialect → ℕ → List (List Stored) → List Section
 sections_from d at [] = []
-sections_from d at (line ∷ lines) = line_before d at (at + length line) (behind_hash d line) (sections_from d (at + length line) lines)
+sections_from d at (line ∷ lines) =
+    line_before d at (at + length line) (behind_hash d line) (sections_from d (at + length line) lines)
 
 -- the sections of all items of a text
 abbrev pub sections_of : Contents → List Section
@@ -64,8 +66,10 @@ BeginsNoText [] = ⊤
 BeginsNoText (Text first end ∷ sections) = ⊥
 BeginsNoText (Dir dir ∷ sections) = ⊤
 
--- The sections cut the items from a place to another: one behind another, none empty, and no text directly behind a text.
+-- The sections cut the items from a place to another: one behind another, none empty, and no text directly behind a
+-- text.
 abbrev pub IsCut : ℕ → ℕ → List Section → Type 0
 IsCut at len [] = at ≡ len
 IsCut at len (Text first end ∷ sections) = (first ≡ at) × (first < end) × BeginsNoText sections × IsCut end len sections
-IsCut at len (Dir dir ∷ sections) = (dir.first ≡ at) × (dir.first ≤ dir.hash.0) × (dir.hash.0 < dir.end) × IsCut dir.end len sections
+IsCut at len (Dir dir ∷ sections) =
+    (dir.first ≡ at) × (dir.first ≤ dir.hash.0) × (dir.hash.0 < dir.end) × IsCut dir.end len sections

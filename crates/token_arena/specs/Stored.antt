@@ -1,5 +1,6 @@
 -- What is kept of an item: its kind and bytes, the gap before it, its line, its rows, and whether a backslash ends it.
-use Rattle.std.specs.Prelude.{chars, ◌==◌, ◌||◌, not, ℕ, ◌+◌, ◌-◌, Bool, true, false, List, [], ◌∷◌, length, take, count_by, if◌then◌else◌}
+use Rattle.std.specs.Prelude.{chars, ◌==◌, ◌||◌, not, ℕ, ◌+◌, ◌-◌, Bool, true, false, List, [], ◌∷◌, length, take}
+use Rattle.std.specs.Prelude.{count_by, if◌then◌else◌}
 use Rattle.std.specs.List.{position_or_len, before_first, after_last}
 use Rattle.std.specs.Io.BufRead.{strip_last}
 use Rattle.std.specs.Str.Lossy.{utf8_valid_len}
@@ -37,13 +38,15 @@ rows_of raw = 1 + count_by is_line_feed raw
 
 -- the bytes of the first line of these, without the line end
 abbrev pub first_row : List ℕ → List ℕ
-first_row raw = if position_or_len is_line_feed raw == length raw then raw else strip_last 13 (before_first is_line_feed raw)
+first_row raw =
+    if position_or_len is_line_feed raw == length raw then raw else strip_last 13 (before_first is_line_feed raw)
 
 -- the bytes of the last line of these
 abbrev pub last_row : List ℕ → List ℕ
 last_row raw = after_last is_line_feed raw
 
--- how many columns a row takes: by the widths of its characters (Unicode Standard Annex 11); a row that is no UTF-8 takes one for each byte
+-- how many columns a row takes: by the widths of its characters (Unicode Standard Annex 11); a row that is no UTF-8
+-- takes one for each byte
 abbrev pub width_of : List ℕ → ℕ
 width_of row = if utf8_valid_len row == length row then str_width false (chars row) else length row
 
@@ -78,7 +81,8 @@ stored_of text is_first from item = record {
 -- what is kept of items that follow one another, where the first gap begins at this offset
 abbrev pub stored_from : List ℕ → Bool → ℕ → List ReadItem → List Stored
 stored_from text is_first from [] = []
-stored_from text is_first from (item ∷ items) = stored_of text is_first from item ∷ stored_from text false (end_of item) items
+stored_from text is_first from (item ∷ items) =
+    stored_of text is_first from item ∷ stored_from text false (end_of item) items
 
 -- what is kept of all items of a text
 abbrev pub stored_items : List ℕ → List ReadItem → List Stored

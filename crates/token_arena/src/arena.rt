@@ -226,7 +226,8 @@ impl<'a, 's> TokenArena<'a, 's> {
     #[tactic(auto, using(crate::proofs::EntryLemmas::length_kept))]
     pub fn is_itself(&self, id: TokenId) -> bool
         requires { id.0 < length self.now.tokens }
-        ensures { (no_token : Stored) → IsTrue result → IsTrue (list_all is_plain (get_or self.now.tokens id.0 no_token).raw) }
+        ensures { (no_token : Stored) → IsTrue result →
+            IsTrue (list_all is_plain (get_or self.now.tokens id.0 no_token).raw) }
     {
         is_itself(self.entries[id.0 as usize].spelled)
     }

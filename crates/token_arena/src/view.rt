@@ -184,7 +184,11 @@ fn between(segment: &Segment, first: u32, end: u32) -> Stretch
     requires room { segment.now.before ≤ segment.now.first }
     requires early { first < segment.now.before + (segment.now.end - segment.now.first) }
     requires late { segment.now.before < end }
-    ensures { result ≡ record { first = segment.now.first + (first - segment.now.before); end = segment.now.first + min (segment.now.end - segment.now.first) (end - segment.now.before) } }
+    ensures { result
+        ≡ record {
+          first = segment.now.first + (first - segment.now.before);
+          end = segment.now.first + min (segment.now.end - segment.now.first) (end - segment.now.before);
+        } }
 {
     let skipped = first.saturating_sub(segment.before);
     let count = (segment.end - segment.first).min(end - segment.before);

@@ -1,7 +1,13 @@
 -- Sets of classes of tokens.
 use Rattle.std.specs.Prelude.{Bool, true, false}
 use Rattle.token_classes.specs.declared.class.TokenClass.{TokenClass}
-use Rattle.token_classes.specs.declared.class.TokenClass.TheVariants.{If, Else, For, While, Do, Switch, Case, Default, Return, Goto, Jump, Struct, Union, Enum, Extern, SizeWord, AsmWord, CallWord, Volatile, Inline, CapitalWord, PlainWord, TypeWord, OpenRound, CloseRound, OpenSquare, CloseSquare, OpenBrace, CloseBrace, Colon, Semicolon, Comma, Question, Equals, Text, LineComment, BlockComment}
+use Rattle.token_classes.specs.declared.class.TokenClass.TheVariants.{If, Else, For, While, Do, Switch, Case, Default}
+use Rattle.token_classes.specs.declared.class.TokenClass.TheVariants.{Return, Goto, Jump, Struct, Union, Enum, Extern}
+use Rattle.token_classes.specs.declared.class.TokenClass.TheVariants.{SizeWord, AsmWord, CallWord, Volatile, Inline}
+use Rattle.token_classes.specs.declared.class.TokenClass.TheVariants.{CapitalWord, PlainWord, TypeWord, OpenRound}
+use Rattle.token_classes.specs.declared.class.TokenClass.TheVariants.{CloseRound, OpenSquare, CloseSquare, OpenBrace}
+use Rattle.token_classes.specs.declared.class.TokenClass.TheVariants.{CloseBrace, Colon, Semicolon, Comma, Question}
+use Rattle.token_classes.specs.declared.class.TokenClass.TheVariants.{Equals, Text, LineComment, BlockComment}
 
 -- a word
 abbrev pub is_word : TokenClass → Bool

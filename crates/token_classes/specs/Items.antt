@@ -1,5 +1,6 @@
 -- The items of a view, and what the tokens of its lines tell of them.
-use Rattle.std.specs.Prelude.{slice_get, ◌≡◌, ℕ, zero, suc, ◌+◌, ◌-◌, ◌==◌, Bool, true, false, ◌&&◌, not, nat_lt, get_or, Some, List, []}
+use Rattle.std.specs.Prelude.{slice_get, ◌≡◌, ℕ, zero, suc, ◌+◌, ◌-◌, ◌==◌, Bool, true, false, ◌&&◌, not, nat_lt}
+use Rattle.std.specs.Prelude.{get_or, Some, List, []}
 use Rattle.c_chars.specs.declared.Dialect.{Dialect}
 use Rattle.c_grammar.specs.Touch.{may_touch}
 use Rattle.c_grammar.specs.declared.ItemKind.TheVariants.{Other as OtherKind}
@@ -43,7 +44,8 @@ stands_apart ids k = nat_lt 0 k && not (get_or ids k 0 == get_or ids (k - 1) 0 +
 
 -- ## What tokens tell of their items
 
--- the token at a place tells the number of its item, its kind, the gap before it and whether it may touch the item before it, and whether a directive stands between
+-- the token at a place tells the number of its item, its kind, the gap before it and whether it may touch the item
+-- before it, and whether a directive stands between
 pub record TellsItem (arena : Contents) (ids : List ℕ) (k : ℕ) (tok : LineTok) : Type 0 where
   pub id : tok.id.0 ≡ get_or ids k 0
   pub kind : tok.kind ≡ (item_at arena (get_or ids k 0)).kind

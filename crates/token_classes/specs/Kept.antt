@@ -1,5 +1,7 @@
--- Gaps that are kept as they are: those inside the braces of statements that stand inside brackets (`docs/PROFILE.md`, "Kept gaps").
-use Rattle.std.specs.Prelude.{◌≡◌, ◌==◌, ℕ, zero, suc, Bool, true, false, not, ◌&&◌, ◌||◌, nat_le, List, [], ◌∷◌, Option, Some, None, map, take, length, slice_set, if◌then◌else◌}
+-- Gaps that are kept as they are: those inside the braces of statements that stand inside brackets (`docs/PROFILE.md`,
+-- "Kept gaps").
+use Rattle.std.specs.Prelude.{◌≡◌, ◌==◌, ℕ, zero, suc, Bool, true, false, not, ◌&&◌, ◌||◌, nat_le, List, [], ◌∷◌}
+use Rattle.std.specs.Prelude.{Option, Some, None, map, take, length, slice_set, if◌then◌else◌}
 use Rattle.std.specs.List.{list_any, slice_index_or, range_with_len}
 use Rattle.token_classes.specs.declared.class.TokenClass.{TokenClass}
 use Rattle.token_classes.specs.declared.class.TokenClass.TheVariants.{Nothing}
@@ -33,17 +35,21 @@ abbrev pub some_below : ℕ → (ℕ → Bool) → Bool
 some_below zero test = false
 some_below (suc n) test = test n || some_below n test
 
--- a `;` stands at a place, directly inside the bracket at this one, and so before its partner: the bracket is the topmost opener that waits when the `;` is read
+-- a `;` stands at a place, directly inside the bracket at this one, and so before its partner: the bracket is the
+-- topmost opener that waits when the `;` is read
 abbrev pub is_semicolon_inside : List TokenClass → ℕ → ℕ → Bool
-is_semicolon_inside classes bracket place = is_semicolon (class_at classes place) && is_topmost (waiting_at classes place) bracket
+is_semicolon_inside classes bracket place =
+    is_semicolon (class_at classes place) && is_topmost (waiting_at classes place) bracket
 
 -- a `{` stands at this place, and a `(` or `[` waits when it is read
 abbrev pub is_brace_in_brackets : List TokenClass → ℕ → Bool
-is_brace_in_brackets classes place = is_open_brace (class_at classes place) && list_any is_round_or_square (waiting_at classes place)
+is_brace_in_brackets classes place =
+    is_open_brace (class_at classes place) && list_any is_round_or_square (waiting_at classes place)
 
 -- a statement brace: such a `{` with a `;` directly inside
 abbrev pub is_statement_brace : List TokenClass → ℕ → Bool
-is_statement_brace classes place = is_brace_in_brackets classes place && some_below (length classes) (is_semicolon_inside classes place)
+is_statement_brace classes place =
+    is_brace_in_brackets classes place && some_below (length classes) (is_semicolon_inside classes place)
 
 -- the place doesn't come behind this partner
 abbrev pub is_up_to : Option ℕ → ℕ → Bool
@@ -52,7 +58,9 @@ is_up_to (Some partner) place = nat_le place partner
 
 -- the gap before a place is kept: the place comes behind a statement brace, and not behind its partner
 abbrev pub is_kept : List TokenClass → ℕ → Bool
-is_kept classes place = some_below place (λ brace. is_statement_brace classes brace && is_up_to (slice_index_or (partners_of classes) brace None) place)
+is_kept classes place =
+    some_below place (λ brace.
+    is_statement_brace classes brace && is_up_to (slice_index_or (partners_of classes) brace None) place)
 
 -- of each place of a view, whether the gap before it is kept
 abbrev pub kept_gaps_of : List TokenClass → List Bool
@@ -62,12 +70,16 @@ kept_gaps_of classes = map (is_kept classes) (range_with_len 0 (length classes))
 
 -- the gap before this place stands between a marked brace and its partner
 abbrev pub is_inside : List Bool → List (Option ℕ) → ℕ → Bool
-is_inside marks partners place = some_below place (λ brace. slice_index_or marks brace false && is_up_to (slice_index_or partners brace None) place)
+is_inside marks partners place =
+    some_below place
+    (λ brace. slice_index_or marks brace false && is_up_to (slice_index_or partners brace None) place)
 
 -- the marks with that of the topmost opener, where that is a brace inside brackets
 abbrev pub marked : List Opener → List Bool → List Bool
 marked [] marks = marks
-marked (opener ∷ below) marks = if is_open_brace opener.kind && list_any is_round_or_square below then slice_set marks opener.place true else marks
+marked (opener ∷ below) marks =
+    if is_open_brace opener.kind && list_any is_round_or_square below then slice_set marks opener.place true
+    else marks
 
 -- each opener is either a `{` or a `(` or `[`
 abbrev pub AreOpeners : List Opener → Type 0

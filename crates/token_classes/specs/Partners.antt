@@ -1,7 +1,9 @@
 -- Partners of brackets.
-use Rattle.std.specs.Prelude.{◌≡◌, ℕ, suc, ◌+◌, Bool, true, false, List, [], ◌∷◌, Option, Some, None, slice_set, replicate, length, reverse, ◌<◌}
+use Rattle.std.specs.Prelude.{◌≡◌, ℕ, suc, ◌+◌, Bool, true, false, List, [], ◌∷◌, Option, Some, None, slice_set}
+use Rattle.std.specs.Prelude.{replicate, length, reverse, ◌<◌}
 use Rattle.token_classes.specs.declared.class.TokenClass.{TokenClass}
-use Rattle.token_classes.specs.declared.class.TokenClass.TheVariants.{OpenRound, CloseRound, OpenSquare, CloseSquare, OpenBrace, CloseBrace}
+use Rattle.token_classes.specs.declared.class.TokenClass.TheVariants.{OpenRound, CloseRound, OpenSquare, CloseSquare}
+use Rattle.token_classes.specs.declared.class.TokenClass.TheVariants.{OpenBrace, CloseBrace}
 use Rattle.token_classes.specs.declared.pairing.Opener.{Opener}
 
 abbrev pub is_brace : Opener → Bool
@@ -29,7 +31,8 @@ pub record Nearest : Type 0 where
 
 abbrev pub nearest_brace : List Opener → Option Nearest
 nearest_brace [] = None
-nearest_brace (o ∷ os) = elim (is_brace o) [ true ↦ Some (record { place = o.place; below = os }) | false ↦ nearest_brace os ]
+nearest_brace (o ∷ os) =
+    elim (is_brace o) [ true ↦ Some (record { place = o.place; below = os }) | false ↦ nearest_brace os ]
 
 -- the topmost opener, if it is of that kind, and the openers below it
 abbrev pub topmost : (Opener → Bool) → List Opener → Option Nearest
@@ -43,7 +46,8 @@ opened c i m = record { open_brackets = record { place = i; kind = c } ∷ m.ope
 -- a closer takes off its partner; without partner it changes nothing
 abbrev pub closed : ℕ → Option Nearest → Matching → Matching
 closed i None m = m
-closed i (Some o) m = record { open_brackets = o.below; partners = slice_set (slice_set m.partners o.place (Some i)) i (Some o.place) }
+closed i (Some o) m =
+    record { open_brackets = o.below; partners = slice_set (slice_set m.partners o.place (Some i)) i (Some o.place) }
 
 -- one token
 abbrev pub bracket_step : TokenClass → ℕ → Matching → Matching
@@ -63,7 +67,9 @@ paired partners (Some o) i = slice_set (slice_set partners o (Some i)) i (Some o
 -- one token takes off this opener, and leaves these openers in place of those, whatever partners were found so far
 abbrev pub TakesStep : TokenClass → ℕ → List Opener → Option ℕ → List Opener → Type 0
 TakesStep c i old taken new =
-    (partners : List (Option ℕ)) → record { open_brackets = new; partners = paired partners taken i } ≡ bracket_step c i (record { open_brackets = old; partners = partners })
+    (partners : List (Option ℕ)) →
+    record { open_brackets = new; partners = paired partners taken i }
+    ≡ bracket_step c i (record { open_brackets = old; partners = partners })
 
 -- the tokens from place `i` on
 abbrev pub matching_from : ℕ → Matching → List TokenClass → Matching

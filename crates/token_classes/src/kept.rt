@@ -41,7 +41,8 @@ fn read_brackets(
     requires alone { partners.old ≡ replicate (length classes.now) None }
     requires unmarked { marks.old ≡ replicate (length classes.now) false }
     ensures partners { OnOk result (partners.new ≡ partners_of classes.now) }
-    ensures marks { OnOk result (marks.new ≡ map (is_statement_brace classes.now) (range_with_len 0 (length classes.now))) }
+    ensures marks { OnOk result
+        (marks.new ≡ map (is_statement_brace classes.now) (range_with_len 0 (length classes.now))) }
     ensures none { IfOk result (λ any. any ≡ false → marks.new ≡ replicate (length classes.now) false) }
 {
     let mut any = false;

@@ -101,7 +101,8 @@ fn row_of(rows: &[u8; 256], key: usize) -> usize
 fn row_at<'w>(rows: &[(&'w [u8], TokenClass); 50], row: usize) -> (&'w [u8], TokenClass)
     requires { row < 50 }
     ensures { (s : List ℕ) (other : TokenClass) →
-        class_in (get_or (map (λ r. (r.0.now, r.1)) rows.now) row no_row ∷ []) s other ≡ class_in ((result.0.now, result.1) ∷ []) s other }
+        class_in (get_or (map (λ r. (r.0.now, r.1)) rows.now) row no_row ∷ []) s other
+        ≡ class_in ((result.0.now, result.1) ∷ []) s other }
 {
     rows[row]
 }
@@ -110,7 +111,8 @@ fn row_at<'w>(rows: &[(&'w [u8], TokenClass); 50], row: usize) -> (&'w [u8], Tok
 #[inline(always)]
 pub(crate) fn candidate(spelled: &[u8]) -> (&'static [u8], TokenClass)
     requires { 0 < length spelled.now }
-    ensures { (other : TokenClass) → class_in ((result.0.now, result.1) ∷ []) spelled.now other ≡ class_in words spelled.now other }
+    ensures { (other : TokenClass) →
+        class_in ((result.0.now, result.1) ∷ []) spelled.now other ≡ class_in words spelled.now other }
 {
     row_at(&ROWS, row_of(&ROW_OF_KEY, key_of(spelled)))
 }

@@ -24,7 +24,8 @@ pub struct Opener {
 /// Takes off the openers above the nearest brace, and the brace, and gives the brace's place.
 fn take_brace(stack: &mut Vec<Opener, &Bump>, braces: &mut usize) -> Option<u32>
     requires { braces.old ≡ count_braces (reverse stack.old.items) }
-    ensures some { IfSome result (λ p. nearest_brace (reverse stack.old.items) ≡ Some (record { place = p; below = reverse stack.new.items })) }
+    ensures some { IfSome result (λ p.
+        nearest_brace (reverse stack.old.items) ≡ Some (record { place = p; below = reverse stack.new.items })) }
     ensures none { IfNone result (nearest_brace (reverse stack.old.items) ≡ None) }
     ensures same { IfNone result (stack.new.items ≡ stack.old.items) }
     ensures count { braces.new ≡ count_braces (reverse stack.new.items) }
@@ -45,7 +46,8 @@ fn take_brace(stack: &mut Vec<Opener, &Bump>, braces: &mut usize) -> Option<u32>
 /// Takes off the topmost opener, where it is a square one.
 #[inline(always)]
 fn take_square(stack: &mut Vec<Opener, &Bump>) -> Option<u32>
-    ensures some { IfSome result (λ p. topmost is_square (reverse stack.old.items) ≡ Some (record { place = p; below = reverse stack.new.items })) }
+    ensures some { IfSome result (λ p.
+        topmost is_square (reverse stack.old.items) ≡ Some (record { place = p; below = reverse stack.new.items })) }
     ensures none { IfNone result (topmost is_square (reverse stack.old.items) ≡ None) }
     ensures same { IfNone result (stack.new.items ≡ stack.old.items) }
     ensures count { count_braces (reverse stack.new.items) ≡ count_braces (reverse stack.old.items) }
@@ -67,7 +69,8 @@ fn take_square(stack: &mut Vec<Opener, &Bump>) -> Option<u32>
 /// Takes off the topmost opener, where it is a round one.
 #[inline(always)]
 fn take_round(stack: &mut Vec<Opener, &Bump>) -> Option<u32>
-    ensures some { IfSome result (λ p. topmost is_round (reverse stack.old.items) ≡ Some (record { place = p; below = reverse stack.new.items })) }
+    ensures some { IfSome result (λ p.
+        topmost is_round (reverse stack.old.items) ≡ Some (record { place = p; below = reverse stack.new.items })) }
     ensures none { IfNone result (topmost is_round (reverse stack.old.items) ≡ None) }
     ensures same { IfNone result (stack.new.items ≡ stack.old.items) }
     ensures count { count_braces (reverse stack.new.items) ≡ count_braces (reverse stack.old.items) }

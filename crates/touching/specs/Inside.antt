@@ -1,11 +1,15 @@
 -- What the tables of edges tell, which only the functions of this crate look at.
 use Rattle.std.specs.Prelude.{◌==◌, ℕ, Bool, true, false, if◌then◌else◌, List, [], ◌∷◌, ◌&&◌}
 use Rattle.c_grammar.specs.declared.ItemKind.{ItemKind}
-use Rattle.c_grammar.specs.declared.ItemKind.TheVariants.{Identifier, Number as NumberKind, CharConst, StringLit, Punct, HeaderName, StrayQuote, Other as OtherKind, BlockComment, LineComment}
+use Rattle.c_grammar.specs.declared.ItemKind.TheVariants.{Identifier, Number as NumberKind, CharConst, StringLit, Punct}
+use Rattle.c_grammar.specs.declared.ItemKind.TheVariants.{HeaderName, StrayQuote, Other as OtherKind, BlockComment}
+use Rattle.c_grammar.specs.declared.ItemKind.TheVariants.{LineComment}
 use Rattle.touching.specs.declared.edge.Edge.{Edge}
-use Rattle.touching.specs.declared.edge.Edge.TheVariants.{Name, Number, Quiet, Operator, Text, Comment, Ending, Point, Unknown}
+use Rattle.touching.specs.declared.edge.Edge.TheVariants.{Name, Number, Quiet, Operator, Text, Comment, Ending, Point}
+use Rattle.touching.specs.declared.edge.Edge.TheVariants.{Unknown}
 use Rattle.touching.specs.declared.edge.First.{First}
-use Rattle.touching.specs.declared.edge.First.TheVariants.{Letter, Digit, QuietMark, Mark, Slash, Quote, Apostrophe, Other}
+use Rattle.touching.specs.declared.edge.First.TheVariants.{Letter, Digit, QuietMark, Mark, Slash, Quote, Apostrophe}
+use Rattle.touching.specs.declared.edge.First.TheVariants.{Other}
 use Rattle.touching.specs.Edges.{is_name_byte, is_number_byte, is_quiet, is_operator, known}
 
 -- the row of a kind

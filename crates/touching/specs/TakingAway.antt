@@ -21,8 +21,8 @@ abbrev pub would_open : Place → ReadItem → Bool
 would_open AfterMacroName item = is_punct item.kind && is_same (bytes_of item.chars) (codes "(")
 would_open place item = false
 
--- Where two items may touch as they are spelled, no new-line stands between them and the right one isn't the `(` behind the name of a macro, the text without
--- what stands between them is a twin of it.
+-- Where two items may touch as they are spelled, no new-line stands between them and the right one isn't the `(` behind
+-- the name of a macro, the text without what stands between them is a twin of it.
 abbrev pub TakesGapsAway : Type 0
 TakesGapsAway =
     (d : Dialect) (text : List ℕ) (before after : List ReadItem) (l r : ReadItem) (last : List LogicalChar) →

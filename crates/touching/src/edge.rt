@@ -230,7 +230,9 @@ fn edge_number(edge: Edge) -> usize
 
 #[inline(always)]
 fn told_edge(edges: &[[[Edge; 8]; 2]; 10], kind: ItemKind, long: bool, first: First) -> Edge
-    ensures { result ≡ get_or (get_or (get_or edges.now (kind_number kind) []) (if long then 1 else 0) []) (first_number first) Name }
+    ensures { result
+        ≡ get_or (get_or (get_or edges.now (kind_number kind) []) (if long then 1 else 0) []) (first_number first)
+        Name }
 {
     edges[kind_number(kind)][long as usize][first_number(first)]
 }

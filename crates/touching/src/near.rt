@@ -149,7 +149,8 @@ pub fn near_touch(
     right: ItemKind,
     right_raw: &[u8],
 ) -> Option<bool>
-    ensures { IfSome result (λ touch. touch ≡ may_touch left (spelling dialect left_raw.now) right (spelling dialect right_raw.now)) }
+    ensures { IfSome result
+        (λ touch. touch ≡ may_touch left (spelling dialect left_raw.now) right (spelling dialect right_raw.now)) }
 {
     if left_raw.is_empty() || right_raw.is_empty() {
         return None;

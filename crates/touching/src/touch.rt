@@ -80,7 +80,8 @@ fn is_prefix(dialect: Dialect, raw: &[u8]) -> bool
 fn prefix_by_quote(dialect: Dialect, left: &Item<'_>, right: &Item<'_>) -> bool
     requires left { length left.now.raw.now ≤ LIMIT }
     requires right { length right.now.raw.now ≤ LIMIT }
-    ensures { result ≡ prefix_by_quote left.now.kind (spelling dialect left.now.raw.now) (spelling dialect right.now.raw.now) }
+    ensures { result
+        ≡ prefix_by_quote left.now.kind (spelling dialect left.now.raw.now) (spelling dialect right.now.raw.now) }
 {
     matches!(left.kind, ItemKind::Identifier)
         && is_prefix(dialect, left.raw)
@@ -92,7 +93,8 @@ fn prefix_by_quote(dialect: Dialect, left: &Item<'_>, right: &Item<'_>) -> bool
 fn number_goes_on(dialect: Dialect, left: &Item<'_>, right: &Item<'_>) -> bool
     requires left { length left.now.raw.now ≤ LIMIT }
     requires right { length right.now.raw.now ≤ LIMIT }
-    ensures { result ≡ number_goes_on left.now.kind (spelling dialect left.now.raw.now) (spelling dialect right.now.raw.now) }
+    ensures { result
+        ≡ number_goes_on left.now.kind (spelling dialect left.now.raw.now) (spelling dialect right.now.raw.now) }
 {
     matches!(left.kind, ItemKind::Number)
         && (begins_one_of(dialect, right.raw, b".'")
@@ -111,7 +113,9 @@ fn point_by_number(dialect: Dialect, left: &Item<'_>, right: &Item<'_>) -> bool
 fn goes_on(dialect: Dialect, left: &[u8], right: &[u8]) -> bool
     requires left { length left.now ≤ LIMIT }
     requires right { length right.now ≤ LIMIT }
-    ensures { result ≡ list_any (is_front (spelling dialect left.now ++ first_of (spelling dialect right.now))) (codes "::" ∷ codes "//" ∷ codes "/*" ∷ common_punctuators) }
+    ensures { result
+        ≡ list_any (is_front (spelling dialect left.now ++ first_of (spelling dialect right.now)))
+        (codes "::" ∷ codes "//" ∷ codes "/*" ∷ common_punctuators) }
 {
     let next = first_char(dialect, right);
     begins_some(dialect, left, next, &GOING_ON)
@@ -121,7 +125,8 @@ fn goes_on(dialect: Dialect, left: &[u8], right: &[u8]) -> bool
 fn punct_goes_on(dialect: Dialect, left: &Item<'_>, right: &Item<'_>) -> bool
     requires left { length left.now.raw.now ≤ LIMIT }
     requires right { length right.now.raw.now ≤ LIMIT }
-    ensures { result ≡ punct_goes_on left.now.kind (spelling dialect left.now.raw.now) (spelling dialect right.now.raw.now) }
+    ensures { result
+        ≡ punct_goes_on left.now.kind (spelling dialect left.now.raw.now) (spelling dialect right.now.raw.now) }
 {
     matches!(left.kind, ItemKind::Punct) && goes_on(dialect, left.raw, right.raw)
 }
@@ -160,7 +165,8 @@ fn begins_behind(
 /// Whether a word of this table begins with these characters and then this one.
 fn begins_some(dialect: Dialect, raw: &[u8], next: Option<u8>, table: &[&[u8]]) -> bool
     requires { length raw.now ≤ LIMIT }
-    ensures { result ≡ list_any (is_front (spelling dialect raw.now ++ option_to_list next)) (map (λ p. p.now) table.now) }
+    ensures { result
+        ≡ list_any (is_front (spelling dialect raw.now ++ option_to_list next)) (map (λ p. p.now) table.now) }
 {
     let first = first_char(dialect, raw);
     for word in table {
@@ -188,7 +194,9 @@ fn trigraph_comes(dialect: Dialect, left: &Item<'_>, right: &Item<'_>) -> bool
 pub fn may_touch(dialect: Dialect, left: &Item<'_>, right: &Item<'_>) -> bool
     requires left { length left.now.raw.now ≤ LIMIT }
     requires right { length right.now.raw.now ≤ LIMIT }
-    ensures { result ≡ may_touch left.now.kind (spelling dialect left.now.raw.now) right.now.kind (spelling dialect right.now.raw.now) }
+    ensures { result
+        ≡ may_touch left.now.kind (spelling dialect left.now.raw.now) right.now.kind
+        (spelling dialect right.now.raw.now) }
 {
     !(word_by_word(dialect, left, right)
         || prefix_by_quote(dialect, left, right)

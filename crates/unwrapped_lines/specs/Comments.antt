@@ -1,5 +1,6 @@
 -- Lines of a view with its comments: where each begins.
-use Rattle.std.specs.Prelude.{ℕ, ◌+◌, nat_eq, nat_le, Bool, true, false, ◌&&◌, not, List, [], ◌∷◌, ◌++◌, Option, Some, None, slice_get}
+use Rattle.std.specs.Prelude.{ℕ, ◌+◌, nat_eq, nat_le, Bool, true, false, ◌&&◌, not, List, [], ◌∷◌, ◌++◌, Option, Some}
+use Rattle.std.specs.Prelude.{None, slice_get}
 use Rattle.unwrapped_lines.specs.declared.line.Line.{Line}
 use Rattle.line_tokens.specs.declared.line.LineKind.TheVariants.{Comment}
 use Rattle.token_classes.specs.declared.part.Part.{Part}
@@ -65,7 +66,8 @@ new_begin t k p ps m =
       | false ↦ None
       | true ↦
           elim (is_own p) [
-            | true ↦ Some (record { first = k; level = own_level t.end_level (slice_get t.lines m.begun); kind = Comment })
+            | true ↦
+                Some (record { first = k; level = own_level t.end_level (slice_get t.lines m.begun); kind = Comment })
             | false ↦
                 elim (begins_line p ps m) [ true ↦ begin_of k (slice_get t.lines m.begun) | false ↦ None ]
           ]
@@ -79,7 +81,8 @@ abbrev pub inner_run : Bool → List Part → Run → Run
 inner_run between ps run = elim (between && is_apart run) [ true ↦ run_of (token_follows ps) | false ↦ run ]
 
 abbrev pub next_marks : Tree → Part → List Part → Marks → Marks
-next_marks t Token ps m = record { seen = m.seen + 1; begun = elim (is_between t m) [ true ↦ m.begun + 1 | false ↦ m.begun ]; run = Apart }
+next_marks t Token ps m =
+    record { seen = m.seen + 1; begun = elim (is_between t m) [ true ↦ m.begun + 1 | false ↦ m.begun ]; run = Apart }
 next_marks t Own ps m = record { seen = m.seen; begun = m.begun; run = Apart }
 next_marks t Trailing ps m = record { seen = m.seen; begun = m.begun; run = Apart }
 next_marks t Inner ps m = record { seen = m.seen; begun = m.begun; run = inner_run (is_between t m) ps m.run }

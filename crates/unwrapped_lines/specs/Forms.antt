@@ -1,15 +1,19 @@
 -- The cases of a statement: what line begins at a place, where it ends, and what it leaves open.
-use Rattle.std.specs.Prelude.{ℕ, zero, suc, ◌+◌, ◌-◌, nat_lt, nat_le, ◌*◌, ◌<◌, ◌≤◌, ◌≡◌, Bool, true, false, not, ◌&&◌, ◌||◌, List, Option, Some, None, slice_get, length}
+use Rattle.std.specs.Prelude.{ℕ, zero, suc, ◌+◌, ◌-◌, nat_lt, nat_le, ◌*◌, ◌<◌, ◌≤◌, ◌≡◌, Bool, true, false, not, ◌&&◌}
+use Rattle.std.specs.Prelude.{◌||◌, List, Option, Some, None, slice_get, length}
 use Rattle.token_classes.specs.declared.class.TokenClass.{TokenClass}
 use Rattle.token_classes.specs.declared.class.TokenClass.TheVariants.{Nothing}
 use Rattle.unwrapped_lines.specs.declared.token.CodeToken.{CodeToken}
 use Rattle.line_tokens.specs.declared.line.LineKind.{LineKind}
-use Rattle.line_tokens.specs.declared.line.LineKind.TheVariants.{Simple, CaseLabel, GotoLabel, Control, FuncHead, StructHead, EnumHead, ExternHead, Brace, Close, Enumerator, MacroLine}
+use Rattle.line_tokens.specs.declared.line.LineKind.TheVariants.{Simple, CaseLabel, GotoLabel, Control, FuncHead}
+use Rattle.line_tokens.specs.declared.line.LineKind.TheVariants.{StructHead, EnumHead, ExternHead, Brace, Close}
+use Rattle.line_tokens.specs.declared.line.LineKind.TheVariants.{Enumerator, MacroLine}
 use Rattle.unwrapped_lines.specs.declared.braces.Braces.{Braces}
 use Rattle.unwrapped_lines.specs.declared.open.Context.{Context}
 use Rattle.unwrapped_lines.specs.declared.open.Context.TheVariants.{File, Code, Member, Enumerators}
 use Rattle.unwrapped_lines.specs.declared.open.Head.{Head}
-use Rattle.unwrapped_lines.specs.declared.open.Head.TheVariants.{If as IfHead, Do as DoHead, Switch as SwitchHead, Tagged, Plain}
+use Rattle.unwrapped_lines.specs.declared.open.Head.TheVariants.{If as IfHead, Do as DoHead, Switch as SwitchHead}
+use Rattle.unwrapped_lines.specs.declared.open.Head.TheVariants.{Tagged, Plain}
 use Rattle.unwrapped_lines.specs.declared.open.Open.{Open}
 use Rattle.unwrapped_lines.specs.declared.open.Start.{Start}
 use Rattle.unwrapped_lines.specs.declared.open.Start.TheVariants.{Fresh, Tail, Closing}
@@ -17,7 +21,11 @@ use Rattle.unwrapped_lines.specs.declared.form.Next.{Next}
 use Rattle.unwrapped_lines.specs.declared.form.Next.TheVariants.{Ends, Goes, Waits, Opens}
 use Rattle.unwrapped_lines.specs.declared.form.Form.{Form}
 use Rattle.unwrapped_lines.specs.declared.form.Stop.{Stop}
-use Rattle.token_classes.specs.Classes.{is_word, is_plain, is_control, is_opener, is_before_list, is_assigning, is_capital, is_if, is_else, is_while, is_do, is_switch, is_case, is_default, is_struct, is_union, is_enum, is_extern, is_call_word, is_open_round, is_close_round, is_open_brace, is_close_brace, is_colon, is_semicolon, is_comma, is_question, is_text}
+use Rattle.token_classes.specs.Classes.{is_word, is_plain, is_control, is_opener, is_before_list, is_assigning}
+use Rattle.token_classes.specs.Classes.{is_capital, is_if, is_else, is_while, is_do, is_switch, is_case, is_default}
+use Rattle.token_classes.specs.Classes.{is_struct, is_union, is_enum, is_extern, is_call_word, is_open_round}
+use Rattle.token_classes.specs.Classes.{is_close_round, is_open_brace, is_close_brace, is_colon, is_semicolon, is_comma}
+use Rattle.token_classes.specs.Classes.{is_question, is_text}
 
 -- ## What stands at a place
 
@@ -54,11 +62,13 @@ partner_or otherwise (Some p) = p
 
 -- the place after the group in parentheses at a place, or that place where there is none
 abbrev pub after_group : List CodeToken → ℕ → ℕ → ℕ
-after_group tokens end i = elim (is_open_round (seen tokens end i)) [ true ↦ behind_partner i (partner_in tokens end i) | false ↦ i ]
+after_group tokens end i =
+    elim (is_open_round (seen tokens end i)) [ true ↦ behind_partner i (partner_in tokens end i) | false ↦ i ]
 
 -- Outside brackets a group is passed over whole, and an opener without partner holds all to the list's end.
 abbrev pub step_over : List CodeToken → ℕ → ℕ → ℕ
-step_over tokens end i = elim (is_opener (class_at tokens i)) [ true ↦ behind_partner end (partner_in tokens end i) | false ↦ i + 1 ]
+step_over tokens end i =
+    elim (is_opener (class_at tokens i)) [ true ↦ behind_partner end (partner_in tokens end i) | false ↦ i + 1 ]
 
 -- where the block of a brace ends: its `}`, or the list's end
 abbrev pub block_end : List CodeToken → ℕ → ℕ → ℕ
@@ -149,7 +159,8 @@ class_before tokens i = elim (nat_lt 0 i) [ true ↦ class_at tokens (i - 1) | f
 -- A `{` opens a list of values by what stands before it, or after `)` where an `=` or `return` stands
 -- earlier in its statement.
 abbrev pub opens_list : List CodeToken → Bool → ℕ → Bool
-opens_list tokens assigned i = is_before_list (class_before tokens i) || (is_close_round (class_before tokens i) && assigned)
+opens_list tokens assigned i =
+    is_before_list (class_before tokens i) || (is_close_round (class_before tokens i) && assigned)
 
 abbrev pub opens_block : List CodeToken → Bool → ℕ → Bool
 opens_block tokens assigned i = is_open_brace (class_at tokens i) && not (opens_list tokens assigned i)
@@ -220,7 +231,16 @@ tag_before (suc n) tokens first i found =
 -- a block at the brace at `i`
 abbrev pub block_at : List CodeToken → ℕ → ℕ → Context → Head → ℕ → ℕ → Open
 block_at tokens end i context head head_level level =
-    record { block = true; context = context; level = level; case_level = level; end = block_end tokens end i; head = head; head_level = head_level; assigned = false }
+    record {
+      block = true;
+      context = context;
+      level = level;
+      case_level = level;
+      end = block_end tokens end i;
+      head = head;
+      head_level = head_level;
+      assigned = false;
+    }
 
 abbrev pub label_form : List CodeToken → Open → LineKind → ℕ → Bool → ℕ → Form
 label_form tokens o kind level wrapped colon =
@@ -251,7 +271,10 @@ label braces tokens o at =
                 elim (is_default c) [
                   | true ↦ Some (label_form tokens o CaseLabel o.case_level braces.after_case_label (at + 1))
                   | false ↦
-                      elim (is_plain c && (is_code o.context && not (touched_at tokens (at + 1)))) [ true ↦ Some (label_form tokens o GotoLabel (goto_level braces o) false (at + 1)) | false ↦ None ]
+                      elim (is_plain c && (is_code o.context && not (touched_at tokens (at + 1)))) [
+                        | true ↦ Some (label_form tokens o GotoLabel (goto_level braces o) false (at + 1))
+                        | false ↦ None
+                      ]
                 ]
           ]
     ]
@@ -290,7 +313,17 @@ label_level braces level = elim braces.indent_case_labels [ true ↦ level + 1 |
 abbrev pub control_block : Braces → List CodeToken → ℕ → ℕ → Head → ℕ → Open
 control_block braces tokens end i head level =
     elim (is_switch_head head) [
-      | true ↦ record { block = true; context = Code; level = label_level braces level + 1; case_level = label_level braces level; end = block_end tokens end i; head = head; head_level = level; assigned = false }
+      | true ↦
+          record {
+            block = true;
+            context = Code;
+            level = label_level braces level + 1;
+            case_level = label_level braces level;
+            end = block_end tokens end i;
+            head = head;
+            head_level = level;
+            assigned = false;
+          }
       | false ↦ block_at tokens end i Code head level (level + 1)
     ]
 
@@ -321,19 +354,24 @@ control_form braces tokens o closes level at =
 abbrev pub tail_end : List CodeToken → ℕ → ℕ → ℕ
 tail_end tokens end i =
     let g = after_group tokens end (i + 1) in
-    elim (is_while (seen tokens end i) && (nat_lt (i + 1) g && is_semicolon (seen tokens end g))) [ true ↦ g + 1 | false ↦ i ]
+    elim (is_while (seen tokens end i) && (nat_lt (i + 1) g && is_semicolon (seen tokens end g)))
+    [ true ↦ g + 1 | false ↦ i ]
 
 -- a word with the lines' macro form ends where the next token began its line and is a word, a `}` or none
 abbrev pub ends_macro : List CodeToken → ℕ → Bool
-ends_macro tokens i = nat_le (length tokens) i || (began_at tokens i && (is_word (class_at tokens i) || is_close_brace (class_at tokens i)))
+ends_macro tokens i =
+    nat_le (length tokens) i
+    || (began_at tokens i && (is_word (class_at tokens i) || is_close_brace (class_at tokens i)))
 
 abbrev pub macro_end : List CodeToken → ℕ → ℕ → ℕ
 macro_end tokens end at =
     let g = after_group tokens end (at + 1) in
-    elim (is_plain (class_at tokens at) && ((nat_lt (at + 1) g || is_capital (class_at tokens at)) && ends_macro tokens g)) [ true ↦ g | false ↦ at ]
+    elim (is_plain (class_at tokens at)
+    && ((nat_lt (at + 1) g || is_capital (class_at tokens at)) && ends_macro tokens g)) [ true ↦ g | false ↦ at ]
 
 abbrev pub tagged_kind : TokenClass → LineKind
-tagged_kind c = elim (is_member_word c) [ true ↦ StructHead | false ↦ elim (is_enum c) [ true ↦ EnumHead | false ↦ FuncHead ] ]
+tagged_kind c =
+    elim (is_member_word c) [ true ↦ StructHead | false ↦ elim (is_enum c) [ true ↦ EnumHead | false ↦ FuncHead ] ]
 
 abbrev pub wraps_tagged : Braces → TokenClass → Bool
 wraps_tagged braces c =
@@ -348,7 +386,8 @@ wraps_tagged braces c =
     ]
 
 abbrev pub tagged_context : TokenClass → Context
-tagged_context c = elim (is_member_word c) [ true ↦ Member | false ↦ elim (is_enum c) [ true ↦ Enumerators | false ↦ Code ] ]
+tagged_context c =
+    elim (is_member_word c) [ true ↦ Member | false ↦ elim (is_enum c) [ true ↦ Enumerators | false ↦ Code ] ]
 
 abbrev pub tagged_head : TokenClass → Head
 tagged_head c = elim (is_struct c || (is_union c || is_enum c)) [ true ↦ Tagged | false ↦ Plain ]
@@ -364,24 +403,55 @@ other_form braces tokens o closes level at assigned =
         kind = kind_or_close closes (tagged_kind tag);
         level = level;
         end = s.at;
-        next = Opens (wraps_tagged braces tag) (record { block = true; context = tagged_context tag; level = level + 1; case_level = level + 1; end = block_end tokens o.end s.at; head = tagged_head tag; head_level = level; assigned = s.assigned });
+        next =
+            Opens (wraps_tagged braces tag) (record {
+              block = true;
+              context = tagged_context tag;
+              level = level + 1;
+              case_level = level + 1;
+              end = block_end tokens o.end s.at;
+              head = tagged_head tag;
+              head_level = level;
+              assigned = s.assigned;
+            });
       }
       | false ↦ record { kind = kind_or_close closes Simple; level = level; end = s.at; next = Ends }
     ]
 
--- the cases behind labels and control statements: the call of a macro with a block, a block, an extern block, a macro's line, any other statement
+-- the cases behind labels and control statements: the call of a macro with a block, a block, an extern block, a macro's
+-- line, any other statement
 abbrev pub unlabelled : Braces → List CodeToken → Open → ℕ → Form
 unlabelled braces tokens o at =
     let c = class_at tokens at in
     let g = after_group tokens o.end (at + 1) in
     elim (is_code o.context && (is_plain c && (nat_lt (at + 1) g && is_open_brace (seen tokens o.end g)))) [
-      | true ↦ record { kind = Control; level = o.level; end = g; next = Opens braces.after_control (block_at tokens o.end g Code Plain o.level (o.level + 1)) }
+      | true ↦
+          record {
+            kind = Control;
+            level = o.level;
+            end = g;
+            next = Opens braces.after_control (block_at tokens o.end g Code Plain o.level (o.level + 1));
+          }
       | false ↦
           elim (is_open_brace c) [
-            | true ↦ record { kind = Brace; level = o.level; end = at; next = Opens false (block_at tokens o.end at Code Plain o.level (o.level + 1)) }
+            | true ↦
+                record {
+                  kind = Brace;
+                  level = o.level;
+                  end = at;
+                  next = Opens false (block_at tokens o.end at Code Plain o.level (o.level + 1));
+                }
             | false ↦
-                elim (is_extern c && (is_text (seen tokens o.end (at + 1)) && is_open_brace (seen tokens o.end (at + 2)))) [
-                  | true ↦ record { kind = ExternHead; level = o.level; end = at + 2; next = Opens braces.after_extern (block_at tokens o.end (at + 2) File Plain o.level o.level) }
+                elim
+                (is_extern c && (is_text (seen tokens o.end (at + 1)) && is_open_brace (seen tokens o.end (at + 2)))) [
+                  | true ↦
+                      record {
+                        kind = ExternHead;
+                        level = o.level;
+                        end = at + 2;
+                        next = Opens braces.after_extern
+                            (block_at tokens o.end (at + 2) File Plain o.level o.level);
+                      }
                   | false ↦
                       let m = macro_end tokens o.end at in
                       elim (nat_lt at m) [
@@ -398,7 +468,9 @@ abbrev pub statement : Braces → List CodeToken → Open → ℕ → Form
 statement braces tokens o at =
     let c = class_at tokens at in
     elim (is_enumerators o.context) [
-      | true ↦ record { kind = Enumerator; level = o.level; end = enumerator_end (o.end - at) tokens o.end at; next = Ends }
+      | true ↦
+          record
+          { kind = Enumerator; level = o.level; end = enumerator_end (o.end - at) tokens o.end at; next = Ends }
       | false ↦
           elim (is_close_brace c && has_no_partner tokens at) [
             | true ↦ record { kind = Close; level = o.level; end = at + 1; next = Ends }
@@ -447,7 +519,10 @@ abbrev pub form_of : Braces → List CodeToken → Open → Start → ℕ → Fo
 form_of braces tokens o Fresh at = statement braces tokens o at
 form_of braces tokens o Tail at =
     let t = tail_end tokens o.end at in
-    elim (nat_lt at t) [ true ↦ record { kind = Control; level = o.level; end = t; next = Ends } | false ↦ statement braces tokens o at ]
+    elim (nat_lt at t) [
+      | true ↦ record { kind = Control; level = o.level; end = t; next = Ends }
+      | false ↦ statement braces tokens o at
+    ]
 form_of braces tokens o (Closing b) at = close_form braces tokens o b at
 
 -- ## What holds of a form

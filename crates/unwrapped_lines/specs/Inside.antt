@@ -1,5 +1,6 @@
 -- What the code's functions tell each other of a view. No contract of a public function cites it.
-use Rattle.std.specs.Prelude.{◌≡◌, ◌≤◌, ℕ, zero, suc, ◌+◌, ◌-◌, nat_eq, nat_lt, true, false, Option, Some, None, List, [], ◌∷◌, ◌++◌, length, map, drop, get_or, if◌then◌else◌}
+use Rattle.std.specs.Prelude.{◌≡◌, ◌≤◌, ℕ, zero, suc, ◌+◌, ◌-◌, nat_eq, nat_lt, true, false, Option, Some, None, List}
+use Rattle.std.specs.Prelude.{[], ◌∷◌, ◌++◌, length, map, drop, get_or, if◌then◌else◌}
 use Rattle.token_arena.specs.declared.view.Segment.{Segment}
 use Rattle.token_arena.specs.Gaps.{Contents}
 use Rattle.token_classes.specs.declared.class.TokenClass.{TokenClass}
@@ -18,8 +19,10 @@ abbrev pub partner_numbers : List TokenClass → List (Option ℕ)
 partner_numbers classes = map (λ n. Some n) (numbers_of classes) ++ None ∷ []
 
 -- these are the tokens of a view that stand before a place
-pub record AreTokensBefore (arena : Contents) (ids : List ℕ) (classes : List TokenClass) (partners : List (Option ℕ)) (k : ℕ) (tokens : List CodeToken) : Type 0 where
-  pub same : tokens ++ map (token_at arena ids classes partners) (code_places_from k (drop k classes)) ≡ code_tokens arena ids classes partners
+pub record AreTokensBefore (arena : Contents) (ids : List ℕ) (classes : List TokenClass) (partners : List (Option ℕ))
+    (k : ℕ) (tokens : List CodeToken) : Type 0 where
+  pub same : tokens ++ map (token_at arena ids classes partners) (code_places_from k (drop k classes))
+      ≡ code_tokens arena ids classes partners
   pub few : length tokens ≤ k
 
 -- the first place behind a segment
@@ -32,7 +35,9 @@ segment_stop segment = segment.before + (segment.end - segment.first)
 abbrev pub comments_from : Contents → List ℕ → ℕ → ℕ → List TokenClass → List ViewComment
 comments_from arena ids k n [] = []
 comments_from arena ids k n (c ∷ cs) =
-    if is_comment c then record { place = k; part = part_of arena (get_or ids k 0) (nat_lt n k) c } ∷ comments_from arena ids (k + 1) (n + 1) cs
+    if is_comment c
+    then record { place = k; part = part_of arena (get_or ids k 0) (nat_lt n k) c }
+    ∷ comments_from arena ids (k + 1) (n + 1) cs
     else comments_from arena ids (k + 1) n cs
 
 -- the comments of a view
@@ -41,14 +46,16 @@ comments_of arena ids classes = comments_from arena ids 0 0 classes
 
 -- these are the comments of a view that stand before a place
 abbrev pub AreCommentsBefore : Contents → List ℕ → List TokenClass → ℕ → List ViewComment → Type 0
-AreCommentsBefore arena ids classes k comments = comments ++ comments_from arena ids k (length comments) (drop k classes) ≡ comments_of arena ids classes
+AreCommentsBefore arena ids classes k comments =
+    comments ++ comments_from arena ids k (length comments) (drop k classes) ≡ comments_of arena ids classes
 
 -- the parts of so many places from one on, where these comments follow
 abbrev pub parts_with : ℕ → ℕ → List ViewComment → List Part
 parts_with zero k comments = []
 parts_with (suc n) k [] = Token ∷ parts_with n (k + 1) []
 parts_with (suc n) k (c ∷ comments) =
-    elim (nat_eq c.place k) [ true ↦ c.part ∷ parts_with n (k + 1) comments | false ↦ Token ∷ parts_with n (k + 1) (c ∷ comments) ]
+    elim (nat_eq c.place k)
+    [ true ↦ c.part ∷ parts_with n (k + 1) comments | false ↦ Token ∷ parts_with n (k + 1) (c ∷ comments) ]
 
 -- the first of these comments stands at a place or behind it
 abbrev pub FollowFrom : ℕ → List ViewComment → Type 0

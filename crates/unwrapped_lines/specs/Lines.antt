@@ -26,12 +26,17 @@ lines_between count (b ∷ next ∷ bs) = line_up_to next.first b ∷ lines_betw
 abbrev pub tree_of : Style → Contents → List ℕ → List (Option ℕ) → Tree
 tree_of style arena ids partners =
     let tokens = code_tokens arena ids (classes_of arena ids) partners in
-    record { lines = lines_of (braces_of style) tokens; total = length tokens; end_level = end_level (braces_of style) tokens }
+    record {
+      lines = lines_of (braces_of style) tokens;
+      total = length tokens;
+      end_level = end_level (braces_of style) tokens;
+    }
 
 -- the unwrapped lines of a view with these partners
 abbrev pub unwrapped_lines_of : Style → Contents → List ℕ → List (Option ℕ) → List ULine
 unwrapped_lines_of style arena ids partners =
-    lines_between (length ids) (begins_from (tree_of style arena ids partners) (parts_of arena ids (classes_of arena ids)) 0 no_marks)
+    lines_between (length ids)
+    (begins_from (tree_of style arena ids partners) (parts_of arena ids (classes_of arena ids)) 0 no_marks)
 
 -- the unwrapped lines of these items
 abbrev pub lines_of_items : Style → Contents → List ℕ → List ULine

@@ -1,5 +1,6 @@
 -- What the code's stack of open lists stands for, the innermost first.
-use Rattle.std.specs.Prelude.{ℕ, ◌-◌, ◌*◌, ◌<◌, ◌≤◌, ◌≡◌, Bool, true, false, List, [], ◌∷◌, ◌++◌, length, Option, Some, None}
+use Rattle.std.specs.Prelude.{ℕ, ◌-◌, ◌*◌, ◌<◌, ◌≤◌, ◌≡◌, Bool, true, false, List, [], ◌∷◌, ◌++◌, length, Option, Some}
+use Rattle.std.specs.Prelude.{None}
 use Rattle.unwrapped_lines.specs.declared.token.CodeToken.{CodeToken}
 use Rattle.unwrapped_lines.specs.declared.line.Line.{Line}
 use Rattle.unwrapped_lines.specs.declared.braces.Braces.{Braces}
@@ -40,11 +41,16 @@ Rest braces tokens [] ls = ls ≡ []
 Rest braces tokens (o ∷ os) ls =
     elim o.block [
       | false ↦ Rest braces tokens os ls
-      | true ↦ (n : ℕ) × ((later : List Line) × ((length tokens - o.end ≤ n) × (Rest braces tokens os later × (ls ≡ lines_from n braces tokens (current os) (Closing o) o.end ++ later))))
+      | true ↦ (n : ℕ)
+          × ((later : List Line)
+          × ((length tokens - o.end ≤ n)
+          × (Rest braces tokens os later
+          × (ls ≡ lines_from n braces tokens (current os) (Closing o) o.end ++ later))))
     ]
 
 -- the lines so far, and those that are to come, are all lines
-pub record Reads (braces : Braces) (tokens : List CodeToken) (out : List Line) (os : List Open) (start : Start) (at : ℕ) : Type 0 where
+pub record Reads (braces : Braces) (tokens : List CodeToken) (out : List Line) (os : List Open) (start : Start)
+    (at : ℕ) : Type 0 where
   pub fuel : ℕ
   pub rest : List Line
   pub enough : length tokens - at ≤ fuel
@@ -61,10 +67,13 @@ IsMore false e (o ∷ os) = e ≡ o.end
 abbrev pub Fits : ℕ → ℕ → ℕ → List Open → Type 0
 Fits whole at e [] = e ≡ whole
 Fits whole at e (o ∷ os) =
-    (e ≤ o.end) × ((o.level ≤ 2 * at) × ((o.case_level ≤ 2 * at) × ((o.head_level ≤ 2 * at) × (IsMore o.block o.end os × Fits whole at o.end os))))
+    (e ≤ o.end)
+    × ((o.level ≤ 2 * at)
+    × ((o.case_level ≤ 2 * at) × ((o.head_level ≤ 2 * at) × (IsMore o.block o.end os × Fits whole at o.end os))))
 
 -- all that holds between two lines
-pub record Stands (braces : Braces) (tokens : List CodeToken) (out : List Line) (os : List Open) (start : Start) (at : ℕ) : Type 0 where
+pub record Stands (braces : Braces) (tokens : List CodeToken) (out : List Line) (os : List Open) (start : Start)
+    (at : ℕ) : Type 0 where
   pub reads : Reads braces tokens out os start at
   pub fits : Fits (length tokens) at at os
   pub low : IsLow at start
@@ -78,12 +87,13 @@ OpenToEnd whole at [] = Unit {0}
 OpenToEnd whole at (o ∷ os) = (o.end ≡ whole) × ((o.level ≤ 2 * at) × ((o.case_level ≤ 2 * at) × OpenToEnd whole at os))
 
 -- what is left to read from here has the end's level
-pub record LeadsToEnd (braces : Braces) (tokens : List CodeToken) (os : List Open) (start : Start) (at : ℕ) : Type 0 where
-  pub fuel : ℕ
-  pub enough : length tokens - at < fuel
-  pub same : end_level_from fuel braces tokens os start at ≡ end_level braces tokens
-  pub open_lists : OpenToEnd (length tokens) at os
-  pub low : IsLow at start
+pub record LeadsToEnd (braces : Braces) (tokens : List CodeToken) (os : List Open) (start : Start) (at : ℕ) : Type 0
+  where
+    pub fuel : ℕ
+    pub enough : length tokens - at < fuel
+    pub same : end_level_from fuel braces tokens os start at ≡ end_level braces tokens
+    pub open_lists : OpenToEnd (length tokens) at os
+    pub low : IsLow at start
 
 -- ## Lines within a list
 

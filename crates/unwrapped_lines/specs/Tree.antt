@@ -50,7 +50,17 @@ settled tokens at (o ∷ os) =
 
 -- the statement that a header waits for, one level deeper
 abbrev pub body_of : Open → Head → ℕ → Open
-body_of o head level = record { block = false; context = o.context; level = level + 1; case_level = level + 1; end = o.end; head = head; head_level = level; assigned = false }
+body_of o head level =
+    record {
+      block = false;
+      context = o.context;
+      level = level + 1;
+      case_level = level + 1;
+      end = o.end;
+      head = head;
+      head_level = level;
+      assigned = false;
+    }
 
 -- the level of an own comment before a line: that of the line's list, and before a label the label's
 abbrev pub comment_level : Open → Start → Form → ℕ
@@ -63,10 +73,12 @@ abbrev pub head_lines : Open → Start → ℕ → Form → Bool → List Line
 head_lines o start at f true =
     record { first = at; end = f.end; level = f.level; kind = f.kind; list_level = comment_level o start f }
     ∷ record { first = f.end; end = f.end + 1; level = f.level; kind = Brace; list_level = o.level } ∷ []
-head_lines o start at f false = record { first = at; end = f.end + 1; level = f.level; kind = f.kind; list_level = comment_level o start f } ∷ []
+head_lines o start at f false =
+    record { first = at; end = f.end + 1; level = f.level; kind = f.kind; list_level = comment_level o start f } ∷ []
 
 abbrev pub line_of : Open → Start → ℕ → Form → Line
-line_of o start at f = record { first = at; end = f.end; level = f.level; kind = f.kind; list_level = comment_level o start f }
+line_of o start at f =
+    record { first = at; end = f.end; level = f.level; kind = f.kind; list_level = comment_level o start f }
 
 -- The lines from `at` to the end of a list. `opens` has the headers that wait there, the innermost first, and
 -- last the list. Each line takes a token, so the number of tokens suffices for `n`.
@@ -79,7 +91,9 @@ lines_from (suc n) braces tokens (o ∷ os) start at =
       | true ↦
           let f = form_of braces tokens o start at in
           elim f.next [
-            | Ends ↦ let r = settled tokens f.end (o ∷ os) in line_of o start at f ∷ lines_from n braces tokens r.opens r.start f.end
+            | Ends ↦ let r =
+                settled tokens f.end (o ∷ os) in
+                line_of o start at f ∷ lines_from n braces tokens r.opens r.start f.end
             | Goes s ↦ line_of o start at f ∷ lines_from n braces tokens (o ∷ os) s f.end
             | Waits h ↦ line_of o start at f ∷ lines_from n braces tokens (body_of o h f.level ∷ o ∷ os) Fresh f.end
             | Opens wrapped b ↦
@@ -90,7 +104,17 @@ lines_from (suc n) braces tokens (o ∷ os) start at =
     ]
 
 abbrev pub whole_file : List CodeToken → Open
-whole_file tokens = record { block = true; context = File; level = 0; case_level = 0; end = length tokens; head = Plain; head_level = 0; assigned = false }
+whole_file tokens =
+    record {
+      block = true;
+      context = File;
+      level = 0;
+      case_level = 0;
+      end = length tokens;
+      head = Plain;
+      head_level = 0;
+      assigned = false;
+    }
 
 -- the level of a list, above which these headers wait, the innermost first: there is no statement that they wait for
 abbrev pub level_of_list : List Open → ℕ

@@ -1,5 +1,6 @@
 -- A view as a list of tokens and comments.
-use Rattle.std.specs.Prelude.{◌&&◌, ◌||◌, not, ℕ, ◌+◌, Bool, false, Option, Some, None, List, [], ◌∷◌, length, map, get_or, slice_get, if◌then◌else◌}
+use Rattle.std.specs.Prelude.{◌&&◌, ◌||◌, not, ℕ, ◌+◌, Bool, false, Option, Some, None, List, [], ◌∷◌, length, map}
+use Rattle.std.specs.Prelude.{get_or, slice_get, if◌then◌else◌}
 use Rattle.token_arena.specs.Gaps.{Contents, item_began}
 use Rattle.token_arena.specs.Stored.{Stored}
 use Rattle.token_classes.specs.declared.class.TokenClass.{TokenClass}
@@ -61,7 +62,8 @@ code_tokens arena ids classes partners = map (token_at arena ids classes partner
 -- the parts of a view from a place on
 abbrev pub parts_from : Contents → List ℕ → ℕ → Bool → List TokenClass → List Part
 parts_from arena ids k started [] = []
-parts_from arena ids k started (c ∷ cs) = part_of arena (get_or ids k 0) started c ∷ parts_from arena ids (k + 1) (started || not (is_comment c)) cs
+parts_from arena ids k started (c ∷ cs) =
+    part_of arena (get_or ids k 0) started c ∷ parts_from arena ids (k + 1) (started || not (is_comment c)) cs
 
 -- the parts of a view
 abbrev pub parts_of : Contents → List ℕ → List TokenClass → List Part

@@ -1,8 +1,10 @@
--- Which braces begin a line: the values of BreakBeforeBraces. docs/PROFILE.md has the table under "Statements and lines".
+-- Which braces begin a line: the values of BreakBeforeBraces. docs/PROFILE.md has the table under "Statements and
+-- lines".
 use Rattle.std.specs.Prelude.{Bool, true, false}
 use Rattle.style_table.specs.declared.style.Style.{Style}
 use Rattle.style_table.specs.declared.style.BreakBeforeBraces.{BreakBeforeBraces}
-use Rattle.style_table.specs.declared.style.BreakBeforeBraces.TheVariants.{Attach, Linux, Mozilla, Stroustrup, Allman, WebKit, Custom}
+use Rattle.style_table.specs.declared.style.BreakBeforeBraces.TheVariants.{Attach, Linux, Mozilla, Stroustrup, Allman}
+use Rattle.style_table.specs.declared.style.BreakBeforeBraces.TheVariants.{WebKit, Custom}
 use Rattle.style_table.specs.declared.style.BraceWrappingAfterControlStatement.{BraceWrappingAfterControlStatement}
 use Rattle.style_table.specs.declared.style.BraceWrappingAfterControlStatement.TheVariants.{Never, Always}
 use Rattle.unwrapped_lines.specs.declared.braces.Braces.{Braces}
@@ -46,7 +48,9 @@ abbrev pub braces_by : BreakBeforeBraces → Style → Braces
 braces_by Attach style = plain_braces style
 braces_by Linux style = record (plain_braces style) { after_function = true }
 braces_by WebKit style = record (plain_braces style) { after_function = true }
-braces_by Mozilla style = record (plain_braces style) { after_enum = true; after_extern = true; after_function = true; after_struct = true; after_union = true }
+braces_by Mozilla style =
+    record (plain_braces style)
+    { after_enum = true; after_extern = true; after_function = true; after_struct = true; after_union = true }
 braces_by Stroustrup style = record (plain_braces style) { after_function = true; before_else = true }
 braces_by Allman style = record (plain_braces style) {
   after_case_label = true;

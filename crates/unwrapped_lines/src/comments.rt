@@ -77,7 +77,9 @@ fn new_begin(
     marks: Marks,
 ) -> Option<Begin>
     requires few { index < 2 ^ 32 }
-    ensures { result ≡ new_begin (record { lines = lines.now; total = total; end_level = end_level }) index part (parts_with (count - (index + 1)) (index + 1) comments.now) marks }
+    ensures { result
+        ≡ new_begin (record { lines = lines.now; total = total; end_level = end_level }) index part
+        (parts_with (count - (index + 1)) (index + 1) comments.now) marks }
 {
     if !is_between(lines, total, end_level, marks) {
         return None;
@@ -121,7 +123,9 @@ fn next_marks(
     requires few { index < 2 ^ 32 }
     requires seen { marks.seen < 2 ^ 40 }
     requires begun { marks.begun < 2 ^ 40 }
-    ensures same { result ≡ next_marks (record { lines = lines.now; total = total; end_level = end_level }) part (parts_with (count - (index + 1)) (index + 1) comments.now) marks }
+    ensures same { result
+        ≡ next_marks (record { lines = lines.now; total = total; end_level = end_level }) part
+        (parts_with (count - (index + 1)) (index + 1) comments.now) marks }
     ensures seen { result.seen ≤ marks.seen + 1 }
     ensures begun { result.begun ≤ marks.begun + 1 }
 {
@@ -226,8 +230,15 @@ fn pass_lines(
     requires few { count < 2 ^ 32 }
     requires seen { from.marks.seen ≤ from.index }
     requires begun { from.marks.begun ≤ from.index }
-    ensures same { IfOk result (λ walk. out.new.items ++ lines_between count (list_of walk.current ++ begins_from (record { lines = lines.now; total = total; end_level = end_level }) (parts_with (count - walk.index) walk.index comments.now) walk.index walk.marks)
-        ≡ out.old.items ++ lines_between count (list_of from.current ++ begins_from (record { lines = lines.now; total = total; end_level = end_level }) (parts_with (count - from.index) from.index comments.now) from.index from.marks)) }
+    ensures same { IfOk result (λ walk.
+        out.new.items
+        ++ lines_between count (list_of walk.current
+        ++ begins_from (record { lines = lines.now; total = total; end_level = end_level })
+        (parts_with (count - walk.index) walk.index comments.now) walk.index walk.marks)
+        ≡ out.old.items
+        ++ lines_between count (list_of from.current
+        ++ begins_from (record { lines = lines.now; total = total; end_level = end_level })
+        (parts_with (count - from.index) from.index comments.now) from.index from.marks)) }
     ensures most { IfOk result (λ walk. walk.index ≤ count) }
     ensures on { IfOk result (λ walk. from.index ≤ walk.index) }
     ensures seen { IfOk result (λ walk. walk.marks.seen ≤ walk.index) }
@@ -279,8 +290,10 @@ fn pass_tokens(
     requires most { from.index ≤ count }
     requires few { count < 2 ^ 32 }
     requires seen { from.marks.seen ≤ from.index }
-    ensures same { begins_from (record { lines = lines.now; total = total; end_level = end_level }) (parts_with (count - result.index) result.index comments.now) result.index result.marks
-        ≡ begins_from (record { lines = lines.now; total = total; end_level = end_level }) (parts_with (count - from.index) from.index comments.now) from.index from.marks }
+    ensures same { begins_from (record { lines = lines.now; total = total; end_level = end_level })
+        (parts_with (count - result.index) result.index comments.now) result.index result.marks
+        ≡ begins_from (record { lines = lines.now; total = total; end_level = end_level })
+        (parts_with (count - from.index) from.index comments.now) from.index from.marks }
     ensures most { result.index ≤ count }
     ensures on { from.index ≤ result.index }
     ensures seen { result.marks.seen ≤ result.index }
@@ -309,7 +322,8 @@ fn pass_tokens(
 #[tactic(auto, using(crate::proofs::Passed::part_first, crate::proofs::Passed::part_none, crate::proofs::Passed::part_other))]
 fn part_at(comments: &[ViewComment], count: usize, index: usize) -> (Part, &[ViewComment])
     requires { index < count }
-    ensures { parts_with (count - index) index comments.now ≡ result.0 ∷ parts_with (count - (index + 1)) (index + 1) result.1.now }
+    ensures { parts_with (count - index) index comments.now
+        ≡ result.0 ∷ parts_with (count - (index + 1)) (index + 1) result.1.now }
 {
     match comments {
         [] => (Part::Token, comments),
@@ -327,8 +341,14 @@ fn part_at(comments: &[ViewComment], count: usize, index: usize) -> (Part, &[Vie
 /// it.
 #[inline(always)]
 fn starting(lines: &[Line], total: usize, end_level: u32, part: Part, marks: Marks) -> Option<Line>
-    ensures begin { IfSome result (λ line. (k : ℕ) → (ps : List Part) → new_begin (record { lines = lines.now; total = total; end_level = end_level }) k part ps marks ≡ Some (record { first = k; level = line.level; kind = line.kind })) }
-    ensures next { IfSome result (λ line. (ps : List Part) → next_marks (record { lines = lines.now; total = total; end_level = end_level }) part ps marks ≡ record { seen = marks.seen + 1; begun = marks.begun + 1; run = Apart }) }
+    ensures begin { IfSome result (λ line.
+        (k : ℕ) → (ps : List Part) →
+        new_begin (record { lines = lines.now; total = total; end_level = end_level }) k part ps marks
+        ≡ Some (record { first = k; level = line.level; kind = line.kind })) }
+    ensures next { IfSome result (λ line.
+        (ps : List Part) →
+        next_marks (record { lines = lines.now; total = total; end_level = end_level }) part ps marks
+        ≡ record { seen = marks.seen + 1; begun = marks.begun + 1; run = Apart }) }
 {
     match lines.get(marks.begun) {
         Some(line) => {
@@ -365,7 +385,11 @@ fn pass_place(
     requires few { index < 2 ^ 32 }
     requires seen { marks.seen ≤ index }
     requires begun { marks.begun ≤ index }
-    ensures told { list_of result.begin ++ begins_from (record { lines = lines.now; total = total; end_level = end_level }) (parts_with (count - (index + 1)) (index + 1) comments.now) (index + 1) result.marks ≡ begins_from (record { lines = lines.now; total = total; end_level = end_level }) (part ∷ parts_with (count - (index + 1)) (index + 1) comments.now) index marks }
+    ensures told { list_of result.begin
+        ++ begins_from (record { lines = lines.now; total = total; end_level = end_level })
+        (parts_with (count - (index + 1)) (index + 1) comments.now) (index + 1) result.marks
+        ≡ begins_from (record { lines = lines.now; total = total; end_level = end_level })
+        (part ∷ parts_with (count - (index + 1)) (index + 1) comments.now) index marks }
     ensures seen { result.marks.seen ≤ index + 1 }
     ensures begun { result.marks.begun ≤ index + 1 }
 {
@@ -400,7 +424,10 @@ pub fn comment_lines<'r>(
     run: &'r Bump,
 ) -> Result<Vec<ULine, &'r Bump>, NoMemory>
     requires { count < 2 ^ 32 }
-    ensures { IfOk result (λ r. r.items ≡ lines_between count (begins_from (record { lines = lines.now; total = total; end_level = end_level }) (parts_with count 0 comments.now) 0 no_marks)) }
+    ensures { IfOk result (λ r.
+        r.items
+        ≡ lines_between count (begins_from (record { lines = lines.now; total = total; end_level = end_level })
+        (parts_with count 0 comments.now) 0 no_marks)) }
 {
     // Each comment begins one line more at most.
     let mut out = Vec::with_capacity(run, lines.len().saturating_add(comments.len()))?;

@@ -56,7 +56,13 @@ fn level_behind(
     requires few { length tokens.now < 2 ^ 30 }
     requires colons { AreCaseColons colons.now tokens.now }
     requires tokens { length tokens.now ≡ length (code_places_from 0 classes.now) }
-    ensures { IfOk result (λ level. (lines : List Line) → begins_from (record { lines = lines; total = length tokens.now; end_level = level }) (parts_of arena.now view.now classes.now) 0 no_marks ≡ begins_from (record { lines = lines; total = length tokens.now; end_level = end_level braces.now tokens.now }) (parts_of arena.now view.now classes.now) 0 no_marks) }
+    ensures { IfOk result (λ level.
+        (lines : List Line) →
+        begins_from (record { lines = lines; total = length tokens.now; end_level = level })
+        (parts_of arena.now view.now classes.now) 0 no_marks
+        ≡ begins_from
+        (record { lines = lines; total = length tokens.now; end_level = end_level braces.now tokens.now })
+        (parts_of arena.now view.now classes.now) 0 no_marks) }
 {
     let count = classes.len();
     if count > 0 && !classes[count - 1].is_comment() {
@@ -77,7 +83,9 @@ fn read_lines<'r>(
     requires within { AreWithin arena.now view.now }
     requires classes { classes.now ≡ classes_of arena.now view.now }
     ensures lines { IfOk result (λ lines. lines.items ≡ unwrapped_lines_of style.now arena.now view.now partners.now) }
-    ensures tree { IfOk result (λ lines. IsCut 0 (tree_of style.now arena.now view.now partners.now).total (tree_of style.now arena.now view.now partners.now).lines) }
+    ensures tree { IfOk result (λ lines.
+        IsCut 0 (tree_of style.now arena.now view.now partners.now).total
+        (tree_of style.now arena.now view.now partners.now).lines) }
 {
     let count = view.len();
     let items = arena.len();

@@ -466,7 +466,14 @@ fn opens_code(
 ) -> Form
     requires here { brace < opened.end }
     requires low { opened.level < 2 ^ 31 }
-    ensures same { result ≡ record { kind = kind; level = opened.level; end = brace; next = Opens wrapped (block_at tokens.now opened.end brace Code Plain opened.level (opened.level + 1)) } }
+    ensures same { result
+        ≡ record {
+          kind = kind;
+          level = opened.level;
+          end = brace;
+          next = Opens wrapped
+              (block_at tokens.now opened.end brace Code Plain opened.level (opened.level + 1));
+        } }
     ensures stays { (at : ℕ) → at ≤ brace → (wrapped ≡ true → at < brace) → StaysIn at opened result result.next }
 {
     Form {
@@ -493,7 +500,14 @@ fn opens_code(
 fn extern_form(braces: &Braces, tokens: &[CodeToken], opened: Open, at: usize) -> Form
     requires here { at + 2 < opened.end }
     requires low { opened.level < 2 ^ 31 }
-    ensures same { result ≡ record { kind = ExternHead; level = opened.level; end = at + 2; next = Opens braces.now.after_extern (block_at tokens.now opened.end (at + 2) File Plain opened.level opened.level) } }
+    ensures same { result
+        ≡ record {
+          kind = ExternHead;
+          level = opened.level;
+          end = at + 2;
+          next = Opens braces.now.after_extern
+              (block_at tokens.now opened.end (at + 2) File Plain opened.level opened.level);
+        } }
     ensures stays { StaysIn at opened result result.next }
 {
     Form {

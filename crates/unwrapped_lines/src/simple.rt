@@ -16,7 +16,8 @@ use crate::token::CodeToken;
 fn is_no_case(tokens: &[CodeToken], opened: Open, at: usize) -> bool
     requires list { opened.end ≤ length tokens.now }
     requires statements { is_enumerators opened.context ≡ false }
-    ensures { result ≡ true → (braces : Braces) → statement braces tokens.now opened at ≡ other_form braces tokens.now opened false opened.level at false }
+    ensures { result ≡ true → (braces : Braces) →
+        statement braces tokens.now opened at ≡ other_form braces tokens.now opened false opened.level at false }
 {
     if opened.end <= at {
         return false;
@@ -50,7 +51,10 @@ fn is_no_case(tokens: &[CodeToken], opened: Open, at: usize) -> bool
 pub fn simple_end(tokens: &[CodeToken], opened: Open, start: Start, at: usize) -> Option<usize>
     requires here { at < opened.end }
     requires list { opened.end ≤ length tokens.now }
-    ensures form { IfSome result (λ end. (braces : Braces) → form_of braces tokens.now opened start at ≡ record { kind = Simple; level = opened.level; end = end; next = Ends }) }
+    ensures form { IfSome result (λ end.
+        (braces : Braces) →
+        form_of braces tokens.now opened start at
+        ≡ record { kind = Simple; level = opened.level; end = end; next = Ends }) }
     ensures least { IfSome result (λ end. at < end) }
     ensures most { IfSome result (λ end. end ≤ opened.end) }
     ensures block { IfSome result (λ end. opened.block ≡ true) }

@@ -38,7 +38,8 @@ pub(crate) fn settle(
     at: usize,
 ) -> Result<Start, NoMemory>
     requires { at < 2 ^ 33 }
-    ensures same { IfOk result (λ s. settled tokens.now at (reverse stack.old.items) ≡ record { opens = reverse stack.new.items; start = s }) }
+    ensures same { IfOk result (λ s.
+        settled tokens.now at (reverse stack.old.items) ≡ record { opens = reverse stack.new.items; start = s }) }
     ensures fewer { length stack.new.items ≤ length stack.old.items }
 {
     while let Some(o) = stack.last().copied() {
@@ -71,7 +72,8 @@ fn push_open(stack: &mut Vec<Open, &Bump>, opened: Open) -> Result<(), NoMemory>
 
 /// Takes off the innermost block, and all above it.
 fn leave(stack: &mut Vec<Open, &Bump>) -> Option<Open>
-    ensures some { IfSome result (λ b. left (reverse stack.old.items) ≡ Some (record { block = b; below = reverse stack.new.items })) }
+    ensures some { IfSome result
+        (λ b. left (reverse stack.old.items) ≡ Some (record { block = b; below = reverse stack.new.items })) }
     ensures none { IfNone result (left (reverse stack.old.items) ≡ None) }
     ensures fewer { IfSome result (λ b. length stack.new.items < length stack.old.items) }
 {
@@ -221,13 +223,15 @@ fn take_line(
     formed: Form,
 ) -> Result<Place, NoMemory>
     requires small { length tokens.now < 2 ^ 30 }
-    requires stands { Stands braces.now tokens.now out.old.items (opened ∷ reverse stack.old.items) place.start place.at }
+    requires stands { Stands braces.now tokens.now out.old.items (opened ∷ reverse stack.old.items) place.start
+        place.at }
     requires here { place.at < opened.end }
     requires list { opened.end ≤ length tokens.now }
     requires form { form_of braces.now tokens.now opened place.start place.at ≡ formed }
     requires stays { StaysIn place.at opened formed formed.next }
     requires level { formed.level ≤ 2 * place.at }
-    ensures stands { IfOk result (λ p. Stands braces.now tokens.now out.new.items (reverse stack.new.items) p.start p.at) }
+    ensures stands { IfOk result
+        (λ p. Stands braces.now tokens.now out.new.items (reverse stack.new.items) p.start p.at) }
     ensures up { IfOk result (λ p. (place.at < p.at) × (length stack.new.items ≤ length stack.old.items + 2)) }
 {
     match formed.next {
@@ -327,8 +331,11 @@ fn turn(
     requires colons { AreCaseColons colons.now tokens.now }
     requires small { length tokens.now < 2 ^ 30 }
     requires stands { Stands braces.now tokens.now out.old.items (opened ∷ reverse stack.old.items) from.start from.at }
-    ensures stands { IfOk result (λ p. Stands braces.now tokens.now out.new.items (reverse stack.new.items) p.start p.at) }
-    ensures up { IfOk result (λ p. 2 * (length tokens.now - p.at) + length stack.new.items < 2 * (length tokens.now - from.at) + length stack.old.items + 1) }
+    ensures stands { IfOk result
+        (λ p. Stands braces.now tokens.now out.new.items (reverse stack.new.items) p.start p.at) }
+    ensures up { IfOk result (λ p.
+        2 * (length tokens.now - p.at) + length stack.new.items
+        < 2 * (length tokens.now - from.at) + length stack.old.items + 1) }
 {
     let mut place = from;
     while place.at < opened.end {

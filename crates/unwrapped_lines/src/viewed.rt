@@ -165,10 +165,16 @@ fn push_other<'r>(
     requires room { length classes.now ≤ vec_capacity tokens }
     requires from { (get_or segments.now number no_segment).before ≤ place }
     requires end { place < segment_stop (get_or segments.now number no_segment) }
-    requires before { AreTokensBefore arena.now (ids_of (map segment_bounds segments.now)) classes.now partners.now place tokens.items }
-    requires comments { AreCommentsBefore arena.now (ids_of (map segment_bounds segments.now)) classes.now place noted.old.comments.items }
-    ensures tokens { IfOk result (λ made. AreTokensBefore arena.now (ids_of (map segment_bounds segments.now)) classes.now partners.now (place + 1) made.items) }
-    ensures comments { IfOk result (λ made. AreCommentsBefore arena.now (ids_of (map segment_bounds segments.now)) classes.now (place + 1) noted.new.comments.items) }
+    requires before { AreTokensBefore arena.now (ids_of (map segment_bounds segments.now)) classes.now partners.now
+        place tokens.items }
+    requires comments { AreCommentsBefore arena.now (ids_of (map segment_bounds segments.now)) classes.now place
+        noted.old.comments.items }
+    ensures tokens { IfOk result (λ made.
+        AreTokensBefore arena.now (ids_of (map segment_bounds segments.now)) classes.now partners.now (place + 1)
+        made.items) }
+    ensures comments { IfOk result (λ made.
+        AreCommentsBefore arena.now (ids_of (map segment_bounds segments.now)) classes.now (place + 1)
+        noted.new.comments.items) }
     ensures room { IfOk result (λ made. vec_capacity made ≡ vec_capacity tokens.entry) }
 {
     let class = classes[place];
@@ -215,10 +221,16 @@ fn push_segment<'r>(
     requires items { length arena.now.tokens ≤ LIMIT }
     requires numbers { numbers.now ≡ partner_numbers classes.now }
     requires room { length classes.now ≤ vec_capacity tokens }
-    requires before { AreTokensBefore arena.now (ids_of (map segment_bounds segments.now)) classes.now partners.now (get_or segments.now number no_segment).before tokens.items }
-    requires comments { AreCommentsBefore arena.now (ids_of (map segment_bounds segments.now)) classes.now (get_or segments.now number no_segment).before noted.old.comments.items }
-    ensures tokens { IfOk result (λ made. AreTokensBefore arena.now (ids_of (map segment_bounds segments.now)) classes.now partners.now (segment_stop (get_or segments.now number no_segment)) made.items) }
-    ensures comments { IfOk result (λ made. AreCommentsBefore arena.now (ids_of (map segment_bounds segments.now)) classes.now (segment_stop (get_or segments.now number no_segment)) noted.new.comments.items) }
+    requires before { AreTokensBefore arena.now (ids_of (map segment_bounds segments.now)) classes.now partners.now
+        (get_or segments.now number no_segment).before tokens.items }
+    requires comments { AreCommentsBefore arena.now (ids_of (map segment_bounds segments.now)) classes.now
+        (get_or segments.now number no_segment).before noted.old.comments.items }
+    ensures tokens { IfOk result (λ made.
+        AreTokensBefore arena.now (ids_of (map segment_bounds segments.now)) classes.now partners.now
+        (segment_stop (get_or segments.now number no_segment)) made.items) }
+    ensures comments { IfOk result (λ made.
+        AreCommentsBefore arena.now (ids_of (map segment_bounds segments.now)) classes.now
+        (segment_stop (get_or segments.now number no_segment)) noted.new.comments.items) }
     ensures room { IfOk result (λ made. vec_capacity made ≡ vec_capacity tokens.entry) }
 {
     let segment = segments[number];
@@ -283,7 +295,8 @@ pub(crate) fn read_view<'r>(
     ensures tokens { IfOk result (λ read. read.tokens.items ≡ code_tokens arena.now view.now classes.now partners.now) }
     ensures few { IfOk result (λ read. length read.tokens.items ≤ LIMIT) }
     ensures comments { IfOk result (λ read. read.noted.comments.items ≡ comments_of arena.now view.now classes.now) }
-    ensures parts { IfOk result (λ read. parts_with (length view.now) 0 read.noted.comments.items ≡ parts_of arena.now view.now classes.now) }
+    ensures parts { IfOk result
+        (λ read. parts_with (length view.now) 0 read.noted.comments.items ≡ parts_of arena.now view.now classes.now) }
 {
     let mut tokens = Vec::with_capacity(run, classes.len())?;
     let comments = Vec::with_capacity(run, classes.len() / TOKENS_TO_A_COMMENT)?;

@@ -1,5 +1,6 @@
 -- Where parts end, as it is noted for items that began one.
-use Rattle.std.specs.Prelude.{⊤, ◌≡◌, ◌<◌, ◌+◌, ◌-◌, ◌==◌, ◌⊎◌, ℕ, if◌then◌else◌, Option, Some, None, List, [], ◌∷◌, All, get_or, length, max, slice_set}
+use Rattle.std.specs.Prelude.{⊤, ◌≡◌, ◌<◌, ◌+◌, ◌-◌, ◌==◌, ◌⊎◌, ℕ, if◌then◌else◌, Option, Some, None, List, [], ◌∷◌}
+use Rattle.std.specs.Prelude.{All, get_or, length, max, slice_set}
 use Rattle.std.specs.List.{range_with_len}
 use Rattle.token_arena.specs.Gaps.{Contents}
 use Rattle.view_parts.specs.declared.known.KnownEnd.{KnownEnd}
@@ -12,12 +13,16 @@ use Rattle.view_parts.specs.Parts.{EndsBehind}
 pub record IsKnownRow (arena : Contents) (id : ℕ) (known : KnownRow) : Type 0 where
   pub some : id < known.end
   pub later : known.end < known.seen
-  pub ends : EndsBehind arena None (range_with_len id (known.seen - id)) (record { count = known.end - id; inside = None })
+  pub ends : EndsBehind arena None (range_with_len id (known.seen - id))
+      (record { count = known.end - id; inside = None })
 
--- Parts that follow one another in a row, the first of which begins with this item, end so: each behind the item before the next one, and the last before this one. The items of the row up to `seen` tell so, whatever follows them.
+-- Parts that follow one another in a row, the first of which begins with this item, end so: each behind the item before
+-- the next one, and the last before this one. The items of the row up to `seen` tell so, whatever follows them.
 abbrev pub FollowInRow : Contents → ℕ → ℕ → ℕ → List ℕ → Type 0
 FollowInRow arena seen id last [] = id ≡ last
-FollowInRow arena seen id last (end ∷ ends) = (id < end) × EndsBehind arena None (range_with_len id (seen - id)) (record { count = end - id; inside = None }) × FollowInRow arena seen end last ends
+FollowInRow arena seen id last (end ∷ ends) =
+    (id < end) × EndsBehind arena None (range_with_len id (seen - id)) (record { count = end - id; inside = None })
+    × FollowInRow arena seen end last ends
 
 -- parts that begin with this item, one behind another in a row, the last of which ends so
 pub record AreKnownRows (arena : Contents) (id : ℕ) (known : KnownRow) : Type 0 where
@@ -79,7 +84,8 @@ AreRowsFrom earlier view first end knowns =
     → (row_of (get_or earlier id Unknown) ≡ Some row) ⊎ HasRow view first end id row
 
 abbrev pub joined_rows : KnownRow → ℕ → KnownRow → Option KnownRow
-joined_rows row next behind = if row.end == next then Some (record { end = behind.end; seen = max row.seen behind.seen }) else None
+joined_rows row next behind =
+    if row.end == next then Some (record { end = behind.end; seen = max row.seen behind.seen }) else None
 
 -- the parts of two rows as one row, where the second begins with this item behind the first
 abbrev pub joined : KnownEnd → ℕ → KnownEnd → Option KnownRow

@@ -1,5 +1,7 @@
--- What is noted for items. The notes of a block of sixteen items are a chain: each has the place behind the one before it, or 0, and the block has the place behind the newest.
-use Rattle.std.specs.Prelude.{ℕ, zero, suc, ◌/◌, ◌*◌, ◌<◌, ◌≤◌, ◌==◌, if◌then◌else◌, List, Option, None, Some, get_or, length, map, slice_get}
+-- What is noted for items. The notes of a block of sixteen items are a chain: each has the place behind the one before
+-- it, or 0, and the block has the place behind the newest.
+use Rattle.std.specs.Prelude.{ℕ, zero, suc, ◌/◌, ◌*◌, ◌<◌, ◌≤◌, ◌==◌, if◌then◌else◌, List, Option, None, Some, get_or}
+use Rattle.std.specs.Prelude.{length, map, slice_get}
 use Rattle.std.specs.List.{range_with_len}
 use Rattle.view_parts.specs.declared.known.KnownEnd.{KnownEnd}
 use Rattle.view_parts.specs.declared.known.KnownEnd.TheVariants.{Unknown}

@@ -1,5 +1,6 @@
 -- The parts of a view: docs/PROFILE.md, "Parts".
-use Rattle.std.specs.Prelude.{⊤, ◌≡◌, ◌<◌, ◌≤◌, ℕ, zero, suc, ◌+◌, ◌-◌, ◌==◌, nat_lt, Bool, if◌then◌else◌, Option, Some, None, List, [], ◌∷◌, ◌++◌, length, drop, reverse, slice_range}
+use Rattle.std.specs.Prelude.{⊤, ◌≡◌, ◌<◌, ◌≤◌, ℕ, zero, suc, ◌+◌, ◌-◌, ◌==◌, nat_lt, Bool, if◌then◌else◌, Option, Some}
+use Rattle.std.specs.Prelude.{None, List, [], ◌∷◌, ◌++◌, length, drop, reverse, slice_range}
 use Rattle.std.specs.Option.{ForSome}
 use Rattle.std.specs.List.{range_with_len}
 use Rattle.token_arena.specs.Gaps.{Contents}
@@ -26,9 +27,11 @@ pub record Ended : Type 0 where
 
 -- ## On the way
 
--- the openers that wait behind a token ("Partners"): the `{` of the bodies where a part begins have the place 0, its own items those behind that
+-- the openers that wait behind a token ("Partners"): the `{` of the bodies where a part begins have the place 0, its
+-- own items those behind that
 abbrev pub waiting_behind : TokenClass → ℕ → List Opener → List Opener
-waiting_behind class place waiting = (bracket_step class (place + 1) (record { open_brackets = waiting; partners = [] })).open_brackets
+waiting_behind class place waiting =
+    (bracket_step class (place + 1) (record { open_brackets = waiting; partners = [] })).open_brackets
 
 -- the `{` of bodies, which wait
 abbrev pub braces_of : List Head → List Opener
@@ -85,7 +88,8 @@ place_behind walk bodies = record {
 
 -- ## Ends
 
--- where a part ends, read so far, where these bodies are open, these openers wait and these items follow; none where it goes on up to their end
+-- where a part ends, read so far, where these bodies are open, these openers wait and these items follow; none where it
+-- goes on up to their end
 abbrev pub next_end : Contents → Walk → List Head → List Opener → List ℕ → Option Ended
 next_end arena walk bodies waiting [] = None
 next_end arena walk bodies waiting (id ∷ ids) =
@@ -97,10 +101,12 @@ next_end arena walk bodies waiting (id ∷ ids) =
       | GoesOn next ↦
           let opened = opened_head walk stands bodies id (item_class arena id) in
           let waiting_next = waiting_behind (item_class arena id) walk.place waiting in
-          next_end arena (walk_behind next bodies waiting_next opened id) (bodies_behind bodies waiting_next opened) waiting_next ids
+          next_end arena (walk_behind next bodies waiting_next opened id) (bodies_behind bodies waiting_next opened)
+          waiting_next ids
     ]
 
--- where the part ends that begins with these items, outside brackets or at this place of a body: that depends on them alone, whatever else stands before them
+-- where the part ends that begins with these items, outside brackets or at this place of a body: that depends on them
+-- alone, whatever else stands before them
 abbrev pub end_of_part : Contents → Option Place → List ℕ → Option Ended
 end_of_part arena begins ids = next_end arena (start begins) (bodies_at begins) (waiting_at begins) ids
 
@@ -129,7 +135,9 @@ pub record PartStop : Type 0 where
 
 -- where the part of a view ends that begins at this place
 abbrev pub stop_from : Contents → List ℕ → Option Place → ℕ → PartStop
-stop_from arena ids begins first = record { end = first + part_len arena begins (drop first ids); inside = part_inside arena begins (drop first ids) }
+stop_from arena ids begins first =
+    record
+    { end = first + part_len arena begins (drop first ids); inside = part_inside arena begins (drop first ids) }
 
 -- where each part from this place on ends; each part has an item, so the number of places suffices for `n`
 abbrev pub ends_from : ℕ → Contents → List ℕ → Option Place → ℕ → List PartStop
@@ -162,7 +170,8 @@ abbrev pub items_before : Option Place → List ℕ
 items_before None = []
 items_before (Some place) = items_of_place place
 
--- the items that are laid out for a part of a view, from one place to before another: those that stand for the place of a body where it begins, and its own
+-- the items that are laid out for a part of a view, from one place to before another: those that stand for the place of
+-- a body where it begins, and its own
 abbrev pub laid_items : Option Place → List ℕ → ℕ → ℕ → List ℕ
 laid_items begins ids first end = items_before begins ++ slice_range ids first end
 
@@ -187,16 +196,20 @@ pub record StandsBefore (place : Place) (id : ℕ) : Type 0 where
 
 -- ## What items tell
 
--- These items tell where a part ends that they begin, outside brackets or at this place of a body, whatever follows them.
+-- These items tell where a part ends that they begin, outside brackets or at this place of a body, whatever follows
+-- them.
 abbrev pub EndsBehind : Contents → Option Place → List ℕ → Ended → Type 0
 EndsBehind arena begins ids ended = (rest : List ℕ) → end_of_part arena begins (ids ++ rest) ≡ Some ended
 
 -- the parts of a view that begin at this place, one behind another, end so, the last at this place
 abbrev pub FollowUpTo : Contents → List ℕ → Option Place → ℕ → PartStop → List PartStop → Type 0
 FollowUpTo arena view begins first last [] = record { end = first; inside = begins } ≡ last
-FollowUpTo arena view begins first last (stop ∷ stops) = (first < length view) × (first < stop.end) × (stop ≡ stop_from arena view begins first) × FollowUpTo arena view stop.inside stop.end last stops
+FollowUpTo arena view begins first last (stop ∷ stops) =
+    (first < length view) × (first < stop.end) × (stop ≡ stop_from arena view begins first)
+    × FollowUpTo arena view stop.inside stop.end last stops
 
 -- parts of a view begin at this place, one behind another, the last of which ends so
-pub record ArePartsUpTo (arena : Contents) (view : List ℕ) (begins : Option Place) (first : ℕ) (last : PartStop) : Type 0 where
+pub record ArePartsUpTo (arena : Contents) (view : List ℕ) (begins : Option Place) (first : ℕ) (last : PartStop) :
+    Type 0 where
   pub stops : List PartStop
   pub follow : FollowUpTo arena view begins first last stops

@@ -17,7 +17,8 @@ pub record Place : Type 0 where
 
 -- the place that the code keeps
 abbrev pub place_of : BodyPlace → Place
-place_of place = record { heads = place.heads.now; opened = place.opened; ended = place.ended; declaration = place.declaration }
+place_of place =
+    record { heads = place.heads.now; opened = place.opened; ended = place.ended; declaration = place.declaration }
 
 abbrev pub place_in : Option BodyPlace → Option Place
 place_in None = None

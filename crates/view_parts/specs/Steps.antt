@@ -1,7 +1,9 @@
 -- What the code keeps on the way along the items of a part.
-use Rattle.std.specs.Prelude.{◌≡◌, ◌<◌, ◌≤◌, ⊤, ℕ, suc, ◌+◌, ◌-◌, ◌==◌, nat_lt, nat_le, Bool, true, false, ◌&&◌, ◌||◌, not, None, List, [], ◌∷◌, get_or}
+use Rattle.std.specs.Prelude.{◌≡◌, ◌<◌, ◌≤◌, ⊤, ℕ, suc, ◌+◌, ◌-◌, ◌==◌, nat_lt, nat_le, Bool, true, false, ◌&&◌, ◌||◌}
+use Rattle.std.specs.Prelude.{not, None, List, [], ◌∷◌, get_or}
 use Rattle.token_classes.specs.declared.class.TokenClass.{TokenClass}
-use Rattle.token_classes.specs.declared.class.TokenClass.TheVariants.{OpenRound, OpenSquare, CloseSquare, OpenBrace, CloseBrace}
+use Rattle.token_classes.specs.declared.class.TokenClass.TheVariants.{OpenRound, OpenSquare, CloseSquare, OpenBrace}
+use Rattle.token_classes.specs.declared.class.TokenClass.TheVariants.{CloseBrace}
 use Rattle.token_classes.specs.Classes.{is_bracket, is_close_round, is_comment, is_control, is_semicolon}
 use Rattle.view_parts.specs.declared.walk.Around.{Around}
 use Rattle.view_parts.specs.declared.walk.Around.TheVariants as around
@@ -36,17 +38,22 @@ is_telling held class = is_label class || is_control class || is_record class ||
 
 -- a token that tells nothing, by what it stands in
 abbrev pub is_quiet : Around → Bool → TokenClass → Bool
-is_quiet stands held class = not (is_bracket class) && not (is_comment class) && (is_group stands || not (is_telling held class))
+is_quiet stands held class =
+    not (is_bracket class) && not (is_comment class) && (is_group stands || not (is_telling held class))
 
--- at this place, behind tokens in a row that tell nothing, by what they stand in: the last one has this number and class
+-- at this place, behind tokens in a row that tell nothing, by what they stand in: the last one has this number and
+-- class
 abbrev pub passed : Walk → Around → ℕ → ℕ → TokenClass → Walk
 passed walk around.Group place last class = record walk { place = place }
-passed walk stands place last class = record walk { place = place; asked = None; behind = last + 1; last = record walk.last { class = class; id = last } }
+passed walk stands place last class =
+    record walk
+    { place = place; asked = None; behind = last + 1; last = record walk.last { class = class; id = last } }
 
 -- from this token on so many in a row tell nothing, and the way goes on behind them
 pub record PassesQuiet (all : List TokenClass) (stands : Around) (walk : Walk) (id n : ℕ) (next : Walk) : Type 0 where
   pub none : n ≡ 0 → next ≡ walk
-  pub some : (m : ℕ) → (d : TokenClass) → n ≡ m + 1 → next ≡ passed walk stands (walk.place + m + 1) (id + m) (get_or all (id + m) d)
+  pub some : (m : ℕ) → (d : TokenClass) → n ≡ m + 1 →
+      next ≡ passed walk stands (walk.place + m + 1) (id + m) (get_or all (id + m) d)
   pub never : 0 < n → may_end walk stands id ≡ false
   pub low : 0 < n → stands ≡ around.Body → walk.place + n ≤ 512
   pub quiet : (k : ℕ) → (d : TokenClass) → k < n → is_quiet stands (is_held walk) (get_or all (id + k) d) ≡ true
@@ -59,7 +66,13 @@ closes_group opener closer = false
 
 -- at this place, behind the bracket that closes a group, which has this number and class
 abbrev pub group_passed : Walk → ℕ → ℕ → TokenClass → Walk
-group_passed walk place id class = record walk { place = place; asked = None; behind = id + 1; last = record walk.last { class = class; id = id; apart = false } }
+group_passed walk place id class =
+    record walk {
+      place = place;
+      asked = None;
+      behind = id + 1;
+      last = record walk.last { class = class; id = id; apart = false };
+    }
 
 -- so many braces are open behind this token
 abbrev pub depth_behind : ℕ → TokenClass → ℕ

@@ -24,7 +24,8 @@ fn push_stretch(
     requires behind { last.old.end ≤ first }
     requires some { first < end }
     ensures ascend { OnOk result (AscendFrom 0 (map bounds_of (done.new.items ++ last.new ∷ []))) }
-    ensures items { OnOk result (ids_of (map bounds_of (done.new.items ++ last.new ∷ [])) ≡ ids_of (map bounds_of (done.old.items ++ last.old ∷ [])) ++ range_with_len first (end - first)) }
+    ensures items { OnOk result (ids_of (map bounds_of (done.new.items ++ last.new ∷ []))
+        ≡ ids_of (map bounds_of (done.old.items ++ last.old ∷ [])) ++ range_with_len first (end - first)) }
     ensures end { OnOk result (last.new.end ≡ end) }
 {
     if last.end == first {
@@ -46,7 +47,8 @@ fn push_view(
     requires some { 0 < length view.now }
     requires behind { last.old.end ≤ get_or view.now 0 0 }
     ensures ascend { OnOk result (AscendFrom 0 (map bounds_of (done.new.items ++ last.new ∷ []))) }
-    ensures items { OnOk result (ids_of (map bounds_of (done.new.items ++ last.new ∷ [])) ≡ ids_of (map bounds_of (done.old.items ++ last.old ∷ [])) ++ view.now) }
+    ensures items { OnOk result (ids_of (map bounds_of (done.new.items ++ last.new ∷ []))
+        ≡ ids_of (map bounds_of (done.old.items ++ last.old ∷ [])) ++ view.now) }
 {
     for segment in view.segments() {
         push_stretch(done, last, segment.first, segment.end)?;
@@ -63,7 +65,8 @@ fn push_heads(
     requires ascend { AscendFrom 0 (map bounds_of (done.old.items ++ last.old ∷ [])) }
     requires stand { Stand last.old.end heads.now }
     ensures ascend { OnOk result (AscendFrom 0 (map bounds_of (done.new.items ++ last.new ∷ []))) }
-    ensures items { OnOk result (ids_of (map bounds_of (done.new.items ++ last.new ∷ [])) ≡ ids_of (map bounds_of (done.old.items ++ last.old ∷ [])) ++ head_items heads.now) }
+    ensures items { OnOk result (ids_of (map bounds_of (done.new.items ++ last.new ∷ []))
+        ≡ ids_of (map bounds_of (done.old.items ++ last.old ∷ [])) ++ head_items heads.now) }
     ensures end { OnOk result (last.new.end ≡ heads_end last.old.end heads.now) }
 {
     for head in heads {

@@ -105,8 +105,10 @@ fn pass_brace(
     opened: Option<Head>,
     id: TokenId,
 ) -> Result<(), NoMemory>
-    ensures walk { OnOk result ((openers : List Opener) → length openers ≡ waiting → walk.new ≡ walk_behind walk.old (reverse bodies.old.items) openers opened id.0) }
-    ensures bodies { OnOk result ((openers : List Opener) → length openers ≡ waiting → reverse bodies.new.items ≡ bodies_behind (reverse bodies.old.items) openers opened) }
+    ensures walk { OnOk result ((openers : List Opener) → length openers ≡ waiting →
+        walk.new ≡ walk_behind walk.old (reverse bodies.old.items) openers opened id.0) }
+    ensures bodies { OnOk result ((openers : List Opener) → length openers ≡ waiting →
+        reverse bodies.new.items ≡ bodies_behind (reverse bodies.old.items) openers opened) }
 {
     if let Some(head) = opened {
         bodies.push(head)?;
@@ -126,9 +128,11 @@ impl<'r> OpenBrackets<'r> {
         room: &'r Bump,
     ) -> Result<OpenBrackets<'r>, NoMemory>
         ensures bodies { IfOk result (λ brackets. brackets.bodies.items ≡ heads_at (place_in begins.entry)) }
-        ensures waiting { IfOk result (λ brackets. brackets.waiting.items ≡ braces_of (heads_at (place_in begins.entry))) }
+        ensures waiting { IfOk result
+            (λ brackets. brackets.waiting.items ≡ braces_of (heads_at (place_in begins.entry))) }
         ensures braces { IfOk result (λ brackets. brackets.braces ≡ length (heads_at (place_in begins.entry))) }
-        ensures around { IfOk result (λ brackets. brackets.around ≡ around_of (reverse brackets.bodies.items) (reverse brackets.waiting.items)) }
+        ensures around { IfOk result (λ brackets.
+            brackets.around ≡ around_of (reverse brackets.bodies.items) (reverse brackets.waiting.items)) }
     {
         let mut waiting = Vec::new(room);
         let mut bodies = Vec::new(room);
@@ -159,13 +163,17 @@ impl<'r> OpenBrackets<'r> {
         requires before { StandBefore (id.0 + 1) (reverse self.old.waiting.items) }
         requires low { place ≤ id.0 }
         requires room { id.0 < 4294967295 }
-        ensures waiting { OnOk result (reverse self.new.waiting.items ≡ waiting_behind class place (reverse self.old.waiting.items)) }
+        ensures waiting { OnOk result
+            (reverse self.new.waiting.items ≡ waiting_behind class place (reverse self.old.waiting.items)) }
         ensures count { OnOk result (self.new.braces ≡ count_braces (reverse self.new.waiting.items)) }
         ensures small { OnOk result (self.new.braces ≤ id.0 + 2) }
         ensures before { OnOk result (StandBefore (id.0 + 2) (reverse self.new.waiting.items)) }
-        ensures walk { OnOk result (walk.new ≡ walk_behind walk.old (reverse self.old.bodies.items) (reverse self.new.waiting.items) opened id.0) }
-        ensures bodies { OnOk result (reverse self.new.bodies.items ≡ bodies_behind (reverse self.old.bodies.items) (reverse self.new.waiting.items) opened) }
-        ensures around { OnOk result (self.new.around ≡ around_of (reverse self.new.bodies.items) (reverse self.new.waiting.items)) }
+        ensures walk { OnOk result (walk.new
+            ≡ walk_behind walk.old (reverse self.old.bodies.items) (reverse self.new.waiting.items) opened id.0) }
+        ensures bodies { OnOk result (reverse self.new.bodies.items
+            ≡ bodies_behind (reverse self.old.bodies.items) (reverse self.new.waiting.items) opened) }
+        ensures around { OnOk result
+            (self.new.around ≡ around_of (reverse self.new.bodies.items) (reverse self.new.waiting.items)) }
     {
         pass_bracket(&mut self.waiting, &mut self.braces, place, id, class)?;
         pass_brace(walk, &mut self.bodies, self.waiting.len(), opened, id)?;

@@ -136,7 +136,8 @@ fn quiet_from(
     requires low { around ≡ Body → place < 512 }
     ensures within { first + place + result ≤ row.now.end }
     ensures low { around ≡ Body → place + result ≤ 512 }
-    ensures quiet { (k : ℕ) → (d : TokenClass) → first + place ≤ k → k < first + place + result → is_quiet around held (get_or all.now (k + row.now.shift) d) ≡ true }
+    ensures quiet { (k : ℕ) → (d : TokenClass) → first + place ≤ k → k < first + place + result →
+        is_quiet around held (get_or all.now (k + row.now.shift) d) ≡ true }
 {
     let shift = row.shift as usize;
     let next = (first + place) as usize + shift;
@@ -173,7 +174,8 @@ fn pass_quiet(
     ensures some { first + walk.old.place < row.new.end }
     ensures place { walk.old.place ≤ walk.new.place }
     ensures within { first + walk.new.place ≤ row.new.end }
-    ensures quiet { PassesQuiet all.now around walk.old (first + walk.old.place + row.new.shift) (walk.new.place - walk.old.place) walk.new }
+    ensures quiet { PassesQuiet all.now around walk.old (first + walk.old.place + row.new.shift)
+        (walk.new.place - walk.old.place) walk.new }
     ensures behind { ForNone result (first + walk.new.place ≡ row.new.end) }
     ensures below { ForSome result (λ id. first + walk.new.place < row.new.end) }
     ensures item { ForSome result (λ id. id.0 ≡ first + walk.new.place + row.new.shift) }
@@ -254,9 +256,12 @@ fn passed_group(
     requires within { row.now.end + row.now.shift ≤ length all.now }
     ensures within { ForSome result (λ group. first + place + group.1 < row.now.end) }
     ensures some { ForSome result (λ group. 0 < group.1) }
-    ensures closer { ForSome result (λ group. (d : TokenClass) → group.0 ≡ get_or all.now (first + place + group.1 + row.now.shift) d) }
+    ensures closer { ForSome result
+        (λ group. (d : TokenClass) → group.0 ≡ get_or all.now (first + place + group.1 + row.now.shift) d) }
     ensures closes { ForSome result (λ group. closes_group opener group.0 ≡ true) }
-    ensures quiet { ForSome result (λ group. (k : ℕ) → (d : TokenClass) → first + place < k → k < first + place + group.1 → is_quiet Group false (get_or all.now (k + row.now.shift) d) ≡ true) }
+    ensures quiet { ForSome result (λ group.
+        (k : ℕ) → (d : TokenClass) → first + place < k → k < first + place + group.1 →
+        is_quiet Group false (get_or all.now (k + row.now.shift) d) ≡ true) }
 {
     if !opener.is_opener() {
         return None;
@@ -288,7 +293,8 @@ fn passed_body(
     ensures before { ForSome result (λ body. walk.now.declaration.before ≡ Before.Body) }
     ensures within { ForSome result (λ body. first + place + body.1 < row.now.end) }
     ensures low { ForSome result (λ body. place + 1 + body.1 ≤ 512) }
-    ensures closes { ForSome result (λ body. Closes 1 (take body.1 (drop (first + place + 1 + row.now.shift) all.now))) }
+    ensures closes { ForSome result
+        (λ body. Closes 1 (take body.1 (drop (first + place + 1 + row.now.shift) all.now))) }
 {
     let head = opened?;
     if place >= LEAST_IN_ROW || !matches!(walk.declaration.before, Before::Body) {
@@ -330,12 +336,18 @@ pub fn part_end<'k>(
     requires all { all.now ≡ item_classes arena.now }
     requires here { first < length view.now }
     requires begins { ForSome (place_in begins) (λ place. StandsBefore place (get_or view.now first 0)) }
-    ensures end { IfOk result (λ part. part.end ≡ first + part_len arena.now (place_in begins.entry) (drop first view.now)) }
-    ensures inside { IfOk result (λ part. place_in part.inside ≡ part_inside arena.now (place_in begins.entry) (drop first view.now)) }
-    ensures place { IfOk result (λ part. ForSome (place_in part.inside) (λ place. StandsBefore place (get_or view.now part.end 0))) }
+    ensures end { IfOk result
+        (λ part. part.end ≡ first + part_len arena.now (place_in begins.entry) (drop first view.now)) }
+    ensures inside { IfOk result
+        (λ part. place_in part.inside ≡ part_inside arena.now (place_in begins.entry) (drop first view.now)) }
+    ensures place { IfOk result
+        (λ part. ForSome (place_in part.inside) (λ place. StandsBefore place (get_or view.now part.end 0))) }
     ensures some { IfOk result (λ part. first < part.end) }
     ensures within { IfOk result (λ part. part.end ≤ length view.now) }
-    ensures seen { IfOk result (λ part. ForSome part.seen (λ seen. EndsBehind arena.now (place_in begins.entry) (slice_range view.now first seen) (record { count = part.end - first; inside = place_in part.inside }))) }
+    ensures seen { IfOk result (λ part.
+        ForSome part.seen (λ seen.
+        EndsBehind arena.now (place_in begins.entry) (slice_range view.now first seen)
+        (record { count = part.end - first; inside = place_in part.inside }))) }
     ensures later { IfOk result (λ part. ForSome part.seen (λ seen. part.end < seen)) }
     ensures below { IfOk result (λ part. ForSome part.seen (λ seen. seen ≤ length view.now)) }
     ensures whole { IfOk result (λ part. ForNone part.seen (part.end ≡ length view.now)) }

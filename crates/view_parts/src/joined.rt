@@ -78,12 +78,15 @@ pub fn known_parts_end(
     requires here { first < length view.now }
     requires item { (d : ℕ) → get_or view.now first d ≡ id.0 }
     requires known { AreKnown arena.now known.now }
-    ensures parts { IfSome result (λ parts. ArePartsUpTo arena.now view.now None first (record { end = parts.end; inside = None })) }
+    ensures parts { IfSome result
+        (λ parts. ArePartsUpTo arena.now view.now None first (record { end = parts.end; inside = None })) }
     ensures row { IfSome result (λ parts. HasNotedRow known.now view.now first parts.end id.0) }
     ensures outside { IfSome result (λ parts. parts.inside ≡ None) }
     ensures some { IfSome result (λ parts. first < parts.end) }
     ensures inside { IfSome result (λ parts. parts.end ≤ length view.now) }
-    ensures told { IfSome result (λ parts. ForSome parts.told (λ told. TellParts arena.now None (slice_range view.now first told) (parts.end - first) None)) }
+    ensures told { IfSome result (λ parts.
+        ForSome parts.told
+        (λ told. TellParts arena.now None (slice_range view.now first told) (parts.end - first) None)) }
     ensures later { IfSome result (λ parts. ForSome parts.told (λ told. parts.end < told)) }
     ensures below { IfSome result (λ parts. ForSome parts.told (λ told. told ≤ length view.now)) }
     ensures always { IfSome result (λ parts. IsSome parts.told) }

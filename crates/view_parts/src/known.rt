@@ -100,7 +100,9 @@ fn recalled_row(
     ensures begun { IfSome result (λ part. part_inside arena.now None (drop first view.now) ≡ None) }
     ensures some { IfSome result (λ part. first < part.end) }
     ensures inside { IfSome result (λ part. part.end ≤ length view.now) }
-    ensures told { IfSome result (λ part. ForSome part.told (λ told. TellParts arena.now None (slice_range view.now first told) (part.end - first) None)) }
+    ensures told { IfSome result (λ part.
+        ForSome part.told
+        (λ told. TellParts arena.now None (slice_range view.now first told) (part.end - first) None)) }
     ensures later { IfSome result (λ part. ForSome part.told (λ told. part.end < told)) }
     ensures below { IfSome result (λ part. ForSome part.told (λ told. told ≤ length view.now)) }
     ensures whole { IfSome result (λ part. ForNone part.told (part.end ≡ length view.now)) }
@@ -134,7 +136,8 @@ fn noted_row(
     requires some { first < end }
     requires later { end < seen }
     requires inside { seen ≤ length view.now }
-    requires ends { EndsBehind arena.now None (slice_range view.now first seen) (record { count = end - first; inside = None }) }
+    requires ends { EndsBehind arena.now None (slice_range view.now first seen)
+        (record { count = end - first; inside = None }) }
     ensures known { IfSome result (λ known. IsKnownRow arena.now id.0 known) }
     ensures row { IfSome result (λ known. HasRow view.now first end id.0 known) }
 {
@@ -191,7 +194,9 @@ fn recalled_span(
     ensures begun { IfSome result (λ part. part_inside arena.now None (drop first view.now) ≡ None) }
     ensures some { IfSome result (λ part. first < part.end) }
     ensures inside { IfSome result (λ part. part.end ≤ length view.now) }
-    ensures told { IfSome result (λ part. ForSome part.told (λ told. TellParts arena.now None (slice_range view.now first told) (part.end - first) None)) }
+    ensures told { IfSome result (λ part.
+        ForSome part.told
+        (λ told. TellParts arena.now None (slice_range view.now first told) (part.end - first) None)) }
     ensures later { IfSome result (λ part. ForSome part.told (λ told. part.end < told)) }
     ensures below { IfSome result (λ part. ForSome part.told (λ told. told ≤ length view.now)) }
     ensures whole { IfSome result (λ part. ForNone part.told (part.end ≡ length view.now)) }
@@ -233,7 +238,9 @@ fn recalled(
     ensures begun { IfSome result (λ part. part_inside arena.now None (drop first view.now) ≡ None) }
     ensures some { IfSome result (λ part. first < part.end) }
     ensures inside { IfSome result (λ part. part.end ≤ length view.now) }
-    ensures told { IfSome result (λ part. ForSome part.told (λ told. TellParts arena.now None (slice_range view.now first told) (part.end - first) None)) }
+    ensures told { IfSome result (λ part.
+        ForSome part.told
+        (λ told. TellParts arena.now None (slice_range view.now first told) (part.end - first) None)) }
     ensures later { IfSome result (λ part. ForSome part.told (λ told. part.end < told)) }
     ensures below { IfSome result (λ part. ForSome part.told (λ told. told ≤ length view.now)) }
     ensures whole { IfSome result (λ part. ForNone part.told (part.end ≡ length view.now)) }
@@ -259,7 +266,8 @@ fn noted_span<'k>(
     requires some { first < end }
     requires later { end < seen }
     requires inside { seen ≤ length view.now }
-    requires ends { EndsBehind arena.now None (slice_range view.now first seen) (record { count = end - first; inside = None }) }
+    requires ends { EndsBehind arena.now None (slice_range view.now first seen)
+        (record { count = end - first; inside = None }) }
     requires known { AreSpans arena.now spans.old.spans.items }
     ensures end { IfOk result (λ known. (id : ℕ) → IsKnown arena.now id known) }
     ensures row { IfOk result (λ known. (id : ℕ) → IsRowAt view.now first end id known) }
@@ -297,7 +305,8 @@ fn noted_part<'k>(
     requires some { first < end }
     requires later { end < seen }
     requires inside { seen ≤ length view.now }
-    requires ends { EndsBehind arena.now None (slice_range view.now first seen) (record { count = end - first; inside = None }) }
+    requires ends { EndsBehind arena.now None (slice_range view.now first seen)
+        (record { count = end - first; inside = None }) }
     requires known { AreSpans arena.now spans.old.spans.items }
     ensures end { IfOk result (λ known. IsKnown arena.now id.0 known) }
     ensures row { IfOk result (λ known. IsRowAt view.now first end id.0 known) }
@@ -338,12 +347,18 @@ pub fn known_part_end<'k>(
     requires begins { ForSome (place_in begins) (λ place. StandsBefore place (get_or view.now first 0)) }
     requires known { AreKnown arena.now known.old }
     requires spans { AreSpans arena.now spans.old.spans.items }
-    ensures end { IfOk result (λ part. part.end ≡ first + part_len arena.now (place_in begins.entry) (drop first view.now)) }
-    ensures begun { IfOk result (λ part. place_in part.inside ≡ part_inside arena.now (place_in begins.entry) (drop first view.now)) }
-    ensures place { IfOk result (λ part. ForSome (place_in part.inside) (λ place. StandsBefore place (get_or view.now part.end 0))) }
+    ensures end { IfOk result
+        (λ part. part.end ≡ first + part_len arena.now (place_in begins.entry) (drop first view.now)) }
+    ensures begun { IfOk result
+        (λ part. place_in part.inside ≡ part_inside arena.now (place_in begins.entry) (drop first view.now)) }
+    ensures place { IfOk result
+        (λ part. ForSome (place_in part.inside) (λ place. StandsBefore place (get_or view.now part.end 0))) }
     ensures some { IfOk result (λ part. first < part.end) }
     ensures inside { IfOk result (λ part. part.end ≤ length view.now) }
-    ensures told { IfOk result (λ part. ForSome part.told (λ told. TellParts arena.now (place_in begins.entry) (slice_range view.now first told) (part.end - first) (place_in part.inside))) }
+    ensures told { IfOk result (λ part.
+        ForSome part.told (λ told.
+        TellParts arena.now (place_in begins.entry) (slice_range view.now first told) (part.end - first)
+        (place_in part.inside))) }
     ensures later { IfOk result (λ part. ForSome part.told (λ told. part.end < told)) }
     ensures below { IfOk result (λ part. ForSome part.told (λ told. told ≤ length view.now)) }
     ensures whole { IfOk result (λ part. ForNone part.told (part.end ≡ length view.now)) }

@@ -39,7 +39,8 @@ fn lay_directive(
     requires all { all.now ≡ item_classes arena.now }
     requires there { Contains (sections_of arena.now) (Dir dir.now) }
     requires whole { length plan.old ≡ length arena.now.tokens + 1 }
-    ensures plan { OnOk result (plan.new ≡ decided_all plan.old (laid style.now arena.now depth (operand_roles style.now arena.now dir.now) dir.now)) }
+    ensures plan { OnOk result (plan.new
+        ≡ decided_all plan.old (laid style.now arena.now depth (operand_roles style.now arena.now dir.now) dir.now)) }
     ensures len { OnOk result (length plan.new ≡ length plan.old) }
 {
     let toks = operand_roles(style, arena, all, dir, run)?;
@@ -62,7 +63,9 @@ fn lay_section(
     requires all { all.now ≡ item_classes arena.now }
     requires there { Contains (sections_of arena.now) section.now }
     requires whole { length plan.old ≡ length arena.now.tokens + 1 }
-    ensures plan { OnOk result ((later : List Section) → decided_all plan.new (laid_in style.now arena.now conditionals.new later) ≡ decided_all plan.old (laid_in style.now arena.now conditionals.old (section.now ∷ later))) }
+    ensures plan { OnOk result ((later : List Section) →
+        decided_all plan.new (laid_in style.now arena.now conditionals.new later)
+        ≡ decided_all plan.old (laid_in style.now arena.now conditionals.old (section.now ∷ later))) }
     ensures len { OnOk result (length plan.new ≡ length plan.old) }
     ensures few { OnOk result (length conditionals.new ≤ length conditionals.old + 1) }
 {

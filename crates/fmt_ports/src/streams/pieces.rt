@@ -135,7 +135,8 @@ fn write_through<'k, T: Stream, K: Sink, B: Behind>(
     requires first { K.taken pieces.out.now ≡ B.first }
     requires empty { pieces.room.now ≡ [] }
     ensures same_sink { result.0.out.ghost_name ≡ pieces.entry.out.ghost_name }
-    ensures ok { OnOk result.1 (Appends (K.taken pieces.entry.out.now) (K.taken result.0.out.now) (T.bytes text.entry.now)) }
+    ensures ok { OnOk result.1
+        (Appends (K.taken pieces.entry.out.now) (K.taken result.0.out.now) (T.bytes text.entry.now)) }
     ensures part { AppendsPart (K.taken pieces.entry.out.now) (K.taken result.0.out.now) (T.bytes text.entry.now) }
     ensures counts { Counts (K.faults pieces.entry.out.now) (K.faults result.0.out.now) result.1 }
 {

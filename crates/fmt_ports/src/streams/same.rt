@@ -72,7 +72,8 @@ impl<'s, O: Original> SameSink<'s, O> {
 fn common_len(left: &[u8], right: &[u8]) -> usize
     ensures within { (result ≤ length left.now) × (result ≤ length right.now) }
     ensures same { take result left.now ≡ take result right.now }
-    ensures differs { result < length left.now → result < length right.now → get_or left.now result 0 ≢ get_or right.now result 0 }
+    ensures differs { result < length left.now → result < length right.now →
+        get_or left.now result 0 ≢ get_or right.now result 0 }
 {
     if left.starts_with(right) {
         return right.len();

@@ -79,8 +79,8 @@ fn begun_column(tab: u32, arena: &TokenArena<'_, '_>, known: InputColumn, first:
     column_through(tab, 0, arena.gap(first))
 }
 
-/// The column of a place, where that of a place before it is known. Only the place's row is read, and nothing before the
-/// known place.
+/// The column of a place, where that of a place before it is known. Only the place's row is read, and nothing before
+/// the known place.
 pub(crate) fn column_from(
     tab: u32,
     arena: &TokenArena<'_, '_>,

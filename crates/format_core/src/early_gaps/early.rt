@@ -38,7 +38,9 @@ pub fn decide_early(
     requires sections { sections.now ≡ sections_of context.now.arena.now }
     requires tree { IsTreeOf context.now.arena.now tree.now }
     requires whole { length plan.old ≡ length context.now.arena.now.tokens + 1 }
-    ensures plan { OnOk result (plan.new ≡ decided_all plan.old (early_decisions context.now.style.now context.now.arena.now (option_map (λ ranges. ranges.now) ranges.entry))) }
+    ensures plan { OnOk result (plan.new
+        ≡ decided_all plan.old (early_decisions context.now.style.now context.now.arena.now
+        (option_map (λ ranges. ranges.now) ranges.entry))) }
     ensures len { OnOk result (length plan.new ≡ length plan.old) }
 {
     let style = context.style;

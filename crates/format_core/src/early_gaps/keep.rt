@@ -41,7 +41,9 @@ fn keep(
     requires whole { place < length plan.old }
     ensures known { IsColumn tab arena.now result }
     ensures order { result.place ≤ place }
-    ensures plan { plan.new ≡ decided_all plan.old (made_at place (if kept then Some (kept_slot (column_at tab arena.now place)) else None)) }
+    ensures plan { plan.new
+        ≡ decided_all plan.old
+        (made_at place (if kept then Some (kept_slot (column_at tab arena.now place)) else None)) }
     ensures len { length plan.new ≡ length plan.old }
 {
     if !kept {
@@ -97,7 +99,8 @@ pub(crate) fn keep_gaps(
     requires tree { IsTreeOf arena.now tree.now }
     requires marks { length frozen.now ≡ length arena.now.tokens + 1 }
     requires whole { length plan.old ≡ length arena.now.tokens + 1 }
-    ensures plan { plan.new ≡ decided_all plan.old (made_from (kept_at tab arena.now frozen.now) 0 (length arena.now.tokens + 1)) }
+    ensures plan { plan.new
+        ≡ decided_all plan.old (made_from (kept_at tab arena.now frozen.now) 0 (length arena.now.tokens + 1)) }
     ensures len { length plan.new ≡ length plan.old }
 {
     let mut known = first_column(tab, arena);

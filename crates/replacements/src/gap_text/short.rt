@@ -44,7 +44,8 @@ fn uses_no_tabs(style: &Style) -> bool
 /// a carriage return and up to 64 blanks, as most are.
 #[inline(always)]
 pub fn short_lines(style: &Style, crlf: bool, count: u32, column: u32) -> Option<&'static [u8]>
-    ensures { IfSome result (λ piece. (own : ℕ) → piece.now ≡ line_ends crlf count ++ indentation style.now own column) }
+    ensures { IfSome result
+        (λ piece. (own : ℕ) → piece.now ≡ line_ends crlf count ++ indentation style.now own column) }
 {
     if crlf {
         return None;

@@ -77,7 +77,8 @@ fn write_tabs_to<K: Sink>(width: u32, column: u32, sink: &mut K) -> Result<(), F
 fn write_level<K: Sink>(width: u32, own: u32, column: u32, sink: &mut K) -> Result<(), Failed>
     requires width { 1 ≤ width }
     requires own { own ≤ column }
-    ensures ok { OnOk result (Appends (K.taken sink.old) (K.taken sink.new) (tabs_to width own ++ blanks (column - own))) }
+    ensures ok { OnOk result
+        (Appends (K.taken sink.old) (K.taken sink.new) (tabs_to width own ++ blanks (column - own))) }
     ensures part { AppendsPart (K.taken sink.old) (K.taken sink.new) (tabs_to width own ++ blanks (column - own)) }
     ensures counts { Counts (K.faults sink.old) (K.faults sink.new) result }
 {
@@ -153,8 +154,10 @@ fn write_lines<K: Sink>(
     sink: &mut K,
 ) -> Result<(), Failed>
     requires { 1 ≤ style.now.tab_width }
-    ensures ok { OnOk result (Appends (K.taken sink.old) (K.taken sink.new) (line_ends crlf count ++ indentation style.now (level_columns style.now level column) column)) }
-    ensures part { AppendsPart (K.taken sink.old) (K.taken sink.new) (line_ends crlf count ++ indentation style.now (level_columns style.now level column) column) }
+    ensures ok { OnOk result (Appends (K.taken sink.old) (K.taken sink.new)
+        (line_ends crlf count ++ indentation style.now (level_columns style.now level column) column)) }
+    ensures part { AppendsPart (K.taken sink.old) (K.taken sink.new)
+        (line_ends crlf count ++ indentation style.now (level_columns style.now level column) column) }
     ensures counts { Counts (K.faults sink.old) (K.faults sink.new) result }
 {
     if let Some(piece) = short_lines(style, crlf, count, column) {
@@ -172,8 +175,10 @@ fn write_spliced<K: Sink>(
     sink: &mut K,
 ) -> Result<(), Failed>
     requires { 1 ≤ style.now.tab_width }
-    ensures ok { OnOk result (Appends (K.taken sink.old) (K.taken sink.new) (92 ∷ line_end crlf ++ indentation style.now column column)) }
-    ensures part { AppendsPart (K.taken sink.old) (K.taken sink.new) (92 ∷ line_end crlf ++ indentation style.now column column) }
+    ensures ok { OnOk result
+        (Appends (K.taken sink.old) (K.taken sink.new) (92 ∷ line_end crlf ++ indentation style.now column column)) }
+    ensures part { AppendsPart (K.taken sink.old) (K.taken sink.new)
+        (92 ∷ line_end crlf ++ indentation style.now column column) }
     ensures counts { Counts (K.faults sink.old) (K.faults sink.new) result }
 {
     write_all(sink, splice(crlf))?;
@@ -192,7 +197,8 @@ pub fn write_gap<K: Sink>(
     sink: &mut K,
 ) -> Result<(), Failed>
     requires { 1 ≤ style.now.tab_width }
-    ensures ok { OnOk result (Appends (K.taken sink.old) (K.taken sink.new) (gap_text style.now crlf decision old.now)) }
+    ensures ok { OnOk result
+        (Appends (K.taken sink.old) (K.taken sink.new) (gap_text style.now crlf decision old.now)) }
     ensures part { AppendsPart (K.taken sink.old) (K.taken sink.new) (gap_text style.now crlf decision old.now) }
     ensures counts { Counts (K.faults sink.old) (K.faults sink.new) result }
 {

@@ -15,7 +15,8 @@ fn line_end(arena: &TokenArena<'_, '_>, at: u32) -> u32
     requires { at < length arena.now.tokens }
     ensures behind { at < result }
     ensures within { result ≤ length arena.now.tokens }
-    ensures line { lines_of (drop at arena.now.tokens) ≡ slice_range arena.now.tokens at result ∷ lines_of (drop result arena.now.tokens) }
+    ensures line { lines_of (drop at arena.now.tokens)
+        ≡ slice_range arena.now.tokens at result ∷ lines_of (drop result arena.now.tokens) }
 {
     let count = arena.len();
     for end in at + 1..count {
@@ -30,7 +31,9 @@ fn line_end(arena: &TokenArena<'_, '_>, at: u32) -> u32
 fn directive_in(arena: &TokenArena<'_, '_>, first: u32, end: u32) -> Option<Directive>
     requires order { first ≤ end }
     requires within { end ≤ length arena.now.tokens }
-    ensures { result ≡ option_map (directive arena.now.dialect first end) (behind_hash arena.now.dialect (slice_range arena.now.tokens first end)) }
+    ensures { result
+        ≡ option_map (directive arena.now.dialect first end)
+        (behind_hash arena.now.dialect (slice_range arena.now.tokens first end)) }
 {
     let (hash, token) = first_code(arena, first, end)?;
     if !is_hash(&token, arena.dialect()) {

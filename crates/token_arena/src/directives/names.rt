@@ -69,10 +69,10 @@ pub(crate) fn first_code<'s>(
     end: u32,
 ) -> Option<(u32, Token<'s>)>
     requires { end ≤ length arena.now.tokens }
-    ensures { MatchOption result
-        (past_comments (slice_range arena.now.tokens from end) ≡ [])
-        (λ found. (from ≤ found.0) × (found.0 < end)
-        × (past_comments (slice_range arena.now.tokens from end) ≡ told_by found.1 ∷ slice_range arena.now.tokens (found.0 + 1) end)) }
+    ensures { MatchOption result (past_comments (slice_range arena.now.tokens from end) ≡ []) (λ found.
+        (from ≤ found.0) × (found.0 < end)
+        × (past_comments (slice_range arena.now.tokens from end)
+        ≡ told_by found.1 ∷ slice_range arena.now.tokens (found.0 + 1) end)) }
 {
     for at in from..end {
         let token = arena.get(TokenId(at));
