@@ -7,11 +7,12 @@ use Rattle.unwrapped_lines.specs.declared.open.Start.{Start}
 use Rattle.unwrapped_lines.specs.declared.open.Start.TheVariants.{Fresh, Closing}
 use Rattle.unwrapped_lines.specs.declared.open.Head.{Head}
 use Rattle.unwrapped_lines.specs.declared.form.Form.{Form}
+use Rattle.unwrapped_lines.specs.declared.form.Next.{Next}
 use Rattle.unwrapped_lines.specs.declared.form.Next.TheVariants.{Ends, Goes, Waits, Opens}
 use Rattle.token_classes.specs.Classes.{is_else}
 use Rattle.unwrapped_lines.specs.Forms.{IsLow, StaysIn, form_of, seen, tail_end, is_if_head, is_do_head}
 use Rattle.unwrapped_lines.specs.Tree.{end_level_from, end_level, level_of_list, settled, Reading, body_of, whole_file}
-use Rattle.unwrapped_lines.specs.Stack.{OpenToEnd, LeadsToEnd}
+use Rattle.unwrapped_lines.specs.Stack.{OpenToEnd, LeadsToEnd, GoesBehind}
 use Rattle.unwrapped_lines.proofs.Lists.{reverse_snoc}
 use Rattle.unwrapped_lines.proofs.StackLemmas.{choice_keeps, settled_low, lt_true}
 use Rattle.unwrapped_lines.proofs.TurnLemmas.{stays_at, low_up}
@@ -94,48 +95,48 @@ move_stack braces tokens os os' start at e h = let P : List Open → Type 0 = λ
 move_reading : (braces : Braces) (tokens : List CodeToken) (r r' : Reading) (at : ℕ) → r ≡ r' → LeadsToEnd braces tokens r.opens r.start at → LeadsToEnd braces tokens r'.opens r'.start at
 move_reading braces tokens r r' at e h = let P : Reading → Type 0 = λ x. LeadsToEnd braces tokens x.opens x.start at in subst P e h
 
-pub ends_skip : (braces : Braces) (tokens : List CodeToken) (o : Open) (stack0 stack1 stack2 : List Open) (start s2 : Start) (at : ℕ) (f : Form)
-    → LeadsToEnd braces tokens (o ∷ reverse stack0) start at → at < o.end → form_of braces tokens o start at ≡ f → f.next ≡ Ends → StaysIn at o f f.next
-    → stack1 ≡ stack0 ++ o ∷ [] → settled tokens f.end (reverse stack1) ≡ record { opens = reverse stack2; start = s2 }
-    → LeadsToEnd braces tokens (reverse stack2) s2 f.end
-ends_skip braces tokens o stack0 stack1 stack2 start s2 at f s lt e q stay es r =
+moved_on : (braces : Braces) (tokens : List CodeToken) (os os' : List Open) (s s' : Start) (at at' : ℕ) → os' ≡ os → s' ≡ s → at' ≡ at
+    → LeadsToEnd braces tokens os s at → LeadsToEnd braces tokens os' s' at'
+moved_on braces tokens os os' s s' at at' es e ea h =
+    let P : ℕ → Type 0 = λ x. LeadsToEnd braces tokens os' s' x in
+    let Q : Start → Type 0 = λ x. LeadsToEnd braces tokens os' x at in
+    subst P (sym ea) (subst Q (sym e) (move_stack braces tokens os os' s at (sym es) h))
+
+-- a line behind which no block stands
+pub skipped : (braces : Braces) (tokens : List CodeToken) (o : Open) (stack0 stack1 stack2 : List Open) (start s2 : Start) (at to : ℕ) (f : Form) (n : Next)
+    → LeadsToEnd braces tokens (o ∷ reverse stack0) start at → at < o.end → form_of braces tokens o start at ≡ f → f.next ≡ n → StaysIn at o f f.next → f.level ≤ 2 * at
+    → ((w : Bool) (b : Open) → f.next ≡ Opens w b → ⊥)
+    → stack1 ≡ stack0 ++ o ∷ [] → GoesBehind tokens o f (reverse stack1) (reverse stack2) s2 to n
+    → LeadsToEnd braces tokens (reverse stack2) s2 to
+skipped braces tokens o stack0 stack1 stack2 start s2 at to f Ends s lt e q stay level other es w =
     let h = stays_at at o f Ends q stay in
     let up : at < f.end = h.0 in
     let end : o.end ≡ length tokens = s.open_lists.0 in
     let os : List Open = o ∷ reverse stack0 in
-    let t = leads s.fuel at f.end braces tokens os (settled tokens f.end os).opens start (settled tokens f.end os).start s.enough s.same up (omega arith)
+    let t = leads s.fuel at f.end braces tokens os (settled tokens f.end os).opens start (settled tokens f.end os).start s.enough s.same up (omega (arith, lt, end))
     (λ n. end_ends n braces tokens (reverse stack0) o start at f (lt_true at o.end lt) e q)
-    (settled_open tokens f.end (length tokens) f.end os (open_later (length tokens) at f.end os (omega arith) s.open_lists)) (settled_low tokens f.end f.end os) in
-    move_reading braces tokens (settled tokens f.end os) (record { opens = reverse stack2; start = s2 }) f.end (rw (reverse_snoc stack0 stack1 o es) at r) t
-
-pub goes_skip : (braces : Braces) (tokens : List CodeToken) (o : Open) (stack0 stack1 : List Open) (start g : Start) (at : ℕ) (f : Form)
-    → LeadsToEnd braces tokens (o ∷ reverse stack0) start at → at < o.end → form_of braces tokens o start at ≡ f → f.next ≡ Goes g → StaysIn at o f f.next
-    → stack1 ≡ stack0 ++ o ∷ [] → LeadsToEnd braces tokens (reverse stack1) g f.end
-goes_skip braces tokens o stack0 stack1 start g at f s lt e q stay es =
+    (settled_open tokens f.end (length tokens) f.end os (open_later (length tokens) at f.end os (omega (arith, up)) s.open_lists)) (settled_low tokens f.end f.end os) in
+    let k = move_reading braces tokens (settled tokens f.end os) (record { opens = reverse stack2; start = s2 }) f.end (rw (reverse_snoc stack0 stack1 o es) at w.0) t in
+    moved_on braces tokens (reverse stack2) (reverse stack2) s2 s2 f.end to refl refl w.1 k
+skipped braces tokens o stack0 stack1 stack2 start s2 at to f (Goes g) s lt e q stay level other es w =
     let h = stays_at at o f (Goes g) q stay in
     let up : at < f.end = h.0 in
     let end : o.end ≡ length tokens = s.open_lists.0 in
     let os : List Open = o ∷ reverse stack0 in
-    move_stack braces tokens os (reverse stack1) g f.end (sym (reverse_snoc stack0 stack1 o es))
-    (leads s.fuel at f.end braces tokens os os start g s.enough s.same up (omega arith)
+    moved_on braces tokens os (reverse stack2) g s2 f.end to (w.0 ∙ reverse_snoc stack0 stack1 o es) w.1.0 w.1.1
+    (leads s.fuel at f.end braces tokens os os start g s.enough s.same up (omega (arith, lt, end))
     (λ n. end_goes n braces tokens (reverse stack0) o start at f g (lt_true at o.end lt) e q)
-    (open_later (length tokens) at f.end os (omega arith) s.open_lists) (low_up at f.end g (omega arith) h.1.1))
-
-pub waits_skip : (braces : Braces) (tokens : List CodeToken) (o b : Open) (stack0 stack1 stack2 : List Open) (start : Start) (at : ℕ) (f : Form) (k : Head)
-    → LeadsToEnd braces tokens (o ∷ reverse stack0) start at → at < o.end → form_of braces tokens o start at ≡ f → f.next ≡ Waits k → StaysIn at o f f.next → f.level ≤ 2 * at
-    → stack1 ≡ stack0 ++ o ∷ [] → b ≡ body_of o k f.level → stack2 ≡ stack1 ++ b ∷ []
-    → LeadsToEnd braces tokens (reverse stack2) Fresh f.end
-waits_skip braces tokens o b stack0 stack1 stack2 start at f k s lt e q stay level es eb es2 =
+    (open_later (length tokens) at f.end os (omega (arith, up)) s.open_lists) (low_up at f.end g (omega (arith, up)) h.1.1))
+skipped braces tokens o stack0 stack1 stack2 start s2 at to f (Waits k) s lt e q stay level other es w =
     let h = stays_at at o f (Waits k) q stay in
     let up : at < f.end = h.0 in
     let end : o.end ≡ length tokens = s.open_lists.0 in
     let os : List Open = o ∷ reverse stack0 in
-    let r2 : reverse stack2 ≡ b ∷ reverse stack1 = reverse_snoc stack1 stack2 b es2 in
-    let r1 : reverse stack1 ≡ o ∷ reverse stack0 = reverse_snoc stack0 stack1 o es in
-    move_stack braces tokens (body_of o k f.level ∷ os) (reverse stack2) Fresh f.end (cc)
-    (leads s.fuel at f.end braces tokens os (body_of o k f.level ∷ os) start Fresh s.enough s.same up (omega arith)
+    moved_on braces tokens (body_of o k f.level ∷ os) (reverse stack2) Fresh s2 f.end to (w.0 ∙ ap (λ os. body_of o k f.level ∷ os) (reverse_snoc stack0 stack1 o es)) w.1.0 w.1.1
+    (leads s.fuel at f.end braces tokens os (body_of o k f.level ∷ os) start Fresh s.enough s.same up (omega (arith, lt, end))
     (λ n. end_waits n braces tokens (reverse stack0) o start at f k (lt_true at o.end lt) e q)
-    (end, ((omega arith), ((omega arith), open_later (length tokens) at f.end os (omega arith) s.open_lists))) tt)
+    (end, ((omega (arith, level, up)), ((omega (arith, level, up)), open_later (length tokens) at f.end os (omega (arith, up)) s.open_lists))) tt)
+skipped braces tokens o stack0 stack1 stack2 start s2 at to f (Opens wrapped b) s lt e q stay level other es w = absurd (other wrapped b q)
 
 pub past_skip : (braces : Braces) (tokens : List CodeToken) (o b : Open) (stack0 stack1 : List Open) (start : Start) (at : ℕ) (f : Form) (w : Bool)
     → LeadsToEnd braces tokens (o ∷ reverse stack0) start at → at < o.end → form_of braces tokens o start at ≡ f → f.next ≡ Opens w b → StaysIn at o f f.next → f.level ≤ 2 * at
@@ -175,9 +176,27 @@ pub leads_from_start : (braces : Braces) (tokens : List CodeToken) → LeadsToEn
 leads_from_start braces tokens =
     record { fuel = length tokens + 1; enough = (omega arith); same = refl; open_lists = (refl, ((omega arith), ((omega arith), tt))); low = tt }
 
+pub leads_from_file : (braces : Braces) (tokens : List CodeToken) (stack0 stack1 : List Open) (o : Open)
+    → stack0 ≡ [] → o ≡ whole_file tokens → stack1 ≡ stack0 ++ o ∷ [] → LeadsToEnd braces tokens (reverse stack1) Fresh 0
+leads_from_file braces tokens stack0 stack1 o empty whole pushed =
+    let one : whole_file tokens ∷ [] ≡ reverse stack1 = cc in
+    move_stack braces tokens (whole_file tokens ∷ []) (reverse stack1) Fresh 0 one (leads_from_start braces tokens)
+
+-- ## The innermost list
+
+pub leads_within : (braces : Braces) (tokens : List CodeToken) (stack0 stack1 : List Open) (o : Open) (start : Start) (at : ℕ)
+    → stack1 ≡ stack0 ++ o ∷ [] → LeadsToEnd braces tokens (reverse stack1) start at → LeadsToEnd braces tokens (o ∷ reverse stack0) start at
+leads_within braces tokens stack0 stack1 o start at e h = move_stack braces tokens (reverse stack1) (o ∷ reverse stack0) start at (reverse_snoc stack0 stack1 o e) h
+
+pub whole_within : (braces : Braces) (tokens : List CodeToken) (os : List Open) (o : Open) (start : Start) (at : ℕ) → LeadsToEnd braces tokens (o ∷ os) start at → o.end ≤ length tokens
+whole_within braces tokens os o start at s = let e : o.end ≡ length tokens = s.open_lists.0 in omega (arith, e)
+
 -- the list that is open where the view ends
 pub end_found : (braces : Braces) (tokens : List CodeToken) (stack0 stack1 : List Open) (o : Open) (start : Start) (at : ℕ)
     → stack1 ≡ stack0 ++ o ∷ [] → LeadsToEnd braces tokens (reverse stack1) start at → o.end ≤ at → level_of_list (o ∷ reverse stack0) ≡ end_level braces tokens
 end_found braces tokens stack0 stack1 o start at e h within =
     let s = move_stack braces tokens (reverse stack1) (o ∷ reverse stack0) start at (reverse_snoc stack0 stack1 o e) h in
     sym (end_here s.fuel braces tokens (reverse stack0) o start at (let q = s.enough in omega arith) within) ∙ s.same
+
+pub nearer : (whole end at to : ℕ) → at < end → end ≤ whole → at < to → whole - to < whole - at
+nearer whole end at to here within up = omega (arith, here, within, up)

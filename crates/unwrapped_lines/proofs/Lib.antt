@@ -1,4 +1,5 @@
 pub mod Lists
+pub mod Known
 pub mod Examples
 pub mod ScanLemmas
 pub mod StackLemmas

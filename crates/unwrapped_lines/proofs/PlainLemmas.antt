@@ -8,6 +8,7 @@ use Rattle.token_classes.specs.declared.class.TokenClass.{TokenClass}
 use Rattle.token_classes.specs.Classes.{is_comment}
 use Rattle.token_classes.specs.Viewed.{classes_of, item_class}
 use Rattle.unwrapped_lines.specs.declared.line.Line.{Line}
+use Rattle.unwrapped_lines.specs.declared.braces.Braces.{Braces}
 use Rattle.unwrapped_lines.specs.declared.token.CodeToken.{CodeToken}
 use Rattle.unwrapped_lines.specs.declared.part.Begin.{Begin}
 use Rattle.token_classes.specs.declared.part.Part.{Part}
@@ -15,9 +16,11 @@ use Rattle.token_classes.specs.declared.part.Part.TheVariants.{Token}
 use Rattle.unwrapped_lines.specs.declared.part.Marks.{Marks}
 use Rattle.unwrapped_lines.specs.declared.part.Run.TheVariants.{Apart}
 use Rattle.unwrapped_lines.specs.Comments.{Tree, begins_from, no_marks, is_between, between_at, new_begin}
-use Rattle.unwrapped_lines.specs.Viewed.{code_places_from, code_tokens, token_at, parts_from}
+use Rattle.unwrapped_lines.specs.declared.part.ViewComment.{ViewComment}
+use Rattle.unwrapped_lines.specs.Inside.{lines_with, parts_with, tree_with}
+use Rattle.unwrapped_lines.specs.Viewed.{code_places_from, code_tokens, token_at, parts_from, parts_of}
 use Rattle.unwrapped_lines.specs.Stack.{IsCut}
-use Rattle.unwrapped_lines.specs.Tree.{lines_of}
+use Rattle.unwrapped_lines.specs.Tree.{end_level, lines_of}
 use Rattle.unwrapped_lines.specs.Wrapping.{braces_of}
 use Rattle.unwrapped_lines.specs.Lines.{lines_between, unwrapped_lines_of, tree_of, view_line}
 use Rattle.unwrapped_lines.proofs.CutLemmas.{places_count}
@@ -130,29 +133,58 @@ view_lines e count (l ∷ next ∷ ls) cut =
     ∙ ap (λ ls. view_line l ∷ ls) (view_lines l.end count (next ∷ ls) cut.1.1)
 
 -- where a view has as many tokens as places, its lines are those of its tokens
-pub plain_lines : (style : Style) (arena : Contents) (ids : List ℕ) (partners : List (Option ℕ))
-    → (tree_of style arena ids partners).total ≡ length ids
-    → IsCut 0 (tree_of style arena ids partners).total (tree_of style arena ids partners).lines
-    → unwrapped_lines_of style arena ids partners ≡ map view_line (tree_of style arena ids partners).lines
-plain_lines style arena ids partners all cut =
-    let t = tree_of style arena ids partners in
-    let classes = classes_of arena ids in
-    let count : length classes ≡ length ids = length-map ids (item_class arena) in
-    let many : t.total ≡ length (code_places_from 0 classes) = length-map (code_places_from 0 classes) (token_at arena ids classes partners) in
-    let code : AreCode classes = all_code 0 classes (sym many ∙ all ∙ sym count) in
+pub plain_lines : (braces : Braces) (arena : Contents) (ids : List ℕ) (classes : List TokenClass) (ts : List CodeToken) (lines : List Line)
+    → length ts ≡ length (code_places_from 0 classes) → lines ≡ lines_of braces ts → IsCut 0 (length ts) lines → length ts ≡ length classes
+    → map view_line lines ≡ lines_with braces arena ids classes ts
+plain_lines braces arena ids classes ts lines many by_line cut all =
+    let t = tree_with braces ts in
+    let code : AreCode classes = all_code 0 classes (sym many ∙ all) in
     let P : ℕ → Type 0 = λ x. IsCut 0 x t.lines in
-    ap (λ ps. lines_between (length ids) (begins_from t ps 0 no_marks)) (code_parts arena ids 0 false classes code)
-    ∙ ap (lines_between (length ids)) (token_begins (length classes) t t.lines 0 0 0 (λ i. let e : 0 + i ≡ i = omega arith in ap (slice_get t.lines) e) cut (omega arith) (omega (arith, count, all)))
-    ∙ view_lines 0 (length ids) t.lines (subst P all cut)
+    let Q : List Line → Type 0 = λ x. IsCut 0 (length ts) x in
+    let cut_tree : IsCut 0 (length ts) t.lines = subst Q by_line cut in
+    ap (map view_line) by_line
+    ∙ sym (ap (λ ps. lines_between (length classes) (begins_from t ps 0 no_marks)) (code_parts arena ids 0 false classes code)
+    ∙ ap (lines_between (length classes)) (token_begins (length classes) t t.lines 0 0 0 (λ i. let e : 0 + i ≡ i = omega arith in ap (slice_get t.lines) e) cut_tree (omega arith) (omega (arith, all)))
+    ∙ view_lines 0 (length classes) t.lines (subst P all cut_tree))
 
--- the same, of tokens and lines that are known by their equations
-pub plain_view : (style : Style) (arena : Contents) (ids : List ℕ) (partners : List (Option ℕ)) (classes : List TokenClass) (ts : List CodeToken) (lines : List Line)
-    → classes ≡ classes_of arena ids → ts ≡ code_tokens arena ids classes partners → lines ≡ lines_of (braces_of style) ts
-    → IsCut 0 (length ts) lines → length ts ≡ length ids → map view_line lines ≡ unwrapped_lines_of style arena ids partners
-plain_view style arena ids partners classes ts lines by_class by_token by_line cut all =
-    let same : ts ≡ code_tokens arena ids (classes_of arena ids) partners = by_token ∙ ap (λ cs. code_tokens arena ids cs partners) by_class in
-    let t = tree_of style arena ids partners in
-    let found : lines ≡ t.lines = by_line ∙ ap (lines_of (braces_of style)) same in
-    let P : List CodeToken → Type 0 = λ x. IsCut 0 (length x) lines in
-    let Q : List Line → Type 0 = λ x. IsCut 0 t.total x in
-    ap (map view_line) found ∙ sym (plain_lines style arena ids partners (sym (ap length same) ∙ all) (subst Q found (subst P same cut)))
+-- the tokens that were read are the view's
+
+same_tokens : (arena : Contents) (ids : List ℕ) (partners : List (Option ℕ)) (classes : List TokenClass) (ts : List CodeToken)
+    → classes ≡ classes_of arena ids → ts ≡ code_tokens arena ids classes partners → ts ≡ code_tokens arena ids (classes_of arena ids) partners
+same_tokens arena ids partners classes ts by_class by_token = by_token ∙ ap (λ cs. code_tokens arena ids cs partners) by_class
+
+pub lines_read : (style : Style) (arena : Contents) (ids : List ℕ) (partners : List (Option ℕ)) (classes : List TokenClass) (ts : List CodeToken) (braces : Braces)
+    → classes ≡ classes_of arena ids → ts ≡ code_tokens arena ids classes partners → braces ≡ braces_of style
+    → lines_with braces arena ids classes ts ≡ unwrapped_lines_of style arena ids partners
+lines_read style arena ids partners classes ts braces by_class by_token by_style =
+    let own = classes_of arena ids in
+    ap (λ b. lines_with b arena ids classes ts) by_style
+    ∙ ap (λ x. lines_with (braces_of style) arena ids classes x) (same_tokens arena ids partners classes ts by_class by_token)
+    ∙ ap (λ cs. lines_with (braces_of style) arena ids cs (code_tokens arena ids own partners)) by_class
+    ∙ ap (λ n. lines_between n (begins_from (tree_of style arena ids partners) (parts_of arena ids own) 0 no_marks)) (length-map ids (item_class arena))
+
+pub cut_read : (style : Style) (arena : Contents) (ids : List ℕ) (partners : List (Option ℕ)) (classes : List TokenClass) (ts : List CodeToken) (braces : Braces)
+    → classes ≡ classes_of arena ids → ts ≡ code_tokens arena ids classes partners → braces ≡ braces_of style
+    → IsCut 0 (length ts) (lines_of braces ts) → IsCut 0 (tree_of style arena ids partners).total (tree_of style arena ids partners).lines
+cut_read style arena ids partners classes ts braces by_class by_token by_style cut =
+    let P : List CodeToken → Type 0 = λ x. IsCut 0 (length x) (lines_of (braces_of style) x) in
+    let Q : Braces → Type 0 = λ b. IsCut 0 (length ts) (lines_of b ts) in
+    subst P (same_tokens arena ids partners classes ts by_class by_token) (subst Q by_style cut)
+
+pub tokens_read : (arena : Contents) (ids : List ℕ) (partners : List (Option ℕ)) (classes : List TokenClass) (ts : List CodeToken)
+    → ts ≡ code_tokens arena ids classes partners → length ts ≡ length (code_places_from 0 classes)
+tokens_read arena ids partners classes ts by_token = ap length by_token ∙ length-map (code_places_from 0 classes) (token_at arena ids classes partners)
+
+-- with its comments
+pub lines_behind : (braces : Braces) (arena : Contents) (ids : List ℕ) (classes : List TokenClass) (ts : List CodeToken) (lines : List Line) (comments : List ViewComment) (total level : ℕ)
+    → lines ≡ lines_of braces ts → total ≡ length ts → parts_with (length classes) 0 comments ≡ parts_of arena ids classes
+    → ((ls : List Line) → begins_from (record { lines = ls; total = length ts; end_level = level }) (parts_of arena ids classes) 0 no_marks
+    ≡ begins_from (record { lines = ls; total = length ts; end_level = end_level braces ts }) (parts_of arena ids classes) 0 no_marks)
+    → lines_between (length classes) (begins_from (record { lines = lines; total = total; end_level = level }) (parts_with (length classes) 0 comments) 0 no_marks)
+    ≡ lines_with braces arena ids classes ts
+lines_behind braces arena ids classes ts lines comments total level by_line by_total by_part by_level =
+    let parts = parts_of arena ids classes in
+    ap (λ (ps : List Part). lines_between (length classes) (begins_from (record { lines = lines; total = total; end_level = level }) ps 0 no_marks)) by_part
+    ∙ ap (λ (n : ℕ). lines_between (length classes) (begins_from (record { lines = lines; total = n; end_level = level }) parts 0 no_marks)) by_total
+    ∙ ap (lines_between (length classes)) (by_level lines)
+    ∙ ap (λ (ls : List Line). lines_between (length classes) (begins_from (record { lines = ls; total = length ts; end_level = end_level braces ts }) parts 0 no_marks)) by_line

@@ -1,5 +1,5 @@
 -- What the code's writes leave.
-use Rattle.std.proofs.Common.{◌≡◌, ℕ, ◌+◌, ◌*◌, ◌<◌, ◌≤◌, Bool, true, false, List, [], ◌∷◌, ◌++◌, length, length-append, reverse, Some, None, Result, Ok, Err, IfOk, ◌-◌, refl, arith, sym, ◌∙◌, ap, subst}
+use Rattle.std.proofs.Common.{◌≡◌, ℕ, ◌+◌, ◌*◌, ◌^◌, ◌<◌, ◌≤◌, Bool, true, false, List, [], ◌∷◌, ◌++◌, length, length-append, reverse, Some, None, Result, Ok, Err, IfOk, ◌-◌, refl, arith, sym, ◌∙◌, ap, subst}
 use Rattle.unwrapped_lines.specs.declared.token.CodeToken.{CodeToken}
 use Rattle.unwrapped_lines.specs.declared.line.Line.{Line}
 use Rattle.unwrapped_lines.specs.declared.braces.Braces.{Braces}
@@ -8,13 +8,12 @@ use Rattle.unwrapped_lines.specs.declared.open.Start.{Start}
 use Rattle.unwrapped_lines.specs.declared.open.Start.TheVariants.{Fresh, Tail, Closing}
 use Rattle.unwrapped_lines.specs.declared.form.Form.{Form}
 use Rattle.line_tokens.specs.declared.line.LineKind.TheVariants.{Simple}
-use Rattle.unwrapped_lines.specs.declared.open.Head.{Head}
 use Rattle.unwrapped_lines.specs.declared.tree.Place.{Place}
 use Rattle.unwrapped_lines.specs.declared.form.Next.{Next}
 use Rattle.unwrapped_lines.specs.declared.form.Next.TheVariants.{Ends, Goes, Waits, Opens}
 use Rattle.unwrapped_lines.specs.Forms.{IsLow, StaysIn, form_of}
 use Rattle.unwrapped_lines.specs.Tree.{settled, Reading, line_of, head_lines, body_of, whole_file}
-use Rattle.unwrapped_lines.specs.Stack.{left, Stands, LeavesOpen}
+use Rattle.unwrapped_lines.specs.Stack.{left, form_lines, GoesBehind, Stands, LeavesOpen}
 use Rattle.unwrapped_lines.proofs.Lists.{reverse_snoc}
 use Rattle.unwrapped_lines.proofs.StackLemmas.{begins, stands_ends, stands_goes, stands_waits, stands_opens, stands_leaves, leaves, left_some, fits_within}
 
@@ -35,30 +34,10 @@ stays_at at o f n e h = let P : Next → Type 0 = λ x. StaysIn at o f x in subs
 pushed_line : (out0 out1 : List Line) (x y : Line) → x ≡ y → out1 ≡ out0 ++ x ∷ [] → out0 ++ y ∷ [] ≡ out1
 pushed_line out0 out1 x y e q = cc
 
-pub ends_turn : (braces : Braces) (tokens : List CodeToken) (out0 out1 : List Line) (line : Line) (o : Open) (stack0 stack1 stack2 : List Open) (start s2 : Start) (at : ℕ) (f : Form)
-    → Stands braces tokens out0 (o ∷ reverse stack0) start at → at < o.end → form_of braces tokens o start at ≡ f → f.next ≡ Ends → StaysIn at o f f.next
-    → line ≡ line_of o start at f → out1 ≡ out0 ++ line ∷ [] → stack1 ≡ stack0 ++ o ∷ []
-    → settled tokens f.end (reverse stack1) ≡ record { opens = reverse stack2; start = s2 }
-    → Stands braces tokens out1 (reverse stack2) s2 f.end
-ends_turn braces tokens out0 out1 line o stack0 stack1 stack2 start s2 at f s lt e q stay l eo es r =
-    let h = stays_at at o f Ends q stay in
-    let t = stands_ends braces tokens out0 o (reverse stack0) start at f s lt e q h.0 h.1 in
-    let k = put_reading braces tokens (out0 ++ line_of o start at f ∷ []) (settled tokens f.end (o ∷ reverse stack0)) (record { opens = reverse stack2; start = s2 }) f.end (rw (reverse_snoc stack0 stack1 o es) at r) t in
-    put braces tokens _ out1 _ (reverse stack2) s2 f.end (pushed_line out0 out1 line (line_of o start at f) l eo) refl k
-
 pub low_up : (at to : ℕ) (g : Start) → at ≤ to → IsLow at g → IsLow to g
 low_up at to Fresh h k = tt
 low_up at to Tail h k = tt
 low_up at to (Closing b) h k = omega arith
-
-pub goes_turn : (braces : Braces) (tokens : List CodeToken) (out0 out1 : List Line) (line : Line) (o : Open) (stack0 stack1 : List Open) (start g : Start) (at : ℕ) (f : Form)
-    → Stands braces tokens out0 (o ∷ reverse stack0) start at → at < o.end → form_of braces tokens o start at ≡ f → f.next ≡ Goes g → StaysIn at o f f.next
-    → line ≡ line_of o start at f → out1 ≡ out0 ++ line ∷ [] → stack1 ≡ stack0 ++ o ∷ []
-    → Stands braces tokens out1 (reverse stack1) g f.end
-goes_turn braces tokens out0 out1 line o stack0 stack1 start g at f s lt e q stay l eo es =
-    let h = stays_at at o f (Goes g) q stay in
-    let t = stands_goes braces tokens out0 o (reverse stack0) start at f g s lt e q h.0 h.1.0 (low_up at f.end g (let z : at < f.end = h.0 in omega arith) h.1.1) in
-    put braces tokens _ out1 _ (reverse stack1) g f.end (pushed_line out0 out1 line (line_of o start at f) l eo) (sym (reverse_snoc stack0 stack1 o es)) t
 
 settled_block : (x : Bool) (tokens : List CodeToken) (at : ℕ) (o : Open) (os : List Open) → x ≡ true
     → settled tokens at (record o { block = x } ∷ os) ≡ record { opens = record o { block = x } ∷ os; start = Fresh }
@@ -107,26 +86,68 @@ stays_up at o f (Goes g) s2 q stay leaves = (stays_at at o f (Goes g) q stay).0
 stays_up at o f (Waits h) s2 q stay leaves = absurd leaves
 stays_up at o f (Opens w b) s2 q stay leaves = absurd leaves
 
-pub waits_turn : (braces : Braces) (tokens : List CodeToken) (out0 out1 : List Line) (line : Line) (o b : Open) (stack0 stack1 stack2 : List Open) (start : Start) (at : ℕ) (f : Form) (h : Head)
-    → Stands braces tokens out0 (o ∷ reverse stack0) start at → at < o.end → form_of braces tokens o start at ≡ f → f.next ≡ Waits h → StaysIn at o f f.next → f.level ≤ 2 * at
-    → line ≡ line_of o start at f → out1 ≡ out0 ++ line ∷ [] → stack1 ≡ stack0 ++ o ∷ [] → b ≡ body_of o h f.level → stack2 ≡ stack1 ++ b ∷ []
-    → Stands braces tokens out1 (reverse stack2) Fresh f.end
-waits_turn braces tokens out0 out1 line o b stack0 stack1 stack2 start at f h s lt e q stay level l eo es eb es2 =
-    let k = stays_at at o f (Waits h) q stay in
-    let t = stands_waits braces tokens out0 o (reverse stack0) start at f h s lt e q k.0 k.1 level in
-    let r2 : reverse stack2 ≡ b ∷ reverse stack1 = reverse_snoc stack1 stack2 b es2 in
-    let r1 : reverse stack1 ≡ o ∷ reverse stack0 = reverse_snoc stack0 stack1 o es in
-    put braces tokens _ out1 _ (reverse stack2) Fresh f.end (pushed_line out0 out1 line (line_of o start at f) l eo) (cc) t
+-- ## Any line
 
-pub opens_turn : (braces : Braces) (tokens : List CodeToken) (out0 out1 : List Line) (o b : Open) (stack0 stack1 stack2 : List Open) (start : Start) (at : ℕ) (f : Form) (w : Bool)
-    → Stands braces tokens out0 (o ∷ reverse stack0) start at → at < o.end → form_of braces tokens o start at ≡ f → f.next ≡ Opens w b → StaysIn at o f f.next → f.level ≤ 2 * at
-    → out1 ≡ out0 ++ head_lines o start at f w → stack1 ≡ stack0 ++ o ∷ [] → stack2 ≡ stack1 ++ b ∷ []
-    → Stands braces tokens out1 (reverse stack2) Fresh (f.end + 1)
-opens_turn braces tokens out0 out1 o b stack0 stack1 stack2 start at f w s lt e q stay level eo es es2 =
-    let t = stands_opens braces tokens out0 o (reverse stack0) start at f w b s lt e q (stays_at at o f (Opens w b) q stay) level in
-    let r2 : reverse stack2 ≡ b ∷ reverse stack1 = reverse_snoc stack1 stack2 b es2 in
-    let r1 : reverse stack1 ≡ o ∷ reverse stack0 = reverse_snoc stack0 stack1 o es in
-    put braces tokens _ out1 _ (reverse stack2) Fresh (f.end + 1) (sym eo) (cc) t
+moved_on : (braces : Braces) (tokens : List CodeToken) (out out' : List Line) (os os' : List Open) (s s' : Start) (at at' : ℕ)
+    → out' ≡ out → os' ≡ os → s' ≡ s → at' ≡ at → Stands braces tokens out os s at → Stands braces tokens out' os' s' at'
+moved_on braces tokens out out' os os' s s' at at' eo es e ea h =
+    let P : ℕ → Type 0 = λ x. Stands braces tokens out' os' s' x in
+    let Q : Start → Type 0 = λ x. Stands braces tokens out' os' x at in
+    subst P (sym ea) (subst Q (sym e) (put braces tokens out out' os os' s at (sym eo) (sym es) h))
+
+pub taken : (braces : Braces) (tokens : List CodeToken) (out0 out1 : List Line) (o : Open) (stack0 stack1 stack2 : List Open) (start s2 : Start) (at to : ℕ) (f : Form) (n : Next)
+    → Stands braces tokens out0 (o ∷ reverse stack0) start at → at < o.end → form_of braces tokens o start at ≡ f → f.next ≡ n → StaysIn at o f f.next → f.level ≤ 2 * at
+    → out1 ≡ out0 ++ form_lines o start at f n → stack1 ≡ stack0 ++ o ∷ [] → GoesBehind tokens o f (reverse stack1) (reverse stack2) s2 to n
+    → Stands braces tokens out1 (reverse stack2) s2 to
+taken braces tokens out0 out1 o stack0 stack1 stack2 start s2 at to f Ends s lt e q stay level eo es w =
+    let h = stays_at at o f Ends q stay in
+    let t = stands_ends braces tokens out0 o (reverse stack0) start at f s lt e q h.0 h.1 in
+    let r : Reading = record { opens = reverse stack2; start = s2 } in
+    let k = put_reading braces tokens (out0 ++ line_of o start at f ∷ []) (settled tokens f.end (o ∷ reverse stack0)) r f.end (rw (reverse_snoc stack0 stack1 o es) at w.0) t in
+    moved_on braces tokens (out0 ++ line_of o start at f ∷ []) out1 (reverse stack2) (reverse stack2) s2 s2 f.end to eo refl refl w.1 k
+taken braces tokens out0 out1 o stack0 stack1 stack2 start s2 at to f (Goes g) s lt e q stay level eo es w =
+    let h = stays_at at o f (Goes g) q stay in
+    let t = stands_goes braces tokens out0 o (reverse stack0) start at f g s lt e q h.0 h.1.0 (low_up at f.end g (let z : at < f.end = h.0 in omega arith) h.1.1) in
+    moved_on braces tokens (out0 ++ line_of o start at f ∷ []) out1 (o ∷ reverse stack0) (reverse stack2) g s2 f.end to eo (w.0 ∙ reverse_snoc stack0 stack1 o es) w.1.0 w.1.1 t
+taken braces tokens out0 out1 o stack0 stack1 stack2 start s2 at to f (Waits k) s lt e q stay level eo es w =
+    let h = stays_at at o f (Waits k) q stay in
+    let t = stands_waits braces tokens out0 o (reverse stack0) start at f k s lt e q h.0 h.1 level in
+    moved_on braces tokens (out0 ++ line_of o start at f ∷ []) out1 (body_of o k f.level ∷ o ∷ reverse stack0) (reverse stack2) Fresh s2 f.end to eo
+    (w.0 ∙ ap (λ os. body_of o k f.level ∷ os) (reverse_snoc stack0 stack1 o es)) w.1.0 w.1.1 t
+taken braces tokens out0 out1 o stack0 stack1 stack2 start s2 at to f (Opens wrapped b) s lt e q stay level eo es w =
+    let t = stands_opens braces tokens out0 o (reverse stack0) start at f wrapped b s lt e q (stays_at at o f (Opens wrapped b) q stay) level in
+    moved_on braces tokens (out0 ++ head_lines o start at f wrapped) out1 (b ∷ o ∷ reverse stack0) (reverse stack2) Fresh s2 (f.end + 1) to eo
+    (w.0 ∙ ap (λ os. b ∷ os) (reverse_snoc stack0 stack1 o es)) w.1.0 w.1.1 t
+
+-- it ends behind its first place
+pub taken_up : (tokens : List CodeToken) (o : Open) (f : Form) (os opens : List Open) (s : Start) (at to : ℕ) (n : Next)
+    → f.next ≡ n → StaysIn at o f f.next → GoesBehind tokens o f os opens s to n → at < to
+taken_up tokens o f os opens s at to Ends q stay w =
+    let up : at < f.end = (stays_at at o f Ends q stay).0 in let e : to ≡ f.end = w.1 in omega (arith, up, e)
+taken_up tokens o f os opens s at to (Goes g) q stay w =
+    let up : at < f.end = (stays_at at o f (Goes g) q stay).0 in let e : to ≡ f.end = w.1.1 in omega (arith, up, e)
+taken_up tokens o f os opens s at to (Waits h) q stay w =
+    let up : at < f.end = (stays_at at o f (Waits h) q stay).0 in let e : to ≡ f.end = w.1.1 in omega (arith, up, e)
+taken_up tokens o f os opens s at to (Opens wrapped b) q stay w =
+    let begins : at ≤ f.end = (stays_at at o f (Opens wrapped b) q stay).begins in let e : to ≡ f.end + 1 = w.1.1 in omega (arith, begins, e)
+
+pub one_more : {A : Type 0} (new : ℕ) (xs ys : List A) (x : A) → ys ≡ xs ++ x ∷ [] → new ≤ length ys + 1 → new ≤ length xs + 2
+one_more new xs ys x e h =
+    let more : length ys ≡ length xs + 1 = ap length e ∙ length-append xs (x ∷ []) in
+    omega (arith, more, h)
+
+-- how far a line goes
+pub line_small : (at end whole : ℕ) → at < end → end ≤ whole → whole < 2 ^ 30 → at < 2 ^ 32
+line_small at end whole lt within few = omega (arith, lt, within, few)
+
+pub end_small : (stop end whole : ℕ) → stop ≤ end → end ≤ whole → whole < 2 ^ 30 → stop + 1 < 2 ^ 32
+end_small stop end whole low within few = omega (arith, low, within, few)
+
+pub place_small : (stop end whole : ℕ) → stop ≤ end → end ≤ whole → whole < 2 ^ 30 → stop < 2 ^ 33
+place_small stop end whole low within few = omega (arith, low, within, few)
+
+pub level_small : (level at end whole : ℕ) → level ≤ 2 * at → at < end → end ≤ whole → whole < 2 ^ 30 → level < 2 ^ 31
+level_small level at end whole low lt within few = omega (arith, low, lt, within, few)
 
 -- where a line ends that takes part in no block, and where a head's brace stands
 pub ends_low : (at : ℕ) (o : Open) (f : Form) (n : Next) → f.next ≡ n → StaysIn at o f f.next → f.end ≤ o.end
@@ -192,3 +213,14 @@ pub at_start : (braces : Braces) (tokens : List CodeToken) (out : List Line) (st
 at_start braces tokens out stack0 stack1 o none empty whole pushed =
     let one : whole_file tokens ∷ [] ≡ reverse stack1 = cc in
     put braces tokens [] out (whole_file tokens ∷ []) (reverse stack1) Fresh 0 (sym none) one (begins braces tokens)
+
+-- ## The innermost list
+
+pub stands_within : (braces : Braces) (tokens : List CodeToken) (out : List Line) (stack0 stack1 : List Open) (o : Open) (start : Start) (at : ℕ)
+    → stack1 ≡ stack0 ++ o ∷ [] → Stands braces tokens out (reverse stack1) start at → Stands braces tokens out (o ∷ reverse stack0) start at
+stands_within braces tokens out stack0 stack1 o start at e s = put braces tokens out out (reverse stack1) (o ∷ reverse stack0) start at refl (reverse_snoc stack0 stack1 o e) s
+
+pub less_left : (new left : ℕ) (stack0 stack1 : List Open) (o : Open) → stack1 ≡ stack0 ++ o ∷ [] → new < left + length stack0 + 1 → new < left + length stack1
+less_left new left stack0 stack1 o e h =
+    let more : length stack1 ≡ length stack0 + 1 = ap length e ∙ length-append stack0 (o ∷ []) in
+    omega (arith, more, h)

@@ -9,7 +9,12 @@ use Rattle.unwrapped_lines.specs.declared.token.CodeToken.{CodeToken}
 use Rattle.token_classes.specs.declared.part.Part.{Part}
 use Rattle.token_classes.specs.declared.part.Part.TheVariants.{Token}
 use Rattle.unwrapped_lines.specs.declared.part.ViewComment.{ViewComment}
-use Rattle.unwrapped_lines.specs.Viewed.{numbers_of, token_at, code_places_from, code_tokens}
+use Rattle.line_tokens.specs.declared.line.ULine.{ULine}
+use Rattle.unwrapped_lines.specs.declared.braces.Braces.{Braces}
+use Rattle.unwrapped_lines.specs.Comments.{Tree, begins_from, no_marks}
+use Rattle.unwrapped_lines.specs.Lines.{lines_between}
+use Rattle.unwrapped_lines.specs.Tree.{lines_of, end_level}
+use Rattle.unwrapped_lines.specs.Viewed.{numbers_of, token_at, code_places_from, code_tokens, parts_of}
 use Rattle.token_classes.specs.Part.{part_of}
 
 -- ## Tokens that are no comments
@@ -61,3 +66,15 @@ parts_with (suc n) k (c ∷ comments) =
 abbrev pub FollowFrom : ℕ → List ViewComment → Type 0
 FollowFrom k [] = Unit {0}
 FollowFrom k (c ∷ comments) = k ≤ c.place
+
+-- ## Lines
+
+-- the lines of these tokens, their number, and the level at their end
+abbrev pub tree_with : Braces → List CodeToken → Tree
+tree_with braces tokens =
+    record { lines = lines_of braces tokens; total = length tokens; end_level = end_level braces tokens }
+
+-- the lines of a view that has these classes and tokens
+abbrev pub lines_with : Braces → Contents → List ℕ → List TokenClass → List CodeToken → List ULine
+lines_with braces arena ids classes tokens =
+    lines_between (length classes) (begins_from (tree_with braces tokens) (parts_of arena ids classes) 0 no_marks)

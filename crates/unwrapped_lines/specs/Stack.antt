@@ -1,16 +1,18 @@
 -- What the code's stack of open lists stands for, the innermost first.
-use Rattle.std.specs.Prelude.{ℕ, ◌-◌, ◌*◌, ◌<◌, ◌≤◌, ◌≡◌, Bool, true, false, List, [], ◌∷◌, ◌++◌, length, Option, Some}
-use Rattle.std.specs.Prelude.{None}
+use Rattle.std.specs.Prelude.{ℕ, ◌+◌, ◌-◌, ◌*◌, ◌<◌, ◌≤◌, ◌≡◌, Bool, true, false, List, [], ◌∷◌, ◌++◌, length}
+use Rattle.std.specs.Prelude.{Option, Some, None}
 use Rattle.unwrapped_lines.specs.declared.token.CodeToken.{CodeToken}
 use Rattle.unwrapped_lines.specs.declared.line.Line.{Line}
 use Rattle.unwrapped_lines.specs.declared.braces.Braces.{Braces}
 use Rattle.unwrapped_lines.specs.declared.open.Open.{Open}
 use Rattle.unwrapped_lines.specs.declared.open.Start.{Start}
 use Rattle.unwrapped_lines.specs.declared.open.Start.TheVariants.{Fresh, Closing}
+use Rattle.unwrapped_lines.specs.declared.form.Form.{Form}
 use Rattle.unwrapped_lines.specs.declared.form.Next.{Next}
 use Rattle.unwrapped_lines.specs.declared.form.Next.TheVariants.{Ends, Goes, Waits, Opens}
 use Rattle.unwrapped_lines.specs.Forms.{IsLow}
-use Rattle.unwrapped_lines.specs.Tree.{end_level_from, end_level, lines_from, lines_of}
+use Rattle.unwrapped_lines.specs.Tree.{body_of, end_level_from, end_level, head_lines, line_of, lines_from, lines_of}
+use Rattle.unwrapped_lines.specs.Tree.{settled}
 
 -- ## Lines that cut a view
 
@@ -103,3 +105,19 @@ LeavesOpen o Ends s = (o.block ≡ true) × (s ≡ Fresh)
 LeavesOpen o (Goes g) s = s ≡ g
 LeavesOpen o (Waits h) s = ⊥
 LeavesOpen o (Opens wrapped b) s = ⊥
+
+-- the lines of a form
+abbrev pub form_lines : Open → Start → ℕ → Form → Next → List Line
+form_lines o start at f Ends = line_of o start at f ∷ []
+form_lines o start at f (Goes s) = line_of o start at f ∷ []
+form_lines o start at f (Waits h) = line_of o start at f ∷ []
+form_lines o start at f (Opens wrapped b) = head_lines o start at f wrapped
+
+-- Behind a line of the list `o` these lists are open in place of those, and this begins at this place.
+abbrev pub GoesBehind : List CodeToken → Open → Form → List Open → List Open → Start → ℕ → Next → Type 0
+GoesBehind tokens o f os opens s at Ends =
+    (settled tokens f.end os ≡ record { opens = opens; start = s }) × (at ≡ f.end)
+GoesBehind tokens o f os opens s at (Goes g) = (opens ≡ os) × ((s ≡ g) × (at ≡ f.end))
+GoesBehind tokens o f os opens s at (Waits h) =
+    (opens ≡ body_of o h f.level ∷ os) × ((s ≡ Fresh) × (at ≡ f.end))
+GoesBehind tokens o f os opens s at (Opens wrapped b) = (opens ≡ b ∷ os) × ((s ≡ Fresh) × (at ≡ f.end + 1))

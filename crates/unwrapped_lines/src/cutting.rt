@@ -1,13 +1,15 @@
 //! The unwrapped lines of a view.
 
-ghost use Rattle.std.specs.Prelude.{◌≡◌, ◌<◌, ◌^◌, List, length, map, IfOk};
+ghost use Rattle.std.specs.Prelude.{◌≡◌, ◌<◌, ◌≤◌, ◌^◌, List, length, map, IfOk};
+ghost use Rattle.c_chars.specs.declared.TheConstants.{LIMIT};
 ghost use Rattle.token_classes.specs.Viewed.{AreWithin, classes_of};
 ghost use Rattle.line_tokens.specs.Lines.{CutPlaces};
 ghost use Rattle.unwrapped_lines.specs.Lines.{tree_of, unwrapped_lines_of, view_line};
 ghost use Rattle.unwrapped_lines.specs.Colons.{AreCaseColons};
 ghost use Rattle.unwrapped_lines.specs.Comments.{begins_from, no_marks};
+ghost use Rattle.unwrapped_lines.specs.Inside.{lines_with, parts_with};
 ghost use Rattle.unwrapped_lines.specs.Stack.{IsCut};
-ghost use Rattle.unwrapped_lines.specs.Tree.{end_level};
+ghost use Rattle.unwrapped_lines.specs.Tree.{end_level, lines_of};
 ghost use Rattle.unwrapped_lines.specs.Viewed.{code_places_from, parts_of};
 ghost use Rattle.unwrapped_lines.specs.declared.line.Line.{Line};
 
@@ -18,7 +20,7 @@ use crate::ending::end_level;
 use crate::line::Line;
 use crate::token::CodeToken;
 use crate::tree::tree_lines;
-use crate::viewed::read_view;
+use crate::viewed::{ViewTokens, read_view};
 use bumpalo::Bump;
 use bumpalo::collections::into_bump_slice;
 use line_tokens::{NoMemory, ULine};
@@ -71,6 +73,38 @@ fn level_behind(
     end_level(braces, tokens, colons, run)
 }
 
+/// The lines of a view that has these tokens and comments.
+#[inline(always)]
+fn lines_of_read<'r>(
+    braces: &Braces,
+    arena: &TokenArena<'_, '_>,
+    view: &View<'_>,
+    classes: &[TokenClass],
+    read: &ViewTokens<'_>,
+    run: &'r Bump,
+) -> Result<Vec<ULine, &'r Bump>, NoMemory>
+    requires classes { classes.now ≡ classes_of arena.now view.now }
+    requires few { length classes.now ≤ LIMIT }
+    requires few_tokens { length read.now.tokens.items ≤ LIMIT }
+    requires tokens { length read.now.tokens.items ≡ length (code_places_from 0 classes.now) }
+    requires parts { parts_with (length classes.now) 0 read.now.noted.comments.items
+        ≡ parts_of arena.now view.now classes.now }
+    ensures lines { IfOk result
+        (λ lines. lines.items ≡ lines_with braces.now arena.now view.now classes.now read.now.tokens.items) }
+    ensures tree { IfOk result
+        (λ lines. IsCut 0 (length read.now.tokens.items) (lines_of braces.now read.now.tokens.items)) }
+{
+    let colons = colons(&read.tokens, &read.noted.cases, run)?;
+    let tree = tree_lines(braces, &read.tokens, &colons, run)?;
+    let count = classes.len();
+    if read.tokens.len() == count {
+        return token_lines(&tree, run);
+    }
+    let level = level_behind(braces, arena, view, classes, &read.tokens, &colons, run)?;
+    let total = read.tokens.len();
+    comment_lines(&tree, total, level, &read.noted.comments, count, run)
+}
+
 /// The lines, and that those of the tokens that are no comments cut these.
 fn read_lines<'r>(
     style: &Style,
@@ -92,20 +126,7 @@ fn read_lines<'r>(
     prove!(count <= items);
     let braces = braces_of(style);
     let read = read_view(arena, view, classes, partners, run)?;
-    let colons = colons(&read.tokens, &read.noted.cases, run)?;
-    let tree = tree_lines(&braces, &read.tokens, &colons, run)?;
-    if read.tokens.len() == count as usize {
-        return token_lines(&tree, run);
-    }
-    let level = level_behind(&braces, arena, view, classes, &read.tokens, &colons, run)?;
-    comment_lines(
-        &tree,
-        read.tokens.len(),
-        level,
-        &read.noted.comments,
-        count as usize,
-        run,
-    )
+    lines_of_read(&braces, arena, view, classes, &read, run)
 }
 
 /// The unwrapped lines of a view, whose tokens have these classes and whose brackets these partners.

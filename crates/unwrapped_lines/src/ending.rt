@@ -12,7 +12,7 @@ use crate::form::{Form, Next};
 use crate::forms::form_of;
 use crate::open::{Open, Start};
 use crate::token::CodeToken;
-use crate::tree::{Place, body_of, settle, whole_file};
+use crate::tree::{Place, go_behind, whole_file};
 use bumpalo::Bump;
 use line_tokens::NoMemory;
 
@@ -34,47 +34,23 @@ fn skip_line(
     ensures leads { IfOk result (λ p. LeadsToEnd braces.now tokens.now (reverse stack.new.items) p.start p.at) }
     ensures up { IfOk result (λ p. length tokens.now - p.at < length tokens.now - place.at) }
 {
-    match formed.next {
-        Next::Ends => {
+    if let Next::Opens(_, block) = formed.next {
+        if block.end < opened.end {
             stack.push(opened)?;
-            let start = settle(tokens, stack, formed.end)?;
-            Ok(Place {
-                start,
-                at: formed.end,
-            })
+            return Ok(Place {
+                start: Start::Closing(block),
+                at: block.end,
+            });
         }
-        Next::Goes(start) => {
-            stack.push(opened)?;
-            Ok(Place {
-                start,
-                at: formed.end,
-            })
-        }
-        Next::Waits(head) => {
-            stack.push(opened)?;
-            stack.push(body_of(opened, head, formed.level))?;
-            Ok(Place {
-                start: Start::Fresh,
-                at: formed.end,
-            })
-        }
-        Next::Opens(_, b) => {
-            if b.end < opened.end {
-                stack.push(opened)?;
-                Ok(Place {
-                    start: Start::Closing(b),
-                    at: b.end,
-                })
-            } else {
-                stack.clear();
-                stack.push(b)?;
-                Ok(Place {
-                    start: Start::Fresh,
-                    at: formed.end + 1,
-                })
-            }
-        }
+        stack.clear();
+        stack.push(block)?;
+        return Ok(Place {
+            start: Start::Fresh,
+            at: formed.end + 1,
+        });
     }
+    stack.push(opened)?;
+    go_behind(tokens, stack, opened, formed)
 }
 
 /// The level of the list above which the headers of these wait, the innermost of which stands apart.

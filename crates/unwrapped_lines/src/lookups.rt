@@ -1,17 +1,25 @@
 //! What stands at a place of the tokens: its class, its group, its partner.
 
-ghost use Rattle.std.specs.Prelude.{◌≡◌, ◌<◌, ◌≤◌, ◌+◌, ◌-◌, length, IfSome};
+ghost use Rattle.std.specs.Prelude.{◌≡◌, ◌<◌, ◌≤◌, ◌+◌, ◌-◌, length, slice_get, IfSome};
 ghost use Rattle.unwrapped_lines.specs.Forms.{class_at, seen, partner_in, after_group, step_over, block_end, began_at};
 ghost use Rattle.unwrapped_lines.specs.Forms.{touched_at, has_no_partner};
 
 use crate::token::CodeToken;
 use token_classes::TokenClass;
 
+/// The token at a place, if one stands there.
+#[inline(always)]
+pub fn token_at(tokens: &[CodeToken], place: usize) -> Option<CodeToken>
+    ensures { result ≡ slice_get tokens.now place }
+{
+    tokens.get(place).copied()
+}
+
 #[inline(always)]
 pub fn class_at(tokens: &[CodeToken], place: usize) -> TokenClass
     ensures { result ≡ class_at tokens.now place }
 {
-    match tokens.get(place) {
+    match token_at(tokens, place) {
         Some(t) => t.class,
         None => TokenClass::Nothing,
     }
@@ -21,7 +29,7 @@ pub fn class_at(tokens: &[CodeToken], place: usize) -> TokenClass
 pub fn began_at(tokens: &[CodeToken], place: usize) -> bool
     ensures { result ≡ began_at tokens.now place }
 {
-    match tokens.get(place) {
+    match token_at(tokens, place) {
         Some(t) => t.began,
         None => false,
     }
@@ -31,7 +39,7 @@ pub fn began_at(tokens: &[CodeToken], place: usize) -> bool
 pub fn touched_at(tokens: &[CodeToken], place: usize) -> bool
     ensures { result ≡ touched_at tokens.now place }
 {
-    match tokens.get(place) {
+    match token_at(tokens, place) {
         Some(t) => t.touched,
         None => false,
     }
@@ -41,7 +49,7 @@ pub fn touched_at(tokens: &[CodeToken], place: usize) -> bool
 pub fn has_no_partner(tokens: &[CodeToken], place: usize) -> bool
     ensures { result ≡ has_no_partner tokens.now place }
 {
-    match tokens.get(place) {
+    match token_at(tokens, place) {
         Some(t) => t.partner.place().is_none(),
         None => true,
     }
@@ -64,7 +72,7 @@ pub fn partner_in(tokens: &[CodeToken], end: usize, opener: usize) -> Option<usi
     ensures same { result ≡ partner_in tokens.now end opener }
     ensures inside { IfSome result (λ p. (opener < p) × (p < end)) }
 {
-    match tokens.get(opener) {
+    match token_at(tokens, opener) {
         Some(t) => match t.partner.place() {
             Some(place) => {
                 let p = place as usize;

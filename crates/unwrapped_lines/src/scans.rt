@@ -9,7 +9,7 @@ ghost use Rattle.unwrapped_lines.specs.Forms.{enumerator_end, statement_stop, ca
 ghost use Rattle.unwrapped_lines.specs.Forms.{partner_of, opens_block, assigns, is_member_word, class_at};
 
 use crate::form::Stop;
-use crate::lookups::{class_at, step_over};
+use crate::lookups::{class_at, step_over, token_at};
 use crate::token::CodeToken;
 use token_classes::TokenClass;
 
@@ -125,7 +125,7 @@ fn behind(tokens: &[CodeToken], first: usize, at: usize) -> usize
     ensures same { result ≡ behind first at (partner_of (slice_get tokens.now at)) }
     ensures most { 0 < result → result < at }
 {
-    match tokens.get(at) {
+    match token_at(tokens, at) {
         Some(t) => match t.partner.place() {
             Some(place) => {
                 let p = place as usize;

@@ -6,7 +6,7 @@ ghost use Rattle.unwrapped_lines.specs.declared.open.Start.TheVariants.{Fresh};
 ghost use Rattle.unwrapped_lines.specs.Forms.{StaysIn, form_of};
 ghost use Rattle.unwrapped_lines.specs.Tree.{settled, lines_of, whole_file, body_of, line_of, head_lines};
 ghost use Rattle.unwrapped_lines.specs.Colons.{AreCaseColons};
-ghost use Rattle.unwrapped_lines.specs.Stack.{Stands, IsCut, LeavesOpen, left};
+ghost use Rattle.unwrapped_lines.specs.Stack.{Stands, IsCut, LeavesOpen, GoesBehind, form_lines, left};
 
 use crate::braces::Braces;
 use crate::form::{Form, Next};
@@ -32,29 +32,25 @@ pub struct Place {
 /// Ends the headers that waited for the statement that has ended.
 #[inline(always)]
 #[tactic(auto, using(crate::proofs::Lists::reverse_snoc))]
-pub(crate) fn settle(
-    tokens: &[CodeToken],
-    stack: &mut Vec<Open, &Bump>,
-    at: usize,
-) -> Result<Start, NoMemory>
+pub(crate) fn settle(tokens: &[CodeToken], stack: &mut Vec<Open, &Bump>, at: usize) -> Start
     requires { at < 2 ^ 33 }
-    ensures same { IfOk result (λ s.
-        settled tokens.now at (reverse stack.old.items) ≡ record { opens = reverse stack.new.items; start = s }) }
+    ensures same { settled tokens.now at (reverse stack.old.items)
+        ≡ record { opens = reverse stack.new.items; start = result } }
     ensures fewer { length stack.new.items ≤ length stack.old.items }
 {
     while let Some(o) = stack.last().copied() {
         if o.block {
-            return Ok(Start::Fresh);
+            return Start::Fresh;
         }
         stack.pop();
         if o.head.is_if() && seen(tokens, o.end, at).is_else() {
-            return Ok(Start::Fresh);
+            return Start::Fresh;
         }
         if o.head.is_do() && at < tail_end(tokens, o.end, at) {
-            return Ok(Start::Tail);
+            return Start::Tail;
         }
     }
-    Ok(Start::Fresh)
+    Start::Fresh
 }
 
 /// Puts a list on the stack. Mostly there is room, and no call is made.
@@ -211,6 +207,60 @@ fn leave_list(
     }
 }
 
+/// Appends the lines of a form.
+#[inline(always)]
+fn push_form(
+    out: &mut Vec<Line, &Bump>,
+    opened: Open,
+    start: Start,
+    at: usize,
+    form: Form,
+) -> Result<(), NoMemory>
+    requires begins { at < 2 ^ 32 }
+    requires ends { form.end + 1 < 2 ^ 32 }
+    ensures { IfOk result (λ u. out.new.items ≡ out.old.items ++ form_lines opened start at form form.next) }
+{
+    if let Next::Opens(wrapped, _) = form.next {
+        push_head(out, opened, start, at, form, wrapped)
+    } else {
+        out.push(line_of(opened, start, at, form))?;
+        Ok(())
+    }
+}
+
+/// Opens what a line of the innermost list leaves open, or ends what it ends, and tells what begins behind it.
+#[inline(always)]
+pub(crate) fn go_behind(
+    tokens: &[CodeToken],
+    stack: &mut Vec<Open, &Bump>,
+    opened: Open,
+    formed: Form,
+) -> Result<Place, NoMemory>
+    requires end { formed.end < 2 ^ 33 }
+    requires level { formed.level < 2 ^ 31 }
+    ensures { IfOk result (λ p.
+        GoesBehind tokens.now opened formed (reverse stack.old.items) (reverse stack.new.items) p.start p.at formed.next
+        × (length stack.new.items ≤ length stack.old.items + 1)) }
+{
+    let end = formed.end;
+    let start = match formed.next {
+        Next::Ends => settle(tokens, stack, end),
+        Next::Goes(start) => start,
+        Next::Waits(head) => {
+            push_open(stack, body_of(opened, head, formed.level))?;
+            Start::Fresh
+        }
+        Next::Opens(_, block) => {
+            push_open(stack, block)?;
+            return Ok(Place {
+                start: Start::Fresh,
+                at: end + 1,
+            });
+        }
+    };
+    Ok(Place { start, at: end })
+}
+
 /// Appends a line, and opens or ends what it opens or ends.
 #[inline(always)]
 fn take_line(
@@ -234,43 +284,9 @@ fn take_line(
         (λ p. Stands braces.now tokens.now out.new.items (reverse stack.new.items) p.start p.at) }
     ensures up { IfOk result (λ p. (place.at < p.at) × (length stack.new.items ≤ length stack.old.items + 2)) }
 {
-    match formed.next {
-        Next::Ends => {
-            out.push(line_of(opened, place.start, place.at, formed))?;
-            push_open(stack, opened)?;
-            let start = settle(tokens, stack, formed.end)?;
-            Ok(Place {
-                start,
-                at: formed.end,
-            })
-        }
-        Next::Goes(start) => {
-            out.push(line_of(opened, place.start, place.at, formed))?;
-            push_open(stack, opened)?;
-            Ok(Place {
-                start,
-                at: formed.end,
-            })
-        }
-        Next::Waits(head) => {
-            out.push(line_of(opened, place.start, place.at, formed))?;
-            push_open(stack, opened)?;
-            push_open(stack, body_of(opened, head, formed.level))?;
-            Ok(Place {
-                start: Start::Fresh,
-                at: formed.end,
-            })
-        }
-        Next::Opens(wrapped, b) => {
-            push_head(out, opened, place.start, place.at, formed, wrapped)?;
-            push_open(stack, opened)?;
-            push_open(stack, b)?;
-            Ok(Place {
-                start: Start::Fresh,
-                at: formed.end + 1,
-            })
-        }
-    }
+    push_form(out, opened, place.start, place.at, formed)?;
+    push_open(stack, opened)?;
+    go_behind(tokens, stack, opened, formed)
 }
 
 /// The lines of a view's tokens.

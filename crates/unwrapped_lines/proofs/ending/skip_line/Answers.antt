@@ -1,31 +1,44 @@
-use Rattle.std.proofs.Common.{◌≤◌, arith}
-use Rattle.unwrapped_lines.proofs.TurnLemmas.{ends_low}
-use Rattle.unwrapped_lines.proofs.EndLemmas.{ends_skip, goes_skip, waits_skip, past_skip, into_skip}
+use Rattle.std.proofs.Common.{◌<◌, ◌≤◌, ◌+◌, ◌-◌, length, refl, reverse}
+use Rattle.std.proofs.lemmas.Result.{IfOk-weaker}
+use Rattle.unwrapped_lines.specs.Stack.{GoesBehind, LeadsToEnd}
+use Rattle.unwrapped_lines.proofs.TurnLemmas.{ends_low, level_small, place_small, taken_up}
+use Rattle.unwrapped_lines.proofs.EndLemmas.{into_skip, nearer, past_skip, skipped, whole_within}
 use Rattle.unwrapped_lines.proofs.ending.skip_line.Goals as goal
 
-pub settle-requires : goal.settle-requires
-settle-requires c = let q : c.args.formed.end ≤ c.args.opened.end = ends_low c.args.place.at c.args.opened c.args.formed _ c.in-Ends.is c.requires.stays in let e = c.requires.leads.open_lists.0 in omega arith
-
-pub returns-in_ok-start-in-Ends-clause-leads : goal.returns-in_ok-start-in-Ends-clause-leads
-returns-in_ok-start-in-Ends-clause-leads c =
-    ends_skip _ _ _ _ _ c.settle.new.stack.items _ _ _ _ c.requires.leads c.requires.here c.requires.form c.in-Ends.is c.requires.stays
-    c.in_ok-push-in-Ends.ensures.items c.in_ok-start-in-Ends.ensures.same
-
-pub returns-in_ok-push-in-Goes-clause-leads : goal.returns-in_ok-push-in-Goes-clause-leads
-returns-in_ok-push-in-Goes-clause-leads c =
-    goes_skip _ _ _ _ _ _ _ _ _ c.requires.leads c.requires.here c.requires.form c.in-Goes.is c.requires.stays c.in_ok-push-in-Goes.ensures.items
-
-pub returns-in_ok-push-in-Waits-2-clause-leads : goal.returns-in_ok-push-in-Waits-2-clause-leads
-returns-in_ok-push-in-Waits-2-clause-leads c =
-    waits_skip _ _ _ _ _ _ _ _ _ _ _ c.requires.leads c.requires.here c.requires.form c.in-Waits.is c.requires.stays c.requires.level
-    c.in_ok-push-in-Waits.ensures.items c.body_of.ensures c.in_ok-push-in-Waits-2.ensures.items
-
-pub returns-in_ok-push-in-Opens-clause-leads : goal.returns-in_ok-push-in-Opens-clause-leads
-returns-in_ok-push-in-Opens-clause-leads c =
+pub returns-then-block-opened-clause-leads : goal.returns-then-block-opened-clause-leads
+returns-then-block-opened-clause-leads c =
     past_skip _ _ _ _ _ _ _ _ _ _ c.requires.leads c.requires.here c.requires.form c.in-Opens.is c.requires.stays c.requires.level
-    c.if-b-opened.true c.in_ok-push-in-Opens.ensures.items
+    c.if-block-opened.true c.in_ok-push.ensures.items
 
-pub returns-in_ok-push-in-Opens-2-clause-leads : goal.returns-in_ok-push-in-Opens-2-clause-leads
-returns-in_ok-push-in-Opens-2-clause-leads c =
+pub returns-in-Opens-clause-leads : goal.returns-in-Opens-clause-leads
+returns-in-Opens-clause-leads c =
     into_skip _ _ _ _ c.args.stack.now.items _ _ _ _ _ _ c.requires.leads c.requires.here c.requires.form c.in-Opens.is c.requires.stays c.requires.level
-    c.if-b-opened.false c.clear.ensures.items c.in_ok-push-in-Opens-2.ensures.items
+    c.if-block-opened.false c.clear.ensures.items c.in_ok-push-2.ensures.items
+
+pub go_behind-requires-clause-end : goal.go_behind-requires-clause-end
+go_behind-requires-clause-end c =
+    place_small _ _ _ (ends_low c.args.place.at c.args.opened c.args.formed _ refl c.requires.stays) (whole_within _ _ _ _ _ _ c.requires.leads) c.requires.small
+
+pub go_behind-requires-clause-level : goal.go_behind-requires-clause-level
+go_behind-requires-clause-level c = level_small _ _ _ _ c.requires.level c.requires.here (whole_within _ _ _ _ _ _ c.requires.leads) c.requires.small
+
+pub returns-clause-leads : goal.returns-clause-leads
+returns-clause-leads c =
+    let f = c.args.formed in
+    let lists = reverse c.go_behind.new.stack.items in
+    IfOk-weaker c.go_behind.result
+    (λ p. GoesBehind c.args.tokens.now c.args.opened f (reverse c.push-2.new.self.items) lists p.start p.at f.next × (length c.go_behind.new.stack.items ≤ length c.push-2.new.self.items + 1))
+    (λ p. LeadsToEnd c.args.braces.now c.args.tokens.now lists p.start p.at)
+    (λ p w. skipped c.args.braces.now c.args.tokens.now c.args.opened c.args.stack.now.items c.push-2.new.self.items c.go_behind.new.stack.items c.args.place.start p.start c.args.place.at p.at f f.next c.requires.leads c.requires.here c.requires.form refl c.requires.stays c.requires.level c.in_default.not-Opens
+    c.in_ok-push-3.ensures.items w.0)
+    c.go_behind.ensures
+
+pub returns-clause-up : goal.returns-clause-up
+returns-clause-up c =
+    let f = c.args.formed in
+    let lists = reverse c.go_behind.new.stack.items in
+    IfOk-weaker c.go_behind.result
+    (λ p. GoesBehind c.args.tokens.now c.args.opened f (reverse c.push-2.new.self.items) lists p.start p.at f.next × (length c.go_behind.new.stack.items ≤ length c.push-2.new.self.items + 1))
+    (λ p. length c.args.tokens.now - p.at < length c.args.tokens.now - c.args.place.at)
+    (λ p w. nearer (length c.args.tokens.now) c.args.opened.end c.args.place.at p.at c.requires.here (whole_within _ _ _ _ _ _ c.requires.leads) (taken_up c.args.tokens.now c.args.opened f (reverse c.push-2.new.self.items) lists p.start c.args.place.at p.at f.next refl c.requires.stays w.0))
+    c.go_behind.ensures

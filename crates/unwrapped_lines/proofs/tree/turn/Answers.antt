@@ -34,6 +34,21 @@ loop-place-preserved c =
 pub form_of-formed-requires-clause-list : goal.form_of-formed-requires-clause-list
 form_of-formed-requires-clause-list c = top_within _ _ _ _ _ _ _ c.loop-place.invariant.stands
 
+pub form_of-formed-requires-clause-low : goal.form_of-formed-requires-clause-low
+form_of-formed-requires-clause-low c = c.loop-place.invariant.stands.fits.1.0
+
+pub form_of-formed-requires-clause-case_low : goal.form_of-formed-requires-clause-case_low
+form_of-formed-requires-clause-case_low c = c.loop-place.invariant.stands.fits.1.1.0
+
+pub form_of-formed-requires-clause-start_low : goal.form_of-formed-requires-clause-start_low
+form_of-formed-requires-clause-start_low c = c.loop-place.invariant.stands.low
+
+pub take_line-requires-clause-stands : goal.take_line-requires-clause-stands
+take_line-requires-clause-stands c = c.loop-place.invariant.stands
+
+pub take_line-requires-clause-form : goal.take_line-requires-clause-form
+take_line-requires-clause-form c = sym c.form_of-formed.ensures.same
+
 pub take_line-requires-clause-list : goal.take_line-requires-clause-list
 take_line-requires-clause-list c = top_within _ _ _ _ _ _ _ c.loop-place.invariant.stands
 
@@ -59,6 +74,9 @@ returns-in_default-clause-up c =
     let f = c.form_of-formed.result in
     let up : c.loop-place.place.at < f.end = stays_up c.loop-place.place.at c.args.opened f f.next c.in-Some-start_behind.start refl c.form_of-formed.ensures.stays c.in-Some-start_behind.ensures in
     pushed_up _ _ _ _ _ _ _ _ _ c.loop-place.invariant.up c.loop-place.invariant.same c.loop-place-test.true (top_within _ _ _ _ _ _ _ c.loop-place.invariant.stands) up c.in_ok-push_open.ensures.items
+
+pub returns-in_default-start_behind-clause-stands : goal.returns-in_default-start_behind-clause-stands
+returns-in_default-start_behind-clause-stands c = c.take_line.ensures.stands
 
 pub returns-in_default-start_behind-clause-up : goal.returns-in_default-start_behind-clause-up
 returns-in_default-start_behind-clause-up c =
