@@ -1,13 +1,24 @@
 -- The columns past the limit on one row, token by token.
-use Rattle.std.proofs.Common.{◌≡◌, ℕ, ◌+◌, ◌-◌, ◌*◌, ◌≤◌, min, max, Bool, true, false, ◌&&◌, not, Option, Some, None, refl, arith}
+use Rattle.std.proofs.Common.{◌≡◌, ℕ, ◌+◌, ◌-◌, ◌*◌, ◌≤◌, min, max, Bool, true, false, ◌&&◌, not, Option, Some, None, refl, ap, sym, ◌∙◌, subst, arith}
 use Rattle.std.proofs.lemmas.Nat.{mul-le}
 use Rattle.line_tokens.specs.Columns.{columns}
 use Rattle.line_tokens.specs.declared.Fixed.{Fixed}
 use Rattle.line_state.specs.Layout.{is_some_decision}
 
+-- a sum of columns is one however it is bracketed
+columns_assoc : (a b c : ℕ) → columns a (columns b c) ≡ columns (columns a b) c
+columns_assoc a b c = omega arith
+
+-- what lies past the limit behind a place is what lies past it up to there and what comes behind it
+excess_parts : (limit column place next : ℕ) → min column 4294967295 ≤ place → columns place next - max column limit ≤ (place - limit - (column - limit)) + (columns place next - max place limit)
+excess_parts limit column place next behind = omega (arith, behind)
+
 -- what lies past the limit behind a token is what the token adds and what comes behind it
 pub excess_adds : (limit column blanks token next : ℕ) → columns column (columns (columns blanks token) next) - max column limit ≤ (columns (columns column blanks) token - limit - (column - limit)) + (columns (columns (columns column blanks) token) next - max (columns (columns column blanks) token) limit)
-excess_adds limit column blanks token next = omega arith
+excess_adds limit column blanks token next =
+    let place : ℕ = columns (columns column blanks) token in
+    let one : columns column (columns (columns blanks token) next) ≡ columns place next = columns_assoc column (columns blanks token) next ∙ ap (λ (k : ℕ). columns k next) (columns_assoc column blanks token) in
+    subst (λ (k : ℕ). k - max column limit ≤ (place - limit - (column - limit)) + (columns place next - max place limit)) (sym one) (excess_parts limit column place next (omega arith))
 
 -- .. and no more from a smaller column, where the columns don't saturate
 pub excess_falls : (limit small large width : ℕ) → small ≤ large → large + width ≤ 4294967295 → columns small width - max small limit ≤ columns large width - max large limit

@@ -1,6 +1,8 @@
 -- Admissible choices, one after another.
-use Rattle.std.proofs.Common.{◌≡◌, ◌∙◌, ℕ, suc, ◌+◌, ◌<◌, Bool, Option, Some, None, IfSome, List, [], ◌∷◌, ◌++◌, length, get_or, drop, append_assoc, sym, ap, arith, subst}
+use Rattle.std.proofs.Common.{◌≡◌, ◌∙◌, ℕ, suc, ◌+◌, ◌<◌, ◌≤◌, Bool, Option, Some, None, IfSome, List, [], ◌∷◌, ◌++◌, length, get_or, drop, append_assoc, sym, ap, arith, subst}
+use Rattle.std.proofs.Math.ListN.{drop_of_length-le}
 use Rattle.std.proofs.Math.Seq.{drop-cons}
+use Rattle.std.proofs.lemmas.List.{append-nil}
 use Rattle.line_state.specs.Choices.{Leads}
 use Rattle.line_state.specs.declared.gap.Gap.{Gap}
 use Rattle.line_state.specs.declared.node.NodeState.{NodeState}
@@ -8,8 +10,8 @@ use Rattle.line_state.specs.declared.state.State.{State}
 use Rattle.line_state.specs.Store.{FrameList, state_in, layout_in, IsIn, IsGrown}
 use Rattle.line_state.specs.Layout.{Layout, layout_of, start_of, layout_after}
 use Rattle.line_state.specs.Line.{Line, Step, gap_at, gaps, first_layout}
-use Rattle.line_state.proofs.Steps.{placing, functional, one_more}
-use Rattle.break_search.specs.Starts.{starts_of, starts_by}
+use Rattle.line_state.proofs.Steps.{placing, functional, first_index, one_more}
+use Rattle.break_search.specs.Starts.{IsAdmissible, starts_of, starts_by}
 use Rattle.break_search.specs.Vertices.{IsNextState, IsSuccessor, LeadsTo, states_in}
 
 -- what holds while the choices are followed
@@ -57,6 +59,20 @@ module _ (line : Line) (breaks : List Bool) (starts : List ℕ) (state : State) 
         rest = ap (λ (xs : List ℕ). xs ++ starts_of line (layout_of next) later) is_new
             ∙ (append_assoc starts (start ∷ []) (starts_of line (layout_of next) later) ∙ (ap (λ (xs : List ℕ). starts ++ xs) (sym split) ∙ f.rest));
       }
+
+pub follow_start : (line : Line) (breaks : List Bool) (starts : List ℕ) (state : State) → 0 < length line.tokens → IsAdmissible line breaks → layout_of state ≡ first_layout line → starts ≡ [] → IsFollowed line breaks starts state 0
+follow_start line breaks starts state some admissible first none = record {
+  index = ap (λ (l : Layout). l.index) first ∙ first_index line some;
+  size = admissible.count;
+  layout = admissible.layout;
+  cost = admissible.cost;
+  leads = subst (λ (l : Layout). Leads (Step line) l breaks admissible.layout admissible.cost) (sym first) admissible.leads;
+  rest = ap (λ (xs : List ℕ). xs ++ starts_of line (layout_of state) breaks) none ∙ ap (λ (l : Layout). starts_of line l breaks) first;
+}
+
+pub follow_end : (line : Line) (breaks : List Bool) (starts : List ℕ) (state : State) (placed : ℕ) → IsFollowed line breaks starts state placed → length breaks ≤ placed → starts ≡ starts_of line (first_layout line) breaks
+follow_end line breaks starts state placed f all =
+    sym (append-nil starts) ∙ ap (λ (bs : List Bool). starts ++ starts_of line (layout_of state) bs) (sym (drop_of_length-le breaks all)) ∙ f.rest
 
 -- the next state that is told
 pub next_told : (line : Line) (state : State) (brk : Bool) (lists : List FrameList) (o : Option NodeState) → IsSuccessor line state brk (states_in lists o) → (next : NodeState) → o ≡ Some next → IsNextState line (layout_of state) state.cost brk (state_in lists next)

@@ -123,6 +123,26 @@ fn least_next<'r>(
     Ok((next, true))
 }
 
+/// The breaking of a line that breaks only where it has to, with its states' frames in a store.
+fn least_breaks_in<'r>(
+    line: &SearchedLine<'_>,
+    store: &mut FrameStore<'_>,
+    run: &'r Bump,
+) -> Result<&'r [bool], NoMemory>
+    requires { IsSearchable line.now }
+    ensures { IfOk result (λ breaks. IsAdmissible line.now breaks.now) }
+{
+    let mut state = line.first(store)?;
+    let count = line.gaps();
+    let mut breaks = Vec::with_capacity(run, count as usize)?;
+    'tokens: for placed in 0..count {
+        let (next, brk) = least_next(line, store, &state)?;
+        breaks.push(brk)?;
+        state = next;
+    }
+    Ok(into_bump_slice(breaks))
+}
+
 /// The breaking of a line that breaks only where it has to.
 ///
 /// # Errors
@@ -145,13 +165,5 @@ pub fn least_breaks<'r>(
     let scratch = Bump::new(alloc);
     let line = SearchedLine::make(style, column, line, fixed, &scratch)?;
     let mut store = FrameStore::make(&scratch)?;
-    let mut state = line.first(&mut store)?;
-    let count = line.gaps();
-    let mut breaks = Vec::with_capacity(run, count as usize)?;
-    'tokens: for placed in 0..count {
-        let (next, brk) = least_next(&line, &mut store, &state)?;
-        breaks.push(brk)?;
-        state = next;
-    }
-    Ok(into_bump_slice(breaks))
+    least_breaks_in(&line, &mut store, run)
 }
