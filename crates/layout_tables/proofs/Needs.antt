@@ -1,5 +1,5 @@
 -- What is known of a gap from its rule.
-use Rattle.std.proofs.Common.{◌≡◌, ◌∙◌, ◌<◌, arith, ◌==◌, ◌+◌, ℕ, Bool, true, false, ◌||◌, ◌&&◌, not, refl, eq-eqb}
+use Rattle.std.proofs.Common.{◌≡◌, ◌∙◌, ◌<◌, arith, ◌==◌, ◌+◌, ℕ, Bool, true, false, ◌||◌, ◌&&◌, not, refl, ap, eq-eqb}
 use Rattle.std.specs.Prelude.{if◌then◌else◌}
 use Rattle.std.proofs.lemmas.Bool.{ne_eqb}
 use Rattle.line_tokens.specs.Roles.{is_own, is_trailing, is_decl_name, is_call_or_decl_open, is_ctrl_or_group_open, is_comma_or_semi, is_list_open, is_binary, is_ternary, is_round_close, is_member, is_asm_colon}
@@ -46,6 +46,18 @@ free : {row : Break} (depth : ℕ) → Mild row → (rule_at depth row).must ≡
 free depth none = refl
 free depth (costs cost) = refl
 
+-- the first two rows, as the code asks them
+as_asked : (directive ends own lists : Bool) → ((directive || ends || own) || lists) ≡ (((directive || lists) || ends) || own)
+as_asked true ends own lists = refl
+as_asked false true true true = refl
+as_asked false true true false = refl
+as_asked false true false true = refl
+as_asked false true false false = refl
+as_asked false false true true = refl
+as_asked false false true false = refl
+as_asked false false false true = refl
+as_asked false false false false = refl
+
 must_rows : (depth : ℕ) (needs lists unlimited same : Bool) {rest : Break} → Mild rest
     → (rule_at depth (if needs then Must else (if lists then Must else (if unlimited then (if same then Not else Must) else rest)))).must
     ≡ ((needs || lists) || (unlimited && not same))
@@ -57,7 +69,7 @@ must_rows depth false false false same mild = free depth mild
 
 -- a gap breaks by the first rows of the table alone
 pub must_of_gap : (style : Style) (left right : LineTok)
-    → (gap_rule style left right).must ≡ (((right.directive || ends_its_row left.kind || is_own right.role) || right.trailing_list) || ((style.column_limit == 0) && not (right.gap.lines == 0)))
+    → (gap_rule style left right).must ≡ ((((right.directive || right.trailing_list) || ends_its_row left.kind) || is_own right.role) || ((style.column_limit == 0) && not (right.gap.lines == 0)))
 must_of_gap style left right =
     let l = left.role in
     let r = right.role in
@@ -76,9 +88,10 @@ must_of_gap style left right =
     (mild_row (is_string left.kind && is_string right.kind) (costs 10)
     (mild_row (is_round_close l && is_member r) (costs 150)
     (mild_row (is_asm_colon r && not (is_asm_colon l)) (costs 1) none))))))))))))))
+    ∙ ap (λ needs. needs || ((style.column_limit == 0) && not (right.gap.lines == 0))) (as_asked right.directive (ends_its_row left.kind) (is_own r) right.trailing_list)
 
 no_need : (directive ends own trailing lists unlimited apart : Bool) → not (((directive || lists) || ends) || (own || trailing)) ≡ true → unlimited ≡ false
-    → ((directive || ends || own) || lists) || (unlimited && apart) ≡ false
+    → (((directive || lists) || ends) || own) || (unlimited && apart) ≡ false
 no_need false false false trailing false false apart h u = refl
 no_need false false false trailing false true apart h u = cc
 no_need true ends own trailing lists unlimited apart h u = cc

@@ -1,5 +1,5 @@
 -- Whether a row may end between two tokens, and what that costs: the table of docs/PROFILE.md, "Breaks".
-use Rattle.std.specs.Prelude.{ℕ, ◌+◌, ◌-◌, ◌*◌, Bool, true, false, ◌&&◌, ◌||◌, not, ◌==◌, if◌then◌else◌, [], ◌∷◌}
+use Rattle.std.specs.Prelude.{ℕ, ◌+◌, ◌-◌, ◌*◌, Bool, true, false, ◌&&◌, ◌||◌, not, ◌==◌, if◌then◌else◌, List, [], ◌∷◌}
 use Rattle.line_tokens.specs.Table.{first_row}
 use Rattle.line_tokens.specs.Roles.{is_own, is_decl_name, is_call_or_decl_open, is_ctrl_or_group_open, is_comma_or_semi}
 use Rattle.line_tokens.specs.Roles.{is_list_open, is_assign, is_binary, is_ternary, is_round_close, is_member}
@@ -88,20 +88,11 @@ operator_side style left right = if is_behind style.break_before_binary_operator
 abbrev pub ternary_side : Style → LineTok → LineTok → LineTok
 ternary_side style left right = if style.break_before_ternary_operators then right else left
 
--- the table, a row a line
-abbrev pub break_by_table : Style → LineTok → LineTok → Break
-break_by_table style left right =
+-- the table's last rows: gaps where a row may end by the roles of both tokens, and what that costs
+abbrev pub cost_rows : Style → LineTok → LineTok → List (Bool × Break)
+cost_rows style left right =
     let l = left.role in
-    let r = right.role in
-    first_row (
-    (right.directive || ends_its_row left.kind || is_own r, Must)
-    ∷ (right.trailing_list, Must)
-    ∷ (style.column_limit == 0, if right.gap.lines == 0 then Not else Must)
-    ∷ (right.held, Not)
-    ∷ (is_decl_name r, Costs style.penalty_return_type_on_its_own_line)
-    ∷ (is_never_first r, Not)
-    ∷ (is_never_last l, Not)
-    ∷ (
+    let r = right.role in (
       is_call_or_decl_open l,
       Costs
           (style.penalty_break_before_first_call_parameter + style.penalty_break_open_parenthesis),
@@ -115,7 +106,22 @@ break_by_table style left right =
     ∷ (is_string left.kind && is_string right.kind, Costs 10)
     ∷ (is_round_close l && is_member r, Costs 150)
     ∷ (is_asm_colon r && not (is_asm_colon l), Costs 1)
-    ∷ []) Not
+    ∷ []
+
+-- the table, a row a line
+abbrev pub break_by_table : Style → LineTok → LineTok → Break
+break_by_table style left right =
+    let l = left.role in
+    let r = right.role in
+    first_row (
+    (right.directive || ends_its_row left.kind || is_own r, Must)
+    ∷ (right.trailing_list, Must)
+    ∷ (style.column_limit == 0, if right.gap.lines == 0 then Not else Must)
+    ∷ (right.held, Not)
+    ∷ (is_decl_name r, Costs style.penalty_return_type_on_its_own_line)
+    ∷ (is_never_first r, Not)
+    ∷ (is_never_last l, Not)
+    ∷ cost_rows style left right) Not
 
 -- the number in a row
 abbrev pub cost_in : Break → ℕ

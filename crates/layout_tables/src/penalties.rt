@@ -8,7 +8,9 @@ ghost use Rattle.line_tokens.specs.Roles.{is_own, is_trailing};
 ghost use Rattle.style_table.specs.declared.style.Style.{Style};
 ghost use Rattle.layout_tables.specs.Breaks.{ends_its_row, is_string, is_all, is_behind, is_never_first, is_never_last};
 ghost use Rattle.layout_tables.specs.Breaks.{is_assignment_gap, operator_side, ternary_side, break_by_table, cost_in};
-ghost use Rattle.layout_tables.specs.Breaks.{gap_rule};
+ghost use Rattle.layout_tables.specs.Breaks.{cost_rows, gap_rule};
+ghost use Rattle.layout_tables.specs.declared.penalties.Break.TheVariants.{Not};
+ghost use Rattle.line_tokens.specs.Table.{first_row};
 
 use line_tokens::{ItemKind, LineTok, Role};
 use style_table::{BreakBeforeBinaryOperators, Style};
@@ -139,14 +141,47 @@ fn ternary_side<'t>(style: &Style, left: &'t LineTok, right: &'t LineTok) -> &'t
     }
 }
 
+/// The table's last rows, a row a branch: where a row may end by the roles of both tokens.
+#[inline(always)]
+fn by_cost_rows(style: &Style, left: &LineTok, right: &LineTok) -> Break
+    ensures row { result ≡ first_row (cost_rows style.now left.now right.now) Not }
+    ensures small { cost_in result < 2 ^ 34 }
+{
+    let (l, r) = (left.role, right.role);
+    if l.is_call_or_decl_open() {
+        Break::Costs(
+            u64::from(style.penalty_break_before_first_call_parameter)
+                + u64::from(style.penalty_break_open_parenthesis),
+        )
+    } else if l.is_ctrl_or_group_open() {
+        Break::Costs(100 + u64::from(style.penalty_break_open_parenthesis))
+    } else if l.is_comma_or_semi() {
+        Break::Costs(1)
+    } else if l.is_list_open() {
+        Break::Costs(10)
+    } else if is_assignment_gap(style, left, right) {
+        Break::Costs(u64::from(style.penalty_break_assignment))
+    } else if operator_side(style, left, right).role.is_binary() {
+        Break::Costs(u64::from(operator_side(style, left, right).power))
+    } else if ternary_side(style, left, right).role.is_ternary() {
+        Break::Costs(3)
+    } else if is_string(left.kind) && is_string(right.kind) {
+        Break::Costs(10)
+    } else if l.is_round_close() && r.is_member() {
+        Break::Costs(150)
+    } else if r.is_asm_colon() && !l.is_asm_colon() {
+        Break::Costs(1)
+    } else {
+        Break::Not
+    }
+}
+
 /// The table, a row a branch.
 fn by_table(style: &Style, left: &LineTok, right: &LineTok) -> Break
     ensures row { result ≡ break_by_table style.now left.now right.now }
     ensures small { cost_in result < 2 ^ 34 }
 {
     let (l, r) = (left.role, right.role);
-    let operator = operator_side(style, left, right);
-    let ternary = ternary_side(style, left, right);
     if right.directive || ends_its_row(left.kind) || r.is_own() {
         Break::Must
     } else if right.trailing_list {
@@ -165,31 +200,8 @@ fn by_table(style: &Style, left: &LineTok, right: &LineTok) -> Break
         Break::Not
     } else if is_never_last(l) {
         Break::Not
-    } else if l.is_call_or_decl_open() {
-        Break::Costs(
-            u64::from(style.penalty_break_before_first_call_parameter)
-                + u64::from(style.penalty_break_open_parenthesis),
-        )
-    } else if l.is_ctrl_or_group_open() {
-        Break::Costs(100 + u64::from(style.penalty_break_open_parenthesis))
-    } else if l.is_comma_or_semi() {
-        Break::Costs(1)
-    } else if l.is_list_open() {
-        Break::Costs(10)
-    } else if is_assignment_gap(style, left, right) {
-        Break::Costs(u64::from(style.penalty_break_assignment))
-    } else if operator.role.is_binary() {
-        Break::Costs(u64::from(operator.power))
-    } else if ternary.role.is_ternary() {
-        Break::Costs(3)
-    } else if is_string(left.kind) && is_string(right.kind) {
-        Break::Costs(10)
-    } else if l.is_round_close() && r.is_member() {
-        Break::Costs(150)
-    } else if r.is_asm_colon() && !l.is_asm_colon() {
-        Break::Costs(1)
     } else {
-        Break::Not
+        by_cost_rows(style, left, right)
     }
 }
 
@@ -224,7 +236,7 @@ pub fn gap_rule(style: &Style, left: &LineTok, right: &LineTok) -> GapRule
 #[inline(always)]
 fn ends_by_first_rows(style: &Style, left: &LineTok, right: &LineTok) -> bool
     ensures { result
-        ≡ (((right.now.directive || ends_its_row left.now.kind || is_own right.now.role) || right.now.trailing_list)
+        ≡ ((((right.now.directive || right.now.trailing_list) || ends_its_row left.now.kind) || is_own right.now.role)
         || ((style.now.column_limit == 0) && not (right.now.gap.lines == 0))) }
 {
     (right.directive | right.trailing_list | ends_its_row(left.kind) | right.role.is_own())

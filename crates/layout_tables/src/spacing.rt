@@ -8,7 +8,8 @@ mod laws;
 ghost use Rattle.std.specs.Prelude.{◌≡◌, ◌≤◌};
 ghost use Rattle.style_table.specs.Range.{IsInRange};
 ghost use Rattle.layout_tables.specs.Spaces.{as_before, one_if, is_attached, is_line_comment, is_never, is_always};
-ghost use Rattle.layout_tables.specs.Spaces.{is_left, is_right, spaces_by_table, spaces_before};
+ghost use Rattle.layout_tables.specs.Spaces.{is_left, is_right, later_rows, spaces_by_table, spaces_before};
+ghost use Rattle.line_tokens.specs.Table.{first_row};
 ghost use Rattle.layout_tables.specs.Told.{TellBlanks, group_before, group_behind};
 
 pub use laws::keeps_apart;
@@ -66,6 +67,38 @@ fn is_right(key: PointerAlignment) -> bool
     matches!(key, PointerAlignment::Right)
 }
 
+/// The table's last rows, a row a branch.
+#[inline(always)]
+fn by_later_rows(style: &Style, left: &LineTok, right: &LineTok) -> u8
+    ensures row { result ≡ first_row (later_rows style.now left.now right.now) 1 }
+    ensures few { result ≤ 16 }
+{
+    let (l, r) = (left.role, right.role);
+    if r.is_ctrl_open() {
+        one_if(!is_never(style.space_before_parens))
+    } else if r.is_call_or_decl_open() {
+        one_if(is_always(style.space_before_parens))
+    } else if is_attached(r) {
+        0
+    } else if l.is_unary_or_prefix() {
+        0
+    } else if l.is_member_or_desig_dot() || r.is_member() {
+        0
+    } else if l.is_cast_close() {
+        one_if(style.space_after_c_style_cast)
+    } else if l.is_pointer() && r.is_pointer() {
+        0
+    } else if r.is_pointer() {
+        one_if(!is_left(style.pointer_alignment))
+    } else if l.is_pointer() {
+        one_if(!is_right(style.pointer_alignment))
+    } else if l.is_asm_colon() && r.is_asm_colon() {
+        as_before(right)
+    } else {
+        1
+    }
+}
+
 /// The table, a row a branch.
 fn by_table(style: &Style, left: &LineTok, right: &LineTok) -> u8
     requires { IsInRange style.now }
@@ -89,28 +122,8 @@ fn by_table(style: &Style, left: &LineTok, right: &LineTok) -> u8
         one_if(!style.cpp11_braced_list_style)
     } else if l.is_inner_or_stray() || r.is_inner_or_stray() {
         as_before(right)
-    } else if r.is_ctrl_open() {
-        one_if(!is_never(style.space_before_parens))
-    } else if r.is_call_or_decl_open() {
-        one_if(is_always(style.space_before_parens))
-    } else if is_attached(r) {
-        0
-    } else if l.is_unary_or_prefix() {
-        0
-    } else if l.is_member_or_desig_dot() || r.is_member() {
-        0
-    } else if l.is_cast_close() {
-        one_if(style.space_after_c_style_cast)
-    } else if l.is_pointer() && r.is_pointer() {
-        0
-    } else if r.is_pointer() {
-        one_if(!is_left(style.pointer_alignment))
-    } else if l.is_pointer() {
-        one_if(!is_right(style.pointer_alignment))
-    } else if l.is_asm_colon() && r.is_asm_colon() {
-        as_before(right)
     } else {
-        1
+        by_later_rows(style, left, right)
     }
 }
 
