@@ -1,3 +1,4 @@
+pub mod Failed
 pub mod Heads
 pub mod Waits
 pub mod Walked
@@ -10,6 +11,7 @@ pub mod RowParts
 pub mod NotedRows
 pub mod NoteChains
 pub mod Told
+pub mod EndsOfParts
 pub mod InBodies
 pub mod PartEnds
 pub mod Laid
@@ -17,3 +19,4 @@ pub mod BodiesPassed
 pub mod BodyRows
 pub mod GroupsPassed
 pub mod QuietPassed
+pub mod ReadItems

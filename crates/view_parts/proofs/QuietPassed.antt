@@ -1,5 +1,5 @@
 -- Quiet tokens in a row, passed at once.
-use Rattle.std.proofs.Common.{◌≡◌, ◌∙◌, ℕ, zero, suc, ◌+◌, ◌-◌, ◌<◌, ◌≤◌, true, false, List, length, drop, get_or, refl, sym, ap, subst, arith}
+use Rattle.std.proofs.Common.{◌≡◌, ◌∙◌, ℕ, zero, suc, ◌+◌, ◌-◌, ◌<◌, ◌≤◌, Bool, true, false, List, length, drop, get_or, refl, sym, ap, subst, arith}
 use Rattle.std.proofs.lemmas.List.{get_or_default, length-drop}
 use Rattle.std.specs.Prelude.{Option}
 use Rattle.token_arena.specs.Gaps.{Contents}
@@ -24,7 +24,7 @@ use Rattle.view_parts.proofs.Waits.{none_left}
 use Rattle.view_parts.proofs.Walked.{class_told}
 
 -- quiet tokens count as the place tells
-placed : (walk : Walk) (stands : Around) (place last : ℕ) (class : TokenClass) → (passed walk stands place last class).place ≡ place
+pub placed : (walk : Walk) (stands : Around) (place last : ℕ) (class : TokenClass) → (passed walk stands place last class).place ≡ place
 placed walk around.Outside place last class = refl
 placed walk around.Body place last class = refl
 placed walk around.Group place last class = refl
@@ -53,6 +53,40 @@ stands_behind view first place later id row is behind some shift = record {
   item = is.items (first + later) (omega (arith, behind)) some ∙ sym shift;
   below = omega (arith, some, is.inside);
 }
+
+-- behind so many tokens of a row
+pub record IsBehind (first place n next end : ℕ) : Type 0 where
+  pub later : place ≤ next
+  pub within : first + next ≤ end
+
+pub behind_so : (first place n next end : ℕ) → next ≡ place + n → first + place + n ≤ end → IsBehind first place n next end
+behind_so first place n next end at inside = record { later = omega (arith, at); within = omega (arith, at, inside) }
+
+pub row_ends : (first next end : ℕ) → first + next ≤ end → end ≤ first + next → first + next ≡ end
+row_ends first next end low high = omega (arith, low, high)
+
+pub item_behind : (first place n next shift id : ℕ) → next ≡ place + n → 0 < n → id ≡ first + place + shift → id + (n - 1) + 1 ≡ first + next + shift
+item_behind first place n next shift id at some is = omega (arith, at, some, is)
+
+-- none of them
+pub none_passed : (all : List TokenClass) (stands : Around) (walk : Walk) (id : ℕ) → PassesQuiet all stands walk id (walk.place - walk.place) walk
+none_passed all stands walk id = record {
+  none = λ e. refl;
+  some = λ m d e. absurd (omega (arith, e));
+  never = λ some. absurd (omega (arith, some));
+  low = λ some body. absurd (omega (arith, some));
+  quiet = λ k d below. absurd (omega (arith, below));
+}
+
+-- what the code asks of them by their places, by their numbers
+pub quiet_by_number : (all : List TokenClass) (stands : Around) (held : Bool) (first place n shift id : ℕ) → id ≡ first + place + shift → ((k : ℕ) → (d : TokenClass) → first + place ≤ k → k < first + place + n → is_quiet stands held (get_or all (k + shift) d) ≡ true)
+    → (k : ℕ) → (d : TokenClass) → k < n → is_quiet stands held (get_or all (id + k) d) ≡ true
+quiet_by_number all stands held first place n shift id is quiet k d below =
+    let at : first + place + k + shift ≡ id + k = omega (arith, is) in
+    ap (λ j. is_quiet stands held (get_or all j d)) (sym at) ∙ quiet (first + place + k) d (omega arith) (omega (arith, below))
+
+pub within_all : (first place n end shift id count : ℕ) → id ≡ first + place + shift → first + place + n ≤ end → end + shift ≤ count → id + n ≤ count
+within_all first place n end shift id count is inside stored = omega (arith, is, inside, stored)
 
 -- so many of them, as the code counts them
 pub passes_so : (all : List TokenClass) (stands : Around) (walk : Walk) (id n : ℕ) (next : Walk) → 0 < n → id + n ≤ length all → next ≡ passed walk stands (walk.place + n) (id + (n - 1)) (get_or all (id + (n - 1)) If)

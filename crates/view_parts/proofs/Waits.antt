@@ -39,6 +39,18 @@ opener_waits OpenSquare place waiting e = refl
 opener_waits OpenBrace place waiting e = refl
 opener_waits _ place waiting e = cc
 
+-- how many `{` wait behind an opener
+pub opener_counts : (class : TokenClass) (place braces made : ℕ) (old new : List Opener) → new ≡ record { place = place; kind = class } ∷ old → braces ≡ count_braces old → made ≡ (if is_open_brace class then braces + 1 else braces) → made ≡ count_braces new
+opener_counts class place braces made old new is count makes = (makes ∙ by_class class) ∙ ap (λ (os : List Opener). count_braces os) (sym is)
+  where
+    by_class : (class : TokenClass) → (if is_open_brace class then braces + 1 else braces) ≡ count_braces (record { place = place; kind = class } ∷ old)
+    by_class OpenBrace = omega (arith, count)
+    by_class _ = count
+
+pub opener_small : (brace : Bool) (braces made id : ℕ) → made ≡ (if brace then braces + 1 else braces) → braces ≤ id + 1 → made ≤ id + 2
+opener_small true braces made id makes small = omega (arith, makes, small)
+opener_small false braces made id makes small = omega (arith, makes, small)
+
 -- what a closer leaves is the same wherever it stands
 pub closer_waits : (class : TokenClass) (place later : ℕ) (old new : List Opener) (taken : Option ℕ) → is_opener class ≡ false → TakesStep class later old taken new → new ≡ waiting_behind class place old
 closer_waits class place later old new taken closes step = ap (λ (m : Matching). m.open_brackets) (step []) ∙ same class closes

@@ -2,7 +2,7 @@
 
 ghost use Rattle.std.specs.Prelude.{◌&&◌, ◌||◌, ◌≡◌, ◌<◌, ◌≤◌, ◌+◌, ◌-◌, ◌^◌, ℕ};
 ghost use Rattle.std.specs.Prelude.{true, false, not, All, length, drop, take, get_or, slice_range};
-ghost use Rattle.std.specs.Prelude.{IfOk, None, Some};
+ghost use Rattle.std.specs.Prelude.{IfOk, IfSome, None, Some};
 ghost use Rattle.std.specs.Option.{ForNone, ForSome};
 ghost use Rattle.token_arena.specs.Ids.{Increase};
 ghost use Rattle.token_classes.specs.declared.class.TokenClass.{TokenClass};
@@ -220,8 +220,8 @@ fn closes_group(opener: TokenClass, closer: TokenClass) -> bool
 /// How many of these tokens stand up to the `}` that closes the brace before them, if it is among them.
 #[inline(always)]
 fn closing_len(classes: &[TokenClass]) -> Option<usize>
-    ensures within { ForSome result (λ len. len ≤ length classes.now) }
-    ensures closes { ForSome result (λ len. Closes 1 (take len classes.now)) }
+    ensures within { IfSome result (λ len. len ≤ length classes.now) }
+    ensures closes { IfSome result (λ len. Closes 1 (take len classes.now)) }
 {
     let mut depth: usize = 1;
     let mut count: usize = 0;
@@ -254,12 +254,12 @@ fn passed_group(
 ) -> Option<(TokenClass, u32)>
     requires here { first + place < row.now.end }
     requires within { row.now.end + row.now.shift ≤ length all.now }
-    ensures within { ForSome result (λ group. first + place + group.1 < row.now.end) }
-    ensures some { ForSome result (λ group. 0 < group.1) }
-    ensures closer { ForSome result
+    ensures within { IfSome result (λ group. first + place + group.1 < row.now.end) }
+    ensures some { IfSome result (λ group. 0 < group.1) }
+    ensures closer { IfSome result
         (λ group. (d : TokenClass) → group.0 ≡ get_or all.now (first + place + group.1 + row.now.shift) d) }
-    ensures closes { ForSome result (λ group. closes_group opener group.0 ≡ true) }
-    ensures quiet { ForSome result (λ group.
+    ensures closes { IfSome result (λ group. closes_group opener group.0 ≡ true) }
+    ensures quiet { IfSome result (λ group.
         (k : ℕ) → (d : TokenClass) → first + place < k → k < first + place + group.1 →
         is_quiet Group false (get_or all.now (k + row.now.shift) d) ≡ true) }
 {
@@ -272,7 +272,10 @@ fn passed_group(
         return None;
     }
     let closer = all[end as usize + row.shift as usize];
-    closes_group(opener, closer).then_some((closer, quiet + 1))
+    if !closes_group(opener, closer) {
+        return None;
+    }
+    Some((closer, quiet + 1))
 }
 
 /// The head of the body that a `{` at a place of a part opens, and how many items stand behind that up to its `}`, if
@@ -289,11 +292,11 @@ fn passed_body(
 ) -> Option<(Head, u32)>
     requires here { first + place < row.now.end }
     requires within { row.now.end + row.now.shift ≤ length all.now }
-    ensures opened { ForSome result (λ body. opened ≡ Some body.0) }
-    ensures before { ForSome result (λ body. walk.now.declaration.before ≡ Before.Body) }
-    ensures within { ForSome result (λ body. first + place + body.1 < row.now.end) }
-    ensures low { ForSome result (λ body. place + 1 + body.1 ≤ 512) }
-    ensures closes { ForSome result
+    ensures opened { IfSome result (λ body. opened ≡ Some body.0) }
+    ensures before { IfSome result (λ body. walk.now.declaration.before ≡ Before.Body) }
+    ensures within { IfSome result (λ body. first + place + body.1 < row.now.end) }
+    ensures low { IfSome result (λ body. place + 1 + body.1 ≤ 512) }
+    ensures closes { IfSome result
         (λ body. Closes 1 (take body.1 (drop (first + place + 1 + row.now.shift) all.now))) }
 {
     let head = opened?;

@@ -7,10 +7,10 @@ ghost use Rattle.token_classes.specs.Viewed.{AreWithin, item_classes};
 ghost use Rattle.view_parts.specs.Known.{AreKnown, AreRowsFrom, AreSpans, HasRow, IsKnown, IsKnownRow, IsRowAt};
 ghost use Rattle.view_parts.specs.Parts.{part_inside, part_len, EndsBehind, StandsBefore};
 ghost use Rattle.view_parts.specs.Places.{place_in};
-ghost use Rattle.view_parts.specs.Told.{TellParts};
+ghost use Rattle.view_parts.specs.Told.{IsEndOfPart, TellParts};
 
 use crate::bodies::BodyPlace;
-use crate::ends::part_end;
+use crate::ends::{PartEnd, part_end};
 use crate::notes::KnownEnds;
 use bumpalo::Bump;
 use line_tokens::{NoMemory, TokenId};
@@ -95,17 +95,7 @@ fn recalled_row(
     requires here { first < length view.now }
     requires item { (d : ℕ) → get_or view.now first d ≡ id.0 }
     requires known { IsKnownRow arena.now id.0 known }
-    ensures end { IfSome result (λ part. part.end ≡ first + part_len arena.now None (drop first view.now)) }
-    ensures outside { IfSome result (λ part. part.inside ≡ None) }
-    ensures begun { IfSome result (λ part. part_inside arena.now None (drop first view.now) ≡ None) }
-    ensures some { IfSome result (λ part. first < part.end) }
-    ensures inside { IfSome result (λ part. part.end ≤ length view.now) }
-    ensures told { IfSome result (λ part.
-        ForSome part.told
-        (λ told. TellParts arena.now None (slice_range view.now first told) (part.end - first) None)) }
-    ensures later { IfSome result (λ part. ForSome part.told (λ told. part.end < told)) }
-    ensures below { IfSome result (λ part. ForSome part.told (λ told. told ≤ length view.now)) }
-    ensures whole { IfSome result (λ part. ForNone part.told (part.end ≡ length view.now)) }
+    ensures { IfSome result (λ part. IsEndOfPart arena.now None view.now first part) }
 {
     let count = view.len();
     let last = known.seen - 1;
@@ -189,17 +179,7 @@ fn recalled_span(
 ) -> Option<PartsEnd<'static>>
     requires here { first < length view.now }
     requires known { AreSpans arena.now spans.now.spans.items }
-    ensures end { IfSome result (λ part. part.end ≡ first + part_len arena.now None (drop first view.now)) }
-    ensures outside { IfSome result (λ part. part.inside ≡ None) }
-    ensures begun { IfSome result (λ part. part_inside arena.now None (drop first view.now) ≡ None) }
-    ensures some { IfSome result (λ part. first < part.end) }
-    ensures inside { IfSome result (λ part. part.end ≤ length view.now) }
-    ensures told { IfSome result (λ part.
-        ForSome part.told
-        (λ told. TellParts arena.now None (slice_range view.now first told) (part.end - first) None)) }
-    ensures later { IfSome result (λ part. ForSome part.told (λ told. part.end < told)) }
-    ensures below { IfSome result (λ part. ForSome part.told (λ told. told ≤ length view.now)) }
-    ensures whole { IfSome result (λ part. ForNone part.told (part.end ≡ length view.now)) }
+    ensures { IfSome result (λ part. IsEndOfPart arena.now None view.now first part) }
 {
     let count = view.len();
     prove!(first < count);
@@ -233,17 +213,7 @@ fn recalled(
     requires item { (d : ℕ) → get_or view.now first d ≡ id.0 }
     requires known { IsKnown arena.now id.0 known }
     requires spans { AreSpans arena.now spans.now.spans.items }
-    ensures end { IfSome result (λ part. part.end ≡ first + part_len arena.now None (drop first view.now)) }
-    ensures outside { IfSome result (λ part. part.inside ≡ None) }
-    ensures begun { IfSome result (λ part. part_inside arena.now None (drop first view.now) ≡ None) }
-    ensures some { IfSome result (λ part. first < part.end) }
-    ensures inside { IfSome result (λ part. part.end ≤ length view.now) }
-    ensures told { IfSome result (λ part.
-        ForSome part.told
-        (λ told. TellParts arena.now None (slice_range view.now first told) (part.end - first) None)) }
-    ensures later { IfSome result (λ part. ForSome part.told (λ told. part.end < told)) }
-    ensures below { IfSome result (λ part. ForSome part.told (λ told. told ≤ length view.now)) }
-    ensures whole { IfSome result (λ part. ForNone part.told (part.end ≡ length view.now)) }
+    ensures { IfSome result (λ part. IsEndOfPart arena.now None view.now first part) }
 {
     match known {
         KnownEnd::Unknown | KnownEnd::InRows(_) => None,
@@ -324,6 +294,91 @@ fn noted_part<'k>(
     }
 }
 
+/// Notes a part that begins at a place with this item, in the segment with the number `begun`, where it ends outside
+/// brackets and items tell so.
+fn note_part<'k>(
+    arena: &TokenArena<'_, '_>,
+    view: &View<'_>,
+    first: u32,
+    id: TokenId,
+    part: &PartEnd<'k>,
+    begun: usize,
+    known: &mut KnownEnds<'_>,
+    spans: &mut KnownSpans<'k>,
+    keep: &'k Bump,
+    segment: &mut usize,
+) -> Result<(), NoMemory>
+    requires within { AreWithin arena.now view.now }
+    requires item { (d : ℕ) → get_or view.now first d ≡ id.0 }
+    requires stored { id.0 < length known.old }
+    requires some { first < part.now.end }
+    requires later { ForSome part.now.seen (λ seen. part.now.end < seen) }
+    requires below { ForSome part.now.seen (λ seen. seen ≤ length view.now) }
+    requires ends { ForSome part.now.seen (λ seen.
+        EndsBehind arena.now None (slice_range view.now first seen)
+        (record { count = part.now.end - first; inside = place_in part.now.inside })) }
+    requires known { AreKnown arena.now known.old }
+    requires spans { AreSpans arena.now spans.old.spans.items }
+    ensures untold { ForNone part.now.seen (known.new ≡ known.old) }
+    ensures known { AreKnown arena.now known.new }
+    ensures rows { AreRowsFrom known.old view.now first part.now.end known.new }
+    ensures spans { OnOk result (AreSpans arena.now spans.new.spans.items) }
+{
+    let Some(seen) = part.seen else {
+        return Ok(());
+    };
+    if part.inside.is_some() {
+        return Ok(());
+    }
+    let end = noted_part(
+        arena, view, first, id, part.end, seen, begun, spans, keep, segment,
+    )?;
+    known.set(id, end)
+}
+
+/// Where the part ends that begins at a place with this item, outside brackets, for which there is a place for what is
+/// known of it. Where nothing is known yet it is noted.
+fn noted_part_end<'k>(
+    arena: &TokenArena<'_, '_>,
+    view: &View<'_>,
+    all: &[TokenClass],
+    first: u32,
+    id: TokenId,
+    known: &mut KnownEnds<'_>,
+    spans: &mut KnownSpans<'k>,
+    keep: &'k Bump,
+    segment: &mut usize,
+    room: &Bump,
+) -> Result<PartsEnd<'k>, NoMemory>
+    requires within { AreWithin arena.now view.now }
+    requires all { all.now ≡ item_classes arena.now }
+    requires here { first < length view.now }
+    requires item { (d : ℕ) → get_or view.now first d ≡ id.0 }
+    requires stored { id.0 < length known.old }
+    requires known { AreKnown arena.now known.old }
+    requires spans { AreSpans arena.now spans.old.spans.items }
+    ensures part { IfOk result (λ part. IsEndOfPart arena.now None view.now first part) }
+    ensures untold { IfOk result (λ part. ForNone part.told (known.new ≡ known.old)) }
+    ensures known { AreKnown arena.now known.new }
+    ensures rows { IfOk result (λ part. AreRowsFrom known.old view.now first part.end known.new) }
+    ensures spans { OnOk result (AreSpans arena.now spans.new.spans.items) }
+{
+    let begun = *segment;
+    if let Some(part) = recalled(arena, view, first, id, known.get(id), spans, segment) {
+        return Ok(part);
+    }
+    let part = part_end(arena, view, all, None, first, segment, keep, room)?;
+    note_part(
+        arena, view, first, id, &part, begun, known, spans, keep, segment,
+    )?;
+    let PartEnd { end, seen, inside } = part;
+    Ok(PartsEnd {
+        end,
+        told: seen,
+        inside,
+    })
+}
+
 /// Where the part of a view ends that begins at a place, as [`part_end`](crate::part_end) says, and which items tell
 /// so. Where it is known, that takes one step.
 ///
@@ -368,22 +423,12 @@ pub fn known_part_end<'k>(
     ensures spans { OnOk result (AreSpans arena.now spans.new.spans.items) }
 {
     let id = view.at_near(first, segment);
-    let begun = *segment;
-    let kept = begins.is_none() && known.has_place(id);
-    if kept {
-        if let Some(part) = recalled(arena, view, first, id, known.get(id), spans, segment) {
-            return Ok(part);
-        }
+    if begins.is_none() && known.has_place(id) {
+        return noted_part_end(
+            arena, view, all, first, id, known, spans, keep, segment, room,
+        );
     }
     let part = part_end(arena, view, all, begins, first, segment, keep, room)?;
-    if let Some(seen) = part.seen {
-        if kept && part.inside.is_none() {
-            let end = noted_part(
-                arena, view, first, id, part.end, seen, begun, spans, keep, segment,
-            )?;
-            known.set(id, end)?;
-        }
-    }
     Ok(PartsEnd {
         end: part.end,
         told: part.seen,

@@ -1,7 +1,8 @@
 //! The way along the items of a part.
 
-ghost use Rattle.std.specs.Prelude.{◌≡◌, ◌<◌, ◌||◌, false, not, length};
+ghost use Rattle.std.specs.Prelude.{◌≡◌, ◌<◌, ◌&&◌, ◌||◌, false, not, length};
 ghost use Rattle.token_arena.specs.Gaps.{Contents, item_began};
+ghost use Rattle.token_classes.specs.Classes.{is_else};
 ghost use Rattle.token_classes.specs.declared.class.TokenClass.TheVariants.{OpenBrace};
 ghost use Rattle.view_parts.specs.Places.{place_in};
 ghost use Rattle.view_parts.specs.Reading.{GoesOn};
@@ -14,7 +15,7 @@ ghost use Rattle.view_parts.specs.Walk.{is_record, is_label, is_leading, begins_
 ghost use Rattle.view_parts.specs.Walk.{begins_behind, begins_block, ends_statement};
 ghost use Rattle.view_parts.specs.Walk.{begins_members_in_body, begins_members_outside};
 ghost use Rattle.view_parts.specs.Walk.{heads_structure, is_behind_if};
-ghost use Rattle.view_parts.specs.Walk.{headed_by, goes_on_with, kept_begun, next_begun, next_last};
+ghost use Rattle.view_parts.specs.Walk.{headed_by, goes_on_with, kept_begun, next_begun, next_held, next_last};
 ghost use Rattle.view_parts.specs.Walk.{end_in_body, parts_statements, past_comment, in_body, in_group, outside};
 ghost use Rattle.view_parts.specs.Walk.{reading, entered, left};
 
@@ -452,6 +453,39 @@ impl LastToken {
             || (class.is_if() && self.class.is_else())
     }
 
+    /// Whether a statement that began behind the body of an `if` ends before a token.
+    #[inline(always)]
+    fn ends_behind_if(&self, class: TokenClass) -> bool
+        ensures { result ≡ ((is_leading class || is_else class) && not (goes_on_with self.now class)) }
+    {
+        (is_leading(class) || class.is_else()) && !self.goes_on_with(class)
+    }
+
+    /// How a statement began that goes on with a token.
+    #[inline(always)]
+    fn kept_begun(&self, class: TokenClass, begun: Begun) -> Begun
+        ensures { result ≡ kept_begun self.now class begun }
+    {
+        match begun {
+            Begun::Behind(_) if self.ends_behind_if(class) => Begun::Unknown,
+            _ => begun,
+        }
+    }
+
+    /// Behind how many statements more a part may end, behind the next token of a body.
+    #[inline(always)]
+    fn next_held(&self, class: TokenClass) -> u32
+        ensures { result ≡ next_held self.now.held class }
+    {
+        if class.is_semicolon() {
+            self.held.saturating_sub(1)
+        } else if is_label(class) {
+            HELD
+        } else {
+            self.held
+        }
+    }
+
     /// Behind the next token of a body, which is no comment, but for what it is to the head of a structure. So many
     /// items of the part were read before it.
     #[inline(always)]
@@ -473,13 +507,7 @@ impl LastToken {
         } else {
             self.headed
         };
-        self.held = if class.is_semicolon() {
-            self.held.saturating_sub(1)
-        } else if is_label(class) {
-            HELD
-        } else {
-            self.held
-        };
+        self.held = self.next_held(class);
         self.class = class;
         self.id = id.0;
         self.apart = false;
@@ -487,23 +515,25 @@ impl LastToken {
 }
 
 impl Walk {
+    /// Whether a statement that may have a body begins with the next token of a body.
+    #[inline(always)]
+    fn begins_leading(&self, class: TokenClass) -> bool
+        ensures { result ≡ (begins_behind self.now.last && is_leading class) }
+    {
+        self.last.is_begin() && is_leading(class)
+    }
+
     /// How the statement began that is read, behind the next token of its body.
     fn next_begun(&self, id: TokenId, class: TokenClass) -> Begun
         ensures { result ≡ next_begun self.now id.0 class }
     {
-        if is_leading(class) && self.last.is_begin() {
+        if self.begins_leading(class) {
             return Begun::With(PartToken {
                 id: id.0,
                 place: self.place,
             });
         }
-        match self.begun {
-            Begun::Behind(_)
-                if (is_leading(class) || class.is_else()) && !self.last.goes_on_with(class) => {
-                Begun::Unknown
-            }
-            begun => begun,
-        }
+        self.last.kept_begun(class, self.begun)
     }
 
     /// Whether an item may tell where the part ends, by what it stands in, or in a body what is known changes in

@@ -1,8 +1,8 @@
-use Rattle.std.proofs.Common.{◌≡◌, ◌∙◌, ◌+◌, ◌-◌, ◌<◌, ℕ, List, false, Some, None, length, drop, reverse, get_or, sym, ap, subst, arith, refl, take, true, Option}
-use Rattle.std.specs.Prelude.{◌&&◌, All, not, slice_range}
+use Rattle.std.proofs.Common.{◌≡◌, ◌∙◌, ◌+◌, ◌<◌, ℕ, List, false, Some, None, length, drop, reverse, get_or, sym, ap, subst, arith, refl, take, true, Option, Bool}
+use Rattle.std.specs.Prelude.{◌&&◌, All, not}
 use Rattle.std.proofs.lemmas.Bool.{and_parts, not-true}
 use Rattle.std.proofs.Math.Bool.{and-true}
-use Rattle.std.proofs.lemmas.List.{get_or-drop, length-drop, length-map}
+use Rattle.std.proofs.lemmas.List.{length-drop, length-map}
 use Rattle.token_arena.specs.Gaps.{Contents}
 use Rattle.token_classes.specs.declared.class.TokenClass.{TokenClass}
 use Rattle.token_classes.specs.declared.class.TokenClass.TheVariants.{If, OpenBrace}
@@ -16,24 +16,21 @@ use Rattle.view_parts.specs.declared.walk.Around.TheVariants as around
 use Rattle.view_parts.specs.declared.walk.Outcome.{Outcome}
 use Rattle.view_parts.specs.declared.walk.Walk.{Walk}
 use Rattle.view_parts.specs.Places.{Place, place_in, place_of}
-use Rattle.view_parts.specs.Parts.{end_of_part, heads_at, part_len, place_behind, EndsBehind, StandsBefore}
+use Rattle.view_parts.specs.Parts.{end_of_part, heads_at, place_behind}
 use Rattle.view_parts.specs.Reading.{GoesOn}
-use Rattle.view_parts.specs.Walk.{end_in_body, ends_inside_or, heads_len, in_body, is_some, reading}
-use Rattle.view_parts.specs.Steps.{ends_before_brace, is_quiet, read_so, Closes}
+use Rattle.view_parts.specs.Walk.{end_in_body, ends_inside_or, heads_len, in_body, is_some, reading, opened_head}
+use Rattle.view_parts.specs.Steps.{ends_before_brace, read_so, Closes}
+use Rattle.view_parts.proofs.Failed.{no_value}
 use Rattle.view_parts.proofs.BodyRows.{brace_of, read_body}
 use Rattle.view_parts.proofs.GroupsPassed.{read_group}
 use Rattle.view_parts.proofs.Heads.{heads_len-reverse, opened_brace, opened_none}
-use Rattle.view_parts.proofs.InBodies.{stands_before}
-use Rattle.view_parts.proofs.PartEnds.{ends_nowhere, ends_there, headed, read_first, read_flat, read_on, seen_so}
-use Rattle.view_parts.proofs.QuietPassed.{read_past, stands_behind}
-use Rattle.view_parts.proofs.Rows.{drop_increase, row_items, row_later, row_stored}
+use Rattle.view_parts.proofs.PartEnds.{ends_nowhere, read_first, read_flat, read_on}
+use Rattle.view_parts.proofs.ReadItems.{at_item, ends_at, ends_item, ends_with_view, fewer_left, fits_text, group_quiet, item_row, later_place, one_fewer, read_quiet_row, reads_item, row_behind_item, small_at, stands_here, told_fits, within_kept}
+use Rattle.view_parts.proofs.Rows.{row_later, row_stored}
 use Rattle.view_parts.proofs.Waits.{braces_turned}
-use Rattle.view_parts.proofs.Walked.{all_read, behind_place, inside_at, never_ends, next_item, next_place, outside_at, told_by}
+use Rattle.view_parts.proofs.Walked.{all_read, behind_place, inside_at, never_ends, next_place, outside_at, told_by}
 use Rattle.view_parts.proofs.ends.part_end.Goals.{else-loop-walk-test, then-loop-walk-test+in-Some+else-prove+else-passes_brace+in-Never}
 use Rattle.view_parts.proofs.ends.part_end.Goals as goal
-
-some_is : (n m k : ℕ) → Some n ≡ Some m → n ≡ k → m ≡ k
-some_is n m k same is = cc
 
 -- behind a token that goes on and isn't passed as a `{` no `{` stands
 no_brace : (arena : Contents) (walk next : Walk) (stands : Around) (id : ℕ) (class : TokenClass) → is_open_brace class && not (ends_before_brace walk stands id) ≡ false → reading arena walk stands id class ≡ GoesOn next
@@ -47,12 +44,10 @@ no_brace arena walk next around.Body id OpenBrace other goes = absurd (ends (end
     ends (Some count) e on = cc
 no_brace arena walk next around.Body id _ other goes = refl
 
--- the part ends so as the code tells
-ended_so : (arena : Contents) (begins : Option Place) (ids : List ℕ) (first end told : ℕ) (inside place : Option Place) → end ≡ told → inside ≡ place
-    → EndsBehind arena begins ids (record { count = told - first; inside = place }) → EndsBehind arena begins ids (record { count = end - first; inside = inside })
-ended_so arena begins ids first end told inside place at is ends =
-    subst (λ n. EndsBehind arena begins ids (record { count = n - first; inside = inside })) (sym at)
-    (subst (λ (o : Option Place). EndsBehind arena begins ids (record { count = told - first; inside = o })) (sym is) ends)
+-- what comes of an item that is no `{` which is passed as one
+no_body : (arena : Contents) (walk next : Walk) (stands : Around) (bodies : List Head) (id : ℕ) (class : TokenClass) (passes : Bool) → passes ≡ is_open_brace class && not (ends_before_brace walk stands id) → passes ≡ false → reading arena walk stands id class ≡ GoesOn next
+    → None ≡ opened_head walk stands bodies id class
+no_body arena walk next stands bodies id class passes told is goes = sym (opened_none walk stands bodies id class (no_brace arena walk next stands id class (sym told ∙ is) goes))
 
 pub loop-walk-init : goal.loop-walk-init
 loop-walk-init c =
@@ -67,31 +62,36 @@ loop-walk-init c =
       row = record { inside = omega arith; fits = omega arith; items = λ k after before. absurd (omega (arith, before)) };
     }
 
-pub pass_quiet-next-requires-clause-items : goal.pass_quiet-next-requires-clause-items
-pass_quiet-next-requires-clause-items c =
+pub pass_quiet-next-requires : goal.pass_quiet-next-requires
+pass_quiet-next-requires c =
     let whole : length c.args.all.now ≡ length c.args.arena.now.tokens = ap (λ (cs : List TokenClass). length cs) c.requires.all ∙ length-map c.args.arena.now.tokens (class_of c.args.arena.now.dialect) in
-    subst (λ n. All (λ id. id < n) c.args.view.now) (sym whole) c.requires.within
-
-pub pass_quiet-next-requires-clause-fits : goal.pass_quiet-next-requires-clause-fits
-pass_quiet-next-requires-clause-fits c =
-    let whole : length c.args.all.now ≡ length c.args.arena.now.tokens = ap (λ (cs : List TokenClass). length cs) c.requires.all ∙ length-map c.args.arena.now.tokens (class_of c.args.arena.now.dialect) in
-    omega (arith, whole, c.len-items.ensures.count)
+    record {
+      here = stands_here c.args.first c.loop-walk.walk.place c.len-count.result (length c.args.view.now) c.loop-walk-test.true c.len-count.ensures.count;
+      few = omega (arith, c.len-count.ensures.count);
+      increase = c.len-count.ensures.increase;
+      row = c.loop-walk.invariant.row;
+      items = subst (λ n. All (λ id. id < n) c.args.view.now) (sym whole) c.requires.within;
+      fits = omega (arith, whole, c.len-items.ensures.count);
+    }
 
 pub loop-walk-preserved-in_default : goal.loop-walk-preserved-in_default
 loop-walk-preserved-in_default c =
     let arena = c.args.arena.now in
     let view = c.args.view.now in
     let begins = place_in c.args.begins in
+    let first = c.args.first in
+    let all = c.args.all.now in
     let walk = c.pass_quiet-next.new.walk in
+    let row = c.pass_quiet-next.new.row in
     let bodies = reverse c.loop-walk.brackets.bodies.items in
     let waiting = reverse c.loop-walk.brackets.waiting.items in
+    let stands = c.loop-walk.brackets.around in
     let here = c.loop-walk.invariant.stands in
-    let was = read_past arena begins view c.args.first (walk.place - c.loop-walk.walk.place) c.loop-walk.walk walk bodies waiting c.loop-walk.brackets.braces c.loop-walk.brackets.around c.args.all.now _ c.pass_quiet-next.new.row c.len-count.ensures.increase c.requires.within c.requires.all c.pass_quiet-next.ensures.row refl
-    (omega (arith, c.pass_quiet-next.ensures.place, c.pass_quiet-next.ensures.within)) here c.pass_quiet-next.ensures.quiet c.loop-walk.invariant.read in
+    let quiet = c.pass_quiet-next.ensures in
     record {
-      read = was;
+      read = read_quiet_row arena begins view first c.loop-walk.walk walk bodies waiting c.loop-walk.brackets.braces stands all row c.len-count.ensures.increase c.requires.within c.requires.all quiet.row quiet.place quiet.within here quiet.quiet c.loop-walk.invariant.read;
       stands = here;
-      row = row_later view _ (c.args.first + walk.place) c.pass_quiet-next.new.row (omega (arith, c.pass_quiet-next.ensures.place)) c.pass_quiet-next.ensures.row;
+      row = row_later view (first + c.loop-walk.walk.place) (first + walk.place) row (later_place first _ _ quiet.place) quiet.row;
     }
 
 pub prove-unreachable-requires : goal.prove-unreachable-requires
@@ -99,437 +99,256 @@ prove-unreachable-requires c =
     let stored = row_stored c.args.view.now (c.args.first + c.loop-walk.walk.place) (length c.args.arena.now.tokens) c.pass_quiet-next.new.row c.requires.within c.pass_quiet-next.ensures.some c.pass_quiet-next.ensures.row in
     (let below = c.pass_quiet-next.ensures.below _ c.in-Some.is in let item = c.pass_quiet-next.ensures.item _ c.in-Some.is in omega (arith, stored, below, item, c.if-prove.true, c.len-items.ensures.count))
 
-pub pass_open_brace-requires-clause-on : goal.pass_open_brace-requires-clause-on
-pass_open_brace-requires-clause-on c = not-true _ (and_parts _ _ (sym c.passes_brace.ensures ∙ c.if-passes_brace.true)).1
+pub pass_open_brace-requires : goal.pass_open_brace-requires
+pass_open_brace-requires c =
+    let arena = c.args.arena.now in
+    let view = c.args.view.now in
+    let first = c.args.first in
+    let walk = c.pass_quiet-next.new.walk in
+    let row = c.pass_quiet-next.new.row in
+    let quiet = c.pass_quiet-next.ensures in
+    let id = c.in-Some.id.0 in
+    let stored = row_stored view (first + c.loop-walk.walk.place) (length arena.tokens) row c.requires.within quiet.some quiet.row in
+    let fit = fits_text first walk.place id row.shift row.end (length arena.tokens) c.len-items.result (quiet.below _ c.in-Some.is) (quiet.item _ c.in-Some.is) stored c.len-items.ensures.count (omega arith) in
+    record { small = fit.small; room = fit.room; on = not-true _ (and_parts _ _ (sym c.passes_brace.ensures ∙ c.if-passes_brace.true)).1 }
 
-pub pass-requires-clause-before : goal.pass-requires-clause-before
-pass-requires-clause-before c =
+pub read-requires : goal.read-requires
+read-requires c =
+    let arena = c.args.arena.now in
+    let view = c.args.view.now in
+    let first = c.args.first in
+    let walk = c.pass_quiet-next.new.walk in
+    let row = c.pass_quiet-next.new.row in
+    let quiet = c.pass_quiet-next.ensures in
+    let id = c.in-Some.id.0 in
+    let stored = row_stored view (first + c.loop-walk.walk.place) (length arena.tokens) row c.requires.within quiet.some quiet.row in
+    let fit = fits_text first walk.place id row.shift row.end (length arena.tokens) c.len-items.result (quiet.below _ c.in-Some.is) (quiet.item _ c.in-Some.is) stored c.len-items.ensures.count (omega arith) in
+    record { item = fit.kept; small = fit.small; room = fit.room }
+
+pub pass-requires : goal.pass-requires
+pass-requires c =
     let arena = c.args.arena.now in
     let view = c.args.view.now in
     let begins = place_in c.args.begins in
+    let first = c.args.first in
+    let all = c.args.all.now in
     let walk = c.pass_quiet-next.new.walk in
+    let row = c.pass_quiet-next.new.row in
     let bodies = reverse c.loop-walk.brackets.bodies.items in
     let waiting = reverse c.loop-walk.brackets.waiting.items in
+    let stands = c.loop-walk.brackets.around in
     let here = c.loop-walk.invariant.stands in
-    let was = read_past arena begins view c.args.first (walk.place - c.loop-walk.walk.place) c.loop-walk.walk walk bodies waiting c.loop-walk.brackets.braces c.loop-walk.brackets.around c.args.all.now _ c.pass_quiet-next.new.row c.len-count.ensures.increase c.requires.within c.requires.all c.pass_quiet-next.ensures.row refl
-    (omega (arith, c.pass_quiet-next.ensures.place, c.pass_quiet-next.ensures.within)) here c.pass_quiet-next.ensures.quiet c.loop-walk.invariant.read in
-    let at = stands_behind view c.args.first c.loop-walk.walk.place walk.place c.in-Some.id.0 c.pass_quiet-next.new.row c.pass_quiet-next.ensures.row c.pass_quiet-next.ensures.place (c.pass_quiet-next.ensures.below _ c.in-Some.is) (c.pass_quiet-next.ensures.item _ c.in-Some.is) in
-    subst (λ n. StandBefore (n + 1) waiting) at.item (was.before at.below)
+    let quiet = c.pass_quiet-next.ensures in
+    let id = c.in-Some.id.0 in
+    let item = at_item arena begins view first c.loop-walk.walk walk bodies waiting c.loop-walk.brackets.braces stands all id row c.len-count.ensures.increase c.requires.within c.requires.all quiet.row quiet.place (quiet.below _ c.in-Some.is) (quiet.item _ c.in-Some.is) here quiet.quiet
+    c.loop-walk.invariant.read in
+    let stored = row_stored view (first + c.loop-walk.walk.place) (length arena.tokens) row c.requires.within quiet.some quiet.row in
+    let fit = fits_text first walk.place id row.shift row.end (length arena.tokens) c.len-items.result (quiet.below _ c.in-Some.is) (quiet.item _ c.in-Some.is) stored c.len-items.ensures.count (omega arith) in
+    record {
+      count = item.was.count;
+      small = small_at _ _ _ item.at.item (item.was.small item.at.below);
+      before = subst (λ n. StandBefore (n + 1) waiting) item.at.item (item.was.before item.at.below);
+      low = fit.low;
+      room = fit.small;
+    }
 
-pub pass-requires-in-loop-walk-clause-before : goal.pass-requires-in-loop-walk-clause-before
-pass-requires-in-loop-walk-clause-before c =
+pub pass-requires-in-loop-walk : goal.pass-requires-in-loop-walk
+pass-requires-in-loop-walk c =
     let arena = c.args.arena.now in
     let view = c.args.view.now in
     let begins = place_in c.args.begins in
+    let first = c.args.first in
+    let all = c.args.all.now in
     let walk = c.pass_quiet-next.new.walk in
+    let row = c.pass_quiet-next.new.row in
     let bodies = reverse c.loop-walk.brackets.bodies.items in
     let waiting = reverse c.loop-walk.brackets.waiting.items in
+    let stands = c.loop-walk.brackets.around in
     let here = c.loop-walk.invariant.stands in
-    let was = read_past arena begins view c.args.first (walk.place - c.loop-walk.walk.place) c.loop-walk.walk walk bodies waiting c.loop-walk.brackets.braces c.loop-walk.brackets.around c.args.all.now _ c.pass_quiet-next.new.row c.len-count.ensures.increase c.requires.within c.requires.all c.pass_quiet-next.ensures.row refl
-    (omega (arith, c.pass_quiet-next.ensures.place, c.pass_quiet-next.ensures.within)) here c.pass_quiet-next.ensures.quiet c.loop-walk.invariant.read in
-    let at = stands_behind view c.args.first c.loop-walk.walk.place walk.place c.in-Some.id.0 c.pass_quiet-next.new.row c.pass_quiet-next.ensures.row c.pass_quiet-next.ensures.place (c.pass_quiet-next.ensures.below _ c.in-Some.is) (c.pass_quiet-next.ensures.item _ c.in-Some.is) in
-    subst (λ n. StandBefore (n + 1) waiting) at.item (was.before at.below)
+    let quiet = c.pass_quiet-next.ensures in
+    let id = c.in-Some.id.0 in
+    let item = at_item arena begins view first c.loop-walk.walk walk bodies waiting c.loop-walk.brackets.braces stands all id row c.len-count.ensures.increase c.requires.within c.requires.all quiet.row quiet.place (quiet.below _ c.in-Some.is) (quiet.item _ c.in-Some.is) here quiet.quiet
+    c.loop-walk.invariant.read in
+    let stored = row_stored view (first + c.loop-walk.walk.place) (length arena.tokens) row c.requires.within quiet.some quiet.row in
+    let fit = fits_text first walk.place id row.shift row.end (length arena.tokens) c.len-items.result (quiet.below _ c.in-Some.is) (quiet.item _ c.in-Some.is) stored c.len-items.ensures.count (omega arith) in
+    record {
+      count = item.was.count;
+      small = small_at _ _ _ item.at.item (item.was.small item.at.below);
+      before = subst (λ n. StandBefore (n + 1) waiting) item.at.item (item.was.before item.at.below);
+      low = fit.low;
+      room = fit.small;
+    }
 
-pub opened_head-opened-requires-clause-few : goal.opened_head-opened-requires-clause-few
-opened_head-opened-requires-clause-few c =
+pub opened_head-opened-requires : goal.opened_head-opened-requires
+opened_head-opened-requires c =
+    let arena = c.args.arena.now in
+    let view = c.args.view.now in
+    let first = c.args.first in
+    let walk = c.pass_quiet-next.new.walk in
+    let row = c.pass_quiet-next.new.row in
+    let quiet = c.pass_quiet-next.ensures in
+    let id = c.in-Some.id.0 in
+    let stored = row_stored view (first + c.loop-walk.walk.place) (length arena.tokens) row c.requires.within quiet.some quiet.row in
+    let fit = fits_text first walk.place id row.shift row.end (length arena.tokens) c.len-items.result (quiet.below _ c.in-Some.is) (quiet.item _ c.in-Some.is) stored c.len-items.ensures.count (omega arith) in
     let few = c.loop-walk.invariant.read.few in
     let same = heads_len-reverse c.loop-walk.brackets.bodies.items in
     let value = ap (λ (hs : List Head). heads_len hs) c.deref.ensures.value in
-    omega (arith, few, same, value)
+    record { few = omega (arith, few, same, value); small = fit.small }
 
 pub told-requires-clause-within : goal.told-requires-clause-within
 told-requires-clause-within c =
     let arena = c.args.arena.now in
     let view = c.args.view.now in
     let begins = place_in c.args.begins in
+    let first = c.args.first in
+    let all = c.args.all.now in
     let walk = c.pass_quiet-next.new.walk in
+    let row = c.pass_quiet-next.new.row in
     let bodies = reverse c.loop-walk.brackets.bodies.items in
     let waiting = reverse c.loop-walk.brackets.waiting.items in
+    let stands = c.loop-walk.brackets.around in
     let here = c.loop-walk.invariant.stands in
-    let was = read_past arena begins view c.args.first (walk.place - c.loop-walk.walk.place) c.loop-walk.walk walk bodies waiting c.loop-walk.brackets.braces c.loop-walk.brackets.around c.args.all.now _ c.pass_quiet-next.new.row c.len-count.ensures.increase c.requires.within c.requires.all c.pass_quiet-next.ensures.row refl
-    (omega (arith, c.pass_quiet-next.ensures.place, c.pass_quiet-next.ensures.within)) here c.pass_quiet-next.ensures.quiet c.loop-walk.invariant.read in
-    let at = stands_behind view c.args.first c.loop-walk.walk.place walk.place c.in-Some.id.0 c.pass_quiet-next.new.row c.pass_quiet-next.ensures.row c.pass_quiet-next.ensures.place (c.pass_quiet-next.ensures.below _ c.in-Some.is) (c.pass_quiet-next.ensures.item _ c.in-Some.is) in
+    let quiet = c.pass_quiet-next.ensures in
     let id = c.in-Some.id.0 in
+    let item = at_item arena begins view first c.loop-walk.walk walk bodies waiting c.loop-walk.brackets.braces stands all id row c.len-count.ensures.increase c.requires.within c.requires.all quiet.row quiet.place (quiet.below _ c.in-Some.is) (quiet.item _ c.in-Some.is) here quiet.quiet
+    c.loop-walk.invariant.read in
     let read = read_so c.read.result c.read.new.walk in
-    let item = next_item arena view c.args.all.now c.args.first c.len-count.result walk bodies waiting read c.loop-walk.brackets.around id _ c.requires.within c.requires.all c.len-count.ensures.count (omega (arith, at.below, c.len-count.ensures.count))
-    at.item here c.read.ensures.read in
     let ended = outside_at c.in-EndsOutside.ended in
     let told : told_by walk bodies read ≡ Some ended = ap (λ (o : Outcome). told_by walk bodies (read_so o c.read.new.walk)) c.in-EndsOutside.is in
-    let ends = ends_there arena begins view c.args.first walk bodies waiting read _ _ ended (headed begins _ c.requires.begins) item told was.on in
-    let later = ends.later in
-    let within = ends.within in
-    omega (arith, later, within, c.len-count.ensures.count)
+    let ends = ends_item arena begins view all first walk bodies waiting c.loop-walk.brackets.braces id row read stands _ ended c.requires.within c.requires.all c.requires.begins here c.read.ensures.read told item in
+    told_fits arena begins view first walk.place ended c.len-count.result ends c.len-count.ensures.count (omega arith)
 
-pub returns-in-EndsOutside-clause-end : goal.returns-in-EndsOutside-clause-end
-returns-in-EndsOutside-clause-end c =
+pub returns-in-EndsOutside : goal.returns-in-EndsOutside
+returns-in-EndsOutside c =
     let arena = c.args.arena.now in
     let view = c.args.view.now in
     let begins = place_in c.args.begins in
+    let first = c.args.first in
+    let all = c.args.all.now in
     let walk = c.pass_quiet-next.new.walk in
+    let row = c.pass_quiet-next.new.row in
     let bodies = reverse c.loop-walk.brackets.bodies.items in
     let waiting = reverse c.loop-walk.brackets.waiting.items in
+    let stands = c.loop-walk.brackets.around in
     let here = c.loop-walk.invariant.stands in
-    let was = read_past arena begins view c.args.first (walk.place - c.loop-walk.walk.place) c.loop-walk.walk walk bodies waiting c.loop-walk.brackets.braces c.loop-walk.brackets.around c.args.all.now _ c.pass_quiet-next.new.row c.len-count.ensures.increase c.requires.within c.requires.all c.pass_quiet-next.ensures.row refl
-    (omega (arith, c.pass_quiet-next.ensures.place, c.pass_quiet-next.ensures.within)) here c.pass_quiet-next.ensures.quiet c.loop-walk.invariant.read in
-    let at = stands_behind view c.args.first c.loop-walk.walk.place walk.place c.in-Some.id.0 c.pass_quiet-next.new.row c.pass_quiet-next.ensures.row c.pass_quiet-next.ensures.place (c.pass_quiet-next.ensures.below _ c.in-Some.is) (c.pass_quiet-next.ensures.item _ c.in-Some.is) in
+    let quiet = c.pass_quiet-next.ensures in
     let id = c.in-Some.id.0 in
+    let item = at_item arena begins view first c.loop-walk.walk walk bodies waiting c.loop-walk.brackets.braces stands all id row c.len-count.ensures.increase c.requires.within c.requires.all quiet.row quiet.place (quiet.below _ c.in-Some.is) (quiet.item _ c.in-Some.is) here quiet.quiet
+    c.loop-walk.invariant.read in
     let read = read_so c.read.result c.read.new.walk in
-    let item = next_item arena view c.args.all.now c.args.first c.len-count.result walk bodies waiting read c.loop-walk.brackets.around id _ c.requires.within c.requires.all c.len-count.ensures.count (omega (arith, at.below, c.len-count.ensures.count))
-    at.item here c.read.ensures.read in
     let ended = outside_at c.in-EndsOutside.ended in
     let told : told_by walk bodies read ≡ Some ended = ap (λ (o : Outcome). told_by walk bodies (read_so o c.read.new.walk)) c.in-EndsOutside.is in
-    let ends = ends_there arena begins view c.args.first walk bodies waiting read _ _ ended (headed begins _ c.requires.begins) item told was.on in
-    c.told.ensures.end ∙ ends.end
-
-pub returns-in-EndsOutside-clause-inside : goal.returns-in-EndsOutside-clause-inside
-returns-in-EndsOutside-clause-inside c =
-    let arena = c.args.arena.now in
-    let view = c.args.view.now in
-    let begins = place_in c.args.begins in
-    let walk = c.pass_quiet-next.new.walk in
-    let bodies = reverse c.loop-walk.brackets.bodies.items in
-    let waiting = reverse c.loop-walk.brackets.waiting.items in
-    let here = c.loop-walk.invariant.stands in
-    let was = read_past arena begins view c.args.first (walk.place - c.loop-walk.walk.place) c.loop-walk.walk walk bodies waiting c.loop-walk.brackets.braces c.loop-walk.brackets.around c.args.all.now _ c.pass_quiet-next.new.row c.len-count.ensures.increase c.requires.within c.requires.all c.pass_quiet-next.ensures.row refl
-    (omega (arith, c.pass_quiet-next.ensures.place, c.pass_quiet-next.ensures.within)) here c.pass_quiet-next.ensures.quiet c.loop-walk.invariant.read in
-    let at = stands_behind view c.args.first c.loop-walk.walk.place walk.place c.in-Some.id.0 c.pass_quiet-next.new.row c.pass_quiet-next.ensures.row c.pass_quiet-next.ensures.place (c.pass_quiet-next.ensures.below _ c.in-Some.is) (c.pass_quiet-next.ensures.item _ c.in-Some.is) in
-    let id = c.in-Some.id.0 in
-    let read = read_so c.read.result c.read.new.walk in
-    let item = next_item arena view c.args.all.now c.args.first c.len-count.result walk bodies waiting read c.loop-walk.brackets.around id _ c.requires.within c.requires.all c.len-count.ensures.count (omega (arith, at.below, c.len-count.ensures.count))
-    at.item here c.read.ensures.read in
-    let ended = outside_at c.in-EndsOutside.ended in
-    let told : told_by walk bodies read ≡ Some ended = ap (λ (o : Outcome). told_by walk bodies (read_so o c.read.new.walk)) c.in-EndsOutside.is in
-    let ends = ends_there arena begins view c.args.first walk bodies waiting read _ _ ended (headed begins _ c.requires.begins) item told was.on in
-    c.told.ensures.inside ∙ ends.inside
-
-pub returns-in-EndsOutside-clause-some : goal.returns-in-EndsOutside-clause-some
-returns-in-EndsOutside-clause-some c =
-    let arena = c.args.arena.now in
-    let view = c.args.view.now in
-    let begins = place_in c.args.begins in
-    let walk = c.pass_quiet-next.new.walk in
-    let bodies = reverse c.loop-walk.brackets.bodies.items in
-    let waiting = reverse c.loop-walk.brackets.waiting.items in
-    let here = c.loop-walk.invariant.stands in
-    let was = read_past arena begins view c.args.first (walk.place - c.loop-walk.walk.place) c.loop-walk.walk walk bodies waiting c.loop-walk.brackets.braces c.loop-walk.brackets.around c.args.all.now _ c.pass_quiet-next.new.row c.len-count.ensures.increase c.requires.within c.requires.all c.pass_quiet-next.ensures.row refl
-    (omega (arith, c.pass_quiet-next.ensures.place, c.pass_quiet-next.ensures.within)) here c.pass_quiet-next.ensures.quiet c.loop-walk.invariant.read in
-    let at = stands_behind view c.args.first c.loop-walk.walk.place walk.place c.in-Some.id.0 c.pass_quiet-next.new.row c.pass_quiet-next.ensures.row c.pass_quiet-next.ensures.place (c.pass_quiet-next.ensures.below _ c.in-Some.is) (c.pass_quiet-next.ensures.item _ c.in-Some.is) in
-    let id = c.in-Some.id.0 in
-    let read = read_so c.read.result c.read.new.walk in
-    let item = next_item arena view c.args.all.now c.args.first c.len-count.result walk bodies waiting read c.loop-walk.brackets.around id _ c.requires.within c.requires.all c.len-count.ensures.count (omega (arith, at.below, c.len-count.ensures.count))
-    at.item here c.read.ensures.read in
-    let ended = outside_at c.in-EndsOutside.ended in
-    let told : told_by walk bodies read ≡ Some ended = ap (λ (o : Outcome). told_by walk bodies (read_so o c.read.new.walk)) c.in-EndsOutside.is in
-    let ends = ends_there arena begins view c.args.first walk bodies waiting read _ _ ended (headed begins _ c.requires.begins) item told was.on in
-    (let some = ends.some in let end = c.told.ensures.end in omega (arith, some, end))
-
-pub returns-in-EndsOutside-clause-within : goal.returns-in-EndsOutside-clause-within
-returns-in-EndsOutside-clause-within c =
-    let arena = c.args.arena.now in
-    let view = c.args.view.now in
-    let begins = place_in c.args.begins in
-    let walk = c.pass_quiet-next.new.walk in
-    let bodies = reverse c.loop-walk.brackets.bodies.items in
-    let waiting = reverse c.loop-walk.brackets.waiting.items in
-    let here = c.loop-walk.invariant.stands in
-    let was = read_past arena begins view c.args.first (walk.place - c.loop-walk.walk.place) c.loop-walk.walk walk bodies waiting c.loop-walk.brackets.braces c.loop-walk.brackets.around c.args.all.now _ c.pass_quiet-next.new.row c.len-count.ensures.increase c.requires.within c.requires.all c.pass_quiet-next.ensures.row refl
-    (omega (arith, c.pass_quiet-next.ensures.place, c.pass_quiet-next.ensures.within)) here c.pass_quiet-next.ensures.quiet c.loop-walk.invariant.read in
-    let at = stands_behind view c.args.first c.loop-walk.walk.place walk.place c.in-Some.id.0 c.pass_quiet-next.new.row c.pass_quiet-next.ensures.row c.pass_quiet-next.ensures.place (c.pass_quiet-next.ensures.below _ c.in-Some.is) (c.pass_quiet-next.ensures.item _ c.in-Some.is) in
-    let id = c.in-Some.id.0 in
-    let read = read_so c.read.result c.read.new.walk in
-    let item = next_item arena view c.args.all.now c.args.first c.len-count.result walk bodies waiting read c.loop-walk.brackets.around id _ c.requires.within c.requires.all c.len-count.ensures.count (omega (arith, at.below, c.len-count.ensures.count))
-    at.item here c.read.ensures.read in
-    let ended = outside_at c.in-EndsOutside.ended in
-    let told : told_by walk bodies read ≡ Some ended = ap (λ (o : Outcome). told_by walk bodies (read_so o c.read.new.walk)) c.in-EndsOutside.is in
-    let ends = ends_there arena begins view c.args.first walk bodies waiting read _ _ ended (headed begins _ c.requires.begins) item told was.on in
-    (let later = ends.later in let within = ends.within in let end = c.told.ensures.end in omega (arith, later, within, end))
-
-pub returns-in-EndsOutside-clause-seen : goal.returns-in-EndsOutside-clause-seen
-returns-in-EndsOutside-clause-seen c =
-    let arena = c.args.arena.now in
-    let view = c.args.view.now in
-    let begins = place_in c.args.begins in
-    let walk = c.pass_quiet-next.new.walk in
-    let bodies = reverse c.loop-walk.brackets.bodies.items in
-    let waiting = reverse c.loop-walk.brackets.waiting.items in
-    let here = c.loop-walk.invariant.stands in
-    let was = read_past arena begins view c.args.first (walk.place - c.loop-walk.walk.place) c.loop-walk.walk walk bodies waiting c.loop-walk.brackets.braces c.loop-walk.brackets.around c.args.all.now _ c.pass_quiet-next.new.row c.len-count.ensures.increase c.requires.within c.requires.all c.pass_quiet-next.ensures.row refl
-    (omega (arith, c.pass_quiet-next.ensures.place, c.pass_quiet-next.ensures.within)) here c.pass_quiet-next.ensures.quiet c.loop-walk.invariant.read in
-    let at = stands_behind view c.args.first c.loop-walk.walk.place walk.place c.in-Some.id.0 c.pass_quiet-next.new.row c.pass_quiet-next.ensures.row c.pass_quiet-next.ensures.place (c.pass_quiet-next.ensures.below _ c.in-Some.is) (c.pass_quiet-next.ensures.item _ c.in-Some.is) in
-    let id = c.in-Some.id.0 in
-    let read = read_so c.read.result c.read.new.walk in
-    let item = next_item arena view c.args.all.now c.args.first c.len-count.result walk bodies waiting read c.loop-walk.brackets.around id _ c.requires.within c.requires.all c.len-count.ensures.count (omega (arith, at.below, c.len-count.ensures.count))
-    at.item here c.read.ensures.read in
-    let ended = outside_at c.in-EndsOutside.ended in
-    let told : told_by walk bodies read ≡ Some ended = ap (λ (o : Outcome). told_by walk bodies (read_so o c.read.new.walk)) c.in-EndsOutside.is in
-    let ends = ends_there arena begins view c.args.first walk bodies waiting read _ _ ended (headed begins _ c.requires.begins) item told was.on in
-    λ seen is.
-    ended_so arena begins (slice_range view c.args.first seen) c.args.first _ _ _ _ c.told.ensures.end c.told.ensures.inside
-    (seen_so arena begins view c.args.first walk.place seen ended (some_is _ seen _ (sym c.told.ensures.seen ∙ is) refl) ends)
-
-pub returns-in-EndsOutside-clause-later : goal.returns-in-EndsOutside-clause-later
-returns-in-EndsOutside-clause-later c =
-    let arena = c.args.arena.now in
-    let view = c.args.view.now in
-    let begins = place_in c.args.begins in
-    let walk = c.pass_quiet-next.new.walk in
-    let bodies = reverse c.loop-walk.brackets.bodies.items in
-    let waiting = reverse c.loop-walk.brackets.waiting.items in
-    let here = c.loop-walk.invariant.stands in
-    let was = read_past arena begins view c.args.first (walk.place - c.loop-walk.walk.place) c.loop-walk.walk walk bodies waiting c.loop-walk.brackets.braces c.loop-walk.brackets.around c.args.all.now _ c.pass_quiet-next.new.row c.len-count.ensures.increase c.requires.within c.requires.all c.pass_quiet-next.ensures.row refl
-    (omega (arith, c.pass_quiet-next.ensures.place, c.pass_quiet-next.ensures.within)) here c.pass_quiet-next.ensures.quiet c.loop-walk.invariant.read in
-    let at = stands_behind view c.args.first c.loop-walk.walk.place walk.place c.in-Some.id.0 c.pass_quiet-next.new.row c.pass_quiet-next.ensures.row c.pass_quiet-next.ensures.place (c.pass_quiet-next.ensures.below _ c.in-Some.is) (c.pass_quiet-next.ensures.item _ c.in-Some.is) in
-    let id = c.in-Some.id.0 in
-    let read = read_so c.read.result c.read.new.walk in
-    let item = next_item arena view c.args.all.now c.args.first c.len-count.result walk bodies waiting read c.loop-walk.brackets.around id _ c.requires.within c.requires.all c.len-count.ensures.count (omega (arith, at.below, c.len-count.ensures.count))
-    at.item here c.read.ensures.read in
-    let ended = outside_at c.in-EndsOutside.ended in
-    let told : told_by walk bodies read ≡ Some ended = ap (λ (o : Outcome). told_by walk bodies (read_so o c.read.new.walk)) c.in-EndsOutside.is in
-    let ends = ends_there arena begins view c.args.first walk bodies waiting read _ _ ended (headed begins _ c.requires.begins) item told was.on in
-    let later = ends.later in
-    let end = c.told.ensures.end in
-    λ seen is.
-    let at : seen ≡ c.args.first + walk.place + 1 = some_is _ seen _ (sym c.told.ensures.seen ∙ is) refl in
-    omega (arith, later, at, end)
+    let ends = ends_item arena begins view all first walk bodies waiting c.loop-walk.brackets.braces id row read stands _ ended c.requires.within c.requires.all c.requires.begins here c.read.ensures.read told item in
+    let at = ends_at arena begins view first walk.place ended _ _ _ c.len-count.ensures.increase c.requires.begins c.told.ensures.end c.told.ensures.seen c.told.ensures.inside ends in
+    record { end = at.end_is; inside = at.inside_is; place = at.place; some = at.some; within = at.within; seen = at.told; later = at.later; below = at.below; whole = at.whole }
 
 pub told-requires-in-EndsInBody-clause-within : goal.told-requires-in-EndsInBody-clause-within
 told-requires-in-EndsInBody-clause-within c =
     let arena = c.args.arena.now in
     let view = c.args.view.now in
     let begins = place_in c.args.begins in
+    let first = c.args.first in
+    let all = c.args.all.now in
     let walk = c.pass_quiet-next.new.walk in
+    let row = c.pass_quiet-next.new.row in
     let bodies = reverse c.loop-walk.brackets.bodies.items in
     let waiting = reverse c.loop-walk.brackets.waiting.items in
+    let stands = c.loop-walk.brackets.around in
     let here = c.loop-walk.invariant.stands in
-    let was = read_past arena begins view c.args.first (walk.place - c.loop-walk.walk.place) c.loop-walk.walk walk bodies waiting c.loop-walk.brackets.braces c.loop-walk.brackets.around c.args.all.now _ c.pass_quiet-next.new.row c.len-count.ensures.increase c.requires.within c.requires.all c.pass_quiet-next.ensures.row refl
-    (omega (arith, c.pass_quiet-next.ensures.place, c.pass_quiet-next.ensures.within)) here c.pass_quiet-next.ensures.quiet c.loop-walk.invariant.read in
-    let at = stands_behind view c.args.first c.loop-walk.walk.place walk.place c.in-Some.id.0 c.pass_quiet-next.new.row c.pass_quiet-next.ensures.row c.pass_quiet-next.ensures.place (c.pass_quiet-next.ensures.below _ c.in-Some.is) (c.pass_quiet-next.ensures.item _ c.in-Some.is) in
+    let quiet = c.pass_quiet-next.ensures in
     let id = c.in-Some.id.0 in
+    let item = at_item arena begins view first c.loop-walk.walk walk bodies waiting c.loop-walk.brackets.braces stands all id row c.len-count.ensures.increase c.requires.within c.requires.all quiet.row quiet.place (quiet.below _ c.in-Some.is) (quiet.item _ c.in-Some.is) here quiet.quiet
+    c.loop-walk.invariant.read in
     let read = read_so c.read.result c.read.new.walk in
-    let item = next_item arena view c.args.all.now c.args.first c.len-count.result walk bodies waiting read c.loop-walk.brackets.around id _ c.requires.within c.requires.all c.len-count.ensures.count (omega (arith, at.below, c.len-count.ensures.count))
-    at.item here c.read.ensures.read in
     let ended = inside_at walk bodies c.in-EndsInBody.ended in
     let told : told_by walk bodies read ≡ Some ended = ap (λ (o : Outcome). told_by walk bodies (read_so o c.read.new.walk)) c.in-EndsInBody.is in
-    let ends = ends_there arena begins view c.args.first walk bodies waiting read _ _ ended (headed begins _ c.requires.begins) item told was.on in
-    let later = ends.later in
-    let within = ends.within in
-    omega (arith, later, within, c.len-count.ensures.count)
+    let ends = ends_item arena begins view all first walk bodies waiting c.loop-walk.brackets.braces id row read stands _ ended c.requires.within c.requires.all c.requires.begins here c.read.ensures.read told item in
+    told_fits arena begins view first walk.place ended c.len-count.result ends c.len-count.ensures.count (omega arith)
 
-pub returns-in-EndsInBody-clause-end : goal.returns-in-EndsInBody-clause-end
-returns-in-EndsInBody-clause-end c =
+pub returns-in-EndsInBody : goal.returns-in-EndsInBody
+returns-in-EndsInBody c =
     let arena = c.args.arena.now in
     let view = c.args.view.now in
     let begins = place_in c.args.begins in
+    let first = c.args.first in
+    let all = c.args.all.now in
     let walk = c.pass_quiet-next.new.walk in
+    let row = c.pass_quiet-next.new.row in
     let bodies = reverse c.loop-walk.brackets.bodies.items in
     let waiting = reverse c.loop-walk.brackets.waiting.items in
+    let stands = c.loop-walk.brackets.around in
     let here = c.loop-walk.invariant.stands in
-    let was = read_past arena begins view c.args.first (walk.place - c.loop-walk.walk.place) c.loop-walk.walk walk bodies waiting c.loop-walk.brackets.braces c.loop-walk.brackets.around c.args.all.now _ c.pass_quiet-next.new.row c.len-count.ensures.increase c.requires.within c.requires.all c.pass_quiet-next.ensures.row refl
-    (omega (arith, c.pass_quiet-next.ensures.place, c.pass_quiet-next.ensures.within)) here c.pass_quiet-next.ensures.quiet c.loop-walk.invariant.read in
-    let at = stands_behind view c.args.first c.loop-walk.walk.place walk.place c.in-Some.id.0 c.pass_quiet-next.new.row c.pass_quiet-next.ensures.row c.pass_quiet-next.ensures.place (c.pass_quiet-next.ensures.below _ c.in-Some.is) (c.pass_quiet-next.ensures.item _ c.in-Some.is) in
+    let quiet = c.pass_quiet-next.ensures in
     let id = c.in-Some.id.0 in
+    let item = at_item arena begins view first c.loop-walk.walk walk bodies waiting c.loop-walk.brackets.braces stands all id row c.len-count.ensures.increase c.requires.within c.requires.all quiet.row quiet.place (quiet.below _ c.in-Some.is) (quiet.item _ c.in-Some.is) here quiet.quiet
+    c.loop-walk.invariant.read in
     let read = read_so c.read.result c.read.new.walk in
-    let item = next_item arena view c.args.all.now c.args.first c.len-count.result walk bodies waiting read c.loop-walk.brackets.around id _ c.requires.within c.requires.all c.len-count.ensures.count (omega (arith, at.below, c.len-count.ensures.count))
-    at.item here c.read.ensures.read in
     let ended = inside_at walk bodies c.in-EndsInBody.ended in
     let told : told_by walk bodies read ≡ Some ended = ap (λ (o : Outcome). told_by walk bodies (read_so o c.read.new.walk)) c.in-EndsInBody.is in
-    let ends = ends_there arena begins view c.args.first walk bodies waiting read _ _ ended (headed begins _ c.requires.begins) item told was.on in
-    c.told-in-EndsInBody.ensures.end ∙ ends.end
-
-pub returns-in-EndsInBody-clause-inside : goal.returns-in-EndsInBody-clause-inside
-returns-in-EndsInBody-clause-inside c =
-    let arena = c.args.arena.now in
-    let view = c.args.view.now in
-    let begins = place_in c.args.begins in
-    let walk = c.pass_quiet-next.new.walk in
-    let bodies = reverse c.loop-walk.brackets.bodies.items in
-    let waiting = reverse c.loop-walk.brackets.waiting.items in
-    let here = c.loop-walk.invariant.stands in
-    let was = read_past arena begins view c.args.first (walk.place - c.loop-walk.walk.place) c.loop-walk.walk walk bodies waiting c.loop-walk.brackets.braces c.loop-walk.brackets.around c.args.all.now _ c.pass_quiet-next.new.row c.len-count.ensures.increase c.requires.within c.requires.all c.pass_quiet-next.ensures.row refl
-    (omega (arith, c.pass_quiet-next.ensures.place, c.pass_quiet-next.ensures.within)) here c.pass_quiet-next.ensures.quiet c.loop-walk.invariant.read in
-    let at = stands_behind view c.args.first c.loop-walk.walk.place walk.place c.in-Some.id.0 c.pass_quiet-next.new.row c.pass_quiet-next.ensures.row c.pass_quiet-next.ensures.place (c.pass_quiet-next.ensures.below _ c.in-Some.is) (c.pass_quiet-next.ensures.item _ c.in-Some.is) in
-    let id = c.in-Some.id.0 in
-    let read = read_so c.read.result c.read.new.walk in
-    let item = next_item arena view c.args.all.now c.args.first c.len-count.result walk bodies waiting read c.loop-walk.brackets.around id _ c.requires.within c.requires.all c.len-count.ensures.count (omega (arith, at.below, c.len-count.ensures.count))
-    at.item here c.read.ensures.read in
-    let ended = inside_at walk bodies c.in-EndsInBody.ended in
-    let told : told_by walk bodies read ≡ Some ended = ap (λ (o : Outcome). told_by walk bodies (read_so o c.read.new.walk)) c.in-EndsInBody.is in
-    let ends = ends_there arena begins view c.args.first walk bodies waiting read _ _ ended (headed begins _ c.requires.begins) item told was.on in
+    let ends = ends_item arena begins view all first walk bodies waiting c.loop-walk.brackets.braces id row read stands _ ended c.requires.within c.requires.all c.requires.begins here c.read.ensures.read told item in
     let same : place_of c.in_ok-inside-in-EndsInBody.inside ≡ place_behind walk bodies =
     c.in_ok-inside-in-EndsInBody.ensures ∙ (ap (λ (hs : List Head). place_behind c.read.new.walk (reverse hs)) c.deref-in-EndsInBody.ensures.value ∙ ap (λ (w : Walk). place_behind w bodies) c.in-EndsInBody.ensures.stays) in
-    (c.told-in-EndsInBody.ensures.inside ∙ ap (λ (p : Place). Some p) same) ∙ ends.inside
-
-pub returns-in-EndsInBody-clause-place : goal.returns-in-EndsInBody-clause-place
-returns-in-EndsInBody-clause-place c =
-    let arena = c.args.arena.now in
-    let view = c.args.view.now in
-    let begins = place_in c.args.begins in
-    let walk = c.pass_quiet-next.new.walk in
-    let bodies = reverse c.loop-walk.brackets.bodies.items in
-    let waiting = reverse c.loop-walk.brackets.waiting.items in
-    let here = c.loop-walk.invariant.stands in
-    let was = read_past arena begins view c.args.first (walk.place - c.loop-walk.walk.place) c.loop-walk.walk walk bodies waiting c.loop-walk.brackets.braces c.loop-walk.brackets.around c.args.all.now _ c.pass_quiet-next.new.row c.len-count.ensures.increase c.requires.within c.requires.all c.pass_quiet-next.ensures.row refl
-    (omega (arith, c.pass_quiet-next.ensures.place, c.pass_quiet-next.ensures.within)) here c.pass_quiet-next.ensures.quiet c.loop-walk.invariant.read in
-    let at = stands_behind view c.args.first c.loop-walk.walk.place walk.place c.in-Some.id.0 c.pass_quiet-next.new.row c.pass_quiet-next.ensures.row c.pass_quiet-next.ensures.place (c.pass_quiet-next.ensures.below _ c.in-Some.is) (c.pass_quiet-next.ensures.item _ c.in-Some.is) in
-    let id = c.in-Some.id.0 in
-    let read = read_so c.read.result c.read.new.walk in
-    let item = next_item arena view c.args.all.now c.args.first c.len-count.result walk bodies waiting read c.loop-walk.brackets.around id _ c.requires.within c.requires.all c.len-count.ensures.count (omega (arith, at.below, c.len-count.ensures.count))
-    at.item here c.read.ensures.read in
-    let ended = inside_at walk bodies c.in-EndsInBody.ended in
-    let told : told_by walk bodies read ≡ Some ended = ap (λ (o : Outcome). told_by walk bodies (read_so o c.read.new.walk)) c.in-EndsInBody.is in
-    let ends = ends_there arena begins view c.args.first walk bodies waiting read _ _ ended (headed begins _ c.requires.begins) item told was.on in
-    let same : place_of c.in_ok-inside-in-EndsInBody.inside ≡ place_behind walk bodies =
-    c.in_ok-inside-in-EndsInBody.ensures ∙ (ap (λ (hs : List Head). place_behind c.read.new.walk (reverse hs)) c.deref-in-EndsInBody.ensures.value ∙ ap (λ (w : Walk). place_behind w bodies) c.in-EndsInBody.ensures.stays) in
-    let ids = drop c.args.first view in
-    let inside = (c.told-in-EndsInBody.ensures.inside ∙ ap (λ (p : Place). Some p) same) ∙ ends.inside in
-    let end = c.told-in-EndsInBody.ensures.end ∙ ends.end in
-    let begin : c.args.first + 0 ≡ c.args.first = omega arith in
-    λ place is.
-    let stands = stands_before arena begins ids 0 (drop_increase c.args.first view c.len-count.ensures.increase) (λ from e. subst (λ n. StandsBefore from n) (sym (get_or-drop c.args.first view 0 0 ∙ ap (λ k. get_or view k 0) begin)) (c.requires.begins from e)) place (sym inside ∙ is) in
-    subst (λ n. StandsBefore place n) (get_or-drop c.args.first view (part_len arena begins ids) 0 ∙ ap (λ k. get_or view k 0) (sym end)) stands
-
-pub returns-in-EndsInBody-clause-some : goal.returns-in-EndsInBody-clause-some
-returns-in-EndsInBody-clause-some c =
-    let arena = c.args.arena.now in
-    let view = c.args.view.now in
-    let begins = place_in c.args.begins in
-    let walk = c.pass_quiet-next.new.walk in
-    let bodies = reverse c.loop-walk.brackets.bodies.items in
-    let waiting = reverse c.loop-walk.brackets.waiting.items in
-    let here = c.loop-walk.invariant.stands in
-    let was = read_past arena begins view c.args.first (walk.place - c.loop-walk.walk.place) c.loop-walk.walk walk bodies waiting c.loop-walk.brackets.braces c.loop-walk.brackets.around c.args.all.now _ c.pass_quiet-next.new.row c.len-count.ensures.increase c.requires.within c.requires.all c.pass_quiet-next.ensures.row refl
-    (omega (arith, c.pass_quiet-next.ensures.place, c.pass_quiet-next.ensures.within)) here c.pass_quiet-next.ensures.quiet c.loop-walk.invariant.read in
-    let at = stands_behind view c.args.first c.loop-walk.walk.place walk.place c.in-Some.id.0 c.pass_quiet-next.new.row c.pass_quiet-next.ensures.row c.pass_quiet-next.ensures.place (c.pass_quiet-next.ensures.below _ c.in-Some.is) (c.pass_quiet-next.ensures.item _ c.in-Some.is) in
-    let id = c.in-Some.id.0 in
-    let read = read_so c.read.result c.read.new.walk in
-    let item = next_item arena view c.args.all.now c.args.first c.len-count.result walk bodies waiting read c.loop-walk.brackets.around id _ c.requires.within c.requires.all c.len-count.ensures.count (omega (arith, at.below, c.len-count.ensures.count))
-    at.item here c.read.ensures.read in
-    let ended = inside_at walk bodies c.in-EndsInBody.ended in
-    let told : told_by walk bodies read ≡ Some ended = ap (λ (o : Outcome). told_by walk bodies (read_so o c.read.new.walk)) c.in-EndsInBody.is in
-    let ends = ends_there arena begins view c.args.first walk bodies waiting read _ _ ended (headed begins _ c.requires.begins) item told was.on in
-    (let some = ends.some in let end = c.told-in-EndsInBody.ensures.end in omega (arith, some, end))
-
-pub returns-in-EndsInBody-clause-within : goal.returns-in-EndsInBody-clause-within
-returns-in-EndsInBody-clause-within c =
-    let arena = c.args.arena.now in
-    let view = c.args.view.now in
-    let begins = place_in c.args.begins in
-    let walk = c.pass_quiet-next.new.walk in
-    let bodies = reverse c.loop-walk.brackets.bodies.items in
-    let waiting = reverse c.loop-walk.brackets.waiting.items in
-    let here = c.loop-walk.invariant.stands in
-    let was = read_past arena begins view c.args.first (walk.place - c.loop-walk.walk.place) c.loop-walk.walk walk bodies waiting c.loop-walk.brackets.braces c.loop-walk.brackets.around c.args.all.now _ c.pass_quiet-next.new.row c.len-count.ensures.increase c.requires.within c.requires.all c.pass_quiet-next.ensures.row refl
-    (omega (arith, c.pass_quiet-next.ensures.place, c.pass_quiet-next.ensures.within)) here c.pass_quiet-next.ensures.quiet c.loop-walk.invariant.read in
-    let at = stands_behind view c.args.first c.loop-walk.walk.place walk.place c.in-Some.id.0 c.pass_quiet-next.new.row c.pass_quiet-next.ensures.row c.pass_quiet-next.ensures.place (c.pass_quiet-next.ensures.below _ c.in-Some.is) (c.pass_quiet-next.ensures.item _ c.in-Some.is) in
-    let id = c.in-Some.id.0 in
-    let read = read_so c.read.result c.read.new.walk in
-    let item = next_item arena view c.args.all.now c.args.first c.len-count.result walk bodies waiting read c.loop-walk.brackets.around id _ c.requires.within c.requires.all c.len-count.ensures.count (omega (arith, at.below, c.len-count.ensures.count))
-    at.item here c.read.ensures.read in
-    let ended = inside_at walk bodies c.in-EndsInBody.ended in
-    let told : told_by walk bodies read ≡ Some ended = ap (λ (o : Outcome). told_by walk bodies (read_so o c.read.new.walk)) c.in-EndsInBody.is in
-    let ends = ends_there arena begins view c.args.first walk bodies waiting read _ _ ended (headed begins _ c.requires.begins) item told was.on in
-    (let later = ends.later in let within = ends.within in let end = c.told-in-EndsInBody.ensures.end in omega (arith, later, within, end))
-
-pub returns-in-EndsInBody-clause-seen : goal.returns-in-EndsInBody-clause-seen
-returns-in-EndsInBody-clause-seen c =
-    let arena = c.args.arena.now in
-    let view = c.args.view.now in
-    let begins = place_in c.args.begins in
-    let walk = c.pass_quiet-next.new.walk in
-    let bodies = reverse c.loop-walk.brackets.bodies.items in
-    let waiting = reverse c.loop-walk.brackets.waiting.items in
-    let here = c.loop-walk.invariant.stands in
-    let was = read_past arena begins view c.args.first (walk.place - c.loop-walk.walk.place) c.loop-walk.walk walk bodies waiting c.loop-walk.brackets.braces c.loop-walk.brackets.around c.args.all.now _ c.pass_quiet-next.new.row c.len-count.ensures.increase c.requires.within c.requires.all c.pass_quiet-next.ensures.row refl
-    (omega (arith, c.pass_quiet-next.ensures.place, c.pass_quiet-next.ensures.within)) here c.pass_quiet-next.ensures.quiet c.loop-walk.invariant.read in
-    let at = stands_behind view c.args.first c.loop-walk.walk.place walk.place c.in-Some.id.0 c.pass_quiet-next.new.row c.pass_quiet-next.ensures.row c.pass_quiet-next.ensures.place (c.pass_quiet-next.ensures.below _ c.in-Some.is) (c.pass_quiet-next.ensures.item _ c.in-Some.is) in
-    let id = c.in-Some.id.0 in
-    let read = read_so c.read.result c.read.new.walk in
-    let item = next_item arena view c.args.all.now c.args.first c.len-count.result walk bodies waiting read c.loop-walk.brackets.around id _ c.requires.within c.requires.all c.len-count.ensures.count (omega (arith, at.below, c.len-count.ensures.count))
-    at.item here c.read.ensures.read in
-    let ended = inside_at walk bodies c.in-EndsInBody.ended in
-    let told : told_by walk bodies read ≡ Some ended = ap (λ (o : Outcome). told_by walk bodies (read_so o c.read.new.walk)) c.in-EndsInBody.is in
-    let ends = ends_there arena begins view c.args.first walk bodies waiting read _ _ ended (headed begins _ c.requires.begins) item told was.on in
-    let same : place_of c.in_ok-inside-in-EndsInBody.inside ≡ place_behind walk bodies =
-    c.in_ok-inside-in-EndsInBody.ensures ∙ (ap (λ (hs : List Head). place_behind c.read.new.walk (reverse hs)) c.deref-in-EndsInBody.ensures.value ∙ ap (λ (w : Walk). place_behind w bodies) c.in-EndsInBody.ensures.stays) in
-    λ seen is.
-    ended_so arena begins (slice_range view c.args.first seen) c.args.first _ _ _ _ c.told-in-EndsInBody.ensures.end (c.told-in-EndsInBody.ensures.inside ∙ ap (λ (p : Place). Some p) same)
-    (seen_so arena begins view c.args.first walk.place seen ended (some_is _ seen _ (sym c.told-in-EndsInBody.ensures.seen ∙ is) refl) ends)
-
-pub returns-in-EndsInBody-clause-later : goal.returns-in-EndsInBody-clause-later
-returns-in-EndsInBody-clause-later c =
-    let arena = c.args.arena.now in
-    let view = c.args.view.now in
-    let begins = place_in c.args.begins in
-    let walk = c.pass_quiet-next.new.walk in
-    let bodies = reverse c.loop-walk.brackets.bodies.items in
-    let waiting = reverse c.loop-walk.brackets.waiting.items in
-    let here = c.loop-walk.invariant.stands in
-    let was = read_past arena begins view c.args.first (walk.place - c.loop-walk.walk.place) c.loop-walk.walk walk bodies waiting c.loop-walk.brackets.braces c.loop-walk.brackets.around c.args.all.now _ c.pass_quiet-next.new.row c.len-count.ensures.increase c.requires.within c.requires.all c.pass_quiet-next.ensures.row refl
-    (omega (arith, c.pass_quiet-next.ensures.place, c.pass_quiet-next.ensures.within)) here c.pass_quiet-next.ensures.quiet c.loop-walk.invariant.read in
-    let at = stands_behind view c.args.first c.loop-walk.walk.place walk.place c.in-Some.id.0 c.pass_quiet-next.new.row c.pass_quiet-next.ensures.row c.pass_quiet-next.ensures.place (c.pass_quiet-next.ensures.below _ c.in-Some.is) (c.pass_quiet-next.ensures.item _ c.in-Some.is) in
-    let id = c.in-Some.id.0 in
-    let read = read_so c.read.result c.read.new.walk in
-    let item = next_item arena view c.args.all.now c.args.first c.len-count.result walk bodies waiting read c.loop-walk.brackets.around id _ c.requires.within c.requires.all c.len-count.ensures.count (omega (arith, at.below, c.len-count.ensures.count))
-    at.item here c.read.ensures.read in
-    let ended = inside_at walk bodies c.in-EndsInBody.ended in
-    let told : told_by walk bodies read ≡ Some ended = ap (λ (o : Outcome). told_by walk bodies (read_so o c.read.new.walk)) c.in-EndsInBody.is in
-    let ends = ends_there arena begins view c.args.first walk bodies waiting read _ _ ended (headed begins _ c.requires.begins) item told was.on in
-    let later = ends.later in
-    let end = c.told-in-EndsInBody.ensures.end in
-    λ seen is.
-    let at : seen ≡ c.args.first + walk.place + 1 = some_is _ seen _ (sym c.told-in-EndsInBody.ensures.seen ∙ is) refl in
-    omega (arith, later, at, end)
+    let inside = c.told-in-EndsInBody.ensures.inside ∙ ap (λ (p : Place). Some p) same in
+    let at = ends_at arena begins view first walk.place ended _ _ _ c.len-count.ensures.increase c.requires.begins c.told-in-EndsInBody.ensures.end c.told-in-EndsInBody.ensures.seen inside ends in
+    record { end = at.end_is; inside = at.inside_is; place = at.place; some = at.some; within = at.within; seen = at.told; later = at.later; below = at.below; whole = at.whole }
 
 pub loop-walk-smaller : goal.loop-walk-smaller
 loop-walk-smaller c =
     let arena = c.args.arena.now in
     let view = c.args.view.now in
     let begins = place_in c.args.begins in
+    let first = c.args.first in
+    let all = c.args.all.now in
     let walk = c.pass_quiet-next.new.walk in
+    let row = c.pass_quiet-next.new.row in
     let bodies = reverse c.loop-walk.brackets.bodies.items in
     let waiting = reverse c.loop-walk.brackets.waiting.items in
+    let stands = c.loop-walk.brackets.around in
     let here = c.loop-walk.invariant.stands in
-    let was = read_past arena begins view c.args.first (walk.place - c.loop-walk.walk.place) c.loop-walk.walk walk bodies waiting c.loop-walk.brackets.braces c.loop-walk.brackets.around c.args.all.now _ c.pass_quiet-next.new.row c.len-count.ensures.increase c.requires.within c.requires.all c.pass_quiet-next.ensures.row refl
-    (omega (arith, c.pass_quiet-next.ensures.place, c.pass_quiet-next.ensures.within)) here c.pass_quiet-next.ensures.quiet c.loop-walk.invariant.read in
-    let at = stands_behind view c.args.first c.loop-walk.walk.place walk.place c.in-Some.id.0 c.pass_quiet-next.new.row c.pass_quiet-next.ensures.row c.pass_quiet-next.ensures.place (c.pass_quiet-next.ensures.below _ c.in-Some.is) (c.pass_quiet-next.ensures.item _ c.in-Some.is) in
+    let quiet = c.pass_quiet-next.ensures in
     let id = c.in-Some.id.0 in
+    let item = at_item arena begins view first c.loop-walk.walk walk bodies waiting c.loop-walk.brackets.braces stands all id row c.len-count.ensures.increase c.requires.within c.requires.all quiet.row quiet.place (quiet.below _ c.in-Some.is) (quiet.item _ c.in-Some.is) here quiet.quiet
+    c.loop-walk.invariant.read in
     let read = read_so c.read.result c.read.new.walk in
-    let item = next_item arena view c.args.all.now c.args.first c.len-count.result walk bodies waiting read c.loop-walk.brackets.around id _ c.requires.within c.requires.all c.len-count.ensures.count (omega (arith, at.below, c.len-count.ensures.count))
-    at.item here c.read.ensures.read in
     let after = c.read.new.walk in
+    let next = reads_item arena begins view all first walk bodies waiting c.loop-walk.brackets.braces id row read stands _ c.requires.within c.requires.all here c.read.ensures.read item in
     let goes = ap (λ (o : Outcome). read_so o after) c.in-GoesOn.is in
+    let one = next_place arena (drop first view) walk after bodies waiting read _ _ next goes in
     let made = c.in_ok-pass-2.ensures in
-    let one = next_place arena (drop c.args.first view) walk after bodies waiting read _ _ item goes in
-    let place : c.pass-in-loop-walk.new.walk.place ≡ walk.place + 1 = ap (λ (w : Walk). w.place) made.walk ∙ (behind_place after bodies (reverse c.pass-in-loop-walk.new.self.waiting.items) None id ∙ one) in
-    omega (arith, place, c.pass_quiet-next.ensures.place, c.loop-walk-test.true)
+    let later = c.pass-in-loop-walk.new.self in
+    let place : c.pass-in-loop-walk.new.walk.place ≡ walk.place + 1 = ap (λ (w : Walk). w.place) made.walk ∙ (behind_place after bodies (reverse later.waiting.items) None id ∙ one) in
+    one_fewer c.len-count.result first c.loop-walk.walk.place walk.place _ c.loop-walk-test.true quiet.place place
 
 pub loop-walk-preserved : goal.loop-walk-preserved
 loop-walk-preserved c =
     let arena = c.args.arena.now in
     let view = c.args.view.now in
     let begins = place_in c.args.begins in
+    let first = c.args.first in
+    let all = c.args.all.now in
     let walk = c.pass_quiet-next.new.walk in
+    let row = c.pass_quiet-next.new.row in
     let bodies = reverse c.loop-walk.brackets.bodies.items in
     let waiting = reverse c.loop-walk.brackets.waiting.items in
+    let stands = c.loop-walk.brackets.around in
     let here = c.loop-walk.invariant.stands in
-    let was = read_past arena begins view c.args.first (walk.place - c.loop-walk.walk.place) c.loop-walk.walk walk bodies waiting c.loop-walk.brackets.braces c.loop-walk.brackets.around c.args.all.now _ c.pass_quiet-next.new.row c.len-count.ensures.increase c.requires.within c.requires.all c.pass_quiet-next.ensures.row refl
-    (omega (arith, c.pass_quiet-next.ensures.place, c.pass_quiet-next.ensures.within)) here c.pass_quiet-next.ensures.quiet c.loop-walk.invariant.read in
-    let at = stands_behind view c.args.first c.loop-walk.walk.place walk.place c.in-Some.id.0 c.pass_quiet-next.new.row c.pass_quiet-next.ensures.row c.pass_quiet-next.ensures.place (c.pass_quiet-next.ensures.below _ c.in-Some.is) (c.pass_quiet-next.ensures.item _ c.in-Some.is) in
+    let quiet = c.pass_quiet-next.ensures in
     let id = c.in-Some.id.0 in
+    let item = at_item arena begins view first c.loop-walk.walk walk bodies waiting c.loop-walk.brackets.braces stands all id row c.len-count.ensures.increase c.requires.within c.requires.all quiet.row quiet.place (quiet.below _ c.in-Some.is) (quiet.item _ c.in-Some.is) here quiet.quiet
+    c.loop-walk.invariant.read in
     let read = read_so c.read.result c.read.new.walk in
-    let item = next_item arena view c.args.all.now c.args.first c.len-count.result walk bodies waiting read c.loop-walk.brackets.around id _ c.requires.within c.requires.all c.len-count.ensures.count (omega (arith, at.below, c.len-count.ensures.count))
-    at.item here c.read.ensures.read in
     let after = c.read.new.walk in
+    let next = reads_item arena begins view all first walk bodies waiting c.loop-walk.brackets.braces id row read stands _ c.requires.within c.requires.all here c.read.ensures.read item in
     let goes = ap (λ (o : Outcome). read_so o after) c.in-GoesOn.is in
+    let one = next_place arena (drop first view) walk after bodies waiting read _ _ next goes in
     let made = c.in_ok-pass-2.ensures in
     let later = c.pass-in-loop-walk.new.self in
-    let one = next_place arena (drop c.args.first view) walk after bodies waiting read _ _ item goes in
     let place : c.pass-in-loop-walk.new.walk.place ≡ walk.place + 1 = ap (λ (w : Walk). w.place) made.walk ∙ (behind_place after bodies (reverse later.waiting.items) None id ∙ one) in
     record {
-      read = read_on arena begins view c.args.first walk after c.pass-in-loop-walk.new.walk bodies (reverse later.bodies.items) waiting (reverse later.waiting.items) c.loop-walk.brackets.braces later.braces None read c.loop-walk.brackets.around
-          bodies id _ c.len-count.ensures.increase at.item item goes (sym (opened_none walk c.loop-walk.brackets.around bodies id _ (no_brace arena walk after c.loop-walk.brackets.around id _ (sym c.passes_brace.ensures ∙ c.if-passes_brace.false) (sym c.read.ensures.read ∙ goes)))) here refl made.waiting made.walk made.bodies made.count made.small made.before was;
+      read = read_on arena begins view first walk after c.pass-in-loop-walk.new.walk bodies (reverse later.bodies.items) waiting (reverse later.waiting.items) c.loop-walk.brackets.braces later.braces None read stands
+          bodies id _ c.len-count.ensures.increase item.at.item next goes (no_body arena walk after stands bodies id _ _ c.passes_brace.ensures c.if-passes_brace.false (sym c.read.ensures.read ∙ goes)) here refl made.waiting made.walk made.bodies made.count made.small made.before item.was;
       stands = made.around;
-      row = row_later view _ (c.args.first + c.pass-in-loop-walk.new.walk.place) c.pass_quiet-next.new.row (omega (arith, place)) at.is;
+      row = row_behind_item view first walk.place _ 1 id row place item.at;
     }
 
 pub loop-walk-smaller-then-passes_brace : goal.loop-walk-smaller-then-passes_brace
@@ -537,226 +356,299 @@ loop-walk-smaller-then-passes_brace c =
     let arena = c.args.arena.now in
     let view = c.args.view.now in
     let begins = place_in c.args.begins in
+    let first = c.args.first in
+    let all = c.args.all.now in
     let walk = c.pass_quiet-next.new.walk in
+    let row = c.pass_quiet-next.new.row in
     let bodies = reverse c.loop-walk.brackets.bodies.items in
     let waiting = reverse c.loop-walk.brackets.waiting.items in
+    let stands = c.loop-walk.brackets.around in
     let here = c.loop-walk.invariant.stands in
-    let was = read_past arena begins view c.args.first (walk.place - c.loop-walk.walk.place) c.loop-walk.walk walk bodies waiting c.loop-walk.brackets.braces c.loop-walk.brackets.around c.args.all.now _ c.pass_quiet-next.new.row c.len-count.ensures.increase c.requires.within c.requires.all c.pass_quiet-next.ensures.row refl
-    (omega (arith, c.pass_quiet-next.ensures.place, c.pass_quiet-next.ensures.within)) here c.pass_quiet-next.ensures.quiet c.loop-walk.invariant.read in
-    let at = stands_behind view c.args.first c.loop-walk.walk.place walk.place c.in-Some.id.0 c.pass_quiet-next.new.row c.pass_quiet-next.ensures.row c.pass_quiet-next.ensures.place (c.pass_quiet-next.ensures.below _ c.in-Some.is) (c.pass_quiet-next.ensures.item _ c.in-Some.is) in
+    let quiet = c.pass_quiet-next.ensures in
     let id = c.in-Some.id.0 in
+    let item = at_item arena begins view first c.loop-walk.walk walk bodies waiting c.loop-walk.brackets.braces stands all id row c.len-count.ensures.increase c.requires.within c.requires.all quiet.row quiet.place (quiet.below _ c.in-Some.is) (quiet.item _ c.in-Some.is) here quiet.quiet
+    c.loop-walk.invariant.read in
     let after = c.pass_open_brace.new.self in
     let read = GoesOn after in
-    let brace = brace_of _ (and_parts _ _ (sym c.passes_brace.ensures ∙ c.if-passes_brace.true)).0 in
-    let item = next_item arena view c.args.all.now c.args.first c.len-count.result walk bodies waiting read c.loop-walk.brackets.around id _ c.requires.within c.requires.all c.len-count.ensures.count (omega (arith, at.below, c.len-count.ensures.count))
-    at.item here (c.pass_open_brace.ensures arena ∙ ap (λ (class : TokenClass). reading arena walk c.loop-walk.brackets.around id class) (sym brace)) in
+    let opens = (and_parts _ _ (sym c.passes_brace.ensures ∙ c.if-passes_brace.true)).0 in
+    let next = reads_item arena begins view all first walk bodies waiting c.loop-walk.brackets.braces id row read stands _ c.requires.within c.requires.all here (c.pass_open_brace.ensures arena ∙ ap (λ (class : TokenClass). reading arena walk stands id class) (sym (brace_of _ opens))) item in
+    let one = next_place arena (drop first view) walk after bodies waiting read _ _ next refl in
     let made = c.in_ok-pass.ensures in
-    let one = next_place arena (drop c.args.first view) walk after bodies waiting read _ _ item refl in
-    let place : c.pass.new.walk.place ≡ walk.place + 1 = ap (λ (w : Walk). w.place) made.walk ∙ (behind_place after bodies (reverse c.pass.new.self.waiting.items) c.opened_head-opened.result id ∙ one) in
-    omega (arith, place, c.pass_quiet-next.ensures.place, c.loop-walk-test.true)
+    let later = c.pass.new.self in
+    let place : c.pass.new.walk.place ≡ walk.place + 1 = ap (λ (w : Walk). w.place) made.walk ∙ (behind_place after bodies (reverse later.waiting.items) c.opened_head-opened.result id ∙ one) in
+    one_fewer c.len-count.result first c.loop-walk.walk.place walk.place _ c.loop-walk-test.true quiet.place place
 
 pub loop-walk-preserved-then-passes_brace : goal.loop-walk-preserved-then-passes_brace
 loop-walk-preserved-then-passes_brace c =
     let arena = c.args.arena.now in
     let view = c.args.view.now in
     let begins = place_in c.args.begins in
+    let first = c.args.first in
+    let all = c.args.all.now in
     let walk = c.pass_quiet-next.new.walk in
+    let row = c.pass_quiet-next.new.row in
     let bodies = reverse c.loop-walk.brackets.bodies.items in
     let waiting = reverse c.loop-walk.brackets.waiting.items in
+    let stands = c.loop-walk.brackets.around in
     let here = c.loop-walk.invariant.stands in
-    let was = read_past arena begins view c.args.first (walk.place - c.loop-walk.walk.place) c.loop-walk.walk walk bodies waiting c.loop-walk.brackets.braces c.loop-walk.brackets.around c.args.all.now _ c.pass_quiet-next.new.row c.len-count.ensures.increase c.requires.within c.requires.all c.pass_quiet-next.ensures.row refl
-    (omega (arith, c.pass_quiet-next.ensures.place, c.pass_quiet-next.ensures.within)) here c.pass_quiet-next.ensures.quiet c.loop-walk.invariant.read in
-    let at = stands_behind view c.args.first c.loop-walk.walk.place walk.place c.in-Some.id.0 c.pass_quiet-next.new.row c.pass_quiet-next.ensures.row c.pass_quiet-next.ensures.place (c.pass_quiet-next.ensures.below _ c.in-Some.is) (c.pass_quiet-next.ensures.item _ c.in-Some.is) in
+    let quiet = c.pass_quiet-next.ensures in
     let id = c.in-Some.id.0 in
+    let item = at_item arena begins view first c.loop-walk.walk walk bodies waiting c.loop-walk.brackets.braces stands all id row c.len-count.ensures.increase c.requires.within c.requires.all quiet.row quiet.place (quiet.below _ c.in-Some.is) (quiet.item _ c.in-Some.is) here quiet.quiet
+    c.loop-walk.invariant.read in
     let after = c.pass_open_brace.new.self in
     let read = GoesOn after in
-    let brace = brace_of _ (and_parts _ _ (sym c.passes_brace.ensures ∙ c.if-passes_brace.true)).0 in
-    let item = next_item arena view c.args.all.now c.args.first c.len-count.result walk bodies waiting read c.loop-walk.brackets.around id _ c.requires.within c.requires.all c.len-count.ensures.count (omega (arith, at.below, c.len-count.ensures.count))
-    at.item here (c.pass_open_brace.ensures arena ∙ ap (λ (class : TokenClass). reading arena walk c.loop-walk.brackets.around id class) (sym brace)) in
-    let opened_told = opened_brace walk c.loop-walk.brackets.around _ _ id _ _ c.opened_head-opened.ensures c.deref.ensures.value (and_parts _ _ (sym c.passes_brace.ensures ∙ c.if-passes_brace.true)).0 in
+    let opens = (and_parts _ _ (sym c.passes_brace.ensures ∙ c.if-passes_brace.true)).0 in
+    let next = reads_item arena begins view all first walk bodies waiting c.loop-walk.brackets.braces id row read stands _ c.requires.within c.requires.all here (c.pass_open_brace.ensures arena ∙ ap (λ (class : TokenClass). reading arena walk stands id class) (sym (brace_of _ opens))) item in
+    let one = next_place arena (drop first view) walk after bodies waiting read _ _ next refl in
     let made = c.in_ok-pass.ensures in
     let later = c.pass.new.self in
-    let one = next_place arena (drop c.args.first view) walk after bodies waiting read _ _ item refl in
     let place : c.pass.new.walk.place ≡ walk.place + 1 = ap (λ (w : Walk). w.place) made.walk ∙ (behind_place after bodies (reverse later.waiting.items) c.opened_head-opened.result id ∙ one) in
+    let opened_told = opened_brace walk stands _ _ id _ _ c.opened_head-opened.ensures c.deref.ensures.value opens in
     record {
-      read = read_on arena begins view c.args.first walk after c.pass.new.walk bodies (reverse later.bodies.items) waiting (reverse later.waiting.items) c.loop-walk.brackets.braces later.braces c.opened_head-opened.result read c.loop-walk.brackets.around
-          bodies id _ c.len-count.ensures.increase at.item item refl opened_told here refl made.waiting made.walk made.bodies made.count made.small made.before was;
+      read = read_on arena begins view first walk after c.pass.new.walk bodies (reverse later.bodies.items) waiting (reverse later.waiting.items) c.loop-walk.brackets.braces later.braces c.opened_head-opened.result read stands
+          bodies id _ c.len-count.ensures.increase item.at.item next refl opened_told here refl made.waiting made.walk made.bodies made.count made.small made.before item.was;
       stands = made.around;
-      row = row_later view _ (c.args.first + c.pass.new.walk.place) c.pass_quiet-next.new.row (omega (arith, place)) at.is;
+      row = row_behind_item view first walk.place _ 1 id row place item.at;
     }
 
-pub passed_body-requires-clause-within : goal.passed_body-requires-clause-within
-passed_body-requires-clause-within c =
+pub passed_body-requires : goal.passed_body-requires
+passed_body-requires c =
+    let arena = c.args.arena.now in
+    let view = c.args.view.now in
+    let first = c.args.first in
+    let walk = c.pass_quiet-next.new.walk in
+    let row = c.pass_quiet-next.new.row in
+    let quiet = c.pass_quiet-next.ensures in
     let all = c.args.all.now in
-    let stored = row_stored c.args.view.now (c.args.first + c.loop-walk.walk.place) (length c.args.arena.now.tokens) c.pass_quiet-next.new.row c.requires.within c.pass_quiet-next.ensures.some c.pass_quiet-next.ensures.row in
-    let whole : length all ≡ length c.args.arena.now.tokens = ap (λ (cs : List TokenClass). length cs) c.requires.all ∙ length-map c.args.arena.now.tokens (class_of c.args.arena.now.dialect) in
-    omega (arith, stored, whole)
+    let stored = row_stored view (first + c.loop-walk.walk.place) (length arena.tokens) row c.requires.within quiet.some quiet.row in
+    let whole : length all ≡ length arena.tokens = ap (λ (cs : List TokenClass). length cs) c.requires.all ∙ length-map arena.tokens (class_of arena.dialect) in
+    record { here = quiet.below _ c.in-Some.is; within = within_kept _ _ _ stored whole }
 
 pub loop-walk-smaller-in-GoesOn : goal.loop-walk-smaller-in-GoesOn
 loop-walk-smaller-in-GoesOn c =
     let arena = c.args.arena.now in
     let view = c.args.view.now in
     let begins = place_in c.args.begins in
+    let first = c.args.first in
+    let all = c.args.all.now in
     let walk = c.pass_quiet-next.new.walk in
+    let row = c.pass_quiet-next.new.row in
     let bodies = reverse c.loop-walk.brackets.bodies.items in
     let waiting = reverse c.loop-walk.brackets.waiting.items in
+    let stands = c.loop-walk.brackets.around in
     let here = c.loop-walk.invariant.stands in
-    let was = read_past arena begins view c.args.first (walk.place - c.loop-walk.walk.place) c.loop-walk.walk walk bodies waiting c.loop-walk.brackets.braces c.loop-walk.brackets.around c.args.all.now _ c.pass_quiet-next.new.row c.len-count.ensures.increase c.requires.within c.requires.all c.pass_quiet-next.ensures.row refl
-    (omega (arith, c.pass_quiet-next.ensures.place, c.pass_quiet-next.ensures.within)) here c.pass_quiet-next.ensures.quiet c.loop-walk.invariant.read in
-    let at = stands_behind view c.args.first c.loop-walk.walk.place walk.place c.in-Some.id.0 c.pass_quiet-next.new.row c.pass_quiet-next.ensures.row c.pass_quiet-next.ensures.place (c.pass_quiet-next.ensures.below _ c.in-Some.is) (c.pass_quiet-next.ensures.item _ c.in-Some.is) in
+    let quiet = c.pass_quiet-next.ensures in
     let id = c.in-Some.id.0 in
+    let item = at_item arena begins view first c.loop-walk.walk walk bodies waiting c.loop-walk.brackets.braces stands all id row c.len-count.ensures.increase c.requires.within c.requires.all quiet.row quiet.place (quiet.below _ c.in-Some.is) (quiet.item _ c.in-Some.is) here quiet.quiet
+    c.loop-walk.invariant.read in
     let read = read_so c.read.result c.read.new.walk in
-    let item = next_item arena view c.args.all.now c.args.first c.len-count.result walk bodies waiting read c.loop-walk.brackets.around id _ c.requires.within c.requires.all c.len-count.ensures.count (omega (arith, at.below, c.len-count.ensures.count))
-    at.item here c.read.ensures.read in
     let after = c.read.new.walk in
+    let next = reads_item arena begins view all first walk bodies waiting c.loop-walk.brackets.braces id row read stands _ c.requires.within c.requires.all here c.read.ensures.read item in
     let goes = ap (λ (o : Outcome). read_so o after) c.in-GoesOn.is in
-    let one = next_place arena (drop c.args.first view) walk after bodies waiting read _ _ item goes in
-    omega (arith, one, c.pass_quiet-next.ensures.place, c.loop-walk-test.true)
+    let one = next_place arena (drop first view) walk after bodies waiting read _ _ next goes in
+    one_fewer c.len-count.result first c.loop-walk.walk.place walk.place _ c.loop-walk-test.true quiet.place one
 
 pub loop-walk-preserved-in-GoesOn : goal.loop-walk-preserved-in-GoesOn
 loop-walk-preserved-in-GoesOn c =
     let arena = c.args.arena.now in
     let view = c.args.view.now in
     let begins = place_in c.args.begins in
+    let first = c.args.first in
+    let all = c.args.all.now in
     let walk = c.pass_quiet-next.new.walk in
+    let row = c.pass_quiet-next.new.row in
     let bodies = reverse c.loop-walk.brackets.bodies.items in
     let waiting = reverse c.loop-walk.brackets.waiting.items in
+    let stands = c.loop-walk.brackets.around in
     let here = c.loop-walk.invariant.stands in
-    let was = read_past arena begins view c.args.first (walk.place - c.loop-walk.walk.place) c.loop-walk.walk walk bodies waiting c.loop-walk.brackets.braces c.loop-walk.brackets.around c.args.all.now _ c.pass_quiet-next.new.row c.len-count.ensures.increase c.requires.within c.requires.all c.pass_quiet-next.ensures.row refl
-    (omega (arith, c.pass_quiet-next.ensures.place, c.pass_quiet-next.ensures.within)) here c.pass_quiet-next.ensures.quiet c.loop-walk.invariant.read in
-    let at = stands_behind view c.args.first c.loop-walk.walk.place walk.place c.in-Some.id.0 c.pass_quiet-next.new.row c.pass_quiet-next.ensures.row c.pass_quiet-next.ensures.place (c.pass_quiet-next.ensures.below _ c.in-Some.is) (c.pass_quiet-next.ensures.item _ c.in-Some.is) in
+    let quiet = c.pass_quiet-next.ensures in
     let id = c.in-Some.id.0 in
+    let item = at_item arena begins view first c.loop-walk.walk walk bodies waiting c.loop-walk.brackets.braces stands all id row c.len-count.ensures.increase c.requires.within c.requires.all quiet.row quiet.place (quiet.below _ c.in-Some.is) (quiet.item _ c.in-Some.is) here quiet.quiet
+    c.loop-walk.invariant.read in
     let read = read_so c.read.result c.read.new.walk in
-    let item = next_item arena view c.args.all.now c.args.first c.len-count.result walk bodies waiting read c.loop-walk.brackets.around id _ c.requires.within c.requires.all c.len-count.ensures.count (omega (arith, at.below, c.len-count.ensures.count))
-    at.item here c.read.ensures.read in
     let after = c.read.new.walk in
+    let next = reads_item arena begins view all first walk bodies waiting c.loop-walk.brackets.braces id row read stands _ c.requires.within c.requires.all here c.read.ensures.read item in
     let goes = ap (λ (o : Outcome). read_so o after) c.in-GoesOn.is in
-    let one = next_place arena (drop c.args.first view) walk after bodies waiting read _ _ item goes in
+    let one = next_place arena (drop first view) walk after bodies waiting read _ _ next goes in
     record {
-      read = read_flat arena begins view c.args.first walk after bodies waiting c.loop-walk.brackets.braces read id _ c.len-count.ensures.increase item goes (sym c.is_bracket.ensures ∙ c.if-not-is_bracket.true) was;
+      read = read_flat arena begins view first walk after bodies waiting c.loop-walk.brackets.braces read id _ c.len-count.ensures.increase next goes (sym c.is_bracket.ensures ∙ c.if-not-is_bracket.true) item.was;
       stands = here;
-      row = row_later view _ (c.args.first + after.place) c.pass_quiet-next.new.row (omega (arith, one)) at.is;
+      row = row_behind_item view first walk.place _ 1 id row one item.at;
     }
+
+pub loop-walk-smaller-in-Some-passed_body : goal.loop-walk-smaller-in-Some-passed_body
+loop-walk-smaller-in-Some-passed_body c =
+    let first = c.args.first in
+    let walk = c.pass_quiet-next.new.walk in
+    let quiet = c.pass_quiet-next.ensures in
+    let later : c.pass_body.new.self.place ≡ walk.place + 1 + c.in-Some-passed_body.len = ap (λ (w : Walk). w.place) c.pass_body.ensures in
+    fewer_left c.len-count.result first c.loop-walk.walk.place walk.place _ c.in-Some-passed_body.len c.loop-walk-test.true quiet.place later
 
 pub loop-walk-preserved-in-Some-passed_body : goal.loop-walk-preserved-in-Some-passed_body
 loop-walk-preserved-in-Some-passed_body c =
     let arena = c.args.arena.now in
     let view = c.args.view.now in
     let begins = place_in c.args.begins in
+    let first = c.args.first in
+    let all = c.args.all.now in
     let walk = c.pass_quiet-next.new.walk in
+    let row = c.pass_quiet-next.new.row in
     let bodies = reverse c.loop-walk.brackets.bodies.items in
     let waiting = reverse c.loop-walk.brackets.waiting.items in
+    let stands = c.loop-walk.brackets.around in
     let here = c.loop-walk.invariant.stands in
-    let was = read_past arena begins view c.args.first (walk.place - c.loop-walk.walk.place) c.loop-walk.walk walk bodies waiting c.loop-walk.brackets.braces c.loop-walk.brackets.around c.args.all.now _ c.pass_quiet-next.new.row c.len-count.ensures.increase c.requires.within c.requires.all c.pass_quiet-next.ensures.row refl
-    (omega (arith, c.pass_quiet-next.ensures.place, c.pass_quiet-next.ensures.within)) here c.pass_quiet-next.ensures.quiet c.loop-walk.invariant.read in
-    let at = stands_behind view c.args.first c.loop-walk.walk.place walk.place c.in-Some.id.0 c.pass_quiet-next.new.row c.pass_quiet-next.ensures.row c.pass_quiet-next.ensures.place (c.pass_quiet-next.ensures.below _ c.in-Some.is) (c.pass_quiet-next.ensures.item _ c.in-Some.is) in
+    let quiet = c.pass_quiet-next.ensures in
     let id = c.in-Some.id.0 in
+    let item = at_item arena begins view first c.loop-walk.walk walk bodies waiting c.loop-walk.brackets.braces stands all id row c.len-count.ensures.increase c.requires.within c.requires.all quiet.row quiet.place (quiet.below _ c.in-Some.is) (quiet.item _ c.in-Some.is) here quiet.quiet
+    c.loop-walk.invariant.read in
     let after = c.pass_open_brace.new.self in
     let read = GoesOn after in
-    let brace = brace_of _ (and_parts _ _ (sym c.passes_brace.ensures ∙ c.if-passes_brace.true)).0 in
-    let item = next_item arena view c.args.all.now c.args.first c.len-count.result walk bodies waiting read c.loop-walk.brackets.around id _ c.requires.within c.requires.all c.len-count.ensures.count (omega (arith, at.below, c.len-count.ensures.count))
-    at.item here (c.pass_open_brace.ensures arena ∙ ap (λ (class : TokenClass). reading arena walk c.loop-walk.brackets.around id class) (sym brace)) in
-    let row = at.is in
+    let opens = (and_parts _ _ (sym c.passes_brace.ensures ∙ c.if-passes_brace.true)).0 in
+    let next = reads_item arena begins view all first walk bodies waiting c.loop-walk.brackets.braces id row read stands _ c.requires.within c.requires.all here (c.pass_open_brace.ensures arena ∙ ap (λ (class : TokenClass). reading arena walk stands id class) (sym (brace_of _ opens))) item in
+    let one = next_place arena (drop first view) walk after bodies waiting read _ _ next refl in
     let head = c.in-Some-passed_body.head in
     let len = c.in-Some-passed_body.len in
-    let told = c.in-Some-passed_body.is in
-    let whole = c.passed_body.ensures in
-    let inside = whole.within _ told in
-    let stored = row_stored view (c.args.first + walk.place) (length arena.tokens) c.pass_quiet-next.new.row c.requires.within at.some row in
-    let items = row_items view c.args.first walk.place len id c.pass_quiet-next.new.row row at.shift inside in
-    let number : c.args.first + walk.place + 1 + c.pass_quiet-next.new.row.shift ≡ id + 1 = omega (arith, at.shift) in
-    let closes = subst (λ n. Closes 1 (take len (drop n c.args.all.now))) number (whole.closes _ told) in
-    let later : c.pass_body.new.self.place ≡ walk.place + 1 + len = ap (λ (w : Walk). w.place) c.pass_body.ensures in
-    let opened_told = opened_brace walk c.loop-walk.brackets.around _ _ id _ _ c.opened_head-opened.ensures c.deref.ensures.value (and_parts _ _ (sym c.passes_brace.ensures ∙ c.if-passes_brace.true)).0 in
-    let opened = sym (whole.opened _ told) ∙ opened_told in
+    let whole = c.in-Some-passed_body.ensures in
+    let passed = item_row view first walk.place len id row (length arena.tokens) whole.within item.stored item.at in
+    let closes = subst (λ n. Closes 1 (take len (drop n all))) passed.next whole.closes in
+    let later : c.pass_body.new.self.place ≡ walk.place + (1 + len) = ap (λ (w : Walk). w.place) c.pass_body.ensures ∙ passed.behind in
+    let opened_told = opened_brace walk stands _ _ id _ _ c.opened_head-opened.ensures c.deref.ensures.value opens in
     record {
-      read = read_body arena begins view c.args.first walk after c.pass_body.new.self bodies bodies waiting c.loop-walk.brackets.braces read c.args.all.now id len _ c.loop-walk.brackets.around head c.len-count.ensures.increase
-          (omega (arith, inside, row.inside)) items (omega (arith, inside, stored, at.shift)) c.requires.all item refl opened here refl (whole.before _ told) (whole.low _ told) closes c.pass_body.ensures was;
+      read = read_body arena begins view first walk after c.pass_body.new.self bodies bodies waiting c.loop-walk.brackets.braces read all id len _ stands head c.len-count.ensures.increase
+          passed.within passed.items passed.stored c.requires.all next refl (sym whole.opened ∙ opened_told) here refl whole.before whole.low closes c.pass_body.ensures item.was;
       stands = here;
-      row = row_later view _ (c.args.first + c.pass_body.new.self.place) c.pass_quiet-next.new.row (omega (arith, later)) row;
+      row = row_behind_item view first walk.place _ (1 + len) id row later item.at;
     }
 
-pub passed_group-requires-clause-within : goal.passed_group-requires-clause-within
-passed_group-requires-clause-within c =
+pub passed_group-requires : goal.passed_group-requires
+passed_group-requires c =
+    let arena = c.args.arena.now in
+    let view = c.args.view.now in
+    let first = c.args.first in
+    let walk = c.pass_quiet-next.new.walk in
+    let row = c.pass_quiet-next.new.row in
+    let quiet = c.pass_quiet-next.ensures in
     let all = c.args.all.now in
-    let stored = row_stored c.args.view.now (c.args.first + c.loop-walk.walk.place) (length c.args.arena.now.tokens) c.pass_quiet-next.new.row c.requires.within c.pass_quiet-next.ensures.some c.pass_quiet-next.ensures.row in
-    let whole : length all ≡ length c.args.arena.now.tokens = ap (λ (cs : List TokenClass). length cs) c.requires.all ∙ length-map c.args.arena.now.tokens (class_of c.args.arena.now.dialect) in
-    omega (arith, stored, whole)
+    let stored = row_stored view (first + c.loop-walk.walk.place) (length arena.tokens) row c.requires.within quiet.some quiet.row in
+    let whole : length all ≡ length arena.tokens = ap (λ (cs : List TokenClass). length cs) c.requires.all ∙ length-map arena.tokens (class_of arena.dialect) in
+    record { here = quiet.below _ c.in-Some.is; within = within_kept _ _ _ stored whole }
 
 pub pass_group-requires : goal.pass_group-requires
 pass_group-requires c =
     let stored = row_stored c.args.view.now (c.args.first + c.loop-walk.walk.place) (length c.args.arena.now.tokens) c.pass_quiet-next.new.row c.requires.within c.pass_quiet-next.ensures.some c.pass_quiet-next.ensures.row in
-    let inside = c.passed_group.ensures.within _ c.in-Some-passed_group.is in
+    let inside = c.in-Some-passed_group.ensures.within in
     let item = c.pass_quiet-next.ensures.item _ c.in-Some.is in
     omega (arith, stored, item, inside, c.len-items.ensures.count)
+
+pub loop-walk-smaller-in-Some-passed_group : goal.loop-walk-smaller-in-Some-passed_group
+loop-walk-smaller-in-Some-passed_group c =
+    let first = c.args.first in
+    let walk = c.pass_quiet-next.new.walk in
+    let quiet = c.pass_quiet-next.ensures in
+    let later : c.pass_group.new.self.place ≡ walk.place + 1 + c.in-Some-passed_group.len = ap (λ (w : Walk). w.place) c.pass_group.ensures in
+    fewer_left c.len-count.result first c.loop-walk.walk.place walk.place _ c.in-Some-passed_group.len c.loop-walk-test.true quiet.place later
 
 pub loop-walk-preserved-in-Some-passed_group : goal.loop-walk-preserved-in-Some-passed_group
 loop-walk-preserved-in-Some-passed_group c =
     let arena = c.args.arena.now in
     let view = c.args.view.now in
     let begins = place_in c.args.begins in
+    let first = c.args.first in
+    let all = c.args.all.now in
     let walk = c.pass_quiet-next.new.walk in
+    let row = c.pass_quiet-next.new.row in
     let bodies = reverse c.loop-walk.brackets.bodies.items in
     let waiting = reverse c.loop-walk.brackets.waiting.items in
+    let stands = c.loop-walk.brackets.around in
     let here = c.loop-walk.invariant.stands in
-    let was = read_past arena begins view c.args.first (walk.place - c.loop-walk.walk.place) c.loop-walk.walk walk bodies waiting c.loop-walk.brackets.braces c.loop-walk.brackets.around c.args.all.now _ c.pass_quiet-next.new.row c.len-count.ensures.increase c.requires.within c.requires.all c.pass_quiet-next.ensures.row refl
-    (omega (arith, c.pass_quiet-next.ensures.place, c.pass_quiet-next.ensures.within)) here c.pass_quiet-next.ensures.quiet c.loop-walk.invariant.read in
-    let at = stands_behind view c.args.first c.loop-walk.walk.place walk.place c.in-Some.id.0 c.pass_quiet-next.new.row c.pass_quiet-next.ensures.row c.pass_quiet-next.ensures.place (c.pass_quiet-next.ensures.below _ c.in-Some.is) (c.pass_quiet-next.ensures.item _ c.in-Some.is) in
+    let quiet = c.pass_quiet-next.ensures in
     let id = c.in-Some.id.0 in
+    let item = at_item arena begins view first c.loop-walk.walk walk bodies waiting c.loop-walk.brackets.braces stands all id row c.len-count.ensures.increase c.requires.within c.requires.all quiet.row quiet.place (quiet.below _ c.in-Some.is) (quiet.item _ c.in-Some.is) here quiet.quiet
+    c.loop-walk.invariant.read in
     let read = read_so c.read.result c.read.new.walk in
-    let item = next_item arena view c.args.all.now c.args.first c.len-count.result walk bodies waiting read c.loop-walk.brackets.around id _ c.requires.within c.requires.all c.len-count.ensures.count (omega (arith, at.below, c.len-count.ensures.count))
-    at.item here c.read.ensures.read in
     let after = c.read.new.walk in
+    let next = reads_item arena begins view all first walk bodies waiting c.loop-walk.brackets.braces id row read stands _ c.requires.within c.requires.all here c.read.ensures.read item in
     let goes = ap (λ (o : Outcome). read_so o after) c.in-GoesOn.is in
-    let shift = c.pass_quiet-next.new.row.shift in
-    let row = at.is in
-    let group = c.passed_group.ensures in
+    let group = c.in-Some-passed_group.ensures in
     let len = c.in-Some-passed_group.len in
-    let told = c.in-Some-passed_group.is in
-    let inside = group.within _ told in
-    let stored = row_stored view (c.args.first + walk.place) (length arena.tokens) c.pass_quiet-next.new.row c.requires.within at.some row in
-    let items = row_items view c.args.first walk.place len id c.pass_quiet-next.new.row row at.shift inside in
-    let last : c.args.first + walk.place + len + shift ≡ id + len = omega (arith, at.shift) in
-    let opener = get_or c.args.all.now id If in
+    let passed = item_row view first walk.place len id row (length arena.tokens) group.within item.stored item.at in
+    let opener = get_or all id If in
     let closer = c.in-Some-passed_group.closer in
-    let there : closer ≡ get_or c.args.all.now (id + len) If = group.closer _ told If ∙ ap (λ n. get_or c.args.all.now n If) last in
-    let quiet : (k : ℕ) → (d : TokenClass) → 0 < k → k < len → is_quiet around.Group false (get_or c.args.all.now (id + k) d) ≡ true =
-    λ k d after_it before. subst (λ n. is_quiet around.Group false (get_or c.args.all.now n d) ≡ true) (omega (arith, at.shift)) (group.quiet _ told (c.args.first + walk.place + k) d (omega (arith, after_it)) (omega (arith, before))) in
-    let later : c.pass_group.new.self.place ≡ walk.place + 1 + len = ap (λ (w : Walk). w.place) c.pass_group.ensures in
+    let there : closer ≡ get_or all (id + len) If = group.closer If ∙ ap (λ n. get_or all n If) passed.last in
+    let later : c.pass_group.new.self.place ≡ walk.place + (1 + len) = ap (λ (w : Walk). w.place) c.pass_group.ensures ∙ passed.behind in
     record {
-      read = read_group arena begins view c.args.first walk after c.pass_group.new.self bodies waiting c.loop-walk.brackets.braces read c.args.all.now id len opener closer If c.len-count.ensures.increase
-          (omega (arith, inside, row.inside)) items (omega (arith, inside, stored, at.shift)) c.requires.all item goes (group.some _ told) (group.closes _ told) there quiet c.pass_group.ensures was;
+      read = read_group arena begins view first walk after c.pass_group.new.self bodies waiting c.loop-walk.brackets.braces read all id len opener closer If c.len-count.ensures.increase
+          passed.within passed.items passed.stored_last c.requires.all next goes group.some group.closes there (group_quiet all first walk.place len id row item.at.shift group.quiet) c.pass_group.ensures item.was;
       stands = here;
-      row = row_later view _ (c.args.first + c.pass_group.new.self.place) c.pass_quiet-next.new.row (omega (arith, later)) row;
+      row = row_behind_item view first walk.place _ (1 + len) id row later item.at;
     }
 
-pub returns-clause-end : goal.returns-clause-end
-returns-clause-end c =
-    let arena = c.args.arena.now in
-    let view = c.args.view.now in
-    let begins = place_in c.args.begins in
-    let walk = c.loop-walk.walk in
-    let bodies = reverse c.loop-walk.brackets.bodies.items in
-    let waiting = reverse c.loop-walk.brackets.waiting.items in
-    let none : end_of_part arena begins (drop c.args.first view) ≡ None = elim c.loop-walk-test.branch [
-      | else-loop-walk-test w ↦ all_read arena begins (drop c.args.first view) walk bodies waiting (omega (arith, length-drop c.args.first view, w.loop-walk-test.false, c.len-count.ensures.count)) c.loop-walk.invariant.read.on
-      | then-loop-walk-test+in-Some+else-prove+else-passes_brace+in-Never w ↦
-          let here = c.loop-walk.invariant.stands in
-          let walk = w.pass_quiet-next.new.walk in
-          let was = read_past arena begins view c.args.first (walk.place - c.loop-walk.walk.place) c.loop-walk.walk walk bodies waiting c.loop-walk.brackets.braces c.loop-walk.brackets.around c.args.all.now _ w.pass_quiet-next.new.row c.len-count.ensures.increase c.requires.within c.requires.all w.pass_quiet-next.ensures.row refl
-          (omega (arith, w.pass_quiet-next.ensures.place, w.pass_quiet-next.ensures.within)) here w.pass_quiet-next.ensures.quiet c.loop-walk.invariant.read in
-          let at = stands_behind view c.args.first c.loop-walk.walk.place walk.place w.in-Some.id.0 w.pass_quiet-next.new.row w.pass_quiet-next.ensures.row w.pass_quiet-next.ensures.place (w.pass_quiet-next.ensures.below _ w.in-Some.is) (w.pass_quiet-next.ensures.item _ w.in-Some.is) in
-          let id = w.in-Some.id.0 in
-          let read = read_so w.read.result w.read.new.walk in
-          let item = next_item arena view c.args.all.now c.args.first c.len-count.result walk bodies waiting read c.loop-walk.brackets.around id _ c.requires.within c.requires.all c.len-count.ensures.count (omega (arith, at.below, c.len-count.ensures.count))
-          at.item here w.read.ensures.read in
-          never_ends arena begins (drop c.args.first view) walk bodies waiting read item.below (ap (λ (o : Outcome). read_so o w.read.new.walk) w.in-Never.is) item.read_is was.on
-    ] in
-    let end = ends_nowhere arena begins view c.args.first c.len-count.result c.requires.here c.len-count.ensures.count none in
-    c.with_view.ensures.end ∙ end.end
+pub returns-in_err-brackets : goal.returns-in_err-brackets
+returns-in_err-brackets c =
+    let result = c.from_residual.result in
+    let err = c.from_residual.ensures.0 in
+    record {
+      end = no_value result _ err;
+      inside = no_value result _ err;
+      place = no_value result _ err;
+      some = no_value result _ err;
+      within = no_value result _ err;
+      seen = no_value result _ err;
+      later = no_value result _ err;
+      below = no_value result _ err;
+      whole = no_value result _ err;
+    }
 
-pub returns-clause-inside : goal.returns-clause-inside
-returns-clause-inside c =
+pub returns-in_err-pass : goal.returns-in_err-pass
+returns-in_err-pass c =
+    let result = c.from_residual-in_err-pass.result in
+    let err = c.from_residual-in_err-pass.ensures.0 in
+    record {
+      end = no_value result _ err;
+      inside = no_value result _ err;
+      place = no_value result _ err;
+      some = no_value result _ err;
+      within = no_value result _ err;
+      seen = no_value result _ err;
+      later = no_value result _ err;
+      below = no_value result _ err;
+      whole = no_value result _ err;
+    }
+
+pub returns-in_err-pass-2 : goal.returns-in_err-pass-2
+returns-in_err-pass-2 c =
+    let result = c.from_residual-in_err-pass-2.result in
+    let err = c.from_residual-in_err-pass-2.ensures.0 in
+    record {
+      end = no_value result _ err;
+      inside = no_value result _ err;
+      place = no_value result _ err;
+      some = no_value result _ err;
+      within = no_value result _ err;
+      seen = no_value result _ err;
+      later = no_value result _ err;
+      below = no_value result _ err;
+      whole = no_value result _ err;
+    }
+
+pub returns-in_err-inside-in-EndsInBody : goal.returns-in_err-inside-in-EndsInBody
+returns-in_err-inside-in-EndsInBody c =
+    let result = c.from_residual-in_err-inside-in-EndsInBody.result in
+    let err = c.from_residual-in_err-inside-in-EndsInBody.ensures.0 in
+    record {
+      end = no_value result _ err;
+      inside = no_value result _ err;
+      place = no_value result _ err;
+      some = no_value result _ err;
+      within = no_value result _ err;
+      seen = no_value result _ err;
+      later = no_value result _ err;
+      below = no_value result _ err;
+      whole = no_value result _ err;
+    }
+
+pub returns : goal.returns
+returns c =
     let arena = c.args.arena.now in
     let view = c.args.view.now in
     let begins = place_in c.args.begins in
@@ -768,14 +660,12 @@ returns-clause-inside c =
       | then-loop-walk-test+in-Some+else-prove+else-passes_brace+in-Never w ↦
           let here = c.loop-walk.invariant.stands in
           let walk = w.pass_quiet-next.new.walk in
-          let was = read_past arena begins view c.args.first (walk.place - c.loop-walk.walk.place) c.loop-walk.walk walk bodies waiting c.loop-walk.brackets.braces c.loop-walk.brackets.around c.args.all.now _ w.pass_quiet-next.new.row c.len-count.ensures.increase c.requires.within c.requires.all w.pass_quiet-next.ensures.row refl
-          (omega (arith, w.pass_quiet-next.ensures.place, w.pass_quiet-next.ensures.within)) here w.pass_quiet-next.ensures.quiet c.loop-walk.invariant.read in
-          let at = stands_behind view c.args.first c.loop-walk.walk.place walk.place w.in-Some.id.0 w.pass_quiet-next.new.row w.pass_quiet-next.ensures.row w.pass_quiet-next.ensures.place (w.pass_quiet-next.ensures.below _ w.in-Some.is) (w.pass_quiet-next.ensures.item _ w.in-Some.is) in
-          let id = w.in-Some.id.0 in
+          let quiet = w.pass_quiet-next.ensures in
+          let item = at_item arena begins view c.args.first c.loop-walk.walk walk bodies waiting c.loop-walk.brackets.braces c.loop-walk.brackets.around c.args.all.now w.in-Some.id.0 w.pass_quiet-next.new.row c.len-count.ensures.increase c.requires.within c.requires.all quiet.row quiet.place (quiet.below _ w.in-Some.is) (quiet.item _ w.in-Some.is) here quiet.quiet c.loop-walk.invariant.read in
           let read = read_so w.read.result w.read.new.walk in
-          let item = next_item arena view c.args.all.now c.args.first c.len-count.result walk bodies waiting read c.loop-walk.brackets.around id _ c.requires.within c.requires.all c.len-count.ensures.count (omega (arith, at.below, c.len-count.ensures.count))
-          at.item here w.read.ensures.read in
-          never_ends arena begins (drop c.args.first view) walk bodies waiting read item.below (ap (λ (o : Outcome). read_so o w.read.new.walk) w.in-Never.is) item.read_is was.on
+          let next = reads_item arena begins view c.args.all.now c.args.first walk bodies waiting c.loop-walk.brackets.braces w.in-Some.id.0 w.pass_quiet-next.new.row read c.loop-walk.brackets.around _ c.requires.within c.requires.all here w.read.ensures.read item in
+          never_ends arena begins (drop c.args.first view) walk bodies waiting read next.below (ap (λ (o : Outcome). read_so o w.read.new.walk) w.in-Never.is) next.read_is item.was.on
     ] in
-    let end = ends_nowhere arena begins view c.args.first c.len-count.result c.requires.here c.len-count.ensures.count none in
-    c.with_view.ensures.inside ∙ end.inside
+    let nowhere = ends_nowhere arena begins view c.args.first c.len-count.result c.requires.here c.len-count.ensures.count none in
+    let at = ends_with_view arena begins view c.args.first c.len-count.result _ _ _ c.requires.here c.len-count.ensures.count c.with_view.ensures.end c.with_view.ensures.seen c.with_view.ensures.inside nowhere in
+    record { end = at.end_is; inside = at.inside_is; place = at.place; some = at.some; within = at.within; seen = at.told; later = at.later; below = at.below; whole = at.whole }

@@ -1,0 +1,11 @@
+-- What contracts say where nothing is returned.
+use Rattle.std.proofs.Common.{◌≡◌, true, false}
+use Rattle.std.specs.Prelude.{IfOk, IsErr, Result, Ok, Err}
+
+unlike : false ≡ true → ⊥
+unlike e = cc
+
+-- nothing is said of what isn't returned
+pub no_value : {T E : Type 0} (r : Result T E) (P : T → Type 0) → IsErr r → IfOk r P
+no_value (Ok x) P err = absurd (unlike err)
+no_value (Err e) P err = tt

@@ -1,0 +1,35 @@
+use Rattle.std.proofs.Common.{◌∙◌, ◌-◌, refl, sym}
+use Rattle.std.specs.Prelude.{slice_range}
+use Rattle.view_parts.proofs.Failed.{no_value}
+use Rattle.view_parts.proofs.EndsOfParts.{ends_outside, none_of, none_some, on_ok, same_rows, set_known, set_rows}
+use Rattle.view_parts.proofs.known.note_part.Goals as goal
+
+pub returns-in_default : goal.returns-in_default
+returns-in_default c = record { untold = λ none. refl; known = c.requires.known; rows = same_rows _ _ _ _; spans = c.requires.spans }
+
+pub returns-then-is_some : goal.returns-then-is_some
+returns-then-is_some c = record { untold = λ none. refl; known = c.requires.known; rows = same_rows _ _ _ _; spans = c.requires.spans }
+
+pub noted_part-requires : goal.noted_part-requires
+noted_part-requires c =
+    let part = c.args.part.now in
+    record {
+      within = c.requires.within;
+      item = c.requires.item;
+      some = c.requires.some;
+      later = c.requires.later _ c.in-Some.is;
+      inside = c.requires.below _ c.in-Some.is;
+      ends = ends_outside c.args.arena.now (slice_range c.args.view.now c.args.first c.in-Some.seen) (part.end - c.args.first) part.inside (none_of part.inside (sym c.is_some.ensures ∙ c.if-is_some.false)) (c.requires.ends _ c.in-Some.is);
+      known = c.requires.spans;
+    }
+
+pub returns-in_err-end : goal.returns-in_err-end
+returns-in_err-end c = record { untold = λ none. refl; known = c.requires.known; rows = same_rows _ _ _ _; spans = no_value c.from_residual.result _ c.from_residual.ensures.0 }
+
+pub returns : goal.returns
+returns c = record {
+  untold = λ none. absurd (none_some _ (sym none ∙ c.in-Some.is));
+  known = set_known c.set.result c.args.arena.now c.args.known.now c.set.new.self c.args.id.0 c.in_ok-end.end c.set.ensures.set c.set.ensures.same c.in_ok-end.ensures.end c.requires.stored c.requires.known;
+  rows = set_rows c.set.result c.args.known.now c.set.new.self c.args.view.now c.args.first c.args.part.now.end c.args.id.0 c.in_ok-end.end c.set.ensures.set c.set.ensures.same c.requires.stored c.in_ok-end.ensures.row;
+  spans = on_ok c.set.result _ c.in_ok-end.ensures.known;
+}
