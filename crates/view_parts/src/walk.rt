@@ -518,9 +518,9 @@ impl Walk {
     /// Whether a statement that may have a body begins with the next token of a body.
     #[inline(always)]
     fn begins_leading(&self, class: TokenClass) -> bool
-        ensures { result ≡ (begins_behind self.now.last && is_leading class) }
+        ensures { result ≡ (is_leading class && begins_behind self.now.last) }
     {
-        self.last.is_begin() && is_leading(class)
+        is_leading(class) && self.last.is_begin()
     }
 
     /// How the statement began that is read, behind the next token of its body.

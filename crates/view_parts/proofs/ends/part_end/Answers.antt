@@ -1,4 +1,4 @@
-use Rattle.std.proofs.Common.{◌≡◌, ◌∙◌, ◌+◌, ◌<◌, ℕ, List, false, Some, None, length, drop, reverse, get_or, sym, ap, subst, arith, refl, take, true, Option, Bool}
+use Rattle.std.proofs.Common.{◌≡◌, ◌∙◌, ◌+◌, ◌<◌, ℕ, List, false, Some, None, length, drop, reverse, get_or, sym, ap, subst, arith, refl, take, Option, Bool}
 use Rattle.std.specs.Prelude.{◌&&◌, All, not}
 use Rattle.std.proofs.lemmas.Bool.{and_parts, not-true}
 use Rattle.std.proofs.Math.Bool.{and-true}
