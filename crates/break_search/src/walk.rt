@@ -64,6 +64,32 @@ fn lay_next(
     Ok(start)
 }
 
+/// Where each token behind a line's first one starts, by admissible choices, which the state of that one follows.
+fn starts_from<'r>(
+    style: &Style,
+    line: &[LineTok],
+    column: u32,
+    fixed: &[Option<Fixed>],
+    breaks: &[bool],
+    state: &mut State,
+    run: &'r Bump,
+) -> Result<&'r [u32], NoMemory>
+    requires line { IsSearchable (line_of style.now column line.now fixed.now) }
+    requires admissible { IsAdmissible (line_of style.now column line.now fixed.now) breaks.now }
+    requires first { layout_of state.old ≡ first_layout (line_of style.now column line.now fixed.now) }
+    ensures { IfOk result (λ starts.
+        starts.now
+        ≡ starts_of (line_of style.now column line.now fixed.now)
+        (first_layout (line_of style.now column line.now fixed.now)) breaks.now) }
+{
+    let mut starts = Vec::with_capacity(run, breaks.len())?;
+    for brk in breaks {
+        let place = lay_next(style, line, column, fixed, state, *brk)?;
+        starts.push(place)?;
+    }
+    Ok(into_bump_slice(starts))
+}
+
 /// Where each token behind a line's first one starts, by admissible choices, one for each gap inside the line.
 ///
 /// # Errors
@@ -89,12 +115,7 @@ pub fn starts<'r>(
         (first_layout (line_of style.now column line.now fixed.now)) breaks.now) }
 {
     let mut state = lay_first(alloc, style, line, column, fixed)?;
-    let mut starts = Vec::with_capacity(run, breaks.len())?;
-    for brk in breaks {
-        let place = lay_next(style, line, column, fixed, &mut state, *brk)?;
-        starts.push(place)?;
-    }
-    Ok(into_bump_slice(starts))
+    starts_from(style, line, column, fixed, breaks, &mut state, run)
 }
 
 /// The next state and its choice, which breaks only where the gap can't stay.
