@@ -15,7 +15,8 @@ use Rattle.line_state.specs.declared.gap.Gap.{Gap}
 use Rattle.line_state.specs.declared.spot.Spot.{Spot}
 use Rattle.line_state.specs.Brackets.{opens_frame, binds_commas, binds_opening}
 use Rattle.line_state.specs.Layout.{Layout, gap_before, topmost, with_topmost, open_frames, is_after_opener, spot_of, is_free, opened_frame, comma_frame, placed_frame, placed_frames, new_frame, frames_after, layout_after, start_at, start_of, is_allowed, keeps_rules_at, cost_of}
-use Rattle.line_state.specs.Store.{FrameList}
+use Rattle.line_state.specs.declared.node.NodeState.{NodeState}
+use Rattle.line_state.specs.Store.{FrameList, list_at, layout_in}
 use Rattle.line_state.specs.Beside.{IsPlain, excess_beside}
 use Rattle.line_state.proofs.Lists.{all_taken}
 
@@ -147,3 +148,13 @@ steps_beside style layout gap rule brk is plain =
     let inside : StepsBeside style layout (record { left = gap.left; right = gap.right; fixed = None; first = gap.first }) false = subst (λ (b : Bool). StepsBeside style layout (record { left = gap.left; right = gap.right; fixed = None; first = b }) false) (sym plain.inside) steps in
     let free : StepsBeside style layout gap false = subst (λ (f : Option Fixed). StepsBeside style layout (record { left = gap.left; right = gap.right; fixed = f; first = gap.first }) false) (sym plain.free) inside in
     subst (λ (b : Bool). StepsBeside style layout gap b) (sym plain.stays) free
+
+-- the layout of such a step, in a store
+pub beside_in : (style : Style) (lists : List FrameList) (state next : NodeState) (gap : Gap) (brk : Bool) → StepsBeside style (layout_in lists state) gap brk → (spaces : ℕ) → spaces ≡ spaces_before style gap.left gap.right → next.index ≡ state.index + 1 → next.node ≡ state.node →
+    next.column ≡ end_of gap.right (columns state.column spaces) → layout_in lists next ≡ layout_after style (layout_in lists state) gap brk
+beside_in style lists state next gap brk steps spaces told index node column =
+    let start : columns state.column spaces ≡ start_of style (layout_in lists state) gap brk = ap (λ (n : ℕ). columns state.column n) told ∙ sym steps.start in
+    ap (λ (i : ℕ). let l : Layout = record { index = i; column = next.column; base = (list_at lists next.node).base; frames = (list_at lists next.node).frames } in l) index
+    ∙ ap (λ (n : ℕ). let l : Layout = record { index = state.index + 1; column = next.column; base = (list_at lists n).base; frames = (list_at lists n).frames } in l) node
+    ∙ ap (λ (k : ℕ). let l : Layout = record { index = state.index + 1; column = k; base = (list_at lists state.node).base; frames = (list_at lists state.node).frames } in l) (column ∙ ap (λ (k : ℕ). end_of gap.right k) start)
+    ∙ ap (λ (fs : List Frame). let l : Layout = record { index = state.index + 1; column = end_of gap.right (start_of style (layout_in lists state) gap brk); base = (list_at lists state.node).base; frames = fs } in l) (sym steps.frames)

@@ -1,13 +1,26 @@
-use Rattle.std.proofs.Common.{ℕ, ◌+◌, ◌*◌, ◌∙◌, ap, sym}
+use Rattle.std.proofs.Common.{◌≡◌, ℕ, true, false, ◌+◌, ◌*◌, ◌∙◌, ap, sym, rules}
 use Rattle.line_tokens.specs.Columns.{columns}
+use Rattle.line_state.specs.declared.spot.Spot.{Spot}
 use Rattle.line_state.specs.Beside.{excess_beside}
+use Rattle.line_state.specs.Layout.{gap_before, spot_of, allows_at}
 use Rattle.line_state.specs.Store.{layout_in}
-use Rattle.line_state.proofs.Staying.{steps_beside}
+use Rattle.line_state.proofs.Staying.{steps_beside, beside_in}
 use Rattle.line_state.proofs.Tests.{on_true_at}
 use Rattle.line_state.proofs.stepping.try_step_by.Goals as goal
 
+pub returns-then-is_refused-clause-none : goal.returns-then-is_refused-clause-none
+returns-then-is_refused-clause-none c =
+    let layout = layout_in c.args.store.now c.args.state.now in
+    on_true_at _ _ c.if-is_refused.true c.is_refused.ensures (spot_of layout (gap_before layout c.args.left.now c.args.right.now c.args.fixed))
+
 pub returns-then-is_plain-clause-some : goal.returns-then-is_plain-clause-some
 returns-then-is_plain-clause-some c = (steps_beside c.args.style.now (layout_in c.args.store.now c.args.state.now) _ _ _ c.requires.rules.rule (on_true_at _ _ c.if-is_plain.true c.is_plain.ensures)).allowed
+
+pub returns-then-is_plain-clause-layout : goal.returns-then-is_plain-clause-layout
+returns-then-is_plain-clause-layout c =
+    let layout = layout_in c.args.store.now c.args.state.now in
+    let steps = steps_beside c.args.style.now layout (gap_before layout c.args.left.now c.args.right.now c.args.fixed) _ _ c.requires.rules.rule (on_true_at _ _ c.if-is_plain.true c.is_plain.ensures) in
+    beside_in c.args.style.now c.args.store.now c.args.state.now c.step_beside.result _ _ steps _ c.requires.rules.spaces c.step_beside.ensures.index c.step_beside.ensures.node c.step_beside.ensures.column
 
 pub returns-then-is_plain-clause-cost : goal.returns-then-is_plain-clause-cost
 returns-then-is_plain-clause-cost c =
@@ -17,3 +30,15 @@ returns-then-is_plain-clause-cost c =
     c.step_beside.ensures.cost
     ∙ ap (λ (spaces : ℕ). c.args.state.now.cost + style.penalty_excess_character * excess_beside style column (columns column spaces) c.args.right.now) c.requires.rules.spaces
     ∙ ap (λ (cost : ℕ). c.args.state.now.cost + cost) (sym steps.cost)
+
+pub returns-then-not-allows-clause-none : goal.returns-then-not-allows-clause-none
+returns-then-not-allows-clause-none c =
+    let layout = layout_in c.args.store.now c.args.state.now in
+    let no : c.allows.result ≡ false = search rules in
+    ap (λ (spot : Spot). allows_at c.args.style.now spot (gap_before layout c.args.left.now c.args.right.now c.args.fixed) c.args.brk) (sym c.spot_in-spot.ensures) ∙ sym c.allows.ensures ∙ no
+
+pub returns-clause-some : goal.returns-clause-some
+returns-clause-some c =
+    let layout = layout_in c.args.store.now c.args.state.now in
+    let yes : c.allows.result ≡ true = search rules in
+    ap (λ (spot : Spot). allows_at c.args.style.now spot (gap_before layout c.args.left.now c.args.right.now c.args.fixed) c.args.brk) (sym c.spot_in-spot.ensures) ∙ sym c.allows.ensures ∙ yes
