@@ -1,9 +1,8 @@
 //! Lines that are broken.
 
-ghost use Rattle.std.specs.Prelude.{◌≡◌, ◌||◌, ◌+◌, ◌<◌, ◌≤◌, ◌^◌, ◌∷◌, All, IfOk, IsTrue, None, OnOk, Some, length, ℕ};
-ghost use Rattle.std.specs.Prelude.{map, get_or, replicate, slice_get, if◌then◌else◌};
+ghost use Rattle.std.specs.Prelude.{◌≡◌, ◌||◌, ◌+◌, ◌<◌, ◌≤◌, ◌^◌, All, IfOk, IsTrue, None, OnOk, Some, length, ℕ};
+ghost use Rattle.std.specs.Prelude.{map, get_or, replicate, if◌then◌else◌};
 ghost use Rattle.style_table.specs.Range.{IsInRange};
-ghost use Rattle.token_classes.specs.Viewed.{AreWithin, classes_of};
 ghost use Rattle.line_state.specs.Layout.{is_some_decision};
 ghost use Rattle.line_state.specs.Line.{first_layout};
 ghost use Rattle.break_search.specs.Outcome.{line_of};
@@ -12,8 +11,9 @@ ghost use Rattle.layout_tables.specs.Indents.{start_column};
 ghost use Rattle.layout_tables.specs.Told.{TellBlanks};
 ghost use Rattle.replacements.specs.Decisions.{decided, decided_all, slot_of};
 ghost use Rattle.line_tokens.specs.declared.LineTok.{LineTok};
-ghost use Rattle.run_layout.specs.Broken.{decision_by, empty_inside, first_made, fixed_of_token, inside_made, number};
+ghost use Rattle.run_layout.specs.Broken.{broken_made, decision_by, empty_inside, fixed_of_token, inside_made, number};
 ghost use Rattle.run_layout.specs.Broken.{fixed_up_to, waits};
+ghost use Rattle.run_layout.specs.Ready.{IsOpenLine, IsReady};
 
 use crate::first::decide_first;
 use crate::row::token_at;
@@ -272,41 +272,40 @@ pub(crate) fn fixed_of<'r>(
     Ok(&*fixed)
 }
 
+/// A line of a view that has an open gap.
+#[derive(Clone, Copy)]
+pub(crate) struct OpenLine<'l> {
+    /// The line.
+    pub line: &'l ULine,
+    /// Its tokens.
+    pub tokens: &'l [LineTok],
+    /// What is decided of the gaps before them.
+    pub fixed: &'l [Option<Fixed>],
+}
+
 /// Decides the open gaps of a line, by admissible choices.
 pub(crate) fn write_broken(
     layout: &ViewLayout<'_>,
-    line: &ULine,
+    open_line: &OpenLine<'_>,
     blanks: &RowBlanks,
-    tokens: &[LineTok],
-    fixed: &[Option<Fixed>],
     breaks: &[bool],
     plan: &mut Plan<'_>,
     run: &Bump,
 ) -> Result<(), NoMemory>
-    requires range { IsInRange layout.now.style.now }
+    requires ready { IsReady layout.now }
     requires tell { TellBlanks layout.now.style.now blanks.now.of_group }
-    requires some { 0 < length tokens.now }
-    requires short { length tokens.now < 4294967296 }
-    requires even { length fixed.now ≡ length tokens.now }
-    requires admissible { IsAdmissible
-        (line_of layout.now.style.now (start_column layout.now.style.now line.now) tokens.now fixed.now) breaks.now }
-    requires inside { All (λ token. token.id.0 < length plan.old) tokens.now }
-    requires classes { layout.now.classes.now ≡ classes_of layout.now.arena.now layout.now.view.now }
-    requires place { line.now.first < length layout.now.view.now }
-    requires items { AreWithin layout.now.arena.now layout.now.view.now }
-    requires first { (token : LineTok) → slice_get tokens.now 0 ≡ Some token →
-        get_or layout.now.view.now line.now.first 0 ≡ token.id.0 }
-    requires whole { length plan.old ≡ length layout.now.arena.now.tokens + 1 }
+    requires line { IsOpenLine layout.now plan.old open_line.now }
+    requires admissible { IsAdmissible (line_of layout.now.style.now
+        (start_column layout.now.style.now open_line.now.line.now) open_line.now.tokens.now open_line.now.fixed.now) breaks.now }
     ensures plan { OnOk result (plan.new
-        ≡ decided_all plan.old (first_made layout.now.style.now layout.now.arena.now layout.now.view.now line.now
-        ∷ inside_made line.now (map number tokens.now)
-        (line_of layout.now.style.now (start_column layout.now.style.now line.now) tokens.now fixed.now)
-        (first_layout
-        (line_of layout.now.style.now (start_column layout.now.style.now line.now) tokens.now fixed.now))
-        breaks.now)) }
+        ≡ decided_all plan.old (broken_made layout.now.style.now layout.now.arena.now layout.now.view.now
+        layout.now.tokens.now plan.old open_line.now.line.now breaks.now)) }
     ensures len { OnOk result (length plan.new ≡ length plan.old) }
 {
     let style = layout.style;
+    let line = open_line.line;
+    let tokens = open_line.tokens;
+    let fixed = open_line.fixed;
     let column = start_column(style, line);
     let starts = starts(layout.alloc, style, tokens, column, fixed, breaks, run)?;
     decide_first(layout, line, token_at(tokens, 0).id.0, plan);

@@ -1,7 +1,7 @@
 //! What comes of a line.
 
 /// What came of a line.
-#[derive(Clone, Copy, Debug, PartialEq, Eq)]
+#[derive(Clone, Copy)]
 pub enum Laid {
     /// It wasn't searched: each of its gaps was decided before, or there is no limit of columns.
     Unsearched,

@@ -9,7 +9,7 @@ use crate::item::item;
 use token_arena::TokenArena;
 
 /// Up to where the physical lines of a text are counted. They are counted only where a line is reported.
-#[derive(Clone, Copy, Debug)]
+#[derive(Clone, Copy)]
 pub struct LineCount {
     /// So many bytes are passed.
     pub offset: usize,

@@ -6,7 +6,7 @@ ghost use Rattle.style_table.specs.Range.{IsInRange};
 ghost use Rattle.token_classes.specs.Viewed.{AreWithin, classes_of};
 ghost use Rattle.token_classes.specs.Items.{TellItems};
 ghost use Rattle.line_state.specs.Line.{gaps};
-ghost use Rattle.run_layout.specs.Ready.{IsReady};
+ghost use Rattle.run_layout.specs.Ready.{IsOpenLine, IsReady};
 ghost use Rattle.run_layout.specs.Tells.{StandForItems};
 ghost use Rattle.replacements.specs.Decisions.{decided_all};
 ghost use Rattle.run_layout.specs.Counted.{IsCounted};
@@ -19,7 +19,7 @@ ghost use Rattle.line_tokens.specs.Lines.{CutPlaces};
 ghost use Rattle.run_layout.specs.RunsLaid.{IsRunLaid};
 ghost use Rattle.run_layout.specs.Told.{IsLaid};
 
-use crate::broken::{fixed_of, write_broken};
+use crate::broken::{OpenLine, fixed_of, write_broken};
 use crate::decided::is_decided;
 use crate::first::decide_first;
 use crate::laid::Laid;
@@ -142,6 +142,78 @@ fn lay_out_row(
     true
 }
 
+/// Lays out a line that has an open gap, where there is no limit of columns.
+#[inline(always)]
+fn lay_out_unlimited(
+    layout: &ViewLayout<'_>,
+    open_line: &OpenLine<'_>,
+    blanks: &RowBlanks,
+    plan: &mut Plan<'_>,
+    run: &Bump,
+) -> Result<Laid, NoMemory>
+    requires ready { IsReady layout.now }
+    requires tell { TellBlanks layout.now.style.now blanks.now.of_group }
+    requires line { IsOpenLine layout.now plan.old open_line.now }
+    requires limit { layout.now.style.now.column_limit ≡ 0 }
+    ensures laid { IfOk result (IsLaid layout.now.style.now layout.now.budget layout.now.arena.now layout.now.view.now
+        layout.now.tokens.now plan.old open_line.now.line.now plan.new) }
+    ensures len { OnOk result (length plan.new ≡ length plan.old) }
+{
+    let style = layout.style;
+    let column = start_column(style, open_line.line);
+    let breaks = least_breaks(
+        layout.alloc,
+        style,
+        open_line.tokens,
+        column,
+        open_line.fixed,
+        run,
+    )?;
+    write_broken(layout, open_line, blanks, breaks, plan, run)?;
+    Ok(Laid::Unsearched)
+}
+
+/// Lays out a line that has an open gap by a search, or reports it.
+#[inline(always)]
+fn lay_out_limited(
+    layout: &ViewLayout<'_>,
+    open_line: &OpenLine<'_>,
+    blanks: &RowBlanks,
+    cursor: &mut InputCursor,
+    plan: &mut Plan<'_>,
+    run: &Bump,
+) -> Result<Laid, NoMemory>
+    requires ready { IsReady layout.now }
+    requires tell { TellBlanks layout.now.style.now blanks.now.of_group }
+    requires line { IsOpenLine layout.now plan.old open_line.now }
+    requires limit { 0 < layout.now.style.now.column_limit }
+    requires before { cursor.old.place ≤ open_line.now.line.now.first }
+    requires column { cursor.old.column
+        ≡ input_before layout.now.style.now layout.now.arena.now layout.now.view.now cursor.old.place }
+    ensures laid { IfOk result (IsLaid layout.now.style.now layout.now.budget layout.now.arena.now layout.now.view.now
+        layout.now.tokens.now plan.old open_line.now.line.now plan.new) }
+    ensures len { OnOk result (length plan.new ≡ length plan.old) }
+    ensures before { OnOk result (cursor.new.place ≤ open_line.now.line.now.last + 1) }
+    ensures column { OnOk result (cursor.new.column
+        ≡ input_before layout.now.style.now layout.now.arena.now layout.now.view.now cursor.new.place) }
+{
+    let style = layout.style;
+    let budget = layout.budget;
+    let tokens = open_line.tokens;
+    let fixed = open_line.fixed;
+    let column = start_column(style, open_line.line);
+    match search(layout.alloc, style, tokens, column, fixed, budget, run)? {
+        Outcome::Found { breaks, cost } => {
+            write_broken(layout, open_line, blanks, breaks, plan, run)?;
+            Ok(Laid::Least { cost })
+        }
+        Outcome::OverBudget { cells } => {
+            report_line(layout, open_line.line, cursor, plan);
+            Ok(Laid::Over { cells })
+        }
+    }
+}
+
 /// Lays out a line that has an open gap and doesn't stay on one row.
 #[inline(never)]
 fn lay_out_searched(
@@ -168,29 +240,19 @@ fn lay_out_searched(
     ensures column { OnOk result (cursor.new.column
         ≡ input_before layout.now.style.now layout.now.arena.now layout.now.view.now cursor.new.place) }
 {
-    let alloc = layout.alloc;
-    let style = layout.style;
-    let budget = layout.budget;
     let count = layout.view.len();
     prove!(line.last < count);
     let tokens = tokens_of_line(layout.tokens, line);
     let fixed = fixed_of(layout.arena, tokens, plan, run)?;
-    let column = start_column(style, line);
-    if style.column_limit == 0 {
-        let breaks = least_breaks(alloc, style, tokens, column, fixed, run)?;
-        write_broken(layout, line, blanks, tokens, fixed, breaks, plan, run)?;
-        return Ok(Laid::Unsearched);
+    let open_line = OpenLine {
+        line,
+        tokens,
+        fixed,
+    };
+    if layout.style.column_limit == 0 {
+        return lay_out_unlimited(layout, &open_line, blanks, plan, run);
     }
-    match search(alloc, style, tokens, column, fixed, budget, run)? {
-        Outcome::Found { breaks, cost } => {
-            write_broken(layout, line, blanks, tokens, fixed, breaks, plan, run)?;
-            Ok(Laid::Least { cost })
-        }
-        Outcome::OverBudget { cells } => {
-            report_line(layout, line, cursor, plan);
-            Ok(Laid::Over { cells })
-        }
-    }
+    lay_out_limited(layout, &open_line, blanks, cursor, plan, run)
 }
 
 /// Whether each gap of a line is decided. Before the first item of most lines it isn't, and no other gap is looked at.

@@ -24,7 +24,7 @@ pub struct Report {
 }
 
 /// What the lines of all runs came to.
-#[derive(Clone, Copy, Debug, PartialEq, Eq)]
+#[derive(Clone, Copy)]
 pub struct Counts {
     /// How many runs the text has.
     pub runs: u32,

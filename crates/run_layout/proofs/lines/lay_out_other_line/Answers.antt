@@ -1,7 +1,55 @@
+use Rattle.std.proofs.Common.{◌≡◌, ◌∙◌, List, Option, length, ap, subst, sym}
+use Rattle.std.specs.Prelude.{IfOk, OnOk}
+use Rattle.replacements.specs.declared.slot.Slot.{Slot}
+use Rattle.run_layout.specs.OpenGaps.{IsOpen}
+use Rattle.run_layout.specs.Told.{IsLaid}
 use Rattle.run_layout.proofs.LineOutcomes.{row_laid}
 use Rattle.run_layout.proofs.lines.lay_out_other_line.Goals as goal
+
+pub is_line_decided-requires : goal.is_line_decided-requires
+is_line_decided-requires c = record {
+  items = c.requires.ready.within;
+  tell = c.requires.ready.tell;
+  some = c.requires.some;
+  places = c.requires.places;
+  whole = c.requires.whole;
+}
+
+pub lay_out_row-requires : goal.lay_out_row-requires
+lay_out_row-requires c = record {
+  ready = c.requires.ready;
+  tell = c.requires.tell;
+  some = c.requires.some;
+  places = c.requires.places;
+  whole = c.requires.whole;
+}
 
 pub returns-then-lay_out_row-clause-laid : goal.returns-then-lay_out_row-clause-laid
 returns-then-lay_out_row-clause-laid c =
     row_laid c.args.layout.now.style.now c.args.layout.now.budget c.args.layout.now.arena.now c.args.layout.now.view.now c.args.layout.now.tokens.now c.args.plan.now c.args.line.now c.lay_out_row.new.plan c.if-is_line_decided.ensures.no c.if-lay_out_row.ensures.limit
     c.if-lay_out_row.ensures.row c.if-lay_out_row.ensures.plan
+
+pub lay_out_searched-requires : goal.lay_out_searched-requires
+lay_out_searched-requires c =
+    let same : c.lay_out_row.new.plan ≡ c.args.plan.now = c.if-lay_out_row.ensures.same in
+    record {
+      ready = c.requires.ready;
+      tell = c.requires.tell;
+      some = c.requires.some;
+      places = c.requires.places;
+      whole = ap (λ (plan : List (Option Slot)). length plan) same ∙ c.requires.whole;
+      opens = subst (λ (plan : List (Option Slot)). IsOpen plan c.args.layout.now.view.now c.args.line.now) (sym same) c.if-is_line_decided.ensures.no;
+      before = c.requires.before;
+      column = c.requires.column;
+    }
+
+pub returns : goal.returns
+returns c =
+    let layout = c.args.layout.now in
+    let same : c.lay_out_row.new.plan ≡ c.args.plan.now = c.if-lay_out_row.ensures.same in
+    record {
+      laid = subst (λ (plan : List (Option Slot)). IfOk c.lay_out_searched.result (IsLaid layout.style.now layout.budget layout.arena.now layout.view.now layout.tokens.now plan c.args.line.now c.lay_out_searched.new.plan)) same c.lay_out_searched.ensures.laid;
+      len = subst (λ (plan : List (Option Slot)). OnOk c.lay_out_searched.result (length c.lay_out_searched.new.plan ≡ length plan)) same c.lay_out_searched.ensures.len;
+      before = c.lay_out_searched.ensures.before;
+      column = c.lay_out_searched.ensures.column;
+    }
