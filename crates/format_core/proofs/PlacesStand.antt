@@ -1,7 +1,7 @@
 -- What stands for the places of bodies where parts of a view begin stands before them, in the view.
 use Rattle.std.proofs.Common.{◌≡◌, ◌∙◌, inl, inr, ℕ, zero, suc, ◌+◌, ◌*◌, ◌-◌, ◌<◌, ◌≤◌, nat_lt, Bool, true, false, Option, Some, None, List, [], ◌∷◌, ◌++◌, length, length-append, get_or, drop, refl, sym, ap, subst, arith}
 use Rattle.std.specs.Prelude.{⊤, All, IsSome, if◌then◌else◌, slice_range}
-use Rattle.std.specs.Option.{ForSome}
+use Rattle.std.specs.Option.{ForNone, ForSome}
 use Rattle.std.specs.List.{range_with_len}
 use Rattle.std.proofs.lemmas.List.{get_or-drop, get_or_default, length-drop}
 use Rattle.std.proofs.lemmas.List.Elements.{All-append, All-nil}
@@ -100,6 +100,13 @@ few_before (Some place) id here =
 pub laid_few : (begins : Option Place) (ids : List ℕ) (first end : ℕ) → first < end → end ≤ length ids → ForSome begins (λ place. StandsBefore place (get_or ids first 0)) → length (laid_items begins ids first end) ≤ 67 * (end - first)
 laid_few begins ids first end some inside here =
     omega (arith, some, inside, few_before begins (get_or ids first 0) here, length-append (items_before begins) (slice_range ids first end), part_length ids first end)
+
+-- a value is there
+pub never_none : {T : Type 0} (x : T) (P : Type 0) → ForNone (Some x) P
+never_none x P = λ e. absurd (some_isnt x e)
+  where
+    some_isnt : {T : Type 0} (x : T) → Some x ≡ None → ⊥
+    some_isnt x e = cc
 
 -- outside brackets nothing stands for the place
 pub none_before : (P : ℕ → Type 0) (begins : Option Place) → begins ≡ None → All P (items_before begins)

@@ -4,6 +4,7 @@ pub mod PartByPart
 pub mod Faults
 pub mod LineEnds
 pub mod KeptGaps
+pub mod Read
 pub mod Runs
 pub mod Plans
 pub mod Reports

@@ -11,7 +11,7 @@ use thiserror::Error;
 use token_arena::ArenaFault;
 
 /// Why a text isn't formatted.
-#[derive(Clone, Copy, Debug, PartialEq, Eq, Error)]
+#[derive(Clone, Copy, Debug, Error)]
 pub enum FormatFault {
     /// The text is within the limit, and a block comment that nothing ends begins at this offset (C11 6.4.9).
     #[error("comment without an end at byte {start}")]

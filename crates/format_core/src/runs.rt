@@ -22,6 +22,7 @@ ghost use Rattle.replacements.specs.Decisions.{slot_of};
 ghost use Rattle.format_core.specs.Bounds.{AreBounds, BeginTold, IsBound};
 ghost use Rattle.format_core.specs.Windows.{AreInStep, AreToldIn, IsWindow, place_before};
 ghost use Rattle.format_core.specs.PartByPart.{GoesOnFrom};
+ghost use Rattle.format_core.specs.Read.{IsRead};
 ghost use Rattle.format_core.specs.RunsTold.{AreItemsTold, AreRunsTold, AreSeenTold, IsPlanned};
 
 use crate::bounds::{KnownBound, last_bound};
@@ -33,14 +34,14 @@ use crate::part_rows::{is_part_decided, row_of_part};
 use annotator::roles_of_classes;
 use branch_runs::{Change, CondTree};
 use bumpalo::Bump;
-use line_tokens::{NoMemory, TokenId};
+use line_tokens::{LineTok, NoMemory, TokenId, ULine};
 use off_regions::Ranges;
 use replacements::Plan;
 use run_layout::{Tally, ViewLayout, is_row_decided, lay_out_view};
 use std::alloc::Global;
 use style_table::Style;
 use token_arena::{Section, TokenArena, View};
-use token_classes::{bracket_facts, classes_among, item_classes};
+use token_classes::{TokenClass, bracket_facts, classes_among, item_classes};
 use unwrapped_lines::lines_of_classes;
 use view_parts::{
     BodyPlace, KnownEnds, KnownSpans, PartsEnd, join_rows, known_part_end, known_parts_end,
@@ -71,6 +72,44 @@ struct Made<'a> {
     tally: Tally<'a>,
 }
 
+/// What is read of the items of a view.
+#[derive(Clone, Copy)]
+struct ReadItems<'r> {
+    /// The classes of the places.
+    classes: &'r [TokenClass],
+    /// Of each place, whether the gap before it stays as it is.
+    kept: &'r [bool],
+    /// The unwrapped lines.
+    lines: &'r [ULine],
+    /// The tokens.
+    tokens: &'r [LineTok],
+}
+
+/// Reads the items of a view.
+#[inline(always)]
+fn read_items<'r>(
+    context: &Context<'r>,
+    view: &View<'_>,
+    run: &'r Bump,
+) -> Result<ReadItems<'r>, NoMemory>
+    requires all { context.now.classes.now ≡ item_classes context.now.arena.now }
+    requires within { AreWithin context.now.arena.now view.now }
+    ensures { IfOk result (IsRead context.now.style.now context.now.arena.now view.now) }
+{
+    let style = context.style;
+    let arena = context.arena;
+    let classes = classes_among(context.classes, arena, view, run)?;
+    let facts = bracket_facts(classes, run)?;
+    let lines = lines_of_classes(style, arena, view, classes, facts.partners, run)?;
+    let tokens = roles_of_classes(arena, view, classes, facts.partners, lines, run)?;
+    Ok(ReadItems {
+        classes,
+        kept: facts.kept,
+        lines,
+        tokens,
+    })
+}
+
 /// Decides the gaps of these items, where they are open: first those that stay as they are.
 fn lay_out_items(
     context: &Context<'_>,
@@ -99,22 +138,25 @@ fn lay_out_items(
     let items = arena.len();
     let count = view.len();
     prove!(count <= items);
-    let classes = classes_among(context.classes, arena, view, run)?;
-    let facts = bracket_facts(classes, run)?;
-    keep_gaps(style, arena, view, facts.kept, &mut made.plan);
-    let lines = lines_of_classes(style, arena, view, classes, facts.partners, run)?;
-    let tokens = roles_of_classes(arena, view, classes, facts.partners, lines, run)?;
+    let read = read_items(context, view, run)?;
+    keep_gaps(style, arena, view, read.kept, &mut made.plan);
     let layout = ViewLayout {
         alloc: context.alloc,
         style,
         budget: context.budget,
         arena,
         view,
-        classes,
-        tokens,
+        classes: read.classes,
+        tokens: read.tokens,
     };
-    lay_out_view(&layout, number, lines, &mut made.plan, &mut made.tally, run)?;
-    Ok(())
+    lay_out_view(
+        &layout,
+        number,
+        read.lines,
+        &mut made.plan,
+        &mut made.tally,
+        run,
+    )
 }
 
 /// What a run sees of the items from one to before another.

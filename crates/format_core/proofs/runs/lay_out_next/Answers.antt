@@ -1,4 +1,4 @@
-use Rattle.std.proofs.Common.{◌≡◌, ◌∙◌, ◌+◌, ◌<◌, ◌≤◌, ℕ, Some, None, Option, List, length, sym, ap, subst, arith}
+use Rattle.std.proofs.Common.{◌≡◌, ◌∙◌, ◌+◌, ◌<◌, ◌≤◌, ℕ, Some, None, Option, List, length, refl, sym, ap, subst, arith}
 use Rattle.std.specs.Prelude.{All, IsSome, slice_range}
 use Rattle.view_parts.specs.declared.bodies.BodyPlace.{BodyPlace}
 use Rattle.view_parts.specs.Places.{place_in}
@@ -10,7 +10,7 @@ use Rattle.format_core.specs.RunsTold.{AreItemsTold}
 use Rattle.format_core.specs.Windows.{AreToldIn, place_before}
 use Rattle.format_core.proofs.FirstParts.{stop_at}
 use Rattle.format_core.proofs.PartsTold.{from_part}
-use Rattle.format_core.proofs.PlacesStand.{next_has, none_before, none_stands, rest_have}
+use Rattle.format_core.proofs.PlacesStand.{never_none, next_has, none_before, none_stands, rest_have}
 use Rattle.format_core.proofs.RowsPassed.{from_row}
 use Rattle.format_core.proofs.RowsStay.{place_decided, rows_behind}
 use Rattle.format_core.proofs.SeenInOrder.{seen_increases}
@@ -42,6 +42,33 @@ returns-in-Some-clause-on c = λ plan before from.
     (subst (λ (b : Option BodyPlace). GoesOnFrom style budget arena window.number plan seen before here (place_in b) (place + end) tally) (sym (c.pass_row.ensures.place ∙ passed.begins))
     (from_row style budget arena window.number plan seen before tally here (place + first) (stop_at (place + end) None) (seen_increases arena window.number) inside parts decided outside))
 
+pub pass_row-requires : goal.pass_row-requires
+pass_row-requires c = record { here = c.requires.here; item = c.requires.item; known = c.requires.state.known }
+
+pub returns-in-Some-clause-state : goal.returns-in-Some-clause-state
+returns-in-Some-clause-state c =
+    let state = c.requires.state in
+    record {
+      whole = state.whole;
+      cheap = state.cheap;
+      counted = state.counted;
+      known = c.pass_row.ensures.known;
+      rows = c.pass_row.ensures.rows c.args.made.now.plan state.rows;
+      spans = state.spans;
+    }
+
+pub returns-in-Some-clause-room : goal.returns-in-Some-clause-room
+returns-in-Some-clause-room c = omega arith
+
+pub returns-in-Some-clause-within : goal.returns-in-Some-clause-within
+returns-in-Some-clause-within c = omega (arith, c.in-Some.ensures.end, c.in-Some.ensures.inside)
+
+pub returns-in-Some-clause-end : goal.returns-in-Some-clause-end
+returns-in-Some-clause-end c = c.in-Some.ensures.end
+
+pub returns-in-Some-clause-inside : goal.returns-in-Some-clause-inside
+returns-in-Some-clause-inside c = c.pass_row.ensures.place ∙ (c.in-Some.ensures.begins ∙ sym c.in-Some.ensures.outside)
+
 pub returns-in-Some-clause-place : goal.returns-in-Some-clause-place
 returns-in-Some-clause-place c = none_stands (place_in c.in-Some.parts.inside) _ (ap place_in c.in-Some.ensures.outside)
 
@@ -50,6 +77,68 @@ returns-in-Some-clause-items c = none_before (λ id. id < length c.args.context.
 
 pub returns-in-Some-clause-decided : goal.returns-in-Some-clause-decided
 returns-in-Some-clause-decided c = none_before (λ id. IsSome (slot_of c.args.made.now.plan id)) (place_in c.pass_row.new.way.inside) (ap place_in (c.pass_row.ensures.place ∙ c.in-Some.ensures.begins))
+
+pub returns-in-Some-clause-some : goal.returns-in-Some-clause-some
+returns-in-Some-clause-some c = c.in-Some.ensures.some
+
+pub returns-in-Some-clause-told : goal.returns-in-Some-clause-told
+returns-in-Some-clause-told c = λ told is.
+    let passed = c.in-Some.ensures in
+    let arena = c.args.context.now.arena.now in
+    let view = c.args.window.now.view in
+    let first = c.args.way.now.first in
+    let end = c.in-Some.parts.end in
+    subst (λ (b : Option BodyPlace). AreToldIn arena view (place_in b) first end (place_in c.in-Some.parts.inside) told) (sym passed.begins)
+    (subst (λ (b : Option BodyPlace). AreToldIn arena view None first end (place_in b) told) (sym passed.outside) (passed.told told is))
+
+pub returns-in-Some-clause-whole : goal.returns-in-Some-clause-whole
+returns-in-Some-clause-whole c = c.in-Some.ensures.whole
+
+pub returns-in-Some-clause-none : goal.returns-in-Some-clause-none
+returns-in-Some-clause-none c = never_none c.in-Some.parts _
+
+pub returns-in-Some-clause-stays : goal.returns-in-Some-clause-stays
+returns-in-Some-clause-stays c = never_none c.in-Some.parts _
+
+pub returns-in-Some-clause-bounds : goal.returns-in-Some-clause-bounds
+returns-in-Some-clause-bounds c = refl
+
+pub returns-in-Some-clause-same : goal.returns-in-Some-clause-same
+returns-in-Some-clause-same c = c.pass_row.ensures.same
+
+pub known_part_end-requires : goal.known_part_end-requires
+known_part_end-requires c = record {
+  within = c.requires.within;
+  all = c.requires.all;
+  here = c.requires.here;
+  begins = c.requires.begins;
+  known = c.pass_row.ensures.known;
+  spans = c.requires.state.spans;
+}
+
+pub lay_out_part-requires : goal.lay_out_part-requires
+lay_out_part-requires c =
+    let state = c.requires.state in
+    let part = c.in_ok-part.ensures in
+    record {
+      range = c.requires.range;
+      budget = c.requires.budget;
+      all = c.requires.all;
+      within = c.requires.within;
+      some = part.some;
+      inside = part.inside;
+      item = c.requires.item;
+      whole = state.whole;
+      begins = c.requires.begins;
+      items = c.requires.items;
+      decided = c.requires.decided;
+      room = omega (arith, c.requires.room, part.inside);
+      cheap = state.cheap;
+      counted = state.counted;
+    }
+
+pub pass_part-requires : goal.pass_part-requires
+pass_part-requires c = record { known = c.in_ok-part.ensures.known }
 
 pub returns-clause-state : goal.returns-clause-state
 returns-clause-state c =
@@ -104,6 +193,21 @@ returns-clause-on c = λ plan before from.
     subst (λ k. GoesOnFrom style budget arena window.number plan seen before after (place_in c.pass_part.new.way.inside) (place + k) now) (sym c.pass_part.ensures.end)
     (subst (λ (b : Option BodyPlace). GoesOnFrom style budget arena window.number plan seen before after (place_in b) (place + end) now) (sym c.pass_part.ensures.inside) next)
 
+pub returns-clause-room : goal.returns-clause-room
+returns-clause-room c = omega (arith, c.in_ok-lay_out_part.ensures.room, c.pass_part.ensures.end)
+
+pub returns-clause-within : goal.returns-clause-within
+returns-clause-within c = omega (arith, c.pass_part.ensures.end, c.in_ok-part.ensures.inside)
+
+pub returns-clause-end : goal.returns-clause-end
+returns-clause-end c = c.pass_part.ensures.end
+
+pub returns-clause-inside : goal.returns-clause-inside
+returns-clause-inside c = c.pass_part.ensures.inside
+
+pub returns-clause-place : goal.returns-clause-place
+returns-clause-place c = c.in_ok-part.ensures.place
+
 pub returns-clause-items : goal.returns-clause-items
 returns-clause-items c =
     let arena = c.args.context.now.arena.now in
@@ -120,3 +224,26 @@ returns-clause-decided c =
     subst (λ (b : Option BodyPlace). All (λ id. IsSome (slot_of plan id)) (items_before (place_in b))) (sym c.pass_part.ensures.inside)
     (place_decided c.args.context.now.style.now c.args.context.now.budget c.args.context.now.arena.now c.args.window.now.number c.args.made.now.plan plan c.args.window.now.view (place_in c.args.way.now.inside) (place_in c.in_ok-part.part.inside) c.args.way.now.first
     c.in_ok-part.part.end c.args.made.now.tally c.lay_out_part.new.made.tally c.requires.state.whole (window_increases c.args.context.now.arena.now c.args.window.now.number c.args.window.now.first c.args.window.now.end c.args.window.now.view c.requires.window) c.requires.within c.requires.items c.requires.begins part.inside part.begun part.place c.in_ok-lay_out_part.ensures.told)
+
+pub returns-clause-some : goal.returns-clause-some
+returns-clause-some c = c.in_ok-part.ensures.some
+
+pub returns-clause-told : goal.returns-clause-told
+returns-clause-told c = λ told is.
+    let part = c.in_ok-part.ensures in
+    record { tell = part.told told is; later = part.later told is; below = part.below told is }
+
+pub returns-clause-whole : goal.returns-clause-whole
+returns-clause-whole c = c.in_ok-part.ensures.whole
+
+pub returns-clause-none : goal.returns-clause-none
+returns-clause-none c = never_none c.in_ok-part.part _
+
+pub returns-clause-stays : goal.returns-clause-stays
+returns-clause-stays c = never_none c.in_ok-part.part _
+
+pub returns-clause-bounds : goal.returns-clause-bounds
+returns-clause-bounds c = refl
+
+pub returns-clause-same : goal.returns-clause-same
+returns-clause-same c = c.pass_part.ensures.same ∙ c.pass_row.ensures.same

@@ -1,6 +1,6 @@
-use Rattle.std.proofs.Common.{◌≡◌, ◌∙◌, ◌+◌, ◌-◌, ◌<◌, ◌≤◌, Option, get_or, length, sym, subst, arith}
+use Rattle.std.proofs.Common.{◌≡◌, ◌∙◌, ◌+◌, ◌-◌, ◌<◌, ◌≤◌, List, Option, get_or, length, sym, ap, subst, arith}
 use Rattle.std.specs.Prelude.{All, IfSome, IsSome}
-use Rattle.std.specs.Option.{ForSome}
+use Rattle.std.specs.Option.{ForNone, ForSome}
 use Rattle.branch_runs.specs.Anew.{items_between}
 use Rattle.token_classes.proofs.Lists.{few_below}
 use Rattle.view_parts.specs.declared.known.PartsEnd.{PartsEnd}
@@ -8,11 +8,13 @@ use Rattle.view_parts.specs.declared.bodies.BodyPlace.{BodyPlace}
 use Rattle.view_parts.specs.Places.{place_in}
 use Rattle.view_parts.specs.Parts.{StandsBefore, items_before}
 use Rattle.replacements.specs.Decisions.{slot_of}
-use Rattle.format_core.specs.Bounds.{BeginTold}
+use Rattle.format_core.specs.Bounds.{AreBounds, BeginTold}
+use Rattle.format_core.specs.declared.bounds.KnownBound.{KnownBound}
 use Rattle.format_core.specs.PartByPart.{GoesOnFrom}
 use Rattle.format_core.specs.Runs.{seen_by}
-use Rattle.format_core.specs.Windows.{place_before}
+use Rattle.format_core.specs.Windows.{AreToldIn, place_before}
 use Rattle.format_core.proofs.Between.{in_order}
+use Rattle.format_core.proofs.PlacesStand.{never_none}
 use Rattle.format_core.proofs.SeenInOrder.{seen_increases}
 use Rattle.format_core.proofs.WindowParts.{seen_item, behind_window, stands_in_seen}
 use Rattle.format_core.proofs.runs.lay_out_window.Goals as goal
@@ -45,27 +47,76 @@ loop-way-init c =
       on = λ plan before from. subst (λ k. GoesOnFrom c.args.context.now.style.now c.args.context.now.budget arena window.number plan seen before made.plan (place_in way.inside) k made.tally) here from;
     }
 
-pub returns-then-id-window-clause-done : goal.returns-then-id-window-clause-done
-returns-then-id-window-clause-done c = λ none k low high.
+pub at_near-id-requires : goal.at_near-id-requires
+at_near-id-requires c = omega (arith, c.loop-way-test.true, c.len-count.ensures.count)
+
+pub returns-then-id-window : goal.returns-then-id-window
+returns-then-id-window c =
+    let v = c.loop-way.invariant in
     let arena = c.args.context.now.arena.now in
     let window = c.args.window.now in
     let first = c.loop-way.way.first in
     let here : first < length window.view = omega (arith, c.loop-way-test.true, c.len-count.ensures.count) in
     let item = seen_item arena window.number window.first window.end window.view first c.requires.window here in
-    let order = in_order 0 (seen_by arena window.number) (place_before arena window.number window.first + first) k (seen_increases arena window.number) low high in
-    omega (arith, item, order, c.at_near-id.ensures 0, c.if-id-window.true)
+    record {
+      state = v.state;
+      on = v.on;
+      room = v.room;
+      inside = v.inside;
+      bounds = v.bounds;
+      begin = tt;
+      stopped = tt;
+      here = tt;
+      place = v.begins;
+      items = v.items;
+      decided = v.decided;
+      short = tt;
+      done = λ none k low high.
+          let order = in_order 0 (seen_by arena window.number) (place_before arena window.number window.first + first) k (seen_increases arena window.number) low high in
+          omega (arith, item, order, c.at_near-id.ensures 0, c.if-id-window.true);
+    }
+
+pub lay_out_next-requires : goal.lay_out_next-requires
+lay_out_next-requires c =
+    let v = c.loop-way.invariant in
+    let arena = c.args.context.now.arena.now in
+    let window = c.args.window.now in
+    let first = c.loop-way.way.first in
+    let here : first < length window.view = omega (arith, c.loop-way-test.true, c.len-count.ensures.count) in
+    let item = seen_item arena window.number window.first window.end window.view first c.requires.window here in
+    let most : c.len-items.result ≤ 8388608 = c.len-items.ensures.most in
+    record {
+      range = c.requires.range;
+      budget = c.requires.budget;
+      all = c.requires.all;
+      within = c.requires.within;
+      window = c.requires.window;
+      here = here;
+      item = c.at_near-id.ensures;
+      begins = subst (λ id. ForSome (place_in c.loop-way.way.inside) (λ place. StandsBefore place id)) item v.begins;
+      items = v.items;
+      decided = v.decided;
+      room = omega (arith, v.room, c.requires.room, c.len-count.ensures.count, here, most, c.if-prove.false);
+      state = v.state;
+    }
 
 pub returns-in_default-clause-on : goal.returns-in_default-clause-on
 returns-in_default-clause-on c = λ plan before from. c.in_ok-found.ensures.on plan before (c.loop-way.invariant.on plan before from)
 
-pub lay_out_next-requires-clause-begins : goal.lay_out_next-requires-clause-begins
-lay_out_next-requires-clause-begins c =
-    let arena = c.args.context.now.arena.now in
-    let window = c.args.window.now in
-    let first = c.loop-way.way.first in
-    let here : first < length window.view = omega (arith, c.loop-way-test.true, c.len-count.ensures.count) in
-    let item = seen_item arena window.number window.first window.end window.view first c.requires.window here in
-    subst (λ id. ForSome (place_in c.loop-way.way.inside) (λ place. StandsBefore place id)) item c.loop-way.invariant.begins
+pub returns-in_default-clause-state : goal.returns-in_default-clause-state
+returns-in_default-clause-state c = c.in_ok-found.ensures.state
+
+pub returns-in_default-clause-room : goal.returns-in_default-clause-room
+returns-in_default-clause-room c = let stays = c.in_ok-found.ensures.stays c.in_default.is in omega (arith, c.in_ok-found.ensures.room, c.loop-way.invariant.room, stays.0)
+
+pub returns-in_default-clause-inside : goal.returns-in_default-clause-inside
+returns-in_default-clause-inside c = c.in_ok-found.ensures.within
+
+pub returns-in_default-clause-bounds : goal.returns-in_default-clause-bounds
+returns-in_default-clause-bounds c =
+    let ids = seen_by c.args.context.now.arena.now c.args.window.now.number in
+    subst (λ k. AreBounds c.args.context.now.arena.now ids c.lay_out_next.new.known.bounds.items k) (sym c.in_ok-found.ensures.same)
+    (subst (λ (bounds : List KnownBound). AreBounds c.args.context.now.arena.now ids bounds c.loop-way.way.told) (sym c.in_ok-found.ensures.bounds) c.loop-way.invariant.bounds)
 
 pub returns-in_default-clause-begin : goal.returns-in_default-clause-begin
 returns-in_default-clause-begin c = λ later.
@@ -81,6 +132,12 @@ returns-in_default-clause-begin c = λ later.
     (subst (λ k. BeginTold arena (items_between 0 way.told seen) (place + k) (place_in c.loop-way.way.inside)) (sym stays.0)
     (subst (λ k. BeginTold arena (items_between 0 k seen) (place + first) (place_in c.loop-way.way.inside)) (sym c.in_ok-found.ensures.same) (c.loop-way.invariant.begin later here)))
 
+pub returns-in_default-clause-stopped : goal.returns-in_default-clause-stopped
+returns-in_default-clause-stopped c = let stays = c.in_ok-found.ensures.stays c.in_default.is in sym (ap (λ k. get_or c.args.window.now.view k 0) stays.0 ∙ c.at_near-id.ensures 0)
+
+pub returns-in_default-clause-here : goal.returns-in_default-clause-here
+returns-in_default-clause-here c = let stays = c.in_ok-found.ensures.stays c.in_default.is in omega (arith, stays.0, c.loop-way-test.true, c.len-count.ensures.count)
+
 pub returns-in_default-clause-place : goal.returns-in_default-clause-place
 returns-in_default-clause-place c =
     let arena = c.args.context.now.arena.now in
@@ -92,13 +149,37 @@ returns-in_default-clause-place c =
     subst (λ (b : Option BodyPlace). ForSome (place_in b) (λ p. StandsBefore p (get_or seen (place + way.first) 0))) (sym stays.1)
     (subst (λ k. ForSome (place_in c.loop-way.way.inside) (λ p. StandsBefore p (get_or seen (place + k) 0))) (sym stays.0) c.loop-way.invariant.begins)
 
-pub note_bound-requires-clause-begin : goal.note_bound-requires-clause-begin
-note_bound-requires-clause-begin c = λ later.
+pub returns-in_default-clause-items : goal.returns-in_default-clause-items
+returns-in_default-clause-items c = c.in_ok-found.ensures.items
+
+pub returns-in_default-clause-decided : goal.returns-in_default-clause-decided
+returns-in_default-clause-decided c = c.in_ok-found.ensures.decided
+
+pub returns-in_default-clause-short : goal.returns-in_default-clause-short
+returns-in_default-clause-short c = c.in_ok-found.ensures.none c.in_default.is
+
+pub returns-in_default-clause-done : goal.returns-in_default-clause-done
+returns-in_default-clause-done c = never_none c.at_near-id.result _
+
+pub note_bound-requires : goal.note_bound-requires
+note_bound-requires c =
     let arena = c.args.context.now.arena.now in
     let window = c.args.window.now in
     let first = c.loop-way.way.first in
+    let begins = place_in c.loop-way.way.inside in
+    let next = c.in_ok-found.ensures in
     let here : first < length window.view = omega (arith, c.loop-way-test.true, c.len-count.ensures.count) in
-    subst (λ k. BeginTold arena (items_between 0 k (seen_by arena window.number)) (place_before arena window.number window.first + first) (place_in c.loop-way.way.inside)) (sym c.in_ok-found.ensures.same) (c.loop-way.invariant.begin later here)
+    record {
+      within = c.requires.within;
+      window = c.requires.window;
+      some = subst (λ (found : Option PartsEnd). IfSome found (λ parts. first < parts.end)) c.in-Some.is next.some;
+      told = subst (λ (found : Option PartsEnd). IfSome found (λ parts. ForSome parts.told (λ told. AreToldIn arena window.view begins first parts.end (place_in parts.inside) told))) c.in-Some.is next.told;
+      whole = subst (λ (found : Option PartsEnd). IfSome found (λ parts. ForNone parts.told (parts.end ≡ length window.view))) c.in-Some.is next.whole;
+      begin = λ later. subst (λ k. BeginTold arena (items_between 0 k (seen_by arena window.number)) (place_before arena window.number window.first + first) begins) (sym next.same) (c.loop-way.invariant.begin later here);
+      bounds =
+          subst (λ k. AreBounds arena (seen_by arena window.number) c.lay_out_next.new.known.bounds.items k) (sym next.same)
+          (subst (λ (bounds : List KnownBound). AreBounds arena (seen_by arena window.number) bounds c.loop-way.way.told) (sym next.bounds) c.loop-way.invariant.bounds);
+    }
 
 pub loop-way-preserved : goal.loop-way-preserved
 loop-way-preserved c =
@@ -138,11 +219,27 @@ loop-way-preserved c =
           (subst (λ k. GoesOnFrom style budget arena window.number plan seen before made.plan (place_in way.inside) (place + k) made.tally) (sym note.first) (next.on plan before (v.on plan before from)));
     }
 
-pub returns-clause-done : goal.returns-clause-done
-returns-clause-done c = λ none k low high.
+pub returns : goal.returns
+returns c =
+    let v = c.loop-way.invariant in
     let arena = c.args.context.now.arena.now in
     let window = c.args.window.now in
     let place = place_before arena window.number window.first in
-    let past : place + length window.view ≤ k = omega (arith, low, c.loop-way-test.false, c.len-count.ensures.count) in
-    let behind = behind_window arena window.number window.first window.end window.view k c.requires.window past high in
-    omega (arith, behind, c.requires.new)
+    record {
+      state = v.state;
+      on = v.on;
+      room = v.room;
+      inside = v.inside;
+      bounds = v.bounds;
+      begin = tt;
+      stopped = tt;
+      here = tt;
+      place = v.begins;
+      items = v.items;
+      decided = v.decided;
+      short = tt;
+      done = λ none k low high.
+          let past : place + length window.view ≤ k = omega (arith, low, c.loop-way-test.false, c.len-count.ensures.count) in
+          let behind = behind_window arena window.number window.first window.end window.view k c.requires.window past high in
+          omega (arith, behind, c.requires.new);
+    }

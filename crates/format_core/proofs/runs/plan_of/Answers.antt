@@ -1,4 +1,6 @@
-use Rattle.std.proofs.Common.{◌∙◌, ◌++◌, List, ap, arith}
+use Rattle.std.proofs.Common.{◌∙◌, ◌+◌, ◌++◌, List, Option, None, length, ap, arith}
+use Rattle.std.proofs.lemmas.List.{length-replicate}
+use Rattle.replacements.specs.declared.slot.Slot.{Slot}
 use Rattle.branch_runs.specs.declared.mark.Mark.{Mark}
 use Rattle.branch_runs.specs.Reading.{read}
 use Rattle.branch_runs.specs.Runs.{need}
@@ -6,6 +8,35 @@ use Rattle.run_layout.specs.Reports.{reports_of}
 use Rattle.run_layout.specs.declared.report.Report.{Report}
 use Rattle.format_core.proofs.Planned.{planned_by}
 use Rattle.format_core.proofs.runs.plan_of.Goals as goal
+
+pub build-requires : goal.build-requires
+build-requires c = record { sections = c.requires.sections; cut = c.requires.cut }
+
+pub decide_early-requires : goal.decide_early-requires
+decide_early-requires c = record {
+  range = c.requires.range;
+  fits = c.requires.fits;
+  all = c.in_ok-item_classes.ensures;
+  sections = c.requires.sections;
+  tree = record { marks = c.in_ok-tree.ensures.marks; end = c.in_ok-tree.ensures.end };
+  whole = ap (λ (plan : List (Option Slot)). length plan) c.in_ok-plan.ensures ∙ length-replicate (length c.args.arena.now.tokens + 1) None;
+}
+
+pub lay_out_runs-requires : goal.lay_out_runs-requires
+lay_out_runs-requires c = record {
+  range = c.requires.range;
+  budget = c.requires.budget;
+  all = c.in_ok-item_classes.ensures;
+  tree = record { marks = c.in_ok-tree.ensures.marks; end = c.in_ok-tree.ensures.end };
+  whole = c.in_ok-decide_early.ensures.len ∙ (ap (λ (plan : List (Option Slot)). length plan) c.in_ok-plan.ensures ∙ length-replicate (length c.args.arena.now.tokens + 1) None);
+  none = c.new-tally.ensures.searched;
+  free = c.new-tally.ensures.cost;
+  counted = c.new-tally.ensures.counted c.args.arena.now;
+}
+
+pub returns-clause-len : goal.returns-clause-len
+returns-clause-len c =
+    c.in_ok-lay_out_runs.ensures.len ∙ (c.in_ok-decide_early.ensures.len ∙ (ap (λ (plan : List (Option Slot)). length plan) c.in_ok-plan.ensures ∙ length-replicate (length c.args.arena.now.tokens + 1) None))
 
 pub returns-clause-plan : goal.returns-clause-plan
 returns-clause-plan c =
