@@ -2,6 +2,24 @@ use Rattle.std.proofs.Common.{◌≡◌, ◌∙◌, ◌<◌, ◌+◌, ◌-◌, s
 use Rattle.run_layout.proofs.Reporting.{passed, old_more}
 use Rattle.run_layout.proofs.reported.report_line.Goals as goal
 
+pub decide_first-requires : goal.decide_first-requires
+decide_first-requires c = record {
+  classes = c.requires.classes;
+  place = omega (arith, c.requires.some, c.requires.places);
+  items = c.requires.items;
+  id = c.at.ensures 0;
+  whole = c.requires.whole;
+}
+
+pub move_to-requires : goal.move_to-requires
+move_to-requires c = record {
+  tab = c.requires.tab;
+  items = c.requires.items;
+  before = omega (arith, c.requires.before);
+  within = omega (arith, c.requires.some, c.requires.places);
+  column = c.requires.column;
+}
+
 pub decide-requires : goal.decide-requires
 decide-requires c =
     let layout = c.args.layout.now in
