@@ -116,6 +116,30 @@ known_part_end-requires c = record {
   spans = c.requires.state.spans;
 }
 
+pub returns-then-window-len-clause-end : goal.returns-then-window-len-clause-end
+returns-then-window-len-clause-end c = tt
+
+pub returns-then-window-len-clause-inside : goal.returns-then-window-len-clause-inside
+returns-then-window-len-clause-inside c = tt
+
+pub returns-then-window-len-clause-place : goal.returns-then-window-len-clause-place
+returns-then-window-len-clause-place c = tt
+
+pub returns-then-window-len-clause-some : goal.returns-then-window-len-clause-some
+returns-then-window-len-clause-some c = tt
+
+pub returns-then-window-len-clause-told : goal.returns-then-window-len-clause-told
+returns-then-window-len-clause-told c = tt
+
+pub returns-then-window-len-clause-whole : goal.returns-then-window-len-clause-whole
+returns-then-window-len-clause-whole c = tt
+
+pub returns-then-window-len-clause-bounds : goal.returns-then-window-len-clause-bounds
+returns-then-window-len-clause-bounds c = refl
+
+pub returns-then-window-len-clause-same : goal.returns-then-window-len-clause-same
+returns-then-window-len-clause-same c = c.pass_row.ensures.same
+
 pub lay_out_part-requires : goal.lay_out_part-requires
 lay_out_part-requires c =
     let state = c.requires.state in

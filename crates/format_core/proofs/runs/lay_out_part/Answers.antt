@@ -1,4 +1,4 @@
-use Rattle.std.proofs.Common.{◌∙◌, ◌<◌, ℕ, Bool, List, length, subst, sym, ap, arith}
+use Rattle.std.proofs.Common.{◌∙◌, ◌<◌, ℕ, Bool, List, length, refl, subst, sym, ap, arith}
 use Rattle.std.specs.Prelude.{All, slice_range}
 use Rattle.std.specs.Bool.{OnTrue}
 use Rattle.std.proofs.lemmas.Result.{on_ok_weaker}
@@ -56,3 +56,90 @@ pub returns-clause-room : goal.returns-clause-room
 returns-clause-room c =
     let few = laid_few (place_in c.args.inside) c.args.window.now.view c.args.first c.args.end c.requires.some c.requires.inside c.requires.begins in
     on_ok_weaker c.lay_out_items-2.result (λ room. omega (arith, room, few, ap (λ (ids : List ℕ). length ids) c.in_ok-laid.ensures.items)) c.lay_out_items-2.ensures.room
+
+pub row_of_part-requires : goal.row_of_part-requires
+row_of_part-requires c = record { within = c.requires.within; some = c.requires.some; inside = c.requires.inside; item = c.requires.item }
+
+pub is_part_decided-requires : goal.is_part_decided-requires
+is_part_decided-requires c = record { within = c.requires.within; inside = c.requires.inside; whole = c.requires.whole }
+
+pub laid_view-requires : goal.laid_view-requires
+laid_view-requires c = record { some = c.requires.some; within = c.requires.inside; begins = c.requires.begins }
+
+pub lay_out_items-requires-clause-range : goal.lay_out_items-requires-clause-range
+lay_out_items-requires-clause-range c = c.requires.range
+
+pub lay_out_items-requires-clause-budget : goal.lay_out_items-requires-clause-budget
+lay_out_items-requires-clause-budget c = c.requires.budget
+
+pub lay_out_items-requires-clause-all : goal.lay_out_items-requires-clause-all
+lay_out_items-requires-clause-all c = c.requires.all
+
+pub lay_out_items-requires-clause-whole : goal.lay_out_items-requires-clause-whole
+lay_out_items-requires-clause-whole c = c.requires.whole
+
+pub lay_out_items-requires-clause-cheap : goal.lay_out_items-requires-clause-cheap
+lay_out_items-requires-clause-cheap c = c.requires.cheap
+
+pub lay_out_items-requires-clause-counted : goal.lay_out_items-requires-clause-counted
+lay_out_items-requires-clause-counted c = c.requires.counted
+
+pub lay_out_items-requires-2-clause-range : goal.lay_out_items-requires-2-clause-range
+lay_out_items-requires-2-clause-range c = c.requires.range
+
+pub lay_out_items-requires-2-clause-budget : goal.lay_out_items-requires-2-clause-budget
+lay_out_items-requires-2-clause-budget c = c.requires.budget
+
+pub lay_out_items-requires-2-clause-all : goal.lay_out_items-requires-2-clause-all
+lay_out_items-requires-2-clause-all c = c.requires.all
+
+pub lay_out_items-requires-2-clause-whole : goal.lay_out_items-requires-2-clause-whole
+lay_out_items-requires-2-clause-whole c = c.requires.whole
+
+pub lay_out_items-requires-2-clause-cheap : goal.lay_out_items-requires-2-clause-cheap
+lay_out_items-requires-2-clause-cheap c = c.requires.cheap
+
+pub lay_out_items-requires-2-clause-counted : goal.lay_out_items-requires-2-clause-counted
+lay_out_items-requires-2-clause-counted c = c.requires.counted
+
+pub returns-then-is_row_decided-clause-len : goal.returns-then-is_row_decided-clause-len
+returns-then-is_row_decided-clause-len c = refl
+
+pub returns-then-is_row_decided-clause-room : goal.returns-then-is_row_decided-clause-room
+returns-then-is_row_decided-clause-room c = omega arith
+
+pub returns-then-is_row_decided-clause-cheap : goal.returns-then-is_row_decided-clause-cheap
+returns-then-is_row_decided-clause-cheap c = c.requires.cheap
+
+pub returns-then-is_row_decided-clause-counted : goal.returns-then-is_row_decided-clause-counted
+returns-then-is_row_decided-clause-counted c = c.requires.counted
+
+pub returns-then-is_part_decided-clause-len : goal.returns-then-is_part_decided-clause-len
+returns-then-is_part_decided-clause-len c = refl
+
+pub returns-then-is_part_decided-clause-room : goal.returns-then-is_part_decided-clause-room
+returns-then-is_part_decided-clause-room c = omega arith
+
+pub returns-then-is_part_decided-clause-cheap : goal.returns-then-is_part_decided-clause-cheap
+returns-then-is_part_decided-clause-cheap c = c.requires.cheap
+
+pub returns-then-is_part_decided-clause-counted : goal.returns-then-is_part_decided-clause-counted
+returns-then-is_part_decided-clause-counted c = c.requires.counted
+
+pub returns-then-is_none-clause-len : goal.returns-then-is_none-clause-len
+returns-then-is_none-clause-len c = c.lay_out_items.ensures.len
+
+pub returns-clause-len : goal.returns-clause-len
+returns-clause-len c = c.lay_out_items-2.ensures.len
+
+pub returns-then-is_none-clause-cheap : goal.returns-then-is_none-clause-cheap
+returns-then-is_none-clause-cheap c = c.lay_out_items.ensures.cheap
+
+pub returns-clause-cheap : goal.returns-clause-cheap
+returns-clause-cheap c = c.lay_out_items-2.ensures.cheap
+
+pub returns-then-is_none-clause-counted : goal.returns-then-is_none-clause-counted
+returns-then-is_none-clause-counted c = c.lay_out_items.ensures.counted
+
+pub returns-clause-counted : goal.returns-clause-counted
+returns-clause-counted c = c.lay_out_items-2.ensures.counted

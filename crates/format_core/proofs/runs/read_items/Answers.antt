@@ -1,4 +1,4 @@
-use Rattle.std.proofs.Common.{◌≡◌, ◌∙◌, Bool, List, Option, ℕ, length, ap}
+use Rattle.std.proofs.Common.{◌≡◌, ◌∙◌, List, Option, ℕ, length, ap}
 use Rattle.std.proofs.lemmas.List.{length-map}
 use Rattle.token_classes.specs.Kept.{kept_gaps_of}
 use Rattle.token_classes.specs.Partners.{partners_of}
