@@ -295,8 +295,9 @@ pub(crate) fn write_broken(
     requires ready { IsReady layout.now }
     requires tell { TellBlanks layout.now.style.now blanks.now.of_group }
     requires line { IsOpenLine layout.now plan.old open_line.now }
-    requires admissible { IsAdmissible (line_of layout.now.style.now
-        (start_column layout.now.style.now open_line.now.line.now) open_line.now.tokens.now open_line.now.fixed.now) breaks.now }
+    requires admissible { IsAdmissible
+        (line_of layout.now.style.now (start_column layout.now.style.now open_line.now.line.now)
+        open_line.now.tokens.now open_line.now.fixed.now) breaks.now }
     ensures plan { OnOk result (plan.new
         ≡ decided_all plan.old (broken_made layout.now.style.now layout.now.arena.now layout.now.view.now
         layout.now.tokens.now plan.old open_line.now.line.now breaks.now)) }
