@@ -5,3 +5,4 @@ pub mod Lines
 pub mod Said
 pub mod Generated
 pub mod Kinds
+pub mod Parts

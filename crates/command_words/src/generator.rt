@@ -3,10 +3,10 @@
 //! It has pieces of four kinds in turn: a function, a variable in two branches, a call that is too long for its line,
 //! and a macro. [`generated`] joins them; docs/PROFILE.md, "Words of the command", shows them.
 
-ghost use Rattle.std.specs.Prelude.{◌≡◌, ◌++◌, IfOk, OnOk, map};
+ghost use Rattle.std.specs.Prelude.{◌≡◌, ◌++◌, ℕ, List, IfOk, OnOk, map};
 ghost use Rattle.std.specs.List.{concat};
-ghost use Rattle.command_words.specs.Generated.{branch_parts, call_parts, function_parts, generated, macro_parts};
-ghost use Rattle.command_words.specs.Generated.{parts_of, piece, value_of};
+ghost use Rattle.command_words.specs.Generated.{generated, parts_of, piece, value_of};
+ghost use Rattle.command_words.specs.Parts.{text_of};
 
 use itoa::Buffer;
 use std::alloc::{AllocError, Global};
@@ -18,87 +18,91 @@ fn value_of(seed: u32, index: u32) -> u32
     ((u64::from(seed) + 37 * u64::from(index)) % 1000) as u32
 }
 
-/// Adds texts to a text, in order.
-fn add_parts(text: &mut Vec<u8>, parts: &[&str]) -> Result<(), AllocError>
-    ensures { OnOk result (text.new.items ≡ text.old.items ++ concat (map (λ part. part.now) parts.now)) }
-{
-    for part in parts {
-        text.extend_from_slice(part.as_bytes())?;
-    }
-    Ok(())
+/// A part of a piece.
+#[derive(Clone, Copy)]
+enum Part {
+    /// This text.
+    Text(&'static str),
+    /// The digits of the piece's place.
+    Place,
+    /// The digits of its number.
+    Value,
 }
 
-/// Adds a function.
-fn add_function(text: &mut Vec<u8>, place: &str, value: &str) -> Result<(), AllocError>
-    ensures { OnOk result (text.new.items ≡ text.old.items ++ concat (function_parts place.now value.now)) }
-{
-    add_parts(
-        text,
-        &[
-            "static int f",
-            place,
-            "(int a,int b){return a+b*",
-            value,
-            ";}\n",
-        ],
-    )
-}
+/// A function.
+const FUNCTION: &[Part] = &[
+    Part::Text("static int f"),
+    Part::Place,
+    Part::Text("(int a,int b){return a+b*"),
+    Part::Value,
+    Part::Text(";}\n"),
+];
 
-/// Adds a variable in two branches.
-fn add_branches(text: &mut Vec<u8>, place: &str, value: &str) -> Result<(), AllocError>
-    ensures { OnOk result (text.new.items ≡ text.old.items ++ concat (branch_parts place.now value.now)) }
-{
-    add_parts(
-        text,
-        &[
-            "#ifdef C",
-            place,
-            "\nint v",
-            place,
-            "=",
-            value,
-            ";\n#else\nlong v",
-            place,
-            "=",
-            value,
-            ";\n#endif\n",
-        ],
-    )
-}
+/// A variable in two branches.
+const BRANCHES: &[Part] = &[
+    Part::Text("#ifdef C"),
+    Part::Place,
+    Part::Text("\nint v"),
+    Part::Place,
+    Part::Text("="),
+    Part::Value,
+    Part::Text(";\n#else\nlong v"),
+    Part::Place,
+    Part::Text("="),
+    Part::Value,
+    Part::Text(";\n#endif\n"),
+];
 
-/// Adds a function with a long call.
-fn add_call(text: &mut Vec<u8>, place: &str, value: &str) -> Result<(), AllocError>
-    ensures { OnOk result (text.new.items ≡ text.old.items ++ concat (call_parts place.now value.now)) }
-{
-    add_parts(
-        text,
-        &[
-            "void g",
-            place,
-            "(void){call(a,b,",
-            value,
-            ",first_argument_of_call,second_argument_of_call,third_argument_of_call);}\n",
-        ],
-    )
-}
+/// A function with a long call.
+const CALL: &[Part] = &[
+    Part::Text("void g"),
+    Part::Place,
+    Part::Text("(void){call(a,b,"),
+    Part::Value,
+    Part::Text(",first_argument_of_call,second_argument_of_call,third_argument_of_call);}\n"),
+];
 
-/// Adds a macro.
-fn add_macro(text: &mut Vec<u8>, place: &str, value: &str) -> Result<(), AllocError>
-    ensures { OnOk result (text.new.items ≡ text.old.items ++ concat (macro_parts place.now value.now)) }
-{
-    add_parts(text, &["#define M", place, "(x) ((x)+", value, ")\n"])
-}
+/// A macro.
+const MACRO: &[Part] = &[
+    Part::Text("#define M"),
+    Part::Place,
+    Part::Text("(x) ((x)+"),
+    Part::Value,
+    Part::Text(")\n"),
+];
 
-/// Adds a piece of a kind, with the digits of its place and of its number.
-fn add_kind(text: &mut Vec<u8>, kind: u32, place: &str, value: &str) -> Result<(), AllocError>
-    ensures { OnOk result (text.new.items ≡ text.old.items ++ concat (parts_of kind place.now value.now)) }
+/// The parts of a piece of a kind.
+fn parts_of(kind: u32) -> &'static [Part]
+    ensures { (place value : List ℕ) → map (text_of place value) result.now ≡ parts_of kind place value }
 {
     match kind {
-        0 => add_function(text, place, value),
-        1 => add_branches(text, place, value),
-        2 => add_call(text, place, value),
-        _ => add_macro(text, place, value),
+        0 => FUNCTION,
+        1 => BRANCHES,
+        2 => CALL,
+        _ => MACRO,
     }
+}
+
+/// The text of a part, in a piece with these digits of its place and of its number.
+fn text_of<'p>(part: &Part, place: &'p str, value: &'p str) -> &'p str
+    ensures { result.now ≡ text_of place.entry.now value.entry.now part.now }
+{
+    match *part {
+        Part::Text(text) => text,
+        Part::Place => place,
+        Part::Value => value,
+    }
+}
+
+/// Adds parts to a text, in order.
+fn add_parts(text: &mut Vec<u8>, parts: &[Part], place: &str, value: &str) -> Result<(), AllocError>
+    ensures { OnOk result
+        (text.new.items ≡ text.old.items ++ concat (map (text_of place.now value.now) parts.now)) }
+{
+    for part in parts {
+        text.extend_from_slice(text_of(part, place, value).as_bytes())?;
+    }
+    Ok(())
 }
 
 /// Adds a piece.
@@ -107,9 +111,9 @@ fn add_piece(text: &mut Vec<u8>, seed: u32, index: u32) -> Result<(), AllocError
 {
     let mut place = Buffer::new();
     let mut value = Buffer::new();
-    add_kind(
+    add_parts(
         text,
-        index % 4,
+        parts_of(index % 4),
         place.format(index),
         value.format(value_of(seed, index)),
     )

@@ -127,7 +127,7 @@ fn files_of<'w>(alloc: Global, matches: &ArgMatches<'w>) -> Result<Vec<&'w str>,
         ≡ unwrap_or (option_map raw_values (matched_of (found_of matches.now) (codes "file"))) []) }
 {
     match matches.get_strs("file") {
-        Some(files) => Ok(Vec::from_slice(alloc, files)?),
+        Some(files) => Vec::from_slice(alloc, files),
         None => Ok(Vec::new(alloc)),
     }
 }
