@@ -4,7 +4,6 @@ mod Causes
 mod Changes
 mod ReportRows
 mod Done
-mod Generated
 mod Statuses
 mod Kept
 mod Choice

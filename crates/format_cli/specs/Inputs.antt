@@ -1,6 +1,6 @@
 -- What is done with the inputs, in their order.
 use Rattle.std.specs.Prelude.{◌≡◌, ◌≢◌, ◌≤◌, ◌<◌, ◌⊎◌, ◌↔◌, ⊤, ℕ, Bool, IsTrue, not, List, [], ◌∷◌, Option, IfSome}
-use Rattle.std.specs.Prelude.{codes, length}
+use Rattle.std.specs.Prelude.{codes, false, length, true}
 use Rattle.std.specs.Io.KnownBytes.{Appends, Keeps}
 use Rattle.fmt_ports.specs.Causes.{AppendsPart}
 use Rattle.fmt_ports.specs.Files.{Held, KeepsAll, KeepsOthers}
@@ -60,6 +60,19 @@ IsTextCause name text (TooLarge input) = (input.now ≡ name) × (LIMIT < length
 IsTextCause name text (OpenComment input at) = (input.now ≡ name) × (length text ≤ LIMIT) × IsOpenAt C11 text at
 IsTextCause name text NoMemory = ⊤
 IsTextCause name text refusal = ⊥
+
+-- a text of this name was formatted, and the notes took its rows
+abbrev pub IsTextTold : Options → Place → (name b c : List ℕ) → (told told' : Option (List ℕ)) → Type 0
+IsTextTold options place name b c told told' =
+    (made : IsFormatted options b c) × Appends told told' (rows_told place name made)
+
+-- A text of this name was refused before it went anywhere: no row was told, for this cause, or the notes failed and
+-- took a front of its rows.
+abbrev pub IsTextRefused : Options → Place → (name b : List ℕ) → (told told' : Option (List ℕ)) → Refusal → Type 0
+IsTextRefused options place name b told told' refusal =
+    (Keeps told told' × IsTextCause name b refusal)
+    ⊎ ((refusal ≡ NotesFailed)
+    × ((c : List ℕ) × (made : IsFormatted options b c) × AppendsPart told told' (rows_told place name made)))
 
 -- ---- standard input
 
@@ -150,6 +163,24 @@ abbrev pub IsWriteRefused : List ℕ → Held → Held → Refusal → Type 0
 IsWriteRefused name old new (FileFailed file) = (file.now ≡ name) × KeepsOthers name old new
 IsWriteRefused name old new NoMemory = KeepsAll old new
 IsWriteRefused name old new refusal = ⊥
+
+-- the formatted text of a FILE, which changes or not, went to its place
+abbrev pub FilePuts : Place → (name c : List ℕ) → (changes : Bool) → (taken taken' : Option (List ℕ)) → Held → Held →
+    Type 0
+FilePuts Output name c changes taken taken' held held' = Appends taken taken' c × KeepsAll held held'
+FilePuts Itself name c true taken taken' held held' =
+    Keeps taken taken' × IsHeld held' name c × KeepsOthers name held held'
+FilePuts Itself name c false taken taken' held held' = Keeps taken taken' × KeepsAll held held'
+FilePuts Nowhere name c changes taken taken' held held' = Keeps taken taken' × KeepsAll held held'
+
+-- the output took a front of the formatted text of a FILE, or the file, whose text changes, wasn't written back
+abbrev pub FilePutFails : Place → (name c : List ℕ) → (changes : Bool) → (taken taken' : Option (List ℕ)) → Held →
+    Held → Refusal → Type 0
+FilePutFails Output name c changes taken taken' held held' refusal =
+    (refusal ≡ OutFailed) × AppendsPart taken taken' c × KeepsAll held held'
+FilePutFails Itself name c changes taken taken' held held' refusal =
+    IsTrue changes × Keeps taken taken' × IsWriteRefused name held held' refusal
+FilePutFails Nowhere name c changes taken taken' held held' refusal = ⊥
 
 -- Behind these rows a write of a text failed: the output took a front of it, or with `-i` the file, whose text changes,
 -- is unknown, or no file changed. Or the notes failed and took a front of the rows.

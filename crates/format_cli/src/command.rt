@@ -1,14 +1,15 @@
 //! The top call.
 
-ghost use Rattle.std.specs.Prelude.{◌≡◌, ◌&&◌, ◌≢◌, ◌⊎◌, ◌<◌, ◌≤◌, ℕ, IfErr, IfOk, map, string_bytes};
+ghost use Rattle.std.specs.Prelude.{◌≡◌, ◌&&◌, ◌≢◌, ◌⊎◌, ◌<◌, ◌≤◌, ℕ, List, Err, IfErr, IfOk, map, string_bytes};
 ghost use Rattle.std.specs.Io.KnownBytes.{Keeps};
 ghost use Rattle.fmt_ports.specs.Causes.{Rose};
 ghost use Rattle.fmt_ports.specs.Files.{KeepsAll};
 ghost use Rattle.style_table.specs.Range.{IsInRange};
-ghost use Rattle.format_cli.specs.Account.{EndsWell, IsNotPerformed, IsPerformedWith, IsRefused, outcome_of};
-ghost use Rattle.format_cli.specs.Account.{outcome_status, place_of, world};
+ghost use Rattle.command_words.specs.Said.{Reads};
+ghost use Rattle.format_cli.specs.Account.{AreWordsRefused, EndsWell, IsNotPerformed, IsPerformedWith, IsRefused};
+ghost use Rattle.format_cli.specs.Account.{outcome_of, outcome_status, place_of, world};
 ghost use Rattle.format_cli.specs.Causes.{IsRefusedFor};
-ghost use Rattle.command_refusals.specs.Counts.{Counted, Faults};
+ghost use Rattle.command_refusals.specs.Counts.{Counted, Faults, Raises};
 ghost use Rattle.format_cli.specs.Statuses.{AreBadWords, AsksWhetherChanged, HasNoStyle, HasRefusedInput, IsStatus};
 ghost use Rattle.format_cli.specs.Statuses.{LacksName, LeavesFiles, LeavesOutput};
 ghost use Rattle.format_cli.specs.Order.{LacksRows, StopsWith};
@@ -118,6 +119,23 @@ fn asks_for_changes(said: &Words) -> bool
     said.dry_run && said.werror
 }
 
+/// The refusal of words that are at fault.
+fn refusal_of<'w>(fault: WordsFault<'w>) -> Refusal<'w>
+    ensures cause { (words : List (List ℕ)) → Reads words (Err fault.entry) → AreWordsRefused words result }
+    ensures counts { (f : Faults) → Raises result f f }
+{
+    match fault {
+        WordsFault::Form => Refusal::BadWords,
+        WordsFault::BadLines { word, fault } => Refusal::BadLines { word, fault },
+        WordsFault::BadStates(word) => Refusal::BadStates(word),
+        WordsFault::NoInput => Refusal::NoInput,
+        WordsFault::ManyFiles => Refusal::ManyFiles,
+        WordsFault::BadGenerate(word) => Refusal::BadGenerate(word),
+        WordsFault::GenerateBeside => Refusal::GenerateBeside,
+        WordsFault::NoMemory => Refusal::NoMemory,
+    }
+}
+
 /// Reads the words and the style, and does what they ask for.
 fn run<'w, S: Source, K: Sink, E: Sink, F: Files>(
     alloc: Global,
@@ -152,16 +170,7 @@ fn run<'w, S: Source, K: Sink, E: Sink, F: Files>(
 {
     let said = match read_words(alloc, words) {
         Ok(said) => said,
-        Err(WordsFault::Form) => return Err(Refusal::BadWords),
-        Err(WordsFault::BadLines { word, fault }) => {
-            return Err(Refusal::BadLines { word, fault });
-        }
-        Err(WordsFault::BadStates(word)) => return Err(Refusal::BadStates(word)),
-        Err(WordsFault::NoInput) => return Err(Refusal::NoInput),
-        Err(WordsFault::ManyFiles) => return Err(Refusal::ManyFiles),
-        Err(WordsFault::BadGenerate(word)) => return Err(Refusal::BadGenerate(word)),
-        Err(WordsFault::GenerateBeside) => return Err(Refusal::GenerateBeside),
-        Err(WordsFault::NoMemory) => return Err(Refusal::NoMemory),
+        Err(fault) => return Err(refusal_of(fault)),
     };
     let style = style_in_force(alloc, said.style, notes, files)?;
     let asks = asks_for_changes(&said);

@@ -9,9 +9,10 @@ ghost use Rattle.format_core.specs.TextOf.{text_of as laid_text};
 ghost use Rattle.command_refusals.specs.Counts.{Counted, Faults};
 ghost use Rattle.format_cli.specs.Generated.{IsGeneratedDoneWith, IsGeneratedRefused, text_of};
 ghost use Rattle.command_refusals.specs.InForce.{IsHeld};
-ghost use Rattle.format_cli.specs.Inputs.{AreDoneWith, AreRefused, IsDoneWith, IsFileCause, IsFileRefused, IsFormatted};
-ghost use Rattle.format_cli.specs.Inputs.{IsSourceDoneWith, IsSourceRefused, IsTextCause, IsWriteRefused};
-ghost use Rattle.format_cli.specs.Inputs.{SourcePutFails, SourcePuts, ends};
+ghost use Rattle.format_cli.specs.Inputs.{AreDoneWith, AreRefused, FilePutFails, FilePuts, IsDoneWith, IsFileCause};
+ghost use Rattle.format_cli.specs.Inputs.{IsFileRefused, IsFormatted, IsSourceCause, IsSourceDoneWith};
+ghost use Rattle.format_cli.specs.Inputs.{IsSourceRefused, IsTextCause, IsTextRefused, IsTextTold, IsTold};
+ghost use Rattle.format_cli.specs.Inputs.{IsWriteRefused, SourcePutFails, SourcePuts, ends};
 
 use crate::summary::tell_input;
 use bumpalo::Bump;
@@ -79,6 +80,49 @@ fn formatted<'a, 's, 'w>(
     }
 }
 
+/// The formatted text of an input of this name, whose reports were told, and in a dry run its summary.
+fn format_and_tell<'a, 's, 'w, E: Sink>(
+    alloc: Global,
+    bump: &'a Bump,
+    options: &Options,
+    place: Place,
+    name: &'w str,
+    text: &'s [u8],
+    notes: &mut E,
+) -> Result<Formatted<'a, 's>, Refusal<'w>>
+    requires range { IsInRange options.now.style }
+    requires budget { options.now.budget ≤ 16000000 }
+    ensures told { IfOk result (λ made.
+        IsTextTold options.now place name.entry.now text.now (laid_text made.laid) (E.taken notes.old)
+        (E.taken notes.new)) }
+    ensures changed { IfOk result (λ made. made.changed ≡ not (is_same (laid_text made.laid) text.now)) }
+    ensures refused { IfErr result
+        (IsTextRefused options.now place name.entry.now text.now (E.taken notes.old) (E.taken notes.new)) }
+    ensures counts { (f : Faults) →
+        Counted (record f { notes = E.faults notes.old }) (record f { notes = E.faults notes.new }) result }
+{
+    let formatted = formatted(alloc, bump, options, name, text)?;
+    match tell_input(alloc, name, options.budget, place, &formatted, notes) {
+        Ok(()) => Ok(formatted),
+        Err(Failed) => Err(Refusal::NotesFailed),
+    }
+}
+
+/// The bytes of standard input.
+fn read_source<S: Source>(alloc: Global, source: &mut S) -> Result<Vec<u8>, Refusal<'static>>
+    ensures bytes { IfOk result (λ text. IsTold (S.left source.old) text.items) }
+    ensures refused { IfErr result (IsSourceCause (S.left source.old)) }
+    ensures counts { (f : Faults) →
+        Counted (record f { source = S.faults source.old }) (record f { source = S.faults source.new }) result }
+{
+    match read_all(alloc, source, LIMIT as u64) {
+        Ok(text) => Ok(text),
+        Err(InFault::Failed) => Err(Refusal::SourceFailed),
+        Err(InFault::TooLong) => Err(Refusal::TooLarge(STANDARD_INPUT)),
+        Err(InFault::NoMemory) => Err(Refusal::NoMemory),
+    }
+}
+
 /// Writes the formatted text of standard input, or in a dry run nothing.
 fn put_source<'a, 's, K: Sink>(
     alloc: Global,
@@ -119,27 +163,11 @@ pub fn format_source<S: Source, K: Sink, E: Sink>(
         Counted (record f { source = S.faults source.old; out = K.faults out.old; notes = E.faults notes.old })
         (record f { source = S.faults source.new; out = K.faults out.new; notes = E.faults notes.new }) result }
 {
-    let text = match read_all(alloc, source, LIMIT as u64) {
-        Ok(text) => text,
-        Err(InFault::Failed) => return Err(Refusal::SourceFailed),
-        Err(InFault::TooLong) => return Err(Refusal::TooLarge(STANDARD_INPUT)),
-        Err(InFault::NoMemory) => return Err(Refusal::NoMemory),
-    };
+    let text = read_source(alloc, source)?;
     let bump = Bump::new(alloc);
-    let formatted = formatted(alloc, &bump, options, STANDARD_INPUT, &text)?;
-    match tell_input(
-        alloc,
-        STANDARD_INPUT,
-        options.budget,
-        place,
-        &formatted,
-        notes,
-    ) {
-        Ok(()) => {}
-        Err(Failed) => return Err(Refusal::NotesFailed),
-    }
-    match put_source(alloc, place, &formatted, out) {
-        Ok(()) => Ok(formatted.changed),
+    let made = format_and_tell(alloc, &bump, options, place, STANDARD_INPUT, &text, notes)?;
+    match put_source(alloc, place, &made, out) {
+        Ok(()) => Ok(made.changed),
         Err(Failed) => Err(Refusal::OutFailed),
     }
 }
@@ -166,18 +194,16 @@ pub fn format_generated<E: Sink>(
         Err(AllocError) => return Err(Refusal::NoMemory),
     };
     let bump = Bump::new(alloc);
-    let formatted = formatted(alloc, &bump, options, GENERATED, &text)?;
-    match tell_input(
+    let made = format_and_tell(
         alloc,
-        GENERATED,
-        options.budget,
+        &bump,
+        options,
         Place::Nowhere,
-        &formatted,
+        GENERATED,
+        &text,
         notes,
-    ) {
-        Ok(()) => Ok(formatted.changed),
-        Err(Failed) => Err(Refusal::NotesFailed),
-    }
+    )?;
+    Ok(made.changed)
 }
 
 /// The bytes of a FILE.
@@ -226,6 +252,45 @@ fn write_back<'w, F: Files>(
     }
 }
 
+/// Puts the formatted text of a FILE in its place, or in a dry run nowhere. A text that stays as it was isn't written
+/// back.
+fn put_file<'w, K: Sink, F: Files>(
+    alloc: Global,
+    place: Place,
+    name: &'w str,
+    formatted: &Formatted<'_, '_>,
+    out: &mut K,
+    files: &mut F,
+) -> Result<(), Refusal<'w>>
+    ensures done { IfOk result (λ _.
+        FilePuts place name.entry.now (laid_text formatted.now.laid) formatted.now.changed (K.taken out.old)
+        (K.taken out.new) (F.holds files.old) (F.holds files.new)) }
+    ensures refused { IfErr result
+        (FilePutFails place name.entry.now (laid_text formatted.now.laid) formatted.now.changed (K.taken out.old)
+        (K.taken out.new) (F.holds files.old) (F.holds files.new)) }
+    ensures counts { (f : Faults) →
+        Counted (record f { out = K.faults out.old; files = F.faults files.old; misses = F.misses files.old })
+        (record f { out = K.faults out.new; files = F.faults files.new; misses = F.misses files.new }) result }
+{
+    match place {
+        Place::Output => match formatted.write(alloc, out) {
+            Ok(()) => Ok(()),
+            Err(Failed) => Err(Refusal::OutFailed),
+        },
+        Place::Itself => {
+            if formatted.changed {
+                write_back(alloc, name, formatted, files)
+            } else {
+                Ok(())
+            }
+        }
+        Place::Nowhere => {
+            // A dry run puts nothing anywhere.
+            Ok(())
+        }
+    }
+}
+
 /// Formats a FILE: tells its reports, and puts its text in its place, or in a dry run tells its summary. A text that
 /// stays as it was isn't written back. The answer is whether its text changes.
 fn format_file<'w, K: Sink, E: Sink, F: Files>(
@@ -260,26 +325,9 @@ fn format_file<'w, K: Sink, E: Sink, F: Files>(
 {
     let text = read_file(name, files)?;
     let bump = Bump::new(alloc);
-    let formatted = formatted(alloc, &bump, options, name, &text)?;
-    match tell_input(alloc, name, options.budget, place, &formatted, notes) {
-        Ok(()) => {}
-        Err(Failed) => return Err(Refusal::NotesFailed),
-    }
-    match place {
-        Place::Output => match formatted.write(alloc, out) {
-            Ok(()) => Ok(formatted.changed),
-            Err(Failed) => Err(Refusal::OutFailed),
-        },
-        Place::Itself => {
-            if formatted.changed {
-                write_back(alloc, name, &formatted, files)?;
-                Ok(true)
-            } else {
-                Ok(false)
-            }
-        }
-        Place::Nowhere => Ok(formatted.changed),
-    }
+    let made = format_and_tell(alloc, &bump, options, place, name, &text, notes)?;
+    put_file(alloc, place, name, &made, out, files)?;
+    Ok(made.changed)
 }
 
 /// Whether some text changes, one of those before or the one here.

@@ -4,8 +4,19 @@ use Rattle.command_refusals.proofs.Counts.{raises_after, same_after}
 use Rattle.format_cli.specs.Account.{world}
 use Rattle.format_cli.proofs.Rest.{passed}
 use Rattle.format_cli.proofs.Changes.{answers}
-use Rattle.format_cli.proofs.Ends.{keeps_self}
+use Rattle.format_cli.proofs.Ends.{keeps_all_self, keeps_self}
 use Rattle.format_cli.proofs.command.run.Goals as goal
+
+pub returns-in-Err-clause-refused : goal.returns-in-Err-clause-refused
+returns-in-Err-clause-refused g c =
+    inl (record {
+      cause = c.refusal_of.ensures.cause _ c.in-Err.ensures.reads;
+      untouched = record { taken = keeps_self _; held = keeps_all_self _; left = refl };
+      silent = keeps_self _;
+    })
+
+pub returns-in-Err-clause-counts : goal.returns-in-Err-clause-counts
+returns-in-Err-clause-counts g c = c.refusal_of.ensures.counts _
 
 pub returns-in_err-style-clause-refused : goal.returns-in_err-style-clause-refused
 returns-in_err-style-clause-refused g c =
