@@ -1,16 +1,17 @@
 -- Tokens inside a line begin none.
-use Rattle.std.proofs.Common.{◌≡◌, ◌≢◌, ◌∙◌, ℕ, zero, suc, ◌+◌, ◌-◌, ◌<◌, ◌≤◌, Bool, true, false, not, nat_eq, nat_lt, Option, None, Some, List, [], ◌∷◌, ◌++◌, slice_get, length, drop, arith, ap, sym, refl, subst}
-use Rattle.unwrapped_lines.specs.Comments.{Tree, is_between, between_at, is_begun, begin_of, begins_line, new_begin, next_marks, list_of, begins_from, token_follows}
+use Rattle.std.proofs.Common.{◌≡◌, ◌≢◌, ◌∙◌, ℕ, zero, suc, ◌+◌, ◌-◌, ◌<◌, ◌≤◌, Bool, true, false, not, ◌&&◌, nat_eq, nat_lt, Option, None, Some, List, [], ◌∷◌, ◌++◌, slice_get, length, drop, arith, ap, sym, refl, subst}
+use Rattle.unwrapped_lines.specs.Comments.{Tree, is_between, between_at, is_apart, is_begun, begin_of, begins_line, new_begin, next_marks, list_of, begins_from, run_of, token_follows}
 use Rattle.token_classes.specs.declared.part.Part.{Part}
 use Rattle.unwrapped_lines.specs.declared.part.ViewComment.{ViewComment}
-use Rattle.token_classes.specs.declared.part.Part.TheVariants.{Token, Inner}
+use Rattle.token_classes.specs.declared.part.Part.TheVariants.{Token, Own, Trailing, Inner}
+use Rattle.unwrapped_lines.specs.declared.part.Run.{Run}
 use Rattle.unwrapped_lines.specs.declared.part.Run.TheVariants.{Apart}
 use Rattle.unwrapped_lines.specs.declared.part.Marks.{Marks}
 use Rattle.unwrapped_lines.specs.declared.part.Begin.{Begin}
 use Rattle.unwrapped_lines.specs.declared.line.Line.{Line}
 use Rattle.line_tokens.specs.declared.line.ULine.{ULine}
 use Rattle.unwrapped_lines.specs.Lines.{lines_between}
-use Rattle.unwrapped_lines.specs.Inside.{parts_with, FollowFrom}
+use Rattle.unwrapped_lines.specs.Inside.{parts_with, FollowFrom, begin_with, marks_with}
 use Rattle.std.proofs.lemmas.List.{append_assoc}
 
 no_begin : (t : Tree) (k : ℕ) (ps : List Part) (m : Marks) → is_between t m ≡ false → new_begin t k Token ps m ≡ None
@@ -126,7 +127,7 @@ at_first : (t : Tree) (m : Marks) (l : Line) → slice_get t.lines m.begun ≡ S
 at_first t m l found first = ap (between_at t.total m.seen) found ∙ first
 
 -- the line whose first token stands at a place begins there
-pub line_begins : (t : Tree) (p : Part) (m : Marks) (l : Line) → p ≡ Token → is_begun m.run ≡ false → slice_get t.lines m.begun ≡ Some l → nat_eq l.first m.seen ≡ true
+line_begins : (t : Tree) (p : Part) (m : Marks) (l : Line) → p ≡ Token → is_begun m.run ≡ false → slice_get t.lines m.begun ≡ Some l → nat_eq l.first m.seen ≡ true
     → (k : ℕ) → (ps : List Part) → new_begin t k p ps m ≡ Some (record { first = k; level = l.level; kind = l.kind })
 line_begins t p m l token run found first k ps =
     let made : Bool → Bool → Option Line → Option Begin = λ b r o. elim b [ false ↦ None | true ↦ elim (not r) [ true ↦ begin_of k o | false ↦ None ] ] in
@@ -135,7 +136,7 @@ line_begins t p m l token run found first k ps =
     ∙ (ap (λ (r : Bool). made true r (slice_get t.lines m.begun)) run ∙ ap (made true false) found))
 
 -- and is behind it
-pub line_begun : (t : Tree) (p : Part) (m : Marks) (l : Line) → p ≡ Token → slice_get t.lines m.begun ≡ Some l → nat_eq l.first m.seen ≡ true
+line_begun : (t : Tree) (p : Part) (m : Marks) (l : Line) → p ≡ Token → slice_get t.lines m.begun ≡ Some l → nat_eq l.first m.seen ≡ true
     → (ps : List Part) → next_marks t p ps m ≡ record { seen = m.seen + 1; begun = m.begun + 1; run = Apart }
 line_begun t p m l token found first ps =
     let behind : Bool → Marks = λ b. record { seen = m.seen + 1; begun = elim b [ true ↦ m.begun + 1 | false ↦ m.begun ]; run = Apart } in
@@ -191,6 +192,63 @@ lines_on count old new current begin behind e =
     ∙ (append_assoc old (lines_between begin.first (list_of current)) (lines_between count (begin ∷ behind)) ∙ ap (λ (x : List ULine). old ++ x) (ended count current begin behind))
 
 -- and at the end the last
-pub lines_end : (count : ℕ) (old new : List ULine) (current : Option Begin) → new ≡ old ++ lines_between count (list_of current) → new ≡ old ++ lines_between count (list_of current ++ [])
+lines_end : (count : ℕ) (old new : List ULine) (current : Option Begin) → new ≡ old ++ lines_between count (list_of current) → new ≡ old ++ lines_between count (list_of current ++ [])
 lines_end count old new None e = e
 lines_end count old new (Some b) e = e
+
+-- behind the last place nothing is told
+none_left : (t : Tree) (count k : ℕ) (comments : List ViewComment) (m : Marks) → count ≤ k → begins_from t (parts_with (count - k) k comments) k m ≡ []
+none_left t count k comments m h =
+    let none : count - k ≡ 0 = omega (arith, h) in
+    ap (λ n. begins_from t (parts_with n k comments) k m) none
+
+pub last_line : (t : Tree) (count k : ℕ) (comments : List ViewComment) (m : Marks) (old new : List ULine) (current : Option Begin) → count ≤ k → new ≡ old ++ lines_between count (list_of current)
+    → new ≡ old ++ lines_between count (list_of current ++ begins_from t (parts_with (count - k) k comments) k m)
+last_line t count k comments m old new current h e =
+    lines_end count old new current e ∙ ap (λ (x : List Begin). old ++ lines_between count (list_of current ++ x)) (sym (none_left t count k comments m h))
+
+-- ## One place
+
+begin_same : (end_level : ℕ) (next : Option Line) (between begins : Bool) (k : ℕ) (p : Part) → begin_with end_level next between (between && begins) k p ≡ begin_with end_level next between begins k p
+begin_same end_level next true begins k p = refl
+begin_same end_level next false begins k p = refl
+
+run_same : (between apart follows : Bool) (run : Run)
+    → elim (between && apart) as (λ _. Run) [ true ↦ run_of (between && (apart && follows)) | false ↦ run ] ≡ elim (between && apart) as (λ _. Run) [ true ↦ run_of follows | false ↦ run ]
+run_same true true follows run = refl
+run_same true false follows run = refl
+run_same false apart follows run = refl
+
+marks_same : (t : Tree) (p : Part) (ps : List Part) (m : Marks) → marks_with (is_between t m) (is_between t m && begins_line p ps m) p m ≡ next_marks t p ps m
+marks_same t Token ps m = refl
+marks_same t Own ps m = refl
+marks_same t Trailing ps m = refl
+marks_same t Inner ps m = ap (λ (r : Run). record { seen = m.seen; begun = m.begun; run = r }) (run_same (is_between t m) (is_apart m.run) (token_follows ps) m.run)
+
+-- what is told of a place and of those behind it, by the line that begins there and how the lines stand behind it
+pub place_told : (t : Tree) (k : ℕ) (p : Part) (ps : List Part) (m behind : Marks) (next : Option Line) (between begins : Bool) (begin : Option Begin) → next ≡ slice_get t.lines m.begun
+    → between ≡ between_at t.total m.seen next → begins ≡ (between && begins_line p ps m) → begin ≡ begin_with t.end_level next between begins k p → behind ≡ marks_with between begins p m
+    → list_of begin ++ begins_from t ps (k + 1) behind ≡ begins_from t (p ∷ ps) k m
+place_told t k p ps m behind next between begins begin found may does here marked =
+    let is : between ≡ is_between t m = may ∙ ap (between_at t.total m.seen) found in
+    let new : begin ≡ new_begin t k p ps m =
+    here
+    ∙ (ap (λ (x : Bool). begin_with t.end_level next between x k p) does
+    ∙ (begin_same t.end_level next between (begins_line p ps m) k p
+    ∙ (ap (λ (o : Option Line). begin_with t.end_level o between (begins_line p ps m) k p) found ∙ ap (λ (x : Bool). begin_with t.end_level (slice_get t.lines m.begun) x (begins_line p ps m) k p) is))) in
+    let on : behind ≡ next_marks t p ps m =
+    marked ∙ (ap (λ (x : Bool). marks_with between x p m) does ∙ (ap (λ (x : Bool). marks_with x (x && begins_line p ps m) p m) is ∙ marks_same t p ps m)) in
+    ap (λ (o : Option Begin). list_of o ++ begins_from t ps (k + 1) behind) new ∙ ap (λ (x : Marks). list_of (new_begin t k p ps m) ++ begins_from t ps (k + 1) x) on
+
+-- what is told behind a place is what was told before it
+pub went_on : (count : ℕ) (old new all : List ULine) (before current now begin : Option Begin) (told there behind : List Begin)
+    → new ++ lines_between count (list_of now ++ behind) ≡ old ++ lines_between count (list_of current ++ (list_of begin ++ behind)) → list_of begin ++ behind ≡ there → there ≡ told → current ≡ before
+    → old ++ lines_between count (list_of before ++ told) ≡ all → new ++ lines_between count (list_of now ++ behind) ≡ all
+went_on count old new all before current now begin told there behind e here same goes h =
+    e ∙ (ap (λ (x : List Begin). old ++ lines_between count (list_of current ++ x)) (here ∙ same) ∙ (ap (λ (o : Option Begin). old ++ lines_between count (list_of o ++ told)) goes ∙ h))
+
+-- and at the end all is told
+pub all_told : (count : ℕ) (old new all : List ULine) (before current : Option Begin) (told none : List Begin) → new ≡ old ++ lines_between count (list_of current ++ none) → none ≡ told → current ≡ before
+    → old ++ lines_between count (list_of before ++ told) ≡ all → new ≡ all
+all_told count old new all before current told none e same goes h =
+    e ∙ (ap (λ (x : List Begin). old ++ lines_between count (list_of current ++ x)) same ∙ (ap (λ (o : Option Begin). old ++ lines_between count (list_of o ++ told)) goes ∙ h))

@@ -1,17 +1,27 @@
 -- What the code's functions tell each other of a view. No contract of a public function cites it.
 use Rattle.std.specs.Prelude.{◌≡◌, ◌≤◌, ℕ, zero, suc, ◌+◌, ◌-◌, nat_eq, nat_lt, true, false, Option, Some, None, List}
+use Rattle.std.specs.Prelude.{Bool, ◌&&◌}
 use Rattle.std.specs.Prelude.{[], ◌∷◌, ◌++◌, length, map, drop, get_or, if◌then◌else◌}
 use Rattle.token_arena.specs.declared.view.Segment.{Segment}
 use Rattle.token_arena.specs.Gaps.{Contents}
+use Rattle.token_arena.specs.Segments.{ids_of, segment_bounds, AreSegments}
+use Rattle.token_classes.specs.Viewed.{AreWithin}
+use Rattle.c_chars.specs.declared.TheConstants.{LIMIT}
 use Rattle.token_classes.specs.declared.class.TokenClass.{TokenClass}
 use Rattle.token_classes.specs.Classes.{is_comment}
 use Rattle.unwrapped_lines.specs.declared.token.CodeToken.{CodeToken}
 use Rattle.token_classes.specs.declared.part.Part.{Part}
-use Rattle.token_classes.specs.declared.part.Part.TheVariants.{Token}
+use Rattle.token_classes.specs.declared.part.Part.TheVariants.{Token, Own, Trailing, Inner}
+use Rattle.line_tokens.specs.declared.line.LineKind.TheVariants.{Comment}
+use Rattle.unwrapped_lines.specs.declared.line.Line.{Line}
+use Rattle.unwrapped_lines.specs.declared.part.Begin.{Begin}
+use Rattle.unwrapped_lines.specs.declared.part.Marks.{Marks}
+use Rattle.unwrapped_lines.specs.declared.part.Run.{Run}
+use Rattle.unwrapped_lines.specs.declared.part.Run.TheVariants.{Apart}
 use Rattle.unwrapped_lines.specs.declared.part.ViewComment.{ViewComment}
 use Rattle.line_tokens.specs.declared.line.ULine.{ULine}
 use Rattle.unwrapped_lines.specs.declared.braces.Braces.{Braces}
-use Rattle.unwrapped_lines.specs.Comments.{Tree, begins_from, no_marks}
+use Rattle.unwrapped_lines.specs.Comments.{Tree, begins_from, no_marks, begin_of, is_apart, is_own, own_level, run_of}
 use Rattle.unwrapped_lines.specs.Lines.{lines_between}
 use Rattle.unwrapped_lines.specs.Tree.{lines_of, end_level}
 use Rattle.unwrapped_lines.specs.Viewed.{numbers_of, token_at, code_places_from, code_tokens, parts_of}
@@ -29,6 +39,16 @@ pub record AreTokensBefore (arena : Contents) (ids : List ℕ) (classes : List T
   pub same : tokens ++ map (token_at arena ids classes partners) (code_places_from k (drop k classes))
       ≡ code_tokens arena ids classes partners
   pub few : length tokens ≤ k
+
+-- a view is read by its segments: these stand in order, their items in the arena, and each has a class and a number
+pub record AreRead (arena : Contents) (segments : List Segment) (classes : List TokenClass) (numbers : List (Option ℕ))
+    : Type 0 where
+  pub rule : AreSegments segments
+  pub within : AreWithin arena (ids_of (map segment_bounds segments))
+  pub places : length classes ≡ length (ids_of (map segment_bounds segments))
+  pub few : length classes ≤ LIMIT
+  pub items : length arena.tokens ≤ LIMIT
+  pub same : numbers ≡ partner_numbers classes
 
 -- the first place behind a segment
 abbrev pub segment_stop : Segment → ℕ
@@ -66,6 +86,33 @@ parts_with (suc n) k (c ∷ comments) =
 abbrev pub FollowFrom : ℕ → List ViewComment → Type 0
 FollowFrom k [] = Unit {0}
 FollowFrom k (c ∷ comments) = k ≤ c.place
+
+-- ## One place
+
+-- the line that begins at a place, by whether one may and whether the part there begins the one that is next
+abbrev pub begin_with : ℕ → Option Line → Bool → Bool → ℕ → Part → Option Begin
+begin_with end_level next between begins k p =
+    elim between [
+      | false ↦ None
+      | true ↦
+          elim (is_own p) [
+            | true ↦ Some (record { first = k; level = own_level end_level next; kind = Comment })
+            | false ↦ elim begins [ true ↦ begin_of k next | false ↦ None ]
+          ]
+    ]
+
+-- what inner comments are behind one of them
+abbrev pub run_with : Bool → Bool → Run → Run
+run_with between begins run = elim (between && is_apart run) [ true ↦ run_of begins | false ↦ run ]
+
+-- how the lines stand behind it
+abbrev pub marks_with : Bool → Bool → Part → Marks → Marks
+marks_with between begins Token m =
+    record { seen = m.seen + 1; begun = elim between [ true ↦ m.begun + 1 | false ↦ m.begun ]; run = Apart }
+marks_with between begins Own m = record { seen = m.seen; begun = m.begun; run = Apart }
+marks_with between begins Trailing m = record { seen = m.seen; begun = m.begun; run = Apart }
+marks_with between begins Inner m =
+    record { seen = m.seen; begun = m.begun; run = run_with between begins m.run }
 
 -- ## Lines
 

@@ -65,6 +65,20 @@ fn scan_colon(tokens: &[CodeToken], end: usize, at: usize) -> usize
     end
 }
 
+/// Puts the colon of each place there, from the last on.
+fn fill_colons(tokens: &[CodeToken], colons: &mut [u32])
+    requires few { length tokens.now < 2 ^ 30 }
+    requires last { AreColonsFrom (length tokens.now) colons.old tokens.now }
+    ensures { AreColonsFrom 0 colons.new tokens.now }
+{
+    let mut place = tokens.len();
+    while place > 0 {
+        place -= 1;
+        let colon = colon_from(tokens, colons, place);
+        colons[place] = colon as u32;
+    }
+}
+
 /// The colon of each place.
 fn all_colons<'r>(tokens: &[CodeToken], run: &'r Bump) -> Result<Vec<u32, &'r Bump>, NoMemory>
     requires few { length tokens.now < 2 ^ 30 }
@@ -72,12 +86,7 @@ fn all_colons<'r>(tokens: &[CodeToken], run: &'r Bump) -> Result<Vec<u32, &'r Bu
 {
     let count = tokens.len();
     let mut colons = vec![in run; count as u32; count + 1]?;
-    let mut place = count;
-    while place > 0 {
-        place -= 1;
-        let colon = colon_from(tokens, &colons, place);
-        colons[place] = colon as u32;
-    }
+    fill_colons(tokens, &mut colons);
     Ok(colons)
 }
 

@@ -1,13 +1,13 @@
 //! The lines of a view with its comments.
 
-ghost use Rattle.std.specs.Prelude.{◌≡◌, ◌<◌, ◌≤◌, ◌+◌, ◌-◌, ◌^◌, ◌∷◌, ◌++◌};
-ghost use Rattle.std.specs.Prelude.{slice_get, ℕ, false, IfOk, IfSome, Some, List};
-ghost use Rattle.token_classes.specs.declared.part.Part.{Part};
-ghost use Rattle.unwrapped_lines.specs.declared.part.Run.TheVariants.{Apart};
-ghost use Rattle.unwrapped_lines.specs.Comments.{token_follows, between_at, is_between, new_begin, next_marks};
-ghost use Rattle.unwrapped_lines.specs.Comments.{begins_from, no_marks, list_of, begins_line};
+ghost use Rattle.std.specs.Prelude.{◌≡◌, ◌<◌, ◌≤◌, ◌+◌, ◌-◌, ◌^◌, ◌∷◌, ◌++◌, ◌&&◌, length};
+ghost use Rattle.std.specs.Prelude.{slice_get, ℕ, false, IfOk, IfSome, List};
+ghost use Rattle.unwrapped_lines.specs.declared.part.Begin.{Begin};
+ghost use Rattle.unwrapped_lines.specs.declared.part.ViewComment.{ViewComment};
+ghost use Rattle.unwrapped_lines.specs.Comments.{token_follows, between_at, begins_from, no_marks, list_of};
+ghost use Rattle.unwrapped_lines.specs.Comments.{begins_line, is_begun};
 ghost use Rattle.unwrapped_lines.specs.Lines.{lines_between};
-ghost use Rattle.unwrapped_lines.specs.Inside.{parts_with, FollowFrom};
+ghost use Rattle.unwrapped_lines.specs.Inside.{parts_with, FollowFrom, begin_with, marks_with, run_with};
 
 use crate::line::Line;
 use crate::part::{Begin, Marks, Run, ViewComment};
@@ -36,27 +36,40 @@ fn token_follows(comments: &[ViewComment], count: usize, from: usize) -> bool
     place < count
 }
 
-/// Whether no line goes on at a place.
+/// The line that begins behind so many others, if there is one.
 #[inline(always)]
-fn is_between(lines: &[Line], total: usize, end_level: u32, marks: Marks) -> bool
-    ensures { result ≡ is_between (record { lines = lines.now; total = total; end_level = end_level }) marks }
+fn line_at(lines: &[Line], begun: usize) -> Option<Line>
+    ensures { result ≡ slice_get lines.now begun }
 {
-    match lines.get(marks.begun) {
-        Some(l) => l.first as usize == marks.seen,
-        None => total <= marks.seen,
+    lines.get(begun).copied()
+}
+
+/// Whether no line goes on behind so many tokens, where this one is the next.
+#[inline(always)]
+fn is_between(next: Option<Line>, total: usize, seen: usize) -> bool
+    ensures { result ≡ between_at total seen next }
+{
+    match next {
+        Some(line) => line.first as usize == seen,
+        None => total <= seen,
     }
 }
 
+/// Whether the part at a place, where a line may begin and these comments follow, begins the one that is next.
 #[inline(always)]
 fn begins_line(
+    between: bool,
     comments: &[ViewComment],
     count: usize,
     behind: usize,
     part: Part,
     marks: Marks,
 ) -> bool
-    ensures { result ≡ begins_line part (parts_with (count - behind) behind comments.now) marks }
+    ensures { result ≡ (between && begins_line part (parts_with (count - behind) behind comments.now) marks) }
 {
+    if !between {
+        return false;
+    }
     match part {
         Part::Token => marks.run != Run::Begun,
         Part::Own | Part::Trailing => false,
@@ -64,29 +77,25 @@ fn begins_line(
     }
 }
 
-/// The line that begins at a place, behind which these comments follow.
+/// The line that begins at a place, by whether one may and whether the part there begins the one that is next.
 #[inline(always)]
 fn new_begin(
-    lines: &[Line],
-    total: usize,
+    next: Option<Line>,
     end_level: u32,
-    comments: &[ViewComment],
-    count: usize,
+    between: bool,
+    begins: bool,
     index: usize,
     part: Part,
-    marks: Marks,
 ) -> Option<Begin>
     requires few { index < 2 ^ 32 }
-    ensures { result
-        ≡ new_begin (record { lines = lines.now; total = total; end_level = end_level }) index part
-        (parts_with (count - (index + 1)) (index + 1) comments.now) marks }
+    ensures { result ≡ begin_with end_level next between begins index part }
 {
-    if !is_between(lines, total, end_level, marks) {
+    if !between {
         return None;
     }
     if part == Part::Own {
-        let level = match lines.get(marks.begun) {
-            Some(l) => l.list_level,
+        let level = match next {
+            Some(line) => line.list_level,
             None => end_level,
         };
         return Some(Begin {
@@ -95,41 +104,28 @@ fn new_begin(
             kind: LineKind::Comment,
         });
     }
-    if begins_line(comments, count, index + 1, part, marks) {
-        match lines.get(marks.begun) {
-            Some(l) => Some(Begin {
-                first: index as u32,
-                level: l.level,
-                kind: l.kind,
-            }),
-            None => None,
-        }
-    } else {
-        None
+    if !begins {
+        return None;
+    }
+    match next {
+        Some(line) => Some(Begin {
+            first: index as u32,
+            level: line.level,
+            kind: line.kind,
+        }),
+        None => None,
     }
 }
 
+/// How the lines stand behind a place, by whether one may begin there and whether the part there begins the next.
 #[inline(always)]
-fn next_marks(
-    lines: &[Line],
-    total: usize,
-    end_level: u32,
-    comments: &[ViewComment],
-    count: usize,
-    index: usize,
-    part: Part,
-    marks: Marks,
-) -> Marks
-    requires few { index < 2 ^ 32 }
+fn next_marks(between: bool, begins: bool, part: Part, marks: Marks) -> Marks
     requires seen { marks.seen < 2 ^ 40 }
     requires begun { marks.begun < 2 ^ 40 }
-    ensures same { result
-        ≡ next_marks (record { lines = lines.now; total = total; end_level = end_level }) part
-        (parts_with (count - (index + 1)) (index + 1) comments.now) marks }
+    ensures same { result ≡ marks_with between begins part marks }
     ensures seen { result.seen ≤ marks.seen + 1 }
     ensures begun { result.begun ≤ marks.begun + 1 }
 {
-    let between = is_between(lines, total, end_level, marks);
     match part {
         Part::Token => Marks {
             seen: marks.seen + 1,
@@ -140,30 +136,26 @@ fn next_marks(
             },
             run: Run::Apart,
         },
-        Part::Own => Marks {
-            seen: marks.seen,
-            begun: marks.begun,
+        Part::Own | Part::Trailing => Marks {
             run: Run::Apart,
-        },
-        Part::Trailing => Marks {
-            seen: marks.seen,
-            begun: marks.begun,
-            run: Run::Apart,
+            ..marks
         },
         Part::Inner => Marks {
-            seen: marks.seen,
-            begun: marks.begun,
-            run: if between && marks.run == Run::Apart {
-                if token_follows(comments, count, index + 1) {
-                    Run::Begun
-                } else {
-                    Run::Joined
-                }
-            } else {
-                marks.run
-            },
+            run: next_run(between, begins, marks.run),
+            ..marks
         },
     }
+}
+
+/// What the inner comments are behind one of them.
+#[inline(always)]
+fn next_run(between: bool, begins: bool, run: Run) -> Run
+    ensures { result ≡ run_with between begins run }
+{
+    if !between || run != Run::Apart {
+        return run;
+    }
+    if begins { Run::Begun } else { Run::Joined }
 }
 
 /// How many tokens are passed where the next line begins, at least: before that each stands inside a line.
@@ -171,7 +163,7 @@ fn next_marks(
 fn next_first(lines: &[Line], total: usize, begun: usize) -> usize
     ensures { (passed : ℕ) → passed < result → between_at total passed (slice_get lines.now begun) ≡ false }
 {
-    match lines.get(begun) {
+    match line_at(lines, begun) {
         Some(line) => line.first as usize,
         None => total,
     }
@@ -214,6 +206,60 @@ fn end_line(lines: &mut Vec<ULine, &Bump>, current: Option<Begin>, end: u32) -> 
     Ok(())
 }
 
+/// A line that begins, and how the lines stand behind its first token.
+#[derive(Clone, Copy, Drop)]
+struct Begun {
+    begin: Begin,
+    marks: Marks,
+}
+
+/// The next line, if its first token stands before an end, up to which no comment stands.
+#[inline(always)]
+fn line_before(lines: &[Line], end: usize, index: usize, marks: Marks) -> Option<Begun>
+    requires few { end < 2 ^ 32 }
+    requires here { index < 2 ^ 32 }
+    ensures row { IfSome result (λ next.
+        (total : ℕ) → (end_level : ℕ) → (count : ℕ) → (comments : List ViewComment) →
+        is_begun marks.run ≡ false → next.begin.first + 1 ≤ count → FollowFrom (next.begin.first + 1) comments →
+        begins_from (record { lines = lines.now; total = total; end_level = end_level })
+        (parts_with (count - index) index comments) index marks
+        ≡ next.begin
+        ∷ begins_from (record { lines = lines.now; total = total; end_level = end_level })
+        (parts_with (count - (next.begin.first + 1)) (next.begin.first + 1) comments) (next.begin.first + 1)
+        next.marks) }
+    ensures on { IfSome result (λ next. index ≤ next.begin.first) }
+    ensures near { IfSome result (λ next. next.begin.first < end) }
+    ensures seen { marks.seen ≤ index → IfSome result (λ next. next.marks.seen ≤ next.begin.first + 1) }
+    ensures begun { IfSome result (λ next. next.marks.begun ≡ marks.begun + 1) }
+    ensures up { IfSome result (λ next. marks.begun < length lines.now) }
+    ensures run { IfSome result (λ next. is_begun next.marks.run ≡ false) }
+{
+    if lines.len() <= marks.begun {
+        return None;
+    }
+    let line = &lines[marks.begun];
+    let first = line.first as usize;
+    if first < marks.seen {
+        return None;
+    }
+    let place = index + (first - marks.seen);
+    if end <= place {
+        return None;
+    }
+    Some(Begun {
+        begin: Begin {
+            first: place as u32,
+            level: line.level,
+            kind: line.kind,
+        },
+        marks: Marks {
+            seen: first + 1,
+            begun: marks.begun + 1,
+            run: Run::Apart,
+        },
+    })
+}
+
 /// Passes the lines that begin before the next comment, as most do. What is told of them and of the places behind
 /// them is all that is told.
 #[inline(always)]
@@ -244,34 +290,17 @@ fn pass_lines(
     ensures seen { IfOk result (λ walk. walk.marks.seen ≤ walk.index) }
     ensures begun { IfOk result (λ walk. walk.marks.begun ≤ walk.index) }
 {
+    if from.marks.run == Run::Begun {
+        return Ok(from);
+    }
     let end = next_comment(comments, count);
     let mut walk = from;
-    if walk.marks.run == Run::Begun {
-        return Ok(walk);
-    }
-    while walk.marks.begun < lines.len() {
-        let line = &lines[walk.marks.begun];
-        let first = line.first as usize;
-        if first < walk.marks.seen {
-            break;
-        }
-        let place = walk.index + (first - walk.marks.seen);
-        if end <= place {
-            break;
-        }
-        end_line(out, walk.current, place as u32)?;
+    while let Some(next) = line_before(lines, end, walk.index, walk.marks) {
+        end_line(out, walk.current, next.begin.first)?;
         walk = Walk {
-            index: place + 1,
-            marks: Marks {
-                seen: first + 1,
-                begun: walk.marks.begun + 1,
-                run: Run::Apart,
-            },
-            current: Some(Begin {
-                first: place as u32,
-                level: line.level,
-                kind: line.kind,
-            }),
+            index: next.begin.first as usize + 1,
+            marks: next.marks,
+            current: Some(next.begin),
         };
     }
     Ok(walk)
@@ -337,32 +366,6 @@ fn part_at(comments: &[ViewComment], count: usize, index: usize) -> (Part, &[Vie
     }
 }
 
-/// The line whose first token stands at a place, as nearly every line begins: no inner comments before it have begun
-/// it.
-#[inline(always)]
-fn starting(lines: &[Line], total: usize, end_level: u32, part: Part, marks: Marks) -> Option<Line>
-    ensures begin { IfSome result (λ line.
-        (k : ℕ) → (ps : List Part) →
-        new_begin (record { lines = lines.now; total = total; end_level = end_level }) k part ps marks
-        ≡ Some (record { first = k; level = line.level; kind = line.kind })) }
-    ensures next { IfSome result (λ line.
-        (ps : List Part) →
-        next_marks (record { lines = lines.now; total = total; end_level = end_level }) part ps marks
-        ≡ record { seen = marks.seen + 1; begun = marks.begun + 1; run = Apart }) }
-{
-    match lines.get(marks.begun) {
-        Some(line) => {
-            let first = line.first as usize == marks.seen;
-            if part == Part::Token && first && marks.run != Run::Begun {
-                Some(*line)
-            } else {
-                None
-            }
-        }
-        None => None,
-    }
-}
-
 /// What a place is to the lines: which begins there, and how they stand behind it.
 #[derive(Clone, Copy, Drop)]
 struct Step {
@@ -393,28 +396,35 @@ fn pass_place(
     ensures seen { result.marks.seen ≤ index + 1 }
     ensures begun { result.marks.begun ≤ index + 1 }
 {
-    if let Some(line) = starting(lines, total, end_level, part, marks) {
-        return Step {
-            begin: Some(Begin {
-                first: index as u32,
-                level: line.level,
-                kind: line.kind,
-            }),
-            marks: Marks {
-                seen: marks.seen + 1,
-                begun: marks.begun + 1,
-                run: Run::Apart,
-            },
-        };
-    }
+    let next = line_at(lines, marks.begun);
+    let between = is_between(next, total, marks.seen);
+    let begins = begins_line(between, comments, count, index + 1, part, marks);
     Step {
-        begin: new_begin(lines, total, end_level, comments, count, index, part, marks),
-        marks: next_marks(lines, total, end_level, comments, count, index, part, marks),
+        begin: new_begin(next, end_level, between, begins, index, part),
+        marks: next_marks(between, begins, part, marks),
     }
 }
 
+/// Where this is a line that begins, it ends the one that went on. The line that goes on then.
+#[inline(always)]
+fn begin_line(
+    lines: &mut Vec<ULine, &Bump>,
+    current: Option<Begin>,
+    begin: Option<Begin>,
+) -> Result<Option<Begin>, NoMemory>
+    ensures { IfOk result (λ now.
+        (count : ℕ) → (behind : List Begin) →
+        lines.new.items ++ lines_between count (list_of now ++ behind)
+        ≡ lines.old.items ++ lines_between count (list_of current ++ (list_of begin ++ behind))) }
+{
+    if let Some(new) = begin {
+        end_line(lines, current, new.first)?;
+        return Ok(begin);
+    }
+    Ok(current)
+}
+
 /// The lines of a view that has so many places and these comments.
-#[tactic(auto, using(crate::proofs::Passed::lines_on, crate::proofs::Passed::lines_end))]
 pub fn comment_lines<'r>(
     lines: &[Line],
     total: usize,
@@ -431,37 +441,33 @@ pub fn comment_lines<'r>(
 {
     // Each comment begins one line more at most.
     let mut out = Vec::with_capacity(run, lines.len().saturating_add(comments.len()))?;
-    let mut marks = Marks {
-        seen: 0,
-        begun: 0,
-        run: Run::Apart,
+    let mut walk = Walk {
+        index: 0,
+        marks: Marks {
+            seen: 0,
+            begun: 0,
+            run: Run::Apart,
+        },
+        current: None,
     };
-    let mut current = None;
-    let mut index = 0;
     let mut rest = comments;
-    while index < count {
-        let from = Walk {
-            index,
-            marks,
+    'places: loop {
+        let behind = pass_lines(lines, total, end_level, rest, count, walk, &mut out)?;
+        walk = pass_tokens(lines, total, end_level, rest, count, behind);
+        if count <= walk.index {
+            end_line(&mut out, walk.current, count as u32)?;
+            return Ok(out);
+        }
+        let (part, follow) = part_at(rest, count, walk.index);
+        let step = pass_place(
+            lines, total, end_level, follow, count, walk.index, part, walk.marks,
+        );
+        let current = begin_line(&mut out, walk.current, step.begin)?;
+        walk = Walk {
+            index: walk.index + 1,
+            marks: step.marks,
             current,
         };
-        let walk = pass_lines(lines, total, end_level, rest, count, from, &mut out)?;
-        let behind = pass_tokens(lines, total, end_level, rest, count, walk);
-        index = behind.index;
-        marks = behind.marks;
-        current = behind.current;
-        if index < count {
-            let (part, follow) = part_at(rest, count, index);
-            rest = follow;
-            let stepped = pass_place(lines, total, end_level, rest, count, index, part, marks);
-            if let Some(begin) = stepped.begin {
-                end_line(&mut out, current, begin.first)?;
-                current = stepped.begin;
-            }
-            marks = stepped.marks;
-            index += 1;
-        }
+        rest = follow;
     }
-    end_line(&mut out, current, count as u32)?;
-    Ok(out)
 }

@@ -94,15 +94,18 @@ fn lines_of_read<'r>(
     ensures tree { IfOk result
         (λ lines. IsCut 0 (length read.now.tokens.items) (lines_of braces.now read.now.tokens.items)) }
 {
-    let colons = colons(&read.tokens, &read.noted.cases, run)?;
-    let tree = tree_lines(braces, &read.tokens, &colons, run)?;
+    let tokens: &[CodeToken] = &read.tokens;
+    let colons = colons(tokens, &read.noted.cases, run)?;
+    let colons = into_bump_slice(colons);
+    let tree = tree_lines(braces, tokens, colons, run)?;
+    let tree = into_bump_slice(tree);
     let count = classes.len();
-    if read.tokens.len() == count {
-        return token_lines(&tree, run);
+    let total = tokens.len();
+    if total == count {
+        return token_lines(tree, run);
     }
-    let level = level_behind(braces, arena, view, classes, &read.tokens, &colons, run)?;
-    let total = read.tokens.len();
-    comment_lines(&tree, total, level, &read.noted.comments, count, run)
+    let level = level_behind(braces, arena, view, classes, tokens, colons, run)?;
+    comment_lines(tree, total, level, &read.noted.comments, count, run)
 }
 
 /// The lines, and that those of the tokens that are no comments cut these.

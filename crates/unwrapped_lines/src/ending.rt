@@ -12,7 +12,7 @@ use crate::form::{Form, Next};
 use crate::forms::form_of;
 use crate::open::{Open, Start};
 use crate::token::CodeToken;
-use crate::tree::{Place, go_behind, whole_file};
+use crate::tree::{Place, go_behind, push_open, whole_file};
 use bumpalo::Bump;
 use line_tokens::NoMemory;
 
@@ -36,20 +36,20 @@ fn skip_line(
 {
     if let Next::Opens(_, block) = formed.next {
         if block.end < opened.end {
-            stack.push(opened)?;
+            push_open(stack, opened)?;
             return Ok(Place {
                 start: Start::Closing(block),
                 at: block.end,
             });
         }
         stack.clear();
-        stack.push(block)?;
+        push_open(stack, block)?;
         return Ok(Place {
             start: Start::Fresh,
             at: formed.end + 1,
         });
     }
-    stack.push(opened)?;
+    push_open(stack, opened)?;
     go_behind(tokens, stack, opened, formed)
 }
 
@@ -80,7 +80,7 @@ pub fn end_level(
     ensures { IfOk result (λ level. level ≡ end_level braces.now tokens.now) }
 {
     let mut stack = Vec::new(run);
-    stack.push(whole_file(tokens))?;
+    push_open(&mut stack, whole_file(tokens))?;
     let mut place = Place {
         start: Start::Fresh,
         at: 0,

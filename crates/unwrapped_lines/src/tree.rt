@@ -55,7 +55,7 @@ pub(crate) fn settle(tokens: &[CodeToken], stack: &mut Vec<Open, &Bump>, at: usi
 
 /// Puts a list on the stack. Mostly there is room, and no call is made.
 #[inline(always)]
-fn push_open(stack: &mut Vec<Open, &Bump>, opened: Open) -> Result<(), NoMemory>
+pub(crate) fn push_open(stack: &mut Vec<Open, &Bump>, opened: Open) -> Result<(), NoMemory>
     ensures items { IfOk result (λ u. stack.new.items ≡ stack.old.items ++ opened ∷ []) }
 {
     if stack.len() < stack.capacity() {
@@ -63,6 +63,15 @@ fn push_open(stack: &mut Vec<Open, &Bump>, opened: Open) -> Result<(), NoMemory>
     } else {
         stack.push(opened)?;
     }
+    Ok(())
+}
+
+/// Appends a line.
+#[inline(always)]
+fn push_line(out: &mut Vec<Line, &Bump>, line: Line) -> Result<(), NoMemory>
+    ensures items { IfOk result (λ u. out.new.items ≡ out.old.items ++ line ∷ []) }
+{
+    out.push(line)?;
     Ok(())
 }
 
@@ -124,22 +133,22 @@ fn push_head(
     ensures { IfOk result (λ u. out.new.items ≡ out.old.items ++ head_lines opened start at form wrapped) }
 {
     let line = line_of(opened, start, at, form);
-    if wrapped {
-        out.push(line)?;
-        out.push(Line {
-            first: form.end as u32,
-            end: form.end as u32 + 1,
-            level: form.level,
-            kind: LineKind::Brace,
-            list_level: opened.level,
-        })?;
-    } else {
-        out.push(Line {
+    if !wrapped {
+        let whole = Line {
             end: line.end + 1,
             ..line
-        })?;
+        };
+        return push_line(out, whole);
     }
-    Ok(())
+    push_line(out, line)?;
+    let brace = Line {
+        first: form.end as u32,
+        end: form.end as u32 + 1,
+        level: form.level,
+        kind: LineKind::Brace,
+        list_level: opened.level,
+    };
+    push_line(out, brace)
 }
 
 /// The statement that a header waits for.
@@ -223,8 +232,7 @@ fn push_form(
     if let Next::Opens(wrapped, _) = form.next {
         push_head(out, opened, start, at, form, wrapped)
     } else {
-        out.push(line_of(opened, start, at, form))?;
-        Ok(())
+        push_line(out, line_of(opened, start, at, form))
     }
 }
 
@@ -303,7 +311,7 @@ pub fn tree_lines<'r>(
 {
     let mut out = Vec::with_capacity(run, tokens.len() / TOKENS_IN_A_LINE)?;
     let mut stack = Vec::new(run);
-    stack.push(whole_file(tokens))?;
+    push_open(&mut stack, whole_file(tokens))?;
     let mut place = Place {
         start: Start::Fresh,
         at: 0,
@@ -360,7 +368,7 @@ fn turn(
             let Some(start) = start_behind(opened, formed) else {
                 return take_line(braces, tokens, out, stack, opened, place, formed);
             };
-            out.push(line_of(opened, place.start, place.at, formed))?;
+            push_line(out, line_of(opened, place.start, place.at, formed))?;
             push_open(stack, opened)?;
             return Ok(Place {
                 start,
@@ -368,7 +376,7 @@ fn turn(
             });
         };
         let form = line_alone(LineKind::Simple, opened.level, end);
-        out.push(line_of(opened, place.start, place.at, form))?;
+        push_line(out, line_of(opened, place.start, place.at, form))?;
         place = Place {
             start: Start::Fresh,
             at: end,

@@ -7,9 +7,9 @@ ghost use Rattle.token_classes.specs.Classes.{is_colon, is_comment};
 ghost use Rattle.unwrapped_lines.specs.Viewed.{colon_touches, numbers_of, partner_number};
 ghost use Rattle.unwrapped_lines.specs.Viewed.{code_tokens, parts_of};
 ghost use Rattle.unwrapped_lines.specs.Inside.{partner_numbers, AreTokensBefore, AreCommentsBefore, segment_stop};
-ghost use Rattle.unwrapped_lines.specs.Inside.{comments_of, parts_with};
+ghost use Rattle.unwrapped_lines.specs.Inside.{comments_of, parts_with, AreRead};
 ghost use Rattle.token_arena.specs.Gaps.{item_began};
-ghost use Rattle.token_arena.specs.Segments.{ids_of, segment_bounds, AreSegments, no_segment};
+ghost use Rattle.token_arena.specs.Segments.{ids_of, segment_bounds, no_segment};
 ghost use Rattle.c_chars.specs.declared.TheConstants.{LIMIT};
 
 use crate::part::ViewComment;
@@ -155,13 +155,8 @@ fn push_other<'r>(
     noted: &mut Noted<'_>,
     run: &Bump,
 ) -> Result<Vec<CodeToken, &'r Bump>, NoMemory>
-    requires rule { AreSegments segments.now }
+    requires read { AreRead arena.now segments.now classes.now numbers.now }
     requires number { number < length segments.now }
-    requires within { AreWithin arena.now (ids_of (map segment_bounds segments.now)) }
-    requires places { length classes.now ≡ length (ids_of (map segment_bounds segments.now)) }
-    requires few { length classes.now ≤ LIMIT }
-    requires items { length arena.now.tokens ≤ LIMIT }
-    requires numbers { numbers.now ≡ partner_numbers classes.now }
     requires room { length classes.now ≤ vec_capacity tokens }
     requires from { (get_or segments.now number no_segment).before ≤ place }
     requires end { place < segment_stop (get_or segments.now number no_segment) }
@@ -213,13 +208,8 @@ fn push_segment<'r>(
     noted: &mut Noted<'_>,
     run: &Bump,
 ) -> Result<Vec<CodeToken, &'r Bump>, NoMemory>
-    requires rule { AreSegments segments.now }
+    requires read { AreRead arena.now segments.now classes.now numbers.now }
     requires number { number < length segments.now }
-    requires within { AreWithin arena.now (ids_of (map segment_bounds segments.now)) }
-    requires places { length classes.now ≡ length (ids_of (map segment_bounds segments.now)) }
-    requires few { length classes.now ≤ LIMIT }
-    requires items { length arena.now.tokens ≤ LIMIT }
-    requires numbers { numbers.now ≡ partner_numbers classes.now }
     requires room { length classes.now ≤ vec_capacity tokens }
     requires before { AreTokensBefore arena.now (ids_of (map segment_bounds segments.now)) classes.now partners.now
         (get_or segments.now number no_segment).before tokens.items }

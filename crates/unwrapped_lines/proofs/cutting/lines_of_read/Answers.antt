@@ -1,4 +1,4 @@
-use Rattle.std.proofs.Common.{◌≡◌, ◌∙◌, List, ap, arith, length, map, subst}
+use Rattle.std.proofs.Common.{◌≡◌, ◌∙◌, List, ap, arith, length, map, subst, sym}
 use Rattle.std.proofs.lemmas.Result.{IfOk-weaker}
 use Rattle.unwrapped_lines.specs.declared.line.Line.{Line}
 use Rattle.unwrapped_lines.specs.declared.part.ViewComment.{ViewComment}
@@ -14,33 +14,32 @@ use Rattle.unwrapped_lines.proofs.cutting.lines_of_read.Goals as goal
 
 -- ## Where there are no comments
 
-pub returns-then-len-count-clause-lines : goal.returns-then-len-count-clause-lines
-returns-then-len-count-clause-lines c =
+pub returns-then-total-count-clause-lines : goal.returns-then-total-count-clause-lines
+returns-then-total-count-clause-lines c =
     let braces = c.args.braces.now in
     let arena = c.args.arena.now in
     let view = c.args.view.now in
     let classes = c.args.classes.now in
     let tokens = c.args.read.now.tokens.items in
-    let tree = c.in_ok-tree.tree.items in
-    let by_line : tree ≡ lines_of braces tokens = c.in_ok-tree.ensures.same ∙ ap (lines_of braces) c.deref-3.ensures.value in
-    let P : List CodeToken → Type 0 = λ x. IsCut 0 (length x) tree in
-    let cut : IsCut 0 (length tokens) tree = subst P c.deref-3.ensures.value c.in_ok-tree.ensures.cut in
-    let all : length tokens ≡ length classes = omega (arith, ap length c.deref-3.ensures.value, c.if-len-count.true) in
-    let same : map view_line tree ≡ lines_with braces arena view classes tokens = plain_lines braces arena view classes tokens tree c.requires.tokens by_line cut all in
-    IfOk-weaker c.token_lines.result (λ lines. lines.items ≡ map view_line c.deref-then-len-count.result.now) (λ lines. lines.items ≡ lines_with braces arena view classes tokens)
-    (λ lines e. e ∙ ap (map view_line) c.deref-then-len-count.ensures.value ∙ same) c.token_lines.ensures
+    let lines = c.into_bump_slice-tree.result.now in
+    let by_line : lines ≡ lines_of braces tokens = c.into_bump_slice-tree.ensures ∙ (c.in_ok-tree.ensures.same ∙ ap (lines_of braces) c.deref-tokens.ensures.value) in
+    let P : List CodeToken → Type 0 = λ x. IsCut 0 (length x) c.in_ok-tree.tree.items in
+    let Q : List Line → Type 0 = λ x. IsCut 0 (length tokens) x in
+    let cut : IsCut 0 (length tokens) lines = subst Q (sym c.into_bump_slice-tree.ensures) (subst P c.deref-tokens.ensures.value c.in_ok-tree.ensures.cut) in
+    let all : length tokens ≡ length classes = omega (arith, ap length c.deref-tokens.ensures.value, c.if-total-count.true) in
+    let same : map view_line lines ≡ lines_with braces arena view classes tokens = plain_lines braces arena view classes tokens lines c.requires.tokens by_line cut all in
+    IfOk-weaker c.token_lines.result (λ r. r.items ≡ map view_line lines) (λ r. r.items ≡ lines_with braces arena view classes tokens) (λ r e. e ∙ same) c.token_lines.ensures
 
-pub returns-then-len-count-clause-tree : goal.returns-then-len-count-clause-tree
-returns-then-len-count-clause-tree c =
+pub returns-then-total-count-clause-tree : goal.returns-then-total-count-clause-tree
+returns-then-total-count-clause-tree c =
     let braces = c.args.braces.now in
     let tokens = c.args.read.now.tokens.items in
     let tree = c.in_ok-tree.tree.items in
-    let by_line : tree ≡ lines_of braces tokens = c.in_ok-tree.ensures.same ∙ ap (lines_of braces) c.deref-3.ensures.value in
+    let by_line : tree ≡ lines_of braces tokens = c.in_ok-tree.ensures.same ∙ ap (lines_of braces) c.deref-tokens.ensures.value in
     let P : List CodeToken → Type 0 = λ x. IsCut 0 (length x) tree in
     let Q : List Line → Type 0 = λ x. IsCut 0 (length tokens) x in
-    let cut : IsCut 0 (length tokens) (lines_of braces tokens) = subst Q by_line (subst P c.deref-3.ensures.value c.in_ok-tree.ensures.cut) in
-    IfOk-weaker c.token_lines.result (λ lines. lines.items ≡ map view_line c.deref-then-len-count.result.now) (λ lines. IsCut 0 (length tokens) (lines_of braces tokens))
-    (λ lines e. cut) c.token_lines.ensures
+    let cut : IsCut 0 (length tokens) (lines_of braces tokens) = subst Q by_line (subst P c.deref-tokens.ensures.value c.in_ok-tree.ensures.cut) in
+    IfOk-weaker c.token_lines.result (λ r. r.items ≡ map view_line c.into_bump_slice-tree.result.now) (λ r. IsCut 0 (length tokens) (lines_of braces tokens)) (λ r e. cut) c.token_lines.ensures
 
 -- ## With comments
 
@@ -52,16 +51,16 @@ returns-clause-lines c =
     let classes = c.args.classes.now in
     let tokens = c.args.read.now.tokens.items in
     let parts = parts_of arena view classes in
-    let lines = c.deref-7.result.now in
-    let comments = c.deref-8.result.now in
-    let count = c.len-total.result in
+    let lines = c.into_bump_slice-tree.result.now in
+    let comments = c.deref-2.result.now in
+    let count = length c.deref-tokens.result.now in
     let level = c.in_ok-level.level in
-    let by_line : lines ≡ lines_of braces tokens = c.deref-7.ensures.value ∙ (c.in_ok-tree.ensures.same ∙ ap (lines_of braces) c.deref-3.ensures.value) in
-    let by_count : count ≡ length tokens = omega (arith, ap length c.deref-5.ensures.value) in
-    let by_part : parts_with (length classes) 0 comments ≡ parts = ap (λ (x : List ViewComment). parts_with (length classes) 0 x) c.deref-8.ensures.value ∙ c.requires.parts in
+    let by_line : lines ≡ lines_of braces tokens = c.into_bump_slice-tree.ensures ∙ (c.in_ok-tree.ensures.same ∙ ap (lines_of braces) c.deref-tokens.ensures.value) in
+    let by_count : count ≡ length tokens = ap length c.deref-tokens.ensures.value in
+    let by_part : parts_with (length classes) 0 comments ≡ parts = ap (λ (x : List ViewComment). parts_with (length classes) 0 x) c.deref-2.ensures.value ∙ c.requires.parts in
     let P : List CodeToken → Type 0 = λ x. (ls : List Line) → begins_from (record { lines = ls; total = length x; end_level = level }) parts 0 no_marks
     ≡ begins_from (record { lines = ls; total = length x; end_level = end_level braces x }) parts 0 no_marks in
-    let by_level = subst P c.deref-5.ensures.value c.in_ok-level.ensures in
+    let by_level = subst P c.deref-tokens.ensures.value c.in_ok-level.ensures in
     IfOk-weaker c.comment_lines.result
     (λ r. r.items ≡ lines_between (length classes) (begins_from (record { lines = lines; total = count; end_level = level }) (parts_with (length classes) 0 comments) 0 no_marks))
     (λ r. r.items ≡ lines_with braces arena view classes tokens)
@@ -73,11 +72,11 @@ returns-clause-tree c =
     let classes = c.args.classes.now in
     let tokens = c.args.read.now.tokens.items in
     let tree = c.in_ok-tree.tree.items in
-    let by_line : tree ≡ lines_of braces tokens = c.in_ok-tree.ensures.same ∙ ap (lines_of braces) c.deref-3.ensures.value in
+    let by_line : tree ≡ lines_of braces tokens = c.in_ok-tree.ensures.same ∙ ap (lines_of braces) c.deref-tokens.ensures.value in
     let P : List CodeToken → Type 0 = λ x. IsCut 0 (length x) tree in
     let Q : List Line → Type 0 = λ x. IsCut 0 (length tokens) x in
-    let cut : IsCut 0 (length tokens) (lines_of braces tokens) = subst Q by_line (subst P c.deref-3.ensures.value c.in_ok-tree.ensures.cut) in
+    let cut : IsCut 0 (length tokens) (lines_of braces tokens) = subst Q by_line (subst P c.deref-tokens.ensures.value c.in_ok-tree.ensures.cut) in
     IfOk-weaker c.comment_lines.result
-    (λ r. r.items ≡ lines_between (length classes) (begins_from (record { lines = c.deref-7.result.now; total = c.len-total.result; end_level = c.in_ok-level.level })
-    (parts_with (length classes) 0 c.deref-8.result.now) 0 no_marks))
+    (λ r. r.items ≡ lines_between (length classes) (begins_from (record { lines = c.into_bump_slice-tree.result.now; total = length c.deref-tokens.result.now; end_level = c.in_ok-level.level })
+    (parts_with (length classes) 0 c.deref-2.result.now) 0 no_marks))
     (λ r. IsCut 0 (length tokens) (lines_of braces tokens)) (λ r e. cut) c.comment_lines.ensures

@@ -4,7 +4,7 @@ use Rattle.unwrapped_lines.proofs.EndLemmas.{end_found, leads_from_file, leads_w
 use Rattle.unwrapped_lines.proofs.ending.end_level.Goals as goal
 
 pub loop-o-init : goal.loop-o-init
-loop-o-init c = leads_from_file _ _ _ _ _ c.new-stack.ensures.items c.whole_file.ensures c.in_ok-push.ensures.items
+loop-o-init c = leads_from_file _ _ _ _ _ c.new-stack.ensures.items c.whole_file.ensures c.in_ok-push_open.ensures.items
 
 pub returns-then-place-o : goal.returns-then-place-o
 returns-then-place-o c =

@@ -2,7 +2,7 @@ use Rattle.unwrapped_lines.proofs.TurnLemmas.{at_start, less_left, stands_within
 use Rattle.unwrapped_lines.proofs.tree.tree_lines.Goals as goal
 
 pub loop-o-init : goal.loop-o-init
-loop-o-init c = at_start _ _ _ _ _ _ c.in_ok-out.ensures.items c.new-stack.ensures.items c.whole_file.ensures c.in_ok-push.ensures.items
+loop-o-init c = at_start _ _ _ _ _ _ c.in_ok-out.ensures.items c.new-stack.ensures.items c.whole_file.ensures c.in_ok-push_open.ensures.items
 
 pub turn-requires-clause-stands : goal.turn-requires-clause-stands
 turn-requires-clause-stands c = stands_within _ _ _ _ _ _ _ _ c.in-Some.ensures.items c.loop-o.invariant

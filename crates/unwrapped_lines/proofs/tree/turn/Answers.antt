@@ -24,7 +24,7 @@ loop-place-preserved c =
     record {
       stands =
           simple_turn _ _ _ _ _ _ _ _ _ _ c.line_alone-form.result c.loop-place.invariant.stands c.loop-place-test.true (c.in-Some.ensures.form c.args.braces.now) c.line_alone-form.ensures
-          c.in-Some.ensures.least c.in-Some.ensures.most c.in-Some.ensures.block c.line_of-in-loop-place.ensures c.in_ok-push-2.ensures.items;
+          c.in-Some.ensures.least c.in-Some.ensures.most c.in-Some.ensures.block c.line_of-in-loop-place.ensures c.in_ok-push_line-2.ensures.items;
       same = c.loop-place.invariant.same;
       up = omega (arith, c.loop-place.invariant.up, c.in-Some.ensures.least);
     }
@@ -67,7 +67,7 @@ line_of-requires-clause-ends c =
 pub returns-in_default-clause-stands : goal.returns-in_default-clause-stands
 returns-in_default-clause-stands c =
     stays_pushed _ _ _ _ _ _ _ _ _ _ _ _ c.form_of-formed.result c.loop-place.invariant.stands c.loop-place-test.true (sym c.form_of-formed.ensures.same) c.form_of-formed.ensures.stays
-    c.in-Some-start_behind.ensures c.line_of.ensures c.in_ok-push.ensures.items refl c.in_ok-push_open.ensures.items
+    c.in-Some-start_behind.ensures c.line_of.ensures c.in_ok-push_line.ensures.items refl c.in_ok-push_open.ensures.items
 
 pub returns-in_default-clause-up : goal.returns-in_default-clause-up
 returns-in_default-clause-up c =

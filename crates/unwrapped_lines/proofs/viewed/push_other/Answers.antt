@@ -17,36 +17,36 @@ pub bounds-classes-place : goal.bounds-classes-place
 bounds-classes-place c =
     let id = (get_or c.args.segments.now c.args.number no_segment).first + (c.args.place - (get_or c.args.segments.now c.args.number no_segment).before) in
     let at : IsAt (length c.args.arena.now.tokens) (ids_of (map segment_bounds c.args.segments.now)) c.args.place id =
-    at_place (length c.args.arena.now.tokens) c.args.segments.now c.args.number c.args.place id c.requires.rule c.requires.within c.requires.number c.requires.from c.requires.end (omega (arith, c.requires.from)) in
-    omega (arith, at.place, c.requires.places)
+    at_place (length c.args.arena.now.tokens) c.args.segments.now c.args.number c.args.place id c.requires.read.rule c.requires.read.within c.requires.number c.requires.from c.requires.end (omega (arith, c.requires.from)) in
+    omega (arith, at.place, c.requires.read.places)
 
 pub overflow_cast-id : goal.overflow_cast-id
 overflow_cast-id c =
     let id = (get_or c.args.segments.now c.args.number no_segment).first + (c.args.place - (get_or c.args.segments.now c.args.number no_segment).before) in
     let at : IsAt (length c.args.arena.now.tokens) (ids_of (map segment_bounds c.args.segments.now)) c.args.place id =
-    at_place (length c.args.arena.now.tokens) c.args.segments.now c.args.number c.args.place id c.requires.rule c.requires.within c.requires.number c.requires.from c.requires.end (omega (arith, c.requires.from)) in
-    omega (arith, at.place, c.requires.places, c.requires.few)
+    at_place (length c.args.arena.now.tokens) c.args.segments.now c.args.number c.args.place id c.requires.read.rule c.requires.read.within c.requires.number c.requires.from c.requires.end (omega (arith, c.requires.from)) in
+    omega (arith, at.place, c.requires.read.places, c.requires.read.few)
 
 pub touched-requires : goal.touched-requires
 touched-requires c =
     let id = (get_or c.args.segments.now c.args.number no_segment).first + (c.args.place - (get_or c.args.segments.now c.args.number no_segment).before) in
     let at : IsAt (length c.args.arena.now.tokens) (ids_of (map segment_bounds c.args.segments.now)) c.args.place id =
-    at_place (length c.args.arena.now.tokens) c.args.segments.now c.args.number c.args.place id c.requires.rule c.requires.within c.requires.number c.requires.from c.requires.end (omega (arith, c.requires.from)) in
+    at_place (length c.args.arena.now.tokens) c.args.segments.now c.args.number c.args.place id c.requires.read.rule c.requires.read.within c.requires.number c.requires.from c.requires.end (omega (arith, c.requires.from)) in
     at.within
 
 pub began-requires : goal.began-requires
 began-requires c =
     let id = (get_or c.args.segments.now c.args.number no_segment).first + (c.args.place - (get_or c.args.segments.now c.args.number no_segment).before) in
     let at : IsAt (length c.args.arena.now.tokens) (ids_of (map segment_bounds c.args.segments.now)) c.args.place id =
-    at_place (length c.args.arena.now.tokens) c.args.segments.now c.args.number c.args.place id c.requires.rule c.requires.within c.requires.number c.requires.from c.requires.end (omega (arith, c.requires.from)) in
+    at_place (length c.args.arena.now.tokens) c.args.segments.now c.args.number c.args.place id c.requires.read.rule c.requires.read.within c.requires.number c.requires.from c.requires.end (omega (arith, c.requires.from)) in
     at.within
 
 pub push_reserved-requires : goal.push_reserved-requires
 push_reserved-requires c =
     let id = (get_or c.args.segments.now c.args.number no_segment).first + (c.args.place - (get_or c.args.segments.now c.args.number no_segment).before) in
     let at : IsAt (length c.args.arena.now.tokens) (ids_of (map segment_bounds c.args.segments.now)) c.args.place id =
-    at_place (length c.args.arena.now.tokens) c.args.segments.now c.args.number c.args.place id c.requires.rule c.requires.within c.requires.number c.requires.from c.requires.end (omega (arith, c.requires.from)) in
-    omega (arith, c.args.tokens.ok.0, c.requires.before.few, at.place, c.requires.places, c.requires.room)
+    at_place (length c.args.arena.now.tokens) c.args.segments.now c.args.number c.args.place id c.requires.read.rule c.requires.read.within c.requires.number c.requires.from c.requires.end (omega (arith, c.requires.from)) in
+    omega (arith, c.args.tokens.ok.0, c.requires.before.few, at.place, c.requires.read.places, c.requires.room)
 
 pub returns-clause-tokens : goal.returns-clause-tokens
 returns-clause-tokens c =
@@ -58,8 +58,8 @@ returns-clause-tokens c =
     let k = c.args.place in
     let id = (get_or c.args.segments.now c.args.number no_segment).first + (c.args.place - (get_or c.args.segments.now c.args.number no_segment).before) in
     let at : IsAt (length c.args.arena.now.tokens) (ids_of (map segment_bounds c.args.segments.now)) c.args.place id =
-    at_place (length c.args.arena.now.tokens) c.args.segments.now c.args.number c.args.place id c.requires.rule c.requires.within c.requires.number c.requires.from c.requires.end (omega (arith, c.requires.from)) in
-    let here : k < length classes = omega (arith, at.place, c.requires.places) in
+    at_place (length c.args.arena.now.tokens) c.args.segments.now c.args.number c.args.place id c.requires.read.rule c.requires.read.within c.requires.number c.requires.from c.requires.end (omega (arith, c.requires.from)) in
+    let here : k < length classes = omega (arith, at.place, c.requires.read.places) in
     let class = get_or classes k If in
     let is : is_comment class ≡ false = sym c.is_comment.ensures ∙ c.if-is_comment.false in
     let make : Bool → Bool → CodeToken = λ b t. record { class = class; began = b; touched = t; partner = c.partner_at-partner.result } in
@@ -78,8 +78,8 @@ returns-then-is_comment-clause-tokens c =
     let partners = c.args.partners.now in
     let id = (get_or c.args.segments.now c.args.number no_segment).first + (c.args.place - (get_or c.args.segments.now c.args.number no_segment).before) in
     let at : IsAt (length c.args.arena.now.tokens) (ids_of (map segment_bounds c.args.segments.now)) c.args.place id =
-    at_place (length c.args.arena.now.tokens) c.args.segments.now c.args.number c.args.place id c.requires.rule c.requires.within c.requires.number c.requires.from c.requires.end (omega (arith, c.requires.from)) in
-    let here : c.args.place < length classes = omega (arith, at.place, c.requires.places) in
+    at_place (length c.args.arena.now.tokens) c.args.segments.now c.args.number c.args.place id c.requires.read.rule c.requires.read.within c.requires.number c.requires.from c.requires.end (omega (arith, c.requires.from)) in
+    let here : c.args.place < length classes = omega (arith, at.place, c.requires.read.places) in
     let is : is_comment (get_or classes c.args.place If) ≡ true = sym c.is_comment.ensures ∙ c.if-is_comment.true in
     comment_before arena ids classes partners c.args.place If c.args.tokens.items c.requires.before here is
 
@@ -87,7 +87,7 @@ pub comment_part-requires-clause-item : goal.comment_part-requires-clause-item
 comment_part-requires-clause-item c =
     let id = (get_or c.args.segments.now c.args.number no_segment).first + (c.args.place - (get_or c.args.segments.now c.args.number no_segment).before) in
     let at : IsAt (length c.args.arena.now.tokens) (ids_of (map segment_bounds c.args.segments.now)) c.args.place id =
-    at_place (length c.args.arena.now.tokens) c.args.segments.now c.args.number c.args.place id c.requires.rule c.requires.within c.requires.number c.requires.from c.requires.end (omega (arith, c.requires.from)) in
+    at_place (length c.args.arena.now.tokens) c.args.segments.now c.args.number c.args.place id c.requires.read.rule c.requires.read.within c.requires.number c.requires.from c.requires.end (omega (arith, c.requires.from)) in
     at.within
 
 pub returns-clause-comments : goal.returns-clause-comments
@@ -97,8 +97,8 @@ returns-clause-comments c =
     let classes = c.args.classes.now in
     let id = (get_or c.args.segments.now c.args.number no_segment).first + (c.args.place - (get_or c.args.segments.now c.args.number no_segment).before) in
     let at : IsAt (length c.args.arena.now.tokens) (ids_of (map segment_bounds c.args.segments.now)) c.args.place id =
-    at_place (length c.args.arena.now.tokens) c.args.segments.now c.args.number c.args.place id c.requires.rule c.requires.within c.requires.number c.requires.from c.requires.end (omega (arith, c.requires.from)) in
-    let here : c.args.place < length classes = omega (arith, at.place, c.requires.places) in
+    at_place (length c.args.arena.now.tokens) c.args.segments.now c.args.number c.args.place id c.requires.read.rule c.requires.read.within c.requires.number c.requires.from c.requires.end (omega (arith, c.requires.from)) in
+    let here : c.args.place < length classes = omega (arith, at.place, c.requires.read.places) in
     let is : is_comment (get_or classes c.args.place If) ≡ false = sym c.is_comment.ensures ∙ c.if-is_comment.false in
     token_noted arena ids classes c.args.place If c.args.noted.now.comments.items c.requires.comments here is
 
@@ -111,8 +111,8 @@ returns-then-is_comment-clause-comments c =
     let old = c.args.noted.now.comments.items in
     let id = (get_or c.args.segments.now c.args.number no_segment).first + (c.args.place - (get_or c.args.segments.now c.args.number no_segment).before) in
     let at : IsAt (length c.args.arena.now.tokens) (ids_of (map segment_bounds c.args.segments.now)) c.args.place id =
-    at_place (length c.args.arena.now.tokens) c.args.segments.now c.args.number c.args.place id c.requires.rule c.requires.within c.requires.number c.requires.from c.requires.end (omega (arith, c.requires.from)) in
-    let here : k < length classes = omega (arith, at.place, c.requires.places) in
+    at_place (length c.args.arena.now.tokens) c.args.segments.now c.args.number c.args.place id c.requires.read.rule c.requires.read.within c.requires.number c.requires.from c.requires.end (omega (arith, c.requires.from)) in
+    let here : k < length classes = omega (arith, at.place, c.requires.read.places) in
     let class = get_or classes k If in
     let is : is_comment class ≡ true = sym c.is_comment.ensures ∙ c.if-is_comment.true in
     let P : List ViewComment → Type 0 = λ comments. AreCommentsBefore arena ids classes (k + 1) comments in

@@ -15,37 +15,37 @@ use Rattle.unwrapped_lines.proofs.viewed.push_segment.Goals.{then-first-eq0+in_o
 
 pub overflow_sub-end : goal.overflow_sub-end
 overflow_sub-end c =
-    let up = in_order (length c.args.arena.now.tokens) c.args.segments.now c.args.number c.requires.rule c.requires.within c.requires.number in
+    let up = in_order (length c.args.arena.now.tokens) c.args.segments.now c.args.number c.requires.read.rule c.requires.read.within c.requires.number in
     omega (arith, up)
 
 pub overflow_add-end : goal.overflow_add-end
 overflow_add-end c =
-    let most = stop_most 0 c.args.segments.now c.args.number c.requires.rule.counts c.requires.number in
-    omega (arith, most, c.requires.places, c.requires.few)
+    let most = stop_most 0 c.args.segments.now c.args.number c.requires.read.rule.counts c.requires.number in
+    omega (arith, most, c.requires.read.places, c.requires.read.few)
 
 pub overflow_cast-id-end : goal.overflow_cast-id-end
 overflow_cast-id-end c =
-    let most = stop_most 0 c.args.segments.now c.args.number c.requires.rule.counts c.requires.number in
-    omega (arith, most, c.requires.places, c.requires.few, c.saturating_sub.ensures, c.min-near.ensures)
+    let most = stop_most 0 c.args.segments.now c.args.number c.requires.read.rule.counts c.requires.number in
+    omega (arith, most, c.requires.read.places, c.requires.read.few, c.saturating_sub.ensures, c.min-near.ensures)
 
 pub overflow_add-id-end : goal.overflow_add-id-end
 overflow_add-id-end c =
-    let fits = viewed_fits (length c.args.arena.now.tokens) (ids_of (map segment_bounds c.args.segments.now)) c.args.segments.now c.args.number c.requires.rule refl c.requires.within c.requires.number in
-    omega (arith, fits.some, fits.end, c.requires.items, c.saturating_sub.ensures, c.min-near.ensures)
+    let fits = viewed_fits (length c.args.arena.now.tokens) (ids_of (map segment_bounds c.args.segments.now)) c.args.segments.now c.args.number c.requires.read.rule refl c.requires.read.within c.requires.number in
+    omega (arith, fits.some, fits.end, c.requires.read.items, c.saturating_sub.ensures, c.min-near.ensures)
 
 pub bounds-classes-place : goal.bounds-classes-place
 bounds-classes-place c =
     let at : IsAt (length c.args.arena.now.tokens) (ids_of (map segment_bounds c.args.segments.now)) c.loop-id.place c.loop-id.id =
-    at_place (length c.args.arena.now.tokens) c.args.segments.now c.args.number c.loop-id.place c.loop-id.id c.requires.rule c.requires.within c.requires.number
+    at_place (length c.args.arena.now.tokens) c.args.segments.now c.args.number c.loop-id.place c.loop-id.id c.requires.read.rule c.requires.read.within c.requires.number
     c.loop-id.invariant.least
     (omega (arith, c.loop-id.invariant.place, c.loop-id.invariant.least, c.loop-id-test.true, c.saturating_sub.ensures, c.min-near.ensures))
     c.loop-id.invariant.place in
-    omega (arith, at.place, c.requires.places)
+    omega (arith, at.place, c.requires.read.places)
 
 pub began-requires : goal.began-requires
 began-requires c =
     let at : IsAt (length c.args.arena.now.tokens) (ids_of (map segment_bounds c.args.segments.now)) c.loop-id.place c.loop-id.id =
-    at_place (length c.args.arena.now.tokens) c.args.segments.now c.args.number c.loop-id.place c.loop-id.id c.requires.rule c.requires.within c.requires.number
+    at_place (length c.args.arena.now.tokens) c.args.segments.now c.args.number c.loop-id.place c.loop-id.id c.requires.read.rule c.requires.read.within c.requires.number
     c.loop-id.invariant.least
     (omega (arith, c.loop-id.invariant.place, c.loop-id.invariant.least, c.loop-id-test.true, c.saturating_sub.ensures, c.min-near.ensures))
     c.loop-id.invariant.place in
@@ -53,7 +53,7 @@ began-requires c =
 
 pub push_other-requires-clause-end : goal.push_other-requires-clause-end
 push_other-requires-clause-end c =
-    let up = in_order (length c.args.arena.now.tokens) c.args.segments.now c.args.number c.requires.rule c.requires.within c.requires.number in
+    let up = in_order (length c.args.arena.now.tokens) c.args.segments.now c.args.number c.requires.read.rule c.requires.read.within c.requires.number in
     omega (arith, up)
 
 pub push_other-requires-then-is_other-clause-end : goal.push_other-requires-then-is_other-clause-end
@@ -62,11 +62,11 @@ push_other-requires-then-is_other-clause-end c = omega (arith, c.loop-id.invaria
 pub push_reserved-requires : goal.push_reserved-requires
 push_reserved-requires c =
     let at : IsAt (length c.args.arena.now.tokens) (ids_of (map segment_bounds c.args.segments.now)) c.loop-id.place c.loop-id.id =
-    at_place (length c.args.arena.now.tokens) c.args.segments.now c.args.number c.loop-id.place c.loop-id.id c.requires.rule c.requires.within c.requires.number
+    at_place (length c.args.arena.now.tokens) c.args.segments.now c.args.number c.loop-id.place c.loop-id.id c.requires.read.rule c.requires.read.within c.requires.number
     c.loop-id.invariant.least
     (omega (arith, c.loop-id.invariant.place, c.loop-id.invariant.least, c.loop-id-test.true, c.saturating_sub.ensures, c.min-near.ensures))
     c.loop-id.invariant.place in
-    omega (arith, c.loop-id.tokens.ok.0, c.loop-id.invariant.tokens.few, at.place, c.requires.places, c.requires.room, c.loop-id.invariant.room)
+    omega (arith, c.loop-id.tokens.ok.0, c.loop-id.invariant.tokens.few, at.place, c.requires.read.places, c.requires.room, c.loop-id.invariant.room)
 
 pub loop-id-preserved : goal.loop-id-preserved
 loop-id-preserved c =
@@ -78,11 +78,11 @@ loop-id-preserved c =
     let k = c.loop-id.place in
     let id = c.loop-id.id in
     let at : IsAt (length c.args.arena.now.tokens) (ids_of (map segment_bounds c.args.segments.now)) c.loop-id.place c.loop-id.id =
-    at_place (length c.args.arena.now.tokens) c.args.segments.now c.args.number c.loop-id.place c.loop-id.id c.requires.rule c.requires.within c.requires.number
+    at_place (length c.args.arena.now.tokens) c.args.segments.now c.args.number c.loop-id.place c.loop-id.id c.requires.read.rule c.requires.read.within c.requires.number
     c.loop-id.invariant.least
     (omega (arith, c.loop-id.invariant.place, c.loop-id.invariant.least, c.loop-id-test.true, c.saturating_sub.ensures, c.min-near.ensures))
     c.loop-id.invariant.place in
-    let here : k < length classes = omega (arith, at.place, c.requires.places) in
+    let here : k < length classes = omega (arith, at.place, c.requires.read.places) in
     let inside : k < length partners = omega (arith, c.loop-id.invariant.place, c.loop-id.invariant.least, c.loop-id-test.true, c.saturating_sub.ensures, c.min-near.ensures) in
     let class = get_or classes k If in
     let is : is_comment class ≡ false = c.is_other.ensures.comment c.if-is_other.false in
@@ -118,7 +118,7 @@ loop-id-preserved-then-is_other c =
 
 pub loop-id-init : goal.loop-id-init
 loop-id-init c =
-    let up = in_order (length c.args.arena.now.tokens) c.args.segments.now c.args.number c.requires.rule c.requires.within c.requires.number in
+    let up = in_order (length c.args.arena.now.tokens) c.args.segments.now c.args.number c.requires.read.rule c.requires.read.within c.requires.number in
     elim c.if-first-eq0.branch [
       | then-first-eq0+in_ok-tokens w ↦ record {
         place = omega (arith, w.if-first-eq0.true, c.max-id.ensures, w.place-is);

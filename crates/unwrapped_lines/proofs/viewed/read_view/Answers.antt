@@ -1,4 +1,4 @@
-use Rattle.std.proofs.Common.{◌∙◌, ◌≡◌, ◌≤◌, ℕ, false, length, map, arith, ap, refl, subst, sym}
+use Rattle.std.proofs.Common.{◌∙◌, ◌≡◌, ◌≤◌, ℕ, false, length, map, arith, ap, refl, rules, subst, sym}
 use Rattle.token_arena.specs.Segments.{ids_of, segment_bounds}
 use Rattle.unwrapped_lines.specs.Viewed.{code_tokens}
 use Rattle.unwrapped_lines.specs.Inside.{parts_with, AreTokensBefore, AreCommentsBefore, comments_of}
@@ -15,6 +15,17 @@ loop-number-init c =
       tokens = first_before c.args.arena.now ids c.args.classes.now c.args.partners.now segments c.in_ok-tokens.tokens.items c.in_ok-tokens.ensures.items;
       comments = subst P (sym (none_before 0 segments)) (rw c.in_ok-comments.ensures.items refl);
       room = c.in_ok-tokens.ensures.capacity;
+    }
+
+pub push_segment-requires-clause-read : goal.push_segment-requires-clause-read
+push_segment-requires-clause-read c =
+    record {
+      rule = c.segments-segments.ensures.rule;
+      within = search rules;
+      places = search rules;
+      few = c.requires.few;
+      items = c.requires.items;
+      same = search rules;
     }
 
 pub push_segment-requires-clause-before : goal.push_segment-requires-clause-before

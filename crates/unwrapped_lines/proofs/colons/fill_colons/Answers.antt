@@ -1,10 +1,10 @@
 use Rattle.std.proofs.Common.{◌-◌, ℕ, length, arith}
 use Rattle.unwrapped_lines.specs.Forms.{case_colon}
 use Rattle.unwrapped_lines.proofs.ColonLemmas.{Found, found}
-use Rattle.unwrapped_lines.proofs.colons.all_colons.Goals as goal
+use Rattle.unwrapped_lines.proofs.colons.fill_colons.Goals as goal
 
-pub overflow_cast-colon : goal.overflow_cast-colon
-overflow_cast-colon c =
+pub overflow_cast-colons : goal.overflow_cast-colons
+overflow_cast-colons c =
     let tokens = c.args.tokens.now in
     let place : ℕ = c.loop-place.place - 1 in
     let within : Found place (length tokens) (case_colon (length tokens - place) tokens (length tokens) place 0) =

@@ -1,10 +1,10 @@
 use Rattle.std.proofs.Common.{◌≤◌, length}
 use Rattle.unwrapped_lines.specs.Colons.{AreColonsFrom}
-use Rattle.unwrapped_lines.proofs.colons.all_colons.Given as goal
+use Rattle.unwrapped_lines.proofs.colons.fill_colons.Given as goal
 
 abbrev pub invariant-loop-place : goal.invariant-loop-place
 invariant-loop-place l = record {
-  colons : AreColonsFrom l.place l.colons.items l.tokens;
+  colons : AreColonsFrom l.place l.colons l.tokens;
   most : l.place ≤ length l.tokens;
 }
 
