@@ -1,7 +1,7 @@
 -- How tokens that are no comments are numbered.
-use Rattle.std.proofs.Common.{◌≡◌, ◌∙◌, ℕ, zero, suc, ◌+◌, ◌<◌, ◌≤◌, true, false, nat_lt, min, List, [], ◌∷◌, ◌++◌, length, map, get_or, Option, Some, refl, arith, sym, ap, length-append}
+use Rattle.std.proofs.Common.{◌≡◌, ◌∙◌, ℕ, zero, suc, ◌+◌, ◌<◌, ◌≤◌, true, false, nat_lt, min, List, [], ◌∷◌, ◌++◌, length, map, drop, get_or, Option, Some, refl, arith, sym, ap, length-append}
 use Rattle.std.specs.Prelude.{if◌then◌else◌, slice_get, None, unwrap_or}
-use Rattle.std.proofs.lemmas.List.{length-map}
+use Rattle.std.proofs.lemmas.List.{append_assoc, drop_more, length-map}
 use Rattle.std.proofs.lemmas.Option.{slice_get_past}
 use Rattle.token_classes.specs.declared.class.TokenClass.{TokenClass}
 use Rattle.token_classes.specs.Classes.{is_comment}
@@ -23,6 +23,17 @@ numbers_low n (c ∷ cs) (suc k) d h =
 
 pub number_past : (cs : List TokenClass) (k : ℕ) → length cs ≤ k → None ≡ slice_get (numbers_of cs) k
 number_past cs k h = sym (slice_get_past (numbers_of cs) k (let e = numbers_count 0 cs in omega arith))
+
+-- the number of one place more
+pub number_pushed : (classes : List TokenClass) (i n m : ℕ) (old new all : List (Option ℕ)) (d : TokenClass) → i < length classes → old ++ map (λ n. Some n) (numbers_from n (drop i classes)) ≡ all → new ≡ old ++ Some n ∷ []
+    → m ≡ (if is_comment (get_or classes i d) then n else n + 1) → new ++ map (λ n. Some n) (numbers_from m (drop (i + 1) classes)) ≡ all
+number_pushed classes i n m old new all d lt h e f =
+    let rest = drop (i + 1) classes in
+    let next : ℕ = if is_comment (get_or classes i d) then n else n + 1 in
+    ap (λ (x : ℕ). new ++ map (λ n. Some n) (numbers_from x rest)) f
+    ∙ (ap (λ (x : List (Option ℕ)). x ++ map (λ n. Some n) (numbers_from next rest)) e
+    ∙ (append_assoc old (Some n ∷ []) (map (λ n. Some n) (numbers_from next rest))
+    ∙ (ap (λ (cs : List TokenClass). old ++ map (λ n. Some n) (numbers_from n cs)) (sym (drop_more classes i d lt)) ∙ h)))
 
 -- ## The numbers of partners
 

@@ -1,7 +1,7 @@
 //! A view as a list of tokens and comments.
 
 ghost use Rattle.std.specs.Prelude.{◌≡◌, ◌&&◌, ◌<◌, ◌≤◌, ◌+◌, length, map, get_or};
-ghost use Rattle.std.specs.Prelude.{slice_get, vec_capacity, IfOk, Some, true, false};
+ghost use Rattle.std.specs.Prelude.{slice_get, vec_capacity, IfOk, Some, true, false, if◌then◌else◌};
 ghost use Rattle.token_classes.specs.Viewed.{AreWithin};
 ghost use Rattle.token_classes.specs.Classes.{is_colon, is_comment};
 ghost use Rattle.unwrapped_lines.specs.Viewed.{colon_touches, numbers_of, partner_number};
@@ -63,6 +63,20 @@ fn touched(
     Ok(behind.is_colon())
 }
 
+/// How many tokens that are no comments stand before the next place.
+#[inline(always)]
+fn next_number(class: TokenClass, number: u32) -> u32
+    requires { number ≤ LIMIT }
+    ensures same { result ≡ (if is_comment class then number else number + 1) }
+    ensures most { result ≤ number + 1 }
+{
+    if class.is_comment() {
+        number
+    } else {
+        number + 1
+    }
+}
+
 /// How many tokens that are no comments stand before each place; and behind all of these, no number.
 #[inline(never)]
 fn numbers<'r>(classes: &[TokenClass], run: &'r Bump) -> Result<Vec<Partner, &'r Bump>, NoMemory>
@@ -73,9 +87,7 @@ fn numbers<'r>(classes: &[TokenClass], run: &'r Bump) -> Result<Vec<Partner, &'r
     let mut number: u32 = 0;
     for class in classes {
         numbers.push_reserved(Partner::at(number));
-        if !class.is_comment() {
-            number += 1;
-        }
+        number = next_number(*class, number);
     }
     numbers.push_reserved(Partner::none());
     Ok(numbers)
