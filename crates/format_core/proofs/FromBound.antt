@@ -14,7 +14,7 @@ use Rattle.view_parts.proofs.InBodies.{stands_before}
 use Rattle.replacements.specs.declared.slot.Slot.{Slot}
 use Rattle.replacements.specs.Decisions.{slot_of}
 use Rattle.run_layout.specs.declared.report.Tally.{Tally}
-use Rattle.run_layout.proofs.MadeFor.{is_some-decided, decided-is_some}
+use Rattle.line_gaps.proofs.MadeFor.{is_some-decided, decided-is_some}
 use Rattle.format_core.specs.Bounds.{BeginTold}
 use Rattle.format_core.specs.PartByPart.{GoesOnFrom}
 use Rattle.format_core.specs.RunsTold.{AreSeenTold}

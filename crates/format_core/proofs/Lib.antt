@@ -22,9 +22,3 @@ pub mod BoundsNoted
 pub mod Stretches
 pub mod FromBound
 pub mod WindowParts
-pub mod Places
-pub mod InputColumns
-pub mod Staying
-pub mod SoundStart
-pub mod Tells
-pub mod LeftOpen

@@ -8,11 +8,11 @@ use Rattle.style_table.specs.declared.style.Style.{Style}
 use Rattle.token_arena.specs.Gaps.{Contents}
 use Rattle.replacements.specs.declared.slot.Slot.{Slot}
 use Rattle.replacements.specs.Decisions.{decided_all}
-use Rattle.run_layout.specs.Rows.{column_behind}
+use Rattle.line_gaps.specs.Rows.{column_behind}
 use Rattle.token_classes.specs.Items.{item_at}
 use Rattle.off_regions.specs.declared.range.LineRange.{LineRange}
 use Rattle.run_layout.specs.Outcomes.{LaidLine}
-use Rattle.format_core.specs.BeforeRuns.{early_decisions, early_plan}
+use Rattle.early_gaps.specs.BeforeRuns.{early_decisions, early_plan}
 use Rattle.format_core.specs.Plans.{AfterRuns, IsPlanOf}
 use Rattle.format_core.specs.Runs.{runs_of}
 use Rattle.format_core.specs.KeptGaps.{input_column, kept_slot, kept_decisions}

@@ -8,7 +8,7 @@ use Rattle.token_arena.specs.Ids.{Increase}
 use Rattle.token_arena.specs.Segments.{AreSegments, ids_of, segment_bounds}
 use Rattle.replacements.specs.declared.slot.Slot.{Slot}
 use Rattle.replacements.specs.Decisions.{slot_of}
-use Rattle.run_layout.specs.OpenGaps.{IsRowDecided, IsRowOpen}
+use Rattle.line_gaps.specs.OpenGaps.{IsRowDecided, IsRowOpen}
 use Rattle.view_parts.proofs.Rows.{row_from}
 use Rattle.format_core.specs.Runs.{AreDecided}
 use Rattle.format_core.proofs.Parts.{part_item, part_length}

@@ -9,9 +9,9 @@ use Rattle.token_arena.specs.Ids.{Increase}
 use Rattle.token_classes.specs.Viewed.{AreWithin}
 use Rattle.replacements.specs.declared.slot.Slot.{Slot}
 use Rattle.replacements.specs.Decisions.{slot_of}
-use Rattle.run_layout.specs.OpenGaps.{IsRowDecided}
+use Rattle.line_gaps.specs.OpenGaps.{IsRowDecided}
 use Rattle.run_layout.specs.declared.report.Tally.{Tally}
-use Rattle.run_layout.proofs.MadeFor.{is_some-decided, decided-is_some}
+use Rattle.line_gaps.proofs.MadeFor.{is_some-decided, decided-is_some}
 use Rattle.view_parts.specs.declared.known.KnownEnd.{KnownEnd}
 use Rattle.view_parts.specs.Places.{Place}
 use Rattle.view_parts.specs.Parts.{StandsBefore, items_before, laid_items, part_inside}

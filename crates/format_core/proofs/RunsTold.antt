@@ -23,7 +23,7 @@ use Rattle.run_layout.specs.declared.report.Report.{Report}
 use Rattle.run_layout.specs.declared.report.Tally.{Tally}
 use Rattle.run_layout.proofs.Views.{lines_cut}
 use Rattle.run_layout.proofs.WaitingComments.{nothing_waits}
-use Rattle.run_layout.proofs.Walked.{cut_within}
+use Rattle.line_gaps.proofs.Walked.{cut_within}
 use Rattle.format_core.specs.Plans.{AfterParts, AfterSeen, AfterRuns}
 use Rattle.format_core.specs.Runs.{AreDecided, seen_by, after_kept}
 use Rattle.annotator.specs.Tokens.{toks_of_lines}

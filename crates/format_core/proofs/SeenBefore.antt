@@ -11,7 +11,7 @@ use Rattle.view_parts.specs.Parts.{part_ends}
 use Rattle.replacements.specs.declared.slot.Slot.{Slot}
 use Rattle.replacements.specs.Decisions.{slot_of}
 use Rattle.run_layout.specs.declared.report.Tally.{Tally}
-use Rattle.run_layout.proofs.MadeFor.{is_some-decided, decided-is_some}
+use Rattle.line_gaps.proofs.MadeFor.{is_some-decided, decided-is_some}
 use Rattle.format_core.specs.Bounds.{AreBounds, IsBound}
 use Rattle.format_core.specs.Runs.{AreDecided, seen_by}
 use Rattle.format_core.specs.declared.bounds.KnownBound.{KnownBound}

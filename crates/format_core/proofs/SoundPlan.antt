@@ -28,19 +28,19 @@ use Rattle.replacements.proofs.SoundTwin.{sound_twin}
 use Rattle.run_layout.specs.Laws.{AreOfTexts}
 use Rattle.run_layout.specs.Outcomes.{LaidLine}
 use Rattle.run_layout.proofs.Views.{views_stay_sound, views_keep, views_decide, view_length}
-use Rattle.run_layout.proofs.MadeFor.{IsDecided, is_some-decided, decided-is_some}
-use Rattle.run_layout.specs.Rows.{column_behind}
-use Rattle.run_layout.proofs.Stands.{MadeStand, all_sound, old_stands}
+use Rattle.line_gaps.proofs.MadeFor.{IsDecided, is_some-decided, decided-is_some}
+use Rattle.line_gaps.specs.Rows.{column_behind}
+use Rattle.line_gaps.proofs.Stands.{MadeStand, all_sound, old_stands}
 use Rattle.run_layout.proofs.Telling.{stand_for_items}
 use Rattle.run_layout.specs.Tells.{StandForItems}
 use Rattle.off_regions.specs.declared.range.LineRange.{LineRange}
-use Rattle.format_core.specs.BeforeRuns.{early_plan}
-use Rattle.format_core.specs.EarlyLaws.{IsLeft}
-use Rattle.format_core.proofs.LeftOpen.{early_or_left_open}
-use Rattle.format_core.proofs.SoundStart.{early_sound}
-use Rattle.format_core.specs.Columns.{column_at}
-use Rattle.run_layout.specs.InputColumns.{kept_slot}
-use Rattle.format_core.proofs.Tells.{early_keeps, length-early}
+use Rattle.early_gaps.specs.BeforeRuns.{early_plan}
+use Rattle.early_gaps.specs.EarlyLaws.{IsLeft}
+use Rattle.early_gaps.proofs.LeftOpen.{early_or_left_open}
+use Rattle.early_gaps.proofs.SoundStart.{early_sound}
+use Rattle.early_gaps.specs.Columns.{column_at}
+use Rattle.line_gaps.specs.InputColumns.{kept_slot}
+use Rattle.early_gaps.proofs.Tells.{early_keeps, length-early}
 use Rattle.format_core.specs.KeptGaps.{input_column, kept_decisions}
 use Rattle.format_core.specs.Laws.{PlannedTextsAreTwins, EarlyDecisionsStay, KeptGapsStay, EveryGapIsDecided}
 use Rattle.format_core.specs.Plans.{AfterItems, AfterParts, AfterSeen, AfterRuns, IsPlanOf}

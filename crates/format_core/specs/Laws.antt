@@ -8,11 +8,11 @@ use Rattle.token_arena.specs.Sections.{sections_of}
 use Rattle.off_regions.specs.declared.range.LineRange.{LineRange}
 use Rattle.replacements.specs.Decisions.{slot_of}
 use Rattle.replacements.specs.Written.{written}
-use Rattle.format_core.specs.BeforeRuns.{early_plan}
-use Rattle.format_core.specs.Columns.{column_at}
-use Rattle.format_core.specs.Kept.{is_kept}
+use Rattle.early_gaps.specs.BeforeRuns.{early_plan}
+use Rattle.early_gaps.specs.Columns.{column_at}
+use Rattle.early_gaps.specs.Kept.{is_kept}
 use Rattle.off_regions.specs.Frozen.{frozen_gaps}
-use Rattle.run_layout.specs.InputColumns.{kept_slot}
+use Rattle.line_gaps.specs.InputColumns.{kept_slot}
 use Rattle.replacements.specs.declared.slot.Slot.{Slot}
 use Rattle.run_layout.specs.Outcomes.{LaidLine}
 use Rattle.format_core.specs.Plans.{IsPlanOf}

@@ -13,10 +13,3 @@ pub mod Formats
 pub mod TextOf
 pub mod Exact
 pub mod Laws
-pub mod Dead
-pub mod Joined
-pub mod Columns
-pub mod Kept
-pub mod Made
-pub mod BeforeRuns
-pub mod EarlyLaws

@@ -7,7 +7,7 @@ use Rattle.off_regions.specs.declared.range.LineRange.{LineRange}
 use Rattle.replacements.specs.declared.slot.Slot.{Slot}
 use Rattle.run_layout.specs.Outcomes.{LaidLine}
 use Rattle.run_layout.specs.View.{AfterView}
-use Rattle.format_core.specs.BeforeRuns.{early_plan}
+use Rattle.early_gaps.specs.BeforeRuns.{early_plan}
 use Rattle.view_parts.specs.Places.{Place}
 use Rattle.view_parts.specs.Parts.{PartStop, laid_items, part_ends}
 use Rattle.format_core.specs.Runs.{runs_of, seen_by, after_kept}

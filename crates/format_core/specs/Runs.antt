@@ -9,7 +9,7 @@ use Rattle.token_classes.specs.Kept.{kept_gaps_of}
 use Rattle.token_classes.specs.Viewed.{classes_of}
 use Rattle.replacements.specs.Decisions.{slot_of, decided_all}
 use Rattle.replacements.specs.declared.slot.Slot.{Slot}
-use Rattle.run_layout.specs.OpenGaps.{IsRowDecided}
+use Rattle.line_gaps.specs.OpenGaps.{IsRowDecided}
 use Rattle.view_parts.specs.declared.known.KnownEnd.{KnownEnd}
 use Rattle.view_parts.specs.declared.known.KnownEnd.TheVariants.{Unknown}
 use Rattle.view_parts.specs.declared.known.KnownRow.{KnownRow}

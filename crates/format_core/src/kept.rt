@@ -6,9 +6,9 @@ ghost use Rattle.token_classes.specs.Viewed.{AreWithin};
 ghost use Rattle.replacements.specs.Decisions.{decided_all};
 ghost use Rattle.format_core.specs.KeptGaps.{kept_decisions, kept_slot};
 
+use line_gaps::{column_behind, column_through};
 use line_tokens::TokenId;
 use replacements::{Decision, Plan};
-use run_layout::{column_behind, column_through};
 use style_table::Style;
 use token_arena::{TokenArena, View};
 

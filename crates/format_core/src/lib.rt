@@ -7,8 +7,6 @@
 #![tactic(auto)]
 
 mod bounds;
-mod context;
-mod early_gaps;
 mod fault;
 mod formatted;
 mod kept;
@@ -19,8 +17,6 @@ mod line_ends;
 mod part_rows;
 mod runs;
 
-pub use context::Context;
-pub use early_gaps::{decide_early, early_or_left, early_plans_are_sound, early_plans_keep};
 pub use fault::FormatFault;
 pub use formatted::{Formatted, Job, format};
 pub use laid_text::LaidText;

@@ -6,9 +6,9 @@ ghost use Rattle.std.specs.List.{range_with_len};
 ghost use Rattle.token_classes.specs.Viewed.{AreWithin};
 ghost use Rattle.format_core.specs.Runs.{AreDecided};
 
+use line_gaps::is_row_decided;
 use line_tokens::TokenId;
 use replacements::Plan;
-use run_layout::is_row_decided;
 use token_arena::{Segment, TokenArena, View};
 use view_parts::row_behind;
 

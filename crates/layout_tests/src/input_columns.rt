@@ -4,7 +4,7 @@ ghost use Rattle.std.specs.Prelude.{◌≤◌, length};
 
 use crate::comparing::same;
 use bumpalo::Bump;
-use run_layout::{column_behind, column_through};
+use line_gaps::{column_behind, column_through};
 use token_arena::{Dialect, TokenArena, build};
 
 /// A text, the width of a tab, a place, and the column of what stands behind the gap there.

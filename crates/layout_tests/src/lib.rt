@@ -21,7 +21,7 @@
 //! - `directive_rows`: directives that are laid out (`directive_layout`)
 //! - `trailing_comments`: trailing comments in one column (`comment_rows`)
 //! - `asked_lines`: which gaps stay, since formatting is off or nobody asked for their lines (`off_regions`)
-//! - `input_columns`: the columns of kept gaps (`run_layout`)
+//! - `input_columns`: the columns of kept gaps (`line_gaps`)
 //! - `laid_runs`: lines that are laid out, whole texts (`run_layout`)
 //! - `kept_texts`: whole texts of which some gaps stay (`format_core`)
 #![tactic(auto)]

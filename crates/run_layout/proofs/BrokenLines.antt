@@ -1,5 +1,7 @@
 -- Each decision for a line that is broken may stand.
-use Rattle.std.proofs.Common.{◌≡◌, ◌∙◌, ◌==◌, ◌⊎◌, inl, inr, ◌||◌, ◌&&◌, not, ℕ, zero, suc, ◌+◌, ◌-◌, ◌<◌, Bool, true, false, Option, Some, None, List, [], ◌∷◌, length, get_or, drop, refl, sym, ap, arith, subst}
+use Rattle.std.proofs.Common.{◌≡◌, ◌∙◌, ◌==◌, ◌⊎◌, inl, inr, ◌||◌, ◌&&◌, not, ℕ, zero, suc, ◌+◌, ◌-◌, ◌<◌, Bool, true}
+use Rattle.std.proofs.Common.{false, Option, Some, None, List, [], ◌∷◌, length, get_or, drop, refl, sym, ap, arith}
+use Rattle.std.proofs.Common.{subst}
 use Rattle.std.specs.Prelude.{if◌then◌else◌, slice_get, IsTrue, IsFalse}
 use Rattle.std.proofs.lemmas.Bool.{or_parts}
 use Rattle.std.proofs.lemmas.Bool.Decides.{nat_tests}
@@ -17,7 +19,8 @@ use Rattle.layout_tables.specs.Spaces.{spaces_by_table, spaces_before}
 use Rattle.layout_tables.specs.Breaks.{ends_its_row, gap_rule}
 use Rattle.layout_tables.proofs.Needs.{needs_none}
 use Rattle.line_state.specs.declared.gap.Gap.{Gap}
-use Rattle.line_state.specs.Layout.{Layout, is_allowed, is_decided, is_some_decision, as_decided, keeps_frame_rules, layout_after, start_of}
+use Rattle.line_state.specs.Layout.{Layout, is_allowed, is_decided, is_some_decision, as_decided, keeps_frame_rules}
+use Rattle.line_state.specs.Layout.{layout_after, start_of}
 use Rattle.line_state.specs.Line.{Line, Step}
 use Rattle.line_state.proofs.Steps.{IsGap, is_gap, placing}
 use Rattle.token_arena.specs.Stored.{Stored}
@@ -32,9 +35,10 @@ use Rattle.replacements.specs.Sound.{MayJoin, MayStandBetween, MayStand}
 use Rattle.token_classes.specs.Items.{no_item, item_at}
 use Rattle.line_tokens.specs.Tokens.{no_token}
 use Rattle.run_layout.specs.Tells.{MayTouch, StandsForItem, StandForItems}
-use Rattle.run_layout.specs.Broken.{of_line, broken_line, empty_inside, waits, inside_decision, inside_slot, made_if_open, made_at, inside_made}
+use Rattle.run_layout.specs.Broken.{of_line, broken_line, empty_inside, waits, inside_decision, inside_slot}
+use Rattle.run_layout.specs.Broken.{made_if_open, made_at, inside_made}
 use Rattle.run_layout.specs.Laws.{AreOfTexts}
-use Rattle.run_layout.proofs.Stands.{stance, lines_stand, MadeStand}
+use Rattle.line_gaps.proofs.Stands.{stance, lines_stand, MadeStand}
 
 -- ## What a gap is known to be
 

@@ -1,5 +1,7 @@
 -- What holds behind the lines of a run, whichever of them are reported.
-use Rattle.std.proofs.Common.{◌≡◌, ◌∙◌, ◌⊎◌, inl, inr, ◌||◌, ◌&&◌, not, ℕ, zero, suc, ◌+◌, ◌-◌, ◌<◌, ◌≤◌, Bool, true, false, Option, Some, None, List, [], ◌∷◌, length, map, get_or, refl, sym, ap, arith, subst}
+use Rattle.std.proofs.Common.{◌≡◌, ◌∙◌, ◌⊎◌, inl, inr, ◌||◌, ◌&&◌, not, ℕ, zero, suc, ◌+◌, ◌-◌, ◌<◌, ◌≤◌, Bool, true}
+use Rattle.std.proofs.Common.{false, Option, Some, None, List, [], ◌∷◌, length, map, get_or, refl, sym, ap, arith}
+use Rattle.std.proofs.Common.{subst}
 use Rattle.std.specs.Prelude.{slice_get, if◌then◌else◌}
 use Rattle.std.proofs.lemmas.Bool.{or_parts}
 use Rattle.std.proofs.lemmas.Option.{slice_get-get_or}
@@ -24,16 +26,20 @@ use Rattle.replacements.specs.Decisions.{slot_of, decided_all}
 use Rattle.replacements.specs.Sound.{IsSound}
 use Rattle.replacements.proofs.Firsts.{stay}
 use Rattle.run_layout.specs.Tells.{StandForItems}
-use Rattle.run_layout.specs.Rows as rows
+use Rattle.line_gaps.specs.Rows as rows
 use Rattle.line_tokens.specs.Tokens.{no_token}
-use Rattle.run_layout.specs.InputColumns.{input_before, input_behind, old_from}
-use Rattle.run_layout.specs.Broken.{of_line, broken_line, first_made, broken_made, waits, inside_slot, made_if_open, made_at, inside_made}
-use Rattle.run_layout.specs.Outcomes.{LineOutcome, Kept, Only, Least, Over, LaidLine, ComesOf, reported_made, outcome_made, AfterLines}
+use Rattle.line_gaps.specs.InputColumns.{input_before, input_behind, old_from, reported_made}
+use Rattle.run_layout.specs.Broken.{of_line, broken_line, broken_made, waits, inside_slot, made_if_open, made_at}
+use Rattle.run_layout.specs.Broken.{inside_made}
+use Rattle.line_gaps.specs.Rows.{first_made}
+use Rattle.run_layout.specs.Outcomes.{LineOutcome, Kept, Only, Least, Over, LaidLine, ComesOf, outcome_made, AfterLines}
 use Rattle.run_layout.specs.Laws.{AreOfTexts, IsWaiting, LinesStaySound, LinesKeep, LinesDecide}
-use Rattle.run_layout.proofs.Walked.{cut_within}
-use Rattle.run_layout.proofs.Stands.{MadeStand, all_sound, old_stands, first_stands}
-use Rattle.run_layout.proofs.BrokenLines.{choices_stand, open_stays, gap_tokens, gaps_tell, get_or_of_line, length_of_line}
-use Rattle.run_layout.proofs.MadeFor.{IsMadeFor, IsDecided, open_or_decided, is_some-decided, decided-is_some, stays_decided, length-decided_all, made_decided}
+use Rattle.line_gaps.proofs.Walked.{cut_within}
+use Rattle.line_gaps.proofs.Stands.{MadeStand, all_sound, old_stands, first_stands}
+use Rattle.run_layout.proofs.BrokenLines.{choices_stand, open_stays, gap_tokens, gaps_tell, get_or_of_line}
+use Rattle.run_layout.proofs.BrokenLines.{length_of_line}
+use Rattle.line_gaps.proofs.MadeFor.{IsMadeFor, IsDecided, open_or_decided, is_some-decided, decided-is_some}
+use Rattle.line_gaps.proofs.MadeFor.{stays_decided, length-decided_all, made_decided}
 
 -- ## Each decision may stand
 

@@ -1,11 +1,4 @@
-pub mod Items
-pub mod OpenGaps
-pub mod Counting
-pub mod Walked
-pub mod Stands
 pub mod Telling
-pub mod Stretched
-pub mod MadeFor
 pub mod BrokenLines
 pub mod LaidLines
 pub mod OneBreaking
@@ -15,12 +8,8 @@ pub mod RowBounds
 pub mod LineFacts
 pub mod Writing
 pub mod RowLines
-pub mod Reporting
 pub mod LineOutcomes
 pub mod RunSteps
 pub mod ShortRows
 pub mod WaitingComments
 pub mod Views
-pub mod Inside
-pub mod FixedGaps
-pub mod FirstRows

@@ -1,5 +1,6 @@
 -- A line as it is broken, as the code reads it.
-use Rattle.std.proofs.Common.{◌≡◌, ◌∙◌, ℕ, zero, suc, ◌+◌, ◌-◌, ◌<◌, Option, Some, None, List, [], ◌∷◌, length, map, get_or, take, drop, refl, sym, ap, arith, slice_get}
+use Rattle.std.proofs.Common.{◌≡◌, ◌∙◌, ℕ, zero, suc, ◌+◌, ◌-◌, ◌<◌, Option, Some, None, List, [], ◌∷◌, length, map}
+use Rattle.std.proofs.Common.{get_or, take, drop, refl, sym, ap, arith, slice_get}
 use Rattle.std.proofs.lemmas.List.{take-map, drop-map}
 use Rattle.line_state.specs.Choices.{IsLeast}
 use Rattle.line_state.proofs.Thrift.{thrifty_least}
@@ -18,7 +19,8 @@ use Rattle.replacements.specs.Breaks.{fixed_by}
 use Rattle.replacements.specs.Decisions.{slot_of}
 use Rattle.line_tokens.specs.Tokens.{no_token}
 use Rattle.run_layout.specs.Tells.{StandForItems}
-use Rattle.run_layout.specs.Broken.{number, fixed_of_token, of_line, broken_line, inside_made}
+use Rattle.run_layout.specs.Broken.{number, of_line, broken_line, inside_made}
+use Rattle.line_gaps.specs.Fixed.{fixed_of_token}
 use Rattle.run_layout.specs.OneRow.{AreOpenInside, IsRow, IsRowLine, row_made, stays}
 use Rattle.run_layout.proofs.OneRow.{AreNumbers, row_is_made}
 use Rattle.run_layout.proofs.RowSteps.{row_begins}

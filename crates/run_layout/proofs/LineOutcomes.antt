@@ -1,11 +1,12 @@
 -- What a line that is searched comes to, as the code makes it.
-use Rattle.std.proofs.Common.{◌≡◌, ◌∙◌, ℕ, ◌<◌, ◌≤◌, Bool, Option, List, ◌∷◌, length, map, get_or, refl, sym, ap, arith, subst}
+use Rattle.std.proofs.Common.{◌≡◌, ◌∙◌, ℕ, ◌<◌, ◌≤◌, Bool, Option, List, ◌∷◌, length, map, get_or, refl, sym, ap, arith}
+use Rattle.std.proofs.Common.{subst}
 use Rattle.std.specs.Prelude.{All, Result, OnOk, Ok, Err}
 use Rattle.std.proofs.lemmas.List.{length-map}
 use Rattle.style_table.specs.declared.style.Style.{Style}
 use Rattle.line_tokens.specs.declared.LineTok.{LineTok}
 use Rattle.line_tokens.specs.declared.Fixed.{Fixed}
-use Rattle.line_state.specs.Line.{Line, first_layout}
+use Rattle.line_state.specs.Line.{Line, first_layout, gaps}
 use Rattle.break_search.specs.Outcome.{line_of, IsFound, IsOver}
 use Rattle.break_search.specs.Starts.{IsAdmissible}
 use Rattle.token_arena.specs.Gaps.{Contents}
@@ -16,14 +17,16 @@ use Rattle.replacements.specs.Decisions.{decided, decided_all}
 use Rattle.run_layout.specs.Ready.{IsReady, IsOpenLine}
 use Rattle.run_layout.specs.Tells.{StandForItems}
 use Rattle.run_layout.specs.declared.broken.OpenLine.{OpenLine}
-use Rattle.run_layout.specs.declared.view_layout.ViewLayout.{ViewLayout}
-use Rattle.run_layout.specs.Broken.{number, fixed_of_token, of_line, broken_line, broken_made, first_slot, first_made, inside_made}
-use Rattle.run_layout.specs.Outcomes.{Only, Least, Over, Kept, IsOpen, reported_made}
-use Rattle.run_layout.specs.OpenGaps.{AreDecided}
+use Rattle.line_gaps.specs.declared.view_layout.ViewLayout.{ViewLayout}
+use Rattle.run_layout.specs.Broken.{number, of_line, broken_line, broken_made, inside_made}
+use Rattle.line_gaps.specs.Fixed.{fixed_of_token}
+use Rattle.line_gaps.specs.Rows.{first_slot, first_made}
+use Rattle.run_layout.specs.Outcomes.{Only, Least, Over, Kept}
+use Rattle.line_gaps.specs.OpenGaps.{IsOpen, AreDecided}
+use Rattle.line_gaps.specs.InputColumns.{reported_made}
 use Rattle.run_layout.specs.Told.{IsLaid}
 use Rattle.run_layout.specs.OneRow.{IsRow, stays}
 use Rattle.run_layout.specs.declared.laid.Laid.TheVariants as laid
-use Rattle.line_state.specs.Line.{gaps}
 use Rattle.run_layout.proofs.OneRow.{row_found}
 use Rattle.run_layout.proofs.BrokenLines.{length_of_line}
 use Rattle.run_layout.proofs.LineFacts.{line_numbers, fixed_are}

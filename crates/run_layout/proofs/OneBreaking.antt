@@ -1,5 +1,6 @@
 -- Without a limit of columns one breaking is admissible.
-use Rattle.std.proofs.Common.{◌≡◌, ◌∙◌, Bool, true, false, not, Option, Some, None, List, [], ◌∷◌, refl, sym, ap, arith, subst}
+use Rattle.std.proofs.Common.{◌≡◌, ◌∙◌, Bool, true, false, not, Option, Some, None, List, [], ◌∷◌, refl, sym, ap, arith}
+use Rattle.std.proofs.Common.{subst}
 use Rattle.std.specs.Prelude.{if◌then◌else◌}
 use Rattle.line_state.specs.Choices.{Leads}
 use Rattle.style_table.specs.declared.style.Style.{Style}

@@ -1,5 +1,7 @@
 -- A line on one row is the least breaking.
-use Rattle.std.proofs.Common.{◌≡◌, ◌∙◌, ◌⊎◌, inl, inr, ℕ, zero, suc, ◌+◌, ◌-◌, ◌*◌, ◌<◌, ◌≤◌, min, Bool, true, false, cond, not, ◌&&◌, Option, Some, None, List, [], ◌∷◌, ◌++◌, length, length-append, get_or, take, drop, refl, sym, ap, arith, subst, slice_get, slice_set}
+use Rattle.std.proofs.Common.{◌≡◌, ◌∙◌, ◌⊎◌, inl, inr, ℕ, zero, suc, ◌+◌, ◌-◌, ◌*◌, ◌<◌, ◌≤◌, min, Bool, true, false}
+use Rattle.std.proofs.Common.{cond, not, ◌&&◌, Option, Some, None, List, [], ◌∷◌, ◌++◌, length, length-append, get_or}
+use Rattle.std.proofs.Common.{take, drop, refl, sym, ap, arith, subst, slice_get, slice_set}
 use Rattle.std.specs.Prelude.{if◌then◌else◌}
 use Rattle.std.proofs.Math.ListN.{drop_of_length-le}
 use Rattle.std.proofs.Math.Seq.{drop-cons}
@@ -15,9 +17,14 @@ use Rattle.line_state.specs.declared.frames.Frame.{Frame}
 use Rattle.line_state.specs.declared.gap.Gap.{Gap}
 use Rattle.line_state.specs.Brackets.{opens_frame}
 use Rattle.line_tokens.specs.Columns.{columns, end_of, stored_or}
-use Rattle.line_state.specs.Layout.{Layout, spot_of, start_layout, is_allowed, is_some_decision, layout_after, cost_of, gap_cost, is_free, excess_at, start_of, broken_start, open_frames, topmost, new_frame, placed_frames, opened_frame, comma_frame, is_after_opener, frames_after, cells_of}
-use Rattle.line_state.specs.Line.{Line, Step, gaps, gap_at, gap_between, decision_at, first_layout, first_cost, step_over}
-use Rattle.line_state.proofs.Steps.{StayTogether, is_first, stored, least_of, least_allowed, least_stays, functional, placing}
+use Rattle.line_state.specs.Layout.{Layout, spot_of, start_layout, is_allowed, is_some_decision, layout_after, cost_of}
+use Rattle.line_state.specs.Layout.{gap_cost, is_free, excess_at, start_of, broken_start, open_frames, topmost}
+use Rattle.line_state.specs.Layout.{new_frame, placed_frames, opened_frame, comma_frame, is_after_opener, frames_after}
+use Rattle.line_state.specs.Layout.{cells_of}
+use Rattle.line_state.specs.Line.{Line, Step, gaps, gap_at, gap_between, decision_at, first_layout, first_cost}
+use Rattle.line_state.specs.Line.{step_over}
+use Rattle.line_state.proofs.Steps.{StayTogether, is_first, stored, least_of, least_allowed, least_stays, functional}
+use Rattle.line_state.proofs.Steps.{placing}
 use Rattle.layout_tables.specs.Breaks.{gap_rule}
 use Rattle.layout_tables.specs.Spaces.{spaces_before}
 use Rattle.break_search.specs.Outcome.{own_cells, own_cells_by, IsFound}

@@ -1,15 +1,20 @@
 -- A line stays on one row where it does with one blank in each of its gaps.
-use Rattle.std.proofs.Common.{◌≡◌, inl, inr, ℕ, suc, ◌+◌, ◌≤◌, ◌&&◌, ◌||◌, ◌==◌, not, nat_lt, Bool, true, false, Option, Some, List, refl, arith, length, slice_get}
+use Rattle.std.proofs.Common.{◌≡◌, inl, inr, ℕ, suc, ◌+◌, ◌≤◌, ◌&&◌, ◌||◌, ◌==◌, not, nat_lt, Bool, true, false, Option}
+use Rattle.std.proofs.Common.{Some, List, refl, arith, length, slice_get}
 use Rattle.std.specs.Prelude.{if◌then◌else◌}
 use Rattle.line_tokens.specs.declared.LineTok.{LineTok}
 use Rattle.line_tokens.specs.declared.Fixed.{Fixed}
 use Rattle.line_tokens.specs.Columns.{columns, end_of}
-use Rattle.line_tokens.specs.Roles.{is_trailing, is_ctrl_open, is_list_open, is_list_close, is_block_open, is_block_close, is_cast_close, is_pointer, is_asm_colon, is_member, is_bracket_open, is_bracket_close, is_comma_or_semi, is_inner_or_stray, is_call_or_decl_open, is_unary_or_prefix, is_member_or_desig_dot}
+use Rattle.line_tokens.specs.Roles.{is_trailing, is_ctrl_open, is_list_open, is_list_close, is_block_open}
+use Rattle.line_tokens.specs.Roles.{is_block_close, is_cast_close, is_pointer, is_asm_colon, is_member, is_bracket_open}
+use Rattle.line_tokens.specs.Roles.{is_bracket_close, is_comma_or_semi, is_inner_or_stray, is_call_or_decl_open}
+use Rattle.line_tokens.specs.Roles.{is_unary_or_prefix, is_member_or_desig_dot}
 use Rattle.style_table.specs.declared.style.Style.{Style}
 use Rattle.line_state.specs.Brackets.{opens_frame}
 use Rattle.line_state.specs.Line.{Line, first_cost}
 use Rattle.layout_tables.specs.Breaks.{gap_rule}
-use Rattle.layout_tables.specs.Spaces.{is_never, is_always, is_left, is_right, is_attached, spaces_by_table, spaces_before}
+use Rattle.layout_tables.specs.Spaces.{is_never, is_always, is_left, is_right, is_attached, spaces_by_table}
+use Rattle.layout_tables.specs.Spaces.{spaces_before}
 use Rattle.run_layout.specs.OneRow.{open_behind, IsOneRowUpTo, IsRow, IsRowLine}
 use Rattle.run_layout.proofs.RowSteps.{row_ends, row_goes_on}
 

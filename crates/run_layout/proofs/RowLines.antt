@@ -1,5 +1,6 @@
 -- A line of a run that stays on one row.
-use Rattle.std.proofs.Common.{◌≡◌, ◌∙◌, ℕ, ◌+◌, ◌-◌, ◌<◌, ◌≤◌, Option, Some, List, length, get_or, drop, sym, ap, arith, subst, slice_get}
+use Rattle.std.proofs.Common.{◌≡◌, ◌∙◌, ℕ, ◌+◌, ◌-◌, ◌<◌, ◌≤◌, Option, Some, List, length, get_or, drop, sym, ap, arith}
+use Rattle.std.proofs.Common.{subst, slice_get}
 use Rattle.std.specs.Prelude.{All}
 use Rattle.std.proofs.lemmas.List.{get_or_default}
 use Rattle.std.proofs.lemmas.Option.{get_or_from_slice_get}
@@ -16,7 +17,9 @@ use Rattle.replacements.specs.declared.slot.Slot.{Slot}
 use Rattle.replacements.specs.Decisions.{decided, decided_all}
 use Rattle.line_tokens.specs.Tokens.{no_token}
 use Rattle.run_layout.specs.Tells.{StandForItems}
-use Rattle.run_layout.specs.Broken.{fixed_of_token, of_line, broken_line, broken_made, first_slot, inside_made}
+use Rattle.line_gaps.specs.Fixed.{fixed_of_token}
+use Rattle.run_layout.specs.Broken.{of_line, broken_line, broken_made, inside_made}
+use Rattle.line_gaps.specs.Rows.{first_slot}
 use Rattle.run_layout.specs.OneRow.{AreOpenInside, IsRow, IsRowLine, row_made, stays}
 use Rattle.run_layout.proofs.BrokenLines.{get_or_of_line, length_of_line}
 use Rattle.run_layout.proofs.LineFacts.{is_row_line, line_has_numbers, row_decides}

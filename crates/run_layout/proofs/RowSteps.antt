@@ -1,5 +1,6 @@
 -- What the test of a line on one row has found so far.
-use Rattle.std.proofs.Common.{◌≡◌, ◌∙◌, inl, inr, ℕ, suc, ◌+◌, ◌<◌, ◌≤◌, Bool, true, false, Option, Some, None, List, ◌∷◌, length, drop, refl, sym, ap, arith, subst, slice_get}
+use Rattle.std.proofs.Common.{◌≡◌, ◌∙◌, inl, inr, ℕ, suc, ◌+◌, ◌<◌, ◌≤◌, Bool, true, false, Option, Some, None, List}
+use Rattle.std.proofs.Common.{◌∷◌, length, drop, refl, sym, ap, arith, subst, slice_get}
 use Rattle.std.proofs.Math.Seq.{drop-cons}
 use Rattle.std.proofs.lemmas.Option.{get_or_from_slice_get, slice_get_within}
 use Rattle.style_table.specs.declared.style.Style.{Style}

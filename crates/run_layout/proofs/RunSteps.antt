@@ -2,7 +2,8 @@
 use Rattle.std.specs.Prelude.{Some, slice_get}
 use Rattle.std.proofs.lemmas.List.{append-nil}
 use Rattle.std.proofs.lemmas.Option.{get_or_from_slice_get}
-use Rattle.std.proofs.Common.{◌≡◌, ◌∙◌, ℕ, suc, ◌+◌, ◌<◌, ◌≤◌, Option, List, [], ◌∷◌, ◌++◌, length, get_or, drop, append_assoc, refl, sym, ap, arith, subst}
+use Rattle.std.proofs.Common.{◌≡◌, ◌∙◌, ℕ, suc, ◌+◌, ◌<◌, ◌≤◌, Option, List, [], ◌∷◌, ◌++◌, length, get_or, drop}
+use Rattle.std.proofs.Common.{append_assoc, refl, sym, ap, arith, subst}
 use Rattle.std.proofs.Math.Seq.{drop-cons}
 use Rattle.style_table.specs.declared.style.Style.{Style}
 use Rattle.line_tokens.specs.declared.LineTok.{LineTok}
@@ -12,12 +13,13 @@ use Rattle.line_tokens.specs.declared.line.ULine.{ULine}
 use Rattle.line_tokens.specs.Lines.{CutPlaces}
 use Rattle.replacements.specs.declared.slot.Slot.{Slot}
 use Rattle.replacements.specs.Decisions.{decided_all}
-use Rattle.run_layout.specs.InputColumns.{input_before}
+use Rattle.line_gaps.specs.InputColumns.{input_before}
 use Rattle.line_tokens.specs.Tokens.{no_token}
 use Rattle.run_layout.specs.Tells.{StandForItems}
-use Rattle.run_layout.proofs.Walked.{cut_before}
+use Rattle.line_gaps.proofs.Walked.{cut_before}
 use Rattle.run_layout.specs.Outcomes.{LineOutcome, Kept, Only, Least, Over, LaidLine, AfterLines, outcome_made, row_of}
-use Rattle.run_layout.specs.Reports.{report_by, searched_by, cost_by, reports_of, searched_of, cost_of, report_told, searched_told, cost_told}
+use Rattle.run_layout.specs.Reports.{report_by, searched_by, cost_by, reports_of, searched_of, cost_of, report_told}
+use Rattle.run_layout.specs.Reports.{searched_told, cost_told}
 use Rattle.run_layout.specs.RunsLaid.{IsRunLaid}
 use Rattle.run_layout.specs.Told.{IsTold, IsLaid}
 use Rattle.run_layout.specs.declared.laid.Laid.{Laid}

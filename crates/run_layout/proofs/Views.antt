@@ -19,7 +19,7 @@ use Rattle.replacements.specs.Sound.{IsSound}
 use Rattle.replacements.proofs.Firsts.{stay}
 use Rattle.comment_rows.specs.Comments.{comments_made}
 use Rattle.line_tokens.specs.Tokens.{no_token}
-use Rattle.run_layout.specs.Broken.{fixed_of_token}
+use Rattle.line_gaps.specs.Fixed.{fixed_of_token}
 use Rattle.run_layout.specs.Outcomes.{LaidLine, AfterLines}
 use Rattle.run_layout.specs.RunsLaid.{IsRunLaid}
 use Rattle.run_layout.specs.Tells.{StandForItems}
@@ -28,7 +28,7 @@ use Rattle.run_layout.specs.ViewLaws.{ViewsStaySound, ViewsKeep, ViewsDecide}
 use Rattle.run_layout.specs.declared.report.Tally.{Tally}
 use Rattle.run_layout.proofs.LaidLines.{lines_stay_sound, lines_keep, lines_decide, lines_length}
 use Rattle.run_layout.proofs.LineFacts.{view_fixed}
-use Rattle.run_layout.proofs.MadeFor.{IsDecided, is_some-decided, length-decided_all}
+use Rattle.line_gaps.proofs.MadeFor.{IsDecided, is_some-decided, length-decided_all}
 use Rattle.run_layout.proofs.WaitingComments.{AreLaidOut, comments_decide, comments_stay_sound}
 
 -- joined lines cut the view that the lines cut

@@ -1,5 +1,6 @@
 -- The decisions for the trailing comments of a view: each may stand, and none that waits is left out.
-use Rattle.std.proofs.Common.{◌≡◌, ◌∙◌, ◌⊎◌, inl, inr, ℕ, zero, suc, ◌+◌, ◌-◌, ◌<◌, ◌≤◌, Bool, true, false, Option, Some, None, List, [], ◌∷◌, ◌++◌, length, map, get_or, refl, sym, ap, arith, subst}
+use Rattle.std.proofs.Common.{◌≡◌, ◌∙◌, ◌⊎◌, inl, inr, ℕ, zero, suc, ◌+◌, ◌-◌, ◌<◌, ◌≤◌, Bool, true, false, Option}
+use Rattle.std.proofs.Common.{Some, None, List, [], ◌∷◌, ◌++◌, length, map, get_or, refl, sym, ap, arith, subst}
 use Rattle.std.specs.Prelude.{All, IsSome, is_some, if◌then◌else◌}
 use Rattle.std.proofs.lemmas.Bool.{or_parts}
 use Rattle.std.proofs.lemmas.List.{get_or_default, length-map, set_past}
@@ -22,15 +23,16 @@ use Rattle.replacements.specs.Sound.{MayJoin, MayStand, IsSound}
 use Rattle.comment_rows.specs.Columns.{aligned}
 use Rattle.comment_rows.specs.declared.place.TrailRow.{TrailRow}
 use Rattle.comment_rows.specs.declared.comments.Comment.{Comment}
-use Rattle.comment_rows.specs.Comments.{comment_at, comment_of, comments_behind, comments_in, comments_made, first_start, placed, placed_slot, row_of, start_by}
+use Rattle.comment_rows.specs.Comments.{comment_at, comment_of, comments_behind, comments_in, comments_made}
+use Rattle.comment_rows.specs.Comments.{first_start, placed, placed_slot, row_of, start_by}
 use Rattle.comment_rows.proofs.CommentLists.{length-aligned, none_made}
 use Rattle.token_classes.specs.Items.{item_at}
 use Rattle.line_tokens.specs.Tokens.{no_token}
 use Rattle.run_layout.specs.Tells.{StandForItems}
 use Rattle.run_layout.specs.Laws.{AreOfTexts, IsWaiting}
-use Rattle.run_layout.proofs.Stands.{stance, all_sound}
+use Rattle.line_gaps.proofs.Stands.{stance, all_sound}
 use Rattle.run_layout.proofs.BrokenLines.{TellsGap, joins, joined_stands, ends_takes}
-use Rattle.run_layout.proofs.MadeFor.{IsMadeFor, IsDecided, open_or_decided, made_decided, stays_decided}
+use Rattle.line_gaps.proofs.MadeFor.{IsMadeFor, IsDecided, open_or_decided, made_decided, stays_decided}
 
 -- behind the lines of a run the gap of each item of the view is decided, or waits before a trailing comment
 abbrev pub AreLaidOut : List ℕ → List LineTok → List (Option Slot) → Type 0

@@ -1,9 +1,8 @@
 -- What stands before the items of a line whose breaks are known: docs/PROFILE.md, "Layout of lines".
-use Rattle.std.specs.Prelude.{ℕ, zero, suc, ◌+◌, ◌-◌, ◌||◌, ◌&&◌, not, Bool, Option, Some, None, List, [], ◌∷◌, get_or}
-use Rattle.std.specs.Prelude.{map, take, drop, if◌then◌else◌}
+use Rattle.std.specs.Prelude.{ℕ, ◌+◌, ◌-◌, ◌||◌, ◌&&◌, not, Bool, Option, Some, None, List, [], ◌∷◌, get_or, map, take}
+use Rattle.std.specs.Prelude.{drop, if◌then◌else◌}
 use Rattle.style_table.specs.declared.style.Style.{Style}
 use Rattle.line_tokens.specs.declared.LineTok.{LineTok}
-use Rattle.line_tokens.specs.declared.Fixed.{Fixed}
 use Rattle.line_tokens.specs.Roles.{is_trailing}
 use Rattle.line_state.specs.declared.gap.Gap.{Gap}
 use Rattle.line_state.specs.Layout.{Layout, is_decided, layout_after, start_of}
@@ -17,7 +16,7 @@ use Rattle.replacements.specs.declared.gap_text.Decision.TheVariants.{Spaces, Li
 use Rattle.replacements.specs.declared.slot.Slot.{Slot}
 use Rattle.replacements.specs.Decisions.{slot_of}
 use Rattle.replacements.specs.Breaks.{fixed_by}
-use Rattle.run_layout.specs.Rows.{item_before, first_decision, start_behind}
+use Rattle.line_gaps.specs.Rows.{first_made}
 
 -- ## The line
 
@@ -37,27 +36,6 @@ broken_line style arena ids toks plan line = record {
 -- the number of a token's item
 abbrev pub number : LineTok → ℕ
 number token = token.id.0
-
--- what is decided of the gap before a token
-abbrev pub fixed_of_token : Contents → List (Option Slot) → LineTok → Option Fixed
-fixed_of_token arena plan token = fixed_by arena token.id.0 (slot_of plan token.id.0)
-
--- what is told of the gaps before these tokens, of which so many are looked at: before the others nothing yet
-abbrev pub fixed_up_to : (LineTok → Option Fixed) → List LineTok → ℕ → List (Option Fixed)
-fixed_up_to f [] n = []
-fixed_up_to f (token ∷ tokens) zero = None ∷ fixed_up_to f tokens zero
-fixed_up_to f (token ∷ tokens) (suc n) = f token ∷ fixed_up_to f tokens n
-
--- ## The gap before its first item
-
-abbrev pub first_slot : Style → Contents → List ℕ → ULine → Slot
-first_slot style arena ids line =
-    let decision = first_decision style arena line (item_before ids line.first) (get_or ids line.first 0) in
-    record { decision = decision; end = start_behind 0 decision }
-
--- it is decided as for any line
-abbrev pub first_made : Style → Contents → List ℕ → ULine → ℕ × Slot
-first_made style arena ids line = (get_or ids line.first 0, first_slot style arena ids line)
 
 -- ## The gaps inside it
 

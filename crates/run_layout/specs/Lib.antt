@@ -1,13 +1,8 @@
-pub mod Stretches
-pub mod Rows
 pub mod Tells
 pub mod Ready
-pub mod OpenGaps
-pub mod InputColumns
 pub mod Broken
 pub mod Outcomes
 pub mod Told
-pub mod Counted
 pub mod Reports
 pub mod RunsLaid
 pub mod View

@@ -1,5 +1,5 @@
 -- What comes of each line of a run: docs/PROFILE.md, "Layout of lines".
-use Rattle.std.specs.Prelude.{◌≡◌, ◌<◌, ℕ, ◌+◌, ◌-◌, Bool, Option, List, [], ◌∷◌, get_or}
+use Rattle.std.specs.Prelude.{◌≡◌, ◌<◌, ℕ, Bool, Option, List, [], ◌∷◌, get_or}
 use Rattle.style_table.specs.declared.style.Style.{Style}
 use Rattle.line_tokens.specs.declared.LineTok.{LineTok}
 use Rattle.break_search.specs.Outcome.{IsFound, IsOver}
@@ -9,9 +9,10 @@ use Rattle.line_tokens.specs.declared.line.ULine.{ULine}
 use Rattle.replacements.specs.declared.slot.Slot.{Slot}
 use Rattle.replacements.specs.Decisions.{decided_all}
 use Rattle.token_classes.specs.Items.{item_at}
-pub use Rattle.run_layout.specs.OpenGaps.{AreDecided, IsOpen}
-use Rattle.run_layout.specs.InputColumns.{input_before, input_behind, old_from}
-use Rattle.run_layout.specs.Broken.{broken_line, broken_made, first_made}
+pub use Rattle.line_gaps.specs.OpenGaps.{AreDecided, IsOpen}
+use Rattle.line_gaps.specs.InputColumns.{reported_made}
+use Rattle.run_layout.specs.Broken.{broken_line, broken_made}
+use Rattle.line_gaps.specs.Rows.{first_made}
 
 -- ## One line
 
@@ -37,13 +38,6 @@ ComesOf style budget arena ids toks plan line (Least breaks cost) =
     × IsFound (broken_line style arena ids toks plan line) budget breaks cost
 ComesOf style budget arena ids toks plan line (Over cells) =
     IsOpen plan ids line × (0 < style.column_limit) × IsOver (broken_line style arena ids toks plan line) budget cells
-
--- the decisions for the gaps inside a line that is reported: each keeps its bytes
-abbrev pub reported_made : Style → Contents → List ℕ → ULine → List (ℕ × Slot)
-reported_made style arena ids line =
-    let first = get_or ids line.first 0 in
-    old_from style arena ids (input_behind style arena (input_before style arena ids line.first) first)
-    (line.first + 1) (line.last - line.first)
 
 -- the decisions that follow
 abbrev pub outcome_made : Style → Contents → List ℕ → List LineTok → List (Option Slot) → ULine → LineOutcome →

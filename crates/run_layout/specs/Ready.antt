@@ -3,11 +3,12 @@ use Rattle.std.specs.Prelude.{◌≡◌, ◌<◌, ◌≤◌, ◌+◌, List, Opti
 use Rattle.style_table.specs.Range.{IsInRange}
 use Rattle.token_classes.specs.Viewed.{AreWithin, classes_of}
 use Rattle.replacements.specs.declared.slot.Slot.{Slot}
-use Rattle.run_layout.specs.Broken.{fixed_of_token, of_line}
-use Rattle.run_layout.specs.OpenGaps.{IsOpen}
+use Rattle.line_gaps.specs.Fixed.{fixed_of_token}
+use Rattle.run_layout.specs.Broken.{of_line}
+use Rattle.line_gaps.specs.OpenGaps.{IsOpen}
 use Rattle.run_layout.specs.Tells.{StandForItems}
 use Rattle.run_layout.specs.declared.broken.OpenLine.{OpenLine}
-use Rattle.run_layout.specs.declared.view_layout.ViewLayout.{ViewLayout}
+use Rattle.line_gaps.specs.declared.view_layout.ViewLayout.{ViewLayout}
 
 -- Style and budget are in range, and classes and tokens are those of the items that the view has of the text.
 pub record IsReady (layout : ViewLayout) : Type 0 where

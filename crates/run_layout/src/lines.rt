@@ -9,30 +9,29 @@ ghost use Rattle.line_state.specs.Line.{gaps};
 ghost use Rattle.run_layout.specs.Ready.{IsOpenLine, IsReady};
 ghost use Rattle.run_layout.specs.Tells.{StandForItems};
 ghost use Rattle.replacements.specs.Decisions.{decided_all};
-ghost use Rattle.run_layout.specs.Counted.{IsCounted};
+ghost use Rattle.line_gaps.specs.Counted.{IsCounted};
 ghost use Rattle.run_layout.specs.Broken.{broken_line, broken_made, of_line};
-ghost use Rattle.run_layout.specs.InputColumns.{input_before};
+ghost use Rattle.line_gaps.specs.InputColumns.{input_before};
 ghost use Rattle.layout_tables.specs.Told.{TellBlanks};
 ghost use Rattle.run_layout.specs.OneRow.{IsRow, NeedNoCount, stays};
-ghost use Rattle.run_layout.specs.OpenGaps.{AreDecided, IsOpen};
+ghost use Rattle.line_gaps.specs.OpenGaps.{AreDecided, IsOpen};
 ghost use Rattle.line_tokens.specs.Lines.{CutPlaces};
 ghost use Rattle.run_layout.specs.RunsLaid.{IsRunLaid};
 ghost use Rattle.run_layout.specs.Told.{IsLaid};
 
-use crate::broken::{OpenLine, fixed_of, write_broken};
-use crate::decided::is_decided;
-use crate::first::decide_first;
+use crate::broken::{OpenLine, write_broken};
 use crate::laid::Laid;
 use crate::report::{Tally, note_line};
-use crate::reported::{InputCursor, report_line};
 use crate::row::{
-    end_of, few_tokens, first_start, is_open_row, may_be_short, short_row, token_at, write_row,
+    end_of, few_tokens, first_start, is_open_row, may_be_short, short_row, write_row,
     write_short_row,
 };
-use crate::view_layout::ViewLayout;
 use break_search::{Outcome, least_breaks, search};
 use bumpalo::Bump;
 use layout_tables::{RowBlanks, start_column};
+use line_gaps::{
+    InputCursor, ViewLayout, decide_first, fixed_of, is_decided, report_line, token_at,
+};
 use line_tokens::{LineTok, NoMemory, ULine};
 use replacements::Plan;
 

@@ -2,13 +2,13 @@
 
 ghost use Rattle.std.specs.Prelude.{◌≡◌, ◌++◌, ◌+◌, ◌*◌, ◌<◌, ◌≤◌, ◌^◌, [], OnOk, length};
 ghost use Rattle.token_arena.specs.Gaps.{Contents};
-ghost use Rattle.run_layout.specs.Counted.{IsCounted};
+ghost use Rattle.line_gaps.specs.Counted.{IsCounted};
 ghost use Rattle.run_layout.specs.Reports.{cost_told, report_told, searched_told};
 ghost use Rattle.token_classes.specs.Items.{item_at};
 
 use crate::laid::Laid;
-use crate::line_count::{LineCount, line_of};
 use bumpalo::Bump;
+use line_gaps::{LineCount, line_of};
 use line_tokens::NoMemory;
 use token_arena::TokenArena;
 

@@ -1,8 +1,7 @@
 //! Lines that stay on one row. They need no search, and take no memory.
 
-ghost use Rattle.std.specs.Prelude.{◌≡◌, ◌+◌, ◌<◌, ◌≤◌, ◌^◌};
-ghost use Rattle.std.specs.Prelude.{All, IfSome, IsTrue, None, Some, drop, false, ℕ};
-ghost use Rattle.std.specs.Prelude.{get_or, if◌then◌else◌, length, slice_get, true};
+ghost use Rattle.std.specs.Prelude.{◌≡◌, ◌+◌, ◌<◌, ◌≤◌, ◌^◌, All, IfSome, IsTrue, None, Some, drop, false, ℕ, get_or};
+ghost use Rattle.std.specs.Prelude.{if◌then◌else◌, length, true};
 ghost use Rattle.line_tokens.specs.Roles.{is_trailing};
 ghost use Rattle.style_table.specs.Range.{IsInRange};
 ghost use Rattle.line_state.specs.Brackets.{opens_frame};
@@ -12,23 +11,15 @@ ghost use Rattle.line_tokens.specs.Tokens.{no_token};
 ghost use Rattle.replacements.specs.declared.gap_text.Decision.TheVariants.{Spaces};
 ghost use Rattle.replacements.specs.Decisions.{decided, decided_all};
 ghost use Rattle.layout_tables.specs.Told.{TellBlanks};
-ghost use Rattle.run_layout.specs.OneRow.{AreOpenInside, Fits, IsRow, IsRowLine, IsShortRow, NeedNoCount};
-ghost use Rattle.run_layout.specs.OneRow.{open_behind, row_made};
+ghost use Rattle.run_layout.specs.OneRow.{AreOpenInside, Fits, IsRow, IsRowLine, IsShortRow, NeedNoCount, open_behind};
+ghost use Rattle.run_layout.specs.OneRow.{row_made};
 ghost use Rattle.layout_tables.specs.Breaks.{gap_rule};
 
 use layout_tables::{RowBlanks, must_break, stands_behind};
+use line_gaps::token_at;
 use line_tokens::{Fixed, LineTok};
 use replacements::{Decision, Plan};
 use style_table::Style;
-
-/// The token at a place.
-#[inline(always)]
-pub(crate) fn token_at(tokens: &[LineTok], at: usize) -> &LineTok
-    requires { at < length tokens.now }
-    ensures { slice_get tokens.now at ≡ Some result.now }
-{
-    &tokens[at]
-}
 
 /// The column behind a token that starts at a column.
 #[inline(always)]

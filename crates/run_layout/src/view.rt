@@ -5,15 +5,14 @@ ghost use Rattle.style_table.specs.Range.{IsInRange};
 ghost use Rattle.token_classes.specs.Viewed.{AreWithin, classes_of};
 ghost use Rattle.token_classes.specs.Items.{TellItems};
 ghost use Rattle.line_tokens.specs.Lines.{CutPlaces};
-ghost use Rattle.run_layout.specs.Counted.{IsCounted};
+ghost use Rattle.line_gaps.specs.Counted.{IsCounted};
 ghost use Rattle.run_layout.specs.View.{IsViewLaid};
 
-use crate::broken::fixed_of;
 use crate::lines::lay_out_lines;
 use crate::report::Tally;
-use crate::view_layout::ViewLayout;
 use bumpalo::Bump;
 use comment_rows::place_comments;
+use line_gaps::{ViewLayout, fixed_of};
 use line_joiner::join_of_classes;
 use line_tokens::{NoMemory, ULine};
 use replacements::Plan;

@@ -524,6 +524,7 @@ impl Walk {
     }
 
     /// How the statement began that is read, behind the next token of its body.
+    #[inline(always)]
     fn next_begun(&self, id: TokenId, class: TokenClass) -> Begun
         ensures { result ≡ next_begun self.now id.0 class }
     {

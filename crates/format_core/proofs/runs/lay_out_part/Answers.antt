@@ -2,7 +2,7 @@ use Rattle.std.proofs.Common.{◌∙◌, ◌<◌, ℕ, Bool, List, length, refl,
 use Rattle.std.specs.Prelude.{All, slice_range}
 use Rattle.std.specs.Bool.{OnTrue}
 use Rattle.std.proofs.lemmas.Result.{on_ok_weaker}
-use Rattle.run_layout.specs.OpenGaps.{IsRowDecided}
+use Rattle.line_gaps.specs.OpenGaps.{IsRowDecided}
 use Rattle.view_parts.specs.Parts.{items_before, laid_items}
 use Rattle.view_parts.specs.Places.{place_in}
 use Rattle.format_core.specs.RunsTold.{AreItemsTold}

@@ -2,7 +2,7 @@ use Rattle.std.proofs.Common.{◌≡◌, arith, subst, sym}
 use Rattle.break_search.specs.Outcome.{line_of, IsFound, IsOutcome, IsOver}
 use Rattle.break_search.specs.Starts.{IsAdmissible}
 use Rattle.break_search.specs.declared.outcome.Outcome.{Outcome}
-use Rattle.run_layout.specs.InputColumns.{input_before}
+use Rattle.line_gaps.specs.InputColumns.{input_before}
 use Rattle.run_layout.proofs.LineOutcomes.{found_admissible, least_laid, open_searched, over_laid}
 use Rattle.run_layout.proofs.lines.lay_out_limited.Goals as goal
 

@@ -1,5 +1,5 @@
 use Rattle.std.proofs.Common.{◌≡◌, ◌≤◌, ◌+◌, ◌*◌, length, drop}
-use Rattle.run_layout.specs.Counted.{IsCounted}
+use Rattle.line_gaps.specs.Counted.{IsCounted}
 use Rattle.run_layout.proofs.RunSteps.{GoesOnLines, IsAhead}
 use Rattle.run_layout.proofs.lines.lay_out_lines.Given as goal
 

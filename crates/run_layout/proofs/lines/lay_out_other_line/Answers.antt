@@ -1,7 +1,7 @@
 use Rattle.std.proofs.Common.{◌≡◌, ◌∙◌, List, Option, length, ap, subst, sym}
 use Rattle.std.specs.Prelude.{IfOk, OnOk}
 use Rattle.replacements.specs.declared.slot.Slot.{Slot}
-use Rattle.run_layout.specs.OpenGaps.{IsOpen}
+use Rattle.line_gaps.specs.OpenGaps.{IsOpen}
 use Rattle.run_layout.specs.Told.{IsLaid}
 use Rattle.run_layout.proofs.LineOutcomes.{row_laid}
 use Rattle.run_layout.proofs.lines.lay_out_other_line.Goals as goal

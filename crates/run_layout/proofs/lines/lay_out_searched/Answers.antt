@@ -1,5 +1,5 @@
 use Rattle.std.proofs.Common.{◌≡◌, ◌+◌, ◌≤◌, arith, length}
-use Rattle.run_layout.specs.InputColumns.{input_before}
+use Rattle.line_gaps.specs.InputColumns.{input_before}
 use Rattle.run_layout.proofs.LineOutcomes.{above_zero, on_ok}
 use Rattle.run_layout.proofs.RowLines.{tokens_within}
 use Rattle.run_layout.proofs.lines.lay_out_searched.Goals as goal

@@ -1,0 +1,93 @@
+-- The gaps that stay, place by place.
+use Rattle.std.proofs.Common.{◌≡◌, ◌∙◌, ◌||◌, ℕ, zero, suc, ◌+◌, ◌<◌, ◌≤◌, ◌⊎◌, inl, inr, Bool, true, false, Option, Some, None, List, [], ◌∷◌, length, get_or, refl, sym, ap, arith}
+use Rattle.std.specs.Prelude.{if◌then◌else◌, slice_get}
+use Rattle.token_arena.specs.Gaps.{Contents}
+use Rattle.token_arena.specs.Stored.{Stored}
+use Rattle.line_gaps.specs.InputColumns.{kept_slot}
+use Rattle.off_regions.specs.Frozen.{frozen_from, frozen_gaps}
+use Rattle.off_regions.specs.Switches.{off_behind}
+use Rattle.off_regions.specs.declared.range.LineRange.{LineRange}
+use Rattle.replacements.specs.Breaks.{has_new_line_at}
+use Rattle.replacements.specs.Sound.{item_before}
+use Rattle.early_gaps.specs.Columns.{column_at}
+use Rattle.early_gaps.specs.Dead.{is_dead_item}
+use Rattle.early_gaps.specs.Joined.{is_backslash, is_joined, is_behind_joined}
+use Rattle.early_gaps.specs.Kept.{IsBehind, IsPlain, Passes, is_kept, kept_at}
+use Rattle.early_gaps.specs.declared.behind.Behind.{Behind}
+
+-- the item at a place is the one before the next place
+pub next_is : (arena : Contents) (place : ℕ) (behind : Behind) → behind.dead ≡ is_dead_item arena place → behind.joined ≡ is_joined arena place → behind.backslash ≡ is_backslash (slice_get arena.tokens place)
+    → IsBehind arena (place + 1) behind
+next_is arena place behind dead joined backslash =
+    let e : place + 1 ≡ suc place = omega arith in
+    rw e (record { dead = dead; joined = joined; backslash = backslash })
+
+either_false : (b : Bool) → false ≡ (if b then false else false)
+either_false true = refl
+either_false false = refl
+
+-- what the item before a place tells of the row behind it
+pub joined_is : (arena : Contents) (place : ℕ) → is_joined arena place ≡ (if has_new_line_at arena place then is_backslash (item_before arena.tokens place) else is_behind_joined arena place)
+joined_is arena zero = either_false (has_new_line_at arena 0)
+joined_is arena (suc place) = refl
+
+pub joined_by : (arena : Contents) (place : ℕ) (behind : Behind) → IsBehind arena place behind → (if has_new_line_at arena place then behind.backslash else behind.joined) ≡ is_joined arena place
+joined_by arena place behind is =
+    ap (λ (b : Bool). if has_new_line_at arena place then b else behind.joined) is.backslash
+    ∙ (ap (λ (b : Bool). if has_new_line_at arena place then is_backslash (item_before arena.tokens place) else b) is.joined ∙ sym (joined_is arena place))
+
+-- behind no backslash no row is joined
+pub not_joined : (arena : Contents) (place : ℕ) (behind : Behind) → IsBehind arena place behind → behind.backslash ≡ false → behind.joined ≡ false → false ≡ is_joined arena place
+not_joined arena place behind is backslash joined =
+    either_false (has_new_line_at arena place)
+    ∙ (ap (λ (b : Bool). if has_new_line_at arena place then b else false) (sym backslash)
+    ∙ (ap (λ (b : Bool). if has_new_line_at arena place then behind.backslash else b) (sym joined) ∙ joined_by arena place behind is))
+
+-- whether a gap stays is told by the items on its sides
+pub stays_by : (arena : Contents) (frozen : List Bool) (place : ℕ) (mark : Bool) (behind here : Behind) → mark ≡ get_or frozen place false → IsBehind arena place behind → IsBehind arena (place + 1) here
+    → (mark || ((here.dead || behind.dead) || (here.joined || behind.joined))) ≡ is_kept arena frozen place
+stays_by arena frozen place mark behind here marked before after =
+    let e : place + 1 ≡ suc place = omega arith in
+    let at : IsBehind arena (suc place) here = rw e at after in
+    let dead : here.dead ≡ is_dead_item arena place = at.dead in
+    let joined : here.joined ≡ is_joined arena place = at.joined in
+    rw (marked, dead, joined, before.dead, before.joined) refl
+
+-- ## Marks
+
+-- there is a mark for each gap
+length_from : (arena : Contents) (ranges : Option (List LineRange)) (off : Bool) (tokens : List Stored) → length (frozen_from arena ranges off tokens) ≡ length tokens + 1
+length_from arena ranges off [] = refl
+length_from arena ranges off (token ∷ tokens) =
+    let rest : length (frozen_from arena ranges (off_behind arena.dialect off token) tokens) ≡ length tokens + 1 = length_from arena ranges (off_behind arena.dialect off token) tokens in
+    omega (arith, rest)
+
+pub length-frozen_gaps : (arena : Contents) (ranges : Option (List LineRange)) → length (frozen_gaps arena ranges) ≡ length arena.tokens + 1
+length-frozen_gaps arena ranges = length_from arena ranges false arena.tokens
+
+-- ## Plain items
+
+-- behind a plain item stands another
+pub passed_on : (arena : Contents) (place : ℕ) (mark : Bool) (behind : Behind) → IsPlain behind → IsBehind arena place behind → Passes arena mark place → IsBehind arena (place + 1) behind
+passed_on arena place mark behind plain is passes =
+    next_is arena place behind (plain.dead ∙ sym passes.dead) (plain.joined ∙ not_joined arena place behind is plain.backslash plain.joined) (plain.backslash ∙ sym passes.backslash)
+
+-- and the gap between the two doesn't stay
+passed_gap : (arena : Contents) (frozen : List Bool) (place : ℕ) (mark : Bool) (behind : Behind) → mark ≡ get_or frozen place false → IsPlain behind → IsBehind arena place behind → Passes arena mark place
+    → is_kept arena frozen place ≡ false
+passed_gap arena frozen place mark behind marked plain is passes =
+    sym (stays_by arena frozen place mark behind behind marked is (passed_on arena place mark behind plain is passes)) ∙ rw (passes.mark, plain.dead, plain.joined) refl
+
+before_or : (at place : ℕ) → place < at + 1 → (place < at) ⊎ (place ≡ at)
+before_or at place within = grind (arith, within)
+
+pub none_further : (arena : Contents) (frozen : List Bool) (from at : ℕ) (mark : Bool) (behind : Behind) → mark ≡ get_or frozen at false → IsPlain behind → IsBehind arena at behind → Passes arena mark at
+    → ((k : ℕ) → from ≤ k → k < at → is_kept arena frozen k ≡ false) → (k : ℕ) → from ≤ k → k < at + 1 → is_kept arena frozen k ≡ false
+none_further arena frozen from at mark behind marked plain is passes none k low high = elim (before_or at k high) [
+  | inl before ↦ none k low before
+  | inr here ↦ rw here (passed_gap arena frozen at mark behind marked plain is passes)
+]
+
+-- where a gap doesn't stay, nothing is decided
+pub none_kept : (tab : ℕ) (arena : Contents) (frozen : List Bool) (place : ℕ) → is_kept arena frozen place ≡ false → kept_at tab arena frozen place ≡ None
+none_kept tab arena frozen place none = ap (λ (b : Bool). if b then Some (kept_slot (column_at tab arena place)) else None) none

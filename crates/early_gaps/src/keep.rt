@@ -1,0 +1,117 @@
+//! The gaps that stay as they are.
+
+ghost use Rattle.std.specs.Prelude.{◌≡◌, ◌≤◌, ◌<◌, ◌+◌, ◌||◌, ℕ, Some, None, if◌then◌else◌, false, length};
+ghost use Rattle.c_chars.specs.declared.TheConstants.{LIMIT};
+ghost use Rattle.replacements.specs.Decisions.{decided_all};
+ghost use Rattle.line_gaps.specs.InputColumns.{kept_slot};
+ghost use Rattle.early_gaps.specs.Columns.{column_at};
+ghost use Rattle.early_gaps.specs.Dead.{IsTreeOf};
+ghost use Rattle.early_gaps.specs.Kept.{IsBehind, IsColumn, is_kept, kept_at};
+ghost use Rattle.early_gaps.specs.Made.{made_at, made_from};
+
+use crate::behind::{Behind, is_plain, next_behind, nothing_before, passes};
+use crate::columns::{InputColumn, column_from, first_column};
+use branch_runs::CondTree;
+use replacements::{Decision, Plan};
+use token_arena::TokenArena;
+
+/// Whether the gap between two items stays, of which the first is `behind` and the second `here`.
+#[inline(always)]
+fn stays(frozen: bool, behind: Behind, here: Behind) -> bool
+    ensures { result ≡ (frozen || ((here.dead || behind.dead) || (here.joined || behind.joined))) }
+{
+    frozen || here.dead || behind.dead || here.joined || behind.joined
+}
+
+/// Keeps the bytes of the gap at a place, if it stays and is open. The column of a place is known, and of which it is
+/// known then is told.
+#[inline(always)]
+fn keep(
+    tab: u32,
+    arena: &TokenArena<'_, '_>,
+    kept: bool,
+    known: InputColumn,
+    place: u32,
+    plan: &mut Plan<'_>,
+) -> InputColumn
+    requires tab { 1 ≤ tab }
+    requires known { IsColumn tab arena.now known }
+    requires order { known.place ≤ place }
+    requires within { place ≤ length arena.now.tokens }
+    requires whole { place < length plan.old }
+    ensures known { IsColumn tab arena.now result }
+    ensures order { result.place ≤ place }
+    ensures plan { plan.new
+        ≡ decided_all plan.old
+        (made_at place (if kept then Some (kept_slot (column_at tab arena.now place)) else None)) }
+    ensures len { length plan.new ≡ length plan.old }
+{
+    if !kept {
+        return known;
+    }
+    let column = column_from(tab, arena, known, place);
+    let _ = plan.decide(place, Decision::Old, column);
+    InputColumn { place, column }
+}
+
+/// Passes places at which no gap stays: the items from the one before a place on are plain. The first place for which
+/// this isn't told, or the last one.
+#[inline(never)]
+fn pass_plain(
+    arena: &TokenArena<'_, '_>,
+    tree: &CondTree<'_>,
+    frozen: &[bool],
+    behind: Behind,
+    place: u32,
+) -> u32
+    requires tree { IsTreeOf arena.now tree.now }
+    requires marks { length frozen.now ≡ length arena.now.tokens + 1 }
+    requires behind { IsBehind arena.now place behind }
+    requires within { place ≤ length arena.now.tokens }
+    ensures later { place ≤ result }
+    ensures within { result ≤ length arena.now.tokens }
+    ensures behind { IsBehind arena.now result behind }
+    ensures none { (k : ℕ) → place ≤ k → k < result → is_kept arena.now frozen.now k ≡ false }
+{
+    if !is_plain(behind) {
+        return place;
+    }
+    let count = arena.len();
+    for at in place..count {
+        if !passes(arena, tree, frozen[at as usize], at) {
+            return at;
+        }
+    }
+    count
+}
+
+/// Keeps the bytes of all gaps that stay, where they are open. `frozen` marks those at which formatting is off or whose
+/// lines aren't asked for. It goes over the items once.
+pub(crate) fn keep_gaps(
+    tab: u32,
+    arena: &TokenArena<'_, '_>,
+    tree: &CondTree<'_>,
+    frozen: &[bool],
+    plan: &mut Plan<'_>,
+)
+    requires tab { 1 ≤ tab }
+    requires fits { length arena.now.text ≤ LIMIT }
+    requires tree { IsTreeOf arena.now tree.now }
+    requires marks { length frozen.now ≡ length arena.now.tokens + 1 }
+    requires whole { length plan.old ≡ length arena.now.tokens + 1 }
+    ensures plan { plan.new
+        ≡ decided_all plan.old (made_from (kept_at tab arena.now frozen.now) 0 (length arena.now.tokens + 1)) }
+    ensures len { length plan.new ≡ length plan.old }
+{
+    let mut known = first_column(tab, arena);
+    let mut behind = nothing_before(arena);
+    let mut place = 0;
+    while place <= arena.len() {
+        place = pass_plain(arena, tree, frozen, behind, place);
+        let here = next_behind(arena, tree, behind, place);
+        let kept = stays(frozen[place as usize], behind, here);
+        known = keep(tab, arena, kept, known, place, plan);
+        behind = here;
+        place += 1;
+    }
+}

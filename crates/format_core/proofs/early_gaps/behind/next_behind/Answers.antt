@@ -1,5 +1,0 @@
-use Rattle.format_core.proofs.Staying.{next_is}
-use Rattle.format_core.proofs.early_gaps.behind.next_behind.Goals as goal
-
-pub returns : goal.returns
-returns c = next_is c.args.arena.now c.args.place _ c.is_dead_item-dead.ensures c.is_joined-joined.ensures c.is_backslash-backslash.ensures

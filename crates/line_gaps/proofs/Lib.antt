@@ -1,0 +1,11 @@
+pub mod Items
+pub mod OpenGaps
+pub mod Counting
+pub mod Walked
+pub mod Stands
+pub mod Stretched
+pub mod MadeFor
+pub mod Reporting
+pub mod Inside
+pub mod FixedGaps
+pub mod FirstRows

@@ -1,9 +1,0 @@
-use Rattle.std.proofs.Common.{◌∙◌, sym}
-use Rattle.run_layout.proofs.Inside.{none_of}
-use Rattle.run_layout.proofs.OpenGaps.{open_next}
-use Rattle.run_layout.proofs.broken.are_eight_open.Goals as goal
-
-pub loop-at-preserved : goal.loop-at-preserved
-loop-at-preserved c =
-    open_next c.args.plan.now c.args.tokens.now c.args.first c.loop-at.at c.token_at.result.now c.loop-at.invariant c.token_at.ensures
-    (sym c.slot.ensures ∙ none_of c.slot.result (sym c.is_some.ensures ∙ c.if-is_some.false))

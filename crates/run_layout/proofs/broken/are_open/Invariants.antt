@@ -1,7 +1,0 @@
-use Rattle.std.proofs.Common.{◌≡◌, ◌<◌, ℕ, None, get_or}
-use Rattle.line_tokens.specs.declared.LineTok.{LineTok}
-use Rattle.replacements.specs.Decisions.{slot_of}
-use Rattle.run_layout.proofs.broken.are_open.Given as goal
-
-abbrev pub invariant-loop-at : goal.invariant-loop-at
-invariant-loop-at l = (i : ℕ) (d : LineTok) → i < l.at → slot_of l.plan (get_or l.tokens i d).id.0 ≡ None

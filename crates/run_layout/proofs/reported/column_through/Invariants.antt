@@ -1,6 +1,0 @@
-use Rattle.std.proofs.Common.{◌≡◌, drop}
-use Rattle.run_layout.specs.InputColumns.{column_through}
-use Rattle.run_layout.proofs.reported.column_through.Given as goal
-
-abbrev pub invariant-loop-byte : goal.invariant-loop-byte
-invariant-loop-byte l = column_through l.tab l.at (drop l.byte-index l.gap) ≡ column_through l.tab l.column l.gap

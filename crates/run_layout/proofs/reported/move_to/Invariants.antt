@@ -1,9 +1,0 @@
-use Rattle.std.proofs.Common.{◌≡◌}
-use Rattle.run_layout.specs.InputColumns.{input_before}
-use Rattle.run_layout.proofs.reported.move_to.Given as goal
-
-abbrev pub invariant-loop-k : goal.invariant-loop-k
-invariant-loop-k l = record {
-  place : l.cursor.place ≡ l.k;
-  column : l.cursor.column ≡ input_before l.style l.arena l.view l.k;
-}
