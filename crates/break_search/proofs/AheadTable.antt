@@ -1,7 +1,8 @@
 -- What is known of a line's stretches, from the last token to the first.
-use Rattle.std.proofs.Common.{◌≡◌, ℕ, ◌+◌, ◌-◌, ◌<◌, inl, inr, Option, Some, List, [], ◌∷◌, ◌++◌, length, length-append, slice_get, refl, arith, ap, sym, ◌∙◌, subst, suc}
+use Rattle.std.proofs.Common.{◌≡◌, ℕ, ◌+◌, ◌-◌, ◌<◌, inl, inr, Option, Some, List, [], ◌∷◌, ◌++◌, length, length-append}
+use Rattle.std.proofs.Common.{slice_get, refl, arith, ap, sym, ◌∙◌, subst, suc}
 use Rattle.std.proofs.lemmas.Bool.{cases_eq}
-use Rattle.line_state.proofs.Edits.{at_push}
+use Rattle.frame_store.proofs.Edits.{at_push}
 use Rattle.line_tokens.specs.declared.LineTok.{LineTok}
 use Rattle.line_tokens.specs.declared.Fixed.{Fixed}
 use Rattle.layout_tables.specs.declared.penalties.GapRule.{GapRule}

@@ -1,17 +1,22 @@
 -- Choices that break only where they have to.
-use Rattle.std.proofs.Common.{◌≡◌, ◌∙◌, ◌⊎◌, inl, inr, ℕ, suc, ◌+◌, ◌*◌, ◌<◌, ◌≤◌, Bool, true, false, cond, not, Option, Some, None, List, [], ◌∷◌, ◌++◌, length, length-append, refl, sym, ap, arith, subst, zero, take, slice_get}
+use Rattle.std.proofs.Common.{◌≡◌, ◌∙◌, ◌⊎◌, inl, inr, ℕ, suc, ◌+◌, ◌*◌, ◌<◌, ◌≤◌, Bool, true, false, cond, not, Option}
+use Rattle.std.proofs.Common.{Some, None, List, [], ◌∷◌, ◌++◌, length, length-append, refl, sym, ap, arith, subst, zero}
+use Rattle.std.proofs.Common.{take, slice_get}
 use Rattle.std.specs.Prelude.{if◌then◌else◌}
 use Rattle.line_state.specs.Choices.{Leads}
 use Rattle.line_tokens.specs.declared.Fixed.{Fixed}
 use Rattle.style_table.specs.declared.style.Style.{Style}
 use Rattle.layout_tables.specs.Breaks.{gap_rule}
 use Rattle.line_state.specs.declared.gap.Gap.{Gap}
-use Rattle.line_state.specs.declared.node.NodeState.{NodeState}
+use Rattle.frame_store.specs.declared.node.NodeState.{NodeState}
 use Rattle.line_state.specs.declared.state.State.{State}
-use Rattle.line_state.specs.Store.{FrameList, state_in, IsIn}
-use Rattle.line_state.specs.Layout.{Layout, layout_of, start_layout, open_frames, is_allowed, as_decided, keeps_frame_rules, layout_after, cost_of, frames_after}
+use Rattle.frame_store.specs.Store.{FrameList, IsIn}
+use Rattle.line_state.specs.StoredStates.{state_in}
+use Rattle.line_state.specs.Layout.{Layout, layout_of, start_layout, open_frames, is_allowed, as_decided}
+use Rattle.line_state.specs.Layout.{keeps_frame_rules, layout_after, cost_of, frames_after}
 use Rattle.line_state.specs.Line.{Line, Step, gap_at, gaps, first_layout, step_over}
-use Rattle.line_state.proofs.Steps.{placing, is_gap, gap_there, is_first, stored, least_of, least_allowed, least_stays, StayTogether, one_more}
+use Rattle.line_state.proofs.Steps.{placing, is_gap, gap_there, is_first, stored, least_of, least_allowed, least_stays}
+use Rattle.line_state.proofs.Steps.{StayTogether, one_more}
 use Rattle.break_search.specs.Starts.{IsAdmissible, MayStay}
 use Rattle.break_search.specs.Vertices.{IsNextState}
 

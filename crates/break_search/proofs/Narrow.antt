@@ -1,5 +1,7 @@
 -- On a narrow line a layout dominates those of its frames that stand at no smaller column.
-use Rattle.std.proofs.Common.{◌≡◌, ℕ, ◌+◌, ◌-◌, ◌*◌, ◌<◌, ◌≤◌, Bool, true, false, not, ◌&&◌, ◌||◌, ◌==◌, nat_lt, nat_le, cond, if◌then◌else◌, Option, Some, None, List, [], ◌∷◌, ◌++◌, length, take, refl, arith, ap, sym, ◌∙◌, subst, suc, zero, slice_set, slice_index_or}
+use Rattle.std.proofs.Common.{◌≡◌, ℕ, ◌+◌, ◌-◌, ◌*◌, ◌<◌, ◌≤◌, Bool, true, false, not, ◌&&◌, ◌||◌, ◌==◌, nat_lt, nat_le}
+use Rattle.std.proofs.Common.{cond, if◌then◌else◌, Option, Some, None, List, [], ◌∷◌, ◌++◌, length, take, refl, arith}
+use Rattle.std.proofs.Common.{ap, sym, ◌∙◌, subst, suc, zero, slice_set, slice_index_or}
 use Rattle.std.proofs.lemmas.Nat.{mul-le}
 use Rattle.line_state.proofs.Ways.{Reached}
 use Rattle.line_state.proofs.Dominance.{GoesAsWell, Dominates}
@@ -10,10 +12,14 @@ use Rattle.line_tokens.specs.declared.role.Role.{Role}
 use Rattle.style_table.specs.declared.style.Style.{Style}
 use Rattle.layout_tables.specs.Breaks.{gap_rule}
 use Rattle.layout_tables.specs.Spaces.{spaces_before}
-use Rattle.line_state.specs.declared.frames.Frame.{Frame}
+use Rattle.frame_store.specs.declared.frames.Frame.{Frame}
 use Rattle.line_state.specs.declared.gap.Gap.{Gap}
 use Rattle.line_state.specs.Brackets.{opens_frame, binds_commas, binds_opening, is_dont_align}
-use Rattle.line_state.specs.Layout.{Layout, start_layout, is_allowed, as_decided, keeps_rules_at, layout_after, cost_of, gap_cost, excess_at, excess, is_decided, is_free, open_frames, spot_of, is_after_opener, start_of, broken_start, topmost, below_topmost, with_topmost, placed_frame, placed_frames, opened_frame, comma_frame, opening_of, new_frame, frames_after}
+use Rattle.line_state.specs.Layout.{Layout, start_layout, is_allowed, as_decided, keeps_rules_at, layout_after, cost_of}
+use Rattle.line_state.specs.Layout.{gap_cost, excess_at, excess, is_decided, is_free, open_frames, spot_of}
+use Rattle.line_state.specs.Layout.{is_after_opener, start_of, broken_start, placed_frame, placed_frames, opened_frame}
+use Rattle.line_state.specs.Layout.{comma_frame, opening_of, new_frame, frames_after}
+use Rattle.frame_store.specs.Frames.{topmost, below_topmost, with_topmost}
 use Rattle.line_state.specs.Line.{Line, gap_at, first_layout, step_over, Step}
 use Rattle.line_state.proofs.Steps.{IsPlacing, placing, IsGap, is_gap, is_first, first_index}
 use Rattle.break_search.specs.Ahead.{least_ahead}

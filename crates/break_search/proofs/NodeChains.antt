@@ -1,13 +1,15 @@
 -- Nodes of as many tokens, on a chain: what a walk back along it tells, and what another node leaves of it.
-use Rattle.std.proofs.Common.{◌≡◌, ◌≢◌, ℕ, ◌+◌, ◌-◌, ◌<◌, ◌≤◌, ◌⊎◌, min, inl, inr, Some, None, List, [], ◌∷◌, ◌++◌, length, refl, arith, ap, suc, zero, sym, ◌∙◌, subst, slice_get, slice_set, get_or}
+use Rattle.std.proofs.Common.{◌≡◌, ◌≢◌, ℕ, ◌+◌, ◌-◌, ◌<◌, ◌≤◌, ◌⊎◌, min, inl, inr, Some, None, List, [], ◌∷◌, ◌++◌}
+use Rattle.std.proofs.Common.{length, refl, arith, ap, suc, zero, sym, ◌∙◌, subst, slice_get, slice_set, get_or}
 use Rattle.std.proofs.lemmas.Bool.{cases_eq}
 use Rattle.std.proofs.lemmas.Option.{slice_get_within, slice_get_read}
-use Rattle.line_state.specs.declared.node.NodeState.{NodeState}
-use Rattle.line_state.specs.Store.{state_digest, IsSamePlace}
-use Rattle.line_state.specs.Chains.{Chained}
-use Rattle.line_state.proofs.Edits.{At, at_set, at_push}
+use Rattle.frame_store.specs.declared.node.NodeState.{NodeState}
+use Rattle.frame_store.specs.Store.{state_digest, IsSamePlace}
+use Rattle.frame_store.specs.Chains.{Chained}
+use Rattle.frame_store.proofs.Edits.{At, at_set, at_push}
 use Rattle.break_search.specs.declared.table.Node.{Node}
-use Rattle.break_search.specs.Groups.{IsGrouped, IsPlaced, IsAmong, IsNear, IsReached, AreReached, IsRank, AreListed, LacksPlace, Misses}
+use Rattle.break_search.specs.Groups.{IsGrouped, IsPlaced, IsAmong, IsNear, IsReached, AreReached, IsRank, AreListed}
+use Rattle.break_search.specs.Groups.{LacksPlace, Misses}
 
 -- nothing is on a chain that ends at 0, or past the nodes
 pub among_none : (n : ℕ) (nodes : List Node) (end u : ℕ) → end ≤ 0 → IsAmong n nodes end u → ⊥

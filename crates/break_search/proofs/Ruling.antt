@@ -1,7 +1,8 @@
 -- What the tables say of a line's gaps, one after another.
-use Rattle.std.proofs.Common.{◌≡◌, ℕ, ◌+◌, ◌-◌, ◌<◌, inl, inr, Some, List, [], ◌∷◌, ◌++◌, length, length-append, slice_get, refl, arith, ap, sym, ◌∙◌, subst}
+use Rattle.std.proofs.Common.{◌≡◌, ℕ, ◌+◌, ◌-◌, ◌<◌, inl, inr, Some, List, [], ◌∷◌, ◌++◌, length, length-append}
+use Rattle.std.proofs.Common.{slice_get, refl, arith, ap, sym, ◌∙◌, subst}
 use Rattle.std.proofs.lemmas.Bool.{cases_eq}
-use Rattle.line_state.proofs.Edits.{at_push}
+use Rattle.frame_store.proofs.Edits.{at_push}
 use Rattle.line_tokens.specs.declared.LineTok.{LineTok}
 use Rattle.style_table.specs.declared.style.Style.{Style}
 use Rattle.line_state.specs.declared.gap.GapRules.{GapRules}

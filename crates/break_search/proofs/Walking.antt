@@ -1,13 +1,15 @@
 -- Admissible choices, one after another.
-use Rattle.std.proofs.Common.{◌≡◌, ◌∙◌, ℕ, suc, ◌+◌, ◌<◌, ◌≤◌, Bool, Option, Some, None, IfSome, List, [], ◌∷◌, ◌++◌, length, get_or, drop, append_assoc, sym, ap, arith, subst}
+use Rattle.std.proofs.Common.{◌≡◌, ◌∙◌, ℕ, suc, ◌+◌, ◌<◌, ◌≤◌, Bool, Option, Some, None, IfSome, List, [], ◌∷◌, ◌++◌}
+use Rattle.std.proofs.Common.{length, get_or, drop, append_assoc, sym, ap, arith, subst}
 use Rattle.std.proofs.Math.ListN.{drop_of_length-le}
 use Rattle.std.proofs.Math.Seq.{drop-cons}
 use Rattle.std.proofs.lemmas.List.{append-nil}
 use Rattle.line_state.specs.Choices.{Leads}
 use Rattle.line_state.specs.declared.gap.Gap.{Gap}
-use Rattle.line_state.specs.declared.node.NodeState.{NodeState}
+use Rattle.frame_store.specs.declared.node.NodeState.{NodeState}
 use Rattle.line_state.specs.declared.state.State.{State}
-use Rattle.line_state.specs.Store.{FrameList, state_in, layout_in, IsIn, IsGrown}
+use Rattle.frame_store.specs.Store.{FrameList, IsIn, IsGrown}
+use Rattle.line_state.specs.StoredStates.{state_in, layout_in}
 use Rattle.line_state.specs.Layout.{Layout, layout_of, start_of, layout_after}
 use Rattle.line_state.specs.Line.{Line, Step, gap_at, gaps, first_layout}
 use Rattle.line_state.proofs.Steps.{placing, functional, first_index, one_more}

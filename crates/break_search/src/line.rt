@@ -1,12 +1,13 @@
 //! A line that is searched.
 
-ghost use Rattle.std.specs.Prelude.{◌≡◌, ℕ, List, ◌+◌, ◌-◌, ◌*◌, ◌<◌, ◌≤◌, Some, length, slice_get, IfOk, IfSome, OnOk};
+ghost use Rattle.std.specs.Prelude.{◌≡◌, List, ◌+◌, ◌-◌, ◌*◌, ◌<◌, ◌≤◌, Some, length, slice_get, IfOk, IfSome, OnOk};
 ghost use Rattle.std.specs.Bool.{OnTrue, OnFalse};
 ghost use Rattle.style_table.specs.Range.{IsInRange};
 ghost use Rattle.line_tokens.specs.declared.LineTok.{LineTok};
 ghost use Rattle.line_tokens.specs.Columns.{stored_or};
 ghost use Rattle.line_state.specs.Layout.{Layout, AreRules, layout_of};
-ghost use Rattle.line_state.specs.Store.{FrameList, layout_in, state_in, IsIn, IsGrown};
+ghost use Rattle.frame_store.specs.Store.{FrameList, IsIn, IsGrown};
+ghost use Rattle.line_state.specs.StoredStates.{layout_in, state_in};
 ghost use Rattle.line_state.specs.Line.{gaps, first_layout, first_cost, decision_at, joined};
 ghost use Rattle.break_search.specs.Ahead.{least_ahead};
 ghost use Rattle.break_search.specs.Outcome.{IsSearchable, line_of};
@@ -19,9 +20,10 @@ use crate::ahead::{Stretch, stretch_at, stretches_of};
 use crate::outcome::Saturation;
 use bumpalo::Bump;
 use bumpalo::collections::into_bump_slice;
+use frame_store::{FrameStore, NodeState};
 use line_state::{
-    FrameStore, GapRules, NoMemory, NodeState, State, advance, allowed_by, gap_rules, refused_by,
-    start, start_in, step_in, try_step_by,
+    GapRules, NoMemory, State, advance, allowed_by, gap_rules, refused_by, start, start_in,
+    step_in, try_step_by,
 };
 use line_tokens::{Fixed, LineTok};
 use std::alloc::Global;

@@ -2,7 +2,7 @@
 
 use crate::comparing::same;
 use bumpalo::Bump;
-use line_state::Group;
+use frame_store::Group;
 
 /// Whether a number is on the chain of a digest, of at most 100 links.
 fn is_on_chain(group: &Group<'_>, digest: u64, number: usize) -> bool {

@@ -1,5 +1,6 @@
 -- Tokens that leave the frames as they are.
-use Rattle.std.proofs.Common.{◌≡◌, ℕ, ◌+◌, ◌-◌, ◌*◌, ◌≤◌, Bool, true, false, ◌&&◌, ◌==◌, not, nat_le, if◌then◌else◌, Option, None, List, [], ◌∷◌, ◌++◌, length, refl, arith, ap, sym, ◌∙◌, subst}
+use Rattle.std.proofs.Common.{◌≡◌, ℕ, ◌+◌, ◌-◌, ◌*◌, ◌≤◌, Bool, true, false, ◌&&◌, ◌==◌, not, nat_le, if◌then◌else◌}
+use Rattle.std.proofs.Common.{Option, None, List, [], ◌∷◌, ◌++◌, length, refl, arith, ap, sym, ◌∙◌, subst}
 use Rattle.std.specs.Bool.{OnTrue}
 use Rattle.std.proofs.lemmas.List.{set-get_or}
 use Rattle.line_tokens.specs.Columns.{columns, end_of}
@@ -10,15 +11,19 @@ use Rattle.layout_tables.specs.declared.penalties.GapRule.{GapRule}
 use Rattle.layout_tables.specs.Breaks.{gap_rule}
 use Rattle.layout_tables.specs.Spaces.{spaces_before}
 use Rattle.style_table.specs.declared.style.Style.{Style}
-use Rattle.line_state.specs.declared.frames.Frame.{Frame}
+use Rattle.frame_store.specs.declared.frames.Frame.{Frame}
 use Rattle.line_state.specs.declared.gap.Gap.{Gap}
 use Rattle.line_state.specs.declared.spot.Spot.{Spot}
 use Rattle.line_state.specs.Brackets.{opens_frame, binds_commas, binds_opening}
-use Rattle.line_state.specs.Layout.{Layout, gap_before, topmost, with_topmost, open_frames, is_after_opener, spot_of, is_free, opened_frame, comma_frame, placed_frame, placed_frames, new_frame, frames_after, layout_after, start_at, start_of, is_allowed, keeps_rules_at, cost_of}
-use Rattle.line_state.specs.declared.node.NodeState.{NodeState}
-use Rattle.line_state.specs.Store.{FrameList, list_at, layout_in}
+use Rattle.line_state.specs.Layout.{Layout, gap_before, open_frames, is_after_opener, spot_of, is_free, opened_frame}
+use Rattle.line_state.specs.Layout.{comma_frame, placed_frame, placed_frames, new_frame, frames_after, layout_after}
+use Rattle.line_state.specs.Layout.{start_at, start_of, is_allowed, keeps_rules_at, cost_of}
+use Rattle.frame_store.specs.Frames.{topmost, with_topmost}
+use Rattle.frame_store.specs.declared.node.NodeState.{NodeState}
+use Rattle.frame_store.specs.Store.{FrameList, list_at}
+use Rattle.line_state.specs.StoredStates.{layout_in}
 use Rattle.line_state.specs.Beside.{IsPlain, excess_beside}
-use Rattle.line_state.proofs.Lists.{all_taken}
+use Rattle.frame_store.proofs.Lists.{all_taken}
 
 past_false : (a c : Bool) → (a && false && c) ≡ false
 past_false true c = refl

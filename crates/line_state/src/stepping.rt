@@ -1,24 +1,23 @@
 //! States with their frames in a store: the same steps, in which equal lists of frames are kept once.
 
-ghost use Rattle.std.specs.Prelude.{◌≡◌, ◌+◌, ◌*◌, ◌^◌, ◌<◌, ◌≤◌, ◌↔◌, ◌&&◌, not, nat_le, true, false, length, IfOk};
-ghost use Rattle.std.specs.Prelude.{IsTrue, IfNone, IfSome, OnSome};
+ghost use Rattle.std.specs.Prelude.{◌≡◌, ◌+◌, ◌*◌, ◌^◌, ◌<◌, ◌≤◌, ◌&&◌, not, nat_le, true, false, length, IfOk, IsTrue};
+ghost use Rattle.std.specs.Prelude.{IfNone, IfSome, OnSome};
 ghost use Rattle.line_state.specs.Brackets.{opens_frame};
 ghost use Rattle.style_table.specs.Range.{IsInRange};
-ghost use Rattle.line_state.specs.Layout.{AreRules, gap_before, is_allowed, spot_of, open_frames, placed_frame};
-ghost use Rattle.line_state.specs.Layout.{placed_frames, frames_after, with_topmost, with_opened, layout_after};
-ghost use Rattle.line_state.specs.Layout.{cost_of, cells_of, start_layout};
-ghost use Rattle.line_state.specs.Store.{list_at, layout_in, IsIn, IsGrown, AreApart};
+ghost use Rattle.line_state.specs.Layout.{AreRules, gap_before, is_allowed, spot_of, open_frames, with_opened};
+ghost use Rattle.line_state.specs.Layout.{layout_after, cost_of, cells_of, start_layout};
+ghost use Rattle.frame_store.specs.Frames.{with_topmost};
+ghost use Rattle.frame_store.specs.Store.{list_at, IsIn, IsGrown};
+ghost use Rattle.line_state.specs.StoredStates.{layout_in};
 ghost use Rattle.line_state.specs.Beside.{IsPlain, excess_beside};
 ghost use Rattle.line_tokens.specs.Columns.{columns, end_of};
 ghost use Rattle.std.specs.Bool.{OnTrue};
 
-use crate::frames::Frame;
 use crate::gap::{Gap, GapRules, gap_rules, opens};
-use crate::node::NodeState;
 use crate::placing::{cost, end_column, frame_above, placed, start_column};
 use crate::rules::{allows, is_refused};
 use crate::spot::Spot;
-use crate::store::FrameStore;
+use frame_store::{Frame, FrameStore, NodeState};
 use layout_tables::GapRule;
 use line_tokens::{Fixed, LineTok, NoMemory, Role};
 use style_table::Style;

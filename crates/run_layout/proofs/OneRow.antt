@@ -13,14 +13,14 @@ use Rattle.style_table.specs.declared.style.Style.{Style}
 use Rattle.line_tokens.specs.Roles.{is_trailing}
 use Rattle.line_tokens.specs.declared.LineTok.{LineTok}
 use Rattle.line_tokens.specs.declared.Fixed.{Fixed}
-use Rattle.line_state.specs.declared.frames.Frame.{Frame}
+use Rattle.frame_store.specs.declared.frames.Frame.{Frame}
 use Rattle.line_state.specs.declared.gap.Gap.{Gap}
 use Rattle.line_state.specs.Brackets.{opens_frame}
 use Rattle.line_tokens.specs.Columns.{columns, end_of, stored_or}
 use Rattle.line_state.specs.Layout.{Layout, spot_of, start_layout, is_allowed, is_some_decision, layout_after, cost_of}
-use Rattle.line_state.specs.Layout.{gap_cost, is_free, excess_at, start_of, broken_start, open_frames, topmost}
-use Rattle.line_state.specs.Layout.{new_frame, placed_frames, opened_frame, comma_frame, is_after_opener, frames_after}
-use Rattle.line_state.specs.Layout.{cells_of}
+use Rattle.line_state.specs.Layout.{gap_cost, is_free, excess_at, start_of, broken_start, open_frames, new_frame}
+use Rattle.line_state.specs.Layout.{placed_frames, opened_frame, comma_frame, is_after_opener, frames_after, cells_of}
+use Rattle.frame_store.specs.Frames.{topmost}
 use Rattle.line_state.specs.Line.{Line, Step, gaps, gap_at, gap_between, decision_at, first_layout, first_cost}
 use Rattle.line_state.specs.Line.{step_over}
 use Rattle.line_state.proofs.Steps.{StayTogether, is_first, stored, least_of, least_allowed, least_stays, functional}

@@ -1,6 +1,6 @@
 use Rattle.std.proofs.Common.{◌≡◌, ◌∙◌, ◌+◌, length, Option, Some, ℕ, ap, arith, rules}
 use Rattle.std.specs.Prelude.{Result, Ok, Err, OnErr}
-use Rattle.line_state.proofs.Edits.{at_set}
+use Rattle.frame_store.proofs.Edits.{at_set}
 use Rattle.break_search.proofs.table.add.Goals as goal
 
 on_err : {T E : Type 0} (r : Result T E) (P : Type 0) → P → OnErr r P

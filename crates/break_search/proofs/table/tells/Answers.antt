@@ -1,6 +1,6 @@
 use Rattle.std.proofs.Common.{◌≡◌, refl}
 use Rattle.std.proofs.lemmas.Option.{slice_get_read}
-use Rattle.line_state.specs.Store.{IsSamePlace}
+use Rattle.frame_store.specs.Store.{IsSamePlace}
 use Rattle.break_search.specs.Groups.{HasPlace, LacksPlace}
 use Rattle.break_search.proofs.Forks.{on_false_then, on_true_then}
 use Rattle.break_search.proofs.NodeChains.{lacks_here}

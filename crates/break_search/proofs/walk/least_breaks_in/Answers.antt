@@ -1,5 +1,5 @@
 use Rattle.std.proofs.Common.{Bool, List, arith, sym, subst}
-use Rattle.line_state.specs.Store.{state_in}
+use Rattle.line_state.specs.StoredStates.{state_in}
 use Rattle.break_search.specs.Starts.{IsAdmissible}
 use Rattle.break_search.proofs.LeastBreaks.{little_begins_in, little_more, little_ends}
 use Rattle.break_search.proofs.walk.least_breaks_in.Goals as goal

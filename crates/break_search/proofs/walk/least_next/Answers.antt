@@ -1,5 +1,5 @@
 use Rattle.std.proofs.Common.{false, true, arith}
-use Rattle.line_state.specs.Store.{layout_in, state_in}
+use Rattle.line_state.specs.StoredStates.{layout_in, state_in}
 use Rattle.break_search.proofs.Walking.{next_told, none_told, next_known, next_told_grown, none_told_grown}
 use Rattle.break_search.proofs.LeastBreaks.{never_stuck, stays_on, breaks_on}
 use Rattle.break_search.proofs.walk.least_next.Goals as goal

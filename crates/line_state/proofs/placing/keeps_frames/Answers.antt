@@ -1,6 +1,7 @@
 use Rattle.std.proofs.Common.{Bool, ◌&&◌, ap, sym, ◌∙◌, arith}
 use Rattle.line_state.specs.Brackets.{binds_commas}
-use Rattle.line_state.specs.Layout.{layout_of, topmost}
+use Rattle.line_state.specs.Layout.{layout_of}
+use Rattle.frame_store.specs.Frames.{topmost}
 use Rattle.line_state.proofs.Staying.{stay_on, stay_behind_comma}
 use Rattle.line_state.proofs.placing.keeps_frames.Goals as goal
 

@@ -3,7 +3,7 @@ use Rattle.line_tokens.specs.Columns.{columns}
 use Rattle.line_state.specs.declared.spot.Spot.{Spot}
 use Rattle.line_state.specs.Beside.{excess_beside}
 use Rattle.line_state.specs.Layout.{gap_before, spot_of, allows_at}
-use Rattle.line_state.specs.Store.{layout_in}
+use Rattle.line_state.specs.StoredStates.{layout_in}
 use Rattle.line_state.proofs.Staying.{steps_beside, beside_in}
 use Rattle.line_state.proofs.Tests.{on_true_at}
 use Rattle.line_state.proofs.stepping.try_step_by.Goals as goal

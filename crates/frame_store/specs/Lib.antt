@@ -1,0 +1,4 @@
+pub mod Digest
+pub mod Frames
+pub mod Chains
+pub mod Store
