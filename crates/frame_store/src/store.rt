@@ -189,7 +189,7 @@ impl<'r> FrameStore<'r> {
         Ok(at as u32)
     }
 
-    /// The node of a frame and the node below it, which is added where there is none. A frame on no node is a base frame.
+    /// The node of a frame and the node below it, which is added where there is none.
     ///
     /// # Errors
     ///
