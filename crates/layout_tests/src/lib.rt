@@ -12,7 +12,7 @@
 //! - `blanks`: the blanks of a row (`layout_tables`)
 //! - `break_costs`: where rows may end (`layout_tables`)
 //! - `joined_lines`: short lines that become one (`line_joiner`)
-//! - `digests`: numbers that are found by digests (`line_state`)
+//! - `digests`: numbers that are found by digests (`frame_store`)
 //! - `line_steps`: a line, one token after another (`line_state`)
 //! - `searches`: the least breaking, beside a search of every breaking (`break_search`)
 //! - `written_gaps`: the bytes of decisions (`replacements`)
