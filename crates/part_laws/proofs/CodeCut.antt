@@ -5,13 +5,13 @@ use Rattle.token_arena.specs.Gaps.{Contents}
 use Rattle.token_classes.specs.declared.class.TokenClass.{TokenClass}
 use Rattle.token_classes.specs.Classes.{is_word, is_opener, is_open_round, is_open_brace, is_semicolon, is_plain, is_assigning, is_before_list, is_close_round}
 use Rattle.token_classes.specs.Viewed.{classes_of}
-use Rattle.unwrapped_lines.specs.declared.token.CodeToken.{CodeToken}
-use Rattle.unwrapped_lines.specs.declared.line.Line.{Line}
-use Rattle.unwrapped_lines.specs.declared.open.Open.{Open}
-use Rattle.unwrapped_lines.specs.declared.open.Start.{Start}
-use Rattle.unwrapped_lines.specs.declared.open.Start.TheVariants.{Fresh, Tail, Closing}
-use Rattle.unwrapped_lines.specs.Forms.{class_at, class_before, partner_in, partner_of}
-use Rattle.unwrapped_lines.specs.Tree.{whole_file}
+use Rattle.statement_lines.specs.declared.token.CodeToken.{CodeToken}
+use Rattle.statement_lines.specs.declared.line.Line.{Line}
+use Rattle.statement_lines.specs.declared.open.Open.{Open}
+use Rattle.statement_lines.specs.declared.open.Start.{Start}
+use Rattle.statement_lines.specs.declared.open.Start.TheVariants.{Fresh, Tail, Closing}
+use Rattle.statement_lines.specs.Forms.{class_at, class_before, partner_in, partner_of}
+use Rattle.statement_lines.specs.Tree.{whole_file}
 use Rattle.unwrapped_lines.specs.Viewed.{code_tokens}
 use Rattle.part_laws.specs.Declarations.{Before, Name, Parameters, Semicolon, Body, Between, Other, is_end, is_lost}
 use Rattle.part_laws.specs.LinesCut.{partner_behind, partners_in}

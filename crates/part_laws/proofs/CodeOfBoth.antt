@@ -8,7 +8,7 @@ use Rattle.token_classes.specs.declared.class.TokenClass.{TokenClass}
 use Rattle.token_classes.specs.declared.class.TokenClass.TheVariants.{Nothing}
 use Rattle.token_classes.specs.Classes.{is_colon, is_comment}
 use Rattle.token_classes.specs.Viewed.{item_class, classes_of}
-use Rattle.unwrapped_lines.specs.declared.token.CodeToken.{CodeToken}
+use Rattle.statement_lines.specs.declared.token.CodeToken.{CodeToken}
 use Rattle.unwrapped_lines.specs.Viewed.{colon_touches, numbers_from, numbers_of, partner_number, token_at, code_places_from, code_tokens}
 use Rattle.unwrapped_lines.proofs.NumberLemmas.{numbers_count}
 use Rattle.part_laws.specs.LinesCut.{partner_behind, partners_in}

@@ -9,8 +9,8 @@ use Rattle.token_classes.specs.declared.class.TokenClass.{TokenClass}
 use Rattle.token_classes.specs.declared.class.TokenClass.TheVariants.{Nothing, CloseBrace, Semicolon as SemicolonClass, LineComment, BlockComment}
 use Rattle.token_classes.specs.Classes.{is_comment, is_word, is_before_list, is_close_round}
 use Rattle.token_classes.specs.Viewed.{item_class, classes_of}
-use Rattle.unwrapped_lines.specs.declared.token.CodeToken.{CodeToken}
-use Rattle.unwrapped_lines.specs.Forms.{class_at, class_before}
+use Rattle.statement_lines.specs.declared.token.CodeToken.{CodeToken}
+use Rattle.statement_lines.specs.Forms.{class_at, class_before}
 use Rattle.unwrapped_lines.specs.Viewed.{token_at, code_places_from}
 use Rattle.part_laws.specs.LinesCut.{partners_in, IsFirstPart}
 use Rattle.part_laws.proofs.CodeCut.{BeginsWord, IsCutBehind, code_of, ArePassed, ArePaired}

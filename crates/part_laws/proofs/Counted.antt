@@ -8,8 +8,8 @@ use Rattle.token_classes.specs.declared.class.TokenClass.{TokenClass}
 use Rattle.token_classes.specs.declared.class.TokenClass.TheVariants.{Nothing}
 use Rattle.token_classes.specs.Classes.{is_comment}
 use Rattle.token_classes.specs.Viewed.{item_class, classes_of}
-use Rattle.unwrapped_lines.specs.declared.token.CodeToken.{CodeToken}
-use Rattle.unwrapped_lines.specs.Forms.{class_of, class_at, partner_of, partner_in, within}
+use Rattle.statement_lines.specs.declared.token.CodeToken.{CodeToken}
+use Rattle.statement_lines.specs.Forms.{class_of, class_at, partner_of, partner_in, within}
 use Rattle.unwrapped_lines.specs.Viewed.{numbers_from, numbers_of, partner_number, token_at, code_places_from}
 use Rattle.part_laws.specs.LinesCut.{partners_in}
 use Rattle.part_laws.proofs.CodeCut.{code_of}

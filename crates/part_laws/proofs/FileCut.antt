@@ -3,17 +3,17 @@ use Rattle.std.proofs.Common.{◌≡◌, ◌∙◌, ℕ, zero, suc, ◌+◌, ◌
 use Rattle.std.specs.Prelude.{slice_get}
 use Rattle.std.proofs.lemmas.Bool.{and_parts, lt-ltb}
 use Rattle.token_classes.specs.Classes.{is_word, is_open_round, is_close_round}
-use Rattle.unwrapped_lines.specs.declared.token.CodeToken.{CodeToken}
-use Rattle.unwrapped_lines.specs.declared.line.Line.{Line}
-use Rattle.unwrapped_lines.specs.declared.braces.Braces.{Braces}
-use Rattle.unwrapped_lines.specs.declared.open.Open.{Open}
-use Rattle.unwrapped_lines.specs.declared.open.Start.{Start}
-use Rattle.unwrapped_lines.specs.declared.open.Start.TheVariants.{Fresh, Tail, Closing}
-use Rattle.unwrapped_lines.specs.declared.form.Next.{Next}
-use Rattle.unwrapped_lines.specs.declared.form.Next.TheVariants.{Ends, Goes, Waits, Opens}
-use Rattle.unwrapped_lines.specs.Forms.{class_of, class_at, partner_of, partner_in, within, form_of}
-use Rattle.unwrapped_lines.specs.Tree.{lines_from, end_level_from, line_of, head_lines, lines_of, end_level}
-use Rattle.unwrapped_lines.proofs.StackLemmas.{from_end}
+use Rattle.statement_lines.specs.declared.token.CodeToken.{CodeToken}
+use Rattle.statement_lines.specs.declared.line.Line.{Line}
+use Rattle.statement_lines.specs.declared.braces.Braces.{Braces}
+use Rattle.statement_lines.specs.declared.open.Open.{Open}
+use Rattle.statement_lines.specs.declared.open.Start.{Start}
+use Rattle.statement_lines.specs.declared.open.Start.TheVariants.{Fresh, Tail, Closing}
+use Rattle.statement_lines.specs.declared.form.Next.{Next}
+use Rattle.statement_lines.specs.declared.form.Next.TheVariants.{Ends, Goes, Waits, Opens}
+use Rattle.statement_lines.specs.Forms.{class_of, class_at, partner_of, partner_in, within, form_of}
+use Rattle.statement_lines.specs.Tree.{lines_from, end_level_from, line_of, head_lines, lines_of, end_level}
+use Rattle.statement_lines.proofs.StackLemmas.{from_end}
 use Rattle.part_laws.specs.Declarations.{Between}
 use Rattle.part_laws.proofs.CodeCut.{ArePaired, BeginsWord, file_up_to, ArePassed}
 use Rattle.part_laws.proofs.WaySteps.{EndsBeforeWord, way_longer}
@@ -23,7 +23,7 @@ use Rattle.part_laws.proofs.Places.{slice_before, slice_at_seam}
 use Rattle.part_laws.proofs.PartnerPlaces.{partner_place}
 use Rattle.part_laws.proofs.Turns.{lines_after, lines_turn, level_after, level_turn, same_lines, same_level}
 use Rattle.part_laws.proofs.Choices.{at_true}
-use Rattle.unwrapped_lines.specs.declared.form.Form.{Form}
+use Rattle.statement_lines.specs.declared.form.Form.{Form}
 
 -- the list of the file with this end, alone
 abbrev up_to : ℕ → List Open

@@ -5,25 +5,25 @@ use Rattle.token_classes.specs.declared.class.TokenClass.{TokenClass}
 use Rattle.token_classes.specs.declared.class.TokenClass.TheVariants.{Nothing, OpenRound, OpenSquare, OpenBrace, CloseBrace, CapitalWord, PlainWord, Extern, Text, Semicolon as SemicolonClass}
 use Rattle.token_classes.specs.Classes.{is_word, is_plain, is_capital, is_opener, is_struct, is_union, is_enum, is_extern, is_open_round, is_open_brace, is_close_brace, is_semicolon, is_text, is_control, is_case, is_default, is_else, is_colon}
 use Rattle.line_tokens.specs.declared.line.LineKind.TheVariants.{ExternHead, Brace, Close, MacroLine}
-use Rattle.unwrapped_lines.specs.declared.token.CodeToken.{CodeToken}
-use Rattle.unwrapped_lines.specs.declared.braces.Braces.{Braces}
-use Rattle.unwrapped_lines.specs.declared.open.Head.{Head}
-use Rattle.unwrapped_lines.specs.declared.open.Head.TheVariants.{Tagged, Plain}
-use Rattle.unwrapped_lines.specs.declared.open.Open.{Open}
-use Rattle.unwrapped_lines.specs.declared.open.Start.{Start}
-use Rattle.unwrapped_lines.specs.declared.open.Start.TheVariants.{Fresh, Tail, Closing}
-use Rattle.unwrapped_lines.specs.declared.form.Next.{Next}
-use Rattle.unwrapped_lines.specs.declared.form.Next.TheVariants.{Ends, Goes, Waits, Opens}
-use Rattle.unwrapped_lines.specs.declared.form.Form.{Form}
-use Rattle.unwrapped_lines.specs.declared.form.Stop.{Stop}
-use Rattle.unwrapped_lines.specs.Forms.{class_at, seen, partner_in, behind_partner, partner_or, after_group, block_end, statement_stop, tag_before, began_at, behind_close, tagged_head, ends_macro, macro_end, other_form, case_colon, has_no_partner, label, tail_end, unlabelled, statement, is_tagged, is_do_head, is_if_head, close_form, form_of}
+use Rattle.statement_lines.specs.declared.token.CodeToken.{CodeToken}
+use Rattle.statement_lines.specs.declared.braces.Braces.{Braces}
+use Rattle.statement_lines.specs.declared.open.Head.{Head}
+use Rattle.statement_lines.specs.declared.open.Head.TheVariants.{Tagged, Plain}
+use Rattle.statement_lines.specs.declared.open.Open.{Open}
+use Rattle.statement_lines.specs.declared.open.Start.{Start}
+use Rattle.statement_lines.specs.declared.open.Start.TheVariants.{Fresh, Tail, Closing}
+use Rattle.statement_lines.specs.declared.form.Next.{Next}
+use Rattle.statement_lines.specs.declared.form.Next.TheVariants.{Ends, Goes, Waits, Opens}
+use Rattle.statement_lines.specs.declared.form.Form.{Form}
+use Rattle.statement_lines.specs.declared.form.Stop.{Stop}
+use Rattle.statement_lines.specs.Forms.{class_at, seen, partner_in, behind_partner, partner_or, after_group, block_end, statement_stop, tag_before, began_at, behind_close, tagged_head, ends_macro, macro_end, other_form, case_colon, has_no_partner, label, tail_end, unlabelled, statement, is_tagged, is_do_head, is_if_head, close_form, form_of}
 use Rattle.part_laws.specs.Declarations.{Before, Name, Parameters, Semicolon, Body, Other, is_end}
 use Rattle.part_laws.proofs.CodeCut.{behind_opener, assigned_behind, file_up_to, WayOn}
 use Rattle.part_laws.proofs.WaySteps.{EndsBeforeWord, step_of, at_most, goes_on, is_waiting, unwaited_way, opener_code, other_code, semicolon_code}
 use Rattle.part_laws.proofs.StopsAlike.{StopAlike, stop_alike, semicolon_opens, brace_opens}
 use Rattle.part_laws.proofs.Choices.{either, at_true, at_false}
 use Rattle.part_laws.proofs.PartnerPlaces.{partner_place, partner_longer}
-use Rattle.unwrapped_lines.specs.declared.open.Context.TheVariants.{File, Code}
+use Rattle.statement_lines.specs.declared.open.Context.TheVariants.{File, Code}
 use Rattle.part_laws.proofs.FormsReach.{seen_class}
 use Rattle.part_laws.proofs.FormsOfWindow.{opened_line, closed_line, stopped}
 

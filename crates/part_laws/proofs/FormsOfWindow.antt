@@ -6,24 +6,24 @@ use Rattle.token_classes.specs.declared.class.TokenClass.TheVariants.{Nothing}
 use Rattle.token_classes.specs.Classes.{is_word, is_plain, is_open_brace, is_close_brace, is_colon, is_semicolon, is_while, is_do, is_else, is_if, is_switch, is_case, is_default, is_capital, is_control, is_extern, is_text}
 use Rattle.line_tokens.specs.declared.line.LineKind.{LineKind}
 use Rattle.line_tokens.specs.declared.line.LineKind.TheVariants.{Simple, CaseLabel, GotoLabel, Control, ExternHead, Brace, Close, Enumerator, MacroLine}
-use Rattle.unwrapped_lines.specs.declared.token.CodeToken.{CodeToken}
-use Rattle.unwrapped_lines.specs.declared.braces.Braces.{Braces}
-use Rattle.unwrapped_lines.specs.declared.open.Context.{Context}
-use Rattle.unwrapped_lines.specs.declared.open.Context.TheVariants.{Code, File}
-use Rattle.unwrapped_lines.specs.declared.open.Head.{Head}
-use Rattle.unwrapped_lines.specs.declared.open.Head.TheVariants.{If as IfHead, Do as DoHead, Switch as SwitchHead, Plain}
-use Rattle.unwrapped_lines.specs.declared.open.Open.{Open}
-use Rattle.unwrapped_lines.specs.declared.form.Next.{Next}
-use Rattle.unwrapped_lines.specs.declared.form.Next.TheVariants.{Ends, Goes, Waits, Opens}
-use Rattle.unwrapped_lines.specs.declared.form.Form.{Form}
-use Rattle.unwrapped_lines.specs.declared.form.Stop.{Stop}
-use Rattle.unwrapped_lines.specs.Forms.{class_at, seen, after_group, block_end, began_at, touched_at, is_code, is_switch_head, case_colon, statement_stop, tag_before, block_at, label_form, goto_level, label, header_end, head_of, label_level, control_block, behind_close, kind_or_close, control_form, tail_end, ends_macro, macro_end, tagged_kind, wraps_tagged, tagged_context, tagged_head, other_form, has_no_partner, enumerator_end, is_enumerators, is_do_head, is_if_head, is_tagged, unlabelled, statement, close_form, form_of}
+use Rattle.statement_lines.specs.declared.token.CodeToken.{CodeToken}
+use Rattle.statement_lines.specs.declared.braces.Braces.{Braces}
+use Rattle.statement_lines.specs.declared.open.Context.{Context}
+use Rattle.statement_lines.specs.declared.open.Context.TheVariants.{Code, File}
+use Rattle.statement_lines.specs.declared.open.Head.{Head}
+use Rattle.statement_lines.specs.declared.open.Head.TheVariants.{If as IfHead, Do as DoHead, Switch as SwitchHead, Plain}
+use Rattle.statement_lines.specs.declared.open.Open.{Open}
+use Rattle.statement_lines.specs.declared.form.Next.{Next}
+use Rattle.statement_lines.specs.declared.form.Next.TheVariants.{Ends, Goes, Waits, Opens}
+use Rattle.statement_lines.specs.declared.form.Form.{Form}
+use Rattle.statement_lines.specs.declared.form.Stop.{Stop}
+use Rattle.statement_lines.specs.Forms.{class_at, seen, after_group, block_end, began_at, touched_at, is_code, is_switch_head, case_colon, statement_stop, tag_before, block_at, label_form, goto_level, label, header_end, head_of, label_level, control_block, behind_close, kind_or_close, control_form, tail_end, ends_macro, macro_end, tagged_kind, wraps_tagged, tagged_context, tagged_head, other_form, has_no_partner, enumerator_end, is_enumerators, is_do_head, is_if_head, is_tagged, unlabelled, statement, close_form, form_of}
 use Rattle.part_laws.proofs.CodeCut.{open_behind, start_behind, file_up_to}
 use Rattle.part_laws.proofs.Choices.{choose}
 use Rattle.part_laws.proofs.Window.{group_there, block_there, colon_there, stop_behind, stop_there, tag_there, enumerator_there, IsWindow, lt_there, class_there, began_there, touched_there, seen_there, missing_there}
 use Rattle.part_laws.proofs.FormsReach.{seen_within, stop_reaches, group_reaches}
-use Rattle.unwrapped_lines.specs.declared.open.Start.{Start}
-use Rattle.unwrapped_lines.specs.declared.open.Start.TheVariants.{Fresh, Tail, Closing}
+use Rattle.statement_lines.specs.declared.open.Start.{Start}
+use Rattle.statement_lines.specs.declared.open.Start.TheVariants.{Fresh, Tail, Closing}
 
 -- ## What stands behind so many tokens
 

@@ -7,17 +7,17 @@ use Rattle.token_classes.specs.declared.class.TokenClass.TheVariants.{Nothing}
 use Rattle.token_classes.specs.Classes.{is_plain, is_control, is_capital, is_if, is_else, is_while, is_do, is_case, is_default, is_extern, is_opener, is_open_round, is_open_brace, is_close_brace, is_colon, is_semicolon, is_comma, is_question, is_text}
 use Rattle.line_tokens.specs.declared.line.LineKind.{LineKind}
 use Rattle.line_tokens.specs.declared.line.LineKind.TheVariants.{CaseLabel, GotoLabel}
-use Rattle.unwrapped_lines.specs.declared.token.CodeToken.{CodeToken}
-use Rattle.unwrapped_lines.specs.declared.braces.Braces.{Braces}
-use Rattle.unwrapped_lines.specs.declared.open.Head.{Head}
-use Rattle.unwrapped_lines.specs.declared.open.Open.{Open}
-use Rattle.unwrapped_lines.specs.declared.open.Start.{Start}
-use Rattle.unwrapped_lines.specs.declared.open.Start.TheVariants.{Fresh, Tail, Closing}
-use Rattle.unwrapped_lines.specs.declared.form.Next.{Next}
-use Rattle.unwrapped_lines.specs.declared.form.Next.TheVariants.{Ends, Goes, Waits, Opens}
-use Rattle.unwrapped_lines.specs.declared.form.Form.{Form}
-use Rattle.unwrapped_lines.specs.declared.form.Stop.{Stop}
-use Rattle.unwrapped_lines.specs.Forms.{class_at, seen, within, partner_of, partner_in, behind_partner, partner_or, after_group, step_over, block_end, has_no_partner, is_code, is_enumerators, is_if_head, is_do_head, is_tagged, case_colon, enumerator_end, opens_block, assigns, statement_stop, label_form, goto_level, label, touched_at, head_of, header_end, control_block, control_form, tail_end, ends_macro, macro_end, other_form, unlabelled, statement, close_form, form_of, behind_close}
+use Rattle.statement_lines.specs.declared.token.CodeToken.{CodeToken}
+use Rattle.statement_lines.specs.declared.braces.Braces.{Braces}
+use Rattle.statement_lines.specs.declared.open.Head.{Head}
+use Rattle.statement_lines.specs.declared.open.Open.{Open}
+use Rattle.statement_lines.specs.declared.open.Start.{Start}
+use Rattle.statement_lines.specs.declared.open.Start.TheVariants.{Fresh, Tail, Closing}
+use Rattle.statement_lines.specs.declared.form.Next.{Next}
+use Rattle.statement_lines.specs.declared.form.Next.TheVariants.{Ends, Goes, Waits, Opens}
+use Rattle.statement_lines.specs.declared.form.Form.{Form}
+use Rattle.statement_lines.specs.declared.form.Stop.{Stop}
+use Rattle.statement_lines.specs.Forms.{class_at, seen, within, partner_of, partner_in, behind_partner, partner_or, after_group, step_over, block_end, has_no_partner, is_code, is_enumerators, is_if_head, is_do_head, is_tagged, case_colon, enumerator_end, opens_block, assigns, statement_stop, label_form, goto_level, label, touched_at, head_of, header_end, control_block, control_form, tail_end, ends_macro, macro_end, other_form, unlabelled, statement, close_form, form_of, behind_close}
 use Rattle.part_laws.proofs.Choices.{either, never}
 
 -- a line that begins at a place of a list with this end

@@ -4,17 +4,17 @@ use Rattle.std.proofs.lemmas.Bool.{ltb-true}
 use Rattle.std.proofs.lemmas.List.{map-append}
 use Rattle.token_classes.specs.Classes.{is_else}
 use Rattle.token_classes.specs.declared.class.TokenClass.{TokenClass}
-use Rattle.unwrapped_lines.specs.declared.token.CodeToken.{CodeToken}
-use Rattle.unwrapped_lines.specs.declared.line.Line.{Line}
-use Rattle.unwrapped_lines.specs.declared.braces.Braces.{Braces}
-use Rattle.unwrapped_lines.specs.declared.open.Open.{Open}
-use Rattle.unwrapped_lines.specs.declared.open.Start.{Start}
-use Rattle.unwrapped_lines.specs.declared.open.Start.TheVariants.{Fresh, Tail, Closing}
-use Rattle.unwrapped_lines.specs.declared.form.Next.{Next}
-use Rattle.unwrapped_lines.specs.declared.form.Next.TheVariants.{Ends, Goes, Waits, Opens}
-use Rattle.unwrapped_lines.specs.declared.form.Form.{Form}
-use Rattle.unwrapped_lines.specs.Forms.{seen, is_if_head, is_do_head, tail_end, form_of}
-use Rattle.unwrapped_lines.specs.Tree.{Reading, answers_else, answers_tail, settled, body_of, comment_level, head_lines, line_of, lines_from, level_of_list, end_level_from}
+use Rattle.statement_lines.specs.declared.token.CodeToken.{CodeToken}
+use Rattle.statement_lines.specs.declared.line.Line.{Line}
+use Rattle.statement_lines.specs.declared.braces.Braces.{Braces}
+use Rattle.statement_lines.specs.declared.open.Open.{Open}
+use Rattle.statement_lines.specs.declared.open.Start.{Start}
+use Rattle.statement_lines.specs.declared.open.Start.TheVariants.{Fresh, Tail, Closing}
+use Rattle.statement_lines.specs.declared.form.Next.{Next}
+use Rattle.statement_lines.specs.declared.form.Next.TheVariants.{Ends, Goes, Waits, Opens}
+use Rattle.statement_lines.specs.declared.form.Form.{Form}
+use Rattle.statement_lines.specs.Forms.{seen, is_if_head, is_do_head, tail_end, form_of}
+use Rattle.statement_lines.specs.Tree.{Reading, answers_else, answers_tail, settled, body_of, comment_level, head_lines, line_of, lines_from, level_of_list, end_level_from}
 use Rattle.part_laws.proofs.CodeCut.{token_behind, open_behind, start_behind, code_line_behind, IsCutBehind, IsCutBefore}
 use Rattle.part_laws.proofs.Choices.{choose, chosen}
 use Rattle.part_laws.proofs.FormsOfWindow.{next_behind, form_behind, tail_there, form_there}

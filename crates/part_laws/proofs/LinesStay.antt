@@ -4,17 +4,17 @@ use Rattle.std.proofs.lemmas.List.{append-nil, length-map}
 use Rattle.style_table.specs.declared.style.Style.{Style}
 use Rattle.token_arena.specs.Gaps.{Contents}
 use Rattle.token_classes.specs.Viewed.{item_class, classes_of}
-use Rattle.unwrapped_lines.specs.declared.token.CodeToken.{CodeToken}
-use Rattle.unwrapped_lines.specs.declared.line.Line.{Line}
-use Rattle.unwrapped_lines.specs.declared.braces.Braces.{Braces}
-use Rattle.unwrapped_lines.specs.declared.open.Start.TheVariants.{Fresh}
+use Rattle.statement_lines.specs.declared.token.CodeToken.{CodeToken}
+use Rattle.statement_lines.specs.declared.line.Line.{Line}
+use Rattle.statement_lines.specs.declared.braces.Braces.{Braces}
+use Rattle.statement_lines.specs.declared.open.Start.TheVariants.{Fresh}
 use Rattle.token_classes.specs.declared.part.Part.{Part}
-use Rattle.unwrapped_lines.specs.Wrapping.{braces_of}
+use Rattle.statement_lines.specs.Wrapping.{braces_of}
 use Rattle.unwrapped_lines.specs.Viewed.{code_places_from, parts_of, token_at}
-use Rattle.unwrapped_lines.specs.Tree.{lines_from, end_level_from, lines_of, end_level}
+use Rattle.statement_lines.specs.Tree.{lines_from, end_level_from, lines_of, end_level}
 use Rattle.unwrapped_lines.specs.Comments.{Tree, begins_from, no_marks}
 use Rattle.unwrapped_lines.specs.Lines.{lines_between, tree_of}
-use Rattle.unwrapped_lines.specs.Stack.{IsCut}
+use Rattle.statement_lines.specs.Stack.{IsCut}
 use Rattle.unwrapped_lines.proofs.CutLemmas.{parts_count}
 use Rattle.part_laws.specs.LinesCut.{IsFirstPart, partner_behind, partners_in, LinesStay}
 use Rattle.part_laws.proofs.CodeCut.{token_behind, code_line_behind, BeginsWord, IsCutBehind, code_of, file_up_to}

@@ -9,8 +9,8 @@ use Rattle.token_classes.specs.declared.class.TokenClass.{TokenClass}
 use Rattle.token_classes.specs.declared.class.TokenClass.TheVariants.{CloseRound, Nothing, OpenRound, OpenSquare, CloseSquare, OpenBrace, CloseBrace}
 use Rattle.token_classes.specs.Classes.{is_comment, is_open_round, is_close_round}
 use Rattle.token_classes.specs.Viewed.{item_class, classes_of}
-use Rattle.unwrapped_lines.specs.declared.token.CodeToken.{CodeToken}
-use Rattle.unwrapped_lines.specs.Forms.{class_of, class_at, partner_of, partner_in, within}
+use Rattle.statement_lines.specs.declared.token.CodeToken.{CodeToken}
+use Rattle.statement_lines.specs.Forms.{class_of, class_at, partner_of, partner_in, within}
 use Rattle.unwrapped_lines.specs.Viewed.{numbers_of, partner_number}
 use Rattle.part_laws.specs.LinesCut.{partners_in}
 use Rattle.part_laws.proofs.CodeCut.{ArePaired, code_of}

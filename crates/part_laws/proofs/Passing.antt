@@ -9,8 +9,8 @@ use Rattle.token_classes.specs.Classes.{is_comment, is_opener}
 use Rattle.token_classes.specs.Viewed.{item_class, classes_of}
 use Rattle.token_classes.specs.declared.pairing.Opener.{Opener}
 use Rattle.token_classes.specs.Partners.{Matching, paired, matching_from}
-use Rattle.unwrapped_lines.specs.declared.token.CodeToken.{CodeToken}
-use Rattle.unwrapped_lines.specs.Forms.{class_at, partner_in}
+use Rattle.statement_lines.specs.declared.token.CodeToken.{CodeToken}
+use Rattle.statement_lines.specs.Forms.{class_at, partner_in}
 use Rattle.part_laws.specs.Declarations.{Before, Between, Walk, start, is_end, is_lost, behind, outside, waiting_behind, next_end}
 use Rattle.part_laws.specs.LinesCut.{IsFirstPart, partners_in}
 use Rattle.part_laws.proofs.CodeCut.{behind_code, assigned_behind, code_of, Way}

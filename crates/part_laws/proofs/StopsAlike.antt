@@ -5,10 +5,10 @@ use Rattle.std.proofs.lemmas.Bool.{and_parts, or_cases, cases_Bool, cond_both, c
 use Rattle.token_classes.specs.declared.class.TokenClass.{TokenClass}
 use Rattle.token_classes.specs.declared.class.TokenClass.TheVariants.{Nothing, OpenBrace, CloseRound, CapitalWord, PlainWord, Semicolon as SemicolonClass}
 use Rattle.token_classes.specs.Classes.{is_word, is_plain, is_opener, is_assigning, is_before_list, is_call_word, is_open_round, is_close_round, is_open_brace, is_semicolon}
-use Rattle.unwrapped_lines.specs.declared.token.CodeToken.{CodeToken}
-use Rattle.unwrapped_lines.specs.declared.form.Stop.{Stop}
-use Rattle.unwrapped_lines.specs.Forms.{class_at, class_before, partner_of, partner_in, behind, behind_partner, step_over, opens_list, opens_block, assigns, statement_stop, call_opener, tag_before, is_member_word}
-use Rattle.unwrapped_lines.proofs.ScanLemmas.{stop_step, tag_other}
+use Rattle.statement_lines.specs.declared.token.CodeToken.{CodeToken}
+use Rattle.statement_lines.specs.declared.form.Stop.{Stop}
+use Rattle.statement_lines.specs.Forms.{class_at, class_before, partner_of, partner_in, behind, behind_partner, step_over, opens_list, opens_block, assigns, statement_stop, call_opener, tag_before, is_member_word}
+use Rattle.statement_lines.proofs.ScanLemmas.{stop_step, tag_other}
 use Rattle.part_laws.specs.Declarations.{Before, Name, Parameters, Semicolon, Body, Other, is_end}
 use Rattle.part_laws.proofs.CodeCut.{behind_code, behind_opener, assigned_behind, Way, WayOn}
 use Rattle.part_laws.proofs.WaySteps.{EndsBeforeWord, opener_code, other_code, semicolon_code}

@@ -1,23 +1,23 @@
 -- The lines of lists, turn by turn: where the number of turns suffices, it doesn't tell them, and they cut their tokens whole and in order.
 use Rattle.std.proofs.Common.{◌≡◌, ℕ, suc, ◌+◌, ◌<◌, nat_lt, true, false, List, [], ◌∷◌, ◌++◌, ◌∙◌, zero, ◌≤◌, ◌&&◌, refl, arith, sym, ap, inl, inr, Bool, length, ◌⊎◌, subst}
 use Rattle.std.proofs.lemmas.Bool.{lt-ltb, cases_lt}
-use Rattle.unwrapped_lines.specs.declared.token.CodeToken.{CodeToken}
-use Rattle.unwrapped_lines.specs.declared.line.Line.{Line}
-use Rattle.unwrapped_lines.specs.declared.braces.Braces.{Braces}
-use Rattle.unwrapped_lines.specs.declared.open.Open.{Open}
-use Rattle.unwrapped_lines.specs.declared.open.Start.{Start}
-use Rattle.unwrapped_lines.specs.declared.open.Start.TheVariants.{Fresh, Closing}
-use Rattle.unwrapped_lines.specs.declared.form.Next.{Next}
-use Rattle.unwrapped_lines.specs.declared.form.Next.TheVariants.{Ends, Goes, Waits, Opens}
-use Rattle.unwrapped_lines.specs.declared.form.Form.{Form}
-use Rattle.unwrapped_lines.specs.Forms.{form_of, seen, tail_end, is_if_head, is_do_head}
-use Rattle.unwrapped_lines.specs.Tree.{lines_from, end_level_from, level_of_list, settled, line_of, head_lines, body_of, Reading, answers_else, answers_tail, lines_of, whole_file}
+use Rattle.statement_lines.specs.declared.token.CodeToken.{CodeToken}
+use Rattle.statement_lines.specs.declared.line.Line.{Line}
+use Rattle.statement_lines.specs.declared.braces.Braces.{Braces}
+use Rattle.statement_lines.specs.declared.open.Open.{Open}
+use Rattle.statement_lines.specs.declared.open.Start.{Start}
+use Rattle.statement_lines.specs.declared.open.Start.TheVariants.{Fresh, Closing}
+use Rattle.statement_lines.specs.declared.form.Next.{Next}
+use Rattle.statement_lines.specs.declared.form.Next.TheVariants.{Ends, Goes, Waits, Opens}
+use Rattle.statement_lines.specs.declared.form.Form.{Form}
+use Rattle.statement_lines.specs.Forms.{form_of, seen, tail_end, is_if_head, is_do_head}
+use Rattle.statement_lines.specs.Tree.{lines_from, end_level_from, level_of_list, settled, line_of, head_lines, body_of, Reading, answers_else, answers_tail, lines_of, whole_file}
 use Rattle.part_laws.proofs.Choices.{at_true, chosen, either}
 use Rattle.token_classes.specs.Classes.{is_else}
-use Rattle.unwrapped_lines.proofs.StackLemmas.{choice_keeps, from_end, cut_more}
+use Rattle.statement_lines.proofs.StackLemmas.{choice_keeps, from_end, cut_more}
 use Rattle.part_laws.proofs.FormsReach.{Reaches, form_reaches}
-use Rattle.unwrapped_lines.proofs.EndLemmas.{end_here}
-use Rattle.unwrapped_lines.specs.Stack.{IsCut}
+use Rattle.statement_lines.proofs.EndLemmas.{end_here}
+use Rattle.statement_lines.specs.Stack.{IsCut}
 
 -- the lines from a line's form on
 abbrev pub lines_after : ℕ → Braces → List CodeToken → Open → List Open → Start → ℕ → Form → Next → List Line

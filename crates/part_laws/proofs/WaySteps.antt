@@ -4,8 +4,8 @@ use Rattle.std.specs.Prelude.{slice_get, if◌then◌else◌, IsFalse}
 use Rattle.std.proofs.lemmas.Bool.{cases_Bool}
 use Rattle.token_classes.specs.declared.class.TokenClass.{TokenClass}
 use Rattle.token_classes.specs.Classes.{is_word, is_plain, is_opener, is_open_round, is_close_round, is_semicolon}
-use Rattle.unwrapped_lines.specs.declared.token.CodeToken.{CodeToken}
-use Rattle.unwrapped_lines.specs.Forms.{class_of, class_at, partner_of, within, partner_in}
+use Rattle.statement_lines.specs.declared.token.CodeToken.{CodeToken}
+use Rattle.statement_lines.specs.Forms.{class_of, class_at, partner_of, within, partner_in}
 use Rattle.part_laws.specs.Declarations.{Before, Name, Parameters, Semicolon, Other, is_end, is_lost}
 use Rattle.part_laws.proofs.CodeCut.{behind_code, behind_opener, assigned_behind, Way, WayOn, GoesBy}
 use Rattle.part_laws.proofs.Places.{slice_before}

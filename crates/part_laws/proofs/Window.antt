@@ -5,9 +5,9 @@ use Rattle.std.proofs.lemmas.Bool.{cases_lt, lt-ltb, le-ltb, ltb-true, and_parts
 use Rattle.token_classes.specs.declared.class.TokenClass.{TokenClass}
 use Rattle.token_classes.specs.declared.class.TokenClass.TheVariants.{Nothing}
 use Rattle.token_classes.specs.Classes.{is_opener, is_open_round, is_open_brace, is_question, is_colon, is_comma, is_semicolon, is_before_list, is_close_round, is_assigning, is_call_word, is_word}
-use Rattle.unwrapped_lines.specs.declared.token.CodeToken.{CodeToken}
-use Rattle.unwrapped_lines.specs.declared.form.Stop.{Stop}
-use Rattle.unwrapped_lines.specs.Forms.{class_at, class_before, seen, partner_of, partner_in, behind_partner, partner_or, after_group, step_over, block_end, case_colon, enumerator_end, opens_list, opens_block, assigns, statement_stop, behind, call_opener, is_member_word, enum_or, tag_before, class_of, within, began_of, began_at, touched_of, touched_at, is_missing, has_no_partner, ends_macro}
+use Rattle.statement_lines.specs.declared.token.CodeToken.{CodeToken}
+use Rattle.statement_lines.specs.declared.form.Stop.{Stop}
+use Rattle.statement_lines.specs.Forms.{class_at, class_before, seen, partner_of, partner_in, behind_partner, partner_or, after_group, step_over, block_end, case_colon, enumerator_end, opens_list, opens_block, assigns, statement_stop, behind, call_opener, is_member_word, enum_or, tag_before, class_of, within, began_of, began_at, touched_of, touched_at, is_missing, has_no_partner, ends_macro}
 use Rattle.part_laws.specs.LinesCut.{partner_behind}
 use Rattle.part_laws.proofs.Choices.{choose, chosen, at_true, at_false}
 use Rattle.part_laws.proofs.CodeCut.{token_behind, IsCutBehind, IsCutBefore}

@@ -1,5 +1,6 @@
 -- The lines of a view cut it.
-use Rattle.std.proofs.Common.{◌≡◌, ℕ, suc, ◌+◌, ◌-◌, ◌<◌, ◌≤◌, Bool, true, false, not, ◌||◌, List, [], ◌∷◌, ◌++◌, length, map, Option, Some, None, refl, arith, sym, ◌∙◌, ap, subst, inl, inr, ◌⊎◌}
+use Rattle.std.proofs.Common.{◌≡◌, ℕ, suc, ◌+◌, ◌-◌, ◌<◌, ◌≤◌, Bool, true, false, not, ◌||◌, List, [], ◌∷◌, ◌++◌}
+use Rattle.std.proofs.Common.{length, map, Option, Some, None, refl, arith, sym, ◌∙◌, ap, subst, inl, inr, ◌⊎◌}
 use Rattle.std.specs.Prelude.{if◌then◌else◌, slice_get}
 use Rattle.std.proofs.lemmas.List.{length-map}
 use Rattle.style_table.specs.declared.style.Style.{Style}
@@ -7,18 +8,19 @@ use Rattle.token_arena.specs.Gaps.{Contents}
 use Rattle.token_classes.specs.declared.class.TokenClass.{TokenClass}
 use Rattle.token_classes.specs.Classes.{is_comment, is_line_comment}
 use Rattle.token_classes.specs.Viewed.{item_class, classes_of}
-use Rattle.unwrapped_lines.specs.declared.line.Line.{Line}
+use Rattle.statement_lines.specs.declared.line.Line.{Line}
 use Rattle.line_tokens.specs.declared.line.LineKind.TheVariants.{Comment}
 use Rattle.unwrapped_lines.specs.declared.part.Begin.{Begin}
 use Rattle.token_classes.specs.declared.part.Part.{Part}
 use Rattle.token_classes.specs.declared.part.Part.TheVariants.{Token, Own, Trailing, Inner}
 use Rattle.unwrapped_lines.specs.declared.part.Marks.{Marks}
-use Rattle.unwrapped_lines.specs.Comments.{Tree, new_begin, begin_of, begins_from, list_of, no_marks, next_marks, is_between, is_own, begins_line, own_level}
+use Rattle.unwrapped_lines.specs.Comments.{Tree, new_begin, begin_of, begins_from, list_of, no_marks, next_marks}
+use Rattle.unwrapped_lines.specs.Comments.{is_between, is_own, begins_line, own_level}
 use Rattle.unwrapped_lines.specs.Viewed.{code_places_from, code_tokens, token_at, parts_from}
 use Rattle.token_classes.specs.Part.{part_of, line_ends_behind}
-use Rattle.unwrapped_lines.specs.Stack.{IsCut}
-use Rattle.unwrapped_lines.specs.Tree.{lines_of}
-use Rattle.unwrapped_lines.specs.Wrapping.{braces_of}
+use Rattle.statement_lines.specs.Stack.{IsCut}
+use Rattle.statement_lines.specs.Tree.{lines_of}
+use Rattle.statement_lines.specs.Wrapping.{braces_of}
 use Rattle.line_tokens.specs.Lines.{CutPlaces}
 use Rattle.unwrapped_lines.specs.Lines.{lines_between, unwrapped_lines_of, tree_of}
 

@@ -1,11 +1,12 @@
 -- Behind its last token no line begins, whatever the level at the view's end.
-use Rattle.std.proofs.Common.{◌≡◌, ◌∙◌, ℕ, suc, ◌+◌, ◌-◌, ◌<◌, Bool, true, false, not, nat_le, ◌||◌, Option, None, Some, List, [], ◌∷◌, ◌++◌, length, get_or, slice_get, refl, arith, ap, sym}
+use Rattle.std.proofs.Common.{◌≡◌, ◌∙◌, ℕ, suc, ◌+◌, ◌-◌, ◌<◌, Bool, true, false, not, nat_le, ◌||◌, Option, None, Some}
+use Rattle.std.proofs.Common.{List, [], ◌∷◌, ◌++◌, length, get_or, slice_get, refl, arith, ap, sym}
 use Rattle.std.specs.Prelude.{if◌then◌else◌}
 use Rattle.token_arena.specs.Gaps.{Contents, item_began}
 use Rattle.token_classes.specs.declared.class.TokenClass.{TokenClass}
 use Rattle.token_classes.specs.Classes.{is_comment, is_line_comment}
 use Rattle.line_tokens.specs.declared.line.LineKind.TheVariants.{Comment}
-use Rattle.unwrapped_lines.specs.declared.line.Line.{Line}
+use Rattle.statement_lines.specs.declared.line.Line.{Line}
 use Rattle.unwrapped_lines.specs.declared.part.Begin.{Begin}
 use Rattle.unwrapped_lines.specs.declared.part.Marks.{Marks}
 use Rattle.token_classes.specs.declared.part.Part.{Part}

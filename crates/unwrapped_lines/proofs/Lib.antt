@@ -1,15 +1,5 @@
-pub mod Lists
-pub mod Known
-pub mod Examples
-pub mod ScanLemmas
-pub mod StackLemmas
-pub mod FormLemmas
-pub mod SimpleLemmas
-pub mod TurnLemmas
-pub mod EndLemmas
 pub mod CutLemmas
 pub mod Started
-pub mod ColonLemmas
 pub mod PlainLemmas
 pub mod NumberLemmas
 pub mod SegmentLemmas

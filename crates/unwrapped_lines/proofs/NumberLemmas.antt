@@ -1,5 +1,6 @@
 -- How tokens that are no comments are numbered.
-use Rattle.std.proofs.Common.{◌≡◌, ◌∙◌, ℕ, zero, suc, ◌+◌, ◌<◌, ◌≤◌, true, false, nat_lt, min, List, [], ◌∷◌, ◌++◌, length, map, drop, get_or, Option, Some, refl, arith, sym, ap, length-append}
+use Rattle.std.proofs.Common.{◌≡◌, ◌∙◌, ℕ, zero, suc, ◌+◌, ◌<◌, ◌≤◌, true, false, nat_lt, min, List, [], ◌∷◌, ◌++◌}
+use Rattle.std.proofs.Common.{length, map, drop, get_or, Option, Some, refl, arith, sym, ap, length-append}
 use Rattle.std.specs.Prelude.{if◌then◌else◌, slice_get, None, unwrap_or}
 use Rattle.std.proofs.lemmas.List.{append_assoc, drop_more, length-map}
 use Rattle.std.proofs.lemmas.Option.{slice_get_past}

@@ -1,6 +1,9 @@
 -- Tokens inside a line begin none.
-use Rattle.std.proofs.Common.{◌≡◌, ◌≢◌, ◌∙◌, ℕ, zero, suc, ◌+◌, ◌-◌, ◌<◌, ◌≤◌, Bool, true, false, not, ◌&&◌, nat_eq, nat_lt, Option, None, Some, List, [], ◌∷◌, ◌++◌, slice_get, length, drop, arith, ap, sym, refl, subst}
-use Rattle.unwrapped_lines.specs.Comments.{Tree, is_between, between_at, is_apart, is_begun, begin_of, begins_line, new_begin, next_marks, list_of, begins_from, run_of, token_follows}
+use Rattle.std.proofs.Common.{◌≡◌, ◌≢◌, ◌∙◌, ℕ, zero, suc, ◌+◌, ◌-◌, ◌<◌, ◌≤◌, Bool, true, false, not, ◌&&◌, nat_eq}
+use Rattle.std.proofs.Common.{nat_lt, Option, None, Some, List, [], ◌∷◌, ◌++◌, slice_get, length, drop, arith, ap, sym}
+use Rattle.std.proofs.Common.{refl, subst}
+use Rattle.unwrapped_lines.specs.Comments.{Tree, is_between, between_at, is_apart, is_begun, begin_of, begins_line}
+use Rattle.unwrapped_lines.specs.Comments.{new_begin, next_marks, list_of, begins_from, run_of, token_follows}
 use Rattle.token_classes.specs.declared.part.Part.{Part}
 use Rattle.unwrapped_lines.specs.declared.part.ViewComment.{ViewComment}
 use Rattle.token_classes.specs.declared.part.Part.TheVariants.{Token, Own, Trailing, Inner}
@@ -8,7 +11,7 @@ use Rattle.unwrapped_lines.specs.declared.part.Run.{Run}
 use Rattle.unwrapped_lines.specs.declared.part.Run.TheVariants.{Apart}
 use Rattle.unwrapped_lines.specs.declared.part.Marks.{Marks}
 use Rattle.unwrapped_lines.specs.declared.part.Begin.{Begin}
-use Rattle.unwrapped_lines.specs.declared.line.Line.{Line}
+use Rattle.statement_lines.specs.declared.line.Line.{Line}
 use Rattle.line_tokens.specs.declared.line.ULine.{ULine}
 use Rattle.unwrapped_lines.specs.Lines.{lines_between}
 use Rattle.unwrapped_lines.specs.Inside.{parts_with, FollowFrom, begin_with, marks_with}

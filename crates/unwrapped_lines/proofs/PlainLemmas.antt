@@ -1,5 +1,6 @@
 -- The lines of a view without comments are those of its tokens.
-use Rattle.std.proofs.Common.{◌≡◌, ℕ, zero, suc, ◌+◌, ◌-◌, ◌<◌, ◌≤◌, nat_le, nat_eq, Bool, true, false, not, ◌||◌, List, [], ◌∷◌, length, map, Option, Some, refl, arith, sym, ◌∙◌, ap, subst, inl, inr, ◌⊎◌}
+use Rattle.std.proofs.Common.{◌≡◌, ℕ, zero, suc, ◌+◌, ◌-◌, ◌<◌, ◌≤◌, nat_le, nat_eq, Bool, true, false, not, ◌||◌, List}
+use Rattle.std.proofs.Common.{[], ◌∷◌, length, map, Option, Some, refl, arith, sym, ◌∙◌, ap, subst, inl, inr, ◌⊎◌}
 use Rattle.std.specs.Prelude.{if◌then◌else◌, slice_get}
 use Rattle.std.proofs.lemmas.List.{length-map}
 use Rattle.style_table.specs.declared.style.Style.{Style}
@@ -7,9 +8,9 @@ use Rattle.token_arena.specs.Gaps.{Contents}
 use Rattle.token_classes.specs.declared.class.TokenClass.{TokenClass}
 use Rattle.token_classes.specs.Classes.{is_comment}
 use Rattle.token_classes.specs.Viewed.{classes_of, item_class}
-use Rattle.unwrapped_lines.specs.declared.line.Line.{Line}
-use Rattle.unwrapped_lines.specs.declared.braces.Braces.{Braces}
-use Rattle.unwrapped_lines.specs.declared.token.CodeToken.{CodeToken}
+use Rattle.statement_lines.specs.declared.line.Line.{Line}
+use Rattle.statement_lines.specs.declared.braces.Braces.{Braces}
+use Rattle.statement_lines.specs.declared.token.CodeToken.{CodeToken}
 use Rattle.unwrapped_lines.specs.declared.part.Begin.{Begin}
 use Rattle.token_classes.specs.declared.part.Part.{Part}
 use Rattle.token_classes.specs.declared.part.Part.TheVariants.{Token}
@@ -19,9 +20,9 @@ use Rattle.unwrapped_lines.specs.Comments.{Tree, begins_from, no_marks, is_betwe
 use Rattle.unwrapped_lines.specs.declared.part.ViewComment.{ViewComment}
 use Rattle.unwrapped_lines.specs.Inside.{lines_with, parts_with, tree_with}
 use Rattle.unwrapped_lines.specs.Viewed.{code_places_from, code_tokens, token_at, parts_from, parts_of}
-use Rattle.unwrapped_lines.specs.Stack.{IsCut}
-use Rattle.unwrapped_lines.specs.Tree.{end_level, lines_of}
-use Rattle.unwrapped_lines.specs.Wrapping.{braces_of}
+use Rattle.statement_lines.specs.Stack.{IsCut}
+use Rattle.statement_lines.specs.Tree.{end_level, lines_of}
+use Rattle.statement_lines.specs.Wrapping.{braces_of}
 use Rattle.unwrapped_lines.specs.Lines.{lines_between, unwrapped_lines_of, tree_of, view_line}
 use Rattle.unwrapped_lines.proofs.CutLemmas.{places_count}
 

@@ -1,19 +1,19 @@
 -- Tokens of a view, read segment by segment.
-use Rattle.std.proofs.Common.{◌≡◌, ◌∙◌, ℕ, zero, suc, ◌+◌, ◌-◌, ◌<◌, ◌≤◌, All, true, false, List, [], ◌∷◌, ◌++◌, length, map, drop, get_or, refl, arith, sym, ap, subst, length-append}
+use Rattle.std.proofs.Common.{◌≡◌, ◌∙◌, ℕ, zero, suc, ◌+◌, ◌-◌, ◌<◌, ◌≤◌, All, true, false, List, [], ◌∷◌, ◌++◌, length}
+use Rattle.std.proofs.Common.{map, drop, get_or, refl, arith, sym, ap, subst, length-append}
 use Rattle.token_arena.specs.declared.view.Segment.{Segment}
 use Rattle.token_arena.specs.Segments.{ids_of, segment_bounds, AreSegments, CountFrom, no_segment, HasPlace}
 use Rattle.token_arena.proofs.SegmentLemmas.{length_items, item_at_start}
-use Rattle.std.proofs.lemmas.List.{append-nil, append_assoc, drop_more}
+use Rattle.std.proofs.lemmas.List.{append-nil, append_assoc, drop_more, get_or_default}
 use Rattle.token_classes.proofs.ItemClasses.{viewed_fits}
-use Rattle.token_classes.specs.Classes.{is_comment}
+use Rattle.token_classes.specs.Classes.{is_comment, is_colon}
 use Rattle.token_classes.specs.declared.class.TokenClass.{TokenClass}
-use Rattle.unwrapped_lines.specs.declared.token.CodeToken.{CodeToken}
+use Rattle.statement_lines.specs.declared.token.CodeToken.{CodeToken}
 use Rattle.token_arena.specs.Gaps.{Contents, item_began}
-use Rattle.std.proofs.lemmas.List.{get_or_default}
 use Rattle.std.specs.Prelude.{slice_get, Option, ◌&&◌}
-use Rattle.token_classes.specs.Classes.{is_colon}
 use Rattle.token_classes.specs.declared.class.TokenClass.TheVariants.{Nothing}
-use Rattle.unwrapped_lines.specs.Viewed.{code_places_from, token_at, code_tokens, partner_number, numbers_of, colon_touches}
+use Rattle.unwrapped_lines.specs.Viewed.{code_places_from, token_at, code_tokens, partner_number, numbers_of}
+use Rattle.unwrapped_lines.specs.Viewed.{colon_touches}
 use Rattle.unwrapped_lines.specs.Inside.{segment_stop, AreTokensBefore}
 
 -- how many places stand before the segment with a number, where so many stand before the first

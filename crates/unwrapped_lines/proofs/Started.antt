@@ -1,24 +1,25 @@
 -- The lines of any view cut it.
-use Rattle.std.proofs.Common.{◌≡◌, ℕ, zero, suc, ◌+◌, ◌<◌, ◌≤◌, nat_lt, Bool, true, false, List, [], ◌∷◌, ◌++◌, length, Option, refl, arith, inl, inr, ◌⊎◌}
+use Rattle.std.proofs.Common.{◌≡◌, ℕ, zero, suc, ◌+◌, ◌<◌, ◌≤◌, nat_lt, Bool, true, false, List, [], ◌∷◌, ◌++◌, length}
+use Rattle.std.proofs.Common.{Option, refl, arith, inl, inr, ◌⊎◌}
 use Rattle.style_table.specs.declared.style.Style.{Style}
 use Rattle.token_arena.specs.Gaps.{Contents}
 use Rattle.token_classes.specs.Viewed.{classes_of}
-use Rattle.unwrapped_lines.specs.declared.token.CodeToken.{CodeToken}
-use Rattle.unwrapped_lines.specs.declared.line.Line.{Line}
-use Rattle.unwrapped_lines.specs.declared.braces.Braces.{Braces}
-use Rattle.unwrapped_lines.specs.declared.open.Open.{Open}
-use Rattle.unwrapped_lines.specs.declared.open.Start.{Start}
-use Rattle.unwrapped_lines.specs.declared.open.Start.TheVariants.{Fresh, Closing}
-use Rattle.unwrapped_lines.specs.declared.form.Form.{Form}
-use Rattle.unwrapped_lines.specs.declared.form.Next.{Next}
-use Rattle.unwrapped_lines.specs.declared.form.Next.TheVariants.{Ends, Goes, Waits, Opens}
-use Rattle.unwrapped_lines.specs.Forms.{form_of}
-use Rattle.unwrapped_lines.specs.Tree.{lines_from, lines_of, head_lines, whole_file}
+use Rattle.statement_lines.specs.declared.token.CodeToken.{CodeToken}
+use Rattle.statement_lines.specs.declared.line.Line.{Line}
+use Rattle.statement_lines.specs.declared.braces.Braces.{Braces}
+use Rattle.statement_lines.specs.declared.open.Open.{Open}
+use Rattle.statement_lines.specs.declared.open.Start.{Start}
+use Rattle.statement_lines.specs.declared.open.Start.TheVariants.{Fresh, Closing}
+use Rattle.statement_lines.specs.declared.form.Form.{Form}
+use Rattle.statement_lines.specs.declared.form.Next.{Next}
+use Rattle.statement_lines.specs.declared.form.Next.TheVariants.{Ends, Goes, Waits, Opens}
+use Rattle.statement_lines.specs.Forms.{form_of}
+use Rattle.statement_lines.specs.Tree.{lines_from, lines_of, head_lines, whole_file}
 use Rattle.unwrapped_lines.specs.Viewed.{code_tokens}
-use Rattle.unwrapped_lines.specs.Wrapping.{braces_of}
+use Rattle.statement_lines.specs.Wrapping.{braces_of}
 use Rattle.line_tokens.specs.Lines.{CutPlaces}
 use Rattle.unwrapped_lines.specs.Lines.{unwrapped_lines_of}
-use Rattle.unwrapped_lines.proofs.StackLemmas.{lt_true, from_end, from_ends, from_goes, from_waits, from_opens}
+use Rattle.statement_lines.proofs.StackLemmas.{lt_true, from_end, from_ends, from_goes, from_waits, from_opens}
 use Rattle.unwrapped_lines.proofs.CutLemmas.{Starts, cut_started}
 
 head_starts : (total : ℕ) (o : Open) (start : Start) (f : Form) (wrapped : Bool) (ls ms : List Line) → Starts total (head_lines o start 0 f wrapped ++ ls ++ ms)

@@ -1,7 +1,7 @@
 -- Lines of a view with its comments: where each begins.
 use Rattle.std.specs.Prelude.{ℕ, ◌+◌, nat_eq, nat_le, Bool, true, false, ◌&&◌, not, List, [], ◌∷◌, ◌++◌, Option, Some}
 use Rattle.std.specs.Prelude.{None, slice_get}
-use Rattle.unwrapped_lines.specs.declared.line.Line.{Line}
+use Rattle.statement_lines.specs.declared.line.Line.{Line}
 use Rattle.line_tokens.specs.declared.line.LineKind.TheVariants.{Comment}
 use Rattle.token_classes.specs.declared.part.Part.{Part}
 use Rattle.token_classes.specs.declared.part.Part.TheVariants.{Token, Own, Trailing, Inner}

@@ -1,7 +1,6 @@
 -- What the code's functions tell each other of a view. No contract of a public function cites it.
 use Rattle.std.specs.Prelude.{◌≡◌, ◌≤◌, ℕ, zero, suc, ◌+◌, ◌-◌, nat_eq, nat_lt, true, false, Option, Some, None, List}
-use Rattle.std.specs.Prelude.{Bool, ◌&&◌}
-use Rattle.std.specs.Prelude.{[], ◌∷◌, ◌++◌, length, map, drop, get_or, if◌then◌else◌}
+use Rattle.std.specs.Prelude.{Bool, ◌&&◌, [], ◌∷◌, ◌++◌, length, map, drop, get_or, if◌then◌else◌}
 use Rattle.token_arena.specs.declared.view.Segment.{Segment}
 use Rattle.token_arena.specs.Gaps.{Contents}
 use Rattle.token_arena.specs.Segments.{ids_of, segment_bounds, AreSegments}
@@ -9,21 +8,21 @@ use Rattle.token_classes.specs.Viewed.{AreWithin}
 use Rattle.c_chars.specs.declared.TheConstants.{LIMIT}
 use Rattle.token_classes.specs.declared.class.TokenClass.{TokenClass}
 use Rattle.token_classes.specs.Classes.{is_comment}
-use Rattle.unwrapped_lines.specs.declared.token.CodeToken.{CodeToken}
+use Rattle.statement_lines.specs.declared.token.CodeToken.{CodeToken}
 use Rattle.token_classes.specs.declared.part.Part.{Part}
 use Rattle.token_classes.specs.declared.part.Part.TheVariants.{Token, Own, Trailing, Inner}
 use Rattle.line_tokens.specs.declared.line.LineKind.TheVariants.{Comment}
-use Rattle.unwrapped_lines.specs.declared.line.Line.{Line}
+use Rattle.statement_lines.specs.declared.line.Line.{Line}
 use Rattle.unwrapped_lines.specs.declared.part.Begin.{Begin}
 use Rattle.unwrapped_lines.specs.declared.part.Marks.{Marks}
 use Rattle.unwrapped_lines.specs.declared.part.Run.{Run}
 use Rattle.unwrapped_lines.specs.declared.part.Run.TheVariants.{Apart}
 use Rattle.unwrapped_lines.specs.declared.part.ViewComment.{ViewComment}
 use Rattle.line_tokens.specs.declared.line.ULine.{ULine}
-use Rattle.unwrapped_lines.specs.declared.braces.Braces.{Braces}
+use Rattle.statement_lines.specs.declared.braces.Braces.{Braces}
 use Rattle.unwrapped_lines.specs.Comments.{Tree, begins_from, no_marks, begin_of, is_apart, is_own, own_level, run_of}
 use Rattle.unwrapped_lines.specs.Lines.{lines_between}
-use Rattle.unwrapped_lines.specs.Tree.{lines_of, end_level}
+use Rattle.statement_lines.specs.Tree.{lines_of, end_level}
 use Rattle.unwrapped_lines.specs.Viewed.{numbers_of, token_at, code_places_from, code_tokens, parts_of}
 use Rattle.token_classes.specs.Part.{part_of}
 

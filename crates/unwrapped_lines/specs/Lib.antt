@@ -1,9 +1,4 @@
-pub mod Forms
-pub mod Tree
-pub mod Stack
 pub mod Comments
 pub mod Viewed
 pub mod Inside
-pub mod Wrapping
 pub mod Lines
-pub mod Colons

@@ -4,12 +4,12 @@ use Rattle.style_table.specs.declared.style.Style.{Style}
 use Rattle.token_arena.specs.Gaps.{Contents}
 use Rattle.token_classes.specs.Partners.{partners_of}
 use Rattle.token_classes.specs.Viewed.{classes_of}
-use Rattle.unwrapped_lines.specs.declared.line.Line.{Line}
+use Rattle.statement_lines.specs.declared.line.Line.{Line}
 use Rattle.line_tokens.specs.declared.line.ULine.{ULine}
 use Rattle.unwrapped_lines.specs.declared.part.Begin.{Begin}
-use Rattle.unwrapped_lines.specs.Wrapping.{braces_of}
+use Rattle.statement_lines.specs.Wrapping.{braces_of}
 use Rattle.unwrapped_lines.specs.Viewed.{code_tokens, parts_of}
-use Rattle.unwrapped_lines.specs.Tree.{lines_of, end_level}
+use Rattle.statement_lines.specs.Tree.{lines_of, end_level}
 use Rattle.unwrapped_lines.specs.Comments.{Tree, begins_from, no_marks}
 
 -- the line that begins so and goes up to a place

@@ -1,13 +1,13 @@
 -- A view as a list of tokens and comments.
-use Rattle.std.specs.Prelude.{◌&&◌, ◌||◌, not, ℕ, ◌+◌, Bool, false, Option, Some, None, List, [], ◌∷◌, length, map}
-use Rattle.std.specs.Prelude.{get_or, slice_get, if◌then◌else◌}
+use Rattle.std.specs.Prelude.{◌&&◌, ◌||◌, not, ℕ, ◌+◌, Bool, false, Option, Some, None, List, [], ◌∷◌, map, get_or}
+use Rattle.std.specs.Prelude.{slice_get, if◌then◌else◌}
 use Rattle.token_arena.specs.Gaps.{Contents, item_began}
 use Rattle.token_arena.specs.Stored.{Stored}
 use Rattle.token_classes.specs.declared.class.TokenClass.{TokenClass}
 use Rattle.token_classes.specs.declared.class.TokenClass.TheVariants.{Nothing}
 use Rattle.token_classes.specs.Classes.{is_colon, is_comment}
 use Rattle.token_classes.specs.Viewed.{item_class}
-use Rattle.unwrapped_lines.specs.declared.token.CodeToken.{CodeToken}
+use Rattle.statement_lines.specs.declared.token.CodeToken.{CodeToken}
 use Rattle.token_classes.specs.declared.part.Part.{Part}
 use Rattle.token_classes.specs.Part.{part_of}
 

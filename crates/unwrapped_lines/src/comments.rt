@@ -1,7 +1,7 @@
 //! The lines of a view with its comments.
 
-ghost use Rattle.std.specs.Prelude.{◌≡◌, ◌<◌, ◌≤◌, ◌+◌, ◌-◌, ◌^◌, ◌∷◌, ◌++◌, ◌&&◌, length};
-ghost use Rattle.std.specs.Prelude.{slice_get, ℕ, false, IfOk, IfSome, List};
+ghost use Rattle.std.specs.Prelude.{◌≡◌, ◌<◌, ◌≤◌, ◌+◌, ◌-◌, ◌^◌, ◌∷◌, ◌++◌, ◌&&◌, length, slice_get, ℕ, false, IfOk};
+ghost use Rattle.std.specs.Prelude.{IfSome, List};
 ghost use Rattle.unwrapped_lines.specs.declared.part.Begin.{Begin};
 ghost use Rattle.unwrapped_lines.specs.declared.part.ViewComment.{ViewComment};
 ghost use Rattle.unwrapped_lines.specs.Comments.{token_follows, between_at, begins_from, no_marks, list_of};
@@ -9,10 +9,10 @@ ghost use Rattle.unwrapped_lines.specs.Comments.{begins_line, is_begun};
 ghost use Rattle.unwrapped_lines.specs.Lines.{lines_between};
 ghost use Rattle.unwrapped_lines.specs.Inside.{parts_with, FollowFrom, begin_with, marks_with, run_with};
 
-use crate::line::Line;
 use crate::part::{Begin, Marks, Run, ViewComment};
 use bumpalo::Bump;
 use line_tokens::{LineKind, NoMemory, ULine};
+use statement_lines::Line;
 use token_classes::Part;
 
 /// Whether a token comes after the inner comments at a place, where these comments follow.

@@ -5,25 +5,20 @@ ghost use Rattle.c_chars.specs.declared.TheConstants.{LIMIT};
 ghost use Rattle.token_classes.specs.Viewed.{AreWithin, classes_of};
 ghost use Rattle.line_tokens.specs.Lines.{CutPlaces};
 ghost use Rattle.unwrapped_lines.specs.Lines.{tree_of, unwrapped_lines_of, view_line};
-ghost use Rattle.unwrapped_lines.specs.Colons.{AreCaseColons};
+ghost use Rattle.statement_lines.specs.Colons.{AreCaseColons};
 ghost use Rattle.unwrapped_lines.specs.Comments.{begins_from, no_marks};
 ghost use Rattle.unwrapped_lines.specs.Inside.{lines_with, parts_with};
-ghost use Rattle.unwrapped_lines.specs.Stack.{IsCut};
-ghost use Rattle.unwrapped_lines.specs.Tree.{end_level, lines_of};
+ghost use Rattle.statement_lines.specs.Stack.{IsCut};
+ghost use Rattle.statement_lines.specs.Tree.{end_level, lines_of};
 ghost use Rattle.unwrapped_lines.specs.Viewed.{code_places_from, parts_of};
-ghost use Rattle.unwrapped_lines.specs.declared.line.Line.{Line};
+ghost use Rattle.statement_lines.specs.declared.line.Line.{Line};
 
-use crate::braces::{Braces, braces_of};
-use crate::colons::colons;
 use crate::comments::comment_lines;
-use crate::ending::end_level;
-use crate::line::Line;
-use crate::token::CodeToken;
-use crate::tree::tree_lines;
 use crate::viewed::{ViewTokens, read_view};
 use bumpalo::Bump;
 use bumpalo::collections::into_bump_slice;
 use line_tokens::{NoMemory, ULine};
+use statement_lines::{Braces, CodeToken, Line, braces_of, case_colons, end_level, tree_lines};
 use style_table::Style;
 use token_arena::{TokenArena, View};
 use token_classes::{Partner, TokenClass};
@@ -95,7 +90,7 @@ fn lines_of_read<'r>(
         (λ lines. IsCut 0 (length read.now.tokens.items) (lines_of braces.now read.now.tokens.items)) }
 {
     let tokens: &[CodeToken] = &read.tokens;
-    let colons = colons(tokens, &read.noted.cases, run)?;
+    let colons = case_colons(tokens, &read.noted.cases, run)?;
     let colons = into_bump_slice(colons);
     let tree = tree_lines(braces, tokens, colons, run)?;
     let tree = into_bump_slice(tree);

@@ -1,11 +1,10 @@
 //! A view as a list of tokens and comments.
 
-ghost use Rattle.std.specs.Prelude.{◌≡◌, ◌&&◌, ◌<◌, ◌≤◌, ◌+◌, length, map, get_or};
-ghost use Rattle.std.specs.Prelude.{slice_get, vec_capacity, IfOk, Some, true, false, if◌then◌else◌};
+ghost use Rattle.std.specs.Prelude.{◌≡◌, ◌&&◌, ◌<◌, ◌≤◌, ◌+◌, length, map, get_or, slice_get, vec_capacity, IfOk, Some};
+ghost use Rattle.std.specs.Prelude.{false, if◌then◌else◌};
 ghost use Rattle.token_classes.specs.Viewed.{AreWithin};
 ghost use Rattle.token_classes.specs.Classes.{is_colon, is_comment};
-ghost use Rattle.unwrapped_lines.specs.Viewed.{colon_touches, numbers_of, partner_number};
-ghost use Rattle.unwrapped_lines.specs.Viewed.{code_tokens, parts_of};
+ghost use Rattle.unwrapped_lines.specs.Viewed.{colon_touches, numbers_of, partner_number, code_tokens, parts_of};
 ghost use Rattle.unwrapped_lines.specs.Inside.{partner_numbers, AreTokensBefore, AreCommentsBefore, segment_stop};
 ghost use Rattle.unwrapped_lines.specs.Inside.{comments_of, parts_with, AreRead};
 ghost use Rattle.token_arena.specs.Gaps.{item_began};
@@ -13,9 +12,9 @@ ghost use Rattle.token_arena.specs.Segments.{ids_of, segment_bounds, no_segment}
 ghost use Rattle.c_chars.specs.declared.TheConstants.{LIMIT};
 
 use crate::part::ViewComment;
-use crate::token::CodeToken;
 use bumpalo::Bump;
 use line_tokens::{NoMemory, TokenId};
+use statement_lines::CodeToken;
 use token_arena::{Segment, TokenArena, View};
 use token_classes::{Partner, TokenClass, comment_part, item_class};
 

@@ -1,7 +1,7 @@
 use Rattle.std.proofs.Common.{◌≡◌, ◌<◌, ◌+◌, ◌-◌, Some, get_or, length, slice_get, arith}
 use Rattle.std.proofs.lemmas.Option.{slice_get-get_or}
 use Rattle.line_tokens.specs.declared.line.LineKind.TheVariants.{Simple}
-use Rattle.unwrapped_lines.specs.declared.line.Line.{Line}
+use Rattle.statement_lines.specs.declared.line.Line.{Line}
 use Rattle.unwrapped_lines.proofs.Passed.{line_row}
 use Rattle.unwrapped_lines.proofs.comments.line_before.Goals as goal
 

@@ -2,7 +2,7 @@ use Rattle.std.proofs.Common.{◌≡◌, ◌∙◌, ◌-◌, ◌+◌, length, ge
 use Rattle.token_classes.specs.Classes.{is_comment}
 use Rattle.token_classes.specs.declared.class.TokenClass.TheVariants.{If}
 use Rattle.unwrapped_lines.specs.Comments.{no_marks}
-use Rattle.unwrapped_lines.specs.Tree.{end_level}
+use Rattle.statement_lines.specs.Tree.{end_level}
 use Rattle.unwrapped_lines.specs.Viewed.{parts_of}
 use Rattle.unwrapped_lines.proofs.EndsWithToken.{end_in_token, same_begins, tokens_count, tokens_in}
 use Rattle.unwrapped_lines.proofs.cutting.level_behind.Goals as goal

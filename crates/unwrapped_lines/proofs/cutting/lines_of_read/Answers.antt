@@ -1,13 +1,13 @@
 use Rattle.std.proofs.Common.{◌≡◌, ◌∙◌, List, ap, arith, length, map, subst, sym}
 use Rattle.std.proofs.lemmas.Result.{IfOk-weaker}
-use Rattle.unwrapped_lines.specs.declared.line.Line.{Line}
+use Rattle.statement_lines.specs.declared.line.Line.{Line}
 use Rattle.unwrapped_lines.specs.declared.part.ViewComment.{ViewComment}
-use Rattle.unwrapped_lines.specs.declared.token.CodeToken.{CodeToken}
+use Rattle.statement_lines.specs.declared.token.CodeToken.{CodeToken}
 use Rattle.unwrapped_lines.specs.Comments.{begins_from, no_marks}
 use Rattle.unwrapped_lines.specs.Inside.{lines_with, parts_with}
 use Rattle.unwrapped_lines.specs.Lines.{lines_between, view_line}
-use Rattle.unwrapped_lines.specs.Stack.{IsCut}
-use Rattle.unwrapped_lines.specs.Tree.{end_level, lines_of}
+use Rattle.statement_lines.specs.Stack.{IsCut}
+use Rattle.statement_lines.specs.Tree.{end_level, lines_of}
 use Rattle.unwrapped_lines.specs.Viewed.{parts_of}
 use Rattle.unwrapped_lines.proofs.PlainLemmas.{lines_behind, plain_lines}
 use Rattle.unwrapped_lines.proofs.cutting.lines_of_read.Goals as goal

@@ -3,8 +3,8 @@ use Rattle.std.proofs.lemmas.Result.{IfOk-weaker}
 use Rattle.token_classes.proofs.Lists.{few_below}
 use Rattle.unwrapped_lines.specs.Inside.{lines_with}
 use Rattle.unwrapped_lines.specs.Lines.{tree_of, unwrapped_lines_of}
-use Rattle.unwrapped_lines.specs.Stack.{IsCut}
-use Rattle.unwrapped_lines.specs.Tree.{lines_of}
+use Rattle.statement_lines.specs.Stack.{IsCut}
+use Rattle.statement_lines.specs.Tree.{lines_of}
 use Rattle.unwrapped_lines.proofs.PlainLemmas.{cut_read, lines_read, tokens_read}
 use Rattle.unwrapped_lines.proofs.cutting.read_lines.Goals as goal
 

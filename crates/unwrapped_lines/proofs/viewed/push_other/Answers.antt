@@ -1,11 +1,12 @@
-use Rattle.std.proofs.Common.{◌≡◌, ◌∙◌, ◌<◌, ◌+◌, ◌-◌, ◌∷◌, [], ◌++◌, List, Bool, true, false, nat_lt, ap, length, map, get_or, arith, subst, sym}
+use Rattle.std.proofs.Common.{◌≡◌, ◌∙◌, ◌<◌, ◌+◌, ◌-◌, ◌∷◌, [], ◌++◌, List, Bool, true, false, nat_lt, ap, length, map}
+use Rattle.std.proofs.Common.{get_or, arith, subst, sym}
 use Rattle.token_arena.specs.Gaps.{item_began}
 use Rattle.token_arena.specs.Segments.{ids_of, segment_bounds, no_segment}
 use Rattle.token_classes.specs.Classes.{is_comment}
 use Rattle.token_classes.specs.declared.class.TokenClass.TheVariants.{If}
 use Rattle.unwrapped_lines.specs.Viewed.{token_at}
 use Rattle.token_classes.specs.Part.{part_of}
-use Rattle.unwrapped_lines.specs.declared.token.CodeToken.{CodeToken}
+use Rattle.statement_lines.specs.declared.token.CodeToken.{CodeToken}
 use Rattle.token_classes.specs.declared.part.Part.{Part}
 use Rattle.unwrapped_lines.specs.declared.part.ViewComment.{ViewComment}
 use Rattle.unwrapped_lines.specs.Inside.{AreTokensBefore, AreCommentsBefore}

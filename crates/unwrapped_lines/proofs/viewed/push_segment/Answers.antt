@@ -1,4 +1,5 @@
-use Rattle.std.proofs.Common.{◌≡◌, ◌∙◌, ◌<◌, ◌+◌, ◌&&◌, List, Option, Some, Bool, ℕ, false, ap, length, map, get_or, slice_get, arith, subst, sym, refl}
+use Rattle.std.proofs.Common.{◌≡◌, ◌∙◌, ◌<◌, ◌+◌, ◌&&◌, List, Option, Some, Bool, ℕ, false, ap, length, map, get_or}
+use Rattle.std.proofs.Common.{slice_get, arith, subst, sym, refl}
 use Rattle.std.proofs.lemmas.Option.{slice_get-get_or}
 use Rattle.token_arena.specs.Gaps.{item_began}
 use Rattle.token_arena.specs.Segments.{ids_of, segment_bounds, no_segment}
@@ -6,7 +7,7 @@ use Rattle.token_classes.specs.Classes.{is_colon, is_comment}
 use Rattle.token_classes.specs.declared.class.TokenClass.TheVariants.{If}
 use Rattle.token_classes.proofs.ItemClasses.{viewed_fits}
 use Rattle.unwrapped_lines.specs.Viewed.{colon_touches, numbers_of, partner_number, token_at}
-use Rattle.unwrapped_lines.specs.declared.token.CodeToken.{CodeToken}
+use Rattle.statement_lines.specs.declared.token.CodeToken.{CodeToken}
 use Rattle.unwrapped_lines.specs.Inside.{AreTokensBefore, AreCommentsBefore, segment_stop}
 use Rattle.unwrapped_lines.proofs.CommentParts.{token_noted}
 use Rattle.unwrapped_lines.proofs.SegmentLemmas.{IsAt, at_place, in_order, stop_most, token_before, token_same}

@@ -3,7 +3,8 @@ use Rattle.token_arena.specs.Segments.{ids_of, segment_bounds}
 use Rattle.unwrapped_lines.specs.Viewed.{code_tokens}
 use Rattle.unwrapped_lines.specs.Inside.{parts_with, AreTokensBefore, AreCommentsBefore, comments_of}
 use Rattle.unwrapped_lines.proofs.CommentParts.{all_noted, parts_same}
-use Rattle.unwrapped_lines.proofs.SegmentLemmas.{places_before, before_segment, behind_all, first_before, next_before, none_before, all_tokens}
+use Rattle.unwrapped_lines.proofs.SegmentLemmas.{places_before, before_segment, behind_all, first_before, next_before}
+use Rattle.unwrapped_lines.proofs.SegmentLemmas.{none_before, all_tokens}
 use Rattle.unwrapped_lines.proofs.viewed.read_view.Goals as goal
 
 pub loop-number-init : goal.loop-number-init

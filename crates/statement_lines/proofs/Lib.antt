@@ -1,0 +1,10 @@
+pub mod Lists
+pub mod Known
+pub mod Examples
+pub mod ScanLemmas
+pub mod StackLemmas
+pub mod FormLemmas
+pub mod SimpleLemmas
+pub mod TurnLemmas
+pub mod EndLemmas
+pub mod ColonLemmas

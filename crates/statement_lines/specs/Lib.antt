@@ -1,0 +1,5 @@
+pub mod Forms
+pub mod Tree
+pub mod Stack
+pub mod Wrapping
+pub mod Colons

@@ -1,0 +1,167 @@
+//! Scans outside brackets.
+
+ghost use Rattle.std.specs.Prelude.{◌≡◌, ◌<◌, ◌≤◌, ◌+◌, ◌-◌, length, slice_get, Some, None, true};
+ghost use Rattle.std.specs.Bool.{OnFalse, OnTrue};
+ghost use Rattle.token_classes.specs.Classes.{is_open_brace};
+ghost use Rattle.token_classes.specs.declared.class.TokenClass.TheVariants.{Nothing};
+ghost use Rattle.statement_lines.specs.Forms.{enumerator_end, statement_stop, call_opener, tag_before, behind};
+ghost use Rattle.statement_lines.specs.Forms.{partner_of, opens_block, assigns, is_member_word, class_at};
+
+use crate::form::Stop;
+use crate::lookups::{class_at, step_over, token_at};
+use crate::token::CodeToken;
+use token_classes::TokenClass;
+
+/// The end of an enumerator, its comma included.
+#[inline(always)]
+pub fn enumerator_end(tokens: &[CodeToken], end: usize, at: usize) -> usize
+    requires here { at < end }
+    requires list { end ≤ length tokens.now }
+    ensures same { result ≡ enumerator_end (end - at) tokens.now end at }
+    ensures least { at < result }
+    ensures most { result ≤ end }
+{
+    let mut i = at;
+    while i < end {
+        if class_at(tokens, i).is_comma() {
+            return i + 1;
+        }
+        i = step_over(tokens, end, i);
+    }
+    end
+}
+
+fn assigns(tokens: &[CodeToken], assigned: bool, place: usize) -> bool
+    ensures { result ≡ assigns tokens.now assigned place }
+{
+    assigned || class_at(tokens, place).is_assigning()
+}
+
+pub fn is_member_word(class: TokenClass) -> bool
+    ensures { result ≡ is_member_word class }
+{
+    class.is_struct() || class.is_union()
+}
+
+fn opens_block(tokens: &[CodeToken], assigned: bool, place: usize) -> bool
+    ensures { result ≡ opens_block tokens.now assigned place }
+{
+    if !class_at(tokens, place).is_open_brace() {
+        return false;
+    }
+    let before = if place > 0 {
+        class_at(tokens, place - 1)
+    } else {
+        TokenClass::Nothing
+    };
+    let opens_list = before.is_before_list() || (before.is_close_round() && assigned);
+    !opens_list
+}
+
+/// Where a statement that is no other case ends.
+#[inline(always)]
+#[tactic(auto, using(crate::proofs::ScanLemmas::stop_at_end))]
+pub fn statement_stop(tokens: &[CodeToken], end: usize, from: usize, assigned: bool) -> Stop
+    requires here { from ≤ end }
+    requires list { end ≤ length tokens.now }
+    ensures same { result ≡ statement_stop (end - from) tokens.now end from assigned }
+    ensures least { from ≤ result.at }
+    ensures most { result.at ≤ end }
+    ensures brace { OnTrue result.opens (result.at < end) }
+    ensures open { OnTrue result.opens (is_open_brace (class_at tokens.now result.at) ≡ true) }
+    ensures takes { OnFalse result.opens (from < end → from < result.at) }
+{
+    // The compiler, told that the end stands within the tokens, leaves the checks of bounds out of the loop.
+    let count = tokens.len();
+    prove!(end <= count);
+    let mut i = from;
+    let mut assigned = assigned;
+    while i < end {
+        if class_at(tokens, i).is_semicolon() {
+            return Stop {
+                at: i + 1,
+                opens: false,
+                assigned,
+            };
+        }
+        if opens_block(tokens, assigned, i) {
+            return Stop {
+                at: i,
+                opens: true,
+                assigned,
+            };
+        }
+        assigned = assigns(tokens, assigned, i);
+        i = step_over(tokens, end, i);
+    }
+    Stop {
+        at: end,
+        opens: false,
+        assigned,
+    }
+}
+
+/// The opener of the group that ends before a place and stands after a call word, otherwise 0.
+fn call_opener(tokens: &[CodeToken], first: usize, place: usize) -> usize
+    requires { 0 < place }
+    ensures same { result ≡ call_opener tokens.now first place }
+    ensures most { 0 < result → result < place }
+{
+    if class_at(tokens, place - 1).is_close_round() {
+        let o = behind(tokens, first, place - 1);
+        if o > 0 && class_at(tokens, o - 1).is_call_word() {
+            o
+        } else {
+            0
+        }
+    } else {
+        0
+    }
+}
+
+/// The partner of a place, if it stands before it and after `first`, otherwise 0.
+fn behind(tokens: &[CodeToken], first: usize, at: usize) -> usize
+    ensures same { result ≡ behind first at (partner_of (slice_get tokens.now at)) }
+    ensures most { 0 < result → result < at }
+{
+    match token_at(tokens, at) {
+        Some(t) => match t.partner.place() {
+            Some(place) => {
+                let p = place as usize;
+                if first < p && p < at { p } else { 0 }
+            }
+            None => 0,
+        },
+        None => 0,
+    }
+}
+
+/// `struct`, `union` or `enum` before the brace.
+#[inline(always)]
+#[tactic(auto, using(crate::proofs::ScanLemmas::tag_at_end, crate::proofs::ScanLemmas::tag_member, crate::proofs::ScanLemmas::tag_other))]
+pub fn tag_before(tokens: &[CodeToken], first: usize, brace: usize) -> TokenClass
+    requires { brace ≤ length tokens.now }
+    ensures { result ≡ tag_before (brace - first) tokens.now first brace Nothing }
+{
+    let mut i = brace;
+    let mut found = TokenClass::Nothing;
+    while first < i {
+        let c = class_at(tokens, i - 1);
+        if is_member_word(c) {
+            return c;
+        }
+        if c.is_word() {
+            if c.is_enum() {
+                found = c;
+            }
+            i -= 1;
+        } else {
+            let o = call_opener(tokens, first, i);
+            if o == 0 {
+                return found;
+            }
+            i = o;
+        }
+    }
+    found
+}

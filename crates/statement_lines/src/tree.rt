@@ -1,0 +1,389 @@
+//! The lines of tokens, with a stack of open lists.
+
+ghost use Rattle.std.specs.Prelude.{◌≡◌, ◌<◌, ◌≤◌, ◌+◌, ◌-◌, ◌*◌, ◌^◌, ◌∷◌, [], ◌++◌, reverse, length, Some, None};
+ghost use Rattle.std.specs.Prelude.{IfSome, IfNone, IfOk};
+ghost use Rattle.statement_lines.specs.declared.open.Start.TheVariants.{Fresh};
+ghost use Rattle.statement_lines.specs.Forms.{StaysIn, form_of};
+ghost use Rattle.statement_lines.specs.Tree.{settled, lines_of, whole_file, body_of, line_of, head_lines};
+ghost use Rattle.statement_lines.specs.Colons.{AreCaseColons};
+ghost use Rattle.statement_lines.specs.Stack.{Stands, IsCut, LeavesOpen, GoesBehind, form_lines, left};
+
+use crate::braces::Braces;
+use crate::form::{Form, Next};
+use crate::forms::{form_of, line_alone, tail_end};
+use crate::line::Line;
+use crate::lookups::seen;
+use crate::open::{Context, Head, Open, Start};
+use crate::simple::simple_end;
+use crate::token::CodeToken;
+use bumpalo::Bump;
+use line_tokens::{LineKind, NoMemory};
+
+/// So many tokens or more stand in a line of most texts.
+const TOKENS_IN_A_LINE: usize = 4;
+
+/// What begins at a place.
+#[derive(Clone, Copy, Drop)]
+pub struct Place {
+    pub start: Start,
+    pub at: usize,
+}
+
+/// Ends the headers that waited for the statement that has ended.
+#[inline(always)]
+#[tactic(auto, using(crate::proofs::Lists::reverse_snoc))]
+pub(crate) fn settle(tokens: &[CodeToken], stack: &mut Vec<Open, &Bump>, at: usize) -> Start
+    requires { at < 2 ^ 33 }
+    ensures same { settled tokens.now at (reverse stack.old.items)
+        ≡ record { opens = reverse stack.new.items; start = result } }
+    ensures fewer { length stack.new.items ≤ length stack.old.items }
+{
+    while let Some(o) = stack.last().copied() {
+        if o.block {
+            return Start::Fresh;
+        }
+        stack.pop();
+        if o.head.is_if() && seen(tokens, o.end, at).is_else() {
+            return Start::Fresh;
+        }
+        if o.head.is_do() && at < tail_end(tokens, o.end, at) {
+            return Start::Tail;
+        }
+    }
+    Start::Fresh
+}
+
+/// Puts a list on the stack. Mostly there is room, and no call is made.
+#[inline(always)]
+pub(crate) fn push_open(stack: &mut Vec<Open, &Bump>, opened: Open) -> Result<(), NoMemory>
+    ensures items { IfOk result (λ u. stack.new.items ≡ stack.old.items ++ opened ∷ []) }
+{
+    if stack.len() < stack.capacity() {
+        stack.push_reserved(opened);
+    } else {
+        stack.push(opened)?;
+    }
+    Ok(())
+}
+
+/// Appends a line.
+#[inline(always)]
+fn push_line(out: &mut Vec<Line, &Bump>, line: Line) -> Result<(), NoMemory>
+    ensures items { IfOk result (λ u. out.new.items ≡ out.old.items ++ line ∷ []) }
+{
+    out.push(line)?;
+    Ok(())
+}
+
+/// Takes off the innermost block, and all above it.
+fn leave(stack: &mut Vec<Open, &Bump>) -> Option<Open>
+    ensures some { IfSome result
+        (λ b. left (reverse stack.old.items) ≡ Some (record { block = b; below = reverse stack.new.items })) }
+    ensures none { IfNone result (left (reverse stack.old.items) ≡ None) }
+    ensures fewer { IfSome result (λ b. length stack.new.items < length stack.old.items) }
+{
+    while let Some(o) = stack.pop() {
+        if o.block {
+            return Some(o);
+        }
+    }
+    None
+}
+
+/// The line at a place.
+#[inline(always)]
+fn line_of(opened: Open, start: Start, at: usize, form: Form) -> Line
+    requires begins { at < 2 ^ 32 }
+    requires ends { form.end < 2 ^ 32 }
+    ensures { result ≡ line_of opened start at form }
+{
+    // An own comment has the level of the line's list, but before a label that of the label.
+    let list_level = match start {
+        Start::Fresh => {
+            if form.kind.is_label() {
+                form.level
+            } else {
+                opened.level
+            }
+        }
+        Start::Tail => opened.level,
+        Start::Closing(block) => block.level,
+    };
+    Line {
+        first: at as u32,
+        end: form.end as u32,
+        level: form.level,
+        kind: form.kind,
+        list_level,
+    }
+}
+
+/// Appends the lines of a head and its block's brace.
+#[inline(always)]
+fn push_head(
+    out: &mut Vec<Line, &Bump>,
+    opened: Open,
+    start: Start,
+    at: usize,
+    form: Form,
+    wrapped: bool,
+) -> Result<(), NoMemory>
+    requires begins { at < 2 ^ 32 }
+    requires ends { form.end + 1 < 2 ^ 32 }
+    ensures { IfOk result (λ u. out.new.items ≡ out.old.items ++ head_lines opened start at form wrapped) }
+{
+    let line = line_of(opened, start, at, form);
+    if !wrapped {
+        let whole = Line {
+            end: line.end + 1,
+            ..line
+        };
+        return push_line(out, whole);
+    }
+    push_line(out, line)?;
+    let brace = Line {
+        first: form.end as u32,
+        end: form.end as u32 + 1,
+        level: form.level,
+        kind: LineKind::Brace,
+        list_level: opened.level,
+    };
+    push_line(out, brace)
+}
+
+/// The statement that a header waits for.
+#[inline(always)]
+pub(crate) fn body_of(opened: Open, head: Head, level: u32) -> Open
+    requires { level < 2 ^ 31 }
+    ensures { result ≡ body_of opened head level }
+{
+    Open {
+        block: false,
+        context: opened.context,
+        level: level + 1,
+        case_level: level + 1,
+        end: opened.end,
+        head,
+        head_level: level,
+        assigned: false,
+    }
+}
+
+/// All tokens as a list.
+pub(crate) fn whole_file(tokens: &[CodeToken]) -> Open
+    ensures { result ≡ whole_file tokens.now }
+{
+    Open {
+        block: true,
+        context: Context::File,
+        level: 0,
+        case_level: 0,
+        end: tokens.len(),
+        head: Head::Plain,
+        head_level: 0,
+        assigned: false,
+    }
+}
+
+/// Leaves a list that has ended.
+#[inline(always)]
+fn leave_list(
+    braces: &Braces,
+    tokens: &[CodeToken],
+    out: &[Line],
+    stack: &mut Vec<Open, &Bump>,
+    opened: Open,
+    place: Place,
+) -> Place
+    requires stands { Stands braces.now tokens.now out.now (opened ∷ reverse stack.old.items) place.start place.at }
+    requires ended { opened.end ≤ place.at }
+    ensures stands { Stands braces.now tokens.now out.now (reverse stack.new.items) result.start result.at }
+    ensures fewer { length stack.new.items ≤ length stack.old.items }
+    ensures stays { result.at ≡ place.at }
+{
+    if opened.block {
+        return Place {
+            start: Start::Closing(opened),
+            at: opened.end,
+        };
+    }
+    match leave(stack) {
+        Some(b) => Place {
+            start: Start::Closing(b),
+            at: b.end,
+        },
+        None => place,
+    }
+}
+
+/// Appends the lines of a form.
+#[inline(always)]
+fn push_form(
+    out: &mut Vec<Line, &Bump>,
+    opened: Open,
+    start: Start,
+    at: usize,
+    form: Form,
+) -> Result<(), NoMemory>
+    requires begins { at < 2 ^ 32 }
+    requires ends { form.end + 1 < 2 ^ 32 }
+    ensures { IfOk result (λ u. out.new.items ≡ out.old.items ++ form_lines opened start at form form.next) }
+{
+    if let Next::Opens(wrapped, _) = form.next {
+        push_head(out, opened, start, at, form, wrapped)
+    } else {
+        push_line(out, line_of(opened, start, at, form))
+    }
+}
+
+/// Opens what a line of the innermost list leaves open, or ends what it ends, and tells what begins behind it.
+#[inline(always)]
+pub(crate) fn go_behind(
+    tokens: &[CodeToken],
+    stack: &mut Vec<Open, &Bump>,
+    opened: Open,
+    formed: Form,
+) -> Result<Place, NoMemory>
+    requires end { formed.end < 2 ^ 33 }
+    requires level { formed.level < 2 ^ 31 }
+    ensures { IfOk result (λ p.
+        GoesBehind tokens.now opened formed (reverse stack.old.items) (reverse stack.new.items) p.start p.at formed.next
+        × (length stack.new.items ≤ length stack.old.items + 1)) }
+{
+    let end = formed.end;
+    let start = match formed.next {
+        Next::Ends => settle(tokens, stack, end),
+        Next::Goes(start) => start,
+        Next::Waits(head) => {
+            push_open(stack, body_of(opened, head, formed.level))?;
+            Start::Fresh
+        }
+        Next::Opens(_, block) => {
+            push_open(stack, block)?;
+            return Ok(Place {
+                start: Start::Fresh,
+                at: end + 1,
+            });
+        }
+    };
+    Ok(Place { start, at: end })
+}
+
+/// Appends a line, and opens or ends what it opens or ends.
+#[inline(always)]
+fn take_line(
+    braces: &Braces,
+    tokens: &[CodeToken],
+    out: &mut Vec<Line, &Bump>,
+    stack: &mut Vec<Open, &Bump>,
+    opened: Open,
+    place: Place,
+    formed: Form,
+) -> Result<Place, NoMemory>
+    requires small { length tokens.now < 2 ^ 30 }
+    requires stands { Stands braces.now tokens.now out.old.items (opened ∷ reverse stack.old.items) place.start
+        place.at }
+    requires here { place.at < opened.end }
+    requires list { opened.end ≤ length tokens.now }
+    requires form { form_of braces.now tokens.now opened place.start place.at ≡ formed }
+    requires stays { StaysIn place.at opened formed formed.next }
+    requires level { formed.level ≤ 2 * place.at }
+    ensures stands { IfOk result
+        (λ p. Stands braces.now tokens.now out.new.items (reverse stack.new.items) p.start p.at) }
+    ensures up { IfOk result (λ p. (place.at < p.at) × (length stack.new.items ≤ length stack.old.items + 2)) }
+{
+    push_form(out, opened, place.start, place.at, formed)?;
+    push_open(stack, opened)?;
+    go_behind(tokens, stack, opened, formed)
+}
+
+/// The lines of tokens that are no comments, where `colons` has the colons of their `case`s.
+///
+/// `docs/PROFILE.md` says under "Statements and lines" which lines there are, and what their levels and kinds are. The
+/// lines cut the tokens whole and in order. Want of memory is the only error.
+pub fn tree_lines<'r>(
+    braces: &Braces,
+    tokens: &[CodeToken],
+    colons: &[u32],
+    run: &'r Bump,
+) -> Result<Vec<Line, &'r Bump>, NoMemory>
+    requires few { length tokens.now < 2 ^ 30 }
+    requires colons { AreCaseColons colons.now tokens.now }
+    ensures same { IfOk result (λ r. r.items ≡ lines_of braces.now tokens.now) }
+    ensures cut { IfOk result (λ r. IsCut 0 (length tokens.now) r.items) }
+{
+    let mut out = Vec::with_capacity(run, tokens.len() / TOKENS_IN_A_LINE)?;
+    let mut stack = Vec::new(run);
+    push_open(&mut stack, whole_file(tokens))?;
+    let mut place = Place {
+        start: Start::Fresh,
+        at: 0,
+    };
+    while let Some(o) = stack.pop() {
+        place = turn(braces, tokens, colons, &mut out, &mut stack, o, place)?;
+    }
+    Ok(out)
+}
+
+/// What begins behind a line that leaves the innermost list and all below it as they are, as most lines do.
+#[inline(always)]
+fn start_behind(opened: Open, formed: Form) -> Option<Start>
+    ensures { IfSome result (λ s. LeavesOpen opened formed.next s) }
+{
+    match formed.next {
+        Next::Ends => {
+            if opened.block {
+                Some(Start::Fresh)
+            } else {
+                None
+            }
+        }
+        Next::Goes(start) => Some(start),
+        Next::Waits(_) | Next::Opens(_, _) => None,
+    }
+}
+
+/// Simple lines, and the one behind them or the end of the innermost list. What only other lines need isn't made
+/// ready for these.
+#[inline(always)]
+fn turn(
+    braces: &Braces,
+    tokens: &[CodeToken],
+    colons: &[u32],
+    out: &mut Vec<Line, &Bump>,
+    stack: &mut Vec<Open, &Bump>,
+    opened: Open,
+    from: Place,
+) -> Result<Place, NoMemory>
+    requires colons { AreCaseColons colons.now tokens.now }
+    requires small { length tokens.now < 2 ^ 30 }
+    requires stands { Stands braces.now tokens.now out.old.items (opened ∷ reverse stack.old.items) from.start from.at }
+    ensures stands { IfOk result
+        (λ p. Stands braces.now tokens.now out.new.items (reverse stack.new.items) p.start p.at) }
+    ensures up { IfOk result (λ p.
+        2 * (length tokens.now - p.at) + length stack.new.items
+        < 2 * (length tokens.now - from.at) + length stack.old.items + 1) }
+{
+    let mut place = from;
+    while place.at < opened.end {
+        let Some(end) = simple_end(tokens, opened, place.start, place.at) else {
+            let formed = form_of(braces, tokens, colons, opened, place.start, place.at);
+            let Some(start) = start_behind(opened, formed) else {
+                return take_line(braces, tokens, out, stack, opened, place, formed);
+            };
+            push_line(out, line_of(opened, place.start, place.at, formed))?;
+            push_open(stack, opened)?;
+            return Ok(Place {
+                start,
+                at: formed.end,
+            });
+        };
+        let form = line_alone(LineKind::Simple, opened.level, end);
+        push_line(out, line_of(opened, place.start, place.at, form))?;
+        place = Place {
+            start: Start::Fresh,
+            at: end,
+        };
+    }
+    Ok(leave_list(braces, tokens, out, stack, opened, place))
+}

@@ -1,6 +1,0 @@
-use Rattle.std.proofs.Common.{◌≡◌, reverse, take}
-use Rattle.unwrapped_lines.specs.Tree.{level_of_list}
-use Rattle.unwrapped_lines.proofs.ending.level_of_list.Given as goal
-
-abbrev pub invariant-loop-i : goal.invariant-loop-i
-invariant-loop-i l = level_of_list (reverse (take l.i l.below)) ≡ level_of_list (reverse l.below)
