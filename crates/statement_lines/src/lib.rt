@@ -1,8 +1,8 @@
 //! The lines of tokens that are no comments, statement by statement.
 //!
 //! [`tree_lines`] cuts tokens into lines with levels and kinds, and [`end_level`] tells the level behind the last of
-//! them. Both look for the colon of a `case` in what [`case_colons`] keeps, and ask a style's [`Braces`] where the braces
-//! of blocks stand. Which items of a view are such tokens, and where its comments go, is told above this crate.
+//! them. Both look for the colon of a `case` in what [`case_colons`] keeps, and [`Braces`] tell them which braces begin
+//! a line. Which items of a view are such tokens, and where its comments go, is told above this crate.
 #![tactic(auto)]
 
 mod braces;
