@@ -6,7 +6,7 @@ use Rattle.std.proofs.lemmas.List.Folds.{drop_split}
 use Rattle.token_arena.specs.Gaps.{Contents}
 use Rattle.token_arena.specs.Ids.{Increase}
 use Rattle.branch_runs.specs.Anew.{items_between}
-use Rattle.view_parts.specs.Places.{Place}
+use Rattle.part_walk.specs.Places.{Place}
 use Rattle.format_core.specs.Bounds.{BeginTold, IsBound}
 use Rattle.format_core.specs.Runs.{seen_by}
 use Rattle.format_core.specs.Windows.{AreToldIn, IsWindow, place_before}

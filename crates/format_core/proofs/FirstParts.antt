@@ -7,12 +7,13 @@ use Rattle.token_classes.specs.Viewed.{item_class}
 use Rattle.token_arena.specs.Ids.{Increase, IncreaseFrom}
 use Rattle.token_classes.specs.declared.pairing.Opener.{Opener}
 use Rattle.branch_runs.specs.Anew.{items_between}
-use Rattle.view_parts.specs.Places.{Place, place_in}
-use Rattle.view_parts.specs.Parts.{Ended, PartStop, around_of, bodies_at, bodies_behind, count_or, end_of_part, place_behind, waiting_at, waiting_behind, walk_behind, next_end, part_len, stop_from, FollowUpTo, ArePartsUpTo}
-use Rattle.view_parts.specs.declared.bodies.Head.{Head}
-use Rattle.view_parts.specs.declared.walk.Walk.{Walk}
-use Rattle.view_parts.specs.Walk.{opened_head, reading, start}
-use Rattle.view_parts.specs.Reading.{Reading, EndsOutside, EndsInBody, Never, GoesOn}
+use Rattle.part_walk.specs.Places.{Place, place_in}
+use Rattle.view_parts.specs.Parts.{Ended, PartStop, count_or, end_of_part, next_end, part_len, stop_from, FollowUpTo, ArePartsUpTo}
+use Rattle.part_walk.specs.Brackets.{around_of, bodies_at, bodies_behind, place_behind, waiting_at, waiting_behind, walk_behind}
+use Rattle.part_walk.specs.declared.bodies.Head.{Head}
+use Rattle.part_walk.specs.declared.walk.Walk.{Walk}
+use Rattle.part_walk.specs.Walk.{opened_head, reading, start}
+use Rattle.part_walk.specs.Reading.{Reading, EndsOutside, EndsInBody, Never, GoesOn}
 use Rattle.view_parts.specs.Told.{TellParts}
 use Rattle.view_parts.proofs.InOrder.{HasHeads, inside_headed, len_fits}
 use Rattle.format_core.specs.declared.bounds.KnownBound.{KnownBound}

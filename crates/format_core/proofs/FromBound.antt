@@ -8,7 +8,7 @@ use Rattle.style_table.specs.declared.style.Style.{Style}
 use Rattle.token_arena.specs.Gaps.{Contents}
 use Rattle.token_arena.specs.Ids.{Increase}
 use Rattle.branch_runs.specs.Anew.{items_between}
-use Rattle.view_parts.specs.Places.{Place}
+use Rattle.part_walk.specs.Places.{Place}
 use Rattle.view_parts.specs.Parts.{StandsBefore, items_before, part_ends, part_inside, part_len}
 use Rattle.view_parts.proofs.InBodies.{stands_before}
 use Rattle.replacements.specs.declared.slot.Slot.{Slot}

@@ -4,7 +4,7 @@ use Rattle.std.specs.Prelude.{if◌then◌else◌}
 use Rattle.std.proofs.lemmas.Bool.{lt-ltb, le-ltb}
 use Rattle.style_table.specs.declared.style.Style.{Style}
 use Rattle.token_arena.specs.Gaps.{Contents}
-use Rattle.view_parts.specs.Places.{Place}
+use Rattle.part_walk.specs.Places.{Place}
 use Rattle.view_parts.specs.Parts.{PartStop, ends_from, laid_items, part_ends, stop_from}
 use Rattle.replacements.specs.declared.slot.Slot.{Slot}
 use Rattle.run_layout.specs.declared.report.Tally.{Tally}

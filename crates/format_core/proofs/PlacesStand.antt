@@ -8,10 +8,10 @@ use Rattle.std.proofs.lemmas.List.Elements.{All-append, All-nil}
 use Rattle.std.proofs.lemmas.List.FromFn.{length-range_with_len, get_or-range_with_len}
 use Rattle.token_arena.specs.Gaps.{Contents}
 use Rattle.token_arena.specs.Ids.{Increase, IncreaseFrom}
-use Rattle.view_parts.specs.Places.{Place}
-use Rattle.view_parts.specs.declared.bodies.Head.{Head}
+use Rattle.part_walk.specs.Places.{Place}
+use Rattle.part_walk.specs.declared.bodies.Head.{Head}
 use Rattle.view_parts.specs.Parts.{PartStop, Stand, StandsBefore, ends_from, head_items, heads_end, items_before, items_of_place, laid_items, opened_items, part_ends, part_inside, part_len, stop_from, FollowUpTo}
-use Rattle.view_parts.specs.Walk.{heads_len}
+use Rattle.part_walk.specs.Walk.{heads_len}
 use Rattle.view_parts.proofs.InBodies.{places_have, stands_before}
 use Rattle.view_parts.proofs.InOrder.{HasHeads}
 use Rattle.replacements.specs.declared.slot.Slot.{Slot}

@@ -13,7 +13,7 @@ use Rattle.line_gaps.specs.OpenGaps.{IsRowDecided}
 use Rattle.run_layout.specs.declared.report.Tally.{Tally}
 use Rattle.line_gaps.proofs.MadeFor.{is_some-decided, decided-is_some}
 use Rattle.view_parts.specs.declared.known.KnownEnd.{KnownEnd}
-use Rattle.view_parts.specs.Places.{Place}
+use Rattle.part_walk.specs.Places.{Place}
 use Rattle.view_parts.specs.Parts.{StandsBefore, items_before, laid_items, part_inside}
 use Rattle.view_parts.specs.declared.known.KnownRow.{KnownRow}
 use Rattle.view_parts.specs.Known.{AreRowsFrom, HasNotedRow, HasRow, after_joined}

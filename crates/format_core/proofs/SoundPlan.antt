@@ -15,7 +15,7 @@ use Rattle.token_classes.specs.Kept.{kept_gaps_of}
 use Rattle.token_classes.specs.Partners.{partners_of}
 use Rattle.token_classes.specs.Viewed.{AreWithin, classes_of}
 use Rattle.unwrapped_lines.proofs.Started.{lines_cut_views}
-use Rattle.view_parts.specs.Places.{Place}
+use Rattle.part_walk.specs.Places.{Place}
 use Rattle.view_parts.specs.Parts.{PartStop, items_before, laid_items, part_ends}
 use Rattle.annotator.proofs.Counts.{as_many_roles, roles_tell}
 use Rattle.replacements.specs.declared.slot.Slot.{Slot}

@@ -7,7 +7,7 @@ use Rattle.std.proofs.lemmas.List.Folds.{drop_split}
 use Rattle.token_arena.specs.Gaps.{Contents}
 use Rattle.token_arena.specs.Ids.{Increase}
 use Rattle.branch_runs.specs.Anew.{items_between}
-use Rattle.view_parts.specs.Places.{Place}
+use Rattle.part_walk.specs.Places.{Place}
 use Rattle.view_parts.specs.Parts.{Ended, PartStop, StandsBefore, ArePartsUpTo, count_or, end_of_part, inside_of, laid_items, part_inside, part_len, stop_from, items_before}
 use Rattle.view_parts.specs.Told.{TellParts}
 use Rattle.format_core.specs.Runs.{seen_by}

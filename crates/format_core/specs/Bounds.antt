@@ -2,7 +2,7 @@
 use Rattle.std.specs.Prelude.{◌<◌, ◌≤◌, ℕ, List, ◌++◌, Option, None, get_or, length}
 use Rattle.token_arena.specs.Gaps.{Contents}
 use Rattle.branch_runs.specs.Anew.{items_between}
-use Rattle.view_parts.specs.Places.{Place, place_in}
+use Rattle.part_walk.specs.Places.{Place, place_in}
 use Rattle.view_parts.specs.Parts.{ArePartsUpTo}
 use Rattle.format_core.specs.declared.bounds.KnownBound.{KnownBound}
 

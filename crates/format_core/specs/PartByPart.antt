@@ -2,7 +2,7 @@
 use Rattle.std.specs.Prelude.{◌≡◌, ◌≤◌, ◌+◌, ◌-◌, ℕ, List, ◌++◌, Option, None, Some, length}
 use Rattle.style_table.specs.declared.style.Style.{Style}
 use Rattle.token_arena.specs.Gaps.{Contents}
-use Rattle.view_parts.specs.Places.{Place}
+use Rattle.part_walk.specs.Places.{Place}
 use Rattle.view_parts.specs.Parts.{PartStop, ends_from, part_ends}
 use Rattle.replacements.specs.Decisions.{slot_of}
 use Rattle.replacements.specs.declared.slot.Slot.{Slot}

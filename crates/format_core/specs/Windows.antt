@@ -6,7 +6,7 @@ use Rattle.line_gaps.specs.Counted.{IsCounted}
 use Rattle.view_parts.specs.declared.known.KnownEnd.{KnownEnd}
 use Rattle.view_parts.specs.declared.known.KnownSpan.{KnownSpan}
 use Rattle.view_parts.specs.Known.{AreKnown, AreSpans}
-use Rattle.view_parts.specs.Places.{Place}
+use Rattle.part_walk.specs.Places.{Place}
 use Rattle.view_parts.specs.Told.{TellParts}
 use Rattle.format_core.specs.declared.runs.Made.{Made}
 use Rattle.format_core.specs.Runs.{AreRowsDecided, seen_by}

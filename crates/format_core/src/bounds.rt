@@ -2,11 +2,11 @@
 
 ghost use Rattle.std.specs.Prelude.{◌≤◌, ℕ, List};
 ghost use Rattle.token_arena.specs.Gaps.{Contents};
-ghost use Rattle.view_parts.specs.Places.{place_in};
+ghost use Rattle.part_walk.specs.Places.{place_in};
 ghost use Rattle.format_core.specs.Bounds.{AreBounds, IsBound};
 
 use bumpalo::Bump;
-use view_parts::BodyPlace;
+use part_walk::BodyPlace;
 
 /// Where parts of a view end, as its first items tell.
 #[derive(Clone, Copy)]

@@ -14,7 +14,7 @@ ghost use Rattle.replacements.specs.declared.slot.Slot.{Slot};
 ghost use Rattle.line_gaps.specs.Counted.{IsCounted};
 ghost use Rattle.view_parts.specs.Known.{AreKnown};
 ghost use Rattle.view_parts.specs.Parts.{ArePartsUpTo, StandsBefore, items_before, laid_items};
-ghost use Rattle.view_parts.specs.Places.{place_in};
+ghost use Rattle.part_walk.specs.Places.{place_in};
 ghost use Rattle.format_core.specs.Runs.{AreDecided, AreRowsDecided, runs_of, seen_by};
 ghost use Rattle.std.specs.Prelude.{IsSome};
 ghost use Rattle.std.specs.List.{Contains};
@@ -36,6 +36,7 @@ use early_gaps::{Context, decide_early};
 use line_gaps::{ViewLayout, is_row_decided};
 use line_tokens::{LineTok, NoMemory, TokenId, ULine};
 use off_regions::Ranges;
+use part_walk::BodyPlace;
 use replacements::Plan;
 use run_layout::{Tally, lay_out_view};
 use std::alloc::Global;
@@ -44,8 +45,7 @@ use token_arena::{Section, TokenArena, View};
 use token_classes::{TokenClass, bracket_facts, classes_among, item_classes};
 use unwrapped_lines::lines_of_classes;
 use view_parts::{
-    BodyPlace, KnownEnds, KnownSpans, PartsEnd, join_rows, known_part_end, known_parts_end,
-    laid_view,
+    KnownEnds, KnownSpans, PartsEnd, join_rows, known_part_end, known_parts_end, laid_view,
 };
 
 /// How many items behind what is new in a run are looked at first at least. Most parts end within as many, and so do

@@ -2,7 +2,7 @@
 use Rattle.std.proofs.Common.{◌≡◌, ◌∙◌, ℕ, ◌+◌, ◌<◌, Option, Some, None, List, [], ◌∷◌, length, drop, refl, sym, ap, subst, arith}
 use Rattle.std.proofs.lemmas.List.{drop-drop, length-drop}
 use Rattle.token_arena.specs.Gaps.{Contents}
-use Rattle.view_parts.specs.Places.{Place}
+use Rattle.part_walk.specs.Places.{Place}
 use Rattle.view_parts.specs.Parts.{Ended, PartStop, FollowUpTo, end_of_part, count_or, inside_of}
 use Rattle.part_laws.specs.Declarations.{start, next_end, or_all, first_len}
 use Rattle.part_laws.specs.BodyParts.{FollowDeclarations, DeclarationsFollow, ends_outside}

@@ -4,7 +4,7 @@ use Rattle.std.specs.Prelude.{if◌then◌else◌}
 use Rattle.std.proofs.lemmas.Bool.{le-ltb, lt-ltb, ltb-false, ltb-true}
 use Rattle.std.proofs.lemmas.List.{drop-drop, length-drop}
 use Rattle.token_arena.specs.Gaps.{Contents}
-use Rattle.view_parts.specs.Places.{Place}
+use Rattle.part_walk.specs.Places.{Place}
 use Rattle.view_parts.specs.Parts.{Ended, PartStop, end_of_part, count_or, inside_of, stop_from, ends_from as part_ends_from}
 use Rattle.part_laws.specs.Declarations.{start, next_end, or_all, first_len, ends_from}
 use Rattle.part_laws.specs.BodyParts.{DeclarationEnds, ends_outside, DeclarationsStay}

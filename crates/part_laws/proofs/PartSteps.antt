@@ -9,15 +9,16 @@ use Rattle.token_classes.specs.declared.class.TokenClass.TheVariants.{OpenRound,
 use Rattle.token_classes.specs.Classes.{is_bracket, is_comment, is_word}
 use Rattle.token_classes.specs.Viewed.{item_class}
 use Rattle.token_classes.specs.declared.pairing.Opener.{Opener}
-use Rattle.view_parts.specs.declared.walk.Around.TheVariants as around
-use Rattle.view_parts.specs.declared.walk.Declaration.{Declaration}
-use Rattle.view_parts.specs.declared.bodies.Head.{Head}
-use Rattle.view_parts.specs.declared.walk.Walk.{Walk as PartWalk}
-use Rattle.view_parts.specs.Places.{Place}
-use Rattle.view_parts.specs.Reading.{Reading as PartReading}
-use Rattle.view_parts.specs.Reading as part
-use Rattle.view_parts.specs.Walk.{start as part_start, reading as part_reading, is_end as part_is_end, is_body as part_is_body, asked_behind as part_asked_behind, asked_at as part_asked_at, outside as part_outside, ends_or as part_ends_or, is_lost as part_is_lost, next_declaration, inside_declaration, asked_in_body, begins_statement, ends_statement, ends_apart, ends_in_row, ends_inside_or, end_in_body, in_body, is_apart, may_part, left, opened_head, or_place, past_bracket, past_comment, past_other}
-use Rattle.view_parts.specs.Parts.{Ended, around_of, bodies_behind, braces_of, end_of_part, is_left, left_innermost, place_behind, walk_behind, waiting_at, waiting_behind as part_waiting_behind, next_end as part_next_end}
+use Rattle.part_walk.specs.declared.walk.Around.TheVariants as around
+use Rattle.part_walk.specs.declared.walk.Declaration.{Declaration}
+use Rattle.part_walk.specs.declared.bodies.Head.{Head}
+use Rattle.part_walk.specs.declared.walk.Walk.{Walk as PartWalk}
+use Rattle.part_walk.specs.Places.{Place}
+use Rattle.part_walk.specs.Reading.{Reading as PartReading}
+use Rattle.part_walk.specs.Reading as part
+use Rattle.part_walk.specs.Walk.{start as part_start, reading as part_reading, is_end as part_is_end, is_body as part_is_body, asked_behind as part_asked_behind, asked_at as part_asked_at, outside as part_outside, ends_or as part_ends_or, is_lost as part_is_lost, next_declaration, inside_declaration, asked_in_body, begins_statement, ends_statement, ends_apart, ends_in_row, ends_inside_or, end_in_body, in_body, is_apart, may_part, left, opened_head, or_place, past_bracket, past_comment, past_other}
+use Rattle.view_parts.specs.Parts.{Ended, end_of_part, next_end as part_next_end}
+use Rattle.part_walk.specs.Brackets.{around_of, bodies_behind, braces_of, is_left, left_innermost, place_behind, walk_behind, waiting_at, waiting_behind as part_waiting_behind}
 use Rattle.part_laws.specs.Declarations.{Ends, Never, GoesOn, Walk, start, is_lost, ends_or, outside, inside, waiting_behind, is_open, next_end}
 use Rattle.part_laws.proofs.FirstPart.{by_reading}
 use Rattle.part_laws.proofs.SameKinds.{SameKinds, kinds_of_braces, same_kinds, same_behind, same_ends}

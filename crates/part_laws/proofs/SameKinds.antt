@@ -9,8 +9,8 @@ use Rattle.token_classes.specs.declared.pairing.Opener.{Opener}
 use Rattle.token_classes.specs.Partners.{Nearest, is_brace, is_round, is_square, nearest_brace, topmost, closed}
 use Rattle.part_laws.specs.Declarations.{Reading, Ends, Never, GoesOn, Walk, reading, waiting_behind, is_open, next_end}
 use Rattle.part_laws.proofs.FirstPart.{by_reading}
-use Rattle.view_parts.specs.declared.bodies.Head.{Head}
-use Rattle.view_parts.specs.Parts.{braces_of}
+use Rattle.part_walk.specs.declared.bodies.Head.{Head}
+use Rattle.part_walk.specs.Brackets.{braces_of}
 use Rattle.view_parts.proofs.BodiesPassed.{waits_so}
 use Rattle.view_parts.proofs.Waits.{AreBraces}
 

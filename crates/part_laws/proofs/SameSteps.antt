@@ -5,12 +5,12 @@ use Rattle.token_arena.specs.Gaps.{Contents, item_began}
 use Rattle.token_classes.specs.declared.class.TokenClass.{TokenClass}
 use Rattle.token_classes.specs.declared.class.TokenClass.TheVariants.{LineComment, BlockComment}
 use Rattle.token_classes.specs.Classes.{is_bracket, is_opener, is_open_round, is_open_brace, is_semicolon, is_plain, is_extern, is_text, is_comment}
-use Rattle.view_parts.specs.declared.walk.Before.{Before as PartBefore}
-use Rattle.view_parts.specs.declared.walk.Before.TheVariants as part
-use Rattle.view_parts.specs.declared.walk.Declaration.{Declaration}
-use Rattle.view_parts.specs.declared.walk.Walk.{Walk as PartWalk}
-use Rattle.view_parts.specs.Walk.{behind_group as part_behind_group, behind as part_behind, behind_other as part_behind_other, is_extern_word as part_is_extern_word, is_end as part_is_end, is_between as part_is_between, is_between_comments as part_is_between_comments, is_body as part_is_body, is_commented as part_is_commented, asked_behind as part_asked_behind, asked_at as part_asked_at, next_declaration, inside_declaration}
-use Rattle.view_parts.specs.Parts.{waiting_behind as part_waiting_behind}
+use Rattle.part_walk.specs.declared.walk.Before.{Before as PartBefore}
+use Rattle.part_walk.specs.declared.walk.Before.TheVariants as part
+use Rattle.part_walk.specs.declared.walk.Declaration.{Declaration}
+use Rattle.part_walk.specs.declared.walk.Walk.{Walk as PartWalk}
+use Rattle.part_walk.specs.Walk.{behind_group as part_behind_group, behind as part_behind, behind_other as part_behind_other, is_extern_word as part_is_extern_word, is_end as part_is_end, is_between as part_is_between, is_between_comments as part_is_between_comments, is_body as part_is_body, is_commented as part_is_commented, asked_behind as part_asked_behind, asked_at as part_asked_at, next_declaration, inside_declaration}
+use Rattle.part_walk.specs.Brackets.{waiting_behind as part_waiting_behind}
 use Rattle.part_laws.specs.Declarations.{Before, Name, Parameters, Semicolon, Body, Between, Other, Walk, behind_group, behind, is_end, is_between, is_body, is_between_comments, asked_behind, asked_at, is_commented, inside, outside, is_open}
 
 -- ## What the way along a part tells of declarations

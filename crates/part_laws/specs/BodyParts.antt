@@ -2,7 +2,7 @@
 use Rattle.std.specs.Prelude.{◌≡◌, ℕ, ◌+◌, if◌then◌else◌, Some, None, List, [], ◌∷◌, drop}
 use Rattle.token_arena.specs.Gaps.{Contents}
 use Rattle.view_parts.specs.Parts.{Ended}
-use Rattle.view_parts.specs.Walk.{is_outside}
+use Rattle.part_walk.specs.Walk.{is_outside}
 use Rattle.view_parts.specs.Parts.{PartStop, FollowUpTo, end_of_part, part_ends}
 use Rattle.part_laws.specs.Declarations.{start, next_end, first_len, declaration_ends}
 

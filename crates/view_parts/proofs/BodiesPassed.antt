@@ -11,16 +11,18 @@ use Rattle.token_classes.specs.Classes.{is_bracket, is_comment}
 use Rattle.token_classes.specs.Viewed.{item_class}
 use Rattle.token_classes.specs.declared.pairing.Opener.{Opener}
 use Rattle.token_classes.specs.Partners.{Matching, Nearest, count_braces, is_brace, is_round, is_square, nearest_brace, topmost, closed}
-use Rattle.view_parts.specs.declared.walk.Around.{Around}
-use Rattle.view_parts.specs.declared.walk.Around.TheVariants as around
-use Rattle.view_parts.specs.declared.walk.Before.TheVariants.{Body}
-use Rattle.view_parts.specs.declared.walk.Declaration.{Declaration}
-use Rattle.view_parts.specs.declared.walk.Walk.{Walk}
-use Rattle.view_parts.specs.declared.bodies.Head.{Head}
-use Rattle.view_parts.specs.Reading.{Reading, EndsOutside, EndsInBody, Never, GoesOn}
-use Rattle.view_parts.specs.Walk.{reading, opened_head, opening, begun_behind, block_behind, entered, left, is_apart, is_body, end_in_body, ends_apart, ends_in_row, ends_inside_or, parts_statements, in_body, past_bracket, past_comment, past_other}
-use Rattle.view_parts.specs.Parts.{Ended, around_of, bodies_behind, left_innermost, next_end, place_behind, waiting_behind, walk_behind, without_innermost}
-use Rattle.view_parts.specs.Steps.{Closes, body_passed, depth_behind}
+use Rattle.part_walk.specs.declared.walk.Around.{Around}
+use Rattle.part_walk.specs.declared.walk.Around.TheVariants as around
+use Rattle.part_walk.specs.declared.walk.Before.TheVariants.{Body}
+use Rattle.part_walk.specs.declared.walk.Declaration.{Declaration}
+use Rattle.part_walk.specs.declared.walk.Walk.{Walk}
+use Rattle.part_walk.specs.declared.bodies.Head.{Head}
+use Rattle.part_walk.specs.Reading.{Reading, EndsOutside, EndsInBody, Never, GoesOn}
+use Rattle.part_walk.specs.Walk.{reading, opened_head, opening, begun_behind, block_behind, entered, left, is_apart, is_body, end_in_body, ends_apart, ends_in_row, ends_inside_or, parts_statements, in_body, past_bracket, past_comment, past_other}
+use Rattle.view_parts.specs.Parts.{Ended, next_end}
+use Rattle.part_walk.specs.Brackets.{around_of, bodies_behind, left_innermost, place_behind, waiting_behind, walk_behind, without_innermost}
+use Rattle.view_parts.specs.Quiet.{Closes, depth_behind}
+use Rattle.part_walk.specs.Steps.{body_passed}
 use Rattle.view_parts.proofs.Waits.{AreBraces, opens_so}
 
 -- behind the body with this head, whose `}` is the last token that was read

@@ -10,18 +10,20 @@ use Rattle.token_classes.specs.Classes.{is_open_brace}
 use Rattle.token_classes.specs.Viewed.{item_class, item_classes}
 use Rattle.token_classes.specs.declared.pairing.Opener.{Opener}
 use Rattle.token_classes.proofs.ItemClasses.{row_classes}
-use Rattle.view_parts.specs.declared.walk.Around.{Around}
-use Rattle.view_parts.specs.declared.walk.Around.TheVariants as around
-use Rattle.view_parts.specs.declared.walk.Before.TheVariants.{Body}
-use Rattle.view_parts.specs.declared.walk.Walk.{Walk}
+use Rattle.part_walk.specs.declared.walk.Around.{Around}
+use Rattle.part_walk.specs.declared.walk.Around.TheVariants as around
+use Rattle.part_walk.specs.declared.walk.Before.TheVariants.{Body}
+use Rattle.part_walk.specs.declared.walk.Walk.{Walk}
 use Rattle.token_arena.specs.Ids.{Increase}
 use Rattle.view_parts.proofs.PartEnds.{IsRead, read_quiet}
-use Rattle.view_parts.specs.declared.bodies.Head.{Head}
-use Rattle.view_parts.specs.Places.{Place}
-use Rattle.view_parts.specs.Reading.{Reading, GoesOn}
-use Rattle.view_parts.specs.Steps.{Closes, body_passed}
-use Rattle.view_parts.specs.Walk.{reading, opened_head, asked_at, end_in_body, ends_or, ends_inside_or, in_body, outside}
-use Rattle.view_parts.specs.Parts.{around_of, bodies_behind, end_of_part, next_end, waiting_behind, walk_behind}
+use Rattle.part_walk.specs.declared.bodies.Head.{Head}
+use Rattle.part_walk.specs.Places.{Place}
+use Rattle.part_walk.specs.Reading.{Reading, GoesOn}
+use Rattle.view_parts.specs.Quiet.{Closes}
+use Rattle.part_walk.specs.Steps.{body_passed}
+use Rattle.part_walk.specs.Walk.{reading, opened_head, asked_at, end_in_body, ends_or, ends_inside_or, in_body, outside}
+use Rattle.part_walk.specs.Brackets.{around_of, bodies_behind, waiting_behind, walk_behind}
+use Rattle.view_parts.specs.Parts.{end_of_part, next_end}
 use Rattle.view_parts.proofs.BodiesPassed.{body_passes}
 use Rattle.view_parts.proofs.Walked.{Passes, by_reading, IsNext}
 use Rattle.view_parts.proofs.Waits.{BodiesWaitBelow, opens_so, opens_within}

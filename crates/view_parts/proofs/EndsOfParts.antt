@@ -4,14 +4,14 @@ use Rattle.std.specs.Prelude.{false, is_some, OnOk, OnErr, Result, Ok, Err, slic
 use Rattle.std.proofs.lemmas.List.{length-set}
 use Rattle.token_arena.specs.Gaps.{Contents}
 use Rattle.token_arena.specs.Ids.{Increase}
-use Rattle.view_parts.specs.declared.bodies.BodyPlace.{BodyPlace}
+use Rattle.part_walk.specs.declared.bodies.BodyPlace.{BodyPlace}
 use Rattle.view_parts.specs.declared.known.KnownEnd.{KnownEnd}
 use Rattle.view_parts.specs.declared.known.KnownRow.{KnownRow}
 use Rattle.view_parts.specs.declared.known.KnownSpan.{KnownSpan}
 use Rattle.view_parts.specs.declared.known.PartsEnd.{PartsEnd}
 use Rattle.view_parts.specs.Known.{AreKnown, AreRowsFrom, IsKnown, IsKnownRow, IsRowAt, IsSpan}
 use Rattle.view_parts.specs.Parts.{EndsBehind}
-use Rattle.view_parts.specs.Places.{place_in}
+use Rattle.part_walk.specs.Places.{place_in}
 use Rattle.view_parts.specs.Told.{IsEndOfPart}
 use Rattle.view_parts.proofs.NotedRows.{rows_set}
 use Rattle.view_parts.proofs.RowParts.{some_is}

@@ -11,15 +11,16 @@ use Rattle.token_classes.specs.declared.class.TokenClass.TheVariants.{OpenRound,
 use Rattle.token_classes.specs.Classes.{is_bracket, is_close_round, is_open_brace}
 use Rattle.token_classes.specs.Viewed.{item_class, item_classes}
 use Rattle.token_classes.specs.declared.pairing.Opener.{Opener}
-use Rattle.view_parts.specs.declared.walk.Around.{Around}
-use Rattle.view_parts.specs.declared.walk.Around.TheVariants as around
-use Rattle.view_parts.specs.declared.bodies.Head.{Head}
-use Rattle.view_parts.specs.declared.walk.Walk.{Walk}
-use Rattle.view_parts.specs.Places.{Place}
-use Rattle.view_parts.specs.Reading.{Reading, GoesOn}
-use Rattle.view_parts.specs.Steps.{closes_group, group_passed, is_quiet, may_end}
-use Rattle.view_parts.specs.Walk.{opened_head, past_bracket, past_other, reading}
-use Rattle.view_parts.specs.Parts.{around_of, bodies_behind, is_left, left_innermost, waiting_behind, walk_behind, without_innermost}
+use Rattle.part_walk.specs.declared.walk.Around.{Around}
+use Rattle.part_walk.specs.declared.walk.Around.TheVariants as around
+use Rattle.part_walk.specs.declared.bodies.Head.{Head}
+use Rattle.part_walk.specs.declared.walk.Walk.{Walk}
+use Rattle.part_walk.specs.Places.{Place}
+use Rattle.part_walk.specs.Reading.{Reading, GoesOn}
+use Rattle.view_parts.specs.Quiet.{closes_group, is_quiet}
+use Rattle.part_walk.specs.Steps.{group_passed, may_end}
+use Rattle.part_walk.specs.Walk.{opened_head, past_bracket, past_other, reading}
+use Rattle.part_walk.specs.Brackets.{around_of, bodies_behind, is_left, left_innermost, waiting_behind, walk_behind, without_innermost}
 use Rattle.view_parts.proofs.PartEnds.{IsRead, read_quiet}
 use Rattle.view_parts.proofs.Quiet.{quiet_row}
 use Rattle.view_parts.proofs.Waits.{none_left}

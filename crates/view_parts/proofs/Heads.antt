@@ -1,8 +1,7 @@
 -- Heads of bodies, the innermost or the outermost first.
-use Rattle.std.proofs.Common.{◌≡◌, ◌∙◌, ℕ, ◌+◌, ◌-◌, ◌<◌, ◌≤◌, Bool, true, false, Option, Some, None, List, [], ◌∷◌, ◌++◌, length, get_or, reverse, refl, sym, ap, subst, arith}
+use Rattle.std.proofs.Common.{◌≡◌, ◌∙◌, ℕ, ◌+◌, ◌-◌, ◌<◌, ◌≤◌, Bool, true, false, Option, None, List, [], ◌∷◌, ◌++◌, length, get_or, reverse, refl, sym, ap, subst, arith}
 use Rattle.std.specs.Prelude.{⊤, All, if◌then◌else◌}
 use Rattle.std.specs.List.{range_with_len}
-use Rattle.std.proofs.lemmas.Grind.{reverse_onto}
 use Rattle.std.proofs.lemmas.List.{get_or-append-add, length-append}
 use Rattle.std.proofs.lemmas.List.Elements.{All-append}
 use Rattle.std.proofs.lemmas.List.FromFn.{get_or-range_with_len, length-range_with_len}
@@ -10,40 +9,12 @@ use Rattle.std.proofs.Math.ListN.{get_or-append}
 use Rattle.token_classes.specs.declared.class.TokenClass.{TokenClass}
 use Rattle.token_classes.specs.declared.class.TokenClass.TheVariants.{OpenBrace}
 use Rattle.token_classes.specs.Classes.{is_open_brace}
-use Rattle.view_parts.specs.declared.bodies.BodyKind.{BodyKind}
-use Rattle.view_parts.specs.declared.bodies.Head.{Head}
-use Rattle.view_parts.specs.declared.walk.Around.{Around}
-use Rattle.view_parts.specs.declared.walk.Begun.{Begun}
-use Rattle.view_parts.specs.declared.walk.Walk.{Walk}
+use Rattle.part_walk.specs.declared.bodies.Head.{Head}
+use Rattle.part_walk.specs.declared.walk.Around.{Around}
+use Rattle.part_walk.specs.declared.walk.Walk.{Walk}
 use Rattle.view_parts.specs.Parts.{head_items, heads_end, Stand}
-use Rattle.view_parts.specs.Walk.{begun_before, body_kind, head_from, head_of_kind, heads_len, opened_head}
+use Rattle.part_walk.specs.Walk.{opened_head}
 use mathlib.Core.List.{reverse_aux}
-
--- ## Their items
-
-heads_len-append : (xs ys : List Head) → heads_len (xs ++ ys) ≡ heads_len xs + heads_len ys
-heads_len-append [] ys = omega arith
-heads_len-append (x ∷ xs) ys = (let rest = heads_len-append xs ys in omega (arith, rest))
-
-pub heads_len-reverse : (heads : List Head) → heads_len (reverse heads) ≡ heads_len heads
-heads_len-reverse [] = refl
-heads_len-reverse (head ∷ heads) =
-    let rest = heads_len-reverse heads in
-    let cut = heads_len-append (reverse heads) (head ∷ []) in
-    ap (λ (hs : List Head). heads_len hs) (reverse_onto heads head []) ∙ omega (arith, rest, cut)
-
--- the outermost is first in the code
-pub opened_so : (walk : Walk) (stands : Around) (bodies : List Head) (id : ℕ) (class : TokenClass) (kind : BodyKind) (begun : Begun) (all : ℕ) (opened : Option Head)
-    → is_open_brace class ≡ true → body_kind walk stands ≡ Some kind → begun ≡ begun_before walk stands id → all ≡ heads_len bodies → opened ≡ head_from begun walk.place id kind all → opened ≡ opened_head walk stands (reverse bodies) id class
-opened_so walk stands bodies id class kind begun all opened opens kind_is begun_is all_is is =
-    let count = heads_len (reverse bodies) in
-    is
-    ∙ (ap (λ n. head_from begun walk.place id kind n) (all_is ∙ sym (heads_len-reverse bodies))
-    ∙ (ap (λ (b : Begun). head_from b walk.place id kind count) begun_is
-    ∙ (ap (λ (k : Option BodyKind). head_of_kind k (begun_before walk stands id) walk.place id count) (sym kind_is)
-    ∙ ap (λ (b : Bool). if b then head_of_kind (body_kind walk stands) (begun_before walk stands id) walk.place id count else None) (sym opens))))
-
--- ## Heads that stand in order
 
 -- all items of a head have this, and stand before this one
 pub record IsHead (P : ℕ → Type 0) (head : Head) (low : ℕ) : Type 0 where

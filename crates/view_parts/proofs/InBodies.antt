@@ -13,20 +13,22 @@ use Rattle.token_classes.specs.declared.class.TokenClass.TheVariants.{OpenBrace,
 use Rattle.token_classes.specs.Classes.{is_bracket, is_close_brace, is_comment, is_else, is_open_brace, is_semicolon, is_word}
 use Rattle.token_classes.specs.Viewed.{item_class}
 use Rattle.token_classes.specs.declared.pairing.Opener.{Opener}
-use Rattle.view_parts.specs.declared.bodies.BodyKind.{BodyKind}
-use Rattle.view_parts.specs.declared.bodies.BodyKind.TheVariants as kind
-use Rattle.view_parts.specs.declared.bodies.Head.{Head}
-use Rattle.view_parts.specs.declared.walk.Around.{Around}
-use Rattle.view_parts.specs.declared.walk.Around.TheVariants as around
-use Rattle.view_parts.specs.declared.walk.Begun.{Begun}
-use Rattle.view_parts.specs.declared.walk.Begun.TheVariants.{Unknown, With, Behind}
-use Rattle.view_parts.specs.declared.walk.LastToken.{LastToken}
-use Rattle.view_parts.specs.declared.walk.Walk.{Walk}
-use Rattle.view_parts.specs.Places.{Place}
-use Rattle.view_parts.specs.Reading.{Reading, EndsOutside, EndsInBody, Never, GoesOn}
-use Rattle.view_parts.specs.Walk.{start, reading, asked_at, begins_behind, begins_block, begins_outside, begins_statement, begun_before, body_kind, end_in_body, ends_apart, ends_in_row, ends_inside_or, ends_or, ends_statement, entered, goes_on_with, head_from, head_of_kind, heads_len, in_body, in_group, is_apart, is_leading, is_lost, kept_begun, may_part, next_begun, next_last, opened_head, or_place, outside, parts_statements, past_bracket, past_comment, past_other}
-use Rattle.view_parts.specs.Parts.{Ended, around_of, bodies_behind, count_or, end_of_part, head_items, heads_end, inside_of, is_left, items_before, items_of_place, left_innermost, next_end, opened_items, part_inside, part_len, place_behind, waiting_at, waiting_behind, walk_behind, without_innermost, StandsBefore}
-use Rattle.view_parts.proofs.Heads.{BodiesStand, IsHead, bodies_end, bodies_so, end_low, head_before, heads_len-reverse, reversed_end, reversed_have, reversed_stand, stand_before}
+use Rattle.part_walk.specs.declared.bodies.BodyKind.{BodyKind}
+use Rattle.part_walk.specs.declared.bodies.BodyKind.TheVariants as kind
+use Rattle.part_walk.specs.declared.bodies.Head.{Head}
+use Rattle.part_walk.specs.declared.walk.Around.{Around}
+use Rattle.part_walk.specs.declared.walk.Around.TheVariants as around
+use Rattle.part_walk.specs.declared.walk.Begun.{Begun}
+use Rattle.part_walk.specs.declared.walk.Begun.TheVariants.{Unknown, With, Behind}
+use Rattle.part_walk.specs.declared.walk.LastToken.{LastToken}
+use Rattle.part_walk.specs.declared.walk.Walk.{Walk}
+use Rattle.part_walk.specs.Places.{Place}
+use Rattle.part_walk.specs.Reading.{Reading, EndsOutside, EndsInBody, Never, GoesOn}
+use Rattle.part_walk.specs.Walk.{start, reading, asked_at, begins_behind, begins_block, begins_outside, begins_statement, begun_before, body_kind, end_in_body, ends_apart, ends_in_row, ends_inside_or, ends_or, ends_statement, entered, goes_on_with, head_from, head_of_kind, heads_len, in_body, in_group, is_apart, is_leading, is_lost, kept_begun, may_part, next_begun, next_last, opened_head, or_place, outside, parts_statements, past_bracket, past_comment, past_other}
+use Rattle.view_parts.specs.Parts.{Ended, count_or, end_of_part, head_items, heads_end, inside_of, items_before, items_of_place, next_end, opened_items, part_inside, part_len, StandsBefore}
+use Rattle.part_walk.specs.Brackets.{around_of, bodies_behind, is_left, left_innermost, place_behind, waiting_at, waiting_behind, walk_behind, without_innermost}
+use Rattle.view_parts.proofs.Heads.{BodiesStand, IsHead, bodies_end, bodies_so, end_low, head_before, reversed_end, reversed_have, reversed_stand, stand_before}
+use Rattle.part_walk.proofs.Heads.{heads_len-reverse}
 use Rattle.view_parts.proofs.InOrder.{HasHeads, IsEnd, end_fits, inside_headed}
 use Rattle.view_parts.proofs.Quiet.{quiet_waits}
 use Rattle.view_parts.proofs.RowParts.{some_is}

@@ -8,14 +8,15 @@ use Rattle.token_classes.specs.declared.class.TokenClass.{TokenClass}
 use Rattle.token_classes.specs.Classes.{is_word}
 use Rattle.token_classes.specs.Viewed.{item_class}
 use Rattle.token_classes.specs.declared.pairing.Opener.{Opener}
-use Rattle.view_parts.specs.declared.walk.Around.{Around}
-use Rattle.view_parts.specs.declared.walk.Around.TheVariants as around
-use Rattle.view_parts.specs.declared.bodies.Head.{Head}
-use Rattle.view_parts.specs.declared.walk.Walk.{Walk}
-use Rattle.view_parts.specs.Places.{Place}
-use Rattle.view_parts.specs.Reading.{Reading, EndsOutside, EndsInBody, Never, GoesOn}
-use Rattle.view_parts.specs.Walk.{start, reading, opened_head, outside, asked_at, ends_or, is_end, is_lost, ends_statement}
-use Rattle.view_parts.specs.Parts.{Ended, PartStop, around_of, bodies_at, bodies_behind, braces_of, count_or, end_of_part, inside_of, next_end, part_inside, part_len, ends_from, part_ends, stop_from, waiting_at, waiting_behind, walk_behind, EndsBehind}
+use Rattle.part_walk.specs.declared.walk.Around.{Around}
+use Rattle.part_walk.specs.declared.walk.Around.TheVariants as around
+use Rattle.part_walk.specs.declared.bodies.Head.{Head}
+use Rattle.part_walk.specs.declared.walk.Walk.{Walk}
+use Rattle.part_walk.specs.Places.{Place}
+use Rattle.part_walk.specs.Reading.{Reading, EndsOutside, EndsInBody, Never, GoesOn}
+use Rattle.part_walk.specs.Walk.{start, reading, opened_head, outside, asked_at, ends_or, is_end, is_lost, ends_statement}
+use Rattle.view_parts.specs.Parts.{Ended, PartStop, count_or, end_of_part, inside_of, next_end, part_inside, part_len, ends_from, part_ends, stop_from, EndsBehind}
+use Rattle.part_walk.specs.Brackets.{around_of, bodies_at, bodies_behind, braces_of, waiting_at, waiting_behind, walk_behind}
 use Rattle.view_parts.proofs.Walked.{IsAsked, Fits, behind_asked, behind_place, bodies_past, by_reading, fits, walk_past}
 
 -- these are the ends of parts that cut the places from one to before another whole and in order

@@ -7,11 +7,11 @@ use Rattle.std.proofs.lemmas.List.{get_or-drop, get_or-take, take_all, take_more
 use Rattle.token_arena.specs.declared.view.Segment.{Segment}
 use Rattle.token_arena.specs.declared.view.Stretch.{Stretch}
 use Rattle.token_arena.specs.Segments.{ids_of, AscendFrom, bounds_of, no_segment, segment_bounds}
-use Rattle.view_parts.specs.declared.bodies.BodyKind.TheVariants.{Function}
-use Rattle.view_parts.specs.declared.bodies.BodyPlace.{BodyPlace}
-use Rattle.view_parts.specs.declared.bodies.Head.{Head}
+use Rattle.part_walk.specs.declared.bodies.BodyKind.TheVariants.{Function}
+use Rattle.part_walk.specs.declared.bodies.BodyPlace.{BodyPlace}
+use Rattle.part_walk.specs.declared.bodies.Head.{Head}
 use Rattle.view_parts.specs.Parts.{head_items, heads_end, opened_items, Stand, StandsBefore}
-use Rattle.view_parts.specs.Places.{place_in, place_of}
+use Rattle.part_walk.specs.Places.{place_in, place_of}
 use Rattle.view_parts.proofs.RowParts.{range_cut}
 
 -- the last one isn't empty

@@ -1,4 +1,3 @@
-pub mod Failed
 pub mod Heads
 pub mod Waits
 pub mod Walked

@@ -9,18 +9,20 @@ use Rattle.token_classes.specs.declared.class.TokenClass.{TokenClass}
 use Rattle.token_classes.specs.Classes.{is_bracket}
 use Rattle.token_classes.specs.declared.pairing.Opener.{Opener}
 use Rattle.token_classes.specs.Partners.{StandBefore, count_braces}
-use Rattle.view_parts.specs.declared.bodies.Head.{Head}
-use Rattle.view_parts.specs.declared.walk.Around.{Around}
-use Rattle.view_parts.specs.declared.walk.Walk.{Walk}
-use Rattle.view_parts.specs.Places.{Place}
-use Rattle.view_parts.specs.Reading.{Reading, GoesOn}
-use Rattle.view_parts.specs.Walk.{heads_len, opened_head, start}
-use Rattle.view_parts.specs.Parts.{Ended, around_of, bodies_behind, braces_of, count_or, end_of_part, heads_at, inside_of, part_inside, part_len, waiting_behind, walk_behind, EndsBehind, StandsBefore}
-use Rattle.view_parts.proofs.Heads.{heads_len-reverse}
+use Rattle.part_walk.specs.declared.bodies.Head.{Head}
+use Rattle.part_walk.specs.declared.walk.Around.{Around}
+use Rattle.part_walk.specs.declared.walk.Walk.{Walk}
+use Rattle.part_walk.specs.Places.{Place}
+use Rattle.part_walk.specs.Reading.{Reading, GoesOn}
+use Rattle.part_walk.specs.Walk.{heads_len, opened_head, start}
+use Rattle.view_parts.specs.Parts.{Ended, count_or, end_of_part, inside_of, part_inside, part_len, EndsBehind, StandsBefore}
+use Rattle.part_walk.specs.Brackets.{around_of, bodies_behind, braces_of, heads_at, waiting_behind, walk_behind}
+use Rattle.part_walk.proofs.Heads.{heads_len-reverse}
 use Rattle.view_parts.proofs.InOrder.{HasHeads, told_within}
 use Rattle.view_parts.proofs.Quiet.{flat_passes}
 use Rattle.view_parts.proofs.Rows.{at_least}
-use Rattle.view_parts.proofs.Waits.{BodiesWaitBelow, braces_before, braces_count, few_on, heads_before, holds_on, holds_start, more_before, none_left}
+use Rattle.view_parts.proofs.Waits.{BodiesWaitBelow, braces_before, braces_count, few_on, heads_before, holds_on, holds_start, none_left}
+use Rattle.part_walk.proofs.Waits.{more_before}
 use Rattle.view_parts.proofs.Walked.{IsNext, Passes, behind_place, ends_so, inside_behind, len_behind, next_passes, next_place, seen_end, starts_so, told_by, whole_end}
 
 -- ## On the way

@@ -11,19 +11,20 @@ use Rattle.token_classes.specs.Viewed.{item_class}
 use Rattle.token_classes.specs.declared.pairing.Opener.{Opener}
 use Rattle.token_classes.specs.Partners.{Matching}
 use Rattle.token_classes.proofs.BracketLemmas.{other_step}
-use Rattle.view_parts.specs.declared.walk.Around.{Around}
-use Rattle.view_parts.specs.declared.walk.Around.TheVariants as around
-use Rattle.view_parts.specs.declared.walk.Begun.{Begun}
-use Rattle.view_parts.specs.declared.walk.Begun.TheVariants.{Unknown, With, Behind}
-use Rattle.view_parts.specs.declared.bodies.Head.{Head}
-use Rattle.view_parts.specs.declared.walk.Headed.{Headed}
-use Rattle.view_parts.specs.declared.walk.LastToken.{LastToken}
-use Rattle.view_parts.specs.declared.walk.Walk.{Walk}
-use Rattle.view_parts.specs.Places.{Place}
-use Rattle.view_parts.specs.Reading.{Reading, GoesOn}
-use Rattle.view_parts.specs.Steps.{is_group, is_held, is_quiet, is_telling, may_end, passed, tells_end}
-use Rattle.view_parts.specs.Walk.{begins_behind, begins_block, begun_before, body_kind, end_in_body, ends_apart, ends_in_row, ends_inside_or, goes_on_with, head_of_kind, headed_by, heads_len, heads_structure, in_body, in_group, is_apart, is_body, is_label, is_leading, is_record, kept_begun, next_begun, next_last, opened_head, parts_statements, past_bracket, past_comment, reading}
-use Rattle.view_parts.specs.Parts.{around_of, bodies_behind, is_left, left_innermost, waiting_behind, walk_behind, without_innermost}
+use Rattle.part_walk.specs.declared.walk.Around.{Around}
+use Rattle.part_walk.specs.declared.walk.Around.TheVariants as around
+use Rattle.part_walk.specs.declared.walk.Begun.{Begun}
+use Rattle.part_walk.specs.declared.walk.Begun.TheVariants.{Unknown, With, Behind}
+use Rattle.part_walk.specs.declared.bodies.Head.{Head}
+use Rattle.part_walk.specs.declared.walk.Headed.{Headed}
+use Rattle.part_walk.specs.declared.walk.LastToken.{LastToken}
+use Rattle.part_walk.specs.declared.walk.Walk.{Walk}
+use Rattle.part_walk.specs.Places.{Place}
+use Rattle.part_walk.specs.Reading.{Reading, GoesOn}
+use Rattle.view_parts.specs.Quiet.{is_group, is_held, is_quiet, is_telling}
+use Rattle.part_walk.specs.Steps.{may_end, passed, tells_end}
+use Rattle.part_walk.specs.Walk.{begins_behind, begins_block, begun_before, body_kind, end_in_body, ends_apart, ends_in_row, ends_inside_or, goes_on_with, head_of_kind, headed_by, heads_len, heads_structure, in_body, in_group, is_apart, is_body, is_label, is_leading, is_record, kept_begun, next_begun, next_last, opened_head, parts_statements, past_bracket, past_comment, reading}
+use Rattle.part_walk.specs.Brackets.{around_of, bodies_behind, is_left, left_innermost, waiting_behind, walk_behind, without_innermost}
 use Rattle.view_parts.proofs.Walked.{Passes, goes_on}
 
 differ : true ≡ false → ⊥

@@ -8,15 +8,16 @@ use Rattle.token_classes.specs.declared.class.TokenClass.{TokenClass}
 use Rattle.token_classes.specs.declared.class.TokenClass.TheVariants.{If}
 use Rattle.token_classes.specs.declared.pairing.Opener.{Opener}
 use Rattle.token_classes.specs.Viewed.{AreWithin, item_class, item_classes}
-use Rattle.view_parts.specs.declared.bodies.Head.{Head}
+use Rattle.part_walk.specs.declared.bodies.Head.{Head}
 use Rattle.view_parts.specs.declared.row.Row.{Row}
-use Rattle.view_parts.specs.declared.walk.Around.{Around}
-use Rattle.view_parts.specs.declared.walk.Around.TheVariants as around
-use Rattle.view_parts.specs.declared.walk.Walk.{Walk}
-use Rattle.view_parts.specs.Parts.{around_of}
-use Rattle.view_parts.specs.Places.{Place}
+use Rattle.part_walk.specs.declared.walk.Around.{Around}
+use Rattle.part_walk.specs.declared.walk.Around.TheVariants as around
+use Rattle.part_walk.specs.declared.walk.Walk.{Walk}
+use Rattle.part_walk.specs.Brackets.{around_of}
+use Rattle.part_walk.specs.Places.{Place}
 use Rattle.view_parts.specs.Rows.{IsRow}
-use Rattle.view_parts.specs.Steps.{PassesQuiet, is_held, is_quiet, may_end, passed}
+use Rattle.view_parts.specs.Quiet.{PassesQuiet, is_held, is_quiet}
+use Rattle.part_walk.specs.Steps.{may_end, passed}
 use Rattle.view_parts.proofs.PartEnds.{IsRead, read_quiet}
 use Rattle.view_parts.proofs.Quiet.{AreQuiet, quiet_row}
 use Rattle.view_parts.proofs.Rows.{row_items, row_later, row_stored}

@@ -8,17 +8,18 @@ use Rattle.token_arena.specs.Ids.{Increase}
 use Rattle.token_classes.specs.declared.class.TokenClass.{TokenClass}
 use Rattle.token_classes.specs.declared.pairing.Opener.{Opener}
 use Rattle.token_classes.specs.Viewed.{AreWithin, item_classes}
-use Rattle.view_parts.specs.declared.bodies.Head.{Head}
+use Rattle.part_walk.specs.declared.bodies.Head.{Head}
 use Rattle.view_parts.specs.declared.row.Row.{Row}
-use Rattle.view_parts.specs.declared.walk.Around.{Around}
-use Rattle.view_parts.specs.declared.walk.Around.TheVariants as around
-use Rattle.view_parts.specs.declared.walk.Walk.{Walk}
-use Rattle.view_parts.specs.Parts.{Ended, around_of, part_inside, part_len, EndsBehind, StandsBefore}
-use Rattle.view_parts.specs.Places.{Place}
-use Rattle.view_parts.specs.Reading.{Reading}
+use Rattle.part_walk.specs.declared.walk.Around.{Around}
+use Rattle.part_walk.specs.declared.walk.Around.TheVariants as around
+use Rattle.part_walk.specs.declared.walk.Walk.{Walk}
+use Rattle.view_parts.specs.Parts.{Ended, part_inside, part_len, EndsBehind, StandsBefore}
+use Rattle.part_walk.specs.Brackets.{around_of}
+use Rattle.part_walk.specs.Places.{Place}
+use Rattle.part_walk.specs.Reading.{Reading}
 use Rattle.view_parts.specs.Rows.{IsRow}
-use Rattle.view_parts.specs.Steps.{PassesQuiet, is_quiet}
-use Rattle.view_parts.specs.Walk.{reading}
+use Rattle.view_parts.specs.Quiet.{PassesQuiet, is_quiet}
+use Rattle.part_walk.specs.Walk.{reading}
 use Rattle.view_parts.proofs.InBodies.{stands_before}
 use Rattle.view_parts.proofs.PartEnds.{EndsNowhere, EndsSo, IsRead, ends_there, headed, seen_so}
 use Rattle.view_parts.proofs.QuietPassed.{StandsAt, read_past, stands_behind}

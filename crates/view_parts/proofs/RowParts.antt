@@ -11,9 +11,8 @@ use Rattle.view_parts.specs.declared.known.KnownEnd.{KnownEnd}
 use Rattle.view_parts.specs.declared.known.KnownEnd.TheVariants.{Unknown, InRow, InRows, InSpan}
 use Rattle.view_parts.specs.declared.known.KnownRow.{KnownRow}
 use Rattle.view_parts.specs.Known.{IsKnown, AreKnown, FollowInRow, AreKnownRows, row_of, joined, joined_rows}
-use Rattle.view_parts.specs.Parts.{PartStop, count_or, end_of_part, inside_of, stop_from, EndsBehind, FollowUpTo, ArePartsUpTo}
-use Rattle.view_parts.specs.Places.{Place}
-use Rattle.view_parts.specs.Parts.{Ended}
+use Rattle.view_parts.specs.Parts.{PartStop, count_or, end_of_part, inside_of, stop_from, EndsBehind, FollowUpTo, ArePartsUpTo, Ended}
+use Rattle.part_walk.specs.Places.{Place}
 use Rattle.view_parts.proofs.Rows.{row_from, row_item, noted_all}
 use Rattle.view_parts.proofs.Walked.{end_behind, outside_at}
 

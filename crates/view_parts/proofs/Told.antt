@@ -9,11 +9,10 @@ use Rattle.std.proofs.lemmas.List.FromFn.{length-range_with_len}
 use Rattle.token_arena.specs.Gaps.{Contents}
 use Rattle.token_arena.specs.Ids.{Increase}
 use Rattle.view_parts.specs.declared.known.KnownRow.{KnownRow}
-use Rattle.view_parts.specs.Places.{Place}
-use Rattle.view_parts.specs.Parts.{Ended}
+use Rattle.part_walk.specs.Places.{Place}
+use Rattle.view_parts.specs.Parts.{Ended, end_of_part, EndsBehind, FollowUpTo, ArePartsUpTo}
 use Rattle.view_parts.specs.declared.known.KnownSpan.{KnownSpan}
 use Rattle.view_parts.specs.Known.{AreKnownRows, FollowInRow, IsKnownRow, IsSpan}
-use Rattle.view_parts.specs.Parts.{end_of_part, EndsBehind, FollowUpTo, ArePartsUpTo}
 use Rattle.view_parts.specs.Told.{TellParts}
 use Rattle.view_parts.proofs.Walked.{outside_at}
 use Rattle.view_parts.proofs.Rows.{row_from}

@@ -10,14 +10,15 @@ use Rattle.token_classes.specs.Classes.{is_comment, is_word, is_bracket}
 use Rattle.token_classes.specs.Viewed.{AreWithin, item_class, item_classes}
 use Rattle.token_classes.proofs.ItemClasses.{class_at}
 use Rattle.token_classes.specs.declared.pairing.Opener.{Opener}
-use Rattle.view_parts.specs.declared.walk.Around.{Around}
-use Rattle.view_parts.specs.declared.walk.Around.TheVariants as around
-use Rattle.view_parts.specs.declared.bodies.Head.{Head}
-use Rattle.view_parts.specs.declared.walk.Walk.{Walk}
-use Rattle.view_parts.specs.Places.{Place}
-use Rattle.view_parts.specs.Reading.{Reading, EndsOutside, EndsInBody, Never, GoesOn}
-use Rattle.view_parts.specs.Walk.{start, reading, opened_head, is_end, is_lost, is_apart, asked_behind, asked_at, asked_in_body, end_in_body, ends_apart, ends_in_row, ends_or, ends_inside_or, ends_statement, or_place, parts_statements, in_body, in_group, outside, past_bracket, past_comment, past_other}
-use Rattle.view_parts.specs.Parts.{Ended, around_of, bodies_at, bodies_behind, count_or, end_of_part, inside_of, is_left, left_innermost, next_end, part_inside, part_len, place_behind, waiting_at, waiting_behind, walk_behind, EndsBehind}
+use Rattle.part_walk.specs.declared.walk.Around.{Around}
+use Rattle.part_walk.specs.declared.walk.Around.TheVariants as around
+use Rattle.part_walk.specs.declared.bodies.Head.{Head}
+use Rattle.part_walk.specs.declared.walk.Walk.{Walk}
+use Rattle.part_walk.specs.Places.{Place}
+use Rattle.part_walk.specs.Reading.{Reading, EndsOutside, EndsInBody, Never, GoesOn}
+use Rattle.part_walk.specs.Walk.{start, reading, opened_head, is_end, is_lost, is_apart, asked_behind, asked_at, asked_in_body, end_in_body, ends_apart, ends_in_row, ends_or, ends_inside_or, ends_statement, or_place, parts_statements, in_body, in_group, outside, past_bracket, past_comment, past_other}
+use Rattle.view_parts.specs.Parts.{Ended, count_or, end_of_part, inside_of, next_end, part_inside, part_len, EndsBehind}
+use Rattle.part_walk.specs.Brackets.{around_of, bodies_at, bodies_behind, is_left, left_innermost, place_behind, waiting_at, waiting_behind, walk_behind}
 
 -- behind so many items, outside brackets
 abbrev pub outside_at : ℕ → Ended

@@ -1,9 +1,6 @@
 pub mod Known
 pub mod Notes
 pub mod Parts
-pub mod Places
-pub mod Reading
+pub mod Quiet
 pub mod Rows
-pub mod Steps
 pub mod Told
-pub mod Walk

@@ -3,7 +3,7 @@ use Rattle.std.specs.Prelude.{◌≡◌, ◌<◌, ◌≤◌, ℕ, ◌+◌, ◌-�
 use Rattle.std.specs.Option.{ForNone, ForSome}
 use Rattle.token_arena.specs.Gaps.{Contents}
 use Rattle.view_parts.specs.declared.known.PartsEnd.{PartsEnd}
-use Rattle.view_parts.specs.Places.{Place, place_in}
+use Rattle.part_walk.specs.Places.{Place, place_in}
 use Rattle.view_parts.specs.Parts.{part_inside, part_len, ArePartsUpTo, StandsBefore}
 
 -- Parts that follow one another begin with these items, outside brackets or at this place of a body, and the last of

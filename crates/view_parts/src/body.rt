@@ -6,11 +6,11 @@ ghost use Rattle.std.specs.List.{range_with_len};
 ghost use Rattle.token_arena.specs.Ids.{Increase};
 ghost use Rattle.token_arena.specs.Segments.{ids_of, AscendFrom, bounds_of};
 ghost use Rattle.view_parts.specs.Parts.{head_items, heads_end, laid_items, Stand, StandsBefore};
-ghost use Rattle.view_parts.specs.Places.{place_in};
+ghost use Rattle.part_walk.specs.Places.{place_in};
 
-use crate::bodies::{BodyPlace, Head};
 use bumpalo::Bump;
 use line_tokens::NoMemory;
+use part_walk::{BodyPlace, Head};
 use token_arena::{Stretch, View};
 
 /// Adds the items from one to before another, all behind those of some stretches and a last one.

@@ -1,29 +1,27 @@
 //! Where the parts of a view end.
 
-ghost use Rattle.std.specs.Prelude.{◌&&◌, ◌||◌, ◌≡◌, ◌<◌, ◌≤◌, ◌+◌, ◌-◌, ◌^◌, ℕ};
-ghost use Rattle.std.specs.Prelude.{true, false, not, All, length, drop, take, get_or, slice_range};
-ghost use Rattle.std.specs.Prelude.{IfOk, IfSome, None, Some};
+ghost use Rattle.std.specs.Prelude.{◌&&◌, ◌||◌, ◌≡◌, ◌<◌, ◌≤◌, ◌+◌, ◌-◌, ◌^◌, ℕ, true, false, not, All, length, drop};
+ghost use Rattle.std.specs.Prelude.{take, get_or, slice_range, IfOk, IfSome, None, Some};
 ghost use Rattle.std.specs.Option.{ForNone, ForSome};
 ghost use Rattle.token_arena.specs.Ids.{Increase};
 ghost use Rattle.token_classes.specs.declared.class.TokenClass.{TokenClass};
 ghost use Rattle.token_classes.specs.Classes.{is_close_brace, is_open_brace};
 ghost use Rattle.token_classes.specs.Viewed.{AreWithin, item_classes};
-ghost use Rattle.view_parts.specs.declared.walk.Around.TheVariants.{Body, Group};
-ghost use Rattle.view_parts.specs.Parts.{part_inside, part_len};
-ghost use Rattle.view_parts.specs.Parts.{EndsBehind, StandsBefore};
-ghost use Rattle.view_parts.specs.Places.{place_in};
-ghost use Rattle.view_parts.specs.declared.walk.Before.TheVariants as Before;
+ghost use Rattle.part_walk.specs.declared.walk.Around.TheVariants.{Body, Group};
+ghost use Rattle.view_parts.specs.Parts.{part_inside, part_len, EndsBehind, StandsBefore};
+ghost use Rattle.part_walk.specs.Places.{place_in};
+ghost use Rattle.part_walk.specs.declared.walk.Before.TheVariants as Before;
 ghost use Rattle.view_parts.specs.Rows.{IsRow};
-ghost use Rattle.view_parts.specs.Steps.{Closes, PassesQuiet, closes_group, ends_before_brace};
-ghost use Rattle.view_parts.specs.Steps.{is_quiet};
+ghost use Rattle.view_parts.specs.Quiet.{Closes, PassesQuiet, closes_group, is_quiet};
+ghost use Rattle.part_walk.specs.Steps.{ends_before_brace};
 
-use crate::bodies::{BodyPlace, Head, opened_head, place_behind};
-use crate::brackets::OpenBrackets;
-use crate::reading::read;
 use crate::row::{Row, item_at};
-use crate::walk::{Around, Before, LEAST_IN_ROW, Outcome, Walk, start};
 use bumpalo::Bump;
 use line_tokens::{NoMemory, TokenId};
+use part_walk::{
+    Around, Before, BodyPlace, Head, LEAST_IN_ROW, OpenBrackets, Outcome, Walk, opened_head,
+    place_behind, read, start,
+};
 use token_arena::{TokenArena, View};
 use token_classes::TokenClass;
 

@@ -1,19 +1,19 @@
 //! Where parts end that earlier runs saw.
 
-ghost use Rattle.std.specs.Prelude.{◌≡◌, ◌<◌, ◌≤◌, ◌+◌, ◌-◌, ℕ, [], length, drop, get_or, slice_range};
-ghost use Rattle.std.specs.Prelude.{IfOk, IfSome, IsTrue, None, OnOk};
+ghost use Rattle.std.specs.Prelude.{◌≡◌, ◌<◌, ◌≤◌, ◌+◌, ◌-◌, ℕ, [], length, drop, get_or, slice_range, IfOk, IfSome};
+ghost use Rattle.std.specs.Prelude.{IsTrue, None, OnOk};
 ghost use Rattle.std.specs.Option.{ForNone, ForSome};
 ghost use Rattle.token_classes.specs.Viewed.{AreWithin, item_classes};
 ghost use Rattle.view_parts.specs.Known.{AreKnown, AreRowsFrom, AreSpans, HasRow, IsKnown, IsKnownRow, IsRowAt};
 ghost use Rattle.view_parts.specs.Parts.{part_inside, part_len, EndsBehind, StandsBefore};
-ghost use Rattle.view_parts.specs.Places.{place_in};
+ghost use Rattle.part_walk.specs.Places.{place_in};
 ghost use Rattle.view_parts.specs.Told.{IsEndOfPart, TellParts};
 
-use crate::bodies::BodyPlace;
 use crate::ends::{PartEnd, part_end};
 use crate::notes::KnownEnds;
 use bumpalo::Bump;
 use line_tokens::{NoMemory, TokenId};
+use part_walk::BodyPlace;
 use token_arena::{TokenArena, View};
 use token_classes::TokenClass;
 

@@ -5,18 +5,13 @@
 //! its own items alone, so tables are made for one part at a time, and a part whose gaps are decided is passed over.
 #![tactic(auto)]
 
-mod bodies;
 mod body;
-mod brackets;
 mod ends;
 mod joined;
 mod known;
 mod notes;
-mod reading;
 mod row;
-mod walk;
 
-pub use bodies::{BodyKind, BodyPlace, Head};
 pub use body::laid_view;
 pub use ends::{PartEnd, part_end};
 pub use joined::{join_rows, known_parts_end};

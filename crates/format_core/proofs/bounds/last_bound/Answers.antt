@@ -1,6 +1,6 @@
 use Rattle.std.proofs.Common.{◌≡◌, ◌∙◌, ◌-◌, List, length, take, get_or, sym, ap, subst, arith}
 use Rattle.std.proofs.lemmas.List.{get_or_default}
-use Rattle.view_parts.specs.Places.{place_in}
+use Rattle.part_walk.specs.Places.{place_in}
 use Rattle.format_core.specs.declared.bounds.KnownBound.{KnownBound}
 use Rattle.format_core.specs.Bounds.{AreBounds, IsBound, no_bound}
 use Rattle.format_core.proofs.FirstParts.{bounds_left, starts_bound}

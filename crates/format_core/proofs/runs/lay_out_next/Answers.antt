@@ -1,7 +1,7 @@
 use Rattle.std.proofs.Common.{◌≡◌, ◌∙◌, ◌+◌, ◌<◌, ◌≤◌, ℕ, Some, None, Option, List, length, refl, sym, ap, subst, arith}
 use Rattle.std.specs.Prelude.{All, IsSome, slice_range}
-use Rattle.view_parts.specs.declared.bodies.BodyPlace.{BodyPlace}
-use Rattle.view_parts.specs.Places.{place_in}
+use Rattle.part_walk.specs.declared.bodies.BodyPlace.{BodyPlace}
+use Rattle.part_walk.specs.Places.{place_in}
 use Rattle.view_parts.specs.Parts.{items_before, laid_items}
 use Rattle.replacements.specs.Decisions.{slot_of}
 use Rattle.format_core.specs.Runs.{AreDecided, AreRowsDecided, seen_by}

@@ -4,7 +4,7 @@ use Rattle.std.specs.Bool.{OnTrue}
 use Rattle.std.proofs.lemmas.Result.{on_ok_weaker}
 use Rattle.line_gaps.specs.OpenGaps.{IsRowDecided}
 use Rattle.view_parts.specs.Parts.{items_before, laid_items}
-use Rattle.view_parts.specs.Places.{place_in}
+use Rattle.part_walk.specs.Places.{place_in}
 use Rattle.format_core.specs.RunsTold.{AreItemsTold}
 use Rattle.format_core.proofs.Parts.{all_decided_of, laid_decided, laid_have, part_within}
 use Rattle.format_core.proofs.PlacesStand.{laid_few}

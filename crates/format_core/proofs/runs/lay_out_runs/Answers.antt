@@ -3,7 +3,7 @@ use Rattle.branch_runs.specs.declared.mark.Mark.{Mark}
 use Rattle.branch_runs.specs.Reading.{read}
 use Rattle.branch_runs.specs.Runs.{need}
 use Rattle.view_parts.specs.declared.known.KnownSpan.{KnownSpan}
-use Rattle.view_parts.specs.Places.{place_in}
+use Rattle.part_walk.specs.Places.{place_in}
 use Rattle.format_core.specs.Bounds.{AreBounds}
 use Rattle.format_core.specs.Runs.{runs_of, seen_by}
 use Rattle.format_core.specs.RunsTold.{AreRunsTold}

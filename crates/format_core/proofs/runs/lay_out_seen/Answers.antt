@@ -6,8 +6,8 @@ use Rattle.branch_runs.specs.declared.mark.Mark.{Mark}
 use Rattle.branch_runs.specs.Anew.{items_between}
 use Rattle.branch_runs.specs.Reading.{read}
 use Rattle.branch_runs.specs.Runs.{view_of}
-use Rattle.view_parts.specs.declared.bodies.BodyPlace.{BodyPlace}
-use Rattle.view_parts.specs.Places.{place_in}
+use Rattle.part_walk.specs.declared.bodies.BodyPlace.{BodyPlace}
+use Rattle.part_walk.specs.Places.{place_in}
 use Rattle.view_parts.specs.Parts.{StandsBefore}
 use Rattle.format_core.specs.Bounds.{BeginTold}
 use Rattle.format_core.specs.PartByPart.{GoesOnFrom}

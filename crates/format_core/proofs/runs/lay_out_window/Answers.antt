@@ -4,8 +4,8 @@ use Rattle.std.specs.Option.{ForNone, ForSome}
 use Rattle.branch_runs.specs.Anew.{items_between}
 use Rattle.token_classes.proofs.Lists.{few_below}
 use Rattle.view_parts.specs.declared.known.PartsEnd.{PartsEnd}
-use Rattle.view_parts.specs.declared.bodies.BodyPlace.{BodyPlace}
-use Rattle.view_parts.specs.Places.{place_in}
+use Rattle.part_walk.specs.declared.bodies.BodyPlace.{BodyPlace}
+use Rattle.part_walk.specs.Places.{place_in}
 use Rattle.view_parts.specs.Parts.{StandsBefore, items_before}
 use Rattle.replacements.specs.Decisions.{slot_of}
 use Rattle.format_core.specs.Bounds.{AreBounds, BeginTold}

@@ -3,7 +3,7 @@ use Rattle.std.specs.Prelude.{All, IsSome, IsTrue}
 use Rattle.std.specs.Option.{ForSome}
 use Rattle.branch_runs.specs.Anew.{items_between}
 use Rattle.view_parts.specs.Parts.{StandsBefore, items_before}
-use Rattle.view_parts.specs.Places.{place_in}
+use Rattle.part_walk.specs.Places.{place_in}
 use Rattle.replacements.specs.Decisions.{slot_of}
 use Rattle.replacements.specs.declared.slot.Slot.{Slot}
 use Rattle.run_layout.specs.declared.report.Tally.{Tally}

@@ -2,7 +2,7 @@ use Rattle.std.proofs.Common.{◌+◌, ◌-◌, ◌<◌, List, get_or, length, s
 use Rattle.format_core.specs.declared.bounds.KnownBound.{KnownBound}
 use Rattle.format_core.specs.Bounds.{AreBounds, BeginTold, IsBound}
 use Rattle.branch_runs.specs.Anew.{items_between}
-use Rattle.view_parts.specs.Places.{place_in}
+use Rattle.part_walk.specs.Places.{place_in}
 use Rattle.format_core.specs.Runs.{seen_by}
 use Rattle.format_core.specs.Windows.{place_before}
 use Rattle.format_core.proofs.BoundsNoted.{window_bound, window_told}

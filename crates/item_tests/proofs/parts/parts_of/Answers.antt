@@ -1,8 +1,8 @@
 use Rattle.std.proofs.Common.{Option, get_or, sym, subst}
 use Rattle.std.specs.Option.{ForSome}
-use Rattle.view_parts.specs.declared.bodies.BodyPlace.{BodyPlace}
+use Rattle.part_walk.specs.declared.bodies.BodyPlace.{BodyPlace}
 use Rattle.view_parts.specs.Parts.{StandsBefore}
-use Rattle.view_parts.specs.Places.{place_in}
+use Rattle.part_walk.specs.Places.{place_in}
 use Rattle.item_tests.proofs.parts.parts_of.Goals as goal
 use Rattle.item_tests.proofs.parts.parts_of.Goals.{then-first-count, else-first-count}
 

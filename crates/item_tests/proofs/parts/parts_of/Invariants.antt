@@ -1,7 +1,7 @@
 use Rattle.std.proofs.Common.{get_or}
 use Rattle.std.specs.Option.{ForSome}
 use Rattle.view_parts.specs.Parts.{StandsBefore}
-use Rattle.view_parts.specs.Places.{place_in}
+use Rattle.part_walk.specs.Places.{place_in}
 use Rattle.item_tests.proofs.parts.parts_of.Given as goal
 
 -- the next part begins behind what stands for its place

@@ -2,9 +2,9 @@ use Rattle.std.proofs.Common.{◌≡◌, ◌∙◌, ◌-◌, ◌++◌, ◌∷◌
 use Rattle.token_arena.specs.declared.view.Stretch.{Stretch}
 use Rattle.std.proofs.lemmas.Result.{IfOk-weaker}
 use Rattle.token_arena.specs.Segments.{ids_of, AscendFrom, bounds_of}
-use Rattle.view_parts.specs.declared.bodies.BodyPlace.{BodyPlace}
+use Rattle.part_walk.specs.declared.bodies.BodyPlace.{BodyPlace}
 use Rattle.view_parts.specs.Parts.{head_items, items_of_place, laid_items, opened_items}
-use Rattle.view_parts.specs.Places.{place_in, place_of}
+use Rattle.part_walk.specs.Places.{place_in, place_of}
 use Rattle.view_parts.proofs.Laid.{first_of, laid_so, no_head, opened_none, opened_one, outermost, stands_so}
 use Rattle.view_parts.proofs.body.laid_view.Goals.{in-Some-opened+in_ok-push_stretch, in_default-opened}
 use Rattle.view_parts.proofs.body.laid_view.Goals as goal

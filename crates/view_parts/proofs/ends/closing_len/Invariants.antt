@@ -1,6 +1,6 @@
 use Rattle.std.proofs.Common.{◌<◌, ◌≤◌, ◌-◌, ◌+◌, List, ◌++◌, length, take}
 use Rattle.token_classes.specs.declared.class.TokenClass.{TokenClass}
-use Rattle.view_parts.specs.Steps.{Closes}
+use Rattle.view_parts.specs.Quiet.{Closes}
 use Rattle.view_parts.proofs.ends.closing_len.Given as goal
 
 abbrev pub invariant-loop-count : goal.invariant-loop-count

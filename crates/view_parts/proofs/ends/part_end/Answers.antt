@@ -10,20 +10,23 @@ use Rattle.token_classes.specs.Classes.{is_open_brace}
 use Rattle.token_classes.specs.declared.pairing.Opener.{Opener}
 use Rattle.token_classes.specs.Partners.{StandBefore}
 use Rattle.token_classes.specs.Words.{class_of}
-use Rattle.view_parts.specs.declared.bodies.Head.{Head}
-use Rattle.view_parts.specs.declared.walk.Around.{Around}
-use Rattle.view_parts.specs.declared.walk.Around.TheVariants as around
-use Rattle.view_parts.specs.declared.walk.Outcome.{Outcome}
-use Rattle.view_parts.specs.declared.walk.Walk.{Walk}
-use Rattle.view_parts.specs.Places.{Place, place_in, place_of}
-use Rattle.view_parts.specs.Parts.{end_of_part, heads_at, place_behind}
-use Rattle.view_parts.specs.Reading.{GoesOn}
-use Rattle.view_parts.specs.Walk.{end_in_body, ends_inside_or, heads_len, in_body, is_some, reading, opened_head}
-use Rattle.view_parts.specs.Steps.{ends_before_brace, read_so, Closes}
-use Rattle.view_parts.proofs.Failed.{no_value}
+use Rattle.part_walk.specs.declared.bodies.Head.{Head}
+use Rattle.part_walk.specs.declared.walk.Around.{Around}
+use Rattle.part_walk.specs.declared.walk.Around.TheVariants as around
+use Rattle.part_walk.specs.declared.walk.Outcome.{Outcome}
+use Rattle.part_walk.specs.declared.walk.Walk.{Walk}
+use Rattle.part_walk.specs.Places.{Place, place_in, place_of}
+use Rattle.view_parts.specs.Parts.{end_of_part}
+use Rattle.part_walk.specs.Brackets.{heads_at, place_behind}
+use Rattle.part_walk.specs.Reading.{GoesOn}
+use Rattle.part_walk.specs.Walk.{end_in_body, ends_inside_or, heads_len, in_body, is_some, reading, opened_head}
+use Rattle.part_walk.specs.Steps.{ends_before_brace, read_so}
+use Rattle.view_parts.specs.Quiet.{Closes}
+use Rattle.part_walk.proofs.Failed.{no_value}
 use Rattle.view_parts.proofs.BodyRows.{brace_of, read_body}
 use Rattle.view_parts.proofs.GroupsPassed.{read_group}
-use Rattle.view_parts.proofs.Heads.{heads_len-reverse, opened_brace, opened_none}
+use Rattle.part_walk.proofs.Heads.{heads_len-reverse}
+use Rattle.view_parts.proofs.Heads.{opened_brace, opened_none}
 use Rattle.view_parts.proofs.PartEnds.{ends_nowhere, read_first, read_flat, read_on}
 use Rattle.view_parts.proofs.ReadItems.{at_item, ends_at, ends_item, ends_with_view, fewer_left, fits_text, group_quiet, item_row, later_place, one_fewer, read_quiet_row, reads_item, row_behind_item, small_at, stands_here, told_fits, within_kept}
 use Rattle.view_parts.proofs.Rows.{row_later, row_stored}

@@ -1,6 +1,6 @@
 use Rattle.std.proofs.Common.{◌≡◌, ◌-◌, ◌+◌, reverse}
-use Rattle.view_parts.specs.Parts.{around_of}
-use Rattle.view_parts.specs.Places.{place_in}
+use Rattle.part_walk.specs.Brackets.{around_of}
+use Rattle.part_walk.specs.Places.{place_in}
 use Rattle.view_parts.specs.Rows.{IsRow}
 use Rattle.view_parts.proofs.PartEnds.{IsRead}
 use Rattle.view_parts.proofs.ends.part_end.Given as goal

@@ -1,7 +1,7 @@
 use Rattle.std.proofs.Common.{◌≡◌, ◌∙◌, ◌<◌, ◌+◌, ◌-◌, Some, None, length, sym, ap, subst, arith}
 use Rattle.line_tokens.specs.declared.TokenId.{TokenId}
-use Rattle.view_parts.specs.declared.walk.Walk.{Walk}
-use Rattle.view_parts.specs.Steps.{PassesQuiet, is_held}
+use Rattle.part_walk.specs.declared.walk.Walk.{Walk}
+use Rattle.view_parts.specs.Quiet.{PassesQuiet, is_held}
 use Rattle.view_parts.proofs.QuietPassed.{behind_so, item_behind, none_passed, passes_so, placed, quiet_by_number, row_ends, within_all}
 use Rattle.view_parts.proofs.RowParts.{some_is}
 use Rattle.view_parts.proofs.Rows.{row_stored}

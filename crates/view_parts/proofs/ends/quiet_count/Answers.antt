@@ -1,7 +1,7 @@
 use Rattle.std.proofs.Common.{◌≡◌, ◌∙◌, ◌⊎◌, inl, inr, ◌<◌, ◌+◌, ℕ, get_or, sym, ap, arith}
 use Rattle.std.proofs.lemmas.List.{get_or_default}
 use Rattle.token_classes.specs.declared.class.TokenClass.{TokenClass}
-use Rattle.view_parts.specs.Steps.{is_quiet}
+use Rattle.view_parts.specs.Quiet.{is_quiet}
 use Rattle.view_parts.proofs.ends.quiet_count.Goals as goal
 
 earlier_or_here : (k n : ℕ) → k < n + 1 → (k < n) ⊎ (k ≡ n)

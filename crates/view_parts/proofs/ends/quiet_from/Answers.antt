@@ -1,9 +1,9 @@
 use Rattle.std.proofs.Common.{◌≡◌, ◌∙◌, ◌<◌, ◌≤◌, ◌+◌, ◌-◌, ℕ, Bool, true, List, drop, take, get_or, sym, ap, arith}
 use Rattle.std.proofs.lemmas.List.{get_or-drop, get_or-take}
 use Rattle.token_classes.specs.declared.class.TokenClass.{TokenClass}
-use Rattle.view_parts.specs.declared.walk.Around.{Around}
-use Rattle.view_parts.specs.declared.walk.Around.TheVariants.{Body, Group}
-use Rattle.view_parts.specs.Steps.{is_quiet}
+use Rattle.part_walk.specs.declared.walk.Around.{Around}
+use Rattle.part_walk.specs.declared.walk.Around.TheVariants.{Body, Group}
+use Rattle.view_parts.specs.Quiet.{is_quiet}
 use Rattle.view_parts.proofs.ends.quiet_from.Goals.{in-Outside, in-Body, in-Group}
 use Rattle.view_parts.proofs.ends.quiet_from.Goals as goal
 

@@ -3,9 +3,9 @@ use Rattle.std.specs.Prelude.{not}
 use Rattle.std.proofs.lemmas.Bool.{OnTrue_at}
 use Rattle.std.proofs.lemmas.Result.{IfOk-weaker}
 use Rattle.view_parts.specs.declared.known.PartsEnd.{PartsEnd}
-use Rattle.view_parts.specs.Places.{place_in}
+use Rattle.part_walk.specs.Places.{place_in}
 use Rattle.view_parts.specs.Told.{IsEndOfPart}
-use Rattle.view_parts.proofs.Failed.{no_value}
+use Rattle.part_walk.proofs.Failed.{no_value}
 use Rattle.view_parts.proofs.EndsOfParts.{from_outside, none_of, same_rows}
 use Rattle.view_parts.proofs.Told.{part_told}
 use Rattle.view_parts.proofs.known.known_part_end.Goals as goal

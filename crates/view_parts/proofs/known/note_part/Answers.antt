@@ -1,6 +1,6 @@
 use Rattle.std.proofs.Common.{◌∙◌, ◌-◌, refl, sym}
 use Rattle.std.specs.Prelude.{slice_range}
-use Rattle.view_parts.proofs.Failed.{no_value}
+use Rattle.part_walk.proofs.Failed.{no_value}
 use Rattle.view_parts.proofs.EndsOfParts.{ends_outside, none_of, none_some, on_ok, same_rows, set_known, set_rows}
 use Rattle.view_parts.proofs.known.note_part.Goals as goal
 

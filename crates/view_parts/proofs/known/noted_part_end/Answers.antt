@@ -1,8 +1,8 @@
 use Rattle.std.proofs.Common.{None, refl, sym, subst}
 use Rattle.view_parts.specs.declared.known.KnownEnd.{KnownEnd}
 use Rattle.view_parts.specs.Known.{IsKnown}
-use Rattle.view_parts.specs.Places.{place_in}
-use Rattle.view_parts.proofs.Failed.{no_value}
+use Rattle.part_walk.specs.Places.{place_in}
+use Rattle.part_walk.proofs.Failed.{no_value}
 use Rattle.view_parts.proofs.EndsOfParts.{none_some, same_rows}
 use Rattle.view_parts.proofs.Told.{part_told}
 use Rattle.view_parts.proofs.known.noted_part_end.Goals as goal

@@ -1,0 +1,3 @@
+pub mod Failed
+pub mod Heads
+pub mod Waits

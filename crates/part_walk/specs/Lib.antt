@@ -1,0 +1,5 @@
+pub mod Brackets
+pub mod Places
+pub mod Reading
+pub mod Steps
+pub mod Walk
