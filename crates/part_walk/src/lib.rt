@@ -1,8 +1,8 @@
 //! What reading the items of a part one by one tells of where it may end, as `docs/PROFILE.md` says under "Parts".
 //!
-//! A [`Walk`] is what is known behind the items that were read, and [`read`] tells by the next one whether the part ends
-//! or goes on. [`OpenBrackets`] has the openers that wait there and the heads of the bodies that are open. Nothing here
-//! knows a view: who stands above finds the items, and says where a part of a view ends.
+//! A [`Walk`] is what is known behind the items that were read, and [`read`] tells by the next one whether the part
+//! ends or goes on. [`OpenBrackets`] has the openers that wait there and the heads of the bodies that are open. Nothing
+//! here knows a view: who stands above finds the items, and says where a part of a view ends.
 #![tactic(auto)]
 
 mod bodies;
