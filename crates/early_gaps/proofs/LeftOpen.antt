@@ -1,5 +1,6 @@
 -- What the runs are left to decide.
-use Rattle.std.proofs.Common.{◌≡◌, ◌≢◌, ◌∙◌, ◌||◌, ◌&&◌, ℕ, ◌+◌, ◌<◌, ◌≤◌, nat_lt, ◌⊎◌, inl, inr, Bool, true, false, Option, Some, None, List, length, replicate, get_or, eq-eqb, refl, sym, subst, arith}
+use Rattle.std.proofs.Common.{◌≡◌, ◌≢◌, ◌∙◌, ◌||◌, ◌&&◌, ℕ, ◌+◌, ◌<◌, ◌≤◌, nat_lt, ◌⊎◌, inl, inr, Bool, true, false}
+use Rattle.std.proofs.Common.{Option, Some, None, List, length, replicate, get_or, eq-eqb, refl, sym, subst, arith}
 use Rattle.std.specs.Prelude.{IsSome, [], ◌∷◌}
 use Rattle.std.proofs.lemmas.Bool.{or_parts}
 use Rattle.std.proofs.lemmas.List.{length-replicate}
@@ -8,8 +9,6 @@ use Rattle.token_arena.specs.Gaps.{Contents}
 use Rattle.token_arena.specs.Sections.{sections_of}
 use Rattle.branch_runs.specs.Marks.{marks_of}
 use Rattle.branch_runs.specs.Dead.{is_dead}
-use Rattle.directive_layout.specs.AllLaid.{all_laid}
-use Rattle.directive_layout.proofs.AllMade.{are_decided}
 use Rattle.off_regions.specs.Frozen.{frozen_gaps}
 use Rattle.off_regions.specs.declared.range.LineRange.{LineRange}
 use Rattle.replacements.specs.Decisions.{slot_of, first_for, decided, decided_all}
@@ -18,7 +17,9 @@ use Rattle.replacements.specs.declared.stance.Stance.{Stance}
 use Rattle.replacements.specs.declared.stance.Stance.TheVariants.{OfText, Leads, Within}
 use Rattle.replacements.specs.Stances.{stance_in}
 use Rattle.replacements.proofs.Firsts.{first, stay}
-use Rattle.line_gaps.proofs.MadeFor.{length-decided_all}
+use Rattle.line_gaps.proofs.MadeFor.{length-decided_all, open_or_decided}
+use Rattle.early_gaps.specs.AllLaid.{all_laid}
+use Rattle.early_gaps.proofs.AllMade.{are_decided}
 use Rattle.early_gaps.specs.BeforeRuns.{last_slot, early_plan}
 use Rattle.early_gaps.specs.Dead.{is_behind_dead, is_beside_dead}
 use Rattle.early_gaps.specs.Joined.{is_beside_joined}
@@ -26,10 +27,6 @@ use Rattle.early_gaps.specs.Kept.{is_kept, kept_at}
 use Rattle.early_gaps.specs.EarlyLaws.{EarlyOrLeft, IsLeft}
 use Rattle.early_gaps.specs.Made.{made_from}
 use Rattle.early_gaps.proofs.Tells.{early_keeps, early_steps}
-
-open_or_decided : (o : Option Slot) → (o ≡ None) ⊎ ((slot : Slot) × (o ≡ Some slot))
-open_or_decided None = inl refl
-open_or_decided (Some slot) = inr (slot, refl)
 
 -- a decision for a place decides it
 one_decides : (plan : List (Option Slot)) (place : ℕ) (slot : Slot) → place < length plan → IsSome (slot_of (decided plan place slot) place)

@@ -1,5 +1,6 @@
 -- What is decided before the runs may stand.
-use Rattle.std.proofs.Common.{◌≡◌, ◌∙◌, ◌==◌, not, ◌&&◌, ℕ, zero, suc, ◌+◌, ◌∷◌, [], ◌++◌, Bool, true, false, Option, Some, None, List, length, replicate, refl, sym, arith, subst}
+use Rattle.std.proofs.Common.{◌≡◌, ◌∙◌, ◌==◌, not, ◌&&◌, ℕ, zero, suc, ◌+◌, ◌∷◌, [], ◌++◌, Bool, true, false, Option}
+use Rattle.std.proofs.Common.{Some, None, List, length, replicate, refl, sym, arith, subst}
 use Rattle.std.specs.Prelude.{if◌then◌else◌}
 use Rattle.std.proofs.lemmas.Option.{slice_get_past}
 use Rattle.style_table.specs.declared.style.Style.{Style}
@@ -7,18 +8,19 @@ use Rattle.token_arena.specs.Stored.{Stored}
 use Rattle.token_arena.specs.Gaps.{Contents}
 use Rattle.token_arena.specs.Sections.{sections_of}
 use Rattle.replacements.specs.declared.gap_text.Decision.TheVariants.{Old, Spaces, Lines}
-use Rattle.directive_layout.specs.AllLaid.{all_laid}
-use Rattle.directive_layout.proofs.AllSound.{all_stay_sound}
 use Rattle.off_regions.specs.Frozen.{frozen_gaps}
 use Rattle.replacements.specs.Breaks.{has_new_line_before}
 use Rattle.replacements.specs.Decisions.{slot_of, decided_all}
-use Rattle.replacements.specs.Sound.{MayEnd, MayStandBetween, MayStand, IsSound, item_before, stance_before, place_before}
+use Rattle.replacements.specs.Sound.{MayEnd, MayStandBetween, MayStand, IsSound, item_before, stance_before}
+use Rattle.replacements.specs.Sound.{place_before}
 use Rattle.replacements.specs.Places.{place_in}
 use Rattle.replacements.specs.Stances.{stance_in}
 use Rattle.replacements.specs.declared.slot.Slot.{Slot}
 use Rattle.line_gaps.specs.InputColumns.{kept_slot}
 use Rattle.line_gaps.proofs.Stands.{MadeStand, made_append, all_sound, old_stands}
 use Rattle.line_gaps.proofs.Walked.{decided_all-append}
+use Rattle.early_gaps.specs.AllLaid.{all_laid}
+use Rattle.early_gaps.proofs.AllSound.{all_stay_sound}
 use Rattle.early_gaps.specs.BeforeRuns.{ends_in_backslash, last_decision, last_slot}
 use Rattle.early_gaps.specs.Columns.{column_at}
 use Rattle.early_gaps.specs.Kept.{is_kept, kept_at}

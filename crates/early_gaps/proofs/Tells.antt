@@ -1,10 +1,10 @@
 -- What the plan before the runs has.
-use Rattle.std.proofs.Common.{◌≡◌, ◌∙◌, ℕ, ◌+◌, Bool, Option, Some, None, List, [], ◌∷◌, ◌++◌, length, replicate, refl, sym, ap, arith}
+use Rattle.std.proofs.Common.{◌≡◌, ◌∙◌, ℕ, ◌+◌, Bool, Option, Some, None, List, [], ◌∷◌, ◌++◌, length, replicate, refl}
+use Rattle.std.proofs.Common.{sym, ap, arith}
 use Rattle.std.specs.Prelude.{if◌then◌else◌}
 use Rattle.std.proofs.lemmas.List.{length-replicate}
 use Rattle.style_table.specs.declared.style.Style.{Style}
 use Rattle.token_arena.specs.Gaps.{Contents}
-use Rattle.directive_layout.specs.AllLaid.{all_laid}
 use Rattle.off_regions.specs.Frozen.{frozen_gaps}
 use Rattle.off_regions.specs.declared.range.LineRange.{LineRange}
 use Rattle.replacements.specs.declared.slot.Slot.{Slot}
@@ -13,6 +13,7 @@ use Rattle.replacements.proofs.Firsts.{first}
 use Rattle.line_gaps.specs.InputColumns.{kept_slot}
 use Rattle.line_gaps.proofs.MadeFor.{length-decided_all}
 use Rattle.line_gaps.proofs.Walked.{decided_all-append}
+use Rattle.early_gaps.specs.AllLaid.{all_laid}
 use Rattle.early_gaps.specs.BeforeRuns.{last_slot, early_decisions, early_plan}
 use Rattle.early_gaps.specs.Columns.{column_at}
 use Rattle.early_gaps.specs.Kept.{kept_at}

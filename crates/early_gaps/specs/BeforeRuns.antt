@@ -6,7 +6,6 @@ use Rattle.token_arena.specs.Stored.{Stored}
 use Rattle.token_arena.specs.Gaps.{Contents}
 use Rattle.replacements.specs.declared.gap_text.Decision.{Decision}
 use Rattle.replacements.specs.declared.gap_text.Decision.TheVariants.{Old, Spaces, Lines}
-use Rattle.directive_layout.specs.AllLaid.{all_laid}
 use Rattle.off_regions.specs.Frozen.{frozen_gaps}
 use Rattle.off_regions.specs.declared.range.LineRange.{LineRange}
 use Rattle.replacements.specs.Breaks.{has_new_line_before}
@@ -14,6 +13,7 @@ use Rattle.replacements.specs.Decisions.{decided_all}
 use Rattle.replacements.specs.Guards.{guard_of, is_behind_backslash}
 use Rattle.replacements.specs.Sound.{item_before}
 use Rattle.replacements.specs.declared.slot.Slot.{Slot}
+use Rattle.early_gaps.specs.AllLaid.{all_laid}
 use Rattle.early_gaps.specs.Kept.{kept_at}
 use Rattle.early_gaps.specs.Made.{made_from}
 

@@ -3,5 +3,9 @@ pub mod Joined
 pub mod Columns
 pub mod Kept
 pub mod Made
+pub mod Depths
+pub mod Roles
+pub mod AllLaid
+pub mod AllStay
 pub mod BeforeRuns
 pub mod EarlyLaws

@@ -9,12 +9,12 @@ ghost use Rattle.style_table.specs.Range.{IsInRange};
 ghost use Rattle.early_gaps.specs.BeforeRuns.{early_decisions};
 ghost use Rattle.early_gaps.specs.Dead.{IsTreeOf};
 
+use crate::all_directives::lay_all;
 use crate::context::Context;
 use crate::keep::keep_gaps;
 use crate::last::last_decision;
 use branch_runs::CondTree;
 use bumpalo::Bump;
-use directive_layout::lay_all;
 use line_tokens::NoMemory;
 use off_regions::{Ranges, frozen};
 use replacements::Plan;

@@ -4,7 +4,7 @@ ghost use Rattle.style_table.specs.Range.{IsInRange};
 
 use crate::fixtures::{Output, WHOLE, is_written, items, open_plan, style};
 use bumpalo::Bump;
-use directive_layout::lay_all;
+use early_gaps::lay_all;
 use std::alloc::Global;
 use std::process::Abort;
 use style_table::{AlignEscapedNewlines, IndentPPDirectives, Style};

@@ -18,7 +18,7 @@
 //! - `written_gaps`: the bytes of decisions (`replacements`)
 //! - `plans`: decisions for gaps (`replacements`)
 //! - `written_plans`: the texts of plans (`replacements`)
-//! - `directive_rows`: directives that are laid out (`directive_layout`)
+//! - `directive_rows`: directives that are laid out (`early_gaps`)
 //! - `trailing_comments`: trailing comments in one column (`comment_rows`)
 //! - `asked_lines`: which gaps stay, since formatting is off or nobody asked for their lines (`off_regions`)
 //! - `input_columns`: the columns of kept gaps (`line_gaps`)

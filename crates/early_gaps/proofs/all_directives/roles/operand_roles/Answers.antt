@@ -1,6 +1,6 @@
 use Rattle.std.proofs.Common.{arith}
 use Rattle.directive_layout.proofs.Laid.{directive_bounds}
-use Rattle.directive_layout.proofs.all_directives.roles.operand_roles.Goals as goal
+use Rattle.early_gaps.proofs.all_directives.roles.operand_roles.Goals as goal
 
 pub overflow_add-first : goal.overflow_add-first
 overflow_add-first c =

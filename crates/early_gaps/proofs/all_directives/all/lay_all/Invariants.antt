@@ -1,7 +1,7 @@
 use Rattle.std.proofs.Common.{◌≡◌, ◌≤◌, length, drop}
 use Rattle.replacements.specs.Decisions.{decided_all}
-use Rattle.directive_layout.specs.AllLaid.{laid_in, all_laid}
-use Rattle.directive_layout.proofs.all_directives.all.lay_all.Given as goal
+use Rattle.early_gaps.specs.AllLaid.{laid_in, all_laid}
+use Rattle.early_gaps.proofs.all_directives.all.lay_all.Given as goal
 
 abbrev pub invariant-loop-section : goal.invariant-loop-section
 invariant-loop-section l = record {

@@ -1,12 +1,13 @@
-use Rattle.std.proofs.Common.{◌≡◌, ◌∙◌, ◌+◌, ◌<◌, Bool, List, ◌∷◌, length, drop, get_or, refl, sym, ap, arith, add-one, drop-cons}
+use Rattle.std.proofs.Common.{◌≡◌, ◌∙◌, ◌+◌, ◌<◌, Bool, List, ◌∷◌, length, drop, get_or, refl, sym, ap, arith, add-one}
+use Rattle.std.proofs.Common.{drop-cons}
 use Rattle.token_arena.proofs.Whole.{sections_are_cut}
 use Rattle.token_arena.specs.Sections.{sections_of}
 use Rattle.token_arena.specs.declared.directives.Section.{Section}
 use Rattle.token_arena.specs.declared.directives.Section.TheVariants.{Text}
 use Rattle.replacements.specs.Decisions.{decided_all}
-use Rattle.directive_layout.specs.AllLaid.{laid_in}
-use Rattle.directive_layout.proofs.AllMade.{cut_order}
-use Rattle.directive_layout.proofs.all_directives.all.lay_all.Goals as goal
+use Rattle.early_gaps.specs.AllLaid.{laid_in}
+use Rattle.early_gaps.proofs.AllMade.{cut_order}
+use Rattle.early_gaps.proofs.all_directives.all.lay_all.Goals as goal
 
 pub loop-section-init : goal.loop-section-init
 loop-section-init c =

@@ -1,7 +1,8 @@
 -- The gap before each item of a directive is decided.
-use Rattle.std.proofs.Common.{◌≡◌, ◌≢◌, ◌==◌, ◌⊎◌, inl, inr, ℕ, zero, suc, ◌+◌, ◌-◌, ◌<◌, ◌≤◌, nat_lt, Bool, true, false, Option, Some, None, List, [], ◌∷◌, ◌++◌, drop, length, refl, sym, subst, arith}
-use Rattle.std.specs.Prelude.{IsSome, if◌then◌else◌}
+use Rattle.std.proofs.Common.{◌≡◌, ◌≢◌, ◌==◌, ◌⊎◌, inl, inr, ℕ, zero, suc, ◌+◌, ◌-◌, ◌<◌, ◌≤◌, nat_lt, Bool, true}
+use Rattle.std.proofs.Common.{false, Some, None, List, [], ◌∷◌, ◌++◌, drop, length, refl, sym, subst, arith}
 use Rattle.std.proofs.Common.{length-drop}
+use Rattle.std.specs.Prelude.{IsSome, if◌then◌else◌}
 use Rattle.std.proofs.lemmas.Bool.Decides.{nat_tests}
 use Rattle.line_tokens.specs.declared.LineTok.{LineTok}
 use Rattle.c_chars.specs.declared.Dialect.{Dialect}
@@ -21,14 +22,16 @@ use Rattle.replacements.specs.Decisions.{slot_of, first_for}
 use Rattle.replacements.proofs.Firsts.{stay, first}
 use Rattle.directive_layout.specs.Heads.{first_decision}
 use Rattle.directive_layout.specs.Operands.{inner_decision}
-use Rattle.directive_layout.specs.Laid.{slot_for, first_start, first_walk, next_walk, longest_from, inner_from, laid_from, laid}
+use Rattle.directive_layout.specs.Laid.{slot_for, first_start, first_walk, next_walk, longest_from, inner_from}
+use Rattle.directive_layout.specs.Laid.{laid_from, laid}
 use Rattle.directive_layout.specs.Staying.{staying_in}
 use Rattle.directive_layout.specs.declared.staying.Staying.{Staying}
 use Rattle.directive_layout.specs.declared.walk.Walk.{Walk}
-use Rattle.directive_layout.specs.Depths.{depth_in, open_behind}
-use Rattle.directive_layout.specs.Roles.{operand_roles}
-use Rattle.directive_layout.specs.AllLaid.{laid_in, all_laid}
-use Rattle.directive_layout.specs.AllStay.{AllDirectivesAreDecided}
+use Rattle.line_gaps.proofs.MadeFor.{open_or_decided}
+use Rattle.early_gaps.specs.Depths.{depth_in, open_behind}
+use Rattle.early_gaps.specs.Roles.{operand_roles}
+use Rattle.early_gaps.specs.AllLaid.{laid_in, all_laid}
+use Rattle.early_gaps.specs.AllStay.{AllDirectivesAreDecided}
 
 -- one of these decisions is for this place
 abbrev IsMade : ℕ → List (ℕ × Slot) → Type 0
@@ -128,10 +131,6 @@ sections_made style arena conditionals (Dir dir ∷ sections) at place cut low i
     by false e h later =
         made-right place (laid style arena (depth_in (nesting_of dir.kind) conditionals) (operand_roles style arena dir) dir) (laid_in style arena (open_behind (nesting_of dir.kind) conditionals) sections)
         (later (grind (arith, nat_tests)) h)
-
-open_or_decided : (o : Option Slot) → (o ≡ None) ⊎ ((slot : Slot) × (o ≡ Some slot))
-open_or_decided None = inl refl
-open_or_decided (Some slot) = inr (slot, refl)
 
 -- The law.
 pub are_decided : AllDirectivesAreDecided

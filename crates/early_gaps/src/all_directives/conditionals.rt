@@ -1,7 +1,7 @@
 //! The conditionals that are open where a walk over the directives of a text stands (C11 6.10p1).
 
 ghost use Rattle.std.specs.Prelude.{◌≡◌, ◌<◌, ◌≤◌, ◌+◌, ◌^◌, [], length, IfOk};
-ghost use Rattle.directive_layout.specs.Depths.{around_branch, depth_in, open_behind};
+ghost use Rattle.early_gaps.specs.Depths.{around_branch, depth_in, open_behind};
 
 use line_tokens::NoMemory;
 use std::alloc::Global;

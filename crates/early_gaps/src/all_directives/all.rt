@@ -10,13 +10,13 @@ ghost use Rattle.token_arena.specs.declared.directives.Section.{Section};
 ghost use Rattle.token_arena.specs.declared.directives.Section.TheVariants.{Dir};
 ghost use Rattle.replacements.specs.Decisions.{decided_all};
 ghost use Rattle.directive_layout.specs.Laid.{laid};
-ghost use Rattle.directive_layout.specs.Roles.{operand_roles};
-ghost use Rattle.directive_layout.specs.AllLaid.{laid_in, all_laid};
+ghost use Rattle.early_gaps.specs.Roles.{operand_roles};
+ghost use Rattle.early_gaps.specs.AllLaid.{laid_in, all_laid};
 
 use crate::all_directives::conditionals::Conditionals;
 use crate::all_directives::roles::operand_roles;
-use crate::lay;
 use bumpalo::Bump;
+use directive_layout::lay;
 use line_tokens::NoMemory;
 use replacements::Plan;
 use std::alloc::Global;

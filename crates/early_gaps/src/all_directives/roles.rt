@@ -5,12 +5,12 @@ ghost use Rattle.std.specs.List.{Contains};
 ghost use Rattle.token_arena.specs.Sections.{sections_of};
 ghost use Rattle.token_classes.specs.Viewed.{item_classes};
 ghost use Rattle.token_arena.specs.declared.directives.Section.TheVariants.{Dir};
-ghost use Rattle.directive_layout.specs.Roles.{one_line, roles_between, is_free, has_roles, operand_roles};
+ghost use Rattle.early_gaps.specs.Roles.{one_line, roles_between, is_free, operand_roles};
 
-use crate::{Staying, operand_first, staying_in};
 use annotator::roles_of_classes;
 use bumpalo::Bump;
 use bumpalo::collections::into_bump_slice;
+use directive_layout::{Staying, operand_first, staying_in};
 use line_tokens::{LineKind, LineTok, NoMemory, ULine};
 use style_table::Style;
 use token_arena::{Directive, TokenArena, View};

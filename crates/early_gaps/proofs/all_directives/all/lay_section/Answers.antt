@@ -1,5 +1,5 @@
-use Rattle.directive_layout.proofs.AllSound.{section_step}
-use Rattle.directive_layout.proofs.all_directives.all.lay_section.Goals as goal
+use Rattle.early_gaps.proofs.AllSound.{section_step}
+use Rattle.early_gaps.proofs.all_directives.all.lay_section.Goals as goal
 
 pub returns-in_ok-lay_directive-in-Dir-clause-plan : goal.returns-in_ok-lay_directive-in-Dir-clause-plan
 returns-in_ok-lay_directive-in-Dir-clause-plan c = λ later.

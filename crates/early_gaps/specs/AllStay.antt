@@ -9,7 +9,7 @@ use Rattle.replacements.specs.declared.stance.Stance.TheVariants.{OfText}
 use Rattle.replacements.specs.Decisions.{slot_of, decided_all}
 use Rattle.replacements.specs.Sound.{IsSound}
 use Rattle.replacements.specs.Stances.{stance_in}
-use Rattle.directive_layout.specs.AllLaid.{all_laid}
+use Rattle.early_gaps.specs.AllLaid.{all_laid}
 
 -- A plan that decides only what may stand is such a plan behind the decisions for all directives too.
 abbrev pub AllDirectivesStaySound : Type 0

@@ -1,5 +1,5 @@
 -- What is decided for all directives may stand.
-use Rattle.std.proofs.Common.{◌≡◌, ◌∙◌, ℕ, suc, Bool, Option, List, [], ◌∷◌, ◌++◌, refl, sym, ap, subst, arith}
+use Rattle.std.proofs.Common.{◌≡◌, ◌∙◌, ℕ, suc, Bool, Option, List, [], ◌∷◌, refl, sym, ap, subst, arith}
 use Rattle.std.specs.List.{Contains}
 use Rattle.style_table.specs.declared.style.Style.{Style}
 use Rattle.token_arena.specs.Gaps.{Contents}
@@ -11,18 +11,15 @@ use Rattle.token_arena.specs.declared.directives.Directive.{Directive}
 use Rattle.token_arena.specs.declared.directives.Section.{Section}
 use Rattle.token_arena.specs.declared.directives.Section.TheVariants.{Text, Dir}
 use Rattle.replacements.specs.declared.slot.Slot.{Slot}
-use Rattle.replacements.specs.Decisions.{decided, decided_all}
+use Rattle.replacements.specs.Decisions.{decided_all}
 use Rattle.replacements.specs.Sound.{IsSound}
 use Rattle.directive_layout.specs.Laid.{laid}
 use Rattle.directive_layout.proofs.Sound.{stay_sound}
-use Rattle.directive_layout.specs.Depths.{depth_in, open_behind}
-use Rattle.directive_layout.specs.Roles.{operand_roles}
-use Rattle.directive_layout.specs.AllLaid.{laid_in}
-use Rattle.directive_layout.specs.AllStay.{AllDirectivesStaySound}
-
-pub decided_all-append : (plan : List (Option Slot)) (made later : List (ℕ × Slot)) → decided_all plan (made ++ later) ≡ decided_all (decided_all plan made) later
-decided_all-append plan [] later = refl
-decided_all-append plan (m ∷ made) later = decided_all-append (decided plan m.0 m.1) made later
+use Rattle.line_gaps.proofs.Walked.{decided_all-append}
+use Rattle.early_gaps.specs.Depths.{depth_in, open_behind}
+use Rattle.early_gaps.specs.Roles.{operand_roles}
+use Rattle.early_gaps.specs.AllLaid.{laid_in}
+use Rattle.early_gaps.specs.AllStay.{AllDirectivesStaySound}
 
 first_there : (section : Section) (sections : List Section) → Contains (section ∷ sections) section
 first_there section sections = (0, omega arith, refl)

@@ -1,7 +1,7 @@
 use Rattle.std.proofs.Common.{◌≡◌, ◌∙◌, ◌-◌, length, ap, arith}
 use Rattle.std.proofs.lemmas.List.FromFn.{length-range_with_len}
 use Rattle.line_tokens.specs.declared.line.ULine.{ULine}
-use Rattle.directive_layout.proofs.all_directives.roles.roles_between.Goals as goal
+use Rattle.early_gaps.proofs.all_directives.roles.roles_between.Goals as goal
 
 pub roles_of_classes-requires-clause-cut : goal.roles_of_classes-requires-clause-cut
 roles_of_classes-requires-clause-cut c =

@@ -8,8 +8,8 @@ use Rattle.token_arena.specs.declared.directives.Section.TheVariants.{Text, Dir}
 use Rattle.style_table.specs.declared.style.Style.{Style}
 use Rattle.replacements.specs.declared.slot.Slot.{Slot}
 use Rattle.directive_layout.specs.Laid.{laid}
-use Rattle.directive_layout.specs.Depths.{depth_in, open_behind}
-use Rattle.directive_layout.specs.Roles.{operand_roles}
+use Rattle.early_gaps.specs.Depths.{depth_in, open_behind}
+use Rattle.early_gaps.specs.Roles.{operand_roles}
 
 -- the decisions for the directives of these sections, before which these conditionals are open
 abbrev pub laid_in : Style → Contents → List Bool → List Section → List (ℕ × Slot)
