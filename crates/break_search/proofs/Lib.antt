@@ -1,7 +1,5 @@
 mod Forks
 mod Orders
-mod Heaps
-mod Queue
 mod Nodes
 mod NodeChains
 mod Jumping

@@ -9,7 +9,7 @@ use Rattle.line_state.specs.Layout.{Layout}
 use Rattle.line_state.specs.Line.{Line, gaps, first_layout, Step}
 use Rattle.line_state.proofs.Steps.{functional}
 use Rattle.break_search.specs.Ahead.{least_ahead}
-use Rattle.break_search.specs.Frontier.{Entry}
+use Rattle.search_frontier.specs.Frontier.{Entry}
 use Rattle.break_search.specs.Passing.{StandsAhead, IsAhead, IsBetter, Passes}
 use Rattle.break_search.specs.Progress.{KeepsSettled, IsRunning, IsSettled}
 use Rattle.break_search.specs.Saturation.{IsNarrow}

@@ -1,7 +1,6 @@
 pub mod Outcome
 pub mod Ahead
 pub mod Starts
-pub mod Frontier
 pub mod Groups
 pub mod Vertices
 pub mod Ways

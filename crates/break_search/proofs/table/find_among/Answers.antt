@@ -1,7 +1,7 @@
+use Rattle.std.proofs.lemmas.Bool.{OnFalse_at}
 use Rattle.std.proofs.Common.{◌≡◌, ℕ, ◌-◌, arith, suc, inr, refl}
 use Rattle.std.proofs.lemmas.Option.{slice_get_past, slice_get_read}
 use Rattle.break_search.specs.Groups.{LacksPlace}
-use Rattle.break_search.proofs.Forks.{on_false_at}
 use Rattle.break_search.proofs.NodeChains.{walk_all, walk_on, walk_past, lacks_here}
 use Rattle.break_search.proofs.table.find_among.Goals as goal
 
@@ -15,7 +15,7 @@ back-preserved c =
     let e : c.back.end ≡ suc (c.back.end - 1) = omega (arith, c.if-end-gt0.true) in
     let more : c.back.left ≡ suc (c.back.left - 1) = omega (arith, c.back-test.true) in
     walk_on (λ (v : ℕ). LacksPlace c.args.nodes.now v c.args.state.now) _ _ _ _ _ _ c.in-Some.node.now c.back.invariant e (slice_get_read _ _ _ c.in-Some.node.now refl c.in-Some.ensures.lookup.3.0 c.in-Some.ensures.lookup.1) _ more
-    (lacks_here c.args.nodes.now c.args.state.now (c.back.end - 1) c.in-Some.node.now (slice_get_read _ _ _ c.in-Some.node.now refl c.in-Some.ensures.lookup.3.0 c.in-Some.ensures.lookup.1) (on_false_at _ _ c.if-is_same_place.false c.is_same_place.ensures.no))
+    (lacks_here c.args.nodes.now c.args.state.now (c.back.end - 1) c.in-Some.node.now (slice_get_read _ _ _ c.in-Some.node.now refl c.in-Some.ensures.lookup.3.0 c.in-Some.ensures.lookup.1) (OnFalse_at c.if-is_same_place.false c.is_same_place.ensures.no))
 
 pub returns-else-end-gt0-clause-none : goal.returns-else-end-gt0-clause-none
 returns-else-end-gt0-clause-none c = walk_all (λ (v : ℕ). LacksPlace c.args.nodes.now v c.args.state.now) _ _ _ _ _ c.back.invariant (inr (omega (arith, c.if-end-gt0.false)))

@@ -1,8 +1,8 @@
+use Rattle.line_state.proofs.Tests.{on_false_then, on_true_then}
 use Rattle.std.proofs.Common.{◌≡◌, refl}
 use Rattle.std.proofs.lemmas.Option.{slice_get_read}
 use Rattle.frame_store.specs.Store.{IsSamePlace}
 use Rattle.break_search.specs.Groups.{HasPlace, LacksPlace}
-use Rattle.break_search.proofs.Forks.{on_false_then, on_true_then}
 use Rattle.break_search.proofs.NodeChains.{lacks_here}
 use Rattle.break_search.proofs.table.tells.Goals as goal
 

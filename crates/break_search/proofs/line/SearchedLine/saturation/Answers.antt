@@ -1,6 +1,6 @@
+use Rattle.std.proofs.lemmas.Bool.{OnTrue_at}
 use Rattle.std.proofs.Common.{arith, length, ap}
 use Rattle.line_state.specs.Line.{Line}
-use Rattle.break_search.proofs.Forks.{on_true_at}
 use Rattle.break_search.proofs.Reaches.{one_more_within, narrow_line}
 use Rattle.break_search.proofs.line.SearchedLine.saturation.Goals as goal
 
@@ -10,4 +10,4 @@ tokens-preserved c = one_more_within c.args.self.now c.tokens.at c.tokens.width 
 pub returns-then-has_room : goal.returns-then-has_room
 returns-then-has_room c =
     narrow_line c.args.self.now c.requires.some c.self.inside.column (length c.self.inside.tokens.now) c.tokens.at c.tokens.width (ap (λ (l : Line). l.column) c.self.view_is) (ap (λ (l : Line). length l.tokens) c.self.view_is) c.tokens-test.false c.tokens.invariant
-    (on_true_at _ _ c.if-has_room.true c.has_room.ensures)
+    (OnTrue_at c.if-has_room.true c.has_room.ensures)

@@ -1,6 +1,6 @@
+use Rattle.line_state.proofs.Tests.{on_true_then}
 use Rattle.std.proofs.Common.{◌≡◌, ◌≤◌, arith}
 use Rattle.std.proofs.lemmas.Bool.Decides.{nat_tests}
-use Rattle.break_search.proofs.Forks.{on_true_then}
 use Rattle.break_search.proofs.Nodes.{ahead_at}
 use Rattle.break_search.proofs.table.Table.is_ahead.Goals as goal
 

@@ -6,10 +6,10 @@ use Rattle.std.specs.List.{slice_index_or}
 use Rattle.std.proofs.lemmas.Bool.{cases_lt}
 use Rattle.std.proofs.lemmas.List.Sorted.{Contains-permutation, IsPermutation-sym, length_permutation}
 use Rattle.std.proofs.lemmas.Option.{slice_get-get_or}
-use Rattle.break_search.specs.declared.frontier.Top.{Top}
-use Rattle.break_search.specs.declared.frontier.Top.TheVariants.{Waits, CameOff}
-use Rattle.break_search.specs.Frontier.{Entry, order, IsUpTo, ComesFirst, IsQueue, left_of, waiting, Pushes, Pops}
-use Rattle.break_search.proofs.Heaps.{Contains-cons, Contains-cons_cases, first_below, pops, pushes, topmost_first, up_to_more}
+use Rattle.search_frontier.specs.declared.frontier.Top.{Top}
+use Rattle.search_frontier.specs.declared.frontier.Top.TheVariants.{Waits, CameOff}
+use Rattle.search_frontier.specs.Frontier.{Entry, order, IsUpTo, ComesFirst, IsQueue, left_of, waiting, Pushes, Pops}
+use Rattle.search_frontier.proofs.Heaps.{Contains-cons, Contains-cons_cases, first_below, pops, pushes, topmost_first, up_to_more}
 
 -- an entry that isn't after the first one
 pub least_of : (x y : Entry) (others : List Entry) → IsUpTo x y → ComesFirst y others → ComesFirst x (y ∷ others)

@@ -1,7 +1,7 @@
 use Rattle.std.proofs.lemmas.List.Sorted.{IsPermutation-trans, IsPermutation-cons}
 use Rattle.std.proofs.lemmas.Option.{MatchOption-at_some}
 use Rattle.std.proofs.Common.{rules}
-use Rattle.break_search.proofs.frontier.replace_top.Goals as goal
+use Rattle.search_frontier.proofs.frontier.replace_top.Goals as goal
 
 pub returns-clause-permutation : goal.returns-clause-permutation
 returns-clause-permutation c =

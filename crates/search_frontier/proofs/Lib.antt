@@ -1,0 +1,2 @@
+mod Heaps
+mod Queue
