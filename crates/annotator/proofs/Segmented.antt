@@ -1,5 +1,7 @@
 -- The tokens of a view, made segment by segment.
-use Rattle.std.proofs.Common.{◌≡◌, ◌∙◌, ℕ, zero, suc, ◌==◌, ◌+◌, ◌-◌, ◌<◌, ◌≤◌, Bool, true, false, ◌&&◌, ◌||◌, not, nat_lt, Some, List, [], ◌∷◌, ◌++◌, length, map, drop, get_or, set, append_assoc, length-append, refl, sym, ap, subst, arith, eq-eqb}
+use Rattle.std.proofs.Common.{◌≡◌, ◌∙◌, ℕ, zero, suc, ◌==◌, ◌+◌, ◌-◌, ◌<◌, ◌≤◌, Bool, true, false, ◌&&◌, ◌||◌, not}
+use Rattle.std.proofs.Common.{nat_lt, Some, List, [], ◌∷◌, ◌++◌, length, map, drop, get_or, set, append_assoc}
+use Rattle.std.proofs.Common.{length-append, refl, sym, ap, subst, arith, eq-eqb}
 use Rattle.std.specs.Prelude.{slice_get}
 use Rattle.std.proofs.lemmas.Option.{get_or_from_slice_get}
 use Rattle.std.proofs.Math.ListN.{drop_of_length-le}
@@ -15,7 +17,7 @@ use Rattle.annotator.specs.Held.{is_held, is_inner, TellsHeld}
 use Rattle.annotator.specs.Inside.{told}
 use Rattle.annotator.specs.Left.{no_token, outside}
 use Rattle.annotator.specs.Tokens.{tok_of, toks_from, IsPushed}
-use Rattle.token_classes.specs.Items.{stands_apart}
+use Rattle.item_classes.specs.Items.{stands_apart}
 
 -- ## Segments
 

@@ -3,7 +3,7 @@ use Rattle.std.specs.Prelude.{◌≡◌, ℕ, Bool, false, Some}
 use Rattle.line_tokens.specs.declared.LineTok.{LineTok}
 use Rattle.line_tokens.specs.declared.role.Role.TheVariants.{Word}
 use Rattle.token_arena.specs.Gaps.{Contents}
-use Rattle.token_classes.specs.Items.{item_at, touches}
+use Rattle.item_classes.specs.Items.{item_at, touches}
 use Rattle.touching.specs.declared.edge.Edge.{Edge}
 use Rattle.touching.specs.Edges.{edge_of, touch_of}
 use Rattle.annotator.specs.declared.mark.Mark.{Mark}

@@ -1,11 +1,12 @@
 -- Columns of the input.
-use Rattle.std.proofs.Common.{◌≡◌, ◌∙◌, ◌==◌, ◌⊎◌, inl, inr, ℕ, zero, suc, ◌+◌, Bool, true, false, List, [], ◌∷◌, refl, ap, arith, ◌||◌}
+use Rattle.std.proofs.Common.{◌≡◌, ◌∙◌, ◌==◌, ◌⊎◌, inl, inr, ℕ, zero, suc, ◌+◌, Bool, true, false, List, [], ◌∷◌, refl}
+use Rattle.std.proofs.Common.{ap, arith, ◌||◌}
 use Rattle.std.specs.List.{list_any}
 use Rattle.std.proofs.lemmas.Bool.{false≢true}
 use Rattle.token_arena.specs.Gaps.{Contents, gap_of}
 use Rattle.line_gaps.specs.InputColumns.{column_past, column_through}
 use Rattle.line_gaps.specs.Rows.{column_behind}
-use Rattle.token_classes.specs.Items.{item_at}
+use Rattle.item_classes.specs.Items.{item_at}
 use Rattle.early_gaps.specs.Columns.{column_at}
 
 -- a line end, or another byte before one

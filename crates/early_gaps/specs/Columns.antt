@@ -3,7 +3,7 @@ use Rattle.std.specs.Prelude.{ℕ, zero, suc}
 use Rattle.token_arena.specs.Gaps.{Contents, gap_of}
 use Rattle.line_gaps.specs.InputColumns.{column_through}
 use Rattle.line_gaps.specs.Rows.{column_behind}
-use Rattle.token_classes.specs.Items.{item_at}
+use Rattle.item_classes.specs.Items.{item_at}
 
 -- The column at which what stands behind the gap at a place begins in the input: an item there, or the end behind the
 -- last gap. Items are passed by the widths of their rows, and gaps byte by byte.

@@ -6,7 +6,7 @@ use Rattle.token_arena.specs.Gaps.{Contents}
 use Rattle.token_arena.specs.declared.directives.Directive.{Directive}
 use Rattle.style_table.specs.declared.style.Style.{Style}
 use Rattle.token_classes.specs.Partners.{partners_of}
-use Rattle.token_classes.specs.Viewed.{classes_of}
+use Rattle.item_classes.specs.Viewed.{classes_of}
 use Rattle.line_tokens.specs.declared.line.ULine.{ULine}
 use Rattle.line_tokens.specs.declared.line.LineKind.TheVariants.{Simple}
 use Rattle.annotator.specs.Tokens.{roles_of}

@@ -5,7 +5,7 @@ ghost use Rattle.std.specs.List.{list_any};
 ghost use Rattle.token_arena.specs.Gaps.{gap_of};
 ghost use Rattle.line_gaps.specs.InputColumns.{column_through};
 ghost use Rattle.line_gaps.specs.Rows.{column_behind};
-ghost use Rattle.token_classes.specs.Items.{item_at};
+ghost use Rattle.item_classes.specs.Items.{item_at};
 ghost use Rattle.early_gaps.specs.Columns.{column_at};
 ghost use Rattle.early_gaps.specs.Kept.{IsColumn};
 

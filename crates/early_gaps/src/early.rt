@@ -3,7 +3,7 @@
 ghost use Rattle.std.specs.Prelude.{◌≡◌, ◌≤◌, ◌+◌, option_map, length, OnOk};
 ghost use Rattle.c_chars.specs.declared.TheConstants.{LIMIT};
 ghost use Rattle.token_arena.specs.Sections.{sections_of};
-ghost use Rattle.token_classes.specs.Viewed.{item_classes};
+ghost use Rattle.item_classes.specs.Viewed.{item_classes};
 ghost use Rattle.replacements.specs.Decisions.{decided_all};
 ghost use Rattle.style_table.specs.Range.{IsInRange};
 ghost use Rattle.early_gaps.specs.BeforeRuns.{early_decisions};

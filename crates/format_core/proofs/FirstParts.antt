@@ -1,15 +1,20 @@
 -- Where parts of a view end, as its first items tell.
-use Rattle.std.proofs.Common.{◌≡◌, ◌∙◌, ◌⊎◌, inl, inr, ℕ, zero, suc, ◌+◌, ◌-◌, ◌<◌, ◌≤◌, Option, Some, None, List, [], ◌∷◌, ◌++◌, length, length-append, append_assoc, get_or, take, drop, refl, sym, ap, subst, arith}
+use Rattle.std.proofs.Common.{◌≡◌, ◌∙◌, ◌⊎◌, inl, inr, ℕ, zero, suc, ◌+◌, ◌-◌, ◌<◌, ◌≤◌, Option, Some, None, List, []}
+use Rattle.std.proofs.Common.{◌∷◌, ◌++◌, length, length-append, append_assoc, get_or, take, drop, refl, sym, ap, subst}
+use Rattle.std.proofs.Common.{arith}
 use Rattle.std.proofs.Math.Seq.{take-append_seam}
-use Rattle.std.proofs.lemmas.List.{append-nil, length-drop, length-take, get_or-append-add, get_or_append_left, get_or-take}
+use Rattle.std.proofs.lemmas.List.{append-nil, length-drop, length-take, get_or-append-add, get_or_append_left}
+use Rattle.std.proofs.lemmas.List.{get_or-take}
 use Rattle.token_arena.specs.Gaps.{Contents}
-use Rattle.token_classes.specs.Viewed.{item_class}
+use Rattle.item_classes.specs.Viewed.{item_class}
 use Rattle.token_arena.specs.Ids.{Increase, IncreaseFrom}
 use Rattle.token_classes.specs.declared.pairing.Opener.{Opener}
 use Rattle.branch_runs.specs.Anew.{items_between}
 use Rattle.part_walk.specs.Places.{Place, place_in}
-use Rattle.view_parts.specs.Parts.{Ended, PartStop, count_or, end_of_part, next_end, part_len, stop_from, FollowUpTo, ArePartsUpTo}
-use Rattle.part_walk.specs.Brackets.{around_of, bodies_at, bodies_behind, place_behind, waiting_at, waiting_behind, walk_behind}
+use Rattle.view_parts.specs.Parts.{Ended, PartStop, count_or, end_of_part, next_end, part_len, stop_from, FollowUpTo}
+use Rattle.view_parts.specs.Parts.{ArePartsUpTo}
+use Rattle.part_walk.specs.Brackets.{around_of, bodies_at, bodies_behind, place_behind, waiting_at, waiting_behind}
+use Rattle.part_walk.specs.Brackets.{walk_behind}
 use Rattle.part_walk.specs.declared.bodies.Head.{Head}
 use Rattle.part_walk.specs.declared.walk.Walk.{Walk}
 use Rattle.part_walk.specs.Walk.{opened_head, reading, start}
@@ -18,7 +23,8 @@ use Rattle.view_parts.specs.Told.{TellParts}
 use Rattle.view_parts.proofs.InOrder.{HasHeads, inside_headed, len_fits}
 use Rattle.format_core.specs.declared.bounds.KnownBound.{KnownBound}
 use Rattle.format_core.specs.Bounds.{BeginTold, IsBound, AreBounds, no_bound}
-use Rattle.format_core.proofs.Between.{items_from, view_cut, front_cut, front_agrees, first_between, in_order, between_in, none_between, none_first}
+use Rattle.format_core.proofs.Between.{items_from, view_cut, front_cut, front_agrees, first_between, in_order}
+use Rattle.format_core.proofs.Between.{between_in, none_between, none_first}
 use Rattle.format_core.proofs.RowsPassed.{follow_order}
 
 -- where a part of a view ends so

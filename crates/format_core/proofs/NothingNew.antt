@@ -5,7 +5,7 @@ use Rattle.token_arena.specs.Gaps.{Contents}
 use Rattle.replacements.specs.declared.slot.Slot.{Slot}
 use Rattle.replacements.specs.Decisions.{decided_all}
 use Rattle.line_gaps.specs.Rows.{column_behind}
-use Rattle.token_classes.specs.Items.{item_at}
+use Rattle.item_classes.specs.Items.{item_at}
 use Rattle.line_gaps.proofs.Walked.{decided_again}
 use Rattle.format_core.specs.KeptGaps.{input_column, kept_slot, kept_decisions}
 use Rattle.format_core.specs.Runs.{AreDecided}

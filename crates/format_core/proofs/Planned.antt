@@ -1,5 +1,6 @@
 -- Kept gaps, and the text of a plan.
-use Rattle.std.proofs.Common.{◌≡◌, ◌∙◌, ℕ, suc, ◌+◌, Bool, true, false, Option, None, List, [], ◌∷◌, drop, get_or, length, replicate, ◌<◌, refl, sym, ap, subst, arith}
+use Rattle.std.proofs.Common.{◌≡◌, ◌∙◌, ℕ, suc, ◌+◌, Bool, true, false, Option, None, List, [], ◌∷◌, drop, get_or}
+use Rattle.std.proofs.Common.{length, replicate, ◌<◌, refl, sym, ap, subst, arith}
 use Rattle.std.specs.Prelude.{if◌then◌else◌}
 use Rattle.std.specs.List.{list_any}
 use Rattle.std.proofs.Math.Seq.{drop-cons}
@@ -9,7 +10,7 @@ use Rattle.token_arena.specs.Gaps.{Contents}
 use Rattle.replacements.specs.declared.slot.Slot.{Slot}
 use Rattle.replacements.specs.Decisions.{decided_all}
 use Rattle.line_gaps.specs.Rows.{column_behind}
-use Rattle.token_classes.specs.Items.{item_at}
+use Rattle.item_classes.specs.Items.{item_at}
 use Rattle.off_regions.specs.declared.range.LineRange.{LineRange}
 use Rattle.run_layout.specs.Outcomes.{LaidLine}
 use Rattle.early_gaps.specs.BeforeRuns.{early_decisions, early_plan}

@@ -1,12 +1,13 @@
 -- The gaps of parts that are noted in a row are decided, and stay so.
-use Rattle.std.proofs.Common.{◌≡◌, ◌∙◌, inl, inr, ℕ, ◌+◌, ◌-◌, ◌<◌, ◌≤◌, Option, List, length, length-append, drop, get_or, sym, subst, arith}
+use Rattle.std.proofs.Common.{◌≡◌, ◌∙◌, inl, inr, ℕ, ◌+◌, ◌-◌, ◌<◌, ◌≤◌, Option, List, length, length-append, drop}
+use Rattle.std.proofs.Common.{get_or, sym, subst, arith}
 use Rattle.std.specs.Prelude.{All, IsSome, slice_range}
 use Rattle.std.specs.Option.{ForSome}
 use Rattle.std.proofs.lemmas.List.{get_or-drop, get_or_append_left, get_or_default, length-drop}
 use Rattle.style_table.specs.declared.style.Style.{Style}
 use Rattle.token_arena.specs.Gaps.{Contents}
 use Rattle.token_arena.specs.Ids.{Increase}
-use Rattle.token_classes.specs.Viewed.{AreWithin}
+use Rattle.item_classes.specs.Viewed.{AreWithin}
 use Rattle.replacements.specs.declared.slot.Slot.{Slot}
 use Rattle.replacements.specs.Decisions.{slot_of}
 use Rattle.line_gaps.specs.OpenGaps.{IsRowDecided}

@@ -12,7 +12,7 @@ use Rattle.branch_runs.proofs.Bridge.{marks_cut, marks_end}
 use Rattle.branch_runs.proofs.Order.{effects_cut}
 use Rattle.branch_runs.proofs.Within.{view_within, effects_end}
 use Rattle.token_classes.specs.Kept.{kept_gaps_of}
-use Rattle.token_classes.specs.Viewed.{classes_of}
+use Rattle.item_classes.specs.Viewed.{classes_of}
 use Rattle.replacements.specs.declared.slot.Slot.{Slot}
 use Rattle.line_gaps.proofs.MadeFor.{length-decided_all}
 use Rattle.format_core.specs.KeptGaps.{kept_decisions}

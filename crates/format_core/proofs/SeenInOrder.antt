@@ -3,7 +3,7 @@ use Rattle.std.proofs.Common.{ℕ, ◌-◌, ◌≤◌, [], length, arith}
 use Rattle.token_arena.specs.Gaps.{Contents}
 use Rattle.token_arena.specs.Ids.{Increase}
 use Rattle.token_arena.proofs.IncreaseLemmas.{ids_increase}
-use Rattle.token_classes.proofs.Lists.{few_below}
+use Rattle.item_classes.proofs.Lists.{few_below}
 use Rattle.token_arena.specs.Sections.{sections_of}
 use Rattle.token_arena.proofs.Whole.{sections_are_cut}
 use Rattle.branch_runs.specs.Marks.{marks_of}

@@ -1,5 +1,6 @@
 -- What holds of the plans of a text, whichever lines are reported.
-use Rattle.std.proofs.Common.{◌≡◌, ◌∙◌, inl, inr, ℕ, zero, suc, ◌+◌, ◌-◌, ◌<◌, ◌≤◌, Bool, true, false, Option, None, Some, List, [], ◌∷◌, length, get_or, sym, ap, arith, subst}
+use Rattle.std.proofs.Common.{◌≡◌, ◌∙◌, inl, inr, ℕ, zero, suc, ◌+◌, ◌-◌, ◌<◌, ◌≤◌, Bool, true, false, Option, None}
+use Rattle.std.proofs.Common.{Some, List, [], ◌∷◌, length, get_or, sym, ap, arith, subst}
 use Rattle.std.specs.Prelude.{All, slice_range}
 use Rattle.std.specs.List.{Contains}
 use Rattle.std.proofs.lemmas.List.{get_or_default}
@@ -13,7 +14,7 @@ use Rattle.branch_runs.proofs.Live.{is_covered}
 use Rattle.token_arena.specs.Sections.{sections_of}
 use Rattle.token_classes.specs.Kept.{kept_gaps_of}
 use Rattle.token_classes.specs.Partners.{partners_of}
-use Rattle.token_classes.specs.Viewed.{AreWithin, classes_of}
+use Rattle.item_classes.specs.Viewed.{AreWithin, classes_of}
 use Rattle.unwrapped_lines.proofs.Started.{lines_cut_views}
 use Rattle.part_walk.specs.Places.{Place}
 use Rattle.view_parts.specs.Parts.{PartStop, items_before, laid_items, part_ends}
@@ -46,7 +47,7 @@ use Rattle.format_core.specs.Laws.{PlannedTextsAreTwins, EarlyDecisionsStay, Kep
 use Rattle.format_core.specs.Plans.{AfterItems, AfterParts, AfterSeen, AfterRuns, IsPlanOf}
 use Rattle.format_core.specs.Runs.{runs_of, seen_by, after_kept}
 use Rattle.annotator.specs.Tokens.{toks_of_lines}
-use Rattle.token_classes.specs.Items.{item_at}
+use Rattle.item_classes.specs.Items.{item_at}
 use Rattle.unwrapped_lines.specs.Lines.{lines_of_items}
 use Rattle.format_core.proofs.Parts.{laid_have, laid_item, laid_length, part_length, before_or_behind}
 use Rattle.view_parts.proofs.InOrder.{AreEnds, ends_cut}

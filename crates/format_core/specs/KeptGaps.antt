@@ -5,7 +5,7 @@ use Rattle.token_arena.specs.Gaps.{Contents}
 use Rattle.replacements.specs.declared.slot.Slot.{Slot}
 pub use Rattle.line_gaps.specs.InputColumns.{column_past, column_through, input_column, kept_slot}
 use Rattle.line_gaps.specs.Rows.{column_behind}
-use Rattle.token_classes.specs.Items.{item_at}
+use Rattle.item_classes.specs.Items.{item_at}
 
 -- The decisions for the gaps of these items that are marked, where the item before them ends at this column of the
 -- input.

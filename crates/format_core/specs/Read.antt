@@ -3,9 +3,9 @@ use Rattle.std.specs.Prelude.{◌≡◌, ℕ, List, length}
 use Rattle.style_table.specs.declared.style.Style.{Style}
 use Rattle.line_tokens.specs.Lines.{CutPlaces}
 use Rattle.token_arena.specs.Gaps.{Contents}
-use Rattle.token_classes.specs.Items.{TellItems}
+use Rattle.item_classes.specs.Items.{TellItems}
 use Rattle.token_classes.specs.Kept.{kept_gaps_of}
-use Rattle.token_classes.specs.Viewed.{classes_of}
+use Rattle.item_classes.specs.Viewed.{classes_of}
 use Rattle.annotator.specs.Tokens.{toks_of_lines}
 use Rattle.unwrapped_lines.specs.Lines.{lines_of_items}
 use Rattle.format_core.specs.declared.runs.ReadItems.{ReadItems}

@@ -6,7 +6,7 @@ use Rattle.branch_runs.specs.Marks.{marks_of}
 use Rattle.branch_runs.specs.Reading.{tree_of}
 use Rattle.branch_runs.specs.Runs.{need, view_of}
 use Rattle.token_classes.specs.Kept.{kept_gaps_of}
-use Rattle.token_classes.specs.Viewed.{classes_of}
+use Rattle.item_classes.specs.Viewed.{classes_of}
 use Rattle.replacements.specs.Decisions.{slot_of, decided_all}
 use Rattle.replacements.specs.declared.slot.Slot.{Slot}
 use Rattle.line_gaps.specs.OpenGaps.{IsRowDecided}

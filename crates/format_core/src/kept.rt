@@ -2,7 +2,7 @@
 
 ghost use Rattle.std.specs.Prelude.{◌≡◌, ◌<◌, ◌≤◌, ◌+◌, ◌∷◌, [], if◌then◌else◌, length};
 ghost use Rattle.std.specs.List.{list_any};
-ghost use Rattle.token_classes.specs.Viewed.{AreWithin};
+ghost use Rattle.item_classes.specs.Viewed.{AreWithin};
 ghost use Rattle.replacements.specs.Decisions.{decided_all};
 ghost use Rattle.format_core.specs.KeptGaps.{kept_decisions, kept_slot};
 

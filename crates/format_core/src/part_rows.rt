@@ -1,9 +1,8 @@
 //! Rows of items in a part of a view.
 
-ghost use Rattle.std.specs.Prelude.{◌≡◌, ◌<◌, ◌≤◌, ◌+◌, ◌-◌, ◌↔◌, ℕ};
-ghost use Rattle.std.specs.Prelude.{IfSome, IsTrue, get_or, length, slice_range};
+ghost use Rattle.std.specs.Prelude.{◌≡◌, ◌<◌, ◌≤◌, ◌+◌, ◌-◌, ◌↔◌, ℕ, IfSome, IsTrue, get_or, length, slice_range};
 ghost use Rattle.std.specs.List.{range_with_len};
-ghost use Rattle.token_classes.specs.Viewed.{AreWithin};
+ghost use Rattle.item_classes.specs.Viewed.{AreWithin};
 ghost use Rattle.format_core.specs.Runs.{AreDecided};
 
 use line_gaps::is_row_decided;

@@ -1,11 +1,11 @@
 //! The plan of a text, run by run over one store of items.
 
-ghost use Rattle.std.specs.Prelude.{◌≡◌, ◌<◌, ◌≤◌, ◌+◌, ◌*◌, ◌^◌, ◌-◌, ℕ, All, List, Option, None, Some};
-ghost use Rattle.std.specs.Prelude.{IfOk, IfSome, IsTrue, OnOk, get_or, length, option_map, slice_range};
+ghost use Rattle.std.specs.Prelude.{◌≡◌, ◌<◌, ◌≤◌, ◌+◌, ◌*◌, ◌^◌, ◌-◌, ℕ, All, List, Option, None, Some, IfOk, IfSome};
+ghost use Rattle.std.specs.Prelude.{IsTrue, OnOk, get_or, length, option_map, slice_range, IsSome};
 ghost use Rattle.std.specs.Option.{ForNone, ForSome};
 ghost use Rattle.c_chars.specs.declared.TheConstants.{LIMIT};
 ghost use Rattle.style_table.specs.Range.{IsInRange};
-ghost use Rattle.token_classes.specs.Viewed.{AreWithin, item_classes};
+ghost use Rattle.item_classes.specs.Viewed.{AreWithin, item_classes};
 ghost use Rattle.token_arena.specs.Sections.{sections_of, IsCut};
 ghost use Rattle.early_gaps.specs.Dead.{IsTreeOf};
 ghost use Rattle.branch_runs.specs.Anew.{items_between};
@@ -16,7 +16,6 @@ ghost use Rattle.view_parts.specs.Known.{AreKnown};
 ghost use Rattle.view_parts.specs.Parts.{ArePartsUpTo, StandsBefore, items_before, laid_items};
 ghost use Rattle.part_walk.specs.Places.{place_in};
 ghost use Rattle.format_core.specs.Runs.{AreDecided, AreRowsDecided, runs_of, seen_by};
-ghost use Rattle.std.specs.Prelude.{IsSome};
 ghost use Rattle.std.specs.List.{Contains};
 ghost use Rattle.replacements.specs.Decisions.{slot_of};
 ghost use Rattle.format_core.specs.Bounds.{AreBounds, BeginTold, IsBound};
@@ -33,6 +32,7 @@ use annotator::roles_of_classes;
 use branch_runs::{Change, CondTree};
 use bumpalo::Bump;
 use early_gaps::{Context, decide_early};
+use item_classes::{classes_among, item_classes};
 use line_gaps::{ViewLayout, is_row_decided};
 use line_tokens::{LineTok, NoMemory, TokenId, ULine};
 use off_regions::Ranges;
@@ -42,7 +42,7 @@ use run_layout::{Tally, lay_out_view};
 use std::alloc::Global;
 use style_table::Style;
 use token_arena::{Section, TokenArena, View};
-use token_classes::{TokenClass, bracket_facts, classes_among, item_classes};
+use token_classes::{TokenClass, bracket_facts};
 use unwrapped_lines::lines_of_classes;
 use view_parts::{
     KnownEnds, KnownSpans, PartsEnd, join_rows, known_part_end, known_parts_end, laid_view,

@@ -3,13 +3,13 @@
 use crate::comparing::same;
 use crate::fixtures::{store, tree, view};
 use bumpalo::Bump;
+use item_classes::{classes_among, item_class, item_classes};
 use line_tokens::TokenId;
 use std::process::Abort;
 use token_classes::TokenClass::{
     self, CallWord, CapitalWord, CloseRound, CloseSquare, Hash, If, Literal, OpenBrace, OpenRound,
     OpenSquare, PlainWord, Semicolon, Sign, TypeWord,
 };
-use token_classes::{classes_among, item_class, item_classes};
 
 /// An item, and its class.
 const CLASSES: &[(&str, TokenClass)] = &[

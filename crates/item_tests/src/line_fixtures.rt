@@ -1,16 +1,17 @@
 //! Long texts, views of texts, and what the lower layers tell of a text.
 
 ghost use Rattle.std.specs.Prelude.{◌≡◌, IfOk};
-ghost use Rattle.token_classes.specs.Viewed.{AreWithin, classes_of};
+ghost use Rattle.item_classes.specs.Viewed.{AreWithin, classes_of};
 
 use annotator::roles_of_classes;
 use bumpalo::Bump;
+use item_classes::{classes_among, item_classes};
 use line_tokens::{LineTok, NoMemory, ULine};
 use std::alloc::Global;
 use std::process::Abort;
 use style_table::Style;
 use token_arena::{Dialect, TokenArena, View, build};
-use token_classes::{Partner, TokenClass, bracket_facts, classes_among, item_classes};
+use token_classes::{Partner, TokenClass, bracket_facts};
 use unwrapped_lines::lines_of_classes;
 
 /// These pieces in order, each so many times.

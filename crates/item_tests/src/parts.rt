@@ -2,7 +2,7 @@
 
 ghost use Rattle.std.specs.Prelude.{◌≡◌, ◌<◌, length, get_or};
 ghost use Rattle.std.specs.Option.{ForSome};
-ghost use Rattle.token_classes.specs.Viewed.{AreWithin, item_classes};
+ghost use Rattle.item_classes.specs.Viewed.{AreWithin, item_classes};
 ghost use Rattle.view_parts.specs.Parts.{StandsBefore};
 ghost use Rattle.part_walk.specs.Places.{place_in};
 
@@ -11,11 +11,12 @@ use crate::fixtures::{tree, view};
 use crate::line_fixtures::{items_from, repeated};
 use bumpalo::Bump;
 use bumpalo::collections::into_bump_slice;
+use item_classes::item_classes;
 use part_walk::BodyPlace;
 use std::alloc::Global;
 use std::process::Abort;
 use token_arena::{Dialect, TokenArena, View, build};
-use token_classes::{TokenClass, item_classes};
+use token_classes::TokenClass;
 use view_parts::{PartEnd, laid_view, part_end};
 
 /// A text, and behind how many of its items each part ends.

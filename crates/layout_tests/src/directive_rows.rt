@@ -5,11 +5,11 @@ ghost use Rattle.style_table.specs.Range.{IsInRange};
 use crate::fixtures::{Output, WHOLE, is_written, items, open_plan, style};
 use bumpalo::Bump;
 use early_gaps::lay_all;
+use item_classes::item_classes;
 use std::alloc::Global;
 use std::process::Abort;
 use style_table::{AlignEscapedNewlines, IndentPPDirectives, Style};
 use token_arena::sections;
-use token_classes::item_classes;
 
 /// What a row sets beside the LLVM style, 20 columns and backslashes that aren't aligned.
 #[derive(Clone, Copy)]

@@ -2,8 +2,8 @@
 //! of a plan.
 
 ghost use Rattle.std.specs.Prelude.{◌≡◌, ◌+◌, ◌<◌, length, IfOk};
-ghost use Rattle.token_classes.specs.Items.{TellItems};
-ghost use Rattle.token_classes.specs.Viewed.{AreWithin, classes_of};
+ghost use Rattle.item_classes.specs.Items.{TellItems};
+ghost use Rattle.item_classes.specs.Viewed.{AreWithin, classes_of};
 ghost use Rattle.style_table.specs.Range.{IsInRange};
 ghost use Rattle.line_tokens.specs.Lines.{CutPlaces};
 
@@ -11,6 +11,7 @@ use crate::comparing::{holds, same};
 use annotator::roles_of_classes;
 use bumpalo::Bump;
 use bumpalo::collections::into_bump_slice;
+use item_classes::{classes_among, item_classes};
 use line_tokens::{LineTok, NoMemory, ULine};
 use memory_ports::MemSink;
 use replacements::{Plan, write_out};
@@ -18,7 +19,7 @@ use std::alloc::Global;
 use std::process::Abort;
 use style_table::Style;
 use token_arena::{Dialect, Section, Stretch, TokenArena, View, build};
-use token_classes::{TokenClass, bracket_facts, classes_among, item_classes};
+use token_classes::{TokenClass, bracket_facts};
 use unwrapped_lines::lines_of_classes;
 
 /// The style of this name.

@@ -1,8 +1,8 @@
 //! The rows of whole texts, as `docs/PROFILE.md` says under "Joined lines".
 
-ghost use Rattle.std.specs.Prelude.{◌≡◌, ◌≤◌, ◌<◌, length, IfSome};
+ghost use Rattle.std.specs.Prelude.{◌≡◌, ◌<◌, length, IfSome};
 ghost use Rattle.style_table.specs.Range.{IsInRange};
-ghost use Rattle.token_classes.specs.Viewed.{AreWithin};
+ghost use Rattle.item_classes.specs.Viewed.{AreWithin};
 
 use crate::comparing::same;
 use crate::fixtures::{read_view, repeated};

@@ -9,7 +9,7 @@ use Rattle.c_grammar.specs.Text.{ReadItem, end_of}
 use Rattle.token_arena.specs.Stored.{Stored, is_line_feed, line_at, stored_from}
 use Rattle.token_arena.specs.Gaps.{Contents, StandFrom, behind}
 use Rattle.token_arena.specs.Holds.{HoldsItems}
-use Rattle.token_classes.specs.Items.{no_item, item_at}
+use Rattle.item_classes.specs.Items.{no_item, item_at}
 
 -- ## The line of an item
 

@@ -7,9 +7,9 @@ use Rattle.style_table.specs.declared.style.Style.{Style}
 use Rattle.line_tokens.specs.declared.LineTok.{LineTok}
 use Rattle.line_tokens.specs.declared.line.ULine.{ULine}
 use Rattle.token_arena.specs.Gaps.{Contents}
-use Rattle.token_classes.specs.Viewed.{item_class}
+use Rattle.item_classes.specs.Viewed.{item_class}
 use Rattle.token_classes.specs.declared.class.TokenClass.{TokenClass}
-use Rattle.token_classes.specs.Items.{item_at}
+use Rattle.item_classes.specs.Items.{item_at}
 use Rattle.layout_tables.specs.Indents.{keeps_none, start_column}
 use Rattle.replacements.specs.declared.gap_text.Decision.TheVariants.{Lines, Spaces}
 use Rattle.line_gaps.specs.Rows.{empty_rows, first_decision, first_of_line, first_role, is_behind_brace, row_token}

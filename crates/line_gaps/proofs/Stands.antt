@@ -10,7 +10,7 @@ use Rattle.token_arena.specs.Stored.{Stored}
 use Rattle.token_arena.specs.Gaps.{Contents}
 use Rattle.token_arena.specs.Sections.{sections_of}
 use Rattle.replacements.specs.declared.gap_text.Decision.TheVariants.{Old, Spaces, Lines}
-use Rattle.token_classes.specs.Viewed.{item_class}
+use Rattle.item_classes.specs.Viewed.{item_class}
 use Rattle.line_tokens.specs.declared.line.ULine.{ULine}
 use Rattle.layout_tables.specs.Indents.{start_column}
 use Rattle.replacements.specs.declared.stance.Stance.{Stance}

@@ -7,7 +7,7 @@ use Rattle.token_arena.specs.declared.view.Stretch.{Stretch}
 use Rattle.token_arena.specs.Segments.{ids_of, segment_bounds, AreSegments, no_segment, HasPlace}
 use Rattle.token_arena.proofs.SegmentLemmas.{item_at_start}
 use Rattle.token_arena.specs.Gaps.{Contents}
-use Rattle.token_classes.specs.Viewed.{AreWithin}
+use Rattle.item_classes.specs.Viewed.{AreWithin}
 use Rattle.replacements.specs.declared.slot.Slot.{Slot}
 use Rattle.replacements.specs.Decisions.{slot_of}
 use Rattle.line_tokens.specs.declared.line.ULine.{ULine}

@@ -7,7 +7,7 @@ use Rattle.layout_tables.specs.Indents.{most_column}
 use Rattle.replacements.specs.declared.gap_text.Decision.TheVariants.{Old}
 use Rattle.replacements.specs.declared.slot.Slot.{Slot}
 use Rattle.line_gaps.specs.Rows.{column_behind}
-use Rattle.token_classes.specs.Items.{item_at}
+use Rattle.item_classes.specs.Items.{item_at}
 
 -- the column behind a byte of white space that stands at a column: a row begins behind a line end, a tab goes to the
 -- next multiple of its width

@@ -2,7 +2,7 @@
 
 ghost use Rattle.std.specs.Prelude.{◌≡◌, ◌<◌, length};
 ghost use Rattle.line_gaps.specs.Rows.{start_behind, column_behind};
-ghost use Rattle.token_classes.specs.Items.{item_at};
+ghost use Rattle.item_classes.specs.Items.{item_at};
 
 use replacements::Decision;
 use token_arena::{TokenArena, TokenId};

@@ -2,7 +2,7 @@
 
 ghost use Rattle.std.specs.Prelude.{◌≡◌, ◌<◌, ◌≤◌, ◌+◌, length};
 ghost use Rattle.std.specs.Bool.{OnFalse, OnTrue};
-ghost use Rattle.token_classes.specs.Viewed.{AreWithin};
+ghost use Rattle.item_classes.specs.Viewed.{AreWithin};
 ghost use Rattle.line_gaps.specs.OpenGaps.{AreDecided, IsOpen, IsRowDecided, IsRowOpen};
 
 use crate::stretches::stretch_near;

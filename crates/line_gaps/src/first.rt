@@ -1,12 +1,12 @@
 //! What stands before a line's first item.
 
 ghost use Rattle.std.specs.Prelude.{◌≡◌, ◌==◌, ◌<◌, ◌≤◌, ◌+◌, IsTrue, false, length, get_or};
-ghost use Rattle.token_classes.specs.Viewed.{AreWithin, classes_of};
+ghost use Rattle.item_classes.specs.Viewed.{AreWithin, classes_of};
 ghost use Rattle.replacements.specs.Decisions.{decided};
 ghost use Rattle.line_gaps.specs.Rows.{item_before, row_token, first_role, opens_before, empty_rows, first_of_line};
 ghost use Rattle.line_gaps.specs.Rows.{first_decision, first_slot};
 ghost use Rattle.layout_tables.specs.Indents.{start_column};
-ghost use Rattle.token_classes.specs.Items.{item_at};
+ghost use Rattle.item_classes.specs.Items.{item_at};
 ghost use Rattle.replacements.specs.declared.gap_text.Decision.TheVariants.{Lines};
 
 use crate::columns::start_behind;

@@ -2,7 +2,7 @@
 
 ghost use Rattle.std.specs.Prelude.{◌≡◌, ◌<◌, ◌^◌, length};
 ghost use Rattle.token_arena.specs.Entries.{told_by};
-ghost use Rattle.token_classes.specs.Items.{item_at};
+ghost use Rattle.item_classes.specs.Items.{item_at};
 
 use line_tokens::TokenId;
 use token_arena::{Token, TokenArena};

@@ -3,7 +3,7 @@
 ghost use Rattle.std.specs.Prelude.{◌≡◌, ◌<◌, ◌≤◌, count_by, length, take};
 ghost use Rattle.token_arena.specs.Stored.{is_line_feed};
 ghost use Rattle.line_gaps.specs.Counted.{IsCounted};
-ghost use Rattle.token_classes.specs.Items.{item_at};
+ghost use Rattle.item_classes.specs.Items.{item_at};
 
 use crate::item::item;
 use token_arena::TokenArena;

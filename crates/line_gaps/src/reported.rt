@@ -1,7 +1,7 @@
 //! Lines that are reported.
 
 ghost use Rattle.std.specs.Prelude.{◌≡◌, ◌∷◌, ◌+◌, ◌<◌, ◌≤◌, ◌^◌, length};
-ghost use Rattle.token_classes.specs.Viewed.{AreWithin, classes_of};
+ghost use Rattle.item_classes.specs.Viewed.{AreWithin, classes_of};
 ghost use Rattle.replacements.specs.Decisions.{decided_all};
 ghost use Rattle.line_gaps.specs.Rows.{first_made};
 ghost use Rattle.line_gaps.specs.InputColumns.{column_past, column_through, input_before, input_behind, input_column};

@@ -1,7 +1,7 @@
 //! Items of a view that follow one another in the text.
 
 ghost use Rattle.std.specs.Prelude.{◌<◌, ◌≤◌, ◌+◌, ◌-◌, IfSome, length};
-ghost use Rattle.token_classes.specs.Viewed.{AreWithin};
+ghost use Rattle.item_classes.specs.Viewed.{AreWithin};
 ghost use Rattle.token_arena.specs.Segments.{AreSegments};
 ghost use Rattle.line_gaps.specs.Stretches.{AreFrom, IsRest};
 

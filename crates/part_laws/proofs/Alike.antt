@@ -1,19 +1,22 @@
 -- What a token before the cut tells of the tokens behind it: no more than none would.
-use Rattle.std.proofs.Common.{◌≡◌, ◌∙◌, ℕ, ◌+◌, ◌-◌, Bool, true, false, not, ◌&&◌, ◌||◌, Option, Some, None, List, [], ◌∷◌, length, refl, sym, ap, subst, arith, inl, inr, ◌⊎◌}
+use Rattle.std.proofs.Common.{◌≡◌, ◌∙◌, ℕ, ◌+◌, ◌-◌, Bool, true, false, not, ◌&&◌, ◌||◌, Option, Some, None, List, []}
+use Rattle.std.proofs.Common.{◌∷◌, length, refl, sym, ap, subst, arith, inl, inr, ◌⊎◌}
 use Rattle.std.specs.Prelude.{if◌then◌else◌}
 use Rattle.std.proofs.lemmas.Bool.{and_parts, cases_Bool}
 use Rattle.line_tokens.specs.declared.line.LineKind.{LineKind}
 use Rattle.line_tokens.specs.declared.role.Role.{Role}
-use Rattle.line_tokens.specs.declared.role.Role.TheVariants.{CtrlOpen, CallOpen, CastOpen, DeclOpen, GroupOpen, ListOpen, BlockOpen}
+use Rattle.line_tokens.specs.declared.role.Role.TheVariants.{CtrlOpen, CallOpen, CastOpen, DeclOpen, GroupOpen}
+use Rattle.line_tokens.specs.declared.role.Role.TheVariants.{ListOpen, BlockOpen}
 use Rattle.line_tokens.specs.Roles.{is_trailing, is_decl_name, is_ctrl_close}
 use Rattle.line_tokens.specs.Table.{first_row}
 use Rattle.token_arena.specs.Gaps.{Contents, item_began}
 use Rattle.token_classes.specs.declared.class.TokenClass.{TokenClass}
 use Rattle.token_classes.specs.declared.class.TokenClass.TheVariants.{Nothing, OpenRound, OpenBrace}
-use Rattle.token_classes.specs.Classes.{is_comment, is_close_round, is_before_list, is_opener, is_call_word, is_plain, is_text}
-use Rattle.token_classes.specs.Viewed.{item_class}
-use Rattle.token_classes.specs.declared.part.Part.TheVariants.{Own}
-use Rattle.token_classes.specs.Part.{part_of}
+use Rattle.token_classes.specs.Classes.{is_comment, is_close_round, is_before_list, is_opener, is_call_word, is_plain}
+use Rattle.token_classes.specs.Classes.{is_text}
+use Rattle.item_classes.specs.Viewed.{item_class}
+use Rattle.item_classes.specs.declared.part.Part.TheVariants.{Own}
+use Rattle.item_classes.specs.Part.{part_of}
 use Rattle.annotator.specs.declared.left.Around.{Around}
 use Rattle.annotator.specs.declared.left.Left.{Left}
 use Rattle.annotator.specs.declared.left.Seen.{Seen}

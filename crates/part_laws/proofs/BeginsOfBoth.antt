@@ -1,16 +1,20 @@
 -- Where the lines of a view begin that is cut behind a first part, and how far they go: as those of the part do, and then those of what follows.
-use Rattle.std.proofs.Common.{◌≡◌, ◌∙◌, ◌⊎◌, inl, inr, ℕ, ◌+◌, ◌<◌, ◌≤◌, nat_le, nat_eq, Bool, true, false, ◌&&◌, Option, Some, None, List, [], ◌∷◌, ◌++◌, length, map, append_assoc, length-append, refl, sym, ap, arith, ◌-◌}
+use Rattle.std.proofs.Common.{◌≡◌, ◌∙◌, ◌⊎◌, inl, inr, ℕ, ◌+◌, ◌<◌, ◌≤◌, nat_le, nat_eq, Bool, true, false, ◌&&◌}
+use Rattle.std.proofs.Common.{Option, Some, None, List, [], ◌∷◌, ◌++◌, length, map, append_assoc, length-append, refl}
+use Rattle.std.proofs.Common.{sym, ap, arith, ◌-◌}
 use Rattle.std.specs.Prelude.{⊤, slice_get}
 use Rattle.std.proofs.lemmas.List.{append-nil}
 use Rattle.statement_lines.specs.declared.line.Line.{Line}
 use Rattle.line_tokens.specs.declared.line.LineKind.TheVariants.{Comment}
 use Rattle.unwrapped_lines.specs.declared.part.Begin.{Begin}
 use Rattle.unwrapped_lines.specs.declared.part.Marks.{Marks}
-use Rattle.token_classes.specs.declared.part.Part.{Part}
-use Rattle.token_classes.specs.declared.part.Part.TheVariants.{Token, Own, Trailing, Inner}
+use Rattle.item_classes.specs.declared.part.Part.{Part}
+use Rattle.item_classes.specs.declared.part.Part.TheVariants.{Token, Own, Trailing, Inner}
 use Rattle.unwrapped_lines.specs.declared.part.Run.{Run}
 use Rattle.unwrapped_lines.specs.declared.part.Run.TheVariants.{Apart}
-use Rattle.unwrapped_lines.specs.Comments.{Tree, token_follows, is_apart, between_at, is_between, own_level, begin_of, begins_line, is_own, new_begin, inner_run, next_marks, list_of, begins_from, no_marks, run_of}
+use Rattle.unwrapped_lines.specs.Comments.{Tree, token_follows, is_apart, between_at, is_between, own_level, begin_of}
+use Rattle.unwrapped_lines.specs.Comments.{begins_line, is_own, new_begin, inner_run, next_marks, list_of, begins_from}
+use Rattle.unwrapped_lines.specs.Comments.{no_marks, run_of}
 use Rattle.statement_lines.specs.Stack.{IsCut}
 use Rattle.part_laws.proofs.CodeCut.{code_line_behind}
 use Rattle.part_laws.proofs.PartsOfBoth.{is_token, tokens_in, ends_token}

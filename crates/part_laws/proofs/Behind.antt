@@ -1,5 +1,7 @@
 -- The marks of the second part, in the view of both: those of the part by itself.
-use Rattle.std.proofs.Common.{◌≡◌, ◌∙◌, ℕ, ◌+◌, ◌-◌, ◌≤◌, Bool, true, false, not, ◌&&◌, Option, List, [], ◌∷◌, ◌++◌, length, map, get_or, take, drop, append_assoc, length-append, refl, sym, ap, subst, arith, inl, inr, ◌⊎◌}
+use Rattle.std.proofs.Common.{◌≡◌, ◌∙◌, ℕ, ◌+◌, ◌-◌, ◌≤◌, Bool, true, false, not, ◌&&◌, Option, List, [], ◌∷◌, ◌++◌}
+use Rattle.std.proofs.Common.{length, map, get_or, take, drop, append_assoc, length-append, refl, sym, ap, subst, arith}
+use Rattle.std.proofs.Common.{inl, inr, ◌⊎◌}
 use Rattle.std.specs.Prelude.{slice_range, if◌then◌else◌}
 use Rattle.std.proofs.lemmas.Bool.{cases_Bool}
 use Rattle.std.proofs.lemmas.List.{take-append-drop, get_or-append-add, append-nil, length-take-le}
@@ -12,7 +14,7 @@ use Rattle.line_tokens.specs.Lines.{CutPlaces}
 use Rattle.token_arena.specs.Gaps.{Contents}
 use Rattle.token_classes.specs.declared.class.TokenClass.{TokenClass}
 use Rattle.token_classes.specs.Classes.{is_comment, is_opener}
-use Rattle.token_classes.specs.Viewed.{item_class, classes_of}
+use Rattle.item_classes.specs.Viewed.{item_class, classes_of}
 use Rattle.annotator.specs.declared.left.Around.{Around}
 use Rattle.annotator.specs.declared.left.Left.{Left}
 use Rattle.annotator.specs.declared.left.Seen.{Seen}
@@ -20,11 +22,13 @@ use Rattle.annotator.specs.declared.mark.Mark.{Mark}
 use Rattle.annotator.specs.Classes.{is_nothing, is_closer}
 use Rattle.annotator.specs.Left.{at_start, inside, counted, splits_behind, passed}
 use Rattle.annotator.specs.RoleTable.{class_behind, role_of}
-use Rattle.annotator.specs.Line.{Sight, Walk, comment_role, closed_role, code_role, partner_at, mark_at, ends_in_comma, taken_back, seen_here, past_comment, left_next, mark_of, walk_from}
+use Rattle.annotator.specs.Line.{Sight, Walk, comment_role, closed_role, code_role, partner_at, mark_at, ends_in_comma}
+use Rattle.annotator.specs.Line.{taken_back, seen_here, past_comment, left_next, mark_of, walk_from}
 use Rattle.annotator.specs.View.{Sights, row_of, marks_onto}
 use Rattle.part_laws.specs.LinesCut.{partner_behind, line_behind}
 use Rattle.annotator.proofs.Cuts.{cut_before}
-use Rattle.part_laws.proofs.RolePlaces.{partner_there, mark_there, comma_there, around_there, row_there, row_here, range_map}
+use Rattle.part_laws.proofs.RolePlaces.{partner_there, mark_there, comma_there, around_there, row_there, row_here}
+use Rattle.part_laws.proofs.RolePlaces.{range_map}
 use Rattle.part_laws.proofs.Named.{AreNamed}
 use Rattle.part_laws.proofs.Alike.{AreAlike, lists_alike, comments_alike, roles_alike, next_alike}
 

@@ -1,10 +1,12 @@
 -- What is told of tokens that are no comments: behind so many others, around a cut, and on the way outside brackets.
-use Rattle.std.proofs.Common.{◌≡◌, ◌<◌, ◌⊎◌, ℕ, zero, suc, ◌+◌, Bool, true, false, not, ◌&&◌, Some, List, [], ◌∷◌, length, Option}
+use Rattle.std.proofs.Common.{◌≡◌, ◌<◌, ◌⊎◌, ℕ, zero, suc, ◌+◌, Bool, true, false, not, ◌&&◌, Some, List, [], ◌∷◌}
+use Rattle.std.proofs.Common.{length, Option}
 use Rattle.std.specs.Prelude.{IsTrue, IsFalse, if◌then◌else◌, slice_get}
 use Rattle.token_arena.specs.Gaps.{Contents}
 use Rattle.token_classes.specs.declared.class.TokenClass.{TokenClass}
-use Rattle.token_classes.specs.Classes.{is_word, is_opener, is_open_round, is_open_brace, is_semicolon, is_plain, is_assigning, is_before_list, is_close_round}
-use Rattle.token_classes.specs.Viewed.{classes_of}
+use Rattle.token_classes.specs.Classes.{is_word, is_opener, is_open_round, is_open_brace, is_semicolon, is_plain}
+use Rattle.token_classes.specs.Classes.{is_assigning, is_before_list, is_close_round}
+use Rattle.item_classes.specs.Viewed.{classes_of}
 use Rattle.statement_lines.specs.declared.token.CodeToken.{CodeToken}
 use Rattle.statement_lines.specs.declared.line.Line.{Line}
 use Rattle.statement_lines.specs.declared.open.Open.{Open}

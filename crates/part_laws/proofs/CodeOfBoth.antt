@@ -1,5 +1,6 @@
 -- The tokens of two runs of items that are no comments: those of the first by themselves, and then those of the second.
-use Rattle.std.proofs.Common.{◌≡◌, ◌∙◌, ℕ, zero, suc, ◌+◌, ◌<◌, true, false, ◌&&◌, Option, Some, None, List, [], ◌∷◌, ◌++◌, length, map, get_or, refl, sym, ap, subst, arith}
+use Rattle.std.proofs.Common.{◌≡◌, ◌∙◌, ℕ, zero, suc, ◌+◌, ◌<◌, true, false, ◌&&◌, Option, Some, None, List, [], ◌∷◌}
+use Rattle.std.proofs.Common.{◌++◌, length, map, get_or, refl, sym, ap, subst, arith}
 use Rattle.std.specs.Prelude.{slice_get, if◌then◌else◌, ⊤}
 use Rattle.std.proofs.lemmas.List.{map-append, length-map, get_or-append-add}
 use Rattle.std.proofs.Math.ListN.{get_or-append}
@@ -7,9 +8,10 @@ use Rattle.token_arena.specs.Gaps.{Contents, item_began}
 use Rattle.token_classes.specs.declared.class.TokenClass.{TokenClass}
 use Rattle.token_classes.specs.declared.class.TokenClass.TheVariants.{Nothing}
 use Rattle.token_classes.specs.Classes.{is_colon, is_comment}
-use Rattle.token_classes.specs.Viewed.{item_class, classes_of}
+use Rattle.item_classes.specs.Viewed.{item_class, classes_of}
 use Rattle.statement_lines.specs.declared.token.CodeToken.{CodeToken}
-use Rattle.unwrapped_lines.specs.Viewed.{colon_touches, numbers_from, numbers_of, partner_number, token_at, code_places_from, code_tokens}
+use Rattle.unwrapped_lines.specs.Viewed.{colon_touches, numbers_from, numbers_of, partner_number, token_at}
+use Rattle.unwrapped_lines.specs.Viewed.{code_places_from, code_tokens}
 use Rattle.unwrapped_lines.proofs.NumberLemmas.{numbers_count}
 use Rattle.part_laws.specs.LinesCut.{partner_behind, partners_in}
 use Rattle.part_laws.proofs.CodeCut.{token_behind, code_of}

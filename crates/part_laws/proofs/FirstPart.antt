@@ -1,15 +1,21 @@
 -- What a first part is, up to the first end of declarations: its brackets are closed, its last token is a `;` or a `}`, and comments and a word that began their lines follow it.
-use Rattle.std.proofs.Common.{◌≡◌, ◌∙◌, ◌⊎◌, inl, inr, ℕ, ◌+◌, Bool, true, false, not, ◌&&◌, ◌||◌, Option, Some, None, List, [], ◌∷◌, ◌++◌, length, take, drop, refl, sym, ap, subst, arith}
+use Rattle.std.proofs.Common.{◌≡◌, ◌∙◌, ◌⊎◌, inl, inr, ℕ, ◌+◌, Bool, true, false, not, ◌&&◌, ◌||◌, Option, Some, None}
+use Rattle.std.proofs.Common.{List, [], ◌∷◌, ◌++◌, length, take, drop, refl, sym, ap, subst, arith}
 use Rattle.std.specs.Prelude.{if◌then◌else◌}
 use Rattle.std.proofs.Math.Seq.{take-append_seam, drop-append_seam}
 use Rattle.token_arena.specs.Gaps.{Contents, item_began}
 use Rattle.token_classes.specs.declared.class.TokenClass.{TokenClass}
-use Rattle.token_classes.specs.declared.class.TokenClass.TheVariants.{Nothing, OpenRound, CloseRound, OpenSquare, CloseSquare, OpenBrace, CloseBrace, Semicolon as SemicolonClass, LineComment, BlockComment}
+use Rattle.token_classes.specs.declared.class.TokenClass.TheVariants.{Nothing, OpenRound, CloseRound, OpenSquare}
+use Rattle.token_classes.specs.declared.class.TokenClass.TheVariants.{CloseSquare, OpenBrace, CloseBrace}
+use Rattle.token_classes.specs.declared.class.TokenClass.TheVariants.{Semicolon as SemicolonClass, LineComment}
+use Rattle.token_classes.specs.declared.class.TokenClass.TheVariants.{BlockComment}
 use Rattle.token_classes.specs.Classes.{is_comment, is_word, is_open_round, is_open_brace}
-use Rattle.token_classes.specs.Viewed.{item_class, classes_of}
+use Rattle.item_classes.specs.Viewed.{item_class, classes_of}
 use Rattle.token_classes.specs.declared.pairing.Opener.{Opener}
 use Rattle.token_classes.specs.Partners.{Nearest, is_brace, is_round, is_square, nearest_brace, topmost, closed}
-use Rattle.part_laws.specs.Declarations.{Before, Name, Parameters, Body, Between, Other, Reading, Ends, Never, GoesOn, Walk, start, is_end, is_between, behind_group, behind, asked_behind, asked_at, ends_or, is_lost, outside, inside, waiting_behind, is_open, next_end}
+use Rattle.part_laws.specs.Declarations.{Before, Name, Parameters, Body, Between, Other, Reading, Ends, Never, GoesOn}
+use Rattle.part_laws.specs.Declarations.{Walk, start, is_end, is_between, behind_group, behind, asked_behind, asked_at}
+use Rattle.part_laws.specs.Declarations.{ends_or, is_lost, outside, inside, waiting_behind, is_open, next_end}
 use Rattle.part_laws.specs.LinesCut.{IsFirstPart}
 use Rattle.view_parts.proofs.BodiesPassed.{round_is_no_brace, square_is_no_brace, waits_so}
 

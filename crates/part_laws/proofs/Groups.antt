@@ -1,14 +1,17 @@
 -- A group that is opened outside brackets ends in the first part: its opener leaves the openers that wait by its own partner, which is kept.
-use Rattle.std.proofs.Common.{◌≡◌, ◌∙◌, ◌⊎◌, inl, inr, ℕ, ◌+◌, Bool, true, false, Option, Some, None, List, [], ◌∷◌, ◌++◌, length, refl, sym, ap, subst, arith, ◌<◌}
+use Rattle.std.proofs.Common.{◌≡◌, ◌∙◌, ◌⊎◌, inl, inr, ℕ, ◌+◌, Bool, true, false, Option, Some, None, List, [], ◌∷◌}
+use Rattle.std.proofs.Common.{◌++◌, length, refl, sym, ap, subst, arith, ◌<◌}
 use Rattle.std.proofs.lemmas.List.{length-set}
 use Rattle.std.specs.Prelude.{slice_set, ⊤, slice_get}
 use Rattle.token_arena.specs.Gaps.{Contents}
 use Rattle.token_classes.specs.declared.class.TokenClass.{TokenClass}
-use Rattle.token_classes.specs.declared.class.TokenClass.TheVariants.{OpenRound, CloseRound, OpenSquare, CloseSquare, OpenBrace, CloseBrace}
+use Rattle.token_classes.specs.declared.class.TokenClass.TheVariants.{OpenRound, CloseRound, OpenSquare, CloseSquare}
+use Rattle.token_classes.specs.declared.class.TokenClass.TheVariants.{OpenBrace, CloseBrace}
 use Rattle.token_classes.specs.Classes.{is_comment}
-use Rattle.token_classes.specs.Viewed.{item_class, classes_of}
+use Rattle.item_classes.specs.Viewed.{item_class, classes_of}
 use Rattle.token_classes.specs.declared.pairing.Opener.{Opener}
-use Rattle.token_classes.specs.Partners.{Matching, Nearest, is_brace, is_round, is_square, nearest_brace, topmost, closed, bracket_step, paired, TakesStep, matching_from}
+use Rattle.token_classes.specs.Partners.{Matching, Nearest, is_brace, is_round, is_square, nearest_brace, topmost}
+use Rattle.token_classes.specs.Partners.{closed, bracket_step, paired, TakesStep, matching_from}
 use Rattle.part_laws.specs.Declarations.{Walk, inside, reading, waiting_behind, is_open, next_end}
 use Rattle.part_laws.proofs.WalkAgrees.{matching, waits}
 use Rattle.part_laws.proofs.FirstPart.{by_reading, IsUnasked, IsSound, inside_sound, ended}

@@ -1,14 +1,15 @@
 -- The lines of a view are those of its first part by itself, and then those of what follows by itself.
-use Rattle.std.proofs.Common.{◌≡◌, ◌∙◌, inl, inr, ℕ, ◌+◌, ◌<◌, true, false, Option, Some, None, List, [], ◌∷◌, ◌++◌, length, map, length-append, refl, sym, ap, arith}
+use Rattle.std.proofs.Common.{◌≡◌, ◌∙◌, inl, inr, ℕ, ◌+◌, ◌<◌, true, false, Option, Some, None, List, [], ◌∷◌, ◌++◌}
+use Rattle.std.proofs.Common.{length, map, length-append, refl, sym, ap, arith}
 use Rattle.std.proofs.lemmas.List.{append-nil, length-map}
 use Rattle.style_table.specs.declared.style.Style.{Style}
 use Rattle.token_arena.specs.Gaps.{Contents}
-use Rattle.token_classes.specs.Viewed.{item_class, classes_of}
+use Rattle.item_classes.specs.Viewed.{item_class, classes_of}
 use Rattle.statement_lines.specs.declared.token.CodeToken.{CodeToken}
 use Rattle.statement_lines.specs.declared.line.Line.{Line}
 use Rattle.statement_lines.specs.declared.braces.Braces.{Braces}
 use Rattle.statement_lines.specs.declared.open.Start.TheVariants.{Fresh}
-use Rattle.token_classes.specs.declared.part.Part.{Part}
+use Rattle.item_classes.specs.declared.part.Part.{Part}
 use Rattle.statement_lines.specs.Wrapping.{braces_of}
 use Rattle.unwrapped_lines.specs.Viewed.{code_places_from, parts_of, token_at}
 use Rattle.statement_lines.specs.Tree.{lines_from, end_level_from, lines_of, end_level}
@@ -19,7 +20,8 @@ use Rattle.unwrapped_lines.proofs.CutLemmas.{parts_count}
 use Rattle.part_laws.specs.LinesCut.{IsFirstPart, partner_behind, partners_in, LinesStay}
 use Rattle.part_laws.proofs.CodeCut.{token_behind, code_line_behind, BeginsWord, IsCutBehind, code_of, file_up_to}
 use Rattle.part_laws.proofs.CodeOfBoth.{code_of_both}
-use Rattle.part_laws.proofs.PartsOfBoth.{tokens_in, ends_token, tokens_so, ends_so, parts_of_both, ends_in_code, comments_begin, ends_code}
+use Rattle.part_laws.proofs.PartsOfBoth.{tokens_in, ends_token, tokens_so, ends_so, parts_of_both, ends_in_code}
+use Rattle.part_laws.proofs.PartsOfBoth.{comments_begin, ends_code}
 use Rattle.part_laws.proofs.BeginsOfBoth.{FirstAt, AreBoth, begins_of_both, begin_behind, lines_of_both}
 use Rattle.part_laws.proofs.FirstPart.{IsEnded, first_part}
 use Rattle.part_laws.proofs.Counted.{places_count}

@@ -1,5 +1,6 @@
 -- Each item of a file has a class.
-use Rattle.std.proofs.Common.{◌≡◌, ◌∙◌, ℕ, suc, ◌<◌, Bool, true, false, not, List, [], ◌∷◌, length, get_or, refl, ap, arith}
+use Rattle.std.proofs.Common.{◌≡◌, ◌∙◌, ℕ, suc, ◌<◌, Bool, true, false, not, List, [], ◌∷◌, length, get_or, refl, ap}
+use Rattle.std.proofs.Common.{arith}
 use Rattle.std.specs.Prelude.{⊤, if◌then◌else◌, bytes_eq, nat_eq, codes}
 use Rattle.std.specs.List.{list_all, ends_with}
 use Rattle.c_grammar.specs.Rewritten.{read_alone}
@@ -10,10 +11,11 @@ use Rattle.token_arena.specs.Stored.{Stored}
 use Rattle.token_arena.specs.Gaps.{Contents}
 use Rattle.token_classes.specs.declared.class.TokenClass.{TokenClass}
 use Rattle.token_classes.specs.declared.class.TokenClass.TheVariants.{TypeWord, CapitalWord, PlainWord, Other}
-use Rattle.token_classes.specs.Words.{class_in, statement_words, call_words, type_words, named_class, is_in_capitals, word_class, punctuators, class_spelled}
-use Rattle.token_classes.specs.Viewed.{AreWithin, item_class, class_or_nothing}
+use Rattle.token_classes.specs.Words.{class_in, statement_words, call_words, type_words, named_class, is_in_capitals}
+use Rattle.token_classes.specs.Words.{word_class, punctuators}
+use Rattle.item_classes.specs.Viewed.{class_spelled, AreWithin, item_class, class_or_nothing}
 use Rattle.annotator.specs.Classes.{is_nothing}
-use Rattle.token_classes.specs.Items.{no_item}
+use Rattle.item_classes.specs.Items.{no_item}
 
 either : (b : Bool) (x y : TokenClass) → is_nothing x ≡ false → is_nothing y ≡ false → is_nothing (if b then x else y) ≡ false
 either true x y left right = left

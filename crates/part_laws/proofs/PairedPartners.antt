@@ -1,25 +1,30 @@
 -- The partners of brackets are one another's, and that of a `(` is a `)`: among all tokens, and among those that are no comments.
-use Rattle.std.proofs.Common.{◌≡◌, ◌∙◌, ◌⊎◌, inl, inr, ℕ, zero, suc, ◌+◌, ◌<◌, ◌≤◌, true, false, Option, Some, None, List, [], ◌∷◌, ◌++◌, length, get_or, refl, sym, ap, arith, Bool, replicate, append_assoc, subst}
+use Rattle.std.proofs.Common.{◌≡◌, ◌∙◌, ◌⊎◌, inl, inr, ℕ, zero, suc, ◌+◌, ◌<◌, ◌≤◌, true, false, Option, Some, None}
+use Rattle.std.proofs.Common.{List, [], ◌∷◌, ◌++◌, length, get_or, refl, sym, ap, arith, Bool, replicate, append_assoc}
+use Rattle.std.proofs.Common.{subst}
 use Rattle.std.specs.Prelude.{slice_get, ⊤, slice_set}
 use Rattle.std.proofs.lemmas.Bool.{cases_lt, cases_Bool, cases_eq}
 use Rattle.std.proofs.lemmas.List.{length-map, length-set, length-replicate, length-append}
 use Rattle.std.proofs.lemmas.Option.{slice_get_past, slice_get_within}
 use Rattle.token_arena.specs.Gaps.{Contents}
 use Rattle.token_classes.specs.declared.class.TokenClass.{TokenClass}
-use Rattle.token_classes.specs.declared.class.TokenClass.TheVariants.{CloseRound, Nothing, OpenRound, OpenSquare, CloseSquare, OpenBrace, CloseBrace}
+use Rattle.token_classes.specs.declared.class.TokenClass.TheVariants.{CloseRound, Nothing, OpenRound, OpenSquare}
+use Rattle.token_classes.specs.declared.class.TokenClass.TheVariants.{CloseSquare, OpenBrace, CloseBrace}
 use Rattle.token_classes.specs.Classes.{is_comment, is_open_round, is_close_round}
-use Rattle.token_classes.specs.Viewed.{item_class, classes_of}
+use Rattle.item_classes.specs.Viewed.{item_class, classes_of}
 use Rattle.statement_lines.specs.declared.token.CodeToken.{CodeToken}
 use Rattle.statement_lines.specs.Forms.{class_of, class_at, partner_of, partner_in, within}
 use Rattle.unwrapped_lines.specs.Viewed.{numbers_of, partner_number}
 use Rattle.part_laws.specs.LinesCut.{partners_in}
 use Rattle.part_laws.proofs.CodeCut.{ArePaired, code_of}
-use Rattle.part_laws.proofs.Counted.{count_of, counts_one, counts_none, counts_all, token_there, class_there, code_class, number_there}
+use Rattle.part_laws.proofs.Counted.{count_of, counts_one, counts_none, counts_all, token_there, class_there}
+use Rattle.part_laws.proofs.Counted.{code_class, number_there}
 use Rattle.part_laws.proofs.PartnerPlaces.{within_parts}
 use Rattle.unwrapped_lines.proofs.NumberLemmas.{numbers_count}
 use Rattle.std.proofs.Math.Seq.{get_or-append_seam}
 use Rattle.token_classes.specs.declared.pairing.Opener.{Opener}
-use Rattle.token_classes.specs.Partners.{Matching, Nearest, is_brace, is_round, is_square, nearest_brace, topmost, closed, bracket_step, matching_from, partners_of}
+use Rattle.token_classes.specs.Partners.{Matching, Nearest, is_brace, is_round, is_square, nearest_brace, topmost}
+use Rattle.token_classes.specs.Partners.{closed, bracket_step, matching_from, partners_of}
 use Rattle.part_laws.proofs.Places.{set_other, set_same}
 use Rattle.part_laws.proofs.Choices.{never}
 

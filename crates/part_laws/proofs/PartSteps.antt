@@ -1,13 +1,16 @@
 -- What the end of a part tells of declarations: outside brackets one ends there, and in a body none ends before.
-use Rattle.std.proofs.Common.{◌≡◌, ◌∙◌, ◌==◌, ℕ, ◌+◌, ◌<◌, ◌≤◌, ◌⊎◌, inl, inr, Bool, true, false, not, ◌&&◌, ◌||◌, nat_le, Option, Some, None, List, [], ◌∷◌, length, drop, reverse, refl, sym, ap, subst, arith}
+use Rattle.std.proofs.Common.{◌≡◌, ◌∙◌, ◌==◌, ℕ, ◌+◌, ◌<◌, ◌≤◌, ◌⊎◌, inl, inr, Bool, true, false, not, ◌&&◌, ◌||◌}
+use Rattle.std.proofs.Common.{nat_le, Option, Some, None, List, [], ◌∷◌, length, drop, reverse, refl, sym, ap, subst}
+use Rattle.std.proofs.Common.{arith}
 use Rattle.std.specs.Prelude.{⊤, if◌then◌else◌}
 use Rattle.std.proofs.lemmas.Bool.{eqb-true}
 use Rattle.std.proofs.lemmas.List.{drop-drop, length-reverse}
 use Rattle.token_arena.specs.Gaps.{Contents, item_began}
 use Rattle.token_classes.specs.declared.class.TokenClass.{TokenClass}
-use Rattle.token_classes.specs.declared.class.TokenClass.TheVariants.{OpenRound, CloseRound, OpenSquare, CloseSquare, OpenBrace, CloseBrace, LineComment, BlockComment}
+use Rattle.token_classes.specs.declared.class.TokenClass.TheVariants.{OpenRound, CloseRound, OpenSquare, CloseSquare}
+use Rattle.token_classes.specs.declared.class.TokenClass.TheVariants.{OpenBrace, CloseBrace, LineComment, BlockComment}
 use Rattle.token_classes.specs.Classes.{is_bracket, is_comment, is_word}
-use Rattle.token_classes.specs.Viewed.{item_class}
+use Rattle.item_classes.specs.Viewed.{item_class}
 use Rattle.token_classes.specs.declared.pairing.Opener.{Opener}
 use Rattle.part_walk.specs.declared.walk.Around.TheVariants as around
 use Rattle.part_walk.specs.declared.walk.Declaration.{Declaration}
@@ -16,13 +19,21 @@ use Rattle.part_walk.specs.declared.walk.Walk.{Walk as PartWalk}
 use Rattle.part_walk.specs.Places.{Place}
 use Rattle.part_walk.specs.Reading.{Reading as PartReading}
 use Rattle.part_walk.specs.Reading as part
-use Rattle.part_walk.specs.Walk.{start as part_start, reading as part_reading, is_end as part_is_end, is_body as part_is_body, asked_behind as part_asked_behind, asked_at as part_asked_at, outside as part_outside, ends_or as part_ends_or, is_lost as part_is_lost, next_declaration, inside_declaration, asked_in_body, begins_statement, ends_statement, ends_apart, ends_in_row, ends_inside_or, end_in_body, in_body, is_apart, may_part, left, opened_head, or_place, past_bracket, past_comment, past_other}
+use Rattle.part_walk.specs.Walk.{start as part_start, reading as part_reading, is_end as part_is_end}
+use Rattle.part_walk.specs.Walk.{is_body as part_is_body, asked_behind as part_asked_behind, asked_at as part_asked_at}
+use Rattle.part_walk.specs.Walk.{outside as part_outside, ends_or as part_ends_or, is_lost as part_is_lost}
+use Rattle.part_walk.specs.Walk.{next_declaration, inside_declaration, asked_in_body, begins_statement, ends_statement}
+use Rattle.part_walk.specs.Walk.{ends_apart, ends_in_row, ends_inside_or, end_in_body, in_body, is_apart, may_part}
+use Rattle.part_walk.specs.Walk.{left, opened_head, or_place, past_bracket, past_comment, past_other}
 use Rattle.view_parts.specs.Parts.{Ended, end_of_part, next_end as part_next_end}
-use Rattle.part_walk.specs.Brackets.{around_of, bodies_behind, braces_of, is_left, left_innermost, place_behind, walk_behind, waiting_at, waiting_behind as part_waiting_behind}
-use Rattle.part_laws.specs.Declarations.{Ends, Never, GoesOn, Walk, start, is_lost, ends_or, outside, inside, waiting_behind, is_open, next_end}
+use Rattle.part_walk.specs.Brackets.{around_of, bodies_behind, braces_of, is_left, left_innermost, place_behind}
+use Rattle.part_walk.specs.Brackets.{walk_behind, waiting_at, waiting_behind as part_waiting_behind}
+use Rattle.part_laws.specs.Declarations.{Ends, Never, GoesOn, Walk, start, is_lost, ends_or, outside, inside}
+use Rattle.part_laws.specs.Declarations.{waiting_behind, is_open, next_end}
 use Rattle.part_laws.proofs.FirstPart.{by_reading}
 use Rattle.part_laws.proofs.SameKinds.{SameKinds, kinds_of_braces, same_kinds, same_behind, same_ends}
-use Rattle.part_laws.proofs.SameSteps.{later, along, at_place, asked_told, outside_told, inside_told, code_keeps, bracket_is_code, IsCommented, commented_stays, comment_told}
+use Rattle.part_laws.proofs.SameSteps.{later, along, at_place, asked_told, outside_told, inside_told, code_keeps}
+use Rattle.part_laws.proofs.SameSteps.{bracket_is_code, IsCommented, commented_stays, comment_told}
 use Rattle.view_parts.proofs.Waits.{BodiesWaitBelow, all_braces, holds_on, holds_start}
 
 -- ## What is told

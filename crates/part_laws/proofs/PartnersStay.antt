@@ -1,7 +1,7 @@
 -- No bracket of a part has its partner in another part.
 use Rattle.std.proofs.Common.{◌∙◌, ℕ, ◌++◌, map, ap}
 use Rattle.std.proofs.lemmas.List.{map-append, length-map}
-use Rattle.token_classes.specs.Viewed.{item_class, classes_of}
+use Rattle.item_classes.specs.Viewed.{item_class, classes_of}
 use Rattle.token_classes.specs.Partners.{partners_of}
 use Rattle.part_laws.specs.LinesCut.{partner_behind, partners_in, PartnersStay}
 use Rattle.part_laws.proofs.FirstPart.{first_part}

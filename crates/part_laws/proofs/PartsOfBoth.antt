@@ -1,5 +1,6 @@
 -- What the items of a first part, and those behind it, are in the view of both: what they are by themselves.
-use Rattle.std.proofs.Common.{◌≡◌, ◌∙◌, ◌⊎◌, inl, inr, ℕ, suc, ◌+◌, ◌≤◌, Bool, true, false, not, ◌||◌, List, [], ◌∷◌, ◌++◌, length, get_or, refl, sym, ap, subst, arith}
+use Rattle.std.proofs.Common.{◌≡◌, ◌∙◌, ◌⊎◌, inl, inr, ℕ, suc, ◌+◌, ◌≤◌, Bool, true, false, not, ◌||◌, List, [], ◌∷◌}
+use Rattle.std.proofs.Common.{◌++◌, length, get_or, refl, sym, ap, subst, arith}
 use Rattle.std.specs.Prelude.{if◌then◌else◌, ⊤}
 use Rattle.std.proofs.lemmas.Bool.{cases_Bool}
 use Rattle.std.proofs.lemmas.List.{map-append, length-map, get_or-append-add}
@@ -8,11 +9,11 @@ use Rattle.token_arena.specs.Gaps.{Contents, item_began}
 use Rattle.token_classes.specs.declared.class.TokenClass.{TokenClass}
 use Rattle.token_classes.specs.declared.class.TokenClass.TheVariants.{Nothing, LineComment, BlockComment}
 use Rattle.token_classes.specs.Classes.{is_comment, is_line_comment, is_word}
-use Rattle.token_classes.specs.Viewed.{item_class, classes_of}
-use Rattle.token_classes.specs.declared.part.Part.{Part}
-use Rattle.token_classes.specs.declared.part.Part.TheVariants.{Token, Own, Trailing, Inner}
+use Rattle.item_classes.specs.Viewed.{item_class, classes_of}
+use Rattle.item_classes.specs.declared.part.Part.{Part}
+use Rattle.item_classes.specs.declared.part.Part.TheVariants.{Token, Own, Trailing, Inner}
 use Rattle.unwrapped_lines.specs.Viewed.{parts_from, parts_of}
-use Rattle.token_classes.specs.Part.{line_ends_behind, part_of}
+use Rattle.item_classes.specs.Part.{line_ends_behind, part_of}
 use Rattle.part_laws.proofs.FirstPart.{closes_part, last_of, Follows}
 use Rattle.part_laws.proofs.Counted.{code_count}
 

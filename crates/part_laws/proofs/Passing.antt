@@ -1,22 +1,28 @@
 -- The tokens of a first part that are no comments go on, group by group, to their end behind a declaration.
-use Rattle.std.proofs.Common.{◌≡◌, ◌∙◌, inl, inr, ℕ, zero, suc, ◌+◌, ◌<◌, ◌≤◌, Bool, true, false, Option, Some, None, List, [], ◌∷◌, ◌++◌, length, replicate, append_assoc, append-nil, refl, sym, ap, subst, arith}
+use Rattle.std.proofs.Common.{◌≡◌, ◌∙◌, inl, inr, ℕ, zero, suc, ◌+◌, ◌<◌, ◌≤◌, Bool, true, false, Option, Some, None}
+use Rattle.std.proofs.Common.{List, [], ◌∷◌, ◌++◌, length, replicate, append_assoc, append-nil, refl, sym, ap, subst}
+use Rattle.std.proofs.Common.{arith}
 use Rattle.std.specs.Prelude.{slice_get}
 use Rattle.std.proofs.lemmas.List.{length-append, length-map, length-replicate}
 use Rattle.std.proofs.lemmas.Bool.{cases_Bool}
 use Rattle.token_arena.specs.Gaps.{Contents}
 use Rattle.token_classes.specs.declared.class.TokenClass.{TokenClass}
 use Rattle.token_classes.specs.Classes.{is_comment, is_opener}
-use Rattle.token_classes.specs.Viewed.{item_class, classes_of}
+use Rattle.item_classes.specs.Viewed.{item_class, classes_of}
 use Rattle.token_classes.specs.declared.pairing.Opener.{Opener}
 use Rattle.token_classes.specs.Partners.{Matching, paired, matching_from}
 use Rattle.statement_lines.specs.declared.token.CodeToken.{CodeToken}
 use Rattle.statement_lines.specs.Forms.{class_at, partner_in}
-use Rattle.part_laws.specs.Declarations.{Before, Between, Walk, start, is_end, is_lost, behind, outside, waiting_behind, next_end}
+use Rattle.part_laws.specs.Declarations.{Before, Between, Walk, start, is_end, is_lost, behind, outside, waiting_behind}
+use Rattle.part_laws.specs.Declarations.{next_end}
 use Rattle.part_laws.specs.LinesCut.{IsFirstPart, partners_in}
 use Rattle.part_laws.proofs.CodeCut.{behind_code, assigned_behind, code_of, Way}
 use Rattle.part_laws.proofs.Groups.{IsGroup, grouped, paired_length, pair_found, partner_kept}
-use Rattle.part_laws.proofs.Counted.{count_of, counts_on, counts_one, counts_none, counts_all, code_class, code_within, code_partner}
-use Rattle.part_laws.proofs.WalkAgrees.{Agrees, ends_agree, behind_agrees, comment_agrees, assigned_agrees, comment_assigns_nothing, opener_waits, nothing_waits, opener_is_no_comment, matching, comment_is_no_opener}
+use Rattle.part_laws.proofs.Counted.{count_of, counts_on, counts_one, counts_none, counts_all, code_class, code_within}
+use Rattle.part_laws.proofs.Counted.{code_partner}
+use Rattle.part_laws.proofs.WalkAgrees.{Agrees, ends_agree, behind_agrees, comment_agrees, assigned_agrees}
+use Rattle.part_laws.proofs.WalkAgrees.{comment_assigns_nothing, opener_waits, nothing_waits, opener_is_no_comment}
+use Rattle.part_laws.proofs.WalkAgrees.{matching, comment_is_no_opener}
 use Rattle.part_laws.proofs.FirstPart.{IsUnasked, IsSound, outside_sound, ended, GoesOutside, goes_outside}
 
 -- ## Tokens that pass

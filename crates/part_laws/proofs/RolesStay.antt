@@ -1,9 +1,12 @@
 -- The roles of a view are those of what stands between the ends of its declarations, its parts.
-use Rattle.std.proofs.Common.{◌≡◌, ◌∙◌, ◌==◌, ℕ, zero, suc, ◌+◌, ◌-◌, ◌<◌, ◌≤◌, Bool, true, false, not, ◌&&◌, ◌||◌, nat_lt, Option, Some, None, List, [], ◌∷◌, ◌++◌, length, get_or, take, drop, refl, sym, ap, subst, arith, inl, inr, ◌⊎◌}
+use Rattle.std.proofs.Common.{◌≡◌, ◌∙◌, ◌==◌, ℕ, zero, suc, ◌+◌, ◌-◌, ◌<◌, ◌≤◌, Bool, true, false, not, ◌&&◌, ◌||◌}
+use Rattle.std.proofs.Common.{nat_lt, Option, Some, None, List, [], ◌∷◌, ◌++◌, length, get_or, take, drop, refl, sym}
+use Rattle.std.proofs.Common.{ap, subst, arith, inl, inr, ◌⊎◌}
 use Rattle.std.specs.Prelude.{if◌then◌else◌, slice_range}
 use Rattle.std.proofs.lemmas.Bool.{and_from, le-ltb, lt-ltb, ltb-false}
 use Rattle.std.proofs.lemmas.List.Elements.{All-drop}
-use Rattle.std.proofs.lemmas.List.{append-nil, drop_all, drop-drop, get_or-append-add, get_or-drop, length-append, length-drop, length-map, take_all}
+use Rattle.std.proofs.lemmas.List.{append-nil, drop_all, drop-drop, get_or-append-add, get_or-drop, length-append}
+use Rattle.std.proofs.lemmas.List.{length-drop, length-map, take_all}
 use Rattle.std.proofs.Math.ListN.{get_or-append}
 use Rattle.std.proofs.Math.Seq.{take-append_seam, drop-append_seam}
 use Rattle.line_tokens.specs.declared.LineTok.{LineTok}
@@ -14,11 +17,11 @@ use Rattle.token_arena.specs.Gaps.{Contents, item_began}
 use Rattle.token_classes.specs.declared.class.TokenClass.{TokenClass}
 use Rattle.token_classes.specs.declared.class.TokenClass.TheVariants.{Nothing, LineComment, BlockComment}
 use Rattle.token_classes.specs.Classes.{is_comment, is_word}
-use Rattle.token_classes.specs.Viewed.{AreWithin, item_class, classes_of}
+use Rattle.item_classes.specs.Viewed.{AreWithin, item_class, classes_of}
 use Rattle.unwrapped_lines.proofs.Started.{lines_cut_views}
 use Rattle.annotator.specs.declared.mark.Mark.{Mark}
 use Rattle.annotator.specs.Tokens.{roles_of, toks_from}
-use Rattle.token_classes.specs.Items.{stands_apart}
+use Rattle.item_classes.specs.Items.{stands_apart}
 use Rattle.annotator.specs.View.{marks_of}
 use Rattle.annotator.proofs.Told.{as_many_toks}
 use Rattle.part_laws.specs.Declarations.{start, next_end, or_all, first_len, ends_from}

@@ -1,5 +1,6 @@
 -- The tokens of both parts.
-use Rattle.std.proofs.Common.{◌≡◌, ◌∙◌, ◌==◌, ℕ, ◌+◌, ◌-◌, ◌<◌, ◌≤◌, Bool, false, not, ◌&&◌, ◌||◌, List, [], ◌∷◌, ◌++◌, length, get_or, refl, sym, ap, arith}
+use Rattle.std.proofs.Common.{◌≡◌, ◌∙◌, ◌==◌, ℕ, ◌+◌, ◌-◌, ◌<◌, ◌≤◌, Bool, false, not, ◌&&◌, ◌||◌, List, [], ◌∷◌, ◌++◌}
+use Rattle.std.proofs.Common.{length, get_or, refl, sym, ap, arith}
 use Rattle.std.specs.Prelude.{nat_lt}
 use Rattle.std.proofs.lemmas.Bool.{lt-ltb}
 use Rattle.std.proofs.lemmas.List.{get_or-append-add}
@@ -10,7 +11,7 @@ use Rattle.annotator.specs.declared.mark.Mark.{Mark}
 use Rattle.annotator.specs.Classes.{is_hash}
 use Rattle.annotator.specs.Held.{is_inner, is_held}
 use Rattle.annotator.specs.Tokens.{tok_of, toks_from}
-use Rattle.token_classes.specs.Items.{stands_apart}
+use Rattle.item_classes.specs.Items.{stands_apart}
 use Rattle.part_laws.specs.RolesCut.{ends_inner, with_first_apart}
 
 -- the last of these marks is that of an inner comment

@@ -6,7 +6,7 @@ use Rattle.token_arena.specs.Gaps.{Contents, item_began}
 use Rattle.token_classes.specs.declared.class.TokenClass.{TokenClass}
 use Rattle.token_classes.specs.Classes.{is_opener, is_open_round, is_open_brace, is_semicolon, is_plain, is_assigning}
 use Rattle.token_classes.specs.Classes.{is_control, is_case, is_default, is_comment, is_word}
-use Rattle.token_classes.specs.Viewed.{item_class}
+use Rattle.item_classes.specs.Viewed.{item_class}
 use Rattle.token_classes.specs.declared.pairing.Opener.{Opener}
 use Rattle.token_classes.specs.Partners.{bracket_step}
 

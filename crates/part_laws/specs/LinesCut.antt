@@ -4,7 +4,7 @@ use Rattle.std.specs.Prelude.{◌≡◌, ℕ, ◌+◌, Option, Some, None, List,
 use Rattle.line_tokens.specs.declared.line.ULine.{ULine}
 use Rattle.style_table.specs.declared.style.Style.{Style}
 use Rattle.token_arena.specs.Gaps.{Contents}
-use Rattle.token_classes.specs.Viewed.{AreWithin, classes_of}
+use Rattle.item_classes.specs.Viewed.{AreWithin, classes_of}
 use Rattle.token_classes.specs.Partners.{partners_of}
 use Rattle.unwrapped_lines.specs.Lines.{lines_of_items}
 use Rattle.part_laws.specs.Declarations.{start, next_end}

@@ -4,10 +4,10 @@ use Rattle.std.specs.Prelude.{◌≡◌, ℕ, List, [], ◌∷◌, ◌++◌, sli
 use Rattle.line_tokens.specs.declared.LineTok.{LineTok}
 use Rattle.style_table.specs.declared.style.Style.{Style}
 use Rattle.token_arena.specs.Gaps.{Contents}
-use Rattle.token_classes.specs.Viewed.{AreWithin}
+use Rattle.item_classes.specs.Viewed.{AreWithin}
 use Rattle.unwrapped_lines.specs.Lines.{lines_of_items}
 use Rattle.annotator.specs.Tokens.{toks_of_lines}
-use Rattle.token_classes.specs.Items.{stands_apart}
+use Rattle.item_classes.specs.Items.{stands_apart}
 use Rattle.part_laws.specs.Declarations.{declaration_ends}
 use Rattle.part_laws.specs.RolesCut.{with_first_apart}
 

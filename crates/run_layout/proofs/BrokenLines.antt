@@ -25,14 +25,14 @@ use Rattle.line_state.specs.Line.{Line, Step}
 use Rattle.line_state.proofs.Steps.{IsGap, is_gap, placing}
 use Rattle.token_arena.specs.Stored.{Stored}
 use Rattle.token_arena.specs.Gaps.{Contents}
-use Rattle.token_classes.specs.Viewed.{AreWithin}
+use Rattle.item_classes.specs.Viewed.{AreWithin}
 use Rattle.line_tokens.specs.declared.line.ULine.{ULine}
 use Rattle.replacements.specs.declared.gap_text.Decision.TheVariants.{Spaces}
 use Rattle.replacements.specs.declared.slot.Slot.{Slot}
 use Rattle.replacements.specs.declared.stance.Stance.TheVariants.{OfText}
 use Rattle.replacements.specs.Places.{place_in}
 use Rattle.replacements.specs.Sound.{MayJoin, MayStandBetween, MayStand}
-use Rattle.token_classes.specs.Items.{no_item, item_at}
+use Rattle.item_classes.specs.Items.{no_item, item_at}
 use Rattle.line_tokens.specs.Tokens.{no_token}
 use Rattle.run_layout.specs.Tells.{MayTouch, StandsForItem, StandForItems}
 use Rattle.run_layout.specs.Broken.{of_line, broken_line, empty_inside, waits, inside_decision, inside_slot}

@@ -17,7 +17,7 @@ use Rattle.line_state.specs.Layout.{Layout, is_allowed, is_decided, is_some_deci
 use Rattle.line_state.specs.Line.{Line, Step, gaps, decision_at, joined, first_layout}
 use Rattle.line_state.proofs.Steps.{IsGap, is_gap, placing, first_index}
 use Rattle.token_arena.specs.Gaps.{Contents}
-use Rattle.token_classes.specs.Viewed.{AreWithin}
+use Rattle.item_classes.specs.Viewed.{AreWithin}
 use Rattle.line_tokens.specs.declared.line.ULine.{ULine}
 use Rattle.line_tokens.specs.Lines.{CutPlaces}
 use Rattle.replacements.specs.declared.slot.Slot.{Slot}

@@ -10,7 +10,7 @@ use Rattle.line_tokens.specs.declared.Fixed.{Fixed}
 use Rattle.line_tokens.specs.Columns.{stored_or, end_of}
 use Rattle.line_state.specs.Line.{Line, gaps, first_layout}
 use Rattle.token_arena.specs.Gaps.{Contents}
-use Rattle.token_classes.specs.Viewed.{AreWithin}
+use Rattle.item_classes.specs.Viewed.{AreWithin}
 use Rattle.line_tokens.specs.declared.line.ULine.{ULine}
 use Rattle.layout_tables.specs.Indents.{start_column}
 use Rattle.replacements.specs.declared.slot.Slot.{Slot}

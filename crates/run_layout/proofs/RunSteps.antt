@@ -8,7 +8,7 @@ use Rattle.std.proofs.Math.Seq.{drop-cons}
 use Rattle.style_table.specs.declared.style.Style.{Style}
 use Rattle.line_tokens.specs.declared.LineTok.{LineTok}
 use Rattle.token_arena.specs.Gaps.{Contents}
-use Rattle.token_classes.specs.Viewed.{AreWithin}
+use Rattle.item_classes.specs.Viewed.{AreWithin}
 use Rattle.line_tokens.specs.declared.line.ULine.{ULine}
 use Rattle.line_tokens.specs.Lines.{CutPlaces}
 use Rattle.replacements.specs.declared.slot.Slot.{Slot}

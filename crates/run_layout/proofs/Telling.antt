@@ -7,7 +7,7 @@ use Rattle.std.proofs.lemmas.Bool.Decides.{nat_tests}
 use Rattle.std.proofs.lemmas.Option.{slice_get-get_or}
 use Rattle.line_tokens.specs.declared.LineTok.{LineTok}
 use Rattle.token_arena.specs.Gaps.{Contents}
-use Rattle.token_classes.specs.Items.{TellItems, TellsItem, touches, stands_apart, item_at}
+use Rattle.item_classes.specs.Items.{TellItems, TellsItem, touches, stands_apart, item_at}
 use Rattle.line_tokens.specs.Tokens.{no_token}
 use Rattle.run_layout.specs.Tells.{MayTouch, StandsForItem, StandForItems}
 

@@ -14,7 +14,7 @@ use Rattle.layout_tables.specs.Breaks.{ends_its_row}
 use Rattle.line_state.specs.declared.gap.Gap.{Gap}
 use Rattle.line_tokens.specs.Columns.{columns, end_of}
 use Rattle.token_arena.specs.Gaps.{Contents}
-use Rattle.token_classes.specs.Viewed.{AreWithin}
+use Rattle.item_classes.specs.Viewed.{AreWithin}
 use Rattle.replacements.specs.declared.gap_text.Decision.TheVariants.{Spaces}
 use Rattle.replacements.specs.declared.slot.Slot.{Slot}
 use Rattle.replacements.specs.Decisions.{slot_of, decided, decided_all}
@@ -26,7 +26,7 @@ use Rattle.comment_rows.specs.declared.comments.Comment.{Comment}
 use Rattle.comment_rows.specs.Comments.{comment_at, comment_of, comments_behind, comments_in, comments_made}
 use Rattle.comment_rows.specs.Comments.{first_start, placed, placed_slot, row_of, start_by}
 use Rattle.comment_rows.proofs.CommentLists.{length-aligned, none_made}
-use Rattle.token_classes.specs.Items.{item_at}
+use Rattle.item_classes.specs.Items.{item_at}
 use Rattle.line_tokens.specs.Tokens.{no_token}
 use Rattle.run_layout.specs.Tells.{StandForItems}
 use Rattle.run_layout.specs.Laws.{AreOfTexts, IsWaiting}

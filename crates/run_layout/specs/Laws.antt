@@ -6,7 +6,7 @@ use Rattle.token_arena.specs.Gaps.{Contents}
 use Rattle.line_tokens.specs.declared.LineTok.{LineTok}
 use Rattle.line_tokens.specs.Roles.{is_trailing}
 use Rattle.layout_tables.specs.Breaks.{ends_its_row}
-use Rattle.token_classes.specs.Viewed.{AreWithin}
+use Rattle.item_classes.specs.Viewed.{AreWithin}
 use Rattle.token_arena.specs.Sections.{sections_of}
 use Rattle.line_tokens.specs.declared.line.ULine.{ULine}
 use Rattle.line_tokens.specs.Lines.{CutPlaces}

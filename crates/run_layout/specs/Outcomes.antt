@@ -8,7 +8,7 @@ use Rattle.token_arena.specs.Gaps.{Contents}
 use Rattle.line_tokens.specs.declared.line.ULine.{ULine}
 use Rattle.replacements.specs.declared.slot.Slot.{Slot}
 use Rattle.replacements.specs.Decisions.{decided_all}
-use Rattle.token_classes.specs.Items.{item_at}
+use Rattle.item_classes.specs.Items.{item_at}
 pub use Rattle.line_gaps.specs.OpenGaps.{AreDecided, IsOpen}
 use Rattle.line_gaps.specs.InputColumns.{reported_made}
 use Rattle.run_layout.specs.Broken.{broken_line, broken_made}

@@ -1,7 +1,7 @@
 -- What lines are laid out by fits their view.
 use Rattle.std.specs.Prelude.{◌≡◌, ◌<◌, ◌≤◌, ◌+◌, List, Option, length, map}
 use Rattle.style_table.specs.Range.{IsInRange}
-use Rattle.token_classes.specs.Viewed.{AreWithin, classes_of}
+use Rattle.item_classes.specs.Viewed.{AreWithin, classes_of}
 use Rattle.replacements.specs.declared.slot.Slot.{Slot}
 use Rattle.line_gaps.specs.Fixed.{fixed_of_token}
 use Rattle.run_layout.specs.Broken.{of_line}

@@ -7,7 +7,7 @@ use Rattle.touching.specs.Spelling.{spelling}
 use Rattle.line_tokens.specs.declared.LineTok.{LineTok}
 use Rattle.token_arena.specs.Stored.{Stored}
 use Rattle.token_arena.specs.Gaps.{Contents}
-use Rattle.token_classes.specs.Items.{item_at}
+use Rattle.item_classes.specs.Items.{item_at}
 use Rattle.line_tokens.specs.Tokens.{no_token}
 
 -- the two items may stand side by side

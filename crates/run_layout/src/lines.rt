@@ -3,8 +3,8 @@
 ghost use Rattle.std.specs.Prelude.{◌≡◌, ◌+◌, ◌*◌, ◌^◌, ◌<◌, ◌≤◌, IfOk, OnOk, length};
 ghost use Rattle.std.specs.Bool.{OnFalse, OnTrue};
 ghost use Rattle.style_table.specs.Range.{IsInRange};
-ghost use Rattle.token_classes.specs.Viewed.{AreWithin, classes_of};
-ghost use Rattle.token_classes.specs.Items.{TellItems};
+ghost use Rattle.item_classes.specs.Viewed.{AreWithin, classes_of};
+ghost use Rattle.item_classes.specs.Items.{TellItems};
 ghost use Rattle.line_state.specs.Line.{gaps};
 ghost use Rattle.run_layout.specs.Ready.{IsOpenLine, IsReady};
 ghost use Rattle.run_layout.specs.Tells.{StandForItems};

@@ -4,7 +4,7 @@ ghost use Rattle.std.specs.Prelude.{◌≡◌, ◌++◌, ◌+◌, ◌*◌, ◌<�
 ghost use Rattle.token_arena.specs.Gaps.{Contents};
 ghost use Rattle.line_gaps.specs.Counted.{IsCounted};
 ghost use Rattle.run_layout.specs.Reports.{cost_told, report_told, searched_told};
-ghost use Rattle.token_classes.specs.Items.{item_at};
+ghost use Rattle.item_classes.specs.Items.{item_at};
 
 use crate::laid::Laid;
 use bumpalo::Bump;

@@ -2,8 +2,8 @@
 
 ghost use Rattle.std.specs.Prelude.{◌≡◌, ◌+◌, ◌*◌, ◌^◌, ◌<◌, ◌≤◌, OnOk, length};
 ghost use Rattle.style_table.specs.Range.{IsInRange};
-ghost use Rattle.token_classes.specs.Viewed.{AreWithin, classes_of};
-ghost use Rattle.token_classes.specs.Items.{TellItems};
+ghost use Rattle.item_classes.specs.Viewed.{AreWithin, classes_of};
+ghost use Rattle.item_classes.specs.Items.{TellItems};
 ghost use Rattle.line_tokens.specs.Lines.{CutPlaces};
 ghost use Rattle.line_gaps.specs.Counted.{IsCounted};
 ghost use Rattle.run_layout.specs.View.{IsViewLaid};

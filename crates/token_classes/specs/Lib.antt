@@ -1,9 +1,6 @@
 pub mod Classes
-pub mod Viewed
 pub mod Words
 pub mod Kept
 pub mod Partner
 pub mod Partners
 pub mod Inside
-pub mod Part
-pub mod Items

@@ -1,12 +1,8 @@
--- The class of a token by its spelling. docs/PROFILE.md has the words under "Statements and lines".
+-- The classes of words and of punctuators. docs/PROFILE.md has the words under "Statements and lines".
 use Rattle.std.specs.Prelude.{◌==◌, ◌&&◌, not, ℕ, nat_le, nat_eq, Bool, List, [], ◌∷◌, ◌++◌, length, get_or, codes}
 use Rattle.std.specs.Prelude.{bytes_eq, if◌then◌else◌}
 use Rattle.std.specs.Char.{is_ascii_lowercase}
 use Rattle.std.specs.List.{list_any, ends_with}
-use Rattle.c_chars.specs.declared.Dialect.{Dialect}
-use Rattle.c_grammar.specs.declared.ItemKind.{ItemKind}
-use Rattle.c_grammar.specs.Rewritten.{read_alone}
-use Rattle.token_arena.specs.Stored.{Stored}
 use Rattle.token_classes.specs.declared.class.TokenClass.{TokenClass}
 use Rattle.token_classes.specs.declared.class.TokenClass.TheVariants.{If, Else, For, While, Do, Switch, Case, Default}
 use Rattle.token_classes.specs.declared.class.TokenClass.TheVariants.{Return, Goto, Jump, Struct, Union, Enum, Extern}
@@ -17,7 +13,6 @@ use Rattle.token_classes.specs.declared.class.TokenClass.TheVariants.{CloseBrace
 use Rattle.token_classes.specs.declared.class.TokenClass.TheVariants.{Equals, OtherAssign, Arrow, Point, Ellipsis, Step}
 use Rattle.token_classes.specs.declared.class.TokenClass.TheVariants.{Not, Star, Divide, Sign, Shift, Relation}
 use Rattle.token_classes.specs.declared.class.TokenClass.TheVariants.{Equality, Ampersand, Caret, Bar, And, Or, Hash}
-use Rattle.token_classes.specs.declared.class.TokenClass.TheVariants.{Literal, Text, LineComment, BlockComment, Other}
 
 -- the class in the first row with this spelling, and the last argument where none has it
 abbrev pub class_in : List (List ℕ × TokenClass) → List ℕ → TokenClass → TokenClass
@@ -99,23 +94,3 @@ punctuators =
     ∷ (codes "!=", Equality) ∷ (codes "&", Ampersand) ∷ (codes "^", Caret) ∷ (codes "|", Bar) ∷ (codes "&&", And)
     ∷ (codes "||", Or)
     ∷ (codes "#", Hash) ∷ (codes "%:", Hash) ∷ []
-
--- the class of an item of this kind that is spelled so
-abbrev pub class_spelled : ItemKind → List ℕ → TokenClass
-class_spelled ItemKind.Identifier s = word_class s
-class_spelled ItemKind.Punct s = class_in punctuators s Other
-class_spelled ItemKind.StringLit s = Text
-class_spelled ItemKind.Number s = Literal
-class_spelled ItemKind.CharConst s = Literal
-class_spelled ItemKind.HeaderName s = Literal
-class_spelled ItemKind.LineComment s = LineComment
-class_spelled ItemKind.BlockComment s = BlockComment
-class_spelled _ s = Other
-
--- the class of an item of a text
-abbrev pub class_of : Dialect → Stored → TokenClass
-class_of d token = class_spelled token.kind (read_alone d token.raw)
-
--- a byte that begins neither a trigraph nor a splice nor a line end
-abbrev pub is_itself : ℕ → Bool
-is_itself b = not (b == 63) && (not (b == 13) && not (b == 92))

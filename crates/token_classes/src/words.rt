@@ -3,8 +3,7 @@
 ghost use Rattle.std.specs.Prelude.{◌≡◌, ◌∷◌, ◌<◌, [], nat_eq, codes, filter, get_or, map};
 ghost use Rattle.std.specs.List.{ends_with, list_any};
 ghost use Rattle.std.specs.Char.{is_ascii_lowercase};
-ghost use Rattle.token_classes.specs.Words.{class_in, begins, is_in_capitals, named_class, word_class};
-ghost use Rattle.token_classes.specs.Words.{punctuators};
+ghost use Rattle.token_classes.specs.Words.{class_in, begins, is_in_capitals, named_class, word_class, punctuators};
 ghost use Rattle.token_classes.specs.declared.class.TokenClass.TheVariants.{Other};
 
 use crate::class::TokenClass;
@@ -64,9 +63,10 @@ fn named_class(spelled: &[u8]) -> TokenClass
     }
 }
 
-/// The class of a word, which is compared with the only word of the language that it can be.
+/// The class of a word that is spelled so (C11 6.4.1, and docs/PROFILE.md, "Statements and lines"). It is compared with
+/// the only word of the language that it can be.
 #[inline(always)]
-pub(crate) fn word_class(spelled: &[u8]) -> TokenClass
+pub fn word_class(spelled: &[u8]) -> TokenClass
     ensures { result ≡ word_class spelled.now }
 {
     if spelled.is_empty() {
@@ -204,8 +204,9 @@ fn listed_mark(first: u8, spelled: &[u8], other: TokenClass) -> TokenClass
     }
 }
 
-/// The class of a punctuator, which is looked for among those with its first byte.
-pub(crate) fn punctuator_class(spelled: &[u8]) -> TokenClass
+/// The class of a punctuator that is spelled so (C11 6.4.6), a digraph too, and `Other` where it has none of its own.
+/// It is looked for among those with its first byte.
+pub fn punctuator_class(spelled: &[u8]) -> TokenClass
     ensures { result ≡ class_in punctuators spelled.now Other }
 {
     if spelled.is_empty() {
@@ -270,9 +271,9 @@ fn class_at(classes: &[TokenClass; 22], place: usize) -> TokenClass
     classes[place]
 }
 
-/// The class of a punctuator of one character.
+/// The class of a punctuator of one character (C11 6.4.6), and `Other` where it has no class of its own.
 #[inline(always)]
-pub(crate) fn mark_class(mark: u8) -> TokenClass
+pub fn mark_class(mark: u8) -> TokenClass
     ensures { result ≡ class_in punctuators (mark ∷ []) Other }
 {
     class_at(&MARK_CLASSES, place_of_mark(&CLASS_OF_MARK, mark))

@@ -6,11 +6,11 @@ use Rattle.std.proofs.lemmas.List.{append-nil, append_assoc, drop_more}
 use Rattle.token_arena.specs.Gaps.{Contents}
 use Rattle.token_classes.specs.declared.class.TokenClass.{TokenClass}
 use Rattle.token_classes.specs.Classes.{is_comment}
-use Rattle.token_classes.specs.declared.part.Part.{Part}
-use Rattle.token_classes.specs.declared.part.Part.TheVariants.{Token}
+use Rattle.item_classes.specs.declared.part.Part.{Part}
+use Rattle.item_classes.specs.declared.part.Part.TheVariants.{Token}
 use Rattle.unwrapped_lines.specs.declared.part.ViewComment.{ViewComment}
 use Rattle.unwrapped_lines.specs.Viewed.{parts_from}
-use Rattle.token_classes.specs.Part.{part_of}
+use Rattle.item_classes.specs.Part.{part_of}
 use Rattle.unwrapped_lines.specs.Inside.{parts_with, FollowFrom, comments_from, comments_of, AreCommentsBefore}
 use Rattle.unwrapped_lines.proofs.Passed.{drop_none, follow_less, token_first}
 

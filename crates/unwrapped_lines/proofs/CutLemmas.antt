@@ -7,17 +7,17 @@ use Rattle.style_table.specs.declared.style.Style.{Style}
 use Rattle.token_arena.specs.Gaps.{Contents}
 use Rattle.token_classes.specs.declared.class.TokenClass.{TokenClass}
 use Rattle.token_classes.specs.Classes.{is_comment, is_line_comment}
-use Rattle.token_classes.specs.Viewed.{item_class, classes_of}
+use Rattle.item_classes.specs.Viewed.{item_class, classes_of}
 use Rattle.statement_lines.specs.declared.line.Line.{Line}
 use Rattle.line_tokens.specs.declared.line.LineKind.TheVariants.{Comment}
 use Rattle.unwrapped_lines.specs.declared.part.Begin.{Begin}
-use Rattle.token_classes.specs.declared.part.Part.{Part}
-use Rattle.token_classes.specs.declared.part.Part.TheVariants.{Token, Own, Trailing, Inner}
+use Rattle.item_classes.specs.declared.part.Part.{Part}
+use Rattle.item_classes.specs.declared.part.Part.TheVariants.{Token, Own, Trailing, Inner}
 use Rattle.unwrapped_lines.specs.declared.part.Marks.{Marks}
 use Rattle.unwrapped_lines.specs.Comments.{Tree, new_begin, begin_of, begins_from, list_of, no_marks, next_marks}
 use Rattle.unwrapped_lines.specs.Comments.{is_between, is_own, begins_line, own_level}
 use Rattle.unwrapped_lines.specs.Viewed.{code_places_from, code_tokens, token_at, parts_from}
-use Rattle.token_classes.specs.Part.{part_of, line_ends_behind}
+use Rattle.item_classes.specs.Part.{part_of, line_ends_behind}
 use Rattle.statement_lines.specs.Stack.{IsCut}
 use Rattle.statement_lines.specs.Tree.{lines_of}
 use Rattle.statement_lines.specs.Wrapping.{braces_of}

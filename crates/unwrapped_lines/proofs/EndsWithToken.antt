@@ -9,11 +9,11 @@ use Rattle.line_tokens.specs.declared.line.LineKind.TheVariants.{Comment}
 use Rattle.statement_lines.specs.declared.line.Line.{Line}
 use Rattle.unwrapped_lines.specs.declared.part.Begin.{Begin}
 use Rattle.unwrapped_lines.specs.declared.part.Marks.{Marks}
-use Rattle.token_classes.specs.declared.part.Part.{Part}
-use Rattle.token_classes.specs.declared.part.Part.TheVariants.{Token, Own, Trailing, Inner}
+use Rattle.item_classes.specs.declared.part.Part.{Part}
+use Rattle.item_classes.specs.declared.part.Part.TheVariants.{Token, Own, Trailing, Inner}
 use Rattle.unwrapped_lines.specs.Comments.{Tree, begins_from, between_at, list_of, new_begin, next_marks, own_level}
 use Rattle.unwrapped_lines.specs.Viewed.{code_places_from, parts_from}
-use Rattle.token_classes.specs.Part.{line_ends_behind, part_of}
+use Rattle.item_classes.specs.Part.{line_ends_behind, part_of}
 
 -- how many of these are tokens
 abbrev pub tokens_in : List Part → ℕ

@@ -4,9 +4,9 @@ use Rattle.std.proofs.Common.{nat_lt, Option, None, Some, List, [], ◌∷◌, �
 use Rattle.std.proofs.Common.{refl, subst}
 use Rattle.unwrapped_lines.specs.Comments.{Tree, is_between, between_at, is_apart, is_begun, begin_of, begins_line}
 use Rattle.unwrapped_lines.specs.Comments.{new_begin, next_marks, list_of, begins_from, run_of, token_follows}
-use Rattle.token_classes.specs.declared.part.Part.{Part}
+use Rattle.item_classes.specs.declared.part.Part.{Part}
 use Rattle.unwrapped_lines.specs.declared.part.ViewComment.{ViewComment}
-use Rattle.token_classes.specs.declared.part.Part.TheVariants.{Token, Own, Trailing, Inner}
+use Rattle.item_classes.specs.declared.part.Part.TheVariants.{Token, Own, Trailing, Inner}
 use Rattle.unwrapped_lines.specs.declared.part.Run.{Run}
 use Rattle.unwrapped_lines.specs.declared.part.Run.TheVariants.{Apart}
 use Rattle.unwrapped_lines.specs.declared.part.Marks.{Marks}

@@ -7,13 +7,13 @@ use Rattle.style_table.specs.declared.style.Style.{Style}
 use Rattle.token_arena.specs.Gaps.{Contents}
 use Rattle.token_classes.specs.declared.class.TokenClass.{TokenClass}
 use Rattle.token_classes.specs.Classes.{is_comment}
-use Rattle.token_classes.specs.Viewed.{classes_of, item_class}
+use Rattle.item_classes.specs.Viewed.{classes_of, item_class}
 use Rattle.statement_lines.specs.declared.line.Line.{Line}
 use Rattle.statement_lines.specs.declared.braces.Braces.{Braces}
 use Rattle.statement_lines.specs.declared.token.CodeToken.{CodeToken}
 use Rattle.unwrapped_lines.specs.declared.part.Begin.{Begin}
-use Rattle.token_classes.specs.declared.part.Part.{Part}
-use Rattle.token_classes.specs.declared.part.Part.TheVariants.{Token}
+use Rattle.item_classes.specs.declared.part.Part.{Part}
+use Rattle.item_classes.specs.declared.part.Part.TheVariants.{Token}
 use Rattle.unwrapped_lines.specs.declared.part.Marks.{Marks}
 use Rattle.unwrapped_lines.specs.declared.part.Run.TheVariants.{Apart}
 use Rattle.unwrapped_lines.specs.Comments.{Tree, begins_from, no_marks, is_between, between_at, new_begin}

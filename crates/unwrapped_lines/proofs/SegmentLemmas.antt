@@ -5,7 +5,7 @@ use Rattle.token_arena.specs.declared.view.Segment.{Segment}
 use Rattle.token_arena.specs.Segments.{ids_of, segment_bounds, AreSegments, CountFrom, no_segment, HasPlace}
 use Rattle.token_arena.proofs.SegmentLemmas.{length_items, item_at_start}
 use Rattle.std.proofs.lemmas.List.{append-nil, append_assoc, drop_more, get_or_default}
-use Rattle.token_classes.proofs.ItemClasses.{viewed_fits}
+use Rattle.item_classes.proofs.ItemClasses.{viewed_fits}
 use Rattle.token_classes.specs.Classes.{is_comment, is_colon}
 use Rattle.token_classes.specs.declared.class.TokenClass.{TokenClass}
 use Rattle.statement_lines.specs.declared.token.CodeToken.{CodeToken}

@@ -3,8 +3,8 @@ use Rattle.std.specs.Prelude.{ℕ, ◌+◌, nat_eq, nat_le, Bool, true, false, �
 use Rattle.std.specs.Prelude.{None, slice_get}
 use Rattle.statement_lines.specs.declared.line.Line.{Line}
 use Rattle.line_tokens.specs.declared.line.LineKind.TheVariants.{Comment}
-use Rattle.token_classes.specs.declared.part.Part.{Part}
-use Rattle.token_classes.specs.declared.part.Part.TheVariants.{Token, Own, Trailing, Inner}
+use Rattle.item_classes.specs.declared.part.Part.{Part}
+use Rattle.item_classes.specs.declared.part.Part.TheVariants.{Token, Own, Trailing, Inner}
 use Rattle.unwrapped_lines.specs.declared.part.Run.{Run}
 use Rattle.unwrapped_lines.specs.declared.part.Run.TheVariants.{Apart, Begun, Joined}
 use Rattle.unwrapped_lines.specs.declared.part.Marks.{Marks}

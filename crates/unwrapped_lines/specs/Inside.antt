@@ -4,13 +4,13 @@ use Rattle.std.specs.Prelude.{Bool, ◌&&◌, [], ◌∷◌, ◌++◌, length, m
 use Rattle.token_arena.specs.declared.view.Segment.{Segment}
 use Rattle.token_arena.specs.Gaps.{Contents}
 use Rattle.token_arena.specs.Segments.{ids_of, segment_bounds, AreSegments}
-use Rattle.token_classes.specs.Viewed.{AreWithin}
+use Rattle.item_classes.specs.Viewed.{AreWithin}
 use Rattle.c_chars.specs.declared.TheConstants.{LIMIT}
 use Rattle.token_classes.specs.declared.class.TokenClass.{TokenClass}
 use Rattle.token_classes.specs.Classes.{is_comment}
 use Rattle.statement_lines.specs.declared.token.CodeToken.{CodeToken}
-use Rattle.token_classes.specs.declared.part.Part.{Part}
-use Rattle.token_classes.specs.declared.part.Part.TheVariants.{Token, Own, Trailing, Inner}
+use Rattle.item_classes.specs.declared.part.Part.{Part}
+use Rattle.item_classes.specs.declared.part.Part.TheVariants.{Token, Own, Trailing, Inner}
 use Rattle.line_tokens.specs.declared.line.LineKind.TheVariants.{Comment}
 use Rattle.statement_lines.specs.declared.line.Line.{Line}
 use Rattle.unwrapped_lines.specs.declared.part.Begin.{Begin}
@@ -24,7 +24,7 @@ use Rattle.unwrapped_lines.specs.Comments.{Tree, begins_from, no_marks, begin_of
 use Rattle.unwrapped_lines.specs.Lines.{lines_between}
 use Rattle.statement_lines.specs.Tree.{lines_of, end_level}
 use Rattle.unwrapped_lines.specs.Viewed.{numbers_of, token_at, code_places_from, code_tokens, parts_of}
-use Rattle.token_classes.specs.Part.{part_of}
+use Rattle.item_classes.specs.Part.{part_of}
 
 -- ## Tokens that are no comments
 

@@ -3,7 +3,7 @@ use Rattle.std.specs.Prelude.{ℕ, ◌-◌, Option, List, [], ◌∷◌, length}
 use Rattle.style_table.specs.declared.style.Style.{Style}
 use Rattle.token_arena.specs.Gaps.{Contents}
 use Rattle.token_classes.specs.Partners.{partners_of}
-use Rattle.token_classes.specs.Viewed.{classes_of}
+use Rattle.item_classes.specs.Viewed.{classes_of}
 use Rattle.statement_lines.specs.declared.line.Line.{Line}
 use Rattle.line_tokens.specs.declared.line.ULine.{ULine}
 use Rattle.unwrapped_lines.specs.declared.part.Begin.{Begin}

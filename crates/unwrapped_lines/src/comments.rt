@@ -11,9 +11,9 @@ ghost use Rattle.unwrapped_lines.specs.Inside.{parts_with, FollowFrom, begin_wit
 
 use crate::part::{Begin, Marks, Run, ViewComment};
 use bumpalo::Bump;
+use item_classes::Part;
 use line_tokens::{LineKind, NoMemory, ULine};
 use statement_lines::Line;
-use token_classes::Part;
 
 /// Whether a token comes after the inner comments at a place, where these comments follow.
 #[inline(never)]

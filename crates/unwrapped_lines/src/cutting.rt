@@ -2,7 +2,7 @@
 
 ghost use Rattle.std.specs.Prelude.{◌≡◌, ◌<◌, ◌≤◌, ◌^◌, List, length, map, IfOk};
 ghost use Rattle.c_chars.specs.declared.TheConstants.{LIMIT};
-ghost use Rattle.token_classes.specs.Viewed.{AreWithin, classes_of};
+ghost use Rattle.item_classes.specs.Viewed.{AreWithin, classes_of};
 ghost use Rattle.line_tokens.specs.Lines.{CutPlaces};
 ghost use Rattle.unwrapped_lines.specs.Lines.{tree_of, unwrapped_lines_of, view_line};
 ghost use Rattle.statement_lines.specs.Colons.{AreCaseColons};

@@ -1,7 +1,7 @@
 //! Places of a view: its comments, and where lines begin.
 
+use item_classes::Part;
 use line_tokens::LineKind;
-use token_classes::Part;
 
 /// A comment of a view.
 #[derive(Clone, Copy, Drop)]

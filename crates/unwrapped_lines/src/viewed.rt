@@ -2,7 +2,7 @@
 
 ghost use Rattle.std.specs.Prelude.{◌≡◌, ◌&&◌, ◌<◌, ◌≤◌, ◌+◌, length, map, get_or, slice_get, vec_capacity, IfOk, Some};
 ghost use Rattle.std.specs.Prelude.{false, if◌then◌else◌};
-ghost use Rattle.token_classes.specs.Viewed.{AreWithin};
+ghost use Rattle.item_classes.specs.Viewed.{AreWithin};
 ghost use Rattle.token_classes.specs.Classes.{is_colon, is_comment};
 ghost use Rattle.unwrapped_lines.specs.Viewed.{colon_touches, numbers_of, partner_number, code_tokens, parts_of};
 ghost use Rattle.unwrapped_lines.specs.Inside.{partner_numbers, AreTokensBefore, AreCommentsBefore, segment_stop};
@@ -13,10 +13,11 @@ ghost use Rattle.c_chars.specs.declared.TheConstants.{LIMIT};
 
 use crate::part::ViewComment;
 use bumpalo::Bump;
+use item_classes::{comment_part, item_class};
 use line_tokens::{NoMemory, TokenId};
 use statement_lines::CodeToken;
 use token_arena::{Segment, TokenArena, View};
-use token_classes::{Partner, TokenClass, comment_part, item_class};
+use token_classes::{Partner, TokenClass};
 
 /// So many tokens or more stand to a comment in most texts.
 const TOKENS_TO_A_COMMENT: usize = 16;

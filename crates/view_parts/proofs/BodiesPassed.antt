@@ -1,16 +1,20 @@
 -- Bodies in which no part ends: those that end in the row of their `{`, before the place from which a part may end anywhere.
-use Rattle.std.proofs.Common.{◌≡◌, ◌∙◌, ◌⊎◌, inl, inr, ℕ, zero, suc, ◌+◌, ◌-◌, ◌<◌, ◌≤◌, ◌==◌, Bool, true, false, not, ◌&&◌, ◌||◌, Option, Some, None, List, [], ◌∷◌, ◌++◌, length, map, refl, sym, ap, subst, arith}
+use Rattle.std.proofs.Common.{◌≡◌, ◌∙◌, ◌⊎◌, inl, inr, ℕ, zero, suc, ◌+◌, ◌-◌, ◌<◌, ◌≤◌, ◌==◌, Bool, true, false, not}
+use Rattle.std.proofs.Common.{◌&&◌, ◌||◌, Option, Some, None, List, [], ◌∷◌, ◌++◌, length, map, refl, sym, ap, subst}
+use Rattle.std.proofs.Common.{arith}
 use Rattle.std.specs.Prelude.{if◌then◌else◌}
 use Rattle.std.specs.List.{range_with_len}
 use Rattle.std.proofs.lemmas.Bool.{eqb-true, eq-eqb, le-ltb, lt-ltb, lt-leb}
 use Rattle.std.proofs.lemmas.List.{length-append}
 use Rattle.token_arena.specs.Gaps.{Contents}
 use Rattle.token_classes.specs.declared.class.TokenClass.{TokenClass}
-use Rattle.token_classes.specs.declared.class.TokenClass.TheVariants.{OpenRound, CloseRound, OpenSquare, CloseSquare, OpenBrace, CloseBrace, LineComment, BlockComment}
+use Rattle.token_classes.specs.declared.class.TokenClass.TheVariants.{OpenRound, CloseRound, OpenSquare, CloseSquare}
+use Rattle.token_classes.specs.declared.class.TokenClass.TheVariants.{OpenBrace, CloseBrace, LineComment, BlockComment}
 use Rattle.token_classes.specs.Classes.{is_bracket, is_comment}
-use Rattle.token_classes.specs.Viewed.{item_class}
+use Rattle.item_classes.specs.Viewed.{item_class}
 use Rattle.token_classes.specs.declared.pairing.Opener.{Opener}
-use Rattle.token_classes.specs.Partners.{Matching, Nearest, count_braces, is_brace, is_round, is_square, nearest_brace, topmost, closed}
+use Rattle.token_classes.specs.Partners.{Matching, Nearest, count_braces, is_brace, is_round, is_square, nearest_brace}
+use Rattle.token_classes.specs.Partners.{topmost, closed}
 use Rattle.part_walk.specs.declared.walk.Around.{Around}
 use Rattle.part_walk.specs.declared.walk.Around.TheVariants as around
 use Rattle.part_walk.specs.declared.walk.Before.TheVariants.{Body}
@@ -18,9 +22,12 @@ use Rattle.part_walk.specs.declared.walk.Declaration.{Declaration}
 use Rattle.part_walk.specs.declared.walk.Walk.{Walk}
 use Rattle.part_walk.specs.declared.bodies.Head.{Head}
 use Rattle.part_walk.specs.Reading.{Reading, EndsOutside, EndsInBody, Never, GoesOn}
-use Rattle.part_walk.specs.Walk.{reading, opened_head, opening, begun_behind, block_behind, entered, left, is_apart, is_body, end_in_body, ends_apart, ends_in_row, ends_inside_or, parts_statements, in_body, past_bracket, past_comment, past_other}
+use Rattle.part_walk.specs.Walk.{reading, opened_head, opening, begun_behind, block_behind, entered, left, is_apart}
+use Rattle.part_walk.specs.Walk.{is_body, end_in_body, ends_apart, ends_in_row, ends_inside_or, parts_statements}
+use Rattle.part_walk.specs.Walk.{in_body, past_bracket, past_comment, past_other}
 use Rattle.view_parts.specs.Parts.{Ended, next_end}
-use Rattle.part_walk.specs.Brackets.{around_of, bodies_behind, left_innermost, place_behind, waiting_behind, walk_behind, without_innermost}
+use Rattle.part_walk.specs.Brackets.{around_of, bodies_behind, left_innermost, place_behind, waiting_behind}
+use Rattle.part_walk.specs.Brackets.{walk_behind, without_innermost}
 use Rattle.view_parts.specs.Quiet.{Closes, depth_behind}
 use Rattle.part_walk.specs.Steps.{body_passed}
 use Rattle.view_parts.proofs.Waits.{AreBraces, opens_so}

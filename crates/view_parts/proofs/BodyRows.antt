@@ -1,5 +1,6 @@
 -- Bodies of a view that are passed whole.
-use Rattle.std.proofs.Common.{◌≡◌, ◌∙◌, ℕ, zero, suc, ◌+◌, ◌<◌, ◌≤◌, true, false, Option, Some, None, List, ◌∷◌, ◌++◌, length, map, take, drop, get_or, append_assoc, refl, sym, ap, subst, arith}
+use Rattle.std.proofs.Common.{◌≡◌, ◌∙◌, ℕ, zero, suc, ◌+◌, ◌<◌, ◌≤◌, true, false, Option, Some, None, List, ◌∷◌, ◌++◌}
+use Rattle.std.proofs.Common.{length, map, take, drop, get_or, append_assoc, refl, sym, ap, subst, arith}
 use Rattle.std.specs.List.{range_with_len}
 use Rattle.std.proofs.lemmas.List.{drop_more, length-drop}
 use Rattle.std.proofs.Math.Seq.{take-add}
@@ -7,9 +8,9 @@ use Rattle.token_arena.specs.Gaps.{Contents}
 use Rattle.token_classes.specs.declared.class.TokenClass.{TokenClass}
 use Rattle.token_classes.specs.declared.class.TokenClass.TheVariants.{OpenBrace}
 use Rattle.token_classes.specs.Classes.{is_open_brace}
-use Rattle.token_classes.specs.Viewed.{item_class, item_classes}
+use Rattle.item_classes.specs.Viewed.{item_class, item_classes}
 use Rattle.token_classes.specs.declared.pairing.Opener.{Opener}
-use Rattle.token_classes.proofs.ItemClasses.{row_classes}
+use Rattle.item_classes.proofs.ItemClasses.{row_classes}
 use Rattle.part_walk.specs.declared.walk.Around.{Around}
 use Rattle.part_walk.specs.declared.walk.Around.TheVariants as around
 use Rattle.part_walk.specs.declared.walk.Before.TheVariants.{Body}

@@ -1,5 +1,6 @@
 -- Groups in which only quiet tokens stand, passed whole.
-use Rattle.std.proofs.Common.{◌≡◌, ◌∙◌, ℕ, zero, suc, ◌+◌, ◌-◌, ◌<◌, ◌≤◌, ◌==◌, Bool, true, false, Option, None, List, ◌∷◌, length, drop, get_or, refl, sym, ap, subst, arith}
+use Rattle.std.proofs.Common.{◌≡◌, ◌∙◌, ℕ, zero, suc, ◌+◌, ◌-◌, ◌<◌, ◌≤◌, ◌==◌, Bool, true, false, Option, None, List}
+use Rattle.std.proofs.Common.{◌∷◌, length, drop, get_or, refl, sym, ap, subst, arith}
 use Rattle.std.specs.Prelude.{if◌then◌else◌}
 use Rattle.std.proofs.lemmas.Bool.{eqb-true}
 use Rattle.std.proofs.lemmas.Bool.Decides.{nat_tests}
@@ -7,9 +8,10 @@ use Rattle.std.proofs.lemmas.List.{length-drop}
 use Rattle.token_arena.specs.Gaps.{Contents}
 use Rattle.token_arena.specs.Ids.{Increase}
 use Rattle.token_classes.specs.declared.class.TokenClass.{TokenClass}
-use Rattle.token_classes.specs.declared.class.TokenClass.TheVariants.{OpenRound, CloseRound, OpenSquare, CloseSquare, OpenBrace}
+use Rattle.token_classes.specs.declared.class.TokenClass.TheVariants.{OpenRound, CloseRound, OpenSquare, CloseSquare}
+use Rattle.token_classes.specs.declared.class.TokenClass.TheVariants.{OpenBrace}
 use Rattle.token_classes.specs.Classes.{is_bracket, is_close_round, is_open_brace}
-use Rattle.token_classes.specs.Viewed.{item_class, item_classes}
+use Rattle.item_classes.specs.Viewed.{item_class, item_classes}
 use Rattle.token_classes.specs.declared.pairing.Opener.{Opener}
 use Rattle.part_walk.specs.declared.walk.Around.{Around}
 use Rattle.part_walk.specs.declared.walk.Around.TheVariants as around
@@ -20,7 +22,8 @@ use Rattle.part_walk.specs.Reading.{Reading, GoesOn}
 use Rattle.view_parts.specs.Quiet.{closes_group, is_quiet}
 use Rattle.part_walk.specs.Steps.{group_passed, may_end}
 use Rattle.part_walk.specs.Walk.{opened_head, past_bracket, past_other, reading}
-use Rattle.part_walk.specs.Brackets.{around_of, bodies_behind, is_left, left_innermost, waiting_behind, walk_behind, without_innermost}
+use Rattle.part_walk.specs.Brackets.{around_of, bodies_behind, is_left, left_innermost, waiting_behind, walk_behind}
+use Rattle.part_walk.specs.Brackets.{without_innermost}
 use Rattle.view_parts.proofs.PartEnds.{IsRead, read_quiet}
 use Rattle.view_parts.proofs.Quiet.{quiet_row}
 use Rattle.view_parts.proofs.Waits.{none_left}

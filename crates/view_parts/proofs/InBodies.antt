@@ -1,5 +1,7 @@
 -- The places of bodies where parts begin.
-use Rattle.std.proofs.Common.{◌≡◌, ◌∙◌, ℕ, zero, suc, ◌+◌, ◌-◌, ◌<◌, ◌≤◌, nat_le, ◌==◌, Bool, true, false, not, ◌&&◌, ◌||◌, Option, Some, None, List, [], ◌∷◌, ◌++◌, length, get_or, reverse, refl, sym, ap, subst, arith}
+use Rattle.std.proofs.Common.{◌≡◌, ◌∙◌, ℕ, zero, suc, ◌+◌, ◌-◌, ◌<◌, ◌≤◌, nat_le, ◌==◌, Bool, true, false, not, ◌&&◌}
+use Rattle.std.proofs.Common.{◌||◌, Option, Some, None, List, [], ◌∷◌, ◌++◌, length, get_or, reverse, refl, sym, ap}
+use Rattle.std.proofs.Common.{subst, arith}
 use Rattle.std.specs.Prelude.{⊤, All, if◌then◌else◌}
 use Rattle.std.specs.Option.{ForSome}
 use Rattle.std.proofs.lemmas.Bool.{eqb-true, leb-true}
@@ -10,8 +12,9 @@ use Rattle.token_arena.specs.Gaps.{Contents, item_began}
 use Rattle.token_arena.specs.Ids.{Increase, IncreaseFrom}
 use Rattle.token_classes.specs.declared.class.TokenClass.{TokenClass}
 use Rattle.token_classes.specs.declared.class.TokenClass.TheVariants.{OpenBrace, CloseBrace, LineComment, BlockComment}
-use Rattle.token_classes.specs.Classes.{is_bracket, is_close_brace, is_comment, is_else, is_open_brace, is_semicolon, is_word}
-use Rattle.token_classes.specs.Viewed.{item_class}
+use Rattle.token_classes.specs.Classes.{is_bracket, is_close_brace, is_comment, is_else, is_open_brace, is_semicolon}
+use Rattle.token_classes.specs.Classes.{is_word}
+use Rattle.item_classes.specs.Viewed.{item_class}
 use Rattle.token_classes.specs.declared.pairing.Opener.{Opener}
 use Rattle.part_walk.specs.declared.bodies.BodyKind.{BodyKind}
 use Rattle.part_walk.specs.declared.bodies.BodyKind.TheVariants as kind
@@ -24,10 +27,18 @@ use Rattle.part_walk.specs.declared.walk.LastToken.{LastToken}
 use Rattle.part_walk.specs.declared.walk.Walk.{Walk}
 use Rattle.part_walk.specs.Places.{Place}
 use Rattle.part_walk.specs.Reading.{Reading, EndsOutside, EndsInBody, Never, GoesOn}
-use Rattle.part_walk.specs.Walk.{start, reading, asked_at, begins_behind, begins_block, begins_outside, begins_statement, begun_before, body_kind, end_in_body, ends_apart, ends_in_row, ends_inside_or, ends_or, ends_statement, entered, goes_on_with, head_from, head_of_kind, heads_len, in_body, in_group, is_apart, is_leading, is_lost, kept_begun, may_part, next_begun, next_last, opened_head, or_place, outside, parts_statements, past_bracket, past_comment, past_other}
-use Rattle.view_parts.specs.Parts.{Ended, count_or, end_of_part, head_items, heads_end, inside_of, items_before, items_of_place, next_end, opened_items, part_inside, part_len, StandsBefore}
-use Rattle.part_walk.specs.Brackets.{around_of, bodies_behind, is_left, left_innermost, place_behind, waiting_at, waiting_behind, walk_behind, without_innermost}
-use Rattle.view_parts.proofs.Heads.{BodiesStand, IsHead, bodies_end, bodies_so, end_low, head_before, reversed_end, reversed_have, reversed_stand, stand_before}
+use Rattle.part_walk.specs.Walk.{start, reading, asked_at, begins_behind, begins_block, begins_outside}
+use Rattle.part_walk.specs.Walk.{begins_statement, begun_before, body_kind, end_in_body, ends_apart, ends_in_row}
+use Rattle.part_walk.specs.Walk.{ends_inside_or, ends_or, ends_statement, entered, goes_on_with, head_from}
+use Rattle.part_walk.specs.Walk.{head_of_kind, heads_len, in_body, in_group, is_apart, is_leading, is_lost, kept_begun}
+use Rattle.part_walk.specs.Walk.{may_part, next_begun, next_last, opened_head, or_place, outside, parts_statements}
+use Rattle.part_walk.specs.Walk.{past_bracket, past_comment, past_other}
+use Rattle.view_parts.specs.Parts.{Ended, count_or, end_of_part, head_items, heads_end, inside_of, items_before}
+use Rattle.view_parts.specs.Parts.{items_of_place, next_end, opened_items, part_inside, part_len, StandsBefore}
+use Rattle.part_walk.specs.Brackets.{around_of, bodies_behind, is_left, left_innermost, place_behind, waiting_at}
+use Rattle.part_walk.specs.Brackets.{waiting_behind, walk_behind, without_innermost}
+use Rattle.view_parts.proofs.Heads.{BodiesStand, IsHead, bodies_end, bodies_so, end_low, head_before, reversed_end}
+use Rattle.view_parts.proofs.Heads.{reversed_have, reversed_stand, stand_before}
 use Rattle.part_walk.proofs.Heads.{heads_len-reverse}
 use Rattle.view_parts.proofs.InOrder.{HasHeads, IsEnd, end_fits, inside_headed}
 use Rattle.view_parts.proofs.Quiet.{quiet_waits}

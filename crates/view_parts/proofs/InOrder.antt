@@ -1,12 +1,13 @@
 -- The parts cut a view whole and in order.
-use Rattle.std.proofs.Common.{◌≡◌, ℕ, zero, suc, ◌+◌, ◌-◌, ◌<◌, ◌≤◌, Bool, true, false, ◌==◌, nat_lt, Option, Some, None, List, [], ◌∷◌, append-nil, length, take, drop, refl, sym, subst, arith}
+use Rattle.std.proofs.Common.{◌≡◌, ℕ, zero, suc, ◌+◌, ◌-◌, ◌<◌, ◌≤◌, Bool, true, false, ◌==◌, nat_lt, Option, Some}
+use Rattle.std.proofs.Common.{None, List, [], ◌∷◌, append-nil, length, take, drop, refl, sym, subst, arith}
 use Rattle.std.specs.Prelude.{⊤, if◌then◌else◌}
 use Rattle.std.proofs.lemmas.Bool.{eqb-true, ltb-true, ltb-false}
 use Rattle.std.proofs.lemmas.List.{length-drop, length-reverse, length-take-le}
 use Rattle.token_arena.specs.Gaps.{Contents}
 use Rattle.token_classes.specs.declared.class.TokenClass.{TokenClass}
 use Rattle.token_classes.specs.Classes.{is_word}
-use Rattle.token_classes.specs.Viewed.{item_class}
+use Rattle.item_classes.specs.Viewed.{item_class}
 use Rattle.token_classes.specs.declared.pairing.Opener.{Opener}
 use Rattle.part_walk.specs.declared.walk.Around.{Around}
 use Rattle.part_walk.specs.declared.walk.Around.TheVariants as around
@@ -14,10 +15,14 @@ use Rattle.part_walk.specs.declared.bodies.Head.{Head}
 use Rattle.part_walk.specs.declared.walk.Walk.{Walk}
 use Rattle.part_walk.specs.Places.{Place}
 use Rattle.part_walk.specs.Reading.{Reading, EndsOutside, EndsInBody, Never, GoesOn}
-use Rattle.part_walk.specs.Walk.{start, reading, opened_head, outside, asked_at, ends_or, is_end, is_lost, ends_statement}
-use Rattle.view_parts.specs.Parts.{Ended, PartStop, count_or, end_of_part, inside_of, next_end, part_inside, part_len, ends_from, part_ends, stop_from, EndsBehind}
-use Rattle.part_walk.specs.Brackets.{around_of, bodies_at, bodies_behind, braces_of, waiting_at, waiting_behind, walk_behind}
-use Rattle.view_parts.proofs.Walked.{IsAsked, Fits, behind_asked, behind_place, bodies_past, by_reading, fits, walk_past}
+use Rattle.part_walk.specs.Walk.{start, reading, opened_head, outside, asked_at, ends_or, is_end, is_lost}
+use Rattle.part_walk.specs.Walk.{ends_statement}
+use Rattle.view_parts.specs.Parts.{Ended, PartStop, count_or, end_of_part, inside_of, next_end, part_inside, part_len}
+use Rattle.view_parts.specs.Parts.{ends_from, part_ends, stop_from, EndsBehind}
+use Rattle.part_walk.specs.Brackets.{around_of, bodies_at, bodies_behind, braces_of, waiting_at, waiting_behind}
+use Rattle.part_walk.specs.Brackets.{walk_behind}
+use Rattle.view_parts.proofs.Walked.{IsAsked, Fits, behind_asked, behind_place, bodies_past, by_reading, fits}
+use Rattle.view_parts.proofs.Walked.{walk_past}
 
 -- these are the ends of parts that cut the places from one to before another whole and in order
 abbrev pub AreEnds : ℕ → ℕ → List PartStop → Type 0

@@ -1,13 +1,16 @@
 -- Tokens in a row that tell nothing.
-use Rattle.std.proofs.Common.{◌≡◌, ◌∙◌, ℕ, zero, suc, ◌+◌, ◌-◌, ◌<◌, ◌≤◌, Bool, true, false, ◌==◌, nat_le, not, ◌&&◌, ◌||◌, Option, Some, None, List, [], length, get_or, refl, sym, ap, subst, arith}
+use Rattle.std.proofs.Common.{◌≡◌, ◌∙◌, ℕ, zero, suc, ◌+◌, ◌-◌, ◌<◌, ◌≤◌, Bool, true, false, ◌==◌, nat_le, not, ◌&&◌}
+use Rattle.std.proofs.Common.{◌||◌, Option, Some, None, List, [], length, get_or, refl, sym, ap, subst, arith}
 use Rattle.std.specs.Prelude.{if◌then◌else◌}
 use Rattle.std.proofs.lemmas.Bool.Decides.{nat_tests}
 use Rattle.std.proofs.Math.Bool.{and-true}
 use Rattle.token_arena.specs.Gaps.{Contents}
 use Rattle.token_classes.specs.declared.class.TokenClass.{TokenClass}
-use Rattle.token_classes.specs.declared.class.TokenClass.TheVariants.{OpenRound, CloseRound, OpenSquare, CloseSquare, OpenBrace, CloseBrace, Else}
-use Rattle.token_classes.specs.Classes.{is_bracket, is_call_word, is_comment, is_control, is_else, is_open_brace, is_open_round, is_semicolon, is_word}
-use Rattle.token_classes.specs.Viewed.{item_class}
+use Rattle.token_classes.specs.declared.class.TokenClass.TheVariants.{OpenRound, CloseRound, OpenSquare, CloseSquare}
+use Rattle.token_classes.specs.declared.class.TokenClass.TheVariants.{OpenBrace, CloseBrace, Else}
+use Rattle.token_classes.specs.Classes.{is_bracket, is_call_word, is_comment, is_control, is_else, is_open_brace}
+use Rattle.token_classes.specs.Classes.{is_open_round, is_semicolon, is_word}
+use Rattle.item_classes.specs.Viewed.{item_class}
 use Rattle.token_classes.specs.declared.pairing.Opener.{Opener}
 use Rattle.token_classes.specs.Partners.{Matching}
 use Rattle.token_classes.proofs.BracketLemmas.{other_step}
@@ -23,8 +26,13 @@ use Rattle.part_walk.specs.Places.{Place}
 use Rattle.part_walk.specs.Reading.{Reading, GoesOn}
 use Rattle.view_parts.specs.Quiet.{is_group, is_held, is_quiet, is_telling}
 use Rattle.part_walk.specs.Steps.{may_end, passed, tells_end}
-use Rattle.part_walk.specs.Walk.{begins_behind, begins_block, begun_before, body_kind, end_in_body, ends_apart, ends_in_row, ends_inside_or, goes_on_with, head_of_kind, headed_by, heads_len, heads_structure, in_body, in_group, is_apart, is_body, is_label, is_leading, is_record, kept_begun, next_begun, next_last, opened_head, parts_statements, past_bracket, past_comment, reading}
-use Rattle.part_walk.specs.Brackets.{around_of, bodies_behind, is_left, left_innermost, waiting_behind, walk_behind, without_innermost}
+use Rattle.part_walk.specs.Walk.{begins_behind, begins_block, begun_before, body_kind, end_in_body, ends_apart}
+use Rattle.part_walk.specs.Walk.{ends_in_row, ends_inside_or, goes_on_with, head_of_kind, headed_by, heads_len}
+use Rattle.part_walk.specs.Walk.{heads_structure, in_body, in_group, is_apart, is_body, is_label, is_leading, is_record}
+use Rattle.part_walk.specs.Walk.{kept_begun, next_begun, next_last, opened_head, parts_statements, past_bracket}
+use Rattle.part_walk.specs.Walk.{past_comment, reading}
+use Rattle.part_walk.specs.Brackets.{around_of, bodies_behind, is_left, left_innermost, waiting_behind, walk_behind}
+use Rattle.part_walk.specs.Brackets.{without_innermost}
 use Rattle.view_parts.proofs.Walked.{Passes, goes_on}
 
 differ : true ≡ false → ⊥

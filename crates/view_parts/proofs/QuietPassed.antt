@@ -1,5 +1,6 @@
 -- Quiet tokens in a row, passed at once.
-use Rattle.std.proofs.Common.{◌≡◌, ◌∙◌, ℕ, zero, suc, ◌+◌, ◌-◌, ◌<◌, ◌≤◌, Bool, true, false, List, length, drop, get_or, refl, sym, ap, subst, arith}
+use Rattle.std.proofs.Common.{◌≡◌, ◌∙◌, ℕ, zero, suc, ◌+◌, ◌-◌, ◌<◌, ◌≤◌, Bool, true, false, List, length, drop, get_or}
+use Rattle.std.proofs.Common.{refl, sym, ap, subst, arith}
 use Rattle.std.proofs.lemmas.List.{get_or_default, length-drop}
 use Rattle.std.specs.Prelude.{Option}
 use Rattle.token_arena.specs.Gaps.{Contents}
@@ -7,7 +8,7 @@ use Rattle.token_arena.specs.Ids.{Increase}
 use Rattle.token_classes.specs.declared.class.TokenClass.{TokenClass}
 use Rattle.token_classes.specs.declared.class.TokenClass.TheVariants.{If}
 use Rattle.token_classes.specs.declared.pairing.Opener.{Opener}
-use Rattle.token_classes.specs.Viewed.{AreWithin, item_class, item_classes}
+use Rattle.item_classes.specs.Viewed.{AreWithin, item_class, item_classes}
 use Rattle.part_walk.specs.declared.bodies.Head.{Head}
 use Rattle.view_parts.specs.declared.row.Row.{Row}
 use Rattle.part_walk.specs.declared.walk.Around.{Around}

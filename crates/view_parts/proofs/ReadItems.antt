@@ -1,5 +1,6 @@
 -- What is known at an item that the code reads, and where a part ends that it tells.
-use Rattle.std.proofs.Common.{◌≡◌, ◌∙◌, ℕ, ◌+◌, ◌-◌, ◌<◌, ◌≤◌, true, false, Option, Some, None, List, length, drop, get_or, refl, sym, ap, subst, arith}
+use Rattle.std.proofs.Common.{◌≡◌, ◌∙◌, ℕ, ◌+◌, ◌-◌, ◌<◌, ◌≤◌, true, false, Option, Some, None, List, length, drop}
+use Rattle.std.proofs.Common.{get_or, refl, sym, ap, subst, arith}
 use Rattle.std.specs.Prelude.{◌^◌, slice_range}
 use Rattle.std.specs.Option.{ForNone, ForSome}
 use Rattle.std.proofs.lemmas.List.{get_or-drop}
@@ -7,7 +8,7 @@ use Rattle.token_arena.specs.Gaps.{Contents}
 use Rattle.token_arena.specs.Ids.{Increase}
 use Rattle.token_classes.specs.declared.class.TokenClass.{TokenClass}
 use Rattle.token_classes.specs.declared.pairing.Opener.{Opener}
-use Rattle.token_classes.specs.Viewed.{AreWithin, item_classes}
+use Rattle.item_classes.specs.Viewed.{AreWithin, item_classes}
 use Rattle.part_walk.specs.declared.bodies.Head.{Head}
 use Rattle.view_parts.specs.declared.row.Row.{Row}
 use Rattle.part_walk.specs.declared.walk.Around.{Around}

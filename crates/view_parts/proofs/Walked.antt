@@ -1,5 +1,7 @@
 -- The items of a part, one after another.
-use Rattle.std.proofs.Common.{◌≡◌, ◌∙◌, ℕ, ◌+◌, ◌-◌, ◌<◌, ◌≤◌, Bool, true, false, ◌==◌, nat_le, not, ◌&&◌, ◌||◌, Option, Some, None, List, [], ◌∷◌, ◌++◌, length, take, drop, get_or, append_assoc, refl, sym, ap, subst, arith}
+use Rattle.std.proofs.Common.{◌≡◌, ◌∙◌, ℕ, ◌+◌, ◌-◌, ◌<◌, ◌≤◌, Bool, true, false, ◌==◌, nat_le, not, ◌&&◌, ◌||◌, Option}
+use Rattle.std.proofs.Common.{Some, None, List, [], ◌∷◌, ◌++◌, length, take, drop, get_or, append_assoc, refl, sym, ap}
+use Rattle.std.proofs.Common.{subst, arith}
 use Rattle.std.specs.Prelude.{⊤, if◌then◌else◌, slice_range}
 use Rattle.std.proofs.lemmas.Bool.Decides.{nat_tests}
 use Rattle.std.proofs.lemmas.List.{take_more, take-append-drop, get_or-drop, length-drop}
@@ -7,8 +9,8 @@ use Rattle.std.proofs.Math.ListN.{drop_of_length-le}
 use Rattle.token_arena.specs.Gaps.{Contents, item_began}
 use Rattle.token_classes.specs.declared.class.TokenClass.{TokenClass}
 use Rattle.token_classes.specs.Classes.{is_comment, is_word, is_bracket}
-use Rattle.token_classes.specs.Viewed.{AreWithin, item_class, item_classes}
-use Rattle.token_classes.proofs.ItemClasses.{class_at}
+use Rattle.item_classes.specs.Viewed.{AreWithin, item_class, item_classes}
+use Rattle.item_classes.proofs.ItemClasses.{class_at}
 use Rattle.token_classes.specs.declared.pairing.Opener.{Opener}
 use Rattle.part_walk.specs.declared.walk.Around.{Around}
 use Rattle.part_walk.specs.declared.walk.Around.TheVariants as around
@@ -16,9 +18,13 @@ use Rattle.part_walk.specs.declared.bodies.Head.{Head}
 use Rattle.part_walk.specs.declared.walk.Walk.{Walk}
 use Rattle.part_walk.specs.Places.{Place}
 use Rattle.part_walk.specs.Reading.{Reading, EndsOutside, EndsInBody, Never, GoesOn}
-use Rattle.part_walk.specs.Walk.{start, reading, opened_head, is_end, is_lost, is_apart, asked_behind, asked_at, asked_in_body, end_in_body, ends_apart, ends_in_row, ends_or, ends_inside_or, ends_statement, or_place, parts_statements, in_body, in_group, outside, past_bracket, past_comment, past_other}
+use Rattle.part_walk.specs.Walk.{start, reading, opened_head, is_end, is_lost, is_apart, asked_behind, asked_at}
+use Rattle.part_walk.specs.Walk.{asked_in_body, end_in_body, ends_apart, ends_in_row, ends_or, ends_inside_or}
+use Rattle.part_walk.specs.Walk.{ends_statement, or_place, parts_statements, in_body, in_group, outside, past_bracket}
+use Rattle.part_walk.specs.Walk.{past_comment, past_other}
 use Rattle.view_parts.specs.Parts.{Ended, count_or, end_of_part, inside_of, next_end, part_inside, part_len, EndsBehind}
-use Rattle.part_walk.specs.Brackets.{around_of, bodies_at, bodies_behind, is_left, left_innermost, place_behind, waiting_at, waiting_behind, walk_behind}
+use Rattle.part_walk.specs.Brackets.{around_of, bodies_at, bodies_behind, is_left, left_innermost, place_behind}
+use Rattle.part_walk.specs.Brackets.{waiting_at, waiting_behind, walk_behind}
 
 -- behind so many items, outside brackets
 abbrev pub outside_at : ℕ → Ended

@@ -6,7 +6,7 @@ ghost use Rattle.std.specs.Option.{ForNone, ForSome};
 ghost use Rattle.token_arena.specs.Ids.{Increase};
 ghost use Rattle.token_classes.specs.declared.class.TokenClass.{TokenClass};
 ghost use Rattle.token_classes.specs.Classes.{is_close_brace, is_open_brace};
-ghost use Rattle.token_classes.specs.Viewed.{AreWithin, item_classes};
+ghost use Rattle.item_classes.specs.Viewed.{AreWithin, item_classes};
 ghost use Rattle.part_walk.specs.declared.walk.Around.TheVariants.{Body, Group};
 ghost use Rattle.view_parts.specs.Parts.{part_inside, part_len, EndsBehind, StandsBefore};
 ghost use Rattle.part_walk.specs.Places.{place_in};

@@ -5,7 +5,7 @@ ghost use Rattle.std.specs.List.{Contains};
 ghost use Rattle.c_chars.specs.declared.TheConstants.{LIMIT};
 ghost use Rattle.style_table.specs.Range.{IsInRange};
 ghost use Rattle.token_arena.specs.Sections.{sections_of};
-ghost use Rattle.token_classes.specs.Viewed.{item_classes};
+ghost use Rattle.item_classes.specs.Viewed.{item_classes};
 ghost use Rattle.token_arena.specs.declared.directives.Section.{Section};
 ghost use Rattle.token_arena.specs.declared.directives.Section.TheVariants.{Dir};
 ghost use Rattle.replacements.specs.Decisions.{decided_all};

@@ -3,7 +3,7 @@
 ghost use Rattle.std.specs.Prelude.{◌≡◌, ◌<◌, ◌≤◌, length, IfOk};
 ghost use Rattle.std.specs.List.{Contains};
 ghost use Rattle.token_arena.specs.Sections.{sections_of};
-ghost use Rattle.token_classes.specs.Viewed.{item_classes};
+ghost use Rattle.item_classes.specs.Viewed.{item_classes};
 ghost use Rattle.token_arena.specs.declared.directives.Section.TheVariants.{Dir};
 ghost use Rattle.early_gaps.specs.Roles.{one_line, roles_between, is_free, operand_roles};
 
@@ -11,10 +11,11 @@ use annotator::roles_of_classes;
 use bumpalo::Bump;
 use bumpalo::collections::into_bump_slice;
 use directive_layout::{Staying, operand_first, staying_in};
+use item_classes::classes_among;
 use line_tokens::{LineKind, LineTok, NoMemory, ULine};
 use style_table::Style;
 use token_arena::{Directive, TokenArena, View};
-use token_classes::{TokenClass, bracket_facts, classes_among};
+use token_classes::{TokenClass, bracket_facts};
 
 /// One line of so many items, as of a statement.
 fn one_line(count: u32) -> ULine

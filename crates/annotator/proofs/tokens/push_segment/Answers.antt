@@ -1,7 +1,7 @@
 use Rattle.std.proofs.Common.{◌≡◌, ◌∙◌, ◌+◌, ◌-◌, ◌<◌, ℕ, length, get_or, ap, sym, subst, refl, arith}
 use Rattle.touching.specs.declared.edge.Edge.{Edge}
 use Rattle.annotator.specs.Inside.{TellsTouch}
-use Rattle.token_classes.specs.Items.{stands_apart}
+use Rattle.item_classes.specs.Items.{stands_apart}
 use Rattle.annotator.proofs.Items.{edges_touch}
 use Rattle.annotator.proofs.Segmented.{apart_first, follows, pushed_on, counted_on, told_on}
 use Rattle.annotator.proofs.tokens.push_segment.Goals as goal

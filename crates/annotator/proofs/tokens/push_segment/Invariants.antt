@@ -3,7 +3,7 @@ use Rattle.std.specs.Prelude.{vec_capacity}
 use Rattle.annotator.specs.Held.{TellsHeld}
 use Rattle.annotator.specs.Tokens.{toks_from}
 use Rattle.annotator.specs.Inside.{edge_at, TellsTouch}
-use Rattle.token_classes.specs.Items.{stands_apart}
+use Rattle.item_classes.specs.Items.{stands_apart}
 use Rattle.annotator.proofs.tokens.push_segment.Given as goal
 
 abbrev pub invariant-loop-id : goal.invariant-loop-id

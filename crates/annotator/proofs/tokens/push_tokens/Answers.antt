@@ -2,7 +2,7 @@ use Rattle.std.proofs.Common.{◌≡◌, ◌∙◌, ◌+◌, ◌-◌, ◌<◌, �
 use Rattle.token_arena.specs.declared.view.Segment.{Segment}
 use Rattle.token_arena.specs.Segments.{no_segment}
 use Rattle.token_arena.proofs.SegmentLemmas.{well}
-use Rattle.token_classes.proofs.ItemClasses.{viewed_fits}
+use Rattle.item_classes.proofs.ItemClasses.{viewed_fits}
 use Rattle.annotator.proofs.Segmented.{AreMade, next_made, in_segment}
 use Rattle.annotator.proofs.tokens.push_tokens.Goals as goal
 

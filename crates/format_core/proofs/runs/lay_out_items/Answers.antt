@@ -1,6 +1,6 @@
 use Rattle.std.proofs.Common.{◌∙◌, ◌-◌, ◌≤◌, Bool, List, length, ap, arith}
 use Rattle.std.proofs.lemmas.Result.{on_ok_weaker}
-use Rattle.token_classes.proofs.Lists.{few_below}
+use Rattle.item_classes.proofs.Lists.{few_below}
 use Rattle.replacements.specs.Decisions.{decided_all}
 use Rattle.format_core.specs.KeptGaps.{kept_decisions}
 use Rattle.format_core.proofs.RunsTold.{items_from}

@@ -2,7 +2,7 @@ use Rattle.std.proofs.Common.{◌≡◌, ◌∙◌, ◌+◌, ◌-◌, ◌<◌, �
 use Rattle.std.specs.Prelude.{All, IfSome, IsSome}
 use Rattle.std.specs.Option.{ForNone, ForSome}
 use Rattle.branch_runs.specs.Anew.{items_between}
-use Rattle.token_classes.proofs.Lists.{few_below}
+use Rattle.item_classes.proofs.Lists.{few_below}
 use Rattle.view_parts.specs.declared.known.PartsEnd.{PartsEnd}
 use Rattle.part_walk.specs.declared.bodies.BodyPlace.{BodyPlace}
 use Rattle.part_walk.specs.Places.{place_in}

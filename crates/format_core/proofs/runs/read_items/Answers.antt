@@ -2,7 +2,7 @@ use Rattle.std.proofs.Common.{◌≡◌, ◌∙◌, List, Option, ℕ, length, a
 use Rattle.std.proofs.lemmas.List.{length-map}
 use Rattle.token_classes.specs.Kept.{kept_gaps_of}
 use Rattle.token_classes.specs.Partners.{partners_of}
-use Rattle.token_classes.specs.Viewed.{classes_of, item_class}
+use Rattle.item_classes.specs.Viewed.{classes_of, item_class}
 use Rattle.token_classes.specs.declared.class.TokenClass.{TokenClass}
 use Rattle.unwrapped_lines.specs.Lines.{unwrapped_lines_of}
 use Rattle.line_tokens.specs.declared.line.ULine.{ULine}

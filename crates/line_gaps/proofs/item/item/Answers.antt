@@ -2,7 +2,7 @@ use Rattle.std.proofs.Common.{sym, arith}
 use Rattle.std.proofs.lemmas.Option.{get_or_from_slice_get}
 use Rattle.c_chars.specs.Characters.{mark_len}
 use Rattle.token_arena.specs.Entries.{told_by}
-use Rattle.token_classes.specs.Items.{no_item}
+use Rattle.item_classes.specs.Items.{no_item}
 use Rattle.line_gaps.proofs.Items.{no_longer}
 use Rattle.line_gaps.proofs.item.item.Goals as goal
 

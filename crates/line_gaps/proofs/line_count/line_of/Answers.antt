@@ -1,7 +1,7 @@
 use Rattle.std.proofs.Common.{◌≡◌, ◌∙◌, ◌≤◌, ℕ, List, count_by, length, take, sym, ap, subst, arith}
 use Rattle.token_arena.specs.Stored.{Stored, is_line_feed}
 use Rattle.c_chars.specs.Characters.{mark_len}
-use Rattle.token_classes.specs.Items.{item_at}
+use Rattle.item_classes.specs.Items.{item_at}
 use Rattle.line_gaps.proofs.Counting.{line_is, start_within}
 use Rattle.line_gaps.proofs.line_count.line_of.Goals as goal
 

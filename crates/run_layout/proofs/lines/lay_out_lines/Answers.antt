@@ -1,8 +1,9 @@
 use Rattle.std.proofs.Common.{◌∙◌, ap, arith}
 use Rattle.std.proofs.Math.ListN.{drop_of_length-le}
-use Rattle.token_classes.specs.Items.{item_at}
+use Rattle.item_classes.specs.Items.{item_at}
 use Rattle.run_layout.proofs.Telling.{stand_for_items}
-use Rattle.run_layout.proofs.RunSteps.{line_done, lines_end, ahead_more, next_needs, first_within, first_among, first_there, first_told}
+use Rattle.run_layout.proofs.RunSteps.{line_done, lines_end, ahead_more, next_needs, first_within, first_among}
+use Rattle.run_layout.proofs.RunSteps.{first_there, first_told}
 use Rattle.run_layout.proofs.lines.lay_out_lines.Goals as goal
 
 pub lay_out_line-requires-clause-places : goal.lay_out_line-requires-clause-places

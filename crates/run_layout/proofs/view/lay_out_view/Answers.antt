@@ -1,7 +1,7 @@
 use Rattle.std.proofs.Common.{length, subst, sym, arith}
 use Rattle.std.proofs.lemmas.List.{length-map}
 use Rattle.line_tokens.specs.Lines.{CutPlaces}
-use Rattle.token_classes.proofs.Told.{told_within}
+use Rattle.item_classes.proofs.Told.{told_within}
 use Rattle.run_layout.proofs.RunSteps.{cut_count}
 use Rattle.run_layout.proofs.Telling.{stand_for_items}
 use Rattle.run_layout.proofs.Views.{view_laid}

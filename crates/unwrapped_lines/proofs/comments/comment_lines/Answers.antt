@@ -1,5 +1,5 @@
 use Rattle.std.proofs.Common.{◌∙◌, ◌+◌, ◌-◌, List, ap, arith, sym}
-use Rattle.token_classes.specs.declared.part.Part.{Part}
+use Rattle.item_classes.specs.declared.part.Part.{Part}
 use Rattle.unwrapped_lines.specs.Comments.{Tree, begins_from}
 use Rattle.unwrapped_lines.specs.declared.part.Begin.{Begin}
 use Rattle.unwrapped_lines.specs.Inside.{parts_with}

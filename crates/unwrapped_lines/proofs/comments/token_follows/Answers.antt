@@ -1,7 +1,7 @@
 use Rattle.std.proofs.Common.{◌∙◌, ◌+◌, ◌-◌, List, get_or, drop, ap, sym}
 use Rattle.std.proofs.lemmas.List.{drop_more}
 use Rattle.unwrapped_lines.specs.Comments.{token_follows}
-use Rattle.token_classes.specs.declared.part.Part.TheVariants.{Token}
+use Rattle.item_classes.specs.declared.part.Part.TheVariants.{Token}
 use Rattle.unwrapped_lines.specs.declared.part.ViewComment.{ViewComment}
 use Rattle.unwrapped_lines.specs.Inside.{parts_with}
 use Rattle.unwrapped_lines.proofs.Passed.{drop_none, follows_behind, follows_none}

@@ -1,6 +1,6 @@
 use Rattle.std.proofs.Common.{◌≡◌, ◌≤◌, ◌-◌, ◌∙◌, length, arith}
 use Rattle.std.proofs.lemmas.Result.{IfOk-weaker}
-use Rattle.token_classes.proofs.Lists.{few_below}
+use Rattle.item_classes.proofs.Lists.{few_below}
 use Rattle.unwrapped_lines.specs.Inside.{lines_with}
 use Rattle.unwrapped_lines.specs.Lines.{tree_of, unwrapped_lines_of}
 use Rattle.statement_lines.specs.Stack.{IsCut}

@@ -5,9 +5,9 @@ use Rattle.token_arena.specs.Segments.{ids_of, segment_bounds, no_segment}
 use Rattle.token_classes.specs.Classes.{is_comment}
 use Rattle.token_classes.specs.declared.class.TokenClass.TheVariants.{If}
 use Rattle.unwrapped_lines.specs.Viewed.{token_at}
-use Rattle.token_classes.specs.Part.{part_of}
+use Rattle.item_classes.specs.Part.{part_of}
 use Rattle.statement_lines.specs.declared.token.CodeToken.{CodeToken}
-use Rattle.token_classes.specs.declared.part.Part.{Part}
+use Rattle.item_classes.specs.declared.part.Part.{Part}
 use Rattle.unwrapped_lines.specs.declared.part.ViewComment.{ViewComment}
 use Rattle.unwrapped_lines.specs.Inside.{AreTokensBefore, AreCommentsBefore}
 use Rattle.unwrapped_lines.proofs.CommentParts.{comment_noted, token_noted}

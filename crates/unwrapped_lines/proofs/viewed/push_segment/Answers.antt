@@ -5,7 +5,7 @@ use Rattle.token_arena.specs.Gaps.{item_began}
 use Rattle.token_arena.specs.Segments.{ids_of, segment_bounds, no_segment}
 use Rattle.token_classes.specs.Classes.{is_colon, is_comment}
 use Rattle.token_classes.specs.declared.class.TokenClass.TheVariants.{If}
-use Rattle.token_classes.proofs.ItemClasses.{viewed_fits}
+use Rattle.item_classes.proofs.ItemClasses.{viewed_fits}
 use Rattle.unwrapped_lines.specs.Viewed.{colon_touches, numbers_of, partner_number, token_at}
 use Rattle.statement_lines.specs.declared.token.CodeToken.{CodeToken}
 use Rattle.unwrapped_lines.specs.Inside.{AreTokensBefore, AreCommentsBefore, segment_stop}

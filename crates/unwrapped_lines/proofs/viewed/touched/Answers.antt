@@ -2,7 +2,7 @@ use Rattle.std.proofs.Common.{◌≡◌, ◌∙◌, ◌+◌, ◌&&◌, Bool, tru
 use Rattle.std.proofs.lemmas.Bool.{and_right}
 use Rattle.std.proofs.lemmas.Option.{slice_get_past}
 use Rattle.token_classes.specs.Classes.{is_colon}
-use Rattle.token_classes.specs.Viewed.{item_class}
+use Rattle.item_classes.specs.Viewed.{item_class}
 use Rattle.unwrapped_lines.specs.Viewed.{colon_touches, empty_of_item}
 use Rattle.unwrapped_lines.proofs.viewed.touched.Goals as goal
 

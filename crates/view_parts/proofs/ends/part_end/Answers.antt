@@ -1,4 +1,5 @@
-use Rattle.std.proofs.Common.{◌≡◌, ◌∙◌, ◌+◌, ◌<◌, ℕ, List, false, Some, None, length, drop, reverse, get_or, sym, ap, subst, arith, refl, take, Option, Bool}
+use Rattle.std.proofs.Common.{◌≡◌, ◌∙◌, ◌+◌, ◌<◌, ℕ, List, false, Some, None, length, drop, reverse, get_or, sym, ap}
+use Rattle.std.proofs.Common.{subst, arith, refl, take, Option, Bool}
 use Rattle.std.specs.Prelude.{◌&&◌, All, not}
 use Rattle.std.proofs.lemmas.Bool.{and_parts, not-true}
 use Rattle.std.proofs.Math.Bool.{and-true}
@@ -9,7 +10,7 @@ use Rattle.token_classes.specs.declared.class.TokenClass.TheVariants.{If, OpenBr
 use Rattle.token_classes.specs.Classes.{is_open_brace}
 use Rattle.token_classes.specs.declared.pairing.Opener.{Opener}
 use Rattle.token_classes.specs.Partners.{StandBefore}
-use Rattle.token_classes.specs.Words.{class_of}
+use Rattle.item_classes.specs.Viewed.{class_of}
 use Rattle.part_walk.specs.declared.bodies.Head.{Head}
 use Rattle.part_walk.specs.declared.walk.Around.{Around}
 use Rattle.part_walk.specs.declared.walk.Around.TheVariants as around
@@ -28,11 +29,14 @@ use Rattle.view_parts.proofs.GroupsPassed.{read_group}
 use Rattle.part_walk.proofs.Heads.{heads_len-reverse}
 use Rattle.view_parts.proofs.Heads.{opened_brace, opened_none}
 use Rattle.view_parts.proofs.PartEnds.{ends_nowhere, read_first, read_flat, read_on}
-use Rattle.view_parts.proofs.ReadItems.{at_item, ends_at, ends_item, ends_with_view, fewer_left, fits_text, group_quiet, item_row, later_place, one_fewer, read_quiet_row, reads_item, row_behind_item, small_at, stands_here, told_fits, within_kept}
+use Rattle.view_parts.proofs.ReadItems.{at_item, ends_at, ends_item, ends_with_view, fewer_left, fits_text, group_quiet}
+use Rattle.view_parts.proofs.ReadItems.{item_row, later_place, one_fewer, read_quiet_row, reads_item, row_behind_item}
+use Rattle.view_parts.proofs.ReadItems.{small_at, stands_here, told_fits, within_kept}
 use Rattle.view_parts.proofs.Rows.{row_later, row_stored}
 use Rattle.view_parts.proofs.Waits.{braces_turned}
 use Rattle.view_parts.proofs.Walked.{all_read, behind_place, inside_at, never_ends, next_place, outside_at, told_by}
-use Rattle.view_parts.proofs.ends.part_end.Goals.{else-loop-walk-test, then-loop-walk-test+in-Some+else-prove+else-passes_brace+in-Never}
+use Rattle.view_parts.proofs.ends.part_end.Goals.{else-loop-walk-test}
+use Rattle.view_parts.proofs.ends.part_end.Goals.{then-loop-walk-test+in-Some+else-prove+else-passes_brace+in-Never}
 use Rattle.view_parts.proofs.ends.part_end.Goals as goal
 
 -- behind a token that goes on and isn't passed as a `{` no `{` stands

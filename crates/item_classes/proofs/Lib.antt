@@ -1,0 +1,4 @@
+pub mod Lists
+pub mod Spellings
+pub mod ItemClasses
+pub mod Told
