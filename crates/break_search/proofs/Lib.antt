@@ -1,10 +1,8 @@
 mod Forks
 mod Orders
 mod Nodes
-mod NodeChains
 mod Jumping
 mod Striding
-mod Grouping
 mod WayBack
 mod Relaxing
 mod LineFacts
@@ -12,20 +10,10 @@ mod AfterRelaxing
 mod Following
 mod Reaching
 mod Choosing
-mod LineSteps
 mod Settling
 mod Endings
 mod TurnFacts
 mod Beginning
 mod Answering
 mod Thrifty
-mod Narrow
-mod AheadSums
-mod AheadSteps
-mod AheadBound
-mod AheadTable
 mod Passing
-pub mod Walking
-pub mod LeastBreaks
-mod Ruling
-mod Reaches

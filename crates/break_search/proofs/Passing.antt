@@ -8,16 +8,16 @@ use Rattle.line_state.proofs.Moves.{AllOf, drop}
 use Rattle.line_state.specs.Layout.{Layout}
 use Rattle.line_state.specs.Line.{Line, gaps, first_layout, Step}
 use Rattle.line_state.proofs.Steps.{functional}
-use Rattle.break_search.specs.Ahead.{least_ahead}
+use Rattle.searched_line.specs.Ahead.{least_ahead}
 use Rattle.search_frontier.specs.Frontier.{Entry}
 use Rattle.break_search.specs.Passing.{StandsAhead, IsAhead, IsBetter, Passes}
 use Rattle.break_search.specs.Progress.{KeepsSettled, IsRunning, IsSettled}
-use Rattle.break_search.specs.Saturation.{IsNarrow}
+use Rattle.searched_line.specs.Saturation.{IsNarrow}
 use Rattle.break_search.specs.Vertices.{HaveLevels, AreLevel, IsCostOf, rank_at}
 use Rattle.break_search.proofs.Endings.{inner_runs}
 use Rattle.break_search.proofs.Forks.{rank_at_is}
 use Rattle.break_search.proofs.LineFacts.{have_levels}
-use Rattle.break_search.proofs.Narrow.{dominates_ahead}
+use Rattle.searched_line.proofs.Narrow.{dominates_ahead}
 
 none_less : (vertices : List (Vertex Layout)) (u : ℕ) → u < length vertices → slice_get vertices u ≡ None → ⊥
 none_less [] u less e = omega (arith, less)

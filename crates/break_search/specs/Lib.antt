@@ -1,12 +1,7 @@
 pub mod Outcome
-pub mod Ahead
-pub mod Starts
-pub mod Groups
 pub mod Vertices
 pub mod Ways
 pub mod Jumps
 pub mod Progress
 pub mod Thrift
-pub mod Rules
-pub mod Saturation
 pub mod Passing

@@ -1,14 +1,14 @@
 //! Layouts that need not be followed: what follows others is at least as good.
 
-ghost use Rattle.std.specs.Prelude.{◌≡◌, ◌≢◌, ℕ, ◌<◌, length};
+ghost use Rattle.std.specs.Prelude.{◌≡◌, ℕ, ◌<◌, length};
 ghost use Rattle.std.specs.Bool.{OnTrue};
 ghost use Rattle.line_state.proofs.Table.{HaveParents};
 ghost use Rattle.break_search.specs.Passing.{Passes};
 ghost use Rattle.break_search.specs.Vertices.{HavePaths, HaveLevels};
 
-use crate::outcome::Saturation;
 use crate::table::Table;
 use crate::ties::is_before;
+use searched_line::Saturation;
 
 /// With how many of the layouts of as many tokens that were met last a layout is compared.
 const MOST_COMPARED: usize = 8;

@@ -7,8 +7,9 @@ use Rattle.style_table.specs.declared.style.Style.{Style}
 use Rattle.line_tokens.specs.declared.LineTok.{LineTok}
 use Rattle.line_tokens.specs.declared.Fixed.{Fixed}
 use Rattle.line_state.specs.Line.{Line, first_layout, gaps}
-use Rattle.break_search.specs.Outcome.{line_of, IsFound, IsOver}
-use Rattle.break_search.specs.Starts.{IsAdmissible}
+use Rattle.searched_line.specs.Searched.{line_of}
+use Rattle.break_search.specs.Outcome.{IsFound, IsOver}
+use Rattle.line_walk.specs.Starts.{IsAdmissible}
 use Rattle.token_arena.specs.Gaps.{Contents}
 use Rattle.line_tokens.specs.declared.line.ULine.{ULine}
 use Rattle.layout_tables.specs.Indents.{start_column}

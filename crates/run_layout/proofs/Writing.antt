@@ -13,7 +13,7 @@ use Rattle.line_state.specs.declared.gap.Gap.{Gap}
 use Rattle.line_state.specs.Layout.{Layout, is_some_decision, layout_after, start_of}
 use Rattle.line_state.specs.Line.{Line, Step, decision_at, joined, first_layout}
 use Rattle.line_state.proofs.Steps.{placing, is_gap}
-use Rattle.break_search.specs.Starts.{IsAdmissible, starts_by, starts_of}
+use Rattle.line_walk.specs.Starts.{IsAdmissible, starts_by, starts_of}
 use Rattle.line_tokens.specs.declared.line.ULine.{ULine}
 use Rattle.replacements.specs.declared.slot.Slot.{Slot}
 use Rattle.replacements.specs.Decisions.{decided, decided_all}

@@ -4,8 +4,8 @@ ghost use Rattle.std.specs.Prelude.{◌≡◌, ◌||◌, ◌+◌, ◌<◌, ◌^�
 ghost use Rattle.style_table.specs.Range.{IsInRange};
 ghost use Rattle.line_state.specs.Layout.{is_some_decision};
 ghost use Rattle.line_state.specs.Line.{first_layout};
-ghost use Rattle.break_search.specs.Outcome.{line_of};
-ghost use Rattle.break_search.specs.Starts.{IsAdmissible, starts_of};
+ghost use Rattle.searched_line.specs.Searched.{line_of};
+ghost use Rattle.line_walk.specs.Starts.{IsAdmissible, starts_of};
 ghost use Rattle.layout_tables.specs.Indents.{start_column};
 ghost use Rattle.layout_tables.specs.Told.{TellBlanks};
 ghost use Rattle.replacements.specs.Decisions.{decided, decided_all};
@@ -13,11 +13,11 @@ ghost use Rattle.line_tokens.specs.declared.LineTok.{LineTok};
 ghost use Rattle.run_layout.specs.Broken.{broken_made, decision_by, empty_inside, inside_made, number, waits};
 ghost use Rattle.run_layout.specs.Ready.{IsOpenLine, IsReady};
 
-use break_search::starts;
 use bumpalo::Bump;
 use layout_tables::{RowBlanks, empty_lines, start_column};
 use line_gaps::{ViewLayout, decide_first, token_at};
 use line_tokens::{Fixed, LineTok, NoMemory, ULine};
+use line_walk::starts;
 use replacements::{Decision, Plan};
 use style_table::Style;
 

@@ -26,13 +26,14 @@ use crate::row::{
     end_of, few_tokens, first_start, is_open_row, may_be_short, short_row, write_row,
     write_short_row,
 };
-use break_search::{Outcome, least_breaks, search};
+use break_search::{Outcome, search};
 use bumpalo::Bump;
 use layout_tables::{RowBlanks, start_column};
 use line_gaps::{
     InputCursor, ViewLayout, decide_first, fixed_of, is_decided, report_line, token_at,
 };
 use line_tokens::{LineTok, NoMemory, ULine};
+use line_walk::least_breaks;
 use replacements::Plan;
 
 /// The tokens of a line, among those of a view.

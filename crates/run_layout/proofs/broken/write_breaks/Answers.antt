@@ -4,7 +4,7 @@ use Rattle.std.proofs.lemmas.Option.{slice_get_within}
 use Rattle.replacements.specs.declared.gap_text.Decision.{Decision}
 use Rattle.line_state.specs.Layout.{is_some_decision}
 use Rattle.replacements.specs.Decisions.{decided}
-use Rattle.break_search.specs.Outcome.{line_of}
+use Rattle.searched_line.specs.Searched.{line_of}
 use Rattle.layout_tables.specs.Indents.{start_column}
 use Rattle.run_layout.specs.Broken.{number, waits}
 use Rattle.run_layout.proofs.Writing.{write_more, token_within, number_of, decision_here}

@@ -1,6 +1,6 @@
 use Rattle.std.proofs.Common.{◌≡◌, length, map}
 use Rattle.layout_tables.specs.Indents.{start_column}
-use Rattle.break_search.specs.Outcome.{line_of}
+use Rattle.searched_line.specs.Searched.{line_of}
 use Rattle.run_layout.specs.Broken.{number}
 use Rattle.run_layout.proofs.Writing.{IsWritten}
 use Rattle.run_layout.proofs.broken.write_breaks.Given as goal

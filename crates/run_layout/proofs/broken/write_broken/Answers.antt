@@ -1,7 +1,7 @@
 use Rattle.std.proofs.Common.{◌∙◌, ℕ, List, length, map, ap, arith, refl, sym, subst}
 use Rattle.line_state.specs.Line.{first_layout}
-use Rattle.break_search.specs.Outcome.{line_of}
-use Rattle.break_search.specs.Starts.{IsAdmissible, starts_of}
+use Rattle.searched_line.specs.Searched.{line_of}
+use Rattle.line_walk.specs.Starts.{IsAdmissible, starts_of}
 use Rattle.layout_tables.specs.Indents.{start_column}
 use Rattle.run_layout.specs.Broken.{inside_made, number}
 use Rattle.run_layout.proofs.LineOutcomes.{first_then, made_same, open_searched, open_within}

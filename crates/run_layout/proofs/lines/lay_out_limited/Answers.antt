@@ -1,6 +1,7 @@
 use Rattle.std.proofs.Common.{◌≡◌, arith, subst, sym}
-use Rattle.break_search.specs.Outcome.{line_of, IsFound, IsOutcome, IsOver}
-use Rattle.break_search.specs.Starts.{IsAdmissible}
+use Rattle.searched_line.specs.Searched.{line_of}
+use Rattle.break_search.specs.Outcome.{IsFound, IsOutcome, IsOver}
+use Rattle.line_walk.specs.Starts.{IsAdmissible}
 use Rattle.break_search.specs.declared.outcome.Outcome.{Outcome}
 use Rattle.line_gaps.specs.InputColumns.{input_before}
 use Rattle.run_layout.proofs.LineOutcomes.{found_admissible, least_laid, open_searched, over_laid}

@@ -1,6 +1,6 @@
 use Rattle.std.proofs.Common.{subst}
-use Rattle.break_search.specs.Outcome.{line_of}
-use Rattle.break_search.specs.Starts.{IsAdmissible}
+use Rattle.searched_line.specs.Searched.{line_of}
+use Rattle.line_walk.specs.Starts.{IsAdmissible}
 use Rattle.run_layout.proofs.LineOutcomes.{only_laid, open_searched}
 use Rattle.run_layout.proofs.lines.lay_out_unlimited.Goals as goal
 

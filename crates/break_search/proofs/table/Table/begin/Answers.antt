@@ -1,5 +1,5 @@
 use Rattle.std.proofs.Common.{[], ◌∙◌, refl}
-use Rattle.break_search.proofs.NodeChains.{root_reached}
+use Rattle.search_nodes.proofs.NodeChains.{root_reached}
 use Rattle.break_search.proofs.Striding.{no_nodes, none_kept, kept_push}
 use Rattle.break_search.proofs.table.Table.begin.Goals as goal
 

@@ -1,5 +1,0 @@
-use Rattle.break_search.proofs.LeastBreaks.{IsLittleIn}
-use Rattle.break_search.proofs.walk.least_breaks_in.Given as goal
-
-abbrev pub invariant-tokens : goal.invariant-tokens
-invariant-tokens l = IsLittleIn l.line l.breaks.items l.store l.state l.placed

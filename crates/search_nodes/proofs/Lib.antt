@@ -1,0 +1,3 @@
+pub mod NodeChains
+mod Grouping
+mod ListedNodes

@@ -1,0 +1,5 @@
+pub mod Searched
+pub mod Successors
+pub mod Ahead
+pub mod Rules
+pub mod Saturation
