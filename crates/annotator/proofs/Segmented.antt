@@ -11,11 +11,11 @@ use Rattle.token_arena.specs.Segments.{ids_of, segment_bounds, AreSegments, Coun
 use Rattle.token_arena.proofs.SegmentLemmas.{item_at_start, length_items}
 use Rattle.token_arena.specs.Gaps.{Contents}
 use Rattle.line_tokens.specs.declared.LineTok.{LineTok}
-use Rattle.annotator.specs.declared.mark.Mark.{Mark}
-use Rattle.annotator.specs.Classes.{is_hash}
-use Rattle.annotator.specs.Held.{is_held, is_inner, TellsHeld}
+use Rattle.token_roles.specs.declared.mark.Mark.{Mark}
+use Rattle.token_roles.specs.Classes.{is_hash}
+use Rattle.token_roles.specs.Held.{is_held, is_inner, TellsHeld}
 use Rattle.annotator.specs.Inside.{told}
-use Rattle.annotator.specs.Left.{no_token, outside}
+use Rattle.token_roles.specs.Left.{no_token, outside}
 use Rattle.annotator.specs.Tokens.{tok_of, toks_from, IsPushed}
 use Rattle.item_classes.specs.Items.{stands_apart}
 

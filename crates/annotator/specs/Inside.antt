@@ -6,7 +6,7 @@ use Rattle.token_arena.specs.Gaps.{Contents}
 use Rattle.item_classes.specs.Items.{item_at, touches}
 use Rattle.touching.specs.declared.edge.Edge.{Edge}
 use Rattle.touching.specs.Edges.{edge_of, touch_of}
-use Rattle.annotator.specs.declared.mark.Mark.{Mark}
+use Rattle.token_roles.specs.declared.mark.Mark.{Mark}
 
 -- what the item with this number is to the items beside it
 abbrev pub edge_at : Contents → ℕ → Edge

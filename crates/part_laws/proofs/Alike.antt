@@ -14,17 +14,18 @@ use Rattle.token_classes.specs.declared.class.TokenClass.{TokenClass}
 use Rattle.token_classes.specs.declared.class.TokenClass.TheVariants.{Nothing, OpenRound, OpenBrace}
 use Rattle.token_classes.specs.Classes.{is_comment, is_close_round, is_before_list, is_opener, is_call_word, is_plain}
 use Rattle.token_classes.specs.Classes.{is_text}
+use Rattle.token_roles.specs.declared.left.Around.{Around}
+use Rattle.token_roles.specs.declared.left.Left.{Left}
+use Rattle.token_roles.specs.declared.left.Seen.{Seen}
+use Rattle.token_roles.specs.declared.mark.Mark.{Mark}
+use Rattle.token_roles.specs.Classes.{is_nothing, is_closer, is_header_word, is_close_square}
+use Rattle.token_roles.specs.Left.{passed, counted, splits_behind}
+use Rattle.token_roles.specs.RoleTable.{class_behind, opens_list, role_of, is_value_close, is_cast_group}
+use Rattle.token_roles.specs.Marks.{left_next, past_opener, partner_at, mark_at, taken_back}
 use Rattle.item_classes.specs.Viewed.{item_class}
 use Rattle.item_classes.specs.declared.part.Part.TheVariants.{Own}
 use Rattle.item_classes.specs.Part.{part_of}
-use Rattle.annotator.specs.declared.left.Around.{Around}
-use Rattle.annotator.specs.declared.left.Left.{Left}
-use Rattle.annotator.specs.declared.left.Seen.{Seen}
-use Rattle.annotator.specs.declared.mark.Mark.{Mark}
-use Rattle.annotator.specs.Classes.{is_nothing, is_closer, is_header_word, is_close_square}
-use Rattle.annotator.specs.Left.{passed, counted, splits_behind}
-use Rattle.annotator.specs.RoleTable.{class_behind, opens_list, role_of, is_value_close, is_cast_group}
-use Rattle.annotator.specs.Line.{comment_role, role_of_part, left_next, past_opener, partner_at, mark_at, taken_back}
+use Rattle.annotator.specs.Line.{comment_role, role_of_part}
 use Rattle.part_laws.specs.LinesCut.{partner_behind}
 use Rattle.part_laws.specs.RolesCut.{comments_begin}
 

@@ -13,13 +13,14 @@ use Rattle.token_arena.specs.Gaps.{Contents}
 use Rattle.token_classes.specs.declared.class.TokenClass.{TokenClass}
 use Rattle.token_classes.specs.Classes.{is_comment}
 use Rattle.item_classes.specs.Viewed.{item_class, classes_of}
-use Rattle.annotator.specs.declared.left.Left.{Left}
-use Rattle.annotator.specs.declared.left.Seen.{Seen}
-use Rattle.annotator.specs.declared.mark.Mark.{Mark}
-use Rattle.annotator.specs.Classes.{is_nothing}
-use Rattle.annotator.specs.Left.{at_start}
-use Rattle.annotator.specs.RoleTable.{class_behind}
-use Rattle.annotator.specs.Line.{Sight, Walk, seen_here, left_next, mark_of, walk_from}
+use Rattle.annotator.specs.Line.{Sight, Walk, seen_here, walk_from}
+use Rattle.token_roles.specs.declared.left.Left.{Left}
+use Rattle.token_roles.specs.declared.left.Seen.{Seen}
+use Rattle.token_roles.specs.declared.mark.Mark.{Mark}
+use Rattle.token_roles.specs.Classes.{is_nothing}
+use Rattle.token_roles.specs.Left.{at_start}
+use Rattle.token_roles.specs.RoleTable.{class_behind}
+use Rattle.token_roles.specs.Marks.{left_next, mark_of}
 use Rattle.annotator.specs.View.{Sights, sight_of, row_of, marks_onto}
 use Rattle.annotator.proofs.Cuts.{cut_before}
 use Rattle.part_laws.specs.RolesCut.{last_code}

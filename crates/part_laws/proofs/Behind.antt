@@ -15,15 +15,16 @@ use Rattle.token_arena.specs.Gaps.{Contents}
 use Rattle.token_classes.specs.declared.class.TokenClass.{TokenClass}
 use Rattle.token_classes.specs.Classes.{is_comment, is_opener}
 use Rattle.item_classes.specs.Viewed.{item_class, classes_of}
-use Rattle.annotator.specs.declared.left.Around.{Around}
-use Rattle.annotator.specs.declared.left.Left.{Left}
-use Rattle.annotator.specs.declared.left.Seen.{Seen}
-use Rattle.annotator.specs.declared.mark.Mark.{Mark}
-use Rattle.annotator.specs.Classes.{is_nothing, is_closer}
-use Rattle.annotator.specs.Left.{at_start, inside, counted, splits_behind, passed}
-use Rattle.annotator.specs.RoleTable.{class_behind, role_of}
-use Rattle.annotator.specs.Line.{Sight, Walk, comment_role, closed_role, code_role, partner_at, mark_at, ends_in_comma}
-use Rattle.annotator.specs.Line.{taken_back, seen_here, past_comment, left_next, mark_of, walk_from}
+use Rattle.annotator.specs.Line.{Sight, Walk, comment_role, code_role, seen_here, walk_from}
+use Rattle.token_roles.specs.declared.left.Around.{Around}
+use Rattle.token_roles.specs.declared.left.Left.{Left}
+use Rattle.token_roles.specs.declared.left.Seen.{Seen}
+use Rattle.token_roles.specs.declared.mark.Mark.{Mark}
+use Rattle.token_roles.specs.Classes.{is_nothing, is_closer}
+use Rattle.token_roles.specs.Left.{at_start, inside, counted, splits_behind, passed}
+use Rattle.token_roles.specs.RoleTable.{class_behind, role_of}
+use Rattle.token_roles.specs.Marks.{closed_role, partner_at, mark_at, ends_in_comma, taken_back, past_comment}
+use Rattle.token_roles.specs.Marks.{left_next, mark_of}
 use Rattle.annotator.specs.View.{Sights, row_of, marks_onto}
 use Rattle.part_laws.specs.LinesCut.{partner_behind, line_behind}
 use Rattle.annotator.proofs.Cuts.{cut_before}

@@ -9,12 +9,13 @@ use Rattle.line_tokens.specs.Lines.{CutPlaces}
 use Rattle.token_classes.specs.declared.class.TokenClass.{TokenClass}
 use Rattle.token_classes.specs.declared.class.TokenClass.TheVariants.{Nothing, CloseBrace, Semicolon}
 use Rattle.token_classes.specs.Classes.{is_comment, is_before_list, is_close_round}
-use Rattle.annotator.specs.declared.left.Left.{Left}
-use Rattle.annotator.specs.declared.left.Seen.{Seen}
-use Rattle.annotator.specs.declared.mark.Mark.{Mark}
-use Rattle.annotator.specs.Held.{is_inner}
-use Rattle.annotator.specs.Left.{at_start}
-use Rattle.annotator.specs.Line.{Sight, Walk, close_of, closed_role, partner_at, mark_at, seen_here, left_next, mark_of, walk_from, before_next}
+use Rattle.token_roles.specs.declared.left.Left.{Left}
+use Rattle.token_roles.specs.declared.left.Seen.{Seen}
+use Rattle.token_roles.specs.declared.mark.Mark.{Mark}
+use Rattle.token_roles.specs.Held.{is_inner}
+use Rattle.token_roles.specs.Left.{at_start}
+use Rattle.token_roles.specs.Marks.{close_of, closed_role, partner_at, mark_at, left_next, mark_of}
+use Rattle.annotator.specs.Line.{Sight, Walk, seen_here, walk_from, before_next}
 use Rattle.annotator.specs.View.{Sights, sight_of, row_of, marks_onto}
 use Rattle.annotator.proofs.Cuts.{cut_before}
 use Rattle.part_laws.proofs.FirstPart.{closes_part, last_of}

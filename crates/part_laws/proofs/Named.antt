@@ -13,8 +13,8 @@ use Rattle.token_classes.specs.declared.class.TokenClass.{TokenClass}
 use Rattle.token_classes.specs.declared.class.TokenClass.TheVariants.{TypeWord, CapitalWord, PlainWord, Other}
 use Rattle.token_classes.specs.Words.{class_in, statement_words, call_words, type_words, named_class, is_in_capitals}
 use Rattle.token_classes.specs.Words.{word_class, punctuators}
+use Rattle.token_roles.specs.Classes.{is_nothing}
 use Rattle.item_classes.specs.Viewed.{class_spelled, AreWithin, item_class, class_or_nothing}
-use Rattle.annotator.specs.Classes.{is_nothing}
 use Rattle.item_classes.specs.Items.{no_item}
 
 either : (b : Bool) (x y : TokenClass) → is_nothing x ≡ false → is_nothing y ≡ false → is_nothing (if b then x else y) ≡ false

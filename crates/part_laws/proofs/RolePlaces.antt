@@ -4,11 +4,11 @@ use Rattle.std.specs.Prelude.{slice_get, slice_range, take, drop, nat_le, if◌t
 use Rattle.std.proofs.lemmas.Bool.{cases_lt, le-leb, lt-leb}
 use Rattle.std.proofs.lemmas.List.{take-map, drop-map}
 use Rattle.std.proofs.Math.Seq.{drop-append-add, drop-append_seam}
-use Rattle.annotator.specs.declared.left.Around.{Around}
+use Rattle.token_roles.specs.declared.left.Around.{Around}
 use Rattle.token_classes.specs.declared.class.TokenClass.{TokenClass}
-use Rattle.annotator.specs.declared.mark.Mark.{Mark}
-use Rattle.annotator.specs.Line.{partner_of, partner_at, mark_at, ends_in_comma, taken_back, last_is_comma}
-use Rattle.annotator.specs.Left.{outside}
+use Rattle.token_roles.specs.declared.mark.Mark.{Mark}
+use Rattle.token_roles.specs.Marks.{partner_of, partner_at, mark_at, ends_in_comma, taken_back, last_is_comma}
+use Rattle.token_roles.specs.Left.{outside}
 use Rattle.part_laws.specs.LinesCut.{partner_behind}
 
 pub slice_behind : {X : Type 0} (xs ys : List X) (k : ℕ) → slice_get (xs ++ ys) (length xs + k) ≡ slice_get ys k

@@ -19,7 +19,7 @@ use Rattle.token_classes.specs.declared.class.TokenClass.TheVariants.{Nothing, L
 use Rattle.token_classes.specs.Classes.{is_comment, is_word}
 use Rattle.item_classes.specs.Viewed.{AreWithin, item_class, classes_of}
 use Rattle.unwrapped_lines.proofs.Started.{lines_cut_views}
-use Rattle.annotator.specs.declared.mark.Mark.{Mark}
+use Rattle.token_roles.specs.declared.mark.Mark.{Mark}
 use Rattle.annotator.specs.Tokens.{roles_of, toks_from}
 use Rattle.item_classes.specs.Items.{stands_apart}
 use Rattle.annotator.specs.View.{marks_of}

@@ -7,9 +7,9 @@ use Rattle.std.proofs.lemmas.List.{get_or-append-add}
 use Rattle.std.proofs.Math.ListN.{get_or-append}
 use Rattle.line_tokens.specs.declared.LineTok.{LineTok}
 use Rattle.token_arena.specs.Gaps.{Contents}
-use Rattle.annotator.specs.declared.mark.Mark.{Mark}
-use Rattle.annotator.specs.Classes.{is_hash}
-use Rattle.annotator.specs.Held.{is_inner, is_held}
+use Rattle.token_roles.specs.declared.mark.Mark.{Mark}
+use Rattle.token_roles.specs.Classes.{is_hash}
+use Rattle.token_roles.specs.Held.{is_inner, is_held}
 use Rattle.annotator.specs.Tokens.{tok_of, toks_from}
 use Rattle.item_classes.specs.Items.{stands_apart}
 use Rattle.part_laws.specs.RolesCut.{ends_inner, with_first_apart}

@@ -9,7 +9,7 @@ use Rattle.token_classes.specs.declared.class.TokenClass.{TokenClass}
 use Rattle.token_classes.specs.declared.class.TokenClass.TheVariants.{Nothing}
 use Rattle.token_classes.specs.Classes.{is_comment, is_close_round, is_before_list}
 use Rattle.item_classes.specs.Viewed.{AreWithin, item_class, classes_of}
-use Rattle.annotator.specs.Held.{is_inner}
+use Rattle.token_roles.specs.Held.{is_inner}
 use Rattle.annotator.specs.Tokens.{roles_of}
 use Rattle.item_classes.specs.Items.{stands_apart}
 use Rattle.part_laws.specs.LinesCut.{partner_behind, line_behind}

@@ -1,6 +1,6 @@
 use Rattle.std.proofs.Common.{◌≡◌, ◌+◌, ◌-◌, ◌≤◌, ◌++◌, length, drop}
 use Rattle.std.specs.Prelude.{vec_capacity}
-use Rattle.annotator.specs.Held.{TellsHeld}
+use Rattle.token_roles.specs.Held.{TellsHeld}
 use Rattle.annotator.specs.Tokens.{toks_from}
 use Rattle.annotator.specs.Inside.{edge_at, TellsTouch}
 use Rattle.item_classes.specs.Items.{stands_apart}

@@ -1,9 +1,9 @@
 -- What stands to the left of a token behind one that is no `=` and doesn't go with `asm`.
 use Rattle.std.proofs.Common.{◌≡◌, ◌∙◌, ◌||◌, ◌&&◌, Bool, true, false, refl, sym, ap}
-use Rattle.annotator.specs.declared.left.Left.{Left}
-use Rattle.annotator.specs.declared.left.Seen.{Seen}
-use Rattle.annotator.specs.Classes.{is_equals, is_asm, is_asm_tail}
-use Rattle.annotator.specs.Left.{passed}
+use Rattle.token_roles.specs.declared.left.Left.{Left}
+use Rattle.token_roles.specs.declared.left.Seen.{Seen}
+use Rattle.token_roles.specs.Classes.{is_equals, is_asm, is_asm_tail}
+use Rattle.token_roles.specs.Left.{passed}
 
 or_none : (x none : Bool) → none ≡ false → x ≡ (x || none)
 or_none true none is = refl

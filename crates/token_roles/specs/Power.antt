@@ -4,7 +4,7 @@ use Rattle.line_tokens.specs.Roles.{is_binary}
 use Rattle.token_classes.specs.declared.class.TokenClass.{TokenClass}
 use Rattle.token_classes.specs.declared.class.TokenClass.TheVariants.{Or, And, Bar, Caret, Ampersand, Equality}
 use Rattle.token_classes.specs.declared.class.TokenClass.TheVariants.{Relation, Shift, Sign, Star, Divide}
-use Rattle.annotator.specs.declared.left.Seen.{Seen}
+use Rattle.token_roles.specs.declared.left.Seen.{Seen}
 
 -- how tightly an operator between two operands binds
 abbrev pub binding : TokenClass → ℕ

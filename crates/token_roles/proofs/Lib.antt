@@ -1,0 +1,2 @@
+pub mod CodeTokens
+pub mod Lefts
