@@ -9,7 +9,7 @@ use token_arena::{Token, TokenArena};
 
 /// The item with this number, whose rows can be read.
 #[inline(always)]
-pub fn item<'s>(arena: &TokenArena<'_, 's>, id: u32) -> Token<'s>
+pub(crate) fn item<'s>(arena: &TokenArena<'_, 's>, id: u32) -> Token<'s>
     requires { id < length arena.now.tokens }
     ensures is { told_by result ≡ item_at arena.now id }
     ensures fits { length result.item.raw.now < 2 ^ 31 }
