@@ -3,7 +3,7 @@ use Rattle.std.proofs.Common.{◌≡◌, ℕ, ◌+◌, ◌<◌, ◌≤◌, min, 
 use Rattle.std.proofs.Common.{arith, ap, sym, ◌∙◌, subst, suc, zero, slice_get, slice_set, get_or, ◌⊎◌}
 use Rattle.std.proofs.lemmas.Bool.{cases_eq}
 use Rattle.std.proofs.lemmas.List.{length-append}
-use Rattle.std.proofs.lemmas.Option.{slice_get_read, slice_get_within}
+use Rattle.std.proofs.lemmas.Option.{slice_get-get_or, slice_get_read, slice_get_within}
 use Rattle.frame_store.proofs.Edits.{At, at_set, at_push}
 use Rattle.frame_store.specs.declared.group.Link.{Link}
 use Rattle.frame_store.specs.Chains.{IsTold, IsChained, IsOnChain, IsListed, IsLinked, Lists, slot_of}
@@ -159,12 +159,11 @@ pub one_kept : (ends : List ℕ) (links new_links : List Link) → length ends �
 one_kept ends links new_links none kept d u h = from_one_chain ends new_links d u none (kept d u (on_one_chain ends links d u none h))
 
 -- the chain of the slot of a digest
-pub chain_of : (ends : List ℕ) (links : List Link) (slot end d u : ℕ) → slot ≡ slot_of (length ends) d → slot < length ends → end ≡ get_or ends slot end → Lists (record { ends = ends; links = links }) d u → IsOnChain links end d u
-chain_of ends links slot end d u is_slot within is h =
+pub chain_of : (ends : List ℕ) (links : List Link) (slot d u : ℕ) → slot ≡ slot_of (length ends) d → slot < length ends → Lists (record { ends = ends; links = links }) d u → IsOnChain links (get_or ends slot 0) d u
+chain_of ends links slot d u is_slot within h =
     let listed = at_slot ends links d u (omega (arith, within)) h in
-    let was : slice_get ends slot ≡ Some end = slice_get_read ends (length ends) slot end refl within is in
-    let there : Some listed.end ≡ Some end = sym listed.at ∙ ap (λ (j : ℕ). slice_get ends j) (sym is_slot) ∙ was in
-    let same : listed.end ≡ end = cc in
+    let there : Some listed.end ≡ Some (get_or ends slot 0) = sym listed.at ∙ ap (λ (j : ℕ). slice_get ends j) (sym is_slot) ∙ slice_get-get_or ends slot 0 within in
+    let same : listed.end ≡ get_or ends slot 0 = cc in
     subst (λ (k : ℕ). IsOnChain links k d u) same listed.has
 
 -- a link more on the only chain
