@@ -2,7 +2,6 @@ mod Rest
 mod Ends
 mod Causes
 mod Changes
-mod ReportRows
 mod Done
 mod Statuses
 mod Kept

@@ -14,7 +14,7 @@ ghost use Rattle.format_cli.specs.Inputs.{IsFileRefused, IsFormatted, IsSourceCa
 ghost use Rattle.format_cli.specs.Inputs.{IsSourceRefused, IsTextCause, IsTextRefused, IsTextTold, IsTold};
 ghost use Rattle.format_cli.specs.Inputs.{IsWriteRefused, SourcePutFails, SourcePuts, ends};
 
-use crate::summary::tell_input;
+use crate::told::tell_input;
 use bumpalo::Bump;
 use c_chars::{Dialect, LIMIT};
 use command_refusals::{GENERATED, Refusal, STANDARD_INPUT};

@@ -8,8 +8,7 @@
 mod command;
 mod input;
 mod laws;
-mod reports;
-mod summary;
+mod told;
 
 pub use command::format_command;
 pub use laws::outputs_are_joined;

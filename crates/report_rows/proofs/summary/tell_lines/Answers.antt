@@ -3,8 +3,8 @@ use Rattle.std.proofs.KnownBytes.{Appends-trans}
 use Rattle.fmt_ports.proofs.Parts.{part_of_front, part_of_rest}
 use Rattle.command_refusals.specs.Notes.{numbered_row}
 use Rattle.command_refusals.proofs.Results.{on_map}
-use Rattle.format_cli.specs.Notes.{cost_row}
-use Rattle.format_cli.proofs.summary.tell_lines.Goals as goal
+use Rattle.report_rows.specs.Rows.{cost_row}
+use Rattle.report_rows.proofs.summary.tell_lines.Goals as goal
 
 pub returns-in_err-write_count-clause-part : goal.returns-in_err-write_count-clause-part
 returns-in_err-write_count-clause-part g c =

@@ -4,14 +4,15 @@ ghost use Rattle.std.specs.Prelude.{◌≤◌, ◌++◌, [], OnOk, codes};
 ghost use Rattle.std.specs.Io.KnownBytes.{Appends};
 ghost use Rattle.fmt_ports.specs.Causes.{AppendsPart, Counts};
 ghost use Rattle.command_refusals.specs.Notes.{numbered_row};
-ghost use Rattle.format_cli.specs.Notes.{report_row, report_rows};
+ghost use Rattle.report_rows.specs.Rows.{report_row, report_rows};
 
 use command_refusals::write_number;
 use fmt_ports::{Failed, Sink, Stream, write_in_pieces};
-use format_core::Report;
+use run_layout::Report;
 use std::alloc::Global;
 
-/// Tells the lines of an input that are reported, a row each.
+/// Tells the lines of an input of this name that are reported, a row each in one write, with the budget of cells that
+/// they are past. The sink's failure is the only error, and then it took a front of the rows.
 pub fn tell_reports<E: Sink>(
     alloc: Global,
     name: &str,

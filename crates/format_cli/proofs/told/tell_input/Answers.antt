@@ -1,7 +1,7 @@
 use Rattle.std.proofs.Common.{refl}
 use Rattle.fmt_ports.proofs.Parts.{part_of_front, part_of_rest}
-use Rattle.format_cli.specs.Notes.{report_rows, summary_row}
-use Rattle.format_cli.proofs.summary.tell_input.Goals as goal
+use Rattle.report_rows.specs.Rows.{report_rows, summary_row}
+use Rattle.format_cli.proofs.told.tell_input.Goals as goal
 
 pub returns-in_err-tell_reports-in-Nowhere-clause-part : goal.returns-in_err-tell_reports-in-Nowhere-clause-part
 returns-in_err-tell_reports-in-Nowhere-clause-part g c =

@@ -3,7 +3,7 @@ use Rattle.std.proofs.KnownBytes.{Appends-trans}
 use Rattle.fmt_ports.proofs.Parts.{part_of_front, part_of_rest}
 use Rattle.command_refusals.specs.Notes.{numbered_row}
 use Rattle.command_refusals.proofs.Results.{on_map}
-use Rattle.format_cli.proofs.reports.tell_run.Goals as goal
+use Rattle.report_rows.proofs.reports.tell_run.Goals as goal
 
 pub returns-in_err-write_number-clause-part : goal.returns-in_err-write_number-clause-part
 returns-in_err-write_number-clause-part g c =

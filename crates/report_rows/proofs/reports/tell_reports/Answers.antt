@@ -1,6 +1,6 @@
 use Rattle.std.proofs.Common.{refl, rules}
-use Rattle.format_cli.proofs.ReportRows.{row_told, part_told, front_told}
-use Rattle.format_cli.proofs.reports.tell_reports.Goals as goal
+use Rattle.report_rows.proofs.ReportRows.{row_told, part_told, front_told}
+use Rattle.report_rows.proofs.reports.tell_reports.Goals as goal
 
 pub loop-report-init : goal.loop-report-init
 loop-report-init g c = record { ok = λ end h. h; part = λ end h. h; faults = refl }

@@ -1,12 +1,13 @@
 -- The rows of reports, one after another.
-use Rattle.std.proofs.Common.{◌≡◌, ◌+◌, ◌<◌, ℕ, List, ◌∷◌, ◌++◌, drop, length, get_or, ap, add-one, drop-cons, sym, subst}
+use Rattle.std.proofs.Common.{◌≡◌, ◌+◌, ◌<◌, ℕ, List, ◌∷◌, ◌++◌, drop, length, get_or, ap, add-one, drop-cons, sym}
+use Rattle.std.proofs.Common.{subst}
 use Rattle.std.specs.declared.option.Option.{Option}
 use Rattle.std.specs.Io.KnownBytes.{Appends}
 use Rattle.std.proofs.KnownBytes.{Appends-trans}
 use Rattle.fmt_ports.specs.Causes.{AppendsPart}
 use Rattle.fmt_ports.proofs.Parts.{part_of_front, part_of_rest}
 use Rattle.run_layout.specs.declared.report.Report.{Report}
-use Rattle.format_cli.specs.Notes.{report_row, report_rows}
+use Rattle.report_rows.specs.Rows.{report_row, report_rows}
 
 -- the rows of the reports that are left begin with that of the next one
 rows_left : (name : List ℕ) (budget : ℕ) (reports : List Report) (i : ℕ) (d : Report) → i < length reports →

@@ -1,7 +1,7 @@
 use Rattle.std.proofs.Common.{◌++◌, [], refl, codes}
 use Rattle.fmt_ports.proofs.Parts.{part_of_front, part_of_rest}
 use Rattle.command_refusals.specs.Notes.{numbered_row}
-use Rattle.format_cli.proofs.reports.ReportRowStream.write.Goals as goal
+use Rattle.report_rows.proofs.reports.ReportRowStream.write.Goals as goal
 
 pub returns-in_err-write_number-clause-part : goal.returns-in_err-write_number-clause-part
 returns-in_err-write_number-clause-part g c =

@@ -1,45 +1,16 @@
-//! What is told of an input: its reports, and in a dry run its summary.
+//! What came of the lines of an input, in one row.
 
-ghost use Rattle.std.specs.Prelude.{◌≡◌, ◌≤◌, [], OnOk};
+ghost use Rattle.std.specs.Prelude.{◌≡◌, [], OnOk};
 ghost use Rattle.std.specs.Io.KnownBytes.{Appends};
 ghost use Rattle.fmt_ports.specs.Causes.{AppendsPart, Counts as FaultCounts};
 ghost use Rattle.command_refusals.specs.Notes.{numbered_row};
-ghost use Rattle.format_cli.specs.Notes.{change_word, cost_row, input_rows, lines_row};
-ghost use Rattle.format_cli.specs.Notes.{summary_row};
+ghost use Rattle.report_rows.specs.Rows.{change_word, cost_row, lines_row, summary_row};
 
-use crate::input::Place;
-use crate::reports::tell_reports;
 use command_refusals::{write_number, write_two};
 use fmt_ports::{Failed, Sink, Stream, write_in_pieces};
-use format_core::{Counts, Formatted};
 use itoa::Buffer;
+use run_layout::Counts;
 use std::alloc::Global;
-
-/// Tells the reports of an input, and in a dry run its summary behind them.
-pub fn tell_input<'a, 's, E: Sink>(
-    alloc: Global,
-    name: &str,
-    budget: u64,
-    place: Place,
-    formatted: &Formatted<'a, 's>,
-    notes: &mut E,
-) -> Result<(), Failed>
-    requires { budget ≤ 16000000 }
-    ensures ok { OnOk result (Appends (E.taken notes.old) (E.taken notes.new)
-        (input_rows place name.now budget formatted.now.reports.now formatted.now.counts formatted.now.changed)) }
-    ensures part { AppendsPart (E.taken notes.old) (E.taken notes.new)
-        (input_rows place name.now budget formatted.now.reports.now formatted.now.counts formatted.now.changed) }
-    ensures counts { FaultCounts (E.faults notes.old) (E.faults notes.new) result }
-{
-    match place {
-        Place::Output => tell_reports(alloc, name, budget, formatted.reports, notes),
-        Place::Itself => tell_reports(alloc, name, budget, formatted.reports, notes),
-        Place::Nowhere => {
-            tell_reports(alloc, name, budget, formatted.reports, notes)?;
-            tell_summary(alloc, name, &formatted.counts, formatted.changed, notes)
-        }
-    }
-}
 
 /// The row that sums an input up.
 #[derive(Drop)]
@@ -58,8 +29,9 @@ impl Stream for SummaryRow<'_> {
     }
 }
 
-/// Tells the summary of an input, in one write.
-fn tell_summary<E: Sink>(
+/// Tells the summary of an input of this name, in one write: what came of its lines, and whether its text changes. The
+/// sink's failure is the only error, and then it took a front of the row.
+pub fn tell_summary<E: Sink>(
     alloc: Global,
     name: &str,
     counts: &Counts,

@@ -2,8 +2,8 @@ use Rattle.std.proofs.Common.{◌≡◌, ℕ, List, drop}
 use Rattle.std.specs.declared.option.Option.{Option}
 use Rattle.std.specs.Io.KnownBytes.{Appends}
 use Rattle.fmt_ports.specs.Causes.{AppendsPart}
-use Rattle.format_cli.specs.Notes.{report_rows}
-use Rattle.format_cli.proofs.reports.tell_reports.Given as goal
+use Rattle.report_rows.specs.Rows.{report_rows}
+use Rattle.report_rows.proofs.reports.tell_reports.Given as goal
 
 -- what the rows of the other reports add to the notes, all rows add to those at the beginning
 abbrev pub invariant-loop-report : goal.invariant-loop-report
