@@ -11,10 +11,10 @@
 //! - `arena`: what the store keeps of a text, and which texts it refuses (`token_arena`).
 //! - `sections`: texts and directives, the gaps that directives keep, and spellings (`token_arena`).
 //! - `runs`: what each run sees, which items are dead, and long texts (`branch_runs`).
-//! - `classes`: the classes of items, and of those of a view (`token_classes`).
+//! - `classes`: the classes of items, and of those of a view (`item_classes`).
 //! - `parts`: parts of a view (`view_parts`).
 //! - `text_lines`: the lines of whole texts (`unwrapped_lines`).
-//! - `token_roles`: the roles of whole texts (`annotator`).
+//! - `text_roles`: the roles of whole texts (`annotator`).
 //!
 //! `fixtures` makes what they stand on, `line_fixtures` what the lower layers tell of a text, and `comparing` compares.
 #![tactic(auto)]
@@ -42,7 +42,7 @@ mod sections;
 #[cfg(test)]
 mod text_lines;
 #[cfg(test)]
-mod token_roles;
+mod text_roles;
 #[cfg(test)]
 mod touching_items;
 #[cfg(test)]
