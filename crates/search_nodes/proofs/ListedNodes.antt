@@ -1,11 +1,11 @@
 -- Nodes that a group lists: what a walk along the chain of a digest tells.
 use Rattle.std.proofs.Common.{◌≡◌, ℕ, ◌/◌, ◌≤◌, ◌⊎◌, min, suc, inl, inr, Option, Some, None, List, ap, sym, ◌∙◌, subst, slice_get, IfNone}
-use Rattle.line_state.specs.declared.node.NodeState.{NodeState}
-use Rattle.line_state.specs.Digest.{digest_with}
-use Rattle.line_state.specs.Store.{state_digest}
-use Rattle.line_state.specs.declared.group.Link.{Link}
-use Rattle.line_state.specs.Chains.{Chained, IsOnChain, Lists}
-use Rattle.line_state.proofs.Chaining.{chain_back, chain_empty, chain_past}
+use Rattle.frame_store.specs.declared.node.NodeState.{NodeState}
+use Rattle.frame_store.specs.Digest.{digest_with}
+use Rattle.frame_store.specs.Store.{state_digest}
+use Rattle.frame_store.specs.declared.group.Link.{Link}
+use Rattle.frame_store.specs.Chains.{Chained, IsOnChain, Lists}
+use Rattle.frame_store.proofs.Chaining.{chain_back, chain_empty, chain_past}
 use Rattle.search_nodes.specs.declared.node.Node.{Node}
 use Rattle.search_nodes.specs.Groups.{IsPlaced, LacksPlace}
 

@@ -1,6 +1,6 @@
 -- Nodes as they are added.
 use Rattle.std.specs.Prelude.{ℕ, Bool, false}
-use Rattle.line_state.specs.declared.node.NodeState.{NodeState}
+use Rattle.frame_store.specs.declared.node.NodeState.{NodeState}
 use Rattle.search_nodes.specs.declared.node.Node.{Node}
 
 -- a node that isn't settled

@@ -1,13 +1,14 @@
 //! Adds nodes, and lists those of long chains.
 
 ghost use Rattle.std.specs.Prelude.{◌≡◌, ◌≢◌, ℕ, ◌+◌, ◌<◌, ◌≤◌, [], ◌∷◌, ◌++◌, Some, length, slice_get, OnOk, OnErr};
-ghost use Rattle.line_state.specs.Store.{state_digest};
+ghost use Rattle.frame_store.specs.Store.{state_digest};
 ghost use Rattle.search_nodes.specs.Groups.{IsGrouped, IsPlaced, AreListed};
 
 use crate::finding::{TOKENS_A_GROUP, place_digest};
 use crate::node::{MOST_ON_CHAIN, Node};
 use bumpalo::Bump;
-use line_state::{Group, NoMemory, NodeState};
+use frame_store::{Group, NodeState};
+use line_state::NoMemory;
 
 /// How many slots a group has at first.
 const SLOTS: usize = 256;

@@ -2,13 +2,13 @@
 
 ghost use Rattle.std.specs.Prelude.{◌≡◌, ℕ, Some, slice_get, IfSome, IfNone};
 ghost use Rattle.std.specs.Bool.{OnTrue, OnFalse};
-ghost use Rattle.line_state.specs.Digest.{digest_with};
-ghost use Rattle.line_state.specs.Store.{state_digest};
-ghost use Rattle.line_state.specs.Chains.{IsOnChain};
+ghost use Rattle.frame_store.specs.Digest.{digest_with};
+ghost use Rattle.frame_store.specs.Store.{state_digest};
+ghost use Rattle.frame_store.specs.Chains.{IsOnChain};
 ghost use Rattle.search_nodes.specs.Groups.{IsPlaced, IsAmong, HasPlace, LacksPlace, Misses};
 
 use crate::node::{MOST_ON_CHAIN, Node};
-use line_state::{Group, Link, NodeState, digest, is_same_place};
+use frame_store::{Group, Link, NodeState, digest, is_same_place};
 
 /// How many numbers of tokens have one group.
 pub(crate) const TOKENS_A_GROUP: u32 = 32;

@@ -4,7 +4,7 @@ ghost use Rattle.std.specs.Prelude.{◌≡◌, ◌+◌, min};
 ghost use Rattle.search_nodes.specs.Groups.{IsRank};
 ghost use Rattle.search_nodes.specs.Nodes.{open_node};
 
-use line_state::NodeState;
+use frame_store::NodeState;
 
 /// How many nodes a chain has on which a node is looked for. Where there are more, all are listed in a group.
 pub(crate) const MOST_ON_CHAIN: u8 = 8;

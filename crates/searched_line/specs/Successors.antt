@@ -1,8 +1,9 @@
 -- Where a choice after a layout of a line leads.
 use Rattle.std.specs.Prelude.{◌≡◌, ℕ, ◌+◌, ◌*◌, ◌≤◌, Bool, Option, Some, None, List}
 use Rattle.line_state.specs.declared.state.State.{State}
-use Rattle.line_state.specs.declared.node.NodeState.{NodeState}
-use Rattle.line_state.specs.Store.{FrameList, state_in}
+use Rattle.frame_store.specs.declared.node.NodeState.{NodeState}
+use Rattle.frame_store.specs.Store.{FrameList}
+use Rattle.line_state.specs.StoredStates.{state_in}
 use Rattle.line_state.specs.Layout.{Layout, layout_of}
 use Rattle.line_state.specs.Line.{Line, Step}
 

@@ -1,5 +1,5 @@
 use Rattle.std.proofs.lemmas.Bool.{OnTrue_at}
-use Rattle.line_state.proofs.Tests.{on_true_then}
+use Rattle.frame_store.proofs.Tests.{on_true_then}
 use Rattle.break_search.proofs.Passing.{ahead_level, passes_by, cheaper_is_better}
 use Rattle.break_search.proofs.dominance.passes.Goals as goal
 

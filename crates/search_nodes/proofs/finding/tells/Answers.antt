@@ -1,4 +1,4 @@
-use Rattle.line_state.proofs.Tests.{on_false_then, on_true_then}
+use Rattle.frame_store.proofs.Tests.{on_false_then, on_true_then}
 use Rattle.std.proofs.Common.{◌≡◌, refl}
 use Rattle.std.proofs.lemmas.Option.{slice_get_read}
 use Rattle.frame_store.specs.Store.{IsSamePlace}

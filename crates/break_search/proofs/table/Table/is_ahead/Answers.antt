@@ -1,4 +1,4 @@
-use Rattle.line_state.proofs.Tests.{on_true_then}
+use Rattle.frame_store.proofs.Tests.{on_true_then}
 use Rattle.std.proofs.Common.{◌≡◌, ◌≤◌, arith}
 use Rattle.std.proofs.lemmas.Bool.Decides.{nat_tests}
 use Rattle.break_search.proofs.Nodes.{ahead_at}
