@@ -7,6 +7,6 @@ mod Statuses
 mod Kept
 mod Choice
 mod InputOrder
-mod Told
+mod NotesTaken
 mod Order
 mod Joined

@@ -23,7 +23,7 @@ use Rattle.format_cli.specs.Generated.{text_of}
 use Rattle.format_cli.specs.Order.{AreDifferent, FilesStop, InputsStop, IsBadText, LacksRows, StopsWith}
 use Rattle.format_cli.proofs.Choice.{made_alone, made_by, one_dry, one_dump, one_list, one_made, one_place, one_style}
 use Rattle.format_cli.proofs.Statuses.{no_budget, no_lines}
-use Rattle.format_cli.proofs.Told.{performed_takes, not_performed_takes}
+use Rattle.format_cli.proofs.NotesTaken.{performed_takes, not_performed_takes}
 use Rattle.format_cli.proofs.InputOrder.{AreOnce, files_end, files_stay, made_ends, not_bad, source_ends, source_stays, stop_stays}
 
 -- words that say something are refused only for want of memory
