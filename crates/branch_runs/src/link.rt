@@ -1,6 +1,6 @@
 //! From marks to nodes, in one pass from the end.
 
-ghost use Rattle.std.specs.Prelude.{◌≡◌, ◌<◌, ◌≤◌, ◌+◌, map, length, IfOk};
+ghost use Rattle.std.specs.Prelude.{◌≡◌, ◌<◌, ◌≤◌, map, length, IfOk};
 ghost use Rattle.c_chars.specs.declared.TheConstants.{LIMIT};
 ghost use Rattle.branch_runs.specs.Links.{node_mark};
 ghost use Rattle.branch_runs.specs.Fits.{FitNodes};

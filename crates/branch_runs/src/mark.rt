@@ -1,6 +1,6 @@
 //! The sections of a text, as conditionals see them.
 
-ghost use Rattle.std.specs.Prelude.{◌≡◌, ◌++◌, All, IfOk, length, map};
+ghost use Rattle.std.specs.Prelude.{◌≡◌, All, IfOk, length, map};
 ghost use Rattle.branch_runs.specs.Marks.{mark_of, kind_by};
 ghost use Rattle.branch_runs.specs.Operands.{IsWithin};
 

@@ -1,6 +1,6 @@
 //! Sections with what a run needs to know of them.
 
-ghost use Rattle.std.specs.Prelude.{◌≡◌, ◌<◌, ◌≤◌, ◌+◌, ◌^◌, ℕ, List, [], ◌∷◌, map, length, IfOk, MatchOption};
+ghost use Rattle.std.specs.Prelude.{◌≡◌, ◌<◌, ◌+◌, ◌^◌, [], map, IfOk};
 ghost use Rattle.branch_runs.specs.Cut.{end_of};
 ghost use Rattle.branch_runs.specs.Links.{links_after, level_of, below, total, node_mark};
 

@@ -1,6 +1,6 @@
 //! The conditionals that are open where a reading stands.
 
-ghost use Rattle.std.specs.Prelude.{◌≡◌, ◌<◌, ◌≤◌, ◌+◌, ◌^◌, false, [], ◌∷◌, length, IfOk, MatchOption};
+ghost use Rattle.std.specs.Prelude.{◌≡◌, ◌<◌, ◌≤◌, ◌+◌, ◌^◌, false, [], ◌∷◌, length, IfOk};
 ghost use Rattle.branch_runs.specs.Reading.{kind_in, open_after};
 ghost use Rattle.branch_runs.specs.Dead.{has_zero};
 ghost use Rattle.branch_runs.specs.Flags.{IsBranchStep};

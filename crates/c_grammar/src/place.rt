@@ -1,7 +1,6 @@
 //! Where an item stands: in a line, and in a directive (C11 6.10).
 
-ghost use Rattle.std.specs.Prelude.{◌≡◌, ◌≤◌, ◌==◌, not, ℕ, List, length, take, codes, if◌then◌else◌, true, false};
-ghost use Rattle.std.specs.Prelude.{IfSome, IsFalse, IsTrue};
+ghost use Rattle.std.specs.Prelude.{◌≡◌, ◌==◌, not, ℕ, List, if◌then◌else◌, IfSome, IsFalse, IsTrue};
 ghost use Rattle.c_chars.specs.Characters.{bytes_of};
 ghost use Rattle.c_chars.specs.Coming.{behind};
 ghost use Rattle.c_chars.specs.declared.Dialect.{Dialect};

@@ -1,15 +1,14 @@
 //! Cuts off the item that a text begins with.
 
-ghost use Rattle.std.specs.Prelude.{◌≡◌, ◌∷◌, ◌||◌, ◌<◌, length, [], nat_eq};
-ghost use Rattle.std.specs.Prelude.{IsTrue, IsFalse, IfSome, MatchOption, MatchResult};
+ghost use Rattle.std.specs.Prelude.{◌≡◌, ◌∷◌, ◌||◌, ◌<◌, length, [], nat_eq, IsTrue, IsFalse, IfSome, MatchOption};
+ghost use Rattle.std.specs.Prelude.{MatchResult};
 ghost use Rattle.std.specs.List.{starts_with};
 ghost use Rattle.c_chars.specs.Characters.{bytes_of};
 ghost use Rattle.c_chars.specs.Coming.{behind};
 ghost use Rattle.c_grammar.specs.Grammar.{Unended, is_letter, is_white, is_new_line};
 ghost use Rattle.c_grammar.specs.Touch.{starts};
 ghost use Rattle.c_grammar.specs.Items.{IsLongest};
-ghost use Rattle.c_grammar.specs.declared.ItemKind.TheVariants.{Number, Punct, Other};
-ghost use Rattle.c_grammar.specs.declared.ItemKind.TheVariants.{LineComment, BlockComment};
+ghost use Rattle.c_grammar.specs.declared.ItemKind.TheVariants.{Number, Punct, Other, LineComment, BlockComment};
 ghost use Rattle.c_lexer.specs.Cut.{IsCutOff, IsStop};
 ghost use Rattle.c_grammar.specs.Bytes.{begins_punctuator, is_quote_mark, IsFirst};
 ghost use Rattle.c_lexer.specs.Reading.{AreOwnBytes, IsBegun};

@@ -1,7 +1,7 @@
 //! Reads the items of a text one after another.
 
-ghost use Rattle.std.specs.Prelude.{◌≡◌, ◌≤◌, ◌<◌, ◌-◌, length, take, drop, get_or, IsTrue, IfSome, IfNone};
-ghost use Rattle.std.specs.Prelude.{IfOk, IfErr, MatchOption, ⊤};
+ghost use Rattle.std.specs.Prelude.{◌≡◌, ◌≤◌, ◌<◌, ◌-◌, length, take, drop, get_or, IsTrue, IfSome, IfNone, IfOk};
+ghost use Rattle.std.specs.Prelude.{IfErr, MatchOption, ⊤};
 ghost use Rattle.std.specs.Int.{is_in_range};
 ghost use Rattle.std.specs.List.{list_all};
 ghost use Rattle.c_grammar.specs.Items.{is_gap, LineStart};

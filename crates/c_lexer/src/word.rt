@@ -1,7 +1,7 @@
 //! Words, and the literals whose prefix a word is (C11 6.4.2.1, 6.4.4.4, 6.4.5).
 
-ghost use Rattle.std.specs.Prelude.{◌≡◌, ◌≤◌, ◌+◌, ◌==◌, ◌&&◌, ◌||◌, not, false, drop, codes, IsTrue};
-ghost use Rattle.std.specs.Prelude.{IsFalse, IfSome, MatchOption};
+ghost use Rattle.std.specs.Prelude.{◌≡◌, ◌≤◌, ◌+◌, ◌==◌, ◌&&◌, ◌||◌, not, false, drop, codes, IsTrue, IsFalse, IfSome};
+ghost use Rattle.std.specs.Prelude.{MatchOption};
 ghost use Rattle.c_chars.specs.Characters.{bytes_of};
 ghost use Rattle.c_grammar.specs.Grammar.{is_letter, is_letter_unit, is_word_unit, is_char_prefix};
 ghost use Rattle.c_grammar.specs.Touch.{starts};

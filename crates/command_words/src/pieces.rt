@@ -1,6 +1,6 @@
 //! The input that is made in place of the source, as `--generate` tells it.
 
-ghost use Rattle.std.specs.Prelude.{◌≡◌, ◌≤◌, IfSome};
+ghost use Rattle.std.specs.Prelude.{◌≡◌};
 ghost use Rattle.command_words.specs.Generate.{generate_in, numbers_of};
 
 use crate::budget::number_of;

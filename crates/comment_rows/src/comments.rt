@@ -1,7 +1,7 @@
 //! The trailing comments of a view.
 
-ghost use Rattle.std.specs.Prelude.{◌≡◌, ◌∷◌, ◌+◌, ◌-◌, ◌++◌, ◌<◌, ◌≤◌, All, IfOk, IsSome, OnOk, Some, drop, get_or};
-ghost use Rattle.std.specs.Prelude.{length, map, slice_get, if◌then◌else◌, true};
+ghost use Rattle.std.specs.Prelude.{◌≡◌, ◌+◌, ◌-◌, ◌++◌, ◌<◌, ◌≤◌, All, IfOk, IsSome, OnOk, Some, drop, get_or, length};
+ghost use Rattle.std.specs.Prelude.{map, slice_get, if◌then◌else◌, true};
 ghost use Rattle.std.specs.Bool.{OnFalse};
 ghost use Rattle.style_table.specs.Range.{IsInRange};
 ghost use Rattle.line_tokens.specs.declared.LineTok.{LineTok};

@@ -1,8 +1,7 @@
 //! Which gaps of a directive keep the input's bytes.
 
-ghost use Rattle.std.specs.Prelude.{◌≡◌, ◌≤◌, length};
+ghost use Rattle.std.specs.Prelude.{◌≡◌};
 ghost use Rattle.token_arena.specs.Entries.{told_by};
-ghost use Rattle.token_arena.specs.Keeping.{behind_of};
 ghost use Rattle.token_arena.specs.Sections.{sections_of};
 ghost use Rattle.token_arena.specs.declared.directives.Section.TheVariants.{Dir};
 ghost use Rattle.std.specs.List.{Contains};

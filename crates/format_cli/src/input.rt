@@ -10,9 +10,9 @@ ghost use Rattle.command_refusals.specs.Counts.{Counted, Faults};
 ghost use Rattle.format_cli.specs.Generated.{IsGeneratedDoneWith, IsGeneratedRefused, text_of};
 ghost use Rattle.command_refusals.specs.InForce.{IsHeld};
 ghost use Rattle.format_cli.specs.Inputs.{AreDoneWith, AreRefused, FilePutFails, FilePuts, IsDoneWith, IsFileCause};
-ghost use Rattle.format_cli.specs.Inputs.{IsFileRefused, IsFormatted, IsSourceCause, IsSourceDoneWith};
-ghost use Rattle.format_cli.specs.Inputs.{IsSourceRefused, IsTextCause, IsTextRefused, IsTextTold, IsTold};
-ghost use Rattle.format_cli.specs.Inputs.{IsWriteRefused, SourcePutFails, SourcePuts, ends};
+ghost use Rattle.format_cli.specs.Inputs.{IsFileRefused, IsFormatted, IsSourceCause, IsSourceDoneWith, IsSourceRefused};
+ghost use Rattle.format_cli.specs.Inputs.{IsTextCause, IsTextRefused, IsTextTold, IsTold, IsWriteRefused};
+ghost use Rattle.format_cli.specs.Inputs.{SourcePutFails, SourcePuts, ends};
 
 use crate::told::tell_input;
 use bumpalo::Bump;

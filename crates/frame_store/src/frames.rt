@@ -25,8 +25,9 @@ pub struct Frame {
     pub opener: Role,
 }
 
-/// A digest with one number more.
-pub(crate) fn digest_with(digest: u64, value: u64) -> u64
+/// A digest with one number more, of which it depends as on those before.
+#[inline(always)]
+pub fn digest_with(digest: u64, value: u64) -> u64
     ensures { result ≡ digest_with digest value }
 {
     digest

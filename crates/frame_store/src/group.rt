@@ -230,7 +230,8 @@ impl<'r> Group<'r> {
         self.add_to_slot(digest, number)
     }
 
-    /// Lists a number under a digest.
+    /// Lists a number under a digest. `AllocError` where memory ran out, or the number or the links have no room in 32
+    /// bits.
     #[inline(always)]
     pub fn add(&mut self, digest: u64, number: usize) -> Result<(), AllocError>
         ensures kept { (d u : ℕ) → Lists self.old d u → Lists self.new d u }

@@ -13,7 +13,7 @@ mod group;
 mod node;
 mod store;
 
-pub use frames::{Frame, Frames};
+pub use frames::{Frame, Frames, digest_with};
 pub use group::{Group, Link};
 pub use line_tokens::NoMemory;
 pub use node::{Node, NodeState, digest, is_same_place};

@@ -193,7 +193,7 @@ impl<'r> FrameStore<'r> {
     ///
     /// # Errors
     ///
-    /// `NoMemory` where memory ran out.
+    /// `NoMemory` where memory ran out, or there are 2^32 - 1 nodes.
     pub fn keep(&mut self, frame: Frame, below: Option<u32>) -> Result<u32, NoMemory>
         requires { IsKnown self.old below }
         ensures known { IfOk result (λ u. u < length self.new) }
@@ -231,7 +231,7 @@ impl<'r> FrameStore<'r> {
     ///
     /// # Errors
     ///
-    /// `NoMemory` where memory ran out.
+    /// `NoMemory` where memory ran out, or there are 2^32 - 1 nodes.
     #[inline(always)]
     pub fn with_topmost(&mut self, node: u32, frame: Frame) -> Result<u32, NoMemory>
         requires { node < length self.old }

@@ -82,7 +82,7 @@ fn class_of_kind(kind: ItemKind) -> TokenClass
     }
 }
 
-/// The class of an item.
+/// The class of an item. Want of memory is the only error.
 #[inline(always)]
 pub fn item_class(
     arena: &TokenArena<'_, '_>,

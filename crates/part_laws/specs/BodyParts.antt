@@ -1,9 +1,8 @@
 -- Parts of a view that may end in bodies, and where declarations end.
 use Rattle.std.specs.Prelude.{◌≡◌, ℕ, ◌+◌, if◌then◌else◌, Some, None, List, [], ◌∷◌, drop}
 use Rattle.token_arena.specs.Gaps.{Contents}
-use Rattle.view_parts.specs.Parts.{Ended}
+use Rattle.view_parts.specs.Parts.{Ended, PartStop, FollowUpTo, end_of_part, part_ends}
 use Rattle.part_walk.specs.Walk.{is_outside}
-use Rattle.view_parts.specs.Parts.{PartStop, FollowUpTo, end_of_part, part_ends}
 use Rattle.part_laws.specs.Declarations.{start, next_end, first_len, declaration_ends}
 
 -- Where a part that begins outside brackets ends outside brackets, a declaration ends.

@@ -1,15 +1,12 @@
 //! What the other directives do in an active group (C11 6.10.3, 6.10.3.5, 6.10.4 to 6.10.7).
 
-ghost use Rattle.std.specs.Prelude.{◌≡◌, ℕ, Bool, true, false, List, [], ◌∷◌, ◌++◌, map, IfOk, Option, Some, None};
-ghost use Rattle.std.specs.Prelude.{option_map};
+ghost use Rattle.std.specs.Prelude.{◌≡◌, false, [], ◌∷◌, map, IfOk, Some, None};
 ghost use Rattle.pp_model.specs.Condition.{is_active};
 ghost use Rattle.pp_model.specs.Expand.{expand};
 ghost use Rattle.pp_model.specs.Define.{define_of};
-ghost use Rattle.pp_model.specs.Preprocess.{World as Worlds, emit, ErrorEvent, WarningEvent, PragmaEvent, EmbedEvent};
-ghost use Rattle.pp_model.specs.Preprocess.{Malformed, defined_as, undef, without, line_read, embed_read, embedded};
-ghost use Rattle.pp_model.specs.Preprocess.{flush, spelled};
+ghost use Rattle.pp_model.specs.Preprocess.{World as Worlds, emit, ErrorEvent, WarningEvent, PragmaEvent, Malformed};
+ghost use Rattle.pp_model.specs.Preprocess.{defined_as, undef, without, line_read, embedded, flush, spelled};
 ghost use Rattle.pp_events.specs.View.{tok_shown, macro_shown};
-ghost use Rattle.pp_directives.specs.DefineView.{some_macro};
 ghost use Rattle.pp_directives.specs.WorldView.{world_shown, conds_shown, acted_on, goes_on};
 
 use crate::define::define_of;

@@ -1,6 +1,6 @@
 //! The parts of a macro's body.
 
-ghost use Rattle.std.specs.Prelude.{◌≡◌, ℕ, Bool, false, List, [], ◌∷◌, ◌++◌, map, IfOk, Option, Some, option_map};
+ghost use Rattle.std.specs.Prelude.{◌≡◌, Bool, false, List, ◌∷◌, map, IfOk, Option, Some};
 ghost use Rattle.pp_model.specs.Define.{parts_of_body, paste_next, what_of, is_paste_before, is_item_before, ends_body};
 ghost use Rattle.pp_model.specs.Define.{Nothing};
 ghost use Rattle.pp_model.specs.Token.{Tok as Token, Name};

@@ -1,8 +1,7 @@
 //! What the directives of conditionals do (C11 6.10.1).
 
-ghost use Rattle.std.specs.Prelude.{◌≡◌, ℕ, Bool, true, false, List, [], ◌∷◌, ◌++◌, map, drop, IfOk, IfSome, Option};
-ghost use Rattle.std.specs.Prelude.{Some, None, option_map};
-ghost use Rattle.pp_model.specs.Token.{PpToken as Token};
+ghost use Rattle.std.specs.Prelude.{◌≡◌, Bool, true, false, List, ◌∷◌, ◌++◌, map, drop, IfOk, IfSome, Option, Some};
+ghost use Rattle.std.specs.Prelude.{None};
 ghost use Rattle.pp_model.specs.Condition.{Cond as Conds, is_active};
 ghost use Rattle.pp_model.specs.Setting.{holds_in};
 ghost use Rattle.pp_model.specs.Preprocess.{World as Worlds, test, asked, begin_if, if_active, branch, entered};

@@ -1,6 +1,6 @@
 //! The macro of a define directive's operand.
 
-ghost use Rattle.std.specs.Prelude.{◌≡◌, ℕ, List, [], ◌∷◌, map, IfOk, Option, option_map};
+ghost use Rattle.std.specs.Prelude.{◌≡◌, [], map, IfOk, Option, option_map};
 ghost use Rattle.pp_model.specs.Define.{define_of, after_paren, function_of, with_body, parts_of_body, Nothing};
 ghost use Rattle.pp_events.specs.View.{tok_shown};
 ghost use Rattle.pp_directives.specs.DefineView.{some_macro};

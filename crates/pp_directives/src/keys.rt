@@ -1,6 +1,6 @@
 //! How a setting is asked: by tokens, but for the numbers of lines and the white space in strings.
 
-ghost use Rattle.std.specs.Prelude.{◌≡◌, ℕ, List, [], ◌∷◌, map, Option, option_map};
+ghost use Rattle.std.specs.Prelude.{◌≡◌, [], map, Option, option_map};
 ghost use Rattle.pp_model.specs.Token.{erase, list_eq};
 ghost use Rattle.pp_model.specs.Preprocess.{key_of};
 ghost use Rattle.pp_model.specs.Setting.{find_text, holds_in};

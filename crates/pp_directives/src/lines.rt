@@ -1,7 +1,7 @@
 //! Presumed lines (C11 6.10.4).
 
-ghost use Rattle.std.specs.Prelude.{◌≡◌, ℕ, Bool, true, false, List, [], ◌∷◌, map, Option, Some, None};
-ghost use Rattle.pp_model.specs.Preprocess.{presumed, moved, jump_of, is_line_number, number_of};
+ghost use Rattle.std.specs.Prelude.{◌≡◌, [], map, Option, Some, None};
+ghost use Rattle.pp_model.specs.Preprocess.{presumed, moved, jump_of};
 ghost use Rattle.pp_events.specs.View.{tok_shown};
 ghost use Rattle.pp_directives.specs.WorldView.{shift_shown};
 ghost use Rattle.pp_directives.specs.LineNumber.{digits_value, line_number};

@@ -1,6 +1,6 @@
 //! The parameters of a macro.
 
-ghost use Rattle.std.specs.Prelude.{◌≡◌, ℕ, List, ◌∷◌, ◌++◌, map, IfOk, Option, bytes_eq};
+ghost use Rattle.std.specs.Prelude.{◌≡◌, List, ◌∷◌, map, IfOk, Option};
 ghost use Rattle.pp_model.specs.Define.{params_of, all_names, may_name, may_end, may_go_on, is_after_dots, index_of};
 ghost use Rattle.pp_model.specs.Define.{param_of, AfterOpen};
 ghost use Rattle.pp_model.specs.Token.{Tok as Token};

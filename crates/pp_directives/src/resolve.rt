@@ -1,6 +1,6 @@
 //! The `defined` of a condition, answered by the table (C11 6.10.1p1).
 
-ghost use Rattle.std.specs.Prelude.{◌≡◌, ℕ, ◌+◌, ◌≤◌, Bool, List, [], ◌∷◌, ◌++◌, length, map, IfOk, Option, option_map};
+ghost use Rattle.std.specs.Prelude.{◌≡◌, ◌+◌, ◌≤◌, List, [], ◌∷◌, ◌++◌, length, map, IfOk, Option};
 ghost use Rattle.pp_model.specs.Token.{Tok as Token, Plain};
 ghost use Rattle.c_grammar.specs.declared.ItemKind.TheVariants.{Number};
 ghost use Rattle.pp_model.specs.Condition.{resolve, is_defined, answer, asks, Free};

@@ -1,9 +1,8 @@
 //! Where a preprocessing stands.
 
-ghost use Rattle.std.specs.Prelude.{◌≡◌, ℕ, true, false, List, [], ◌∷◌, ◌++◌, map, IfOk, Option, Some, None};
-ghost use Rattle.std.specs.Prelude.{option_map};
+ghost use Rattle.std.specs.Prelude.{◌≡◌, true, false, [], ◌∷◌, ◌++◌, map, IfOk, Option, Some, None};
 ghost use Rattle.pp_model.specs.Preprocess.{World, emit, malformed, spend, flush, spelled, token_events, with_pending};
-ghost use Rattle.pp_model.specs.Preprocess.{with_turns, starting};
+ghost use Rattle.pp_model.specs.Preprocess.{starting};
 ghost use Rattle.pp_events.specs.View.{shown, tok_shown, macro_shown};
 ghost use Rattle.pp_directives.specs.WorldView.{event_shown, world_shown, expansion_of, behind_expansion};
 ghost use Rattle.pp_model.specs.Expand.{expand};

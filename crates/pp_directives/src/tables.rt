@@ -1,7 +1,6 @@
 //! The macros that are defined from the start.
 
-ghost use Rattle.std.specs.Prelude.{◌≡◌, ℕ, List, [], ◌∷◌, ◌++◌, map, filter_map, codes, true, IfOk, Option};
-ghost use Rattle.std.specs.Prelude.{option_map};
+ghost use Rattle.std.specs.Prelude.{◌≡◌, ◌∷◌, map, codes, true, IfOk, Option};
 ghost use Rattle.pp_model.specs.Setting.{kind_by, tok_by, are_different, is_allowed, parameters, macro_by, table_by};
 ghost use Rattle.pp_events.specs.View.{shown, tok_shown, macro_shown};
 ghost use Rattle.pp_directives.specs.SettingView.{body_token_shown, definition_shown};

@@ -1,6 +1,6 @@
 //! Tests of single tokens.
 
-ghost use Rattle.std.specs.Prelude.{◌≡◌, ℕ, List, [], ◌∷◌, map, not, ◌&&◌, codes, Option, option_map};
+ghost use Rattle.std.specs.Prelude.{◌≡◌, ◌∷◌, map, not, ◌&&◌, codes, Option, option_map};
 ghost use Rattle.pp_model.specs.Token.{is_in, text_of};
 ghost use Rattle.pp_model.specs.Define.{is_hash, is_paste, is_name, is_kept_name};
 ghost use Rattle.pp_events.specs.View.{shown, tok_shown};

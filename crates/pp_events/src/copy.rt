@@ -1,6 +1,6 @@
 //! Copies.
 
-ghost use Rattle.std.specs.Prelude.{◌≡◌, ℕ, List, [], ◌∷◌, ◌++◌, map, IfOk};
+ghost use Rattle.std.specs.Prelude.{◌≡◌, [], ◌∷◌, ◌++◌, map, IfOk};
 ghost use Rattle.pp_events.specs.View.{shown, shown_tokens, shown_spaced, shown_spaceds, tokens_of, spaceds_of};
 ghost use Rattle.pp_events.specs.View.{tok_shown, toks_shown};
 

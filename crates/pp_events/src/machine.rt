@@ -1,13 +1,12 @@
 //! The expansion of a text, one step after another.
 
-ghost use Rattle.std.specs.Prelude.{◌≡◌, ℕ, ◌<◌, ◌≤◌, ◌^◌, List, [], ◌∷◌, ◌++◌, length, drop, map, IfOk, IfSome};
-ghost use Rattle.std.specs.Prelude.{IfNone, Option, Some, None, option_map, reverse};
+ghost use Rattle.std.specs.Prelude.{◌≡◌, ◌<◌, ◌≤◌, [], ◌∷◌, ◌++◌, length, drop, map, IfOk, IfSome, IfNone, Option};
+ghost use Rattle.std.specs.Prelude.{Some, None, option_map};
 ghost use Rattle.pp_model.specs.Token.{text_of, common};
 ghost use Rattle.pp_model.specs.Macro.{lookup};
 ghost use Rattle.pp_model.specs.Call.{begin, begin_macro, begin_call, with_actuals, named, fits, no_tokens};
 ghost use Rattle.pp_model.specs.Expand.{resume, run, expand, settle, is_line, step, close, expanded, is_over};
-ghost use Rattle.pp_model.specs.Replace.{replacement};
-ghost use Rattle.pp_events.specs.View.{shown, tok_shown, toks_shown, part_shown, macro_shown, actuals_shown};
+ghost use Rattle.pp_events.specs.View.{shown, tok_shown, toks_shown, macro_shown, actuals_shown};
 ghost use Rattle.pp_events.specs.MachineView.{call_replacement, call_shown, calls_shown, state_shown, begun_shown};
 ghost use Rattle.pp_events.specs.MachineView.{expanded_shown};
 

@@ -1,6 +1,6 @@
 //! What a macro's body becomes.
 
-ghost use Rattle.std.specs.Prelude.{◌≡◌, ℕ, List, [], ◌∷◌, ◌++◌, map, IfOk, Option, option_map, flat_map, false};
+ghost use Rattle.std.specs.Prelude.{◌≡◌, [], ◌∷◌, ◌++◌, map, IfOk, Option, option_map, flat_map, false};
 ghost use Rattle.pp_model.specs.Token.{Tok as Token, common, is_in};
 ghost use Rattle.pp_model.specs.Replace.{Piece, pieces, pieces_of, tokens_of, argument, parts_of, quoted, paste};
 ghost use Rattle.pp_model.specs.Replace.{paste_all, paste_from, join, kept, hidden, joined, lined, placed, free, two};

@@ -1,6 +1,6 @@
 //! Whether two tokens are the same but for the numbers of lines and the white space in strings.
 
-ghost use Rattle.std.specs.Prelude.{◌≡◌, ℕ, List, [], ◌∷◌, map};
+ghost use Rattle.std.specs.Prelude.{◌≡◌, []};
 ghost use Rattle.pp_model.specs.Token.{erase, erase_tokens, erase_parts, token_eq, tokens_eq, parts_eq, Plain, Line};
 ghost use Rattle.pp_events.specs.View.{shown, shown_tokens, shown_spaceds};
 

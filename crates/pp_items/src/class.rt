@@ -1,6 +1,6 @@
 //! Classes of characters (C11 6.4), and spellings of one unit.
 
-ghost use Rattle.std.specs.Prelude.{◌≡◌, ◌==◌, ◌||◌, ◌&&◌, not, [], ◌∷◌};
+ghost use Rattle.std.specs.Prelude.{◌≡◌, ◌==◌, ◌||◌, ◌&&◌, not};
 ghost use Rattle.std.specs.List.{list_all};
 ghost use Rattle.unicode_ident.specs.Ident.{is_xid_start, is_xid_continue};
 ghost use Rattle.c_grammar.specs.Grammar.{is_new_line, is_digit, is_letter, is_hex, is_sign, is_exponent, is_wide};

@@ -3,7 +3,7 @@
 ghost use Rattle.std.specs.Prelude.{◌≡◌, ◌++◌, List, [], ◌∷◌, map, IfOk, OnOk};
 ghost use Rattle.c_grammar.specs.Twin.{OfText};
 ghost use Rattle.pp_model.specs.Stream.{Streamed as ReadStreamed, InText, directive, ended, add_item, cut_from};
-ghost use Rattle.pp_items.specs.View.{section_shown, items_shown, item_shown, streamed_shown, within_shown};
+ghost use Rattle.pp_items.specs.View.{section_shown, items_shown, streamed_shown, within_shown};
 ghost use Rattle.pp_items.specs.Cut.{sections_with, opened};
 
 use crate::item::{Part, PpItem, PpSection, SectionKind, Streamed};

@@ -1,7 +1,6 @@
 //! What a directive is, by its name (C11 6.10p1).
 
 ghost use Rattle.std.specs.Prelude.{◌≡◌, bytes_eq};
-ghost use Rattle.c_grammar.specs.Touch.{is_identifier};
 ghost use Rattle.pp_model.specs.Stream.{named_kind, common_names, directive_names, kind_named};
 ghost use Rattle.pp_items.specs.View.{kind_shown, item_shown};
 

@@ -2,7 +2,6 @@
 
 ghost use Rattle.std.specs.Prelude.{◌≡◌, ◌≤◌, ◌<◌, ◌∷◌, [], List, false, length, MatchOption, IfOk};
 ghost use Rattle.c_chars.specs.Characters.{bytes_of, logical};
-ghost use Rattle.c_chars.specs.Coming.{AreBetween};
 ghost use Rattle.c_grammar.specs.Text.{ReadItem};
 ghost use Rattle.c_chars.specs.declared.LogicalChar.{LogicalChar};
 ghost use Rattle.c_chars.specs.declared.TheConstants.{LIMIT};

@@ -1,7 +1,6 @@
 //! What an include directive begins (C11 6.10.2).
 
-ghost use Rattle.std.specs.Prelude.{◌≡◌, ◌<◌, ◌≤◌, ◌-◌, ℕ, List, map, length, IfOk, IfSome, IsErrOf, Option, Some};
-ghost use Rattle.std.specs.Prelude.{None};
+ghost use Rattle.std.specs.Prelude.{◌≡◌, ◌<◌, ◌≤◌, ◌-◌, ℕ, map, length, IfOk, IfSome, IsErrOf, Option, Some, None};
 ghost use Rattle.c_chars.specs.declared.TheConstants.{LIMIT};
 ghost use Rattle.pp_model.specs.Preprocess.{Includer, include_by, included, read_source, key_of, inside, outside};
 ghost use Rattle.pp_model.specs.Stream.{source_of};

@@ -1,7 +1,6 @@
 //! The reading of a text and of what it includes, section by section.
 
-ghost use Rattle.std.specs.Prelude.{◌≡◌, ◌+◌, ◌-◌, ◌<◌, ◌≤◌, ℕ, true, false, List, [], ◌∷◌, map, length, IfOk, IsErrOf};
-ghost use Rattle.std.specs.Prelude.{Option, Some, None};
+ghost use Rattle.std.specs.Prelude.{◌≡◌, ◌+◌, ◌-◌, ◌<◌, ◌≤◌, ℕ, ◌∷◌, map, IfOk, IsErrOf, Some, None};
 ghost use Rattle.pp_model.specs.Preprocess.{included, plain, one_section, is_include};
 ghost use Rattle.pp_events.specs.View.{tok_shown};
 ghost use Rattle.pp_items.specs.View.{section_shown, kind_shown};

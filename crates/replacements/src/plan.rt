@@ -1,8 +1,7 @@
 //! The decisions for the gaps of a text.
 
-ghost use Rattle.std.specs.Prelude.{◌≡◌, ◌<◌, ◌≤◌, ◌+◌, ◌^◌, ◌++◌, ◌∷◌, ◌↔◌, [], Some, None, false};
-ghost use Rattle.std.specs.Prelude.{length, replicate, vec_capacity};
-ghost use Rattle.std.specs.Prelude.{IfOk, IfSome, IsSome, IsTrue};
+ghost use Rattle.std.specs.Prelude.{◌≡◌, ◌<◌, ◌≤◌, ◌+◌, ◌^◌, ◌++◌, ◌∷◌, ◌↔◌, [], Some, None, false, length, replicate};
+ghost use Rattle.std.specs.Prelude.{vec_capacity, IfOk, IfSome, IsSome, IsTrue};
 ghost use Rattle.replacements.specs.declared.gap_text.Decision.TheVariants.{Lines, Spaces};
 ghost use Rattle.replacements.specs.Written.{decision_at};
 ghost use Rattle.std.specs.Bool.{OnFalse, OnTrue};

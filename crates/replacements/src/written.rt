@@ -1,7 +1,6 @@
 //! The text of a plan.
 
 ghost use Rattle.std.specs.Prelude.{◌≡◌, ◌==◌, ◌&&◌, ◌<◌, ◌≤◌, ◌+◌, ◌++◌, List, ℕ, length, drop, OnOk, false};
-ghost use Rattle.std.specs.Prelude.{if◌then◌else◌};
 ghost use Rattle.std.specs.Io.KnownBytes.{Appends};
 ghost use Rattle.c_chars.specs.Characters.{mark_len};
 ghost use Rattle.token_arena.specs.declared.directives.Section.{Section};

@@ -1,4 +1,4 @@
--- A group that grows keeps what it lists.
+-- Groups of nodes: what they list stays where one of them lists more, or one more is added.
 use Rattle.std.proofs.Common.{◌≡◌, ℕ, ◌<◌, inl, inr, Some, List, [], ◌∷◌, ◌++◌, length, refl, arith, ap, sym, ◌∙◌}
 use Rattle.std.proofs.Common.{subst, slice_get, slice_set, get_or}
 use Rattle.std.specs.Prelude.{Result, Ok, Err, OnOk}

@@ -1,4 +1,5 @@
--- The nodes of a table by groups: one group for the nodes behind some numbers of placed tokens that follow each other.
+-- Where nodes are found: on the chain of as many tokens, and where that is long in a group for some numbers of placed
+-- tokens that follow each other.
 use Rattle.std.specs.Prelude.{◌≡◌, ℕ, ◌/◌, ◌<◌, ◌≤◌, ◌⊎◌, Some, List, slice_get, zero, suc}
 use Rattle.frame_store.specs.declared.node.NodeState.{NodeState}
 use Rattle.frame_store.specs.Digest.{digest_with}

@@ -7,8 +7,7 @@ ghost use Rattle.search_nodes.specs.Groups.{IsGrouped, IsPlaced, AreListed};
 use crate::finding::{TOKENS_A_GROUP, place_digest};
 use crate::node::{MOST_ON_CHAIN, Node};
 use bumpalo::Bump;
-use frame_store::{Group, NodeState};
-use line_state::NoMemory;
+use frame_store::{Group, NoMemory, NodeState};
 
 /// How many slots a group has at first.
 const SLOTS: usize = 256;

@@ -8,7 +8,7 @@ ghost use Rattle.frame_store.specs.Chains.{IsOnChain};
 ghost use Rattle.search_nodes.specs.Groups.{IsPlaced, IsAmong, HasPlace, LacksPlace, Misses};
 
 use crate::node::{MOST_ON_CHAIN, Node};
-use frame_store::{Group, Link, NodeState, digest, is_same_place};
+use frame_store::{Group, Link, NodeState, digest, digest_with, is_same_place};
 
 /// How many numbers of tokens have one group.
 pub(crate) const TOKENS_A_GROUP: u32 = 32;
@@ -33,9 +33,7 @@ fn tells(nodes: &[Node], link: &Link, digest: u64, state: &NodeState) -> bool
 pub(crate) fn place_digest(state: &NodeState) -> u64
     ensures { result ≡ digest_with (state_digest state.now) state.now.index }
 {
-    digest(state)
-        .wrapping_mul(6_364_136_223_846_793_005)
-        .wrapping_add(u64::from(state.index))
+    digest_with(digest(state), u64::from(state.index))
 }
 
 /// The node that has the state's layout, among those of its digest on a chain.

@@ -12,5 +12,5 @@ mod node;
 
 pub use adding::{add, list_where_many};
 pub use finding::{end_at, find};
-pub use line_state::NoMemory;
+pub use frame_store::NoMemory;
 pub use node::{Node, open_node, rank_at};

@@ -12,7 +12,7 @@ pub(crate) const MOST_ON_CHAIN: u8 = 8;
 /// A layout that was met, its least known cost, and where that way to it comes from.
 #[derive(Clone, Copy)]
 pub struct Node {
-    /// The layout, with its cost. Its frames are in the table's store.
+    /// The layout, with its cost. Its frames are in the search's store.
     pub state: NodeState,
     /// The node before it.
     pub parent: usize,

@@ -1,4 +1,4 @@
--- What the code's stack of open lists stands for, the innermost first.
+-- Lines that cut the tokens, and what the code's stack of open lists stands for, the innermost first.
 use Rattle.std.specs.Prelude.{ℕ, ◌+◌, ◌-◌, ◌*◌, ◌<◌, ◌≤◌, ◌≡◌, Bool, true, false, List, [], ◌∷◌, ◌++◌, length, Option}
 use Rattle.std.specs.Prelude.{Some, None}
 use Rattle.statement_lines.specs.declared.token.CodeToken.{CodeToken}

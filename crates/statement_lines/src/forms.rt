@@ -301,7 +301,7 @@ fn control_form(
 
 /// The end of the tail of a `do`, or the place where there is none.
 #[inline(always)]
-pub fn tail_end(tokens: &[CodeToken], end: usize, place: usize) -> usize
+pub(crate) fn tail_end(tokens: &[CodeToken], end: usize, place: usize) -> usize
     requires { place < 2 ^ 33 }
     ensures same { result ≡ tail_end tokens.now end place }
     ensures least { place ≤ result }
@@ -441,7 +441,7 @@ fn other_form(
 
 /// A line alone.
 #[inline(always)]
-pub fn line_alone(kind: LineKind, level: u32, end: usize) -> Form
+pub(crate) fn line_alone(kind: LineKind, level: u32, end: usize) -> Form
     ensures { result ≡ record { kind = kind; level = level; end = end; next = Ends } }
 {
     Form {
@@ -562,7 +562,7 @@ fn unlabelled(braces: &Braces, tokens: &[CodeToken], opened: Open, at: usize) ->
 
 /// The cases, the first that fits.
 #[inline(always)]
-pub fn statement(
+pub(crate) fn statement(
     braces: &Braces,
     tokens: &[CodeToken],
     colons: &[u32],
@@ -601,7 +601,7 @@ pub fn statement(
 
 /// The line of a block's closing brace.
 #[inline(always)]
-pub fn close_form(
+pub(crate) fn close_form(
     braces: &Braces,
     tokens: &[CodeToken],
     opened: Open,
@@ -650,7 +650,7 @@ pub fn close_form(
 
 /// The line that begins at a place of the innermost list.
 #[inline(always)]
-pub fn form_of(
+pub(crate) fn form_of(
     braces: &Braces,
     tokens: &[CodeToken],
     colons: &[u32],

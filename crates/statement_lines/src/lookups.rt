@@ -9,14 +9,15 @@ use token_classes::TokenClass;
 
 /// The token at a place, if one stands there.
 #[inline(always)]
-pub fn token_at(tokens: &[CodeToken], place: usize) -> Option<CodeToken>
+pub(crate) fn token_at(tokens: &[CodeToken], place: usize) -> Option<CodeToken>
     ensures { result ≡ slice_get tokens.now place }
 {
     tokens.get(place).copied()
 }
 
+/// The class of the token at a place, `Nothing` behind the last.
 #[inline(always)]
-pub fn class_at(tokens: &[CodeToken], place: usize) -> TokenClass
+pub(crate) fn class_at(tokens: &[CodeToken], place: usize) -> TokenClass
     ensures { result ≡ class_at tokens.now place }
 {
     match token_at(tokens, place) {
@@ -25,8 +26,9 @@ pub fn class_at(tokens: &[CodeToken], place: usize) -> TokenClass
     }
 }
 
+/// Whether the token at a place began its line in the input.
 #[inline(always)]
-pub fn began_at(tokens: &[CodeToken], place: usize) -> bool
+pub(crate) fn began_at(tokens: &[CodeToken], place: usize) -> bool
     ensures { result ≡ began_at tokens.now place }
 {
     match token_at(tokens, place) {
@@ -35,8 +37,9 @@ pub fn began_at(tokens: &[CodeToken], place: usize) -> bool
     }
 }
 
+/// Whether a colon touches the token at a place.
 #[inline(always)]
-pub fn touched_at(tokens: &[CodeToken], place: usize) -> bool
+pub(crate) fn touched_at(tokens: &[CodeToken], place: usize) -> bool
     ensures { result ≡ touched_at tokens.now place }
 {
     match token_at(tokens, place) {
@@ -45,8 +48,9 @@ pub fn touched_at(tokens: &[CodeToken], place: usize) -> bool
     }
 }
 
+/// Whether the token at a place has no partner.
 #[inline(always)]
-pub fn has_no_partner(tokens: &[CodeToken], place: usize) -> bool
+pub(crate) fn has_no_partner(tokens: &[CodeToken], place: usize) -> bool
     ensures { result ≡ has_no_partner tokens.now place }
 {
     match token_at(tokens, place) {
@@ -55,8 +59,9 @@ pub fn has_no_partner(tokens: &[CodeToken], place: usize) -> bool
     }
 }
 
+/// The class of the token at a place, `Nothing` from `end` on.
 #[inline(always)]
-pub fn seen(tokens: &[CodeToken], end: usize, place: usize) -> TokenClass
+pub(crate) fn seen(tokens: &[CodeToken], end: usize, place: usize) -> TokenClass
     ensures { result ≡ seen tokens.now end place }
 {
     if place < end {
@@ -68,7 +73,7 @@ pub fn seen(tokens: &[CodeToken], end: usize, place: usize) -> TokenClass
 
 /// The partner of the opener at a place, in the list that ends at `end`.
 #[inline(always)]
-pub fn partner_in(tokens: &[CodeToken], end: usize, opener: usize) -> Option<usize>
+pub(crate) fn partner_in(tokens: &[CodeToken], end: usize, opener: usize) -> Option<usize>
     ensures same { result ≡ partner_in tokens.now end opener }
     ensures inside { IfSome result (λ p. (opener < p) × (p < end)) }
 {
@@ -84,8 +89,9 @@ pub fn partner_in(tokens: &[CodeToken], end: usize, opener: usize) -> Option<usi
     }
 }
 
+/// The place behind the group in round brackets that begins at a place, or that place where none does.
 #[inline(always)]
-pub fn after_group(tokens: &[CodeToken], end: usize, place: usize) -> usize
+pub(crate) fn after_group(tokens: &[CodeToken], end: usize, place: usize) -> usize
     ensures same { result ≡ after_group tokens.now end place }
     ensures least { place ≤ result }
     ensures most { place < result → result ≤ end }
@@ -100,8 +106,9 @@ pub fn after_group(tokens: &[CodeToken], end: usize, place: usize) -> usize
     }
 }
 
+/// The place behind a token, or behind the group that it opens; `end` where nothing closes that.
 #[inline(always)]
-pub fn step_over(tokens: &[CodeToken], end: usize, place: usize) -> usize
+pub(crate) fn step_over(tokens: &[CodeToken], end: usize, place: usize) -> usize
     requires here { place < end }
     requires list { end ≤ length tokens.now }
     ensures same { result ≡ step_over tokens.now end place }
@@ -118,8 +125,9 @@ pub fn step_over(tokens: &[CodeToken], end: usize, place: usize) -> usize
     }
 }
 
+/// The place of the partner of the opener at a place, or `end`.
 #[inline(always)]
-pub fn block_end(tokens: &[CodeToken], end: usize, place: usize) -> usize
+pub(crate) fn block_end(tokens: &[CodeToken], end: usize, place: usize) -> usize
     requires { place < end }
     ensures same { result ≡ block_end tokens.now end place }
     ensures least { place < result }

@@ -14,7 +14,7 @@ use token_classes::TokenClass;
 
 /// The end of an enumerator, its comma included.
 #[inline(always)]
-pub fn enumerator_end(tokens: &[CodeToken], end: usize, at: usize) -> usize
+pub(crate) fn enumerator_end(tokens: &[CodeToken], end: usize, at: usize) -> usize
     requires here { at < end }
     requires list { end ≤ length tokens.now }
     ensures same { result ≡ enumerator_end (end - at) tokens.now end at }
@@ -37,7 +37,8 @@ fn assigns(tokens: &[CodeToken], assigned: bool, place: usize) -> bool
     assigned || class_at(tokens, place).is_assigning()
 }
 
-pub fn is_member_word(class: TokenClass) -> bool
+/// `struct` or `union`.
+pub(crate) fn is_member_word(class: TokenClass) -> bool
     ensures { result ≡ is_member_word class }
 {
     class.is_struct() || class.is_union()
@@ -61,7 +62,7 @@ fn opens_block(tokens: &[CodeToken], assigned: bool, place: usize) -> bool
 /// Where a statement that is no other case ends.
 #[inline(always)]
 #[tactic(auto, using(crate::proofs::ScanLemmas::stop_at_end))]
-pub fn statement_stop(tokens: &[CodeToken], end: usize, from: usize, assigned: bool) -> Stop
+pub(crate) fn statement_stop(tokens: &[CodeToken], end: usize, from: usize, assigned: bool) -> Stop
     requires here { from ≤ end }
     requires list { end ≤ length tokens.now }
     ensures same { result ≡ statement_stop (end - from) tokens.now end from assigned }
@@ -139,7 +140,7 @@ fn behind(tokens: &[CodeToken], first: usize, at: usize) -> usize
 /// `struct`, `union` or `enum` before the brace.
 #[inline(always)]
 #[tactic(auto, using(crate::proofs::ScanLemmas::tag_at_end, crate::proofs::ScanLemmas::tag_member, crate::proofs::ScanLemmas::tag_other))]
-pub fn tag_before(tokens: &[CodeToken], first: usize, brace: usize) -> TokenClass
+pub(crate) fn tag_before(tokens: &[CodeToken], first: usize, brace: usize) -> TokenClass
     requires { brace ≤ length tokens.now }
     ensures { result ≡ tag_before (brace - first) tokens.now first brace Nothing }
 {

@@ -48,7 +48,12 @@ fn is_no_case(tokens: &[CodeToken], opened: Open, at: usize) -> bool
 
 /// The end of the line at a place, where its first tokens tell that it is a simple one and leaves all lists open.
 #[inline(always)]
-pub fn simple_end(tokens: &[CodeToken], opened: Open, start: Start, at: usize) -> Option<usize>
+pub(crate) fn simple_end(
+    tokens: &[CodeToken],
+    opened: Open,
+    start: Start,
+    at: usize,
+) -> Option<usize>
     requires here { at < opened.end }
     requires list { opened.end ≤ length tokens.now }
     ensures form { IfSome result (λ end.

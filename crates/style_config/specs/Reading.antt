@@ -13,8 +13,7 @@ use Rattle.style_table.specs.declared.value.ValueFault.{ValueFault}
 use Rattle.style_table.specs.declared.value.ValueFault.TheVariants as Value
 use Rattle.style_table.specs.declared.key.Key.{Key}
 use Rattle.style_table.specs.Keys.{key_of, with_value}
-use Rattle.style_table.specs.Words.{bool_words}
-use Rattle.style_table.specs.Words.{value_in}
+use Rattle.style_table.specs.Words.{bool_words, value_in}
 use Rattle.style_table.specs.Named.{named}
 use Rattle.style_config.specs.Lines.{NumberedLine, lines_in, documents_for_c, base_of}
 use Rattle.style_config.specs.Entries.{outer_name, outer_of, Setting, Item, Wrong, Given, items_of}

@@ -1,5 +1,5 @@
 // The lines of a configuration, with their numbers.
-ghost use Rattle.std.specs.Prelude.{◌≡◌, ◌≤◌, ◌^◌, length, map, IfOk};
+ghost use Rattle.std.specs.Prelude.{◌≡◌, ◌≤◌, ◌^◌, length, IfOk};
 ghost use Rattle.std.specs.Option.{option_map};
 ghost use Rattle.style_config.specs.Lines.{belongs_to_key, document_text, is_mark, is_passed_over, line_of, line_text};
 ghost use Rattle.style_config.specs.Lines.{lines_in};

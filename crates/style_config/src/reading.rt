@@ -3,8 +3,7 @@ ghost use Rattle.std.specs.Prelude.{◌≡◌, IfOk, List, is_some, string_bytes
 ghost use Rattle.style_table.specs.Range.{IsInRange};
 ghost use Rattle.style_config.specs.Entries.{setting_text};
 ghost use Rattle.style_config.specs.Reading.{Gives, aligned, is_base, known, meaning_of, path, read_setting, with_read};
-ghost use Rattle.style_table.specs.Words.{bool_words};
-ghost use Rattle.style_table.specs.Words.{value_in};
+ghost use Rattle.style_table.specs.Words.{bool_words, value_in};
 ghost use Rattle.style_table.specs.Keys.{with_value};
 ghost use Rattle.style_table.specs.Named.{named};
 ghost use Rattle.style_config.specs.declared.skipped.SkippedKey.{SkippedKey};

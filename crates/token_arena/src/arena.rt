@@ -7,8 +7,8 @@ ghost use Rattle.c_chars.specs.Characters.{is_plain, mark_len};
 ghost use Rattle.c_chars.specs.declared.TheConstants.{LIMIT};
 ghost use Rattle.token_arena.specs.Gaps.{gap_of, gap_start, gap_end, joined, StandFrom};
 ghost use Rattle.token_arena.specs.Holds.{HoldsItems};
-ghost use Rattle.token_arena.specs.Entries.{told_by, AreEntries, contents_of, gap_kept};
-ghost use Rattle.token_arena.specs.Entries.{is_back, is_itself, is_printable};
+ghost use Rattle.token_arena.specs.Entries.{told_by, AreEntries, contents_of, gap_kept, is_back, is_itself};
+ghost use Rattle.token_arena.specs.Entries.{is_printable};
 ghost use Rattle.token_arena.specs.Stored.{Stored};
 
 use crate::facts::{Rows, line_feeds, one_row, rows_of, rows_of_any};

@@ -1,10 +1,10 @@
 //! Partners of brackets, found with a stack of the openers that wait.
 
 ghost use Rattle.std.specs.Prelude.{◌≡◌, ◌∷◌, [], ◌++◌, ◌<◌, ◌≤◌, ◌+◌, ◌^◌, reverse, IfOk, Option, Some, None, IfSome};
-ghost use Rattle.std.specs.Prelude.{IfNone, MatchOption, length, ℕ, All, OnOk, slice_set};
-ghost use Rattle.std.specs.Option.{ForSome, ForNone};
-ghost use Rattle.token_classes.specs.Partners.{count_braces, nearest_brace, topmost, is_round, is_square};
-ghost use Rattle.token_classes.specs.Partners.{paired, TakesStep, StandBefore};
+ghost use Rattle.std.specs.Prelude.{IfNone, length, OnOk, slice_set};
+ghost use Rattle.std.specs.Option.{ForSome};
+ghost use Rattle.token_classes.specs.Partners.{count_braces, nearest_brace, topmost, is_round, is_square, paired};
+ghost use Rattle.token_classes.specs.Partners.{TakesStep, StandBefore};
 
 use crate::TokenClass;
 use crate::partner::Partner;
@@ -126,7 +126,7 @@ fn push_opener(stack: &mut Vec<Opener, &Bump>, place: u32, kind: TokenClass) -> 
 /// One token, as far as the openers that wait go: the place of the opener that it takes off.
 ///
 /// `stack` has the openers, the topmost last, and `braces` says how many of them are a `{`. Who reads tokens from the
-/// left begins with none.
+/// left begins with none. Want of memory is the only error.
 #[inline(always)]
 pub fn waiting_step(
     stack: &mut Vec<Opener, &Bump>,

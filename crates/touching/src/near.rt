@@ -2,8 +2,8 @@
 
 ghost use Rattle.std.specs.Prelude.{◌≡◌, ◌==◌, ◌<◌, ◌&&◌, ◌||◌, ◌∷◌, [], codes, length, IfSome};
 ghost use Rattle.c_grammar.specs.Grammar.{is_of, is_sign};
-ghost use Rattle.c_grammar.specs.Touch.{is_identifier, is_number, is_other_kind, may_touch};
-ghost use Rattle.c_grammar.specs.Touch.{punct_goes_on, takes_line, word_by_word};
+ghost use Rattle.c_grammar.specs.Touch.{is_identifier, is_number, is_other_kind, may_touch, punct_goes_on, takes_line};
+ghost use Rattle.c_grammar.specs.Touch.{word_by_word};
 ghost use Rattle.touching.specs.Near.{is_plain, pair_goes_on, thirds};
 ghost use Rattle.touching.specs.Spelling.{spelling};
 

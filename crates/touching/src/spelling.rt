@@ -4,7 +4,7 @@ ghost use Rattle.std.specs.Prelude.{◌≡◌, ◌≤◌, ◌++◌, ◌∷◌, [
 ghost use Rattle.c_chars.specs.Characters.{bytes_of};
 ghost use Rattle.c_chars.specs.declared.TheConstants.{LIMIT};
 ghost use Rattle.c_grammar.specs.Grammar.{is_same, is_exponent};
-ghost use Rattle.c_grammar.specs.Touch.{is_front, first_of, ends};
+ghost use Rattle.c_grammar.specs.Touch.{is_front, ends};
 ghost use Rattle.std.specs.Option.{option_to_list};
 ghost use Rattle.touching.specs.Spelling.{spelling};
 

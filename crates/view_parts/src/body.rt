@@ -76,7 +76,7 @@ fn push_heads(
 }
 
 /// The items that are laid out for a part of a view, from one place to before another: where it begins in a body, those
-/// that stand for that place, and then its own.
+/// that stand for that place, and then its own. Want of memory is the only error.
 pub fn laid_view<'r>(
     begins: Option<BodyPlace<'_>>,
     view: &View<'_>,

@@ -380,7 +380,7 @@ fn noted_part_end<'k>(
 }
 
 /// Where the part of a view ends that begins at a place, as [`part_end`](crate::part_end) says, and which items tell
-/// so. Where it is known, that takes one step.
+/// so. Where it is known, that takes one step. Want of memory is the only error.
 ///
 /// `known` has what is known for each item of the text, or for none where nothing is to be kept. `segment` is kept from
 /// one place of a view to the next, and starts at 0.

@@ -72,7 +72,7 @@ fn note_of(notes: &[Note], id: u32, newest: u32) -> Option<usize>
 }
 
 impl<'k> KnownEnds<'k> {
-    /// Nothing is known of the parts of a text with so many items.
+    /// Nothing is known of the parts of a text with so many items. Want of memory is the only error.
     pub fn none(items: usize, keep: &'k Bump) -> Result<KnownEnds<'k>, NoMemory>
         ensures { IfOk result (λ known. known ≡ replicate items Unknown) }
     {

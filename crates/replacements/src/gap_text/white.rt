@@ -1,9 +1,8 @@
 //! Blanks, tabs, line ends and spliced lines.
 
-ghost use Rattle.std.specs.Prelude.{◌≡◌, ◌≤◌, ◌-◌, OnOk, ◌++◌, ◌∷◌, replicate, length};
+ghost use Rattle.std.specs.Prelude.{◌≡◌, ◌≤◌, ◌-◌, OnOk, ◌++◌, ◌∷◌, replicate};
 ghost use Rattle.std.specs.Io.KnownBytes.{Appends};
 ghost use Rattle.fmt_ports.specs.Causes.{AppendsPart, Counts};
-ghost use Rattle.style_table.specs.Range.{IsInRange};
 ghost use Rattle.replacements.specs.GapText.{blanks, gap_text, indentation, level_columns, line_end, line_ends};
 ghost use Rattle.replacements.specs.GapText.{tabs_to};
 
