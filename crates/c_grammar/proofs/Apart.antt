@@ -4,8 +4,8 @@ use Rattle.std.specs.Prelude.{if◌then◌else◌, codes}
 use Rattle.std.specs.List.{list_any}
 use Rattle.std.proofs.lemmas.Bool.{cases_Bool, or_parts, or_right, both_ways, and_parts}
 use Rattle.c_chars.specs.declared.Dialect.{Dialect}
-use Rattle.c_grammar.specs.declared.ItemKind.{ItemKind}
-use Rattle.c_grammar.specs.declared.ItemKind.TheVariants.{Identifier, BlockComment}
+use Rattle.item_kinds.specs.declared.ItemKind.{ItemKind}
+use Rattle.item_kinds.specs.declared.ItemKind.TheVariants.{Identifier, BlockComment}
 use Rattle.c_grammar.specs.Grammar.{is_new_line, is_same, Whole}
 use Rattle.c_grammar.specs.Items.{IsLongest, Place, LineStart, AfterHash, AfterInclude, AfterDefine, AfterMacroName, InDirective, InText, past_gap, past_item, past_name, is_include, is_gap, BeginsHeader, IsNext, Piece, written, Reads}
 use Rattle.c_grammar.specs.Touch.{takes_line, regapped}

@@ -8,8 +8,8 @@ use Rattle.c_grammar.specs.Grammar.{is_same, joined, AreUnits, IsHeaded, is_one,
 use Rattle.c_grammar.specs.Touch.{starts, is_front, is_identifier, is_number, is_punct, is_other_kind, is_literal, takes_line, punct_goes_on}
 use Rattle.c_chars.specs.declared.Dialect.{Dialect}
 use Rattle.c_chars.specs.declared.Dialect.TheVariants.{C11, C23}
-use Rattle.c_grammar.specs.declared.ItemKind.{ItemKind}
-use Rattle.c_grammar.specs.declared.ItemKind.TheVariants.{Identifier, Number, CharConst, StringLit, Punct, HeaderName, StrayQuote, Other, BlockComment, LineComment}
+use Rattle.item_kinds.specs.declared.ItemKind.{ItemKind}
+use Rattle.item_kinds.specs.declared.ItemKind.TheVariants.{Identifier, Number, CharConst, StringLit, Punct, HeaderName, StrayQuote, Other, BlockComment, LineComment}
 use Rattle.c_grammar.proofs.Lists.{all_weaken, GoesOn, two_cuts, all_append, all_weaken, units_all, in_table, of_table, same_is}
 use Rattle.c_grammar.proofs.Firsts.{Begins, begins, starts_or_empty, is_quote, is_mark, is_number_start, is_letter_start}
 use Rattle.c_grammar.proofs.Words.{high_wordlike, is_wordlike, word_unit_wordlike, identifier_wordlike, wordlike_not_quote, wordlike_not_mark}

@@ -6,7 +6,7 @@ use Rattle.std.proofs.lemmas.Bool.{and_parts, or_cases, or_left, or_right, eqb-t
 use Rattle.c_grammar.specs.Grammar.{is_other_unit, is_same, is_of, joined, AreUnits, is_letter, is_digit, is_new_line, is_punctuator, IsUnclosed, IsEmptyQuotes, IsBlock, is_quoted_unit, has_end, Shape, Whole, Unended, Spells}
 use Rattle.c_grammar.specs.Touch.{starts}
 use Rattle.c_chars.specs.declared.Dialect.{Dialect}
-use Rattle.c_grammar.specs.declared.ItemKind.TheVariants.{Identifier, Number, CharConst, StringLit, Punct, HeaderName, StrayQuote, Other, BlockComment, LineComment}
+use Rattle.item_kinds.specs.declared.ItemKind.TheVariants.{Identifier, Number, CharConst, StringLit, Punct, HeaderName, StrayQuote, Other, BlockComment, LineComment}
 use Rattle.c_grammar.proofs.Lists.{SameCut, all_weaken}
 use Rattle.c_grammar.proofs.Firsts.{is_rare, high_not_letter, high_not_quote, Begins, begins, starts_or_empty, char_prefix_letter, string_prefix_letter, is_quote, is_mark, is_number_start, is_letter_start}
 use Rattle.c_grammar.proofs.Words.{is_wordlike, identifier_wordlike, char_prefix_wordlike, string_prefix_wordlike, wordlike_not_quote}

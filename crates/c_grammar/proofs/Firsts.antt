@@ -8,7 +8,7 @@ use Rattle.c_grammar.specs.Grammar.{is_one, is_wide, is_other_unit, is_white, is
 use Rattle.c_grammar.specs.Touch.{starts}
 use Rattle.c_chars.specs.declared.Dialect.{Dialect}
 use Rattle.c_chars.specs.declared.Dialect.TheVariants.{C11, C23}
-use Rattle.c_grammar.specs.declared.ItemKind.TheVariants.{Identifier, Number, CharConst, StringLit, Punct, HeaderName, StrayQuote, Other, BlockComment, LineComment}
+use Rattle.item_kinds.specs.declared.ItemKind.TheVariants.{Identifier, Number, CharConst, StringLit, Punct, HeaderName, StrayQuote, Other, BlockComment, LineComment}
 use Rattle.c_grammar.proofs.Lists.{in_table, none_of}
 use Rattle.c_grammar.proofs.Wide.{is_high, AreHigh, high_first, wide_high}
 use Rattle.unicode_ident.specs.Ident.{is_xid_start}

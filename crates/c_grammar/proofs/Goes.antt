@@ -7,7 +7,7 @@ use Rattle.c_grammar.specs.Grammar.{is_other_unit, is_same, is_of, joined, IsHea
 use Rattle.c_grammar.specs.Touch.{ends, is_front}
 use Rattle.c_chars.specs.declared.Dialect.{Dialect}
 use Rattle.c_chars.specs.declared.Dialect.TheVariants.{C11, C23}
-use Rattle.c_grammar.specs.declared.ItemKind.TheVariants.{Identifier, Number, CharConst, StringLit, Punct, HeaderName, StrayQuote, Other, BlockComment, LineComment}
+use Rattle.item_kinds.specs.declared.ItemKind.TheVariants.{Identifier, Number, CharConst, StringLit, Punct, HeaderName, StrayQuote, Other, BlockComment, LineComment}
 use Rattle.c_grammar.proofs.Lists.{passes_at, two_cuts, of_table, in_table, all_append, same_is}
 use Rattle.c_grammar.proofs.Firsts.{is_rare, not_start, other_cases, high_not_mark, Begins, begins, can_begin, is_quote, is_letter_start, is_number_start, is_mark}
 use Rattle.c_grammar.proofs.Wide.{is_high, wide_high}

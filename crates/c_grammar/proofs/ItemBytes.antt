@@ -11,7 +11,7 @@ use Rattle.c_chars.proofs.Cuts.{IsCleanCut, units, phase_over, trigraph_over, st
 use Rattle.c_chars.proofs.Spans.{finish_from}
 use Rattle.c_chars.proofs.Splits.{head_of, last_of}
 use Rattle.c_chars.proofs.Ends.{from_of, units_from, units_finish, same_finish, same_from, last_byte, same_last, moved_last, Middle, middle}
-use Rattle.c_grammar.specs.declared.ItemKind.{ItemKind}
+use Rattle.item_kinds.specs.declared.ItemKind.{ItemKind}
 use Rattle.c_grammar.specs.Items.{Place, past_gap, past_item, IsNext, Reads, written}
 use Rattle.c_grammar.specs.Text.{ReadItem, piece_of, begin_of, finish_of, start_of, end_of, raw_of, characters_of}
 use Rattle.c_grammar.proofs.Unique.{is_blank}

@@ -8,8 +8,8 @@ use Rattle.c_grammar.specs.Grammar.{is_same, is_of, AreUnits, is_letter, is_whit
 use Rattle.c_grammar.specs.Items.{IsLongest, is_gap, Place, LineStart, AfterHash, AfterInclude, AfterDefine, AfterMacroName, InDirective, InText, past_gap, past_item, past_name, is_include, BeginsHeader, IsNext, Piece, written, Reads}
 use Rattle.c_chars.specs.declared.Dialect.{Dialect}
 use Rattle.c_chars.specs.declared.Dialect.TheVariants.{C11, C23}
-use Rattle.c_grammar.specs.declared.ItemKind.{ItemKind}
-use Rattle.c_grammar.specs.declared.ItemKind.TheVariants.{Identifier, Number, CharConst, StringLit, Punct, HeaderName, StrayQuote, Other, BlockComment, LineComment}
+use Rattle.item_kinds.specs.declared.ItemKind.{ItemKind}
+use Rattle.item_kinds.specs.declared.ItemKind.TheVariants.{Identifier, Number, CharConst, StringLit, Punct, HeaderName, StrayQuote, Other, BlockComment, LineComment}
 use Rattle.c_grammar.proofs.Lists.{two_cuts, all_append, in_table}
 use Rattle.c_grammar.proofs.Firsts.{Begins, begins, starts_or_empty, can_begin, char_prefix_letter, string_prefix_letter, is_quote}
 use Rattle.c_grammar.proofs.Words.{letter_start_wordlike, wordlike_not_quote}

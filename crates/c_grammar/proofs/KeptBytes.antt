@@ -6,7 +6,7 @@ use Rattle.c_chars.specs.Characters.{placed, phase_1, chars, bytes_of, mark_len,
 use Rattle.c_chars.specs.declared.Dialect.{Dialect}
 use Rattle.c_chars.proofs.Cuts.{ends_in, starts_in, units, IsCleanCut}
 use Rattle.c_chars.proofs.FirstUnits.{front_line, begins_line}
-use Rattle.c_grammar.specs.declared.ItemKind.{ItemKind}
+use Rattle.item_kinds.specs.declared.ItemKind.{ItemKind}
 use Rattle.c_grammar.specs.Grammar.{is_new_line, is_same}
 use Rattle.c_grammar.specs.Items.{Place, LineStart, past_gap, past_item, is_gap, Reads}
 use Rattle.c_grammar.specs.Touch.{starts, ends, takes_line}

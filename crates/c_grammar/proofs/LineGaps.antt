@@ -8,8 +8,8 @@ use Rattle.c_grammar.specs.Grammar.{is_one, is_two, IsHeaded, is_digit, is_white
 use Rattle.c_grammar.specs.Items.{IsLongest, Place, AfterInclude, past_gap, past_item, BeginsHeader, IsNext, Piece, written, Reads}
 use Rattle.c_chars.specs.declared.Dialect.{Dialect}
 use Rattle.c_chars.specs.declared.Dialect.TheVariants.{C11, C23}
-use Rattle.c_grammar.specs.declared.ItemKind.{ItemKind}
-use Rattle.c_grammar.specs.declared.ItemKind.TheVariants.{Identifier, Number, CharConst, StringLit, Punct, HeaderName, StrayQuote, Other, BlockComment, LineComment}
+use Rattle.item_kinds.specs.declared.ItemKind.{ItemKind}
+use Rattle.item_kinds.specs.declared.ItemKind.TheVariants.{Identifier, Number, CharConst, StringLit, Punct, HeaderName, StrayQuote, Other, BlockComment, LineComment}
 use Rattle.c_grammar.proofs.Lists.{two_cuts, all_append, all_weaken, units_all, in_table, passes_at}
 use Rattle.c_grammar.proofs.Firsts.{Begins, begins, starts_or_empty, can_begin, other_cases}
 use Rattle.c_grammar.proofs.Words.{is_wordlike, identifier_wordlike, high_wordlike, digit_wordlike}

@@ -8,8 +8,8 @@ use Rattle.c_grammar.specs.Grammar.{is_other_unit, is_same, is_of, is_letter, is
 use Rattle.c_grammar.specs.Items.{IsLongest, is_gap, Place, LineStart, AfterInclude, past_gap, past_item, BeginsHeader, IsNext, Piece, written, Reads}
 use Rattle.c_grammar.specs.Touch.{ends, is_front, takes_line, regapped, KeepsItemsOverGaps}
 use Rattle.c_chars.specs.declared.Dialect.{Dialect}
-use Rattle.c_grammar.specs.declared.ItemKind.{ItemKind}
-use Rattle.c_grammar.specs.declared.ItemKind.TheVariants.{Identifier, Number, CharConst, StringLit, Punct, HeaderName, StrayQuote, Other, BlockComment, LineComment}
+use Rattle.item_kinds.specs.declared.ItemKind.{ItemKind}
+use Rattle.item_kinds.specs.declared.ItemKind.TheVariants.{Identifier, Number, CharConst, StringLit, Punct, HeaderName, StrayQuote, Other, BlockComment, LineComment}
 use Rattle.c_grammar.proofs.Lists.{two_cuts, all_append}
 use Rattle.c_grammar.proofs.Firsts.{Begins, begins, starts_or_empty, can_begin, is_quote, is_mark, is_number_start}
 use Rattle.c_grammar.proofs.Words.{high_wordlike, digit_wordlike, is_wordlike, identifier_wordlike}

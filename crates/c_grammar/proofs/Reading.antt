@@ -4,7 +4,7 @@ use Rattle.std.specs.Prelude.{IsTrue}
 use Rattle.c_chars.specs.Characters.{bytes_of, logical}
 use Rattle.c_chars.specs.declared.Dialect.{Dialect}
 use Rattle.c_chars.specs.declared.LogicalChar.{LogicalChar}
-use Rattle.c_grammar.specs.declared.ItemKind.{ItemKind}
+use Rattle.item_kinds.specs.declared.ItemKind.{ItemKind}
 use Rattle.c_grammar.specs.Items.{LineStart, past_gap, is_gap, IsNext, Reads, written}
 use Rattle.c_grammar.specs.Text.{ReadItem, piece_of, characters_of, LexesText, Left, IsStep, ReadsUpTo, IsReadUpTo}
 use Rattle.c_grammar.proofs.Unique.{reads_same}

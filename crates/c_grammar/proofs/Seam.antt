@@ -6,8 +6,8 @@ use Rattle.std.proofs.lemmas.Bool.{and_parts, or_cases, and_from, or_left, or_ri
 use Rattle.c_grammar.specs.Grammar.{is_same, is_of, is_letter, is_digit, is_sign, is_exponent, is_string_prefix, Shape, Whole, Spells}
 use Rattle.c_grammar.specs.Touch.{starts, ends, is_front, is_identifier, is_number, is_other_kind, is_literal, takes_line, word_by_word, prefix_by_quote, number_goes_on, point_by_number, punct_goes_on, trigraph_comes, may_touch}
 use Rattle.c_chars.specs.declared.Dialect.{Dialect}
-use Rattle.c_grammar.specs.declared.ItemKind.{ItemKind}
-use Rattle.c_grammar.specs.declared.ItemKind.TheVariants.{Identifier, Number, CharConst, StringLit, Punct, HeaderName, StrayQuote, Other, BlockComment, LineComment}
+use Rattle.item_kinds.specs.declared.ItemKind.{ItemKind}
+use Rattle.item_kinds.specs.declared.ItemKind.TheVariants.{Identifier, Number, CharConst, StringLit, Punct, HeaderName, StrayQuote, Other, BlockComment, LineComment}
 use Rattle.c_grammar.proofs.Firsts.{can_begin, is_quote, is_letter_start, is_mark}
 use Rattle.c_grammar.proofs.Classes.{not_of, letter_not_digit, letter_start_not_digit, digit_not_quote, digit_not_mark, other_is_none}
 use Rattle.c_grammar.proofs.Words.{is_wordlike, wordlike_not_quote, wordlike_not_mark}

@@ -7,7 +7,7 @@ use Rattle.c_grammar.specs.Grammar.{is_hex, is_wide, is_other_unit, is_same, joi
 use Rattle.c_grammar.specs.Touch.{starts}
 use Rattle.c_chars.specs.declared.Dialect.{Dialect}
 use Rattle.c_chars.specs.declared.Dialect.TheVariants.{C11, C23}
-use Rattle.c_grammar.specs.declared.ItemKind.TheVariants.{Identifier, Number, CharConst, StringLit, Punct, HeaderName, StrayQuote, Other, BlockComment, LineComment}
+use Rattle.item_kinds.specs.declared.ItemKind.TheVariants.{Identifier, Number, CharConst, StringLit, Punct, HeaderName, StrayQuote, Other, BlockComment, LineComment}
 use Rattle.c_grammar.proofs.Lists.{in_table, passes_at}
 use Rattle.c_grammar.proofs.Wide.{is_high, wide_high, wide_alone, wide_both}
 use Rattle.unicode_ident.specs.Ident.{is_xid_start}

@@ -8,7 +8,7 @@ use Rattle.c_grammar.specs.Grammar.{is_same, is_of, joined, AreUnits, is_one, is
 use Rattle.c_grammar.specs.Items.{IsLongest}
 use Rattle.c_chars.specs.declared.Dialect.{Dialect}
 use Rattle.c_chars.specs.declared.Dialect.TheVariants.{C11, C23}
-use Rattle.c_grammar.specs.declared.ItemKind.TheVariants.{CharConst, StringLit, StrayQuote, LineComment}
+use Rattle.item_kinds.specs.declared.ItemKind.TheVariants.{CharConst, StringLit, StrayQuote, LineComment}
 use Rattle.c_grammar.proofs.Lists.{all_append, same_is}
 
 is_more : ℕ → Bool

@@ -7,8 +7,8 @@ use Rattle.c_grammar.specs.Grammar.{is_letter, is_digit, is_white, is_new_line, 
 use Rattle.c_grammar.specs.Items.{IsLongest, Place, LineStart, is_gap, past_gap, past_item, IsNext, Piece, written, Reads, Lexes}
 use Rattle.c_grammar.specs.Touch.{starts, HasOneList}
 use Rattle.c_chars.specs.declared.Dialect.{Dialect}
-use Rattle.c_grammar.specs.declared.ItemKind.{ItemKind}
-use Rattle.c_grammar.specs.declared.ItemKind.TheVariants.{Identifier, Number, CharConst, StringLit, Punct, HeaderName, StrayQuote, Other, BlockComment, LineComment}
+use Rattle.item_kinds.specs.declared.ItemKind.{ItemKind}
+use Rattle.item_kinds.specs.declared.ItemKind.TheVariants.{Identifier, Number, CharConst, StringLit, Punct, HeaderName, StrayQuote, Other, BlockComment, LineComment}
 use Rattle.c_grammar.proofs.Lists.{SameCut, two_cuts}
 use Rattle.c_grammar.proofs.Firsts.{begins, can_begin, is_quote, is_letter_start, is_number_start, is_mark}
 use Rattle.c_grammar.proofs.Classes.{none_of}

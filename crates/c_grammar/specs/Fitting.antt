@@ -6,8 +6,8 @@ use Rattle.c_grammar.specs.Grammar.{is_new_line, is_same}
 use Rattle.c_grammar.specs.Items.{Place, LineStart, InText, past_gap, past_item, is_hash, Piece, Lexes, written, is_gap}
 use Rattle.c_grammar.specs.Touch.{starts, is_punct, takes_line, regapped}
 use Rattle.c_grammar.specs.Regapping.{IsSameItem}
-use Rattle.c_grammar.specs.declared.ItemKind.{ItemKind}
-use Rattle.c_grammar.specs.declared.ItemKind.TheVariants.{BlockComment, LineComment}
+use Rattle.item_kinds.specs.declared.ItemKind.{ItemKind}
+use Rattle.item_kinds.specs.declared.ItemKind.TheVariants.{BlockComment, LineComment}
 use Rattle.c_chars.specs.declared.Dialect.{Dialect}
 
 -- the place is in a directive, behind its `#`

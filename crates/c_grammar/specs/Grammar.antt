@@ -7,9 +7,9 @@ use Rattle.std.specs.Str.{is_utf8, chars}
 use Rattle.unicode_ident.specs.Ident.{is_xid_start, is_xid_continue}
 use Rattle.c_chars.specs.declared.Dialect.{Dialect}
 use Rattle.c_chars.specs.declared.Dialect.TheVariants.{C11, C23}
-use Rattle.c_grammar.specs.declared.ItemKind.{ItemKind}
-use Rattle.c_grammar.specs.declared.ItemKind.TheVariants.{Identifier, Number, CharConst, StringLit, Punct, HeaderName}
-use Rattle.c_grammar.specs.declared.ItemKind.TheVariants.{StrayQuote, Other, BlockComment, LineComment}
+use Rattle.item_kinds.specs.declared.ItemKind.{ItemKind}
+use Rattle.item_kinds.specs.declared.ItemKind.TheVariants.{Identifier, Number, CharConst, StringLit, Punct, HeaderName}
+use Rattle.item_kinds.specs.declared.ItemKind.TheVariants.{StrayQuote, Other, BlockComment, LineComment}
 
 -- Characters.
 

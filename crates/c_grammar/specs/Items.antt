@@ -4,8 +4,8 @@ use Rattle.std.specs.List.{list_any, list_all}
 use Rattle.c_grammar.specs.Grammar.{Spells, Shape, Whole, is_white, is_new_line, is_same, IsHeaderName}
 use Rattle.c_chars.specs.declared.Dialect.{Dialect}
 use Rattle.c_chars.specs.declared.Dialect.TheVariants.{C11, C23}
-use Rattle.c_grammar.specs.declared.ItemKind.{ItemKind}
-use Rattle.c_grammar.specs.declared.ItemKind.TheVariants.{Identifier, Punct, HeaderName, BlockComment, LineComment}
+use Rattle.item_kinds.specs.declared.ItemKind.{ItemKind}
+use Rattle.item_kinds.specs.declared.ItemKind.TheVariants.{Identifier, Punct, HeaderName, BlockComment, LineComment}
 
 -- The spelling is of this shape, and nothing that goes on from it into the rest spells anything.
 pub record IsLongest (d : Dialect) (shape : Shape) (spelling rest : List ℕ) : Type 0 where

@@ -4,7 +4,7 @@ use Rattle.c_grammar.specs.Items.{Place, LineStart, past_gap, past_item, is_gap,
 use Rattle.c_chars.specs.Characters.{bytes_of, logical}
 use Rattle.c_chars.specs.declared.Dialect.{Dialect}
 use Rattle.c_chars.specs.declared.LogicalChar.{LogicalChar}
-use Rattle.c_grammar.specs.declared.ItemKind.{ItemKind}
+use Rattle.item_kinds.specs.declared.ItemKind.{ItemKind}
 
 -- an item as it is read from a text: the characters of the gap before it, and its own
 pub record ReadItem : Type 0 where

@@ -6,9 +6,9 @@ use Rattle.c_grammar.specs.Items.{Piece, Lexes, written, is_gap}
 use Rattle.c_chars.specs.declared.Dialect.{Dialect}
 use Rattle.c_grammar.specs.Grammar.{is_new_line, is_same, is_of, is_letter, is_sign, is_exponent, is_string_prefix}
 use Rattle.c_grammar.specs.Grammar.{common_punctuators}
-use Rattle.c_grammar.specs.declared.ItemKind.{ItemKind}
-use Rattle.c_grammar.specs.declared.ItemKind.TheVariants.{Identifier, Number, CharConst, StringLit, Punct, StrayQuote}
-use Rattle.c_grammar.specs.declared.ItemKind.TheVariants.{Other, LineComment}
+use Rattle.item_kinds.specs.declared.ItemKind.{ItemKind}
+use Rattle.item_kinds.specs.declared.ItemKind.TheVariants.{Identifier, Number, CharConst, StringLit, Punct, StrayQuote}
+use Rattle.item_kinds.specs.declared.ItemKind.TheVariants.{Other, LineComment}
 
 -- the first character passes
 abbrev pub starts : (ℕ → Bool) → List ℕ → Bool

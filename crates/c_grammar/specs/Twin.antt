@@ -7,7 +7,7 @@ use Rattle.c_grammar.specs.Text.{ReadItem, piece_of, raw_of, LexesText}
 use Rattle.c_chars.specs.Characters.{mark_len}
 use Rattle.c_chars.specs.declared.Dialect.{Dialect}
 use Rattle.c_chars.specs.declared.LogicalChar.{LogicalChar}
-use Rattle.c_grammar.specs.declared.ItemKind.{ItemKind}
+use Rattle.item_kinds.specs.declared.ItemKind.{ItemKind}
 
 -- What an item is to a directive: of a text and none of its business; the `#` that begins it; the `(` that makes its
 -- macro function-like; of it otherwise.

@@ -7,7 +7,7 @@ ghost use Rattle.c_chars.specs.declared.Dialect.{Dialect};
 ghost use Rattle.c_grammar.specs.Grammar.{is_same};
 ghost use Rattle.c_grammar.specs.Touch.{starts};
 ghost use Rattle.c_grammar.specs.Items.{LineStart, past_item, past_name, past_comment, is_hash, is_include};
-ghost use Rattle.c_grammar.specs.declared.ItemKind.TheVariants.{Identifier, Punct, Other, BlockComment};
+ghost use Rattle.item_kinds.specs.declared.ItemKind.TheVariants.{Identifier, Punct, Other, BlockComment};
 ghost use Rattle.c_grammar.specs.Bytes.{IsFirst};
 ghost use Rattle.c_grammar.specs.Place.{place_of, past_plain, past_mark, past_word, IsSpanned, SpelledBy};
 

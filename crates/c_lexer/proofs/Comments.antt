@@ -4,7 +4,7 @@ use Rattle.std.proofs.lemmas.Bool.{eqb-true, cases_Bool}
 use Rattle.c_chars.specs.declared.Dialect.{Dialect}
 use Rattle.c_grammar.specs.Grammar.{has_end, IsBlock, Whole, Unended}
 use Rattle.c_grammar.specs.Items.{IsLongest}
-use Rattle.c_grammar.specs.declared.ItemKind.TheVariants.{BlockComment}
+use Rattle.item_kinds.specs.declared.ItemKind.TheVariants.{BlockComment}
 use Rattle.c_grammar.proofs.Closed.{block_stays}
 use Rattle.c_lexer.specs.Run.{IsCut}
 use Rattle.c_lexer.specs.Comment.{closes_block, block_len}

@@ -12,7 +12,7 @@ use Rattle.c_grammar.specs.Touch.{starts}
 use Rattle.c_lexer.specs.Quote.{closes_quote, quote_len}
 use Rattle.c_lexer.proofs.Quotes.{char_cut, string_cut, stray_cut, empty_cut}
 use Rattle.c_grammar.specs.Items.{IsLongest}
-use Rattle.c_grammar.specs.declared.ItemKind.TheVariants.{CharConst, StringLit, StrayQuote, LineComment, BlockComment}
+use Rattle.item_kinds.specs.declared.ItemKind.TheVariants.{CharConst, StringLit, StrayQuote, LineComment, BlockComment}
 use Rattle.c_lexer.specs.Run.{IsCut}
 use Rattle.c_lexer.specs.Cut.{IsCutOff}
 use Rattle.c_lexer.specs.Comment.{closes_block, block_len, line_len}

@@ -9,7 +9,7 @@ use Rattle.c_chars.specs.declared.Dialect.{Dialect}
 use Rattle.c_chars.specs.declared.LogicalChar.{LogicalChar}
 use Rattle.c_grammar.specs.Grammar.{is_white, is_new_line}
 use Rattle.c_grammar.specs.Items.{Place, past_gap}
-use Rattle.c_grammar.specs.declared.ItemKind.{ItemKind}
+use Rattle.item_kinds.specs.declared.ItemKind.{ItemKind}
 use Rattle.c_grammar.specs.Text.{ReadItem, IsStep}
 use Rattle.c_grammar.specs.Touch.{starts}
 use Rattle.c_grammar.proofs.Unique.{next_begins}

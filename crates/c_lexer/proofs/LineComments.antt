@@ -5,7 +5,7 @@ use Rattle.std.proofs.lemmas.Bool.{and_parts, or_cases, and_from, eqb-true, eq-e
 use Rattle.c_chars.specs.declared.Dialect.{Dialect}
 use Rattle.c_grammar.specs.Grammar.{is_same, is_one, is_white, is_new_line, IsTrimmed, IsLine, Shape, Whole, Spells}
 use Rattle.c_grammar.specs.Items.{IsLongest}
-use Rattle.c_grammar.specs.declared.ItemKind.TheVariants.{LineComment}
+use Rattle.item_kinds.specs.declared.ItemKind.TheVariants.{LineComment}
 use Rattle.c_grammar.proofs.Lists.{all_append, same_is}
 use Rattle.c_grammar.proofs.Sorts.{sort_is, slash_sort}
 use Rattle.c_lexer.specs.Run.{IsCut}

@@ -11,7 +11,7 @@ use Rattle.c_chars.specs.declared.Dialect.TheVariants.{C11, C23}
 use Rattle.c_grammar.specs.Grammar.{AreUnits, IsHeaded, joined, Shape, Whole, Spells, is_letter_unit, is_word_unit, is_same, is_of, is_char_prefix, is_string_prefix}
 use Rattle.c_grammar.specs.Items.{IsLongest}
 use Rattle.c_grammar.specs.Touch.{starts}
-use Rattle.c_grammar.specs.declared.ItemKind.TheVariants.{Identifier, CharConst, StringLit}
+use Rattle.item_kinds.specs.declared.ItemKind.TheVariants.{Identifier, CharConst, StringLit}
 use Rattle.c_grammar.proofs.Lists.{same_is, two_cuts}
 use Rattle.c_grammar.proofs.Firsts.{begins, is_quote}
 use Rattle.c_grammar.proofs.Goes.{both_begin}
@@ -26,7 +26,7 @@ use Rattle.c_lexer.proofs.Prefixes.{is_constant, is_string, word_kinds, constant
 use Rattle.c_lexer.proofs.Units.{onto, nothing, letter_is_word, word_some, word_alone}
 use Rattle.c_lexer.proofs.CutOffs.{char_off, string_off, two_first}
 use Rattle.c_lexer.proofs.FirstBytes.{begins_at}
-use Rattle.c_grammar.specs.declared.ItemKind.{ItemKind}
+use Rattle.item_kinds.specs.declared.ItemKind.{ItemKind}
 
 -- a text begins with a prefix and one more
 quoted_front : (p : List ℕ) (q : ℕ) (s : List ℕ) → (starts_with nat_eq s p && starts_with nat_eq (drop (length p) s) (q ∷ [])) ≡ starts_with nat_eq s (p ++ q ∷ [])

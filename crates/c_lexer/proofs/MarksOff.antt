@@ -8,7 +8,7 @@ use Rattle.c_chars.specs.declared.Dialect.{Dialect}
 use Rattle.c_chars.specs.declared.Dialect.TheVariants.{C11, C23}
 use Rattle.c_grammar.specs.Grammar.{Whole, is_digit, is_char_prefix, is_string_prefix}
 use Rattle.c_grammar.specs.Touch.{starts}
-use Rattle.c_grammar.specs.declared.ItemKind.TheVariants.{CharConst, Punct, StrayQuote, StringLit}
+use Rattle.item_kinds.specs.declared.ItemKind.TheVariants.{CharConst, Punct, StrayQuote, StringLit}
 use Rattle.c_grammar.proofs.Firsts.{is_mark}
 use Rattle.c_grammar.proofs.Goes.{no_punct_front}
 use Rattle.c_lexer.specs.Run.{IsCut, long, first_front, begins_number}

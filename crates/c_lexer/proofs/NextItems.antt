@@ -11,7 +11,7 @@ use Rattle.c_grammar.specs.Grammar.{Unended, is_white, is_new_line}
 use Rattle.c_grammar.specs.Items.{Place, LineStart, IsNext, IsLongest, is_gap, past_gap, past_item}
 use Rattle.c_grammar.specs.Text.{begin_of}
 use Rattle.c_grammar.specs.Touch.{starts}
-use Rattle.c_grammar.specs.declared.ItemKind.{ItemKind}
+use Rattle.item_kinds.specs.declared.ItemKind.{ItemKind}
 use Rattle.c_lexer.specs.Cut.{IsStop}
 use Rattle.c_lexer.specs.Fault.{IsAt, IsFault, past_blank, fault_of}
 use Rattle.c_lexer.specs.Next.{IsCutNext}

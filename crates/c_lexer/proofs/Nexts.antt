@@ -8,8 +8,8 @@ use Rattle.c_chars.specs.declared.Dialect.{Dialect}
 use Rattle.c_chars.specs.declared.LogicalChar.{LogicalChar}
 use Rattle.c_grammar.specs.Grammar.{Whole, IsHeaderName}
 use Rattle.c_grammar.specs.Items.{Place, AfterInclude, BeginsHeader, IsLongest}
-use Rattle.c_grammar.specs.declared.ItemKind.{ItemKind}
-use Rattle.c_grammar.specs.declared.ItemKind.TheVariants.{HeaderName}
+use Rattle.item_kinds.specs.declared.ItemKind.{ItemKind}
+use Rattle.item_kinds.specs.declared.ItemKind.TheVariants.{HeaderName}
 use Rattle.c_lexer.specs.Cut.{IsCutOff, IsStop}
 use Rattle.c_lexer.specs.declared.cut.Stop.{Stop}
 use Rattle.c_lexer.specs.Header.{begins_header, header_len}

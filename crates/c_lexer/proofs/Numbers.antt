@@ -7,7 +7,7 @@ use Rattle.c_chars.specs.declared.Dialect.{Dialect}
 use Rattle.c_grammar.specs.Grammar.{AreUnits, is_letter, is_digit, is_number_head, is_number_unit, is_punctuator, Shape, Whole, Unended, Spells}
 use Rattle.c_grammar.specs.Items.{IsLongest}
 use Rattle.c_grammar.specs.Touch.{starts}
-use Rattle.c_grammar.specs.declared.ItemKind.TheVariants.{Identifier, Number, CharConst, StringLit, Punct, HeaderName, StrayQuote, Other, BlockComment, LineComment}
+use Rattle.item_kinds.specs.declared.ItemKind.TheVariants.{Identifier, Number, CharConst, StringLit, Punct, HeaderName, StrayQuote, Other, BlockComment, LineComment}
 use Rattle.c_grammar.proofs.Lists.{two_cuts}
 use Rattle.c_grammar.proofs.Firsts.{begins, is_quote, is_letter_start, is_number_start, is_mark}
 use Rattle.c_grammar.proofs.Classes.{not_of, letter_start_not_digit, digit_not_mark}

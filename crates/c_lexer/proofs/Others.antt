@@ -4,7 +4,7 @@ use Rattle.std.proofs.lemmas.Bool.{or_cases, both_ways, eqb-true}
 use Rattle.c_chars.specs.declared.Dialect.{Dialect}
 use Rattle.c_grammar.specs.Grammar.{is_other, is_other_unit, is_wide, is_letter, is_digit, is_letter_unit, Shape, Whole, Unended, Spells}
 use Rattle.c_grammar.specs.Items.{IsLongest}
-use Rattle.c_grammar.specs.declared.ItemKind.TheVariants.{Identifier, Number, CharConst, StringLit, Punct, HeaderName, StrayQuote, Other, BlockComment, LineComment}
+use Rattle.item_kinds.specs.declared.ItemKind.TheVariants.{Identifier, Number, CharConst, StringLit, Punct, HeaderName, StrayQuote, Other, BlockComment, LineComment}
 use Rattle.c_grammar.proofs.Firsts.{is_quote, is_mark, is_number_start, can_begin, not_start, other_cases}
 use Rattle.c_grammar.proofs.Classes.{other_is_none, other_not_mark}
 use Rattle.c_grammar.proofs.Goes.{both_begin, one_short}

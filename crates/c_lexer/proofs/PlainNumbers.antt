@@ -13,7 +13,7 @@ use Rattle.c_chars.specs.declared.LogicalChar.{LogicalChar}
 use Rattle.c_grammar.proofs.WordBytes.{word_byte}
 use Rattle.c_grammar.specs.Grammar.{is_letter, is_digit, is_exponent, is_sign, is_number_unit}
 use Rattle.c_grammar.specs.Touch.{starts}
-use Rattle.c_grammar.specs.declared.ItemKind.TheVariants.{Number}
+use Rattle.item_kinds.specs.declared.ItemKind.TheVariants.{Number}
 use Rattle.c_grammar.specs.Bytes.{is_beyond}
 use Rattle.c_lexer.specs.Class.{ends_number}
 use Rattle.c_lexer.specs.Cut.{IsCutOff}

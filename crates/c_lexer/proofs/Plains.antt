@@ -12,7 +12,7 @@ use Rattle.c_chars.specs.declared.Dialect.TheVariants.{C11, C23}
 use Rattle.c_chars.specs.declared.LogicalChar.{LogicalChar}
 use Rattle.c_grammar.specs.Grammar.{is_letter, is_digit, is_word_unit, is_of}
 use Rattle.c_grammar.specs.Touch.{starts}
-use Rattle.c_grammar.specs.declared.ItemKind.TheVariants.{Identifier, Punct}
+use Rattle.item_kinds.specs.declared.ItemKind.TheVariants.{Identifier, Punct}
 use Rattle.c_grammar.specs.Bytes.{begins_punctuator, is_beyond, is_quote_mark, IsFirst}
 use Rattle.c_lexer.specs.Class.{ends_mark, ends_word, is_lone_mark}
 use Rattle.c_lexer.specs.Cut.{IsCutOff}

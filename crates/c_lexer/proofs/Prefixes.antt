@@ -7,7 +7,7 @@ use Rattle.c_chars.specs.declared.Dialect.{Dialect}
 use Rattle.c_chars.specs.declared.Dialect.TheVariants.{C11, C23}
 use Rattle.c_grammar.specs.Grammar.{is_one, is_wide, is_other, is_same, is_letter, is_digit, is_new_line, joined, is_quoted_unit, is_char_prefix, is_string_prefix, Shape, Whole, Unended, Spells}
 use Rattle.c_grammar.specs.Touch.{starts}
-use Rattle.c_grammar.specs.declared.ItemKind.TheVariants.{Identifier, Number, CharConst, StringLit, Punct, HeaderName, StrayQuote, Other, BlockComment, LineComment}
+use Rattle.item_kinds.specs.declared.ItemKind.TheVariants.{Identifier, Number, CharConst, StringLit, Punct, HeaderName, StrayQuote, Other, BlockComment, LineComment}
 use Rattle.c_grammar.proofs.Lists.{in_table, two_cuts}
 use Rattle.c_grammar.proofs.Firsts.{is_quote, is_mark, is_number_start, is_letter_start, not_start, other_cases}
 use Rattle.c_grammar.proofs.Classes.{letter_start_not_digit, letter_start_not_mark, letter_start_not_quote}

@@ -9,7 +9,7 @@ use Rattle.c_grammar.specs.Touch.{starts, is_front}
 use Rattle.c_lexer.specs.Run.{long, common_long, first_front, IsCut, begins_long, goes_on_long, is_pair_mark}
 use Rattle.c_chars.specs.declared.Dialect.{Dialect}
 use Rattle.c_chars.specs.declared.Dialect.TheVariants.{C11, C23}
-use Rattle.c_grammar.specs.declared.ItemKind.TheVariants.{Identifier, Number, CharConst, StringLit, Punct, HeaderName, StrayQuote, Other, BlockComment, LineComment}
+use Rattle.item_kinds.specs.declared.ItemKind.TheVariants.{Identifier, Number, CharConst, StringLit, Punct, HeaderName, StrayQuote, Other, BlockComment, LineComment}
 use Rattle.c_grammar.proofs.Lists.{in_table, same_is, same_refl}
 use Rattle.c_grammar.proofs.Firsts.{Begins, high_not_mark, is_quote, is_mark, is_letter_start}
 use Rattle.c_grammar.proofs.Classes.{mark_not_letter_start, mark_not_quote, digit_not_mark, mark_is_punctuator}

@@ -7,7 +7,7 @@ use Rattle.c_chars.specs.declared.Dialect.{Dialect}
 use Rattle.c_grammar.specs.Grammar.{is_same, is_of, is_new_line, AreUnits, is_quoted_unit, IsUnclosed, IsEmptyQuotes, is_char_prefix, is_string_prefix, Shape, Whole, Unended, Spells}
 use Rattle.c_grammar.specs.Items.{IsLongest}
 use Rattle.c_grammar.specs.Touch.{starts}
-use Rattle.c_grammar.specs.declared.ItemKind.TheVariants.{Identifier, Number, CharConst, StringLit, Punct, HeaderName, StrayQuote, Other, BlockComment, LineComment}
+use Rattle.item_kinds.specs.declared.ItemKind.TheVariants.{Identifier, Number, CharConst, StringLit, Punct, HeaderName, StrayQuote, Other, BlockComment, LineComment}
 use Rattle.c_grammar.proofs.Closed.{closed_stays, char_closed, string_closed, of_quotes}
 use Rattle.c_grammar.proofs.Before.{not_line, closed_line, stray_line, quote_kind}
 use Rattle.c_grammar.proofs.Firsts.{is_quote}

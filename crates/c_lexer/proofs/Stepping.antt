@@ -13,7 +13,7 @@ use Rattle.c_grammar.specs.Items.{Place, is_gap, IsNext, past_gap, past_item}
 use Rattle.c_lexer.specs.Reading.{IsNextItem}
 use Rattle.c_lexer.proofs.Runs.{passes}
 use Rattle.c_grammar.specs.Text.{begin_of, finish_of, raw_of}
-use Rattle.c_grammar.specs.declared.ItemKind.{ItemKind}
+use Rattle.item_kinds.specs.declared.ItemKind.{ItemKind}
 
 pub behind_chars : (d : Dialect) (at n : ℕ) (s : List LogicalChar) → (passed d at s n).chars ≡ drop n s
 behind_chars d at zero s = refl

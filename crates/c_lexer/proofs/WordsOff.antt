@@ -11,8 +11,8 @@ use Rattle.c_chars.specs.declared.LogicalChar.{LogicalChar}
 use Rattle.c_grammar.specs.Grammar.{Whole, is_one, is_wide, is_letter, is_digit, is_letter_unit, is_word_unit, is_number_unit, is_white, is_new_line, is_other, is_other_unit, is_punctuator, is_of}
 use Rattle.c_grammar.specs.Items.{IsLongest}
 use Rattle.c_grammar.specs.Touch.{starts}
-use Rattle.c_grammar.specs.declared.ItemKind.{ItemKind}
-use Rattle.c_grammar.specs.declared.ItemKind.TheVariants.{Identifier, Number, Other}
+use Rattle.item_kinds.specs.declared.ItemKind.{ItemKind}
+use Rattle.item_kinds.specs.declared.ItemKind.TheVariants.{Identifier, Number, Other}
 use Rattle.c_grammar.proofs.Firsts.{is_mark, begins, not_start, punct_begins}
 use Rattle.c_grammar.proofs.Singles.{letter_single}
 use Rattle.c_grammar.proofs.Wide.{wide_alone}

@@ -6,7 +6,7 @@ use Rattle.c_grammar.specs.Grammar.{Whole, Unended}
 use Rattle.c_grammar.specs.Items.{IsLongest}
 use Rattle.c_lexer.specs.declared.cut.Stop.{Stop}
 use Rattle.c_lexer.specs.declared.cut.Stop.TheVariants.{Unterminated}
-use Rattle.c_grammar.specs.declared.ItemKind.{ItemKind}
+use Rattle.item_kinds.specs.declared.ItemKind.{ItemKind}
 use Rattle.c_lexer.specs.Run.{IsCut}
 
 -- The text's first characters are the longest that spell an item, it has this kind, and then that is left.

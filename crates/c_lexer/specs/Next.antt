@@ -3,7 +3,7 @@ use Rattle.std.specs.Prelude.{◌≡◌, ℕ, ◌<◌, ◌≤◌, length, take, 
 use Rattle.c_chars.specs.Characters.{bytes_of}
 use Rattle.c_chars.specs.Coming.{Coming, behind}
 use Rattle.c_grammar.specs.Items.{Place, IsNext}
-use Rattle.c_grammar.specs.declared.ItemKind.{ItemKind}
+use Rattle.item_kinds.specs.declared.ItemKind.{ItemKind}
 
 -- At this place the text's first characters are the item that stands next, it has this kind, and then that is left.
 pub record IsCutNext (place : Place) (text left : Coming) (kind : ItemKind) : Type 0 where

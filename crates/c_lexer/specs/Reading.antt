@@ -8,7 +8,7 @@ use Rattle.c_chars.specs.Coming.{Coming, AreBytesPassed, behind}
 use Rattle.c_chars.specs.declared.Dialect.{Dialect}
 use Rattle.c_chars.specs.declared.LogicalChar.{LogicalChar}
 use Rattle.c_grammar.specs.Grammar.{is_white, is_new_line}
-use Rattle.c_grammar.specs.declared.ItemKind.{ItemKind}
+use Rattle.item_kinds.specs.declared.ItemKind.{ItemKind}
 use Rattle.c_grammar.specs.Text.{Left, ReadItem, IsStep, start_of, raw_of}
 use Rattle.c_lexer.specs.declared.item.Lexeme.{Lexeme}
 

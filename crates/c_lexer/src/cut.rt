@@ -8,7 +8,7 @@ ghost use Rattle.c_chars.specs.Coming.{behind};
 ghost use Rattle.c_grammar.specs.Grammar.{Unended, is_letter, is_white, is_new_line};
 ghost use Rattle.c_grammar.specs.Touch.{starts};
 ghost use Rattle.c_grammar.specs.Items.{IsLongest};
-ghost use Rattle.c_grammar.specs.declared.ItemKind.TheVariants.{Number, Punct, Other, LineComment, BlockComment};
+ghost use Rattle.item_kinds.specs.declared.ItemKind.TheVariants.{Number, Punct, Other, LineComment, BlockComment};
 ghost use Rattle.c_lexer.specs.Cut.{IsCutOff, IsStop};
 ghost use Rattle.c_grammar.specs.Bytes.{begins_punctuator, is_quote_mark, IsFirst};
 ghost use Rattle.c_lexer.specs.Reading.{AreOwnBytes, IsBegun};

@@ -5,7 +5,7 @@ ghost use Rattle.c_chars.specs.Characters.{bytes_of};
 ghost use Rattle.c_grammar.specs.Grammar.{is_white, is_new_line};
 ghost use Rattle.c_grammar.specs.Items.{AfterInclude, BeginsHeader};
 ghost use Rattle.c_grammar.specs.Touch.{starts};
-ghost use Rattle.c_grammar.specs.declared.ItemKind.TheVariants.{HeaderName};
+ghost use Rattle.item_kinds.specs.declared.ItemKind.TheVariants.{HeaderName};
 ghost use Rattle.c_grammar.specs.Bytes.{IsFirst};
 ghost use Rattle.c_lexer.specs.Cut.{IsStop};
 ghost use Rattle.c_lexer.specs.Next.{IsCutNext};

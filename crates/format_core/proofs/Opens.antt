@@ -10,7 +10,7 @@ use Rattle.c_grammar.specs.Grammar.{Unended, Whole, Spells}
 use Rattle.c_grammar.specs.Items.{Place, LineStart, past_gap, past_item, IsLongest, IsNext, Piece, Reads, written}
 use Rattle.c_grammar.specs.Text.{ReadItem, Left, IsStep, ReadsUpTo, LexesText, piece_of}
 use Rattle.c_grammar.specs.Touch.{starts}
-use Rattle.c_grammar.specs.declared.ItemKind.{ItemKind}
+use Rattle.item_kinds.specs.declared.ItemKind.{ItemKind}
 use Rattle.c_grammar.proofs.Reading.{bytes_append, characters_written}
 use Rattle.c_grammar.proofs.Sorts.{one_kind}
 use Rattle.c_grammar.proofs.Unique.{is_blank, same_span, next_begins, next_not_empty, next_same}

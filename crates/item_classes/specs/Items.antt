@@ -3,7 +3,7 @@ use Rattle.std.specs.Prelude.{slice_get, ◌≡◌, ℕ, zero, suc, ◌+◌, ◌
 use Rattle.std.specs.Prelude.{get_or, Some, List, []}
 use Rattle.c_chars.specs.declared.Dialect.{Dialect}
 use Rattle.c_grammar.specs.Touch.{may_touch}
-use Rattle.c_grammar.specs.declared.ItemKind.TheVariants.{Other as OtherKind}
+use Rattle.item_kinds.specs.declared.ItemKind.TheVariants.{Other as OtherKind}
 use Rattle.touching.specs.Spelling.{spelling}
 use Rattle.line_tokens.specs.declared.LineTok.{LineTok}
 use Rattle.token_arena.specs.Stored.{Stored}

@@ -1,7 +1,7 @@
 -- The classes of the items of a text, and of those of a view.
 use Rattle.std.specs.Prelude.{◌<◌, ◌==◌, ◌&&◌, not, ℕ, Bool, List, Option, Some, None, All, length, map, slice_get}
 use Rattle.c_chars.specs.declared.Dialect.{Dialect}
-use Rattle.c_grammar.specs.declared.ItemKind.{ItemKind}
+use Rattle.item_kinds.specs.declared.ItemKind.{ItemKind}
 use Rattle.c_grammar.specs.Rewritten.{read_alone}
 use Rattle.token_arena.specs.Gaps.{Contents}
 use Rattle.token_arena.specs.Stored.{Stored}

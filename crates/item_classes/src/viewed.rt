@@ -3,7 +3,7 @@
 ghost use Rattle.std.specs.Prelude.{◌≡◌, ◌<◌, ◌≤◌, ℕ, List, length, IfOk, IsTrue};
 ghost use Rattle.std.specs.List.{list_all};
 ghost use Rattle.c_chars.specs.declared.TheConstants.{LIMIT};
-ghost use Rattle.c_grammar.specs.declared.ItemKind.{ItemKind};
+ghost use Rattle.item_kinds.specs.declared.ItemKind.{ItemKind};
 ghost use Rattle.c_grammar.specs.Rewritten.{read_alone};
 ghost use Rattle.item_classes.specs.Viewed.{class_spelled, is_itself, AreWithin, item_class, item_classes, classes_of};
 

@@ -11,8 +11,8 @@ use Rattle.line_tokens.specs.declared.role.Role.TheVariants.{DeclClose, GroupClo
 use Rattle.line_tokens.specs.declared.role.Role.TheVariants.{Unary, Prefix, Postfix, LabelColon, DesigDot, Member}
 use Rattle.line_tokens.specs.declared.role.Role.TheVariants.{Comma, Semi}
 use Rattle.line_tokens.specs.declared.LineTok.{LineTok}
-use Rattle.c_grammar.specs.declared.ItemKind.{ItemKind}
-use Rattle.c_grammar.specs.declared.ItemKind.TheVariants.{LineComment, StrayQuote, StringLit}
+use Rattle.item_kinds.specs.declared.ItemKind.{ItemKind}
+use Rattle.item_kinds.specs.declared.ItemKind.TheVariants.{LineComment, StrayQuote, StringLit}
 use Rattle.style_table.specs.declared.style.Style.{Style}
 use Rattle.style_table.specs.declared.style.BreakBeforeBinaryOperators.{BreakBeforeBinaryOperators}
 use Rattle.style_table.specs.declared.style.BreakBeforeBinaryOperators.TheVariants.{All, None as Behind}

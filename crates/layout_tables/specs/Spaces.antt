@@ -8,8 +8,8 @@ use Rattle.line_tokens.specs.Roles.{is_unary_or_prefix, is_member_or_desig_dot}
 use Rattle.line_tokens.specs.declared.role.Role.{Role}
 use Rattle.line_tokens.specs.declared.role.Role.TheVariants.{IndexOpen, Postfix, LabelColon}
 use Rattle.line_tokens.specs.declared.LineTok.{LineTok}
-use Rattle.c_grammar.specs.declared.ItemKind.{ItemKind}
-use Rattle.c_grammar.specs.declared.ItemKind.TheVariants.{LineComment}
+use Rattle.item_kinds.specs.declared.ItemKind.{ItemKind}
+use Rattle.item_kinds.specs.declared.ItemKind.TheVariants.{LineComment}
 use Rattle.style_table.specs.declared.style.Style.{Style}
 use Rattle.style_table.specs.declared.style.SpaceBeforeParens.{SpaceBeforeParens}
 use Rattle.style_table.specs.declared.style.SpaceBeforeParens.TheVariants.{Never, Always}

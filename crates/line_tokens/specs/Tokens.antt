@@ -1,6 +1,6 @@
 -- Tokens of lines.
 use Rattle.std.specs.Prelude.{false}
-use Rattle.c_grammar.specs.declared.ItemKind.TheVariants.{Other}
+use Rattle.item_kinds.specs.declared.ItemKind.TheVariants.{Other}
 use Rattle.line_tokens.specs.declared.LineTok.{LineTok}
 use Rattle.line_tokens.specs.declared.role.Role.TheVariants.{Word}
 

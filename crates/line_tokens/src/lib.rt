@@ -10,8 +10,8 @@ mod no_memory;
 mod role;
 mod role_sets;
 
-pub use c_grammar::ItemKind;
 pub use ends::stored_or;
+pub use item_kinds::ItemKind;
 pub use line::{LineKind, ULine};
 pub use no_memory::NoMemory;
 pub use role::Role;

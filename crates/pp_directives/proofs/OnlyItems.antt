@@ -1,7 +1,7 @@
 -- Operands that are one item.
 use Rattle.std.proofs.Common.{◌≡◌, ◌≢◌, Bool, true, false, List, [], ◌∷◌, length, map, get_or, Some, None, refl, ap, sym, ◌∙◌, arith}
-use Rattle.c_grammar.specs.declared.ItemKind.{ItemKind}
-use Rattle.c_grammar.specs.declared.ItemKind.TheVariants.{HeaderName}
+use Rattle.item_kinds.specs.declared.ItemKind.{ItemKind}
+use Rattle.item_kinds.specs.declared.ItemKind.TheVariants.{HeaderName}
 use Rattle.pp_model.specs.Token.{Tok}
 use Rattle.pp_model.specs.Preprocess.{names_header, names_file, is_file_kind}
 use Rattle.pp_events.specs.View.{tok_shown}

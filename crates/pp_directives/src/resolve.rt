@@ -2,7 +2,7 @@
 
 ghost use Rattle.std.specs.Prelude.{◌≡◌, ◌+◌, ◌≤◌, List, [], ◌∷◌, ◌++◌, length, map, IfOk, Option};
 ghost use Rattle.pp_model.specs.Token.{Tok as Token, Plain};
-ghost use Rattle.c_grammar.specs.declared.ItemKind.TheVariants.{Number};
+ghost use Rattle.item_kinds.specs.declared.ItemKind.TheVariants.{Number};
 ghost use Rattle.pp_model.specs.Condition.{resolve, is_defined, answer, asks, Free};
 ghost use Rattle.pp_events.specs.View.{tok_shown, macro_shown};
 ghost use Rattle.pp_directives.specs.WorldView.{front_defined};

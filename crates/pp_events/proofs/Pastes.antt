@@ -1,7 +1,7 @@
 -- The paste of two tokens, by the item that they spell together.
 use Rattle.std.proofs.Common.{◌≡◌, ℕ, List, Option, Some, None, refl, ap, sym, ◌∙◌}
-use Rattle.c_grammar.specs.declared.ItemKind.{ItemKind}
-use Rattle.c_grammar.specs.declared.ItemKind.TheVariants.{Other}
+use Rattle.item_kinds.specs.declared.ItemKind.{ItemKind}
+use Rattle.item_kinds.specs.declared.ItemKind.TheVariants.{Other}
 use Rattle.pp_model.specs.Token.{Tok, PpToken, Plain}
 use Rattle.pp_model.specs.Replace.{Reader, paste, paste_joined, paste_read, joined, made, two}
 use Rattle.pp_events.specs.Pasted.{item_read, with_kind}

@@ -1,7 +1,7 @@
 -- The item that two tokens spell together.
 use Rattle.std.specs.Prelude.{ℕ, List, Option, Some, None, option_map, Vec}
 use Rattle.std.specs.declared.alloc.Global.{Global}
-use Rattle.c_grammar.specs.declared.ItemKind.{ItemKind}
+use Rattle.item_kinds.specs.declared.ItemKind.{ItemKind}
 use Rattle.pp_model.specs.Replace.{Reader}
 
 -- a spelling and its kind, or none

@@ -5,7 +5,7 @@
 #![tactic(auto)]
 
 ghost use Rattle.std.specs.Prelude.{◌≡◌, ℕ, List, Option};
-ghost use Rattle.c_grammar.specs.declared.ItemKind.{ItemKind as Kinds};
+ghost use Rattle.item_kinds.specs.declared.ItemKind.{ItemKind as Kinds};
 
 mod call;
 mod copy;

@@ -12,7 +12,7 @@ use Rattle.c_grammar.specs.Grammar.{is_same, is_white, is_new_line, Whole}
 use Rattle.c_grammar.specs.Items.{Place, LineStart, past_gap, IsNext}
 use Rattle.c_grammar.specs.Text.{ReadItem, Left, IsStep, start_of, end_of, raw_of}
 use Rattle.c_grammar.specs.Twin.{Part, part_of}
-use Rattle.c_grammar.specs.declared.ItemKind.{ItemKind}
+use Rattle.item_kinds.specs.declared.ItemKind.{ItemKind}
 use Rattle.c_grammar.proofs.Unique.{spelled_begins}
 use Rattle.c_lexer.specs.Reading.{Reading, IsNextLexeme}
 use Rattle.c_grammar.specs.Place.{place_of}

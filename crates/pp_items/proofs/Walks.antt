@@ -15,7 +15,7 @@ use Rattle.c_grammar.specs.Grammar.{is_new_line, is_same}
 use Rattle.c_grammar.specs.Items.{Place, LineStart, AfterHash, AfterInclude, AfterDefine, AfterMacroName, InDirective, InText}
 use Rattle.c_grammar.specs.Text.{ReadItem, begin_of, finish_of, start_of, end_of, raw_of}
 use Rattle.c_grammar.specs.Twin.{part_of}
-use Rattle.c_grammar.specs.declared.ItemKind.{ItemKind}
+use Rattle.item_kinds.specs.declared.ItemKind.{ItemKind}
 use Rattle.c_lexer.specs.Reading.{new_lines}
 use Rattle.pp_model.specs.Stream.{line_at, line_begun}
 use Rattle.pp_items.specs.Walk.{before, past, first_line_end, part_here}

@@ -7,7 +7,7 @@ use Rattle.c_grammar.specs.Grammar.{is_new_line, is_same}
 use Rattle.c_grammar.specs.Items.{Place, past_gap}
 use Rattle.c_grammar.specs.Text.{ReadItem, start_of, raw_of}
 use Rattle.c_grammar.specs.Twin.{Part, part_of}
-use Rattle.c_grammar.specs.declared.ItemKind.{ItemKind}
+use Rattle.item_kinds.specs.declared.ItemKind.{ItemKind}
 use Rattle.c_lexer.specs.Reading.{new_lines}
 use Rattle.c_lexer.specs.declared.item.Lexeme.{Lexeme}
 use Rattle.pp_model.specs.Stream.{Streamed, line_at, line_begun}

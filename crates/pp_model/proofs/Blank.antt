@@ -4,8 +4,8 @@ use Rattle.std.specs.Prelude.{bytes_eq, flat_map, codes}
 use Rattle.std.proofs.lemmas.List.{map-append, length-map}
 use Rattle.pp_model.specs.Token.{PpToken, Plain, Line, Str, Pasted, part, erase, erase_parts, Tok, Name, text_of, is_in, PpTokens, no_token, one_more, erase_tokens, common}
 use Rattle.c_grammar.specs.Touch.{is_identifier}
-use Rattle.c_grammar.specs.declared.ItemKind.{ItemKind}
-use Rattle.c_grammar.specs.declared.ItemKind.TheVariants.{Other}
+use Rattle.item_kinds.specs.declared.ItemKind.{ItemKind}
+use Rattle.item_kinds.specs.declared.ItemKind.TheVariants.{Other}
 use Rattle.pp_model.specs.Macro.{Macro, Table, lookup, What, Word, Full, Written, Quoted, Part}
 use Rattle.pp_model.specs.Call.{Actuals, collect, opens, closes, parts_args, may_part, one_less, no_tokens, fits, Begun, limit_of, with_actuals, begin_call, begin_macro, named, begin}
 use Rattle.pp_model.specs.Replace.{Piece, argument, parts_of, quoted, free, pieces, tokens_of, pieces_of, joined, Reader, paste_read, paste_joined, paste, join, paste_from, paste_all, add_kept, kept, hidden, replacement, spaced, joined_tokens, pasted, two, made}

@@ -10,8 +10,8 @@ use Rattle.c_grammar.specs.Grammar.{IsHeaderName, Shape, Whole, Unended, Spells}
 use Rattle.c_grammar.specs.Items.{IsLongest, Place, LineStart, AfterHash, AfterInclude, AfterDefine, AfterMacroName, InDirective, InText, is_gap, past_gap, past_item, BeginsHeader, IsNext, written, Reads}
 use Rattle.c_grammar.specs.Text.{ReadItem, piece_of, characters_of, LexesText}
 use Rattle.c_grammar.specs.Touch.{starts}
-use Rattle.c_grammar.specs.declared.ItemKind.{ItemKind}
-use Rattle.c_grammar.specs.declared.ItemKind.TheVariants.{HeaderName}
+use Rattle.item_kinds.specs.declared.ItemKind.{ItemKind}
+use Rattle.item_kinds.specs.declared.ItemKind.TheVariants.{HeaderName}
 use Rattle.c_grammar.proofs.Reading.{bytes_append, characters_written}
 use Rattle.c_grammar.proofs.Unique.{next_begins, next_not_empty, one_header}
 use Rattle.pp_model.specs.Finding.{is_header_name, shape_of, is_comment, token_kind, Found, with_char, found_here, or_here, longest, header_shape, or_found, next_at, is_blank, gap_of, behind_gap, Items, with_item, item_found, no_items, found_behind, items_from, items_of, KindsAreFound, ItemsAreFound}

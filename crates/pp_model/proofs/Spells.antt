@@ -6,7 +6,7 @@ use Rattle.std.proofs.lemmas.Bool.{cases_Bool, both_ways, and_from, and_parts, o
 use Rattle.std.proofs.lemmas.List.{append-nil}
 use Rattle.c_chars.specs.declared.Dialect.{Dialect}
 use Rattle.c_grammar.specs.Grammar.{is_of, is_one, is_same, is_white, is_new_line, has_end, is_letter_unit, is_word_unit, is_number_head, is_number_unit, is_char_prefix, is_string_prefix, is_quoted_unit, IsHeaded, IsQuoted, IsUnclosed, IsEmptyQuotes, IsBlock, IsOpen, IsTrimmed, IsLine, IsHeaderName, Shape, Whole, Unended, Spells}
-use Rattle.c_grammar.specs.declared.ItemKind.TheVariants.{Identifier, Number, CharConst, StringLit, Punct, HeaderName, StrayQuote, Other, BlockComment, LineComment}
+use Rattle.item_kinds.specs.declared.ItemKind.TheVariants.{Identifier, Number, CharConst, StringLit, Punct, HeaderName, StrayQuote, Other, BlockComment, LineComment}
 use Rattle.c_grammar.proofs.Lists.{same_is, same_refl}
 use Rattle.c_grammar.proofs.Sorts.{one_kind}
 use Rattle.pp_model.specs.Finding.{cuts, are_units, is_headed, is_inside, is_quoted, is_unclosed, is_in_line, is_empty_quotes, is_block, is_open, is_trim, is_line, is_between, is_header_name, spells, shapes, shape_of}

@@ -6,8 +6,8 @@ use Rattle.c_chars.specs.Characters.{trigraph}
 use Rattle.c_chars.specs.declared.Dialect.{Dialect}
 use Rattle.c_chars.specs.declared.Dialect.TheVariants.{C11, C23}
 use Rattle.c_grammar.specs.Grammar.{is_white, is_new_line, is_digit, is_letter, is_hex, is_sign, is_exponent, is_wide, is_universal_name, is_letter_unit, is_word_unit, is_number_head, is_number_unit, punctuators, is_punctuator, is_quoted_unit, is_char_prefix, is_string_prefix, is_other, is_other_unit}
-use Rattle.c_grammar.specs.declared.ItemKind.{ItemKind}
-use Rattle.c_grammar.specs.declared.ItemKind.TheVariants.{Identifier, Number, StringLit, Punct}
+use Rattle.item_kinds.specs.declared.ItemKind.{ItemKind}
+use Rattle.item_kinds.specs.declared.ItemKind.TheVariants.{Identifier, Number, StringLit, Punct}
 use Rattle.pp_model.specs.Token.{Plain, Line, Str, Pasted, no_part, part, no_token, one_more}
 use Rattle.pp_model.specs.Finding.{kind_of}
 use Rattle.pp_model.specs.Preprocess.{Item, SectionKind, If, Ifdef, Ifndef, Elif, Elifndef, Else, Endif, Include, Define, Undef, LineNumber, Warning, Embed, Pragma, Null, Unknown, Section, Source, Lexed, Event, TokenEvent, PragmaEvent, LineEvent, WarningEvent, EmbedEvent, IncludeNotFound, Malformed, Unlexed, TurnsSpent, preprocess}

@@ -3,7 +3,7 @@ use Rattle.std.specs.Prelude.{Bool, true, false, ◌&&◌, List, [], ◌∷◌, 
 use Rattle.std.specs.List.{list_all}
 use Rattle.pp_model.specs.Token.{Tok, Plain, is_text, text_of}
 use Rattle.c_grammar.specs.Touch.{is_identifier}
-use Rattle.c_grammar.specs.declared.ItemKind.TheVariants.{Number}
+use Rattle.item_kinds.specs.declared.ItemKind.TheVariants.{Number}
 use Rattle.pp_model.specs.Macro.{Table, lookup}
 use Rattle.pp_model.specs.Call.{opens, closes}
 

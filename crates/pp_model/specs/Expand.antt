@@ -3,7 +3,7 @@
 use Rattle.std.specs.Prelude.{ℕ, zero, suc, Bool, true, false, ◌&&◌, List, [], ◌∷◌, ◌++◌, codes, Option, Some, None}
 use Rattle.pp_model.specs.Token.{Tok, Name, Line, is_text}
 use Rattle.c_grammar.specs.Touch.{is_identifier}
-use Rattle.c_grammar.specs.declared.ItemKind.TheVariants.{Other}
+use Rattle.item_kinds.specs.declared.ItemKind.TheVariants.{Other}
 use Rattle.pp_model.specs.Macro.{Macro, Table}
 use Rattle.pp_model.specs.Call.{Begun, begin}
 use Rattle.pp_model.specs.Replace.{Reader, replacement}

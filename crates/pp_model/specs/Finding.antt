@@ -11,9 +11,9 @@ use Rattle.c_grammar.specs.Grammar.{is_number_head, is_number_unit, is_punctuato
 use Rattle.c_grammar.specs.Grammar.{is_quoted_unit, has_end, is_other_unit, Shape, Whole, Unended, Spells}
 use Rattle.c_grammar.specs.Items.{Place, LineStart, AfterInclude, past_gap, past_item}
 use Rattle.c_grammar.specs.Text.{ReadItem, LexesText}
-use Rattle.c_grammar.specs.declared.ItemKind.{ItemKind}
-use Rattle.c_grammar.specs.declared.ItemKind.TheVariants.{Identifier, Number, CharConst, StringLit, Punct, HeaderName}
-use Rattle.c_grammar.specs.declared.ItemKind.TheVariants.{StrayQuote, Other, BlockComment, LineComment}
+use Rattle.item_kinds.specs.declared.ItemKind.{ItemKind}
+use Rattle.item_kinds.specs.declared.ItemKind.TheVariants.{Identifier, Number, CharConst, StringLit, Punct, HeaderName}
+use Rattle.item_kinds.specs.declared.ItemKind.TheVariants.{StrayQuote, Other, BlockComment, LineComment}
 
 -- ## Whether a spelling is of a shape
 

@@ -3,8 +3,8 @@ use Rattle.std.specs.Prelude.{ℕ, zero, suc, ◌+◌, ◌-◌, ◌*◌, nat_le,
 use Rattle.std.specs.Prelude.{map, filter, Option, Some, None, bytes_eq, fold}
 use Rattle.std.specs.Str.{all_ascii_digits}
 use Rattle.pp_model.specs.Token.{PpToken, Plain, erase, Tok, Name, text_of}
-use Rattle.c_grammar.specs.declared.ItemKind.{ItemKind}
-use Rattle.c_grammar.specs.declared.ItemKind.TheVariants.{HeaderName, StringLit}
+use Rattle.item_kinds.specs.declared.ItemKind.{ItemKind}
+use Rattle.item_kinds.specs.declared.ItemKind.TheVariants.{HeaderName, StringLit}
 use Rattle.pp_model.specs.Macro.{Macro, Table}
 use Rattle.pp_model.specs.Replace.{Reader}
 use Rattle.pp_model.specs.Expand.{Expanded, Done, Spent, expand, is_nil}

@@ -3,8 +3,8 @@
 use Rattle.std.specs.Prelude.{ℕ, zero, suc, Bool, true, false, List, [], ◌∷◌, ◌++◌, map, Option, Some, None, flat_map}
 use Rattle.pp_model.specs.Token.{Tok, Name, PpToken, Plain, Line, Str, Pasted, Spaceds, no_part, part, PpTokens}
 use Rattle.pp_model.specs.Token.{no_token, one_more, common}
-use Rattle.c_grammar.specs.declared.ItemKind.{ItemKind}
-use Rattle.c_grammar.specs.declared.ItemKind.TheVariants.{Other}
+use Rattle.item_kinds.specs.declared.ItemKind.{ItemKind}
+use Rattle.item_kinds.specs.declared.ItemKind.TheVariants.{Other}
 use Rattle.pp_model.specs.Macro.{Part, What, Word, Full, Written, Quoted}
 
 -- a token, or none for a placemarker; `glue` says that it is pasted to what stands before it

@@ -11,7 +11,7 @@ use Rattle.c_grammar.specs.Items.{LineStart}
 use Rattle.c_grammar.specs.Text.{ReadItem, piece_of, start_of}
 use Rattle.c_grammar.specs.Touch.{is_identifier}
 use Rattle.c_grammar.specs.Twin.{Part, OfText, BeginsDirective, OpensParameters, OfDirective, parts_of}
-use Rattle.c_grammar.specs.declared.ItemKind.{ItemKind}
+use Rattle.item_kinds.specs.declared.ItemKind.{ItemKind}
 use Rattle.pp_model.specs.Finding.{is_comment, Items, items_of}
 use Rattle.pp_model.specs.Preprocess.{Item, SectionKind, Text, If, Ifdef, Ifndef, Elif, Elifdef, Elifndef, Else, Endif}
 use Rattle.pp_model.specs.Preprocess.{Include, Define, Undef, LineNumber, Error, Warning, Embed, Pragma, Null, Unknown}

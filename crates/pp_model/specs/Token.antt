@@ -2,7 +2,7 @@
 -- of each.
 use Rattle.std.specs.Prelude.{ℕ, Bool, true, false, cond, not, ◌&&◌, nat_eq, List, [], ◌∷◌, bytes_eq}
 use Rattle.std.specs.List.{list_any, filter}
-use Rattle.c_grammar.specs.declared.ItemKind.{ItemKind}
+use Rattle.item_kinds.specs.declared.ItemKind.{ItemKind}
 
 -- both are true, or both are false
 abbrev pub same_bool : Bool → Bool → Bool

@@ -4,7 +4,7 @@ use Rattle.std.specs.List.{list_any, list_all}
 use Rattle.std.proofs.lemmas.Bool.{and_parts, and_right, or_right}
 use Rattle.c_chars.specs.Characters.{bytes_of}
 use Rattle.c_chars.specs.declared.Dialect.{Dialect}
-use Rattle.c_grammar.specs.declared.ItemKind.{ItemKind}
+use Rattle.item_kinds.specs.declared.ItemKind.{ItemKind}
 use Rattle.c_grammar.specs.Grammar.{is_same, is_white, is_new_line}
 use Rattle.c_grammar.specs.Items.{Place, LineStart, past_gap, past_item, is_gap, is_hash, Piece}
 use Rattle.c_grammar.specs.Touch.{ends, is_punct, takes_line}

@@ -8,8 +8,8 @@ use Rattle.c_chars.specs.Characters.{bytes_of, chars, mark_len}
 use Rattle.c_chars.specs.declared.Dialect.{Dialect}
 use Rattle.c_chars.specs.declared.Dialect.TheVariants.{C11, C23}
 use Rattle.c_chars.specs.declared.LogicalChar.{LogicalChar}
-use Rattle.c_grammar.specs.declared.ItemKind.{ItemKind}
-use Rattle.c_grammar.specs.declared.ItemKind.TheVariants.{Identifier, Other}
+use Rattle.item_kinds.specs.declared.ItemKind.{ItemKind}
+use Rattle.item_kinds.specs.declared.ItemKind.TheVariants.{Identifier, Other}
 use Rattle.c_grammar.specs.Grammar.{is_new_line, is_white, is_other_unit, is_letter_unit, is_universal_name, is_wide, Shape, Whole, Spells}
 use Rattle.c_grammar.specs.Items.{Place, LineStart, AfterInclude, past_gap, is_gap, IsNext, written}
 use Rattle.c_grammar.specs.Text.{ReadItem, piece_of, raw_of, start_of, end_of, characters_of}

@@ -11,8 +11,8 @@ use Rattle.c_chars.specs.declared.Dialect.TheVariants.{C11, C23}
 use Rattle.c_chars.specs.declared.LogicalChar.{LogicalChar}
 use Rattle.c_chars.proofs.Cuts.{ends_in}
 use Rattle.c_chars.proofs.Ends.{last_byte, ends_last}
-use Rattle.c_grammar.specs.declared.ItemKind.{ItemKind}
-use Rattle.c_grammar.specs.declared.ItemKind.TheVariants.{Identifier, Number, CharConst, StringLit, Punct, HeaderName, StrayQuote, Other, BlockComment, LineComment}
+use Rattle.item_kinds.specs.declared.ItemKind.{ItemKind}
+use Rattle.item_kinds.specs.declared.ItemKind.TheVariants.{Identifier, Number, CharConst, StringLit, Punct, HeaderName, StrayQuote, Other, BlockComment, LineComment}
 use Rattle.c_grammar.specs.Grammar.{is_new_line, is_white, Whole}
 use Rattle.c_grammar.specs.Items.{Place, LineStart, AfterHash, InText, past_item, is_hash, IsNext, IsLongest}
 use Rattle.c_grammar.specs.Touch.{ends, takes_line, is_punct}

@@ -4,7 +4,7 @@ use Rattle.std.specs.Prelude.{if◌then◌else◌}
 use Rattle.std.specs.List.{list_any}
 use Rattle.std.proofs.lemmas.Bool.{both_ways, false_from_ne_true}
 use Rattle.c_chars.specs.declared.Dialect.{Dialect}
-use Rattle.c_grammar.specs.declared.ItemKind.{ItemKind}
+use Rattle.item_kinds.specs.declared.ItemKind.{ItemKind}
 use Rattle.c_grammar.specs.Grammar.{is_new_line, is_same, Spells, Whole}
 use Rattle.c_grammar.specs.Items.{IsLongest, Place, LineStart, AfterInclude, past_gap, past_item, is_gap, BeginsHeader, IsNext, Piece, written, Reads}
 use Rattle.c_grammar.specs.Touch.{is_punct, takes_line, may_touch, regapped}

@@ -4,7 +4,7 @@ use Rattle.std.specs.Prelude.{codes}
 use Rattle.std.proofs.lemmas.Bool.{cases_Bool, and_right, or_parts}
 use Rattle.c_chars.specs.Characters.{bytes_of}
 use Rattle.c_chars.specs.declared.Dialect.{Dialect}
-use Rattle.c_grammar.specs.declared.ItemKind.TheVariants.{HeaderName}
+use Rattle.item_kinds.specs.declared.ItemKind.TheVariants.{HeaderName}
 use Rattle.c_grammar.specs.Grammar.{is_same, is_of, Spells, Whole, IsHeaderName}
 use Rattle.c_grammar.specs.Items.{Place, past_gap, past_item, Reads}
 use Rattle.c_grammar.specs.Touch.{starts, ends, is_other_kind, takes_line, may_touch}

@@ -6,7 +6,7 @@ use Rattle.c_chars.specs.Characters.{chars, bytes_of, moved, mark_len, logical}
 use Rattle.c_chars.specs.declared.Dialect.{Dialect}
 use Rattle.c_chars.specs.declared.Dialect.TheVariants.{C11, C23}
 use Rattle.c_chars.specs.declared.LogicalChar.{LogicalChar}
-use Rattle.c_grammar.specs.declared.ItemKind.{ItemKind}
+use Rattle.item_kinds.specs.declared.ItemKind.{ItemKind}
 use Rattle.c_grammar.specs.Grammar.{is_same}
 use Rattle.c_grammar.specs.Items.{Place, LineStart, AfterHash, AfterInclude, AfterDefine, AfterMacroName, InDirective, InText, past_gap, past_item, is_gap, Reads, written}
 use Rattle.c_grammar.specs.Touch.{ends, may_touch}

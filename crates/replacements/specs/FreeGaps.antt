@@ -3,7 +3,7 @@ use Rattle.std.specs.Prelude.{◌≡◌, ℕ, List, [], ◌∷◌, ◌++◌, tak
 use Rattle.c_chars.specs.Characters.{bytes_of, mark_len}
 use Rattle.c_chars.specs.declared.Dialect.{Dialect}
 use Rattle.c_chars.specs.declared.LogicalChar.{LogicalChar}
-use Rattle.c_grammar.specs.declared.ItemKind.{ItemKind}
+use Rattle.item_kinds.specs.declared.ItemKind.{ItemKind}
 use Rattle.c_grammar.specs.Grammar.{is_same}
 use Rattle.c_grammar.specs.Items.{Place, LineStart, past_gap, past_item, is_gap, Piece}
 use Rattle.c_grammar.specs.Touch.{takes_line, may_touch, regapped}

@@ -5,7 +5,7 @@ use Rattle.c_chars.specs.Characters.{bytes_of}
 use Rattle.c_chars.specs.declared.Dialect.{Dialect}
 use Rattle.c_chars.specs.declared.LogicalChar.{LogicalChar}
 use Rattle.c_chars.proofs.Spans.{Ascend, finish_from, ascend_cut, ascend_on, ascend_fits}
-use Rattle.c_grammar.specs.declared.ItemKind.{ItemKind}
+use Rattle.item_kinds.specs.declared.ItemKind.{ItemKind}
 use Rattle.c_grammar.specs.Grammar.{Whole, is_white, is_new_line}
 use Rattle.c_grammar.specs.Items.{Place, IsNext, past_gap}
 use Rattle.c_grammar.specs.Text.{ReadItem, Left, IsStep, begin_of, finish_of, start_of, end_of}

@@ -4,7 +4,7 @@ use Rattle.std.specs.Cmp.{both_ways}
 use Rattle.std.proofs.lemmas.Bool.{and_parts, eqb-true}
 use Rattle.std.proofs.lemmas.List.{length-drop, length-take-le}
 use Rattle.c_chars.specs.declared.LogicalChar.{LogicalChar}
-use Rattle.c_grammar.specs.declared.ItemKind.{ItemKind}
+use Rattle.item_kinds.specs.declared.ItemKind.{ItemKind}
 use Rattle.c_grammar.specs.Text.{ReadItem, start_of, end_of, raw_of}
 use Rattle.c_lexer.specs.Reading.{Reading, IsNextLexeme, new_lines, bytes_in, ends_in_backslash}
 use Rattle.c_lexer.specs.declared.item.Lexeme.{Lexeme}

@@ -2,8 +2,8 @@
 use Rattle.std.specs.Prelude.{◌&&◌, not, ◌+◌, Bool, true, false, List, [], ◌∷◌, drop, codes}
 use Rattle.std.specs.List.{filter, list_any, slice_range}
 use Rattle.c_chars.specs.declared.Dialect.{Dialect}
-use Rattle.c_grammar.specs.declared.ItemKind.{ItemKind}
-use Rattle.c_grammar.specs.declared.ItemKind.TheVariants.{HeaderName, StringLit}
+use Rattle.item_kinds.specs.declared.ItemKind.{ItemKind}
+use Rattle.item_kinds.specs.declared.ItemKind.TheVariants.{HeaderName, StringLit}
 use Rattle.c_grammar.specs.Fitting.{is_comment}
 use Rattle.c_grammar.specs.Touch.{is_identifier, is_front}
 use Rattle.token_arena.specs.Stored.{Stored}

@@ -6,7 +6,7 @@ use Rattle.c_grammar.specs.Items.{Place, LineStart, past_gap}
 use Rattle.c_grammar.specs.Text.{piece_of}
 use Rattle.c_grammar.specs.Twin.{Part, OfText, BeginsDirective, OpensParameters, OfDirective, part_of, parts_of}
 use Rattle.c_grammar.specs.Fitting.{in_directive}
-use Rattle.c_grammar.specs.declared.ItemKind.{ItemKind}
+use Rattle.item_kinds.specs.declared.ItemKind.{ItemKind}
 use Rattle.token_arena.specs.Gaps.{Contents}
 use Rattle.token_arena.specs.Holds.{HoldsItems}
 use Rattle.token_arena.specs.Sections.{sections_of}

@@ -7,7 +7,7 @@ use Rattle.std.specs.Str.Lossy.{utf8_valid_len}
 use Rattle.unicode_width.specs.Width.{str_width}
 use Rattle.c_chars.specs.Characters.{mark_len}
 use Rattle.c_grammar.specs.Text.{ReadItem, start_of, end_of, raw_of}
-use Rattle.c_grammar.specs.declared.ItemKind.{ItemKind}
+use Rattle.item_kinds.specs.declared.ItemKind.{ItemKind}
 pub use Rattle.c_lexer.specs.Reading.{new_lines, bytes_in, ends_in_backslash}
 use Rattle.line_tokens.specs.declared.GapFacts.{GapFacts}
 

@@ -5,8 +5,8 @@ use Rattle.std.specs.List.{range_with_len}
 use Rattle.std.proofs.lemmas.Bool.{lt-ltb}
 use Rattle.std.proofs.lemmas.List.{get_or-map}
 use Rattle.std.proofs.lemmas.List.FromFn.{get_or-range_with_len, length-range_with_len}
-use Rattle.c_grammar.specs.declared.ItemKind.{ItemKind}
-use Rattle.c_grammar.specs.declared.ItemKind.TheVariants.{Identifier, Number as NumberKind, CharConst, StringLit, Punct, HeaderName, StrayQuote, Other as OtherKind, BlockComment, LineComment}
+use Rattle.item_kinds.specs.declared.ItemKind.{ItemKind}
+use Rattle.item_kinds.specs.declared.ItemKind.TheVariants.{Identifier, Number as NumberKind, CharConst, StringLit, Punct, HeaderName, StrayQuote, Other as OtherKind, BlockComment, LineComment}
 use Rattle.touching.specs.declared.edge.Edge.{Edge}
 use Rattle.touching.specs.declared.edge.Edge.TheVariants.{Name, Number, Quiet, Operator, Text, Comment, Ending, Point, Unknown}
 use Rattle.touching.specs.declared.edge.First.{First}

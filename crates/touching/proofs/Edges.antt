@@ -6,8 +6,8 @@ use Rattle.std.proofs.lemmas.Bool.{and_parts, and_left, and_right, not-true, eqb
 use Rattle.c_chars.specs.declared.Dialect.{Dialect}
 use Rattle.c_grammar.specs.Grammar.{is_of, is_letter, is_sign}
 use Rattle.c_grammar.specs.Touch.{starts, is_front, is_identifier, is_number, is_literal, is_other_kind, is_punct, takes_line, word_by_word, prefix_by_quote, number_goes_on, point_by_number, punct_goes_on, trigraph_comes, may_touch}
-use Rattle.c_grammar.specs.declared.ItemKind.{ItemKind}
-use Rattle.c_grammar.specs.declared.ItemKind.TheVariants.{Identifier, Number as NumberKind, Punct, StringLit, CharConst, BlockComment, LineComment, HeaderName, StrayQuote, Other}
+use Rattle.item_kinds.specs.declared.ItemKind.{ItemKind}
+use Rattle.item_kinds.specs.declared.ItemKind.TheVariants.{Identifier, Number as NumberKind, Punct, StringLit, CharConst, BlockComment, LineComment, HeaderName, StrayQuote, Other}
 use Rattle.touching.specs.Near.{is_plain, seconds, thirds, going_on}
 use Rattle.touching.specs.Spelling.{spelling}
 use Rattle.touching.proofs.PlainBytes.{near_is, one_goes_on, two_stay, pair_stays}

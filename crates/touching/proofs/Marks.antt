@@ -4,8 +4,8 @@ use Rattle.std.proofs.lemmas.Bool.{cases_Bool, and_parts, and_right, both_ways, 
 use Rattle.c_chars.specs.Characters.{chars, bytes_of, mark_len, has_trigraphs, begins_trigraph, begins_return}
 use Rattle.c_chars.specs.declared.Dialect.{Dialect}
 use Rattle.c_chars.proofs.FirstUnits.{at_plain, step_plain}
-use Rattle.c_grammar.specs.declared.ItemKind.{ItemKind}
-use Rattle.c_grammar.specs.declared.ItemKind.TheVariants.{Identifier, Number, CharConst, StringLit, Punct, HeaderName, StrayQuote, Other, BlockComment, LineComment}
+use Rattle.item_kinds.specs.declared.ItemKind.{ItemKind}
+use Rattle.item_kinds.specs.declared.ItemKind.TheVariants.{Identifier, Number, CharConst, StringLit, Punct, HeaderName, StrayQuote, Other, BlockComment, LineComment}
 use Rattle.c_grammar.specs.Grammar.{Whole, Spells, IsHeaded, IsHeaderName, is_wide, is_one, is_letter, is_digit, is_letter_unit, is_word_unit, is_universal_name}
 use Rattle.c_grammar.specs.Touch.{is_other_kind}
 use Rattle.c_grammar.proofs.Firsts.{Begins, begins, letter_cases, is_quote, is_number_start, is_mark}

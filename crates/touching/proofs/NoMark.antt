@@ -6,7 +6,7 @@ use Rattle.std.proofs.lemmas.Bool.{cases_Bool, and_parts, and_right, both_ways, 
 use Rattle.c_chars.specs.Characters.{chars, bytes_of, mark_len}
 use Rattle.c_chars.specs.declared.Dialect.{Dialect}
 use Rattle.c_chars.specs.declared.Dialect.TheVariants.{C11, C23}
-use Rattle.c_grammar.specs.declared.ItemKind.TheVariants.{HeaderName}
+use Rattle.item_kinds.specs.declared.ItemKind.TheVariants.{HeaderName}
 use Rattle.c_grammar.specs.Grammar.{Whole, Spells, IsHeaded, IsHeaderName, is_one, is_letter, is_letter_unit, is_word_unit, is_universal_name}
 use Rattle.c_grammar.specs.Text.{ReadItem, start_of, end_of, raw_of}
 use Rattle.c_grammar.specs.Touch.{is_other_kind}

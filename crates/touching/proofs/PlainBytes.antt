@@ -7,8 +7,8 @@ use Rattle.c_chars.specs.declared.Dialect.{Dialect}
 use Rattle.c_chars.specs.declared.Dialect.TheVariants.{C11, C23}
 use Rattle.c_grammar.specs.Grammar.{is_of, is_same, is_sign, is_exponent, is_string_prefix}
 use Rattle.c_grammar.specs.Touch.{ends, is_front, is_identifier, is_number, is_other_kind, is_punct, takes_line, word_by_word, punct_goes_on, may_touch}
-use Rattle.c_grammar.specs.declared.ItemKind.{ItemKind}
-use Rattle.c_grammar.specs.declared.ItemKind.TheVariants.{Punct}
+use Rattle.item_kinds.specs.declared.ItemKind.{ItemKind}
+use Rattle.item_kinds.specs.declared.ItemKind.TheVariants.{Punct}
 use Rattle.touching.specs.Spelling.{spelling}
 use Rattle.touching.proofs.Marks.{first_of_two, high_step}
 use Rattle.touching.proofs.NoMark.{mark_cases}

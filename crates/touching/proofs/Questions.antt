@@ -5,8 +5,8 @@ use Rattle.std.specs.List.{list_all}
 use Rattle.std.proofs.lemmas.Bool.{and_parts, or_cases, both_ways, not-true}
 use Rattle.c_chars.specs.declared.Dialect.{Dialect}
 use Rattle.c_chars.specs.declared.Dialect.TheVariants.{C11, C23}
-use Rattle.c_grammar.specs.declared.ItemKind.{ItemKind}
-use Rattle.c_grammar.specs.declared.ItemKind.TheVariants.{Identifier, Number, CharConst, StringLit, Punct, HeaderName, StrayQuote, Other, BlockComment, LineComment}
+use Rattle.item_kinds.specs.declared.ItemKind.{ItemKind}
+use Rattle.item_kinds.specs.declared.ItemKind.TheVariants.{Identifier, Number, CharConst, StringLit, Punct, HeaderName, StrayQuote, Other, BlockComment, LineComment}
 use Rattle.c_grammar.specs.Grammar.{Whole, Spells, IsHeaded, IsBlock, IsHeaderName, is_same, is_one, is_two, is_sign, is_exponent, is_number_head, is_number_unit, is_punctuator, punctuators, common_punctuators, is_letter, is_digit}
 use Rattle.c_grammar.specs.Touch.{ends, takes_line, is_other_kind}
 use Rattle.c_grammar.proofs.Lists.{all_append, units_all, one_all, in_table, all_weaken}

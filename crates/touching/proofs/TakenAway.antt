@@ -15,7 +15,7 @@ use Rattle.c_chars.proofs.Splits.{head_of, last_of}
 use Rattle.c_chars.proofs.Ends.{units_from, units_finish, same_finish, same_from}
 use Rattle.c_chars.proofs.FirstUnits.{begins_line}
 use Rattle.c_chars.proofs.Spans.{finish_from, between_chars}
-use Rattle.c_grammar.specs.declared.ItemKind.TheVariants.{HeaderName}
+use Rattle.item_kinds.specs.declared.ItemKind.TheVariants.{HeaderName}
 use Rattle.c_grammar.specs.Grammar.{is_new_line, is_same, is_of, Spells, Whole, IsHeaderName}
 use Rattle.c_grammar.specs.Items.{Place, LineStart, AfterHash, AfterInclude, AfterDefine, AfterMacroName, InDirective, InText, past_gap, past_item, Reads, written}
 use Rattle.c_grammar.specs.Text.{ReadItem, piece_of, begin_of, finish_of, start_of, end_of, raw_of, characters_of, LexesText}

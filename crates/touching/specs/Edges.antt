@@ -2,9 +2,9 @@
 use Rattle.std.specs.Prelude.{◌==◌, ◌||◌, ◌&&◌, ℕ, nat_le, Bool, true, false, if◌then◌else◌, Option, Some, None, List}
 use Rattle.std.specs.Prelude.{[], ◌∷◌, codes}
 use Rattle.c_grammar.specs.Grammar.{is_of}
-use Rattle.c_grammar.specs.declared.ItemKind.{ItemKind}
-use Rattle.c_grammar.specs.declared.ItemKind.TheVariants.{Identifier, Number as NumberKind, Punct, StringLit, CharConst}
-use Rattle.c_grammar.specs.declared.ItemKind.TheVariants.{BlockComment, LineComment}
+use Rattle.item_kinds.specs.declared.ItemKind.{ItemKind}
+use Rattle.item_kinds.specs.declared.ItemKind.TheVariants.{Identifier, Number as NumberKind, Punct, StringLit, CharConst}
+use Rattle.item_kinds.specs.declared.ItemKind.TheVariants.{BlockComment, LineComment}
 use Rattle.touching.specs.declared.edge.Edge.{Edge}
 use Rattle.touching.specs.declared.edge.Edge.TheVariants.{Name, Number, Quiet, Operator, Text, Comment, Ending, Point}
 use Rattle.touching.specs.declared.edge.Edge.TheVariants.{Unknown}

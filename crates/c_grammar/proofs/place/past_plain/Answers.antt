@@ -1,6 +1,6 @@
 use Rattle.std.proofs.Common.{refl, subst, sym}
 use Rattle.std.specs.Prelude.{Some}
-use Rattle.c_grammar.specs.declared.ItemKind.TheVariants.{Number}
+use Rattle.item_kinds.specs.declared.ItemKind.TheVariants.{Number}
 use Rattle.c_grammar.specs.Place.{place_of}
 use Rattle.c_grammar.proofs.Places.{IsToldPlace, told_mark, told_other, told_word}
 use Rattle.c_grammar.proofs.place.past_plain.Goals as goal

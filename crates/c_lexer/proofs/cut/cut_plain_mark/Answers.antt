@@ -1,7 +1,7 @@
 use Rattle.std.proofs.Common.{◌∙◌, ◌+◌, ap, subst, sym}
 use Rattle.std.specs.Prelude.{slice_get}
 use Rattle.c_chars.specs.Coming.{AreBytesPassed, behind}
-use Rattle.c_grammar.specs.declared.ItemKind.TheVariants.{Punct}
+use Rattle.item_kinds.specs.declared.ItemKind.TheVariants.{Punct}
 use Rattle.c_lexer.specs.Cut.{IsCutOff}
 use Rattle.c_lexer.specs.Reading.{is_own_byte}
 use Rattle.c_lexer.proofs.PlainBytes.{lone_item, long_mark, mark_item, next_one, none_passed, second_item}
