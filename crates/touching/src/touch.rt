@@ -3,7 +3,7 @@
 ghost use Rattle.std.specs.Prelude.{◌≡◌, ◌==◌, ◌≤◌, ◌++◌, ◌∷◌, ◌||◌, codes, length, map, slice_get};
 ghost use Rattle.std.specs.List.{list_any};
 ghost use Rattle.c_chars.specs.declared.TheConstants.{LIMIT};
-ghost use Rattle.c_grammar.specs.Grammar.{is_of, is_letter, is_sign, is_string_prefix};
+ghost use Rattle.c_grammar.specs.Grammar.{is_of, is_letter, is_sign, is_string_prefix, common_punctuators};
 ghost use Rattle.c_grammar.specs.Touch.{starts, first_of, is_front, may_touch, number_goes_on, point_by_number};
 ghost use Rattle.c_grammar.specs.Touch.{prefix_by_quote, punct_goes_on, trigraph_comes, word_by_word};
 ghost use Rattle.std.specs.Option.{option_to_list};
