@@ -3,7 +3,8 @@ use Rattle.std.specs.Prelude.{◌==◌, ◌||◌, ◌&&◌, ℕ, nat_le, Bool, t
 use Rattle.std.specs.Prelude.{[], ◌∷◌, codes}
 use Rattle.c_grammar.specs.Grammar.{is_of}
 use Rattle.item_kinds.specs.declared.ItemKind.{ItemKind}
-use Rattle.item_kinds.specs.declared.ItemKind.TheVariants.{Identifier, Number as NumberKind, Punct, StringLit, CharConst}
+use Rattle.item_kinds.specs.declared.ItemKind.TheVariants.{Identifier, Punct, StringLit, CharConst}
+use Rattle.item_kinds.specs.declared.ItemKind.TheVariants.{Number as NumberKind}
 use Rattle.item_kinds.specs.declared.ItemKind.TheVariants.{BlockComment, LineComment}
 use Rattle.touching.specs.declared.edge.Edge.{Edge}
 use Rattle.touching.specs.declared.edge.Edge.TheVariants.{Name, Number, Quiet, Operator, Text, Comment, Ending, Point}

@@ -1,7 +1,8 @@
 -- What the tables of edges tell, which only the functions of this crate look at.
 use Rattle.std.specs.Prelude.{◌==◌, ℕ, Bool, true, false, if◌then◌else◌, List, [], ◌∷◌, ◌&&◌}
 use Rattle.item_kinds.specs.declared.ItemKind.{ItemKind}
-use Rattle.item_kinds.specs.declared.ItemKind.TheVariants.{Identifier, Number as NumberKind, CharConst, StringLit, Punct}
+use Rattle.item_kinds.specs.declared.ItemKind.TheVariants.{Identifier, CharConst, StringLit, Punct}
+use Rattle.item_kinds.specs.declared.ItemKind.TheVariants.{Number as NumberKind}
 use Rattle.item_kinds.specs.declared.ItemKind.TheVariants.{HeaderName, StrayQuote, Other as OtherKind, BlockComment}
 use Rattle.item_kinds.specs.declared.ItemKind.TheVariants.{LineComment}
 use Rattle.touching.specs.declared.edge.Edge.{Edge}
