@@ -1,8 +1,7 @@
 -- A run from a bound on, up to behind what is new in it.
-use Rattle.std.proofs.Common.{◌∙◌, ℕ, ◌+◌, ◌<◌, ◌≤◌, Option, None, List, length, drop, get_or, refl, sym, subst, arith}
+use Rattle.std.proofs.Common.{◌∙◌, ℕ, ◌+◌, ◌<◌, ◌≤◌, Option, List, length, drop, get_or, refl, sym, subst, arith}
 use Rattle.std.specs.Prelude.{All, IsSome}
 use Rattle.std.specs.Option.{ForSome}
-use Rattle.std.specs.List.{Contains}
 use Rattle.std.proofs.lemmas.List.{get_or-drop, get_or_default, length-drop}
 use Rattle.style_table.specs.declared.style.Style.{Style}
 use Rattle.token_arena.specs.Gaps.{Contents}
@@ -15,32 +14,17 @@ use Rattle.replacements.specs.declared.slot.Slot.{Slot}
 use Rattle.replacements.specs.Decisions.{slot_of}
 use Rattle.run_layout.specs.declared.report.Tally.{Tally}
 use Rattle.line_gaps.proofs.MadeFor.{is_some-decided, decided-is_some}
-use Rattle.format_core.specs.Bounds.{BeginTold}
+use Rattle.run_parts.specs.Bounds.{BeginTold}
 use Rattle.format_core.specs.PartByPart.{GoesOnFrom}
 use Rattle.format_core.specs.RunsTold.{AreSeenTold}
-use Rattle.format_core.proofs.Between.{between_has}
-use Rattle.format_core.proofs.FirstParts.{parts_of_told, parts_to_end, stop_at}
-use Rattle.format_core.proofs.Parts.{all_decided_of}
+use Rattle.run_parts.proofs.FirstParts.{parts_of_told, parts_to_end, stop_at}
+use Rattle.run_parts.proofs.Parts.{all_decided_of}
 use Rattle.format_core.proofs.PartsTold.{from_begin, from_end}
-use Rattle.format_core.proofs.PlacesStand.{IsPlaced, next_has, placed_behind, placed_decided, placed_outside, rest_increases, stands_headed, stands_in_rest}
-use Rattle.format_core.proofs.RowsPassed.{AreDecidedUpTo, TellDecided, from_outside, from_parts}
+use Rattle.run_parts.proofs.PlacesStand.{next_has, rest_increases, stands_headed, stands_in_rest}
+use Rattle.run_parts.proofs.PartsDecided.{AreDecidedUpTo, TellDecided}
+use Rattle.format_core.proofs.RowsPassed.{from_outside, from_parts}
 use Rattle.format_core.proofs.RunsTold.{all_seen}
-use Rattle.format_core.proofs.Stretches.{front_short, front_item}
-
--- the gap before each item of these from this one on, or before it, that is among them is decided
-abbrev pub AreDecidedFrom : List (Option Slot) → List ℕ → ℕ → Type 0
-AreDecidedFrom plan ids first = (id : ℕ) → first ≤ id → Contains ids id → IsSome (slot_of plan id)
-
-abbrev pub AreDecidedBefore : List (Option Slot) → List ℕ → ℕ → Type 0
-AreDecidedBefore plan ids end = (id : ℕ) → id < end → Contains ids id → IsSome (slot_of plan id)
-
-front_decided : (plan : List (Option Slot)) (ids : List ℕ) (end : ℕ) → Increase ids → AreDecidedBefore plan ids end → AreDecidedUpTo plan ids 0 (length (items_between 0 end ids))
-front_decided plan ids end increase all = λ k low high.
-    let short = front_short end ids increase in
-    let below : k < length ids = omega (arith, high, short) in
-    let is = front_item end ids k increase high in
-    let has = (between_has 0 end ids k high).1 in
-    all (get_or ids k 0) (omega (arith, is, has)) (k, below, get_or_default ids k (get_or ids k 0) 0 below)
+use Rattle.run_parts.proofs.BoundsDecided.{AreDecidedFrom, AreDecidedBefore, front_decided}
 
 -- the parts before a bound tell nothing, where all before it is decided
 pub from_bound : (style : Style) (budget : ℕ) (arena : Contents) (run : ℕ) (plan : List (Option Slot)) (ids : List ℕ) (tally : Tally) (item told : ℕ) (inside : Option Place) → Increase ids
@@ -50,20 +34,6 @@ from_bound style budget arena run plan ids tally item told inside increase begin
     let place = length (items_between 0 item ids) in
     let parts = parts_of_told arena ids told place inside increase begin in
     from_outside style budget arena run plan ids tally tally plan 0 (stop_at place inside) increase parts (front_decided plan ids item increase all) (from_begin style budget arena run plan ids tally)
-
--- what stands for the place where it is stands before it
-pub bound_placed : (arena : Contents) (ids : List ℕ) (item told : ℕ) (inside : Option Place) → Increase ids → BeginTold arena (items_between 0 told ids) (length (items_between 0 item ids)) inside
-    → IsPlaced ids 0 inside (length (items_between 0 item ids))
-bound_placed arena ids item told inside increase begin =
-    let place = length (items_between 0 item ids) in
-    let parts = parts_of_told arena ids told place inside increase begin in
-    placed_behind arena ids 0 None 0 (stop_at place inside) parts.stops increase parts.follow (placed_outside ids 0)
-
--- so it is decided
-pub bound_decided : (arena : Contents) (plan : List (Option Slot)) (ids : List ℕ) (item told : ℕ) (inside : Option Place) → Increase ids → BeginTold arena (items_between 0 told ids) (length (items_between 0 item ids)) inside
-    → AreDecidedBefore plan ids item → All (λ id. IsSome (slot_of plan id)) (items_before inside)
-bound_decided arena plan ids item told inside increase begin all =
-    placed_decided plan ids 0 inside (length (items_between 0 item ids)) increase (bound_placed arena ids item told inside increase begin) (front_decided plan ids item increase all)
 
 -- the parts behind what is new tell nothing
 pub behind_new : (style : Style) (budget : ℕ) (arena : Contents) (run : ℕ) (plan : List (Option Slot)) (ids : List ℕ) (before now : Tally) (here : List (Option Slot)) (begins : Option Place) (first new : ℕ) → first ≤ length ids

@@ -1,57 +1,18 @@
--- Kept gaps, and the text of a plan.
-use Rattle.std.proofs.Common.{◌≡◌, ◌∙◌, ℕ, suc, ◌+◌, Bool, true, false, Option, None, List, [], ◌∷◌, drop, get_or}
-use Rattle.std.proofs.Common.{length, replicate, ◌<◌, refl, sym, ap, subst, arith}
-use Rattle.std.specs.Prelude.{if◌then◌else◌}
-use Rattle.std.specs.List.{list_any}
-use Rattle.std.proofs.Math.Seq.{drop-cons}
-use Rattle.std.proofs.lemmas.Bool.{or_parts}
+-- The text of a plan.
+use Rattle.std.proofs.Common.{◌≡◌, ◌∙◌, ℕ, ◌+◌, Bool, Option, None, List, length, replicate, sym, ap, subst}
 use Rattle.style_table.specs.declared.style.Style.{Style}
 use Rattle.token_arena.specs.Gaps.{Contents}
 use Rattle.replacements.specs.declared.slot.Slot.{Slot}
 use Rattle.replacements.specs.Decisions.{decided_all}
-use Rattle.line_gaps.specs.Rows.{column_behind}
-use Rattle.item_classes.specs.Items.{item_at}
 use Rattle.off_regions.specs.declared.range.LineRange.{LineRange}
 use Rattle.run_layout.specs.Outcomes.{LaidLine}
 use Rattle.early_gaps.specs.BeforeRuns.{early_decisions, early_plan}
 use Rattle.format_core.specs.Plans.{AfterRuns, IsPlanOf}
-use Rattle.format_core.specs.Runs.{runs_of}
-use Rattle.format_core.specs.KeptGaps.{input_column, kept_slot, kept_decisions}
+use Rattle.run_parts.specs.Runs.{runs_of}
 use Rattle.token_arena.specs.declared.directives.Section.{Section}
 use Rattle.token_arena.specs.Sections.{sections_of}
 use Rattle.replacements.specs.Written.{written}
 use Rattle.format_core.specs.LineEnds.{ends_by}
-
--- ## Kept gaps
-
--- where no gap is marked, none is kept
-pub none_kept : (style : Style) (arena : Contents) (column : ℕ) (ids : List ℕ) (marks : List Bool) → list_any (λ mark. mark) marks ≡ false → kept_decisions style arena column ids marks ≡ []
-none_kept style arena column [] marks none = refl
-none_kept style arena column (id ∷ ids) [] none = refl
-none_kept style arena column (id ∷ ids) (mark ∷ marks) none =
-    let parts = or_parts mark (list_any (λ mark. mark) marks) none in
-    let at = input_column style arena column id in
-    let next : ℕ = column_behind at (item_at arena id) in
-    ap (λ (b : Bool). if b then (id, kept_slot at) ∷ kept_decisions style arena next ids marks else kept_decisions style arena next ids marks) parts.0
-    ∙ none_kept style arena next ids marks parts.1
-
-one_kept : (style : Style) (arena : Contents) (plan : List (Option Slot)) (column id : ℕ) (ids : List ℕ) (mark : Bool) (marks : List Bool)
-    → decided_all (decided_all plan (if mark then (id, kept_slot (input_column style arena column id)) ∷ [] else []))
-    (kept_decisions style arena (column_behind (input_column style arena column id) (item_at arena id)) ids marks)
-    ≡ decided_all plan (kept_decisions style arena column (id ∷ ids) (mark ∷ marks))
-one_kept style arena plan column id ids true marks = refl
-one_kept style arena plan column id ids false marks = refl
-
--- the gap at a place is kept or not, and then those behind it
-pub next_kept : (style : Style) (arena : Contents) (plan after : List (Option Slot)) (column start next k id : ℕ) (ids : List ℕ) (mark : Bool) (marks : List Bool)
-    → k < length ids → length marks ≡ length ids → get_or ids k 0 ≡ id → get_or marks k false ≡ mark → start ≡ input_column style arena column id → next ≡ column_behind start (item_at arena id)
-    → after ≡ decided_all plan (if mark then (id, kept_slot start) ∷ [] else [])
-    → decided_all after (kept_decisions style arena next (drop (k + 1) ids) (drop (k + 1) marks)) ≡ decided_all plan (kept_decisions style arena column (drop k ids) (drop k marks))
-next_kept style arena plan after column start next k id ids mark marks within long at is begins ends made =
-    let one : suc k ≡ k + 1 = omega arith in
-    let items : drop k ids ≡ id ∷ drop (k + 1) ids = drop-cons ids k 0 within ∙ (ap (λ j. get_or ids k 0 ∷ drop j ids) one ∙ ap (λ (x : ℕ). x ∷ drop (k + 1) ids) at) in
-    let flags : drop k marks ≡ mark ∷ drop (k + 1) marks = drop-cons marks k false (omega arith) ∙ (ap (λ j. get_or marks k false ∷ drop j marks) one ∙ ap (λ (x : Bool). x ∷ drop (k + 1) marks) is) in
-    rw (items, flags, made, ends, begins) (one_kept style arena plan column id (drop (k + 1) ids) mark (drop (k + 1) marks))
 
 -- ## The text
 

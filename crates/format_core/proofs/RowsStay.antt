@@ -1,4 +1,4 @@
--- The gaps of parts that are noted in a row are decided, and stay so.
+-- The gaps of parts that are noted in a row are decided behind items that were laid out.
 use Rattle.std.proofs.Common.{◌≡◌, ◌∙◌, inl, inr, ℕ, ◌+◌, ◌-◌, ◌<◌, ◌≤◌, Option, List, length, length-append, drop}
 use Rattle.std.proofs.Common.{get_or, sym, subst, arith}
 use Rattle.std.specs.Prelude.{All, IsSome, slice_range}
@@ -10,20 +10,18 @@ use Rattle.token_arena.specs.Ids.{Increase}
 use Rattle.item_classes.specs.Viewed.{AreWithin}
 use Rattle.replacements.specs.declared.slot.Slot.{Slot}
 use Rattle.replacements.specs.Decisions.{slot_of}
-use Rattle.line_gaps.specs.OpenGaps.{IsRowDecided}
 use Rattle.run_layout.specs.declared.report.Tally.{Tally}
 use Rattle.line_gaps.proofs.MadeFor.{is_some-decided, decided-is_some}
 use Rattle.view_parts.specs.declared.known.KnownEnd.{KnownEnd}
 use Rattle.part_walk.specs.Places.{Place}
 use Rattle.view_parts.specs.Parts.{StandsBefore, items_before, laid_items, part_inside}
-use Rattle.view_parts.specs.declared.known.KnownRow.{KnownRow}
-use Rattle.view_parts.specs.Known.{AreRowsFrom, HasNotedRow, HasRow, after_joined}
-use Rattle.view_parts.proofs.NotedRows.{joined_hold}
-use Rattle.format_core.specs.Runs.{AreDecided, AreRowsDecided}
+use Rattle.view_parts.specs.Known.{AreRowsFrom}
+use Rattle.run_parts.specs.Runs.{AreDecided, AreRowsDecided}
 use Rattle.format_core.specs.RunsTold.{AreItemsTold}
-use Rattle.format_core.proofs.Parts.{laid_have, laid_item, laid_length, part_length, part_item, before_or_behind}
-use Rattle.format_core.proofs.Between.{in_order}
-use Rattle.format_core.proofs.PlacesStand.{all_before, next_has}
+use Rattle.run_parts.proofs.JoinedRows.{own_decided, row_of_part}
+use Rattle.run_parts.proofs.Parts.{laid_have, part_length, part_item, before_or_behind}
+use Rattle.run_parts.proofs.Between.{in_order}
+use Rattle.run_parts.proofs.PlacesStand.{all_before, next_has}
 use Rattle.format_core.proofs.SoundPlan.{items_keep, items_decided}
 
 -- ## What is laid out
@@ -41,31 +39,6 @@ pub told_decided : (style : Style) (budget : ℕ) (arena : Contents) (run : ℕ)
 told_decided style budget arena run plan ids final before after long within laid = λ k below.
     is_some-decided final (get_or ids k 0) (items_decided style budget arena run plan ids final laid.done k long within below laid.items)
 
--- so are those of the part itself
-own_decided : (plan : List (Option Slot)) (ids : List ℕ) (begins : Option Place) (first end : ℕ) → AreDecided plan (laid_items begins ids first end) → AreDecided plan (slice_range ids first end)
-own_decided plan ids begins first end all = λ k below.
-    subst (λ id. IsSome (slot_of plan id)) (laid_item ids begins first end k 0 below ∙ sym (part_item ids first end k 0 below))
-    (all (length (items_before begins) + k) (omega (arith, below, laid_length ids begins first end, part_length ids first end)))
-
--- ## Rows of a view
-
-row_of_part : (plan : List (Option Slot)) (view : List ℕ) (first end id : ℕ) (row : KnownRow) → end ≤ length view → HasRow view first end id row → AreDecided plan (slice_range view first end) → IsRowDecided plan id row.end
-row_of_part plan view first end id row inside has all = λ gap low high.
-    let k = gap - id in
-    let short : k < row.end - id = omega (arith, low, high) in
-    let below : k < length (slice_range view first end) = omega (arith, short, has.ends, inside, part_length view first end) in
-    let at : id + k ≡ gap = omega (arith, low) in
-    subst (λ g. IsSome (slot_of plan g)) (part_item view first end k 0 below ∙ (has.items k short ∙ at)) (all k below)
-
-part_of_row : (plan : List (Option Slot)) (view : List ℕ) (first end id : ℕ) (row : KnownRow) → HasRow view first end id row → IsRowDecided plan id row.end → AreDecided plan (slice_range view first end)
-part_of_row plan view first end id row has all = λ k below.
-    let short : k < row.end - id = omega (arith, below, has.ends, part_length view first end) in
-    subst (λ g. IsSome (slot_of plan g)) (sym (part_item view first end k 0 below ∙ has.items k short)) (all (id + k) (omega arith) (omega (arith, short, has.some)))
-
--- parts that a view has in a noted row are decided
-pub noted_decided : (plan : List (Option Slot)) (knowns : List KnownEnd) (view : List ℕ) (first end id : ℕ) → HasNotedRow knowns view first end id → AreRowsDecided plan knowns → AreDecided plan (slice_range view first end)
-noted_decided plan knowns view first end id noted all = part_of_row plan view first end id noted.row noted.has (all id noted.row noted.noted)
-
 -- ## What is noted
 
 -- behind a part that was laid out its row is decided too, if it was noted
@@ -79,17 +52,6 @@ rows_behind style budget arena run plan final view begins first end earlier know
       | inr has ↦ row_of_part final view first end id row inside has
           (own_decided final view begins first end (told_decided style budget arena run plan ids final before after long (laid_have (λ id. id < length arena.tokens) view begins first end place within) laid))
     ]
-
-both_decided : (plan : List (Option Slot)) (a b c : ℕ) → IsRowDecided plan a b → IsRowDecided plan b c → IsRowDecided plan a c
-both_decided plan a b c here later = λ gap low high.
-    elim (before_or_behind gap b) [
-      | inl before ↦ here gap low before
-      | inr behind ↦ later gap behind high
-    ]
-
--- rows that are decided are so when two are joined
-pub joined_decided : (plan : List (Option Slot)) (knowns : List KnownEnd) (first next : ℕ) → AreRowsDecided plan knowns → AreRowsDecided plan (after_joined knowns first next)
-joined_decided plan knowns first next all = joined_hold (λ a b. IsRowDecided plan a b) knowns first next (both_decided plan) all
 
 -- ## What stands for the place behind a part
 

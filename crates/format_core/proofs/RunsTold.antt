@@ -26,14 +26,14 @@ use Rattle.run_layout.proofs.Views.{lines_cut}
 use Rattle.run_layout.proofs.WaitingComments.{nothing_waits}
 use Rattle.line_gaps.proofs.Walked.{cut_within}
 use Rattle.format_core.specs.Plans.{AfterParts, AfterSeen, AfterRuns}
-use Rattle.format_core.specs.Runs.{AreDecided, seen_by, after_kept}
+use Rattle.run_parts.specs.Runs.{AreDecided, seen_by, after_kept}
 use Rattle.annotator.specs.Tokens.{toks_of_lines}
 use Rattle.unwrapped_lines.specs.Lines.{lines_of_items}
 use Rattle.format_core.specs.RunsTold.{AreItemsTold, ArePartsTold, AreSeenTold, AreRunsTold}
 use Rattle.format_core.specs.PartByPart.{GoesOnParts}
-use Rattle.format_core.proofs.NothingNew.{kept_nothing}
-use Rattle.format_core.proofs.Parts.{all_decided_of, decided_all_of, laid_have}
-use Rattle.format_core.proofs.PlacesStand.{PlacesHave, part_places_have}
+use Rattle.run_parts.proofs.NothingNew.{kept_nothing}
+use Rattle.run_parts.proofs.Parts.{all_decided_of, decided_all_of, laid_have}
+use Rattle.run_parts.proofs.PlacesStand.{PlacesHave, part_places_have}
 use Rattle.format_core.proofs.SoundPlan.{tell}
 
 -- ## Lists of what came of lines

@@ -1,6 +1,6 @@
 -- What holds of the plans of a text, whichever lines are reported.
-use Rattle.std.proofs.Common.{◌≡◌, ◌∙◌, inl, inr, ℕ, zero, suc, ◌+◌, ◌-◌, ◌<◌, ◌≤◌, Bool, true, false, Option, None}
-use Rattle.std.proofs.Common.{Some, List, [], ◌∷◌, length, get_or, sym, ap, arith, subst}
+use Rattle.std.proofs.Common.{◌≡◌, ◌∙◌, inl, inr, ℕ, zero, suc, ◌+◌, ◌-◌, ◌<◌, ◌≤◌, Option, None, Some, List, [], ◌∷◌}
+use Rattle.std.proofs.Common.{length, get_or, sym, ap, arith, subst}
 use Rattle.std.specs.Prelude.{All, slice_range}
 use Rattle.std.specs.List.{Contains}
 use Rattle.std.proofs.lemmas.List.{get_or_default}
@@ -30,8 +30,7 @@ use Rattle.run_layout.specs.Laws.{AreOfTexts}
 use Rattle.run_layout.specs.Outcomes.{LaidLine}
 use Rattle.run_layout.proofs.Views.{views_stay_sound, views_keep, views_decide, view_length}
 use Rattle.line_gaps.proofs.MadeFor.{IsDecided, is_some-decided, decided-is_some}
-use Rattle.line_gaps.specs.Rows.{column_behind}
-use Rattle.line_gaps.proofs.Stands.{MadeStand, all_sound, old_stands}
+use Rattle.line_gaps.proofs.Stands.{all_sound}
 use Rattle.run_layout.proofs.Telling.{stand_for_items}
 use Rattle.run_layout.specs.Tells.{StandForItems}
 use Rattle.off_regions.specs.declared.range.LineRange.{LineRange}
@@ -42,19 +41,19 @@ use Rattle.early_gaps.proofs.SoundStart.{early_sound}
 use Rattle.early_gaps.specs.Columns.{column_at}
 use Rattle.line_gaps.specs.InputColumns.{kept_slot}
 use Rattle.early_gaps.proofs.Tells.{early_keeps, length-early}
-use Rattle.format_core.specs.KeptGaps.{input_column, kept_decisions}
+use Rattle.run_parts.specs.KeptGaps.{kept_decisions}
 use Rattle.format_core.specs.Laws.{PlannedTextsAreTwins, EarlyDecisionsStay, KeptGapsStay, EveryGapIsDecided}
 use Rattle.format_core.specs.Plans.{AfterItems, AfterParts, AfterSeen, AfterRuns, IsPlanOf}
-use Rattle.format_core.specs.Runs.{runs_of, seen_by, after_kept}
+use Rattle.run_parts.specs.Runs.{runs_of, seen_by, after_kept}
 use Rattle.annotator.specs.Tokens.{toks_of_lines}
-use Rattle.item_classes.specs.Items.{item_at}
 use Rattle.unwrapped_lines.specs.Lines.{lines_of_items}
-use Rattle.format_core.proofs.Parts.{laid_have, laid_item, laid_length, part_length, before_or_behind}
+use Rattle.run_parts.proofs.Parts.{laid_have, laid_item, laid_length, part_length, before_or_behind}
 use Rattle.view_parts.proofs.InOrder.{AreEnds, ends_cut}
-use Rattle.format_core.proofs.PlacesStand.{PlacesHave, part_places_have}
-use Rattle.format_core.proofs.SeenInOrder.{seen_increases}
-use Rattle.format_core.proofs.Seen.{here_or_later, length-kept, seen_within}
-use Rattle.format_core.proofs.OfTexts.{views_are_of_texts, text_mark}
+use Rattle.run_parts.proofs.PlacesStand.{PlacesHave, part_places_have}
+use Rattle.run_parts.proofs.SeenInOrder.{seen_increases}
+use Rattle.run_parts.proofs.Seen.{here_or_later, length-kept, seen_within}
+use Rattle.run_parts.proofs.OfTexts.{views_are_of_texts, text_mark}
+use Rattle.run_parts.proofs.GapsKept.{kept_stand}
 
 -- ## What a run tells of its items
 
@@ -66,13 +65,6 @@ tell style arena ids =
     stand_for_items arena ids (toks_of_lines arena ids (lines_of_items style arena ids)) (as_many_roles arena ids partners lines (lines_cut_views style arena ids partners)) (roles_tell arena ids partners lines)
 
 -- ## The text is a twin
-
--- what stays may stand
-pub kept_stand : (style : Style) (arena : Contents) (column : ℕ) (ids : List ℕ) (marks : List Bool) → MadeStand arena (kept_decisions style arena column ids marks)
-kept_stand style arena column [] marks = tt
-kept_stand style arena column (id ∷ ids) [] = tt
-kept_stand style arena column (id ∷ ids) (true ∷ marks) = (old_stands arena id, kept_stand style arena (column_behind (input_column style arena column id) (item_at arena id)) ids marks)
-kept_stand style arena column (id ∷ ids) (false ∷ marks) = kept_stand style arena (column_behind (input_column style arena column id) (item_at arena id)) ids marks
 
 items_sound : (style : Style) (budget : ℕ) (arena : Contents) (run : ℕ) (plan : List (Option Slot)) (ids : List ℕ) (final : List (Option Slot)) (done : List LaidLine) → AreWithin arena ids → AreOfTexts arena ids
     → AfterItems style budget arena run plan ids final done → IsSound arena plan → IsSound arena final

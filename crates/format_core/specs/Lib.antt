@@ -1,11 +1,7 @@
-pub mod Bounds
-pub mod Windows
+pub mod InStep
 pub mod PartByPart
 pub mod Faults
 pub mod LineEnds
-pub mod KeptGaps
-pub mod Read
-pub mod Runs
 pub mod Plans
 pub mod Reports
 pub mod RunsTold

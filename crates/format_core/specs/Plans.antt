@@ -10,7 +10,7 @@ use Rattle.run_layout.specs.View.{AfterView}
 use Rattle.early_gaps.specs.BeforeRuns.{early_plan}
 use Rattle.part_walk.specs.Places.{Place}
 use Rattle.view_parts.specs.Parts.{PartStop, laid_items, part_ends}
-use Rattle.format_core.specs.Runs.{runs_of, seen_by, after_kept}
+use Rattle.run_parts.specs.Runs.{runs_of, seen_by, after_kept}
 use Rattle.annotator.specs.Tokens.{toks_of_lines}
 use Rattle.unwrapped_lines.specs.Lines.{lines_of_items}
 

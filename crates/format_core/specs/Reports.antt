@@ -4,7 +4,7 @@ use Rattle.token_arena.specs.Gaps.{Contents}
 use Rattle.run_layout.specs.Outcomes.{LaidLine}
 use Rattle.run_layout.specs.Reports.{reports_of, searched_of, cost_of}
 use Rattle.run_layout.specs.declared.report.Counts.{Counts}
-use Rattle.format_core.specs.Runs.{runs_of}
+use Rattle.run_parts.specs.Runs.{runs_of}
 
 -- these are the counts of a text's lines
 pub record AreCounts (arena : Contents) (done : List LaidLine) (counts : Counts) : Type 0 where

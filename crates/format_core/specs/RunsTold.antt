@@ -11,7 +11,7 @@ use Rattle.run_layout.specs.RunsLaid.{IsToldOf}
 use Rattle.run_layout.specs.declared.report.Tally.{Tally}
 use Rattle.run_layout.specs.Reports.{reports_of, searched_of, cost_of}
 use Rattle.format_core.specs.Plans.{AfterItems, AfterParts, AfterSeen, AfterRuns, IsPlanOf}
-use Rattle.format_core.specs.Runs.{runs_of}
+use Rattle.run_parts.specs.Runs.{runs_of}
 use Rattle.format_core.specs.declared.runs.Planned.{Planned}
 
 -- behind a part of these items stands this plan, and its lines are told so

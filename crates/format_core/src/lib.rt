@@ -6,15 +6,11 @@
 //! [`Formatted::write`] takes none. The text that it writes has the same items as its input.
 #![tactic(auto)]
 
-mod bounds;
 mod fault;
 mod formatted;
-mod kept;
-mod known_parts;
 mod laid_text;
 mod laws;
 mod line_ends;
-mod part_rows;
 mod runs;
 
 pub use fault::FormatFault;

@@ -1,7 +1,7 @@
 //! The plan of a text, run by run over one store of items.
 
 ghost use Rattle.std.specs.Prelude.{◌≡◌, ◌<◌, ◌≤◌, ◌+◌, ◌*◌, ◌^◌, ◌-◌, ℕ, All, List, Option, None, Some, IfOk, IfSome};
-ghost use Rattle.std.specs.Prelude.{IsTrue, OnOk, get_or, length, option_map, slice_range, IsSome};
+ghost use Rattle.std.specs.Prelude.{IsTrue, OnOk, get_or, length, option_map, IsSome};
 ghost use Rattle.std.specs.Option.{ForNone, ForSome};
 ghost use Rattle.c_chars.specs.declared.TheConstants.{LIMIT};
 ghost use Rattle.style_table.specs.Range.{IsInRange};
@@ -12,41 +12,35 @@ ghost use Rattle.branch_runs.specs.Anew.{items_between};
 ghost use Rattle.run_layout.specs.declared.report.Tally.{Tally};
 ghost use Rattle.replacements.specs.declared.slot.Slot.{Slot};
 ghost use Rattle.line_gaps.specs.Counted.{IsCounted};
-ghost use Rattle.view_parts.specs.Known.{AreKnown};
-ghost use Rattle.view_parts.specs.Parts.{ArePartsUpTo, StandsBefore, items_before, laid_items};
+ghost use Rattle.view_parts.specs.Parts.{StandsBefore, items_before, laid_items};
 ghost use Rattle.part_walk.specs.Places.{place_in};
-ghost use Rattle.format_core.specs.Runs.{AreDecided, AreRowsDecided, runs_of, seen_by};
+ghost use Rattle.run_parts.specs.Runs.{runs_of, seen_by};
 ghost use Rattle.std.specs.List.{Contains};
 ghost use Rattle.replacements.specs.Decisions.{slot_of};
-ghost use Rattle.format_core.specs.Bounds.{AreBounds, BeginTold, IsBound};
-ghost use Rattle.format_core.specs.Windows.{AreInStep, AreToldIn, IsWindow, place_before};
+ghost use Rattle.run_parts.specs.Bounds.{AreBounds, BeginTold, IsBound};
+ghost use Rattle.format_core.specs.InStep.{AreInStep};
+ghost use Rattle.run_parts.specs.Windows.{AreToldIn, IsWindow, place_before};
 ghost use Rattle.format_core.specs.PartByPart.{GoesOnFrom};
-ghost use Rattle.format_core.specs.Read.{IsRead};
 ghost use Rattle.format_core.specs.RunsTold.{AreItemsTold, AreRunsTold, AreSeenTold, IsPlanned};
 
-use crate::bounds::{KnownBound, last_bound};
-use crate::kept::keep_gaps;
-use crate::known_parts::KnownParts;
-use crate::part_rows::{is_part_decided, row_of_part};
-use annotator::roles_of_classes;
-use branch_runs::{Change, CondTree};
+use branch_runs::CondTree;
 use bumpalo::Bump;
 use early_gaps::{Context, decide_early};
-use item_classes::{classes_among, item_classes};
+use item_classes::item_classes;
 use line_gaps::{ViewLayout, is_row_decided};
-use line_tokens::{LineTok, NoMemory, TokenId, ULine};
+use line_tokens::{NoMemory, TokenId};
 use off_regions::Ranges;
 use part_walk::BodyPlace;
 use replacements::Plan;
 use run_layout::{Tally, lay_out_view};
+use run_parts::{
+    KnownBound, KnownParts, Way, Window, change_of, is_part_decided, keep_gaps, last_bound,
+    note_bound, pass_part, pass_row, read_items, row_of_part,
+};
 use std::alloc::Global;
 use style_table::Style;
 use token_arena::{Section, TokenArena, View};
-use token_classes::{TokenClass, bracket_facts};
-use unwrapped_lines::lines_of_classes;
-use view_parts::{
-    KnownEnds, KnownSpans, PartsEnd, join_rows, known_part_end, known_parts_end, laid_view,
-};
+use view_parts::{KnownSpans, PartsEnd, known_part_end, laid_view};
 
 /// How many items behind what is new in a run are looked at first at least. Most parts end within as many, and so do
 /// the items that tell it.
@@ -70,44 +64,6 @@ struct Made<'a> {
     plan: Plan<'a>,
     /// What came of the lines of the runs so far.
     tally: Tally<'a>,
-}
-
-/// What is read of the items of a view.
-#[derive(Clone, Copy)]
-struct ReadItems<'r> {
-    /// The classes of the places.
-    classes: &'r [TokenClass],
-    /// Of each place, whether the gap before it stays as it is.
-    kept: &'r [bool],
-    /// The unwrapped lines.
-    lines: &'r [ULine],
-    /// The tokens.
-    tokens: &'r [LineTok],
-}
-
-/// Reads the items of a view.
-#[inline(always)]
-fn read_items<'r>(
-    context: &Context<'r>,
-    view: &View<'_>,
-    run: &'r Bump,
-) -> Result<ReadItems<'r>, NoMemory>
-    requires all { context.now.classes.now ≡ item_classes context.now.arena.now }
-    requires within { AreWithin context.now.arena.now view.now }
-    ensures { IfOk result (IsRead context.now.style.now context.now.arena.now view.now) }
-{
-    let style = context.style;
-    let arena = context.arena;
-    let classes = classes_among(context.classes, arena, view, run)?;
-    let facts = bracket_facts(classes, run)?;
-    let lines = lines_of_classes(style, arena, view, classes, facts.partners, run)?;
-    let tokens = roles_of_classes(arena, view, classes, facts.partners, lines, run)?;
-    Ok(ReadItems {
-        classes,
-        kept: facts.kept,
-        lines,
-        tokens,
-    })
 }
 
 /// Decides the gaps of these items, where they are open: first those that stay as they are.
@@ -138,7 +94,7 @@ fn lay_out_items(
     let items = arena.len();
     let count = view.len();
     prove!(count <= items);
-    let read = read_items(context, view, run)?;
+    let read = read_items(style, arena, context.classes, view, run)?;
     keep_gaps(style, arena, view, read.kept, &mut made.plan);
     let layout = ViewLayout {
         alloc: context.alloc,
@@ -157,23 +113,6 @@ fn lay_out_items(
         &mut made.tally,
         run,
     )
-}
-
-/// What a run sees of the items from one to before another.
-#[derive(Drop)]
-struct Window<'r> {
-    /// The number of the run.
-    number: u32,
-    /// What it sees of them.
-    view: View<'r>,
-    /// The first of those items.
-    first: u32,
-    /// The item behind them.
-    end: u32,
-    /// The item behind those that are new in the run.
-    new_end: u32,
-    /// Whether another run follows, which may start where parts end.
-    later: bool,
 }
 
 /// Decides the gaps of a part of a view that begins with this item, from one place to before another, where they are
@@ -242,102 +181,6 @@ struct Turn<'k> {
     new_end: u32,
     /// Whether another run follows.
     later: bool,
-}
-
-/// How far a run has come in a window.
-#[derive(Drop)]
-struct Way<'k> {
-    /// The place of the next part.
-    first: u32,
-    /// The number of the segment that is looked at first.
-    segment: usize,
-    /// The item with which the row of parts begins that ends there.
-    row: TokenId,
-    /// The item behind those that tell where the parts before it end.
-    told: u32,
-    /// Where the next part begins in a body, if it begins in one.
-    inside: Option<BodyPlace<'k>>,
-}
-
-impl<'k> Way<'k> {
-    /// At the first part, before which parts end as the items before this one tell.
-    fn start(told: u32, inside: Option<BodyPlace<'k>>) -> Way<'k>
-        ensures first { result.first ≡ 0 }
-        ensures told { result.told ≡ told }
-        ensures inside { result.inside ≡ inside.entry }
-    {
-        Way {
-            first: 0,
-            segment: 0,
-            row: TokenId(0),
-            told,
-            inside,
-        }
-    }
-}
-
-/// Goes on behind a part that is noted in a row, or parts that follow one another. Such parts begin outside brackets.
-fn pass_row(
-    arena: &TokenArena<'_, '_>,
-    view: &View<'_>,
-    id: TokenId,
-    known: &mut KnownEnds<'_>,
-    way: &mut Way<'_>,
-) -> Option<PartsEnd<'static>>
-    requires here { way.old.first < length view.now }
-    requires item { (d : ℕ) → get_or view.now way.old.first d ≡ id.0 }
-    requires known { AreKnown arena.now known.old }
-    ensures known { AreKnown arena.now known.new }
-    ensures rows { (plan : List (Option Slot)) → AreRowsDecided plan known.old → AreRowsDecided plan known.new }
-    ensures parts { IfSome result
-        (λ parts. ArePartsUpTo arena.now view.now None way.old.first (record { end = parts.end; inside = None })) }
-    ensures decided { IfSome result (λ parts.
-        (plan : List (Option Slot)) → AreRowsDecided plan known.old →
-        AreDecided plan (slice_range view.now way.old.first parts.end)) }
-    ensures begins { IfSome result (λ parts. way.old.inside ≡ None) }
-    ensures outside { IfSome result (λ parts. parts.inside ≡ None) }
-    ensures some { IfSome result (λ parts. way.old.first < parts.end) }
-    ensures inside { IfSome result (λ parts. parts.end ≤ length view.now) }
-    ensures end { IfSome result (λ parts. way.new.first ≡ parts.end) }
-    ensures told { IfSome result
-        (λ parts. ForSome parts.told (λ told. AreToldIn arena.now view.now None way.old.first parts.end None told)) }
-    ensures whole { IfSome result (λ parts. ForNone parts.told (parts.end ≡ length view.now)) }
-    ensures always { IfSome result (λ parts. IsSome parts.told) }
-    ensures stays { ForNone result (way.new.first ≡ way.old.first) }
-    ensures same { way.new.told ≡ way.old.told }
-    ensures place { way.new.inside ≡ way.old.inside }
-{
-    if way.inside.is_some() {
-        return None;
-    }
-    let first = way.first;
-    let parts = known_parts_end(arena, view, first, id, known, &mut way.segment)?;
-    way.row = join_rows(arena, known, way.row, id);
-    way.first = parts.end;
-    Some(parts)
-}
-
-/// Goes on behind a part that was laid out, which begins with this item. If it is noted in a row, so it is with those
-/// before it.
-fn pass_part<'k>(
-    arena: &TokenArena<'_, '_>,
-    id: TokenId,
-    part: PartsEnd<'k>,
-    known: &mut KnownEnds<'_>,
-    way: &mut Way<'k>,
-)
-    requires known { AreKnown arena.now known.old }
-    ensures known { AreKnown arena.now known.new }
-    ensures rows { (plan : List (Option Slot)) → AreRowsDecided plan known.old → AreRowsDecided plan known.new }
-    ensures end { way.new.first ≡ part.entry.end }
-    ensures inside { way.new.inside ≡ part.entry.inside }
-    ensures same { way.new.told ≡ way.old.told }
-{
-    if way.inside.is_none() {
-        way.row = join_rows(arena, known, way.row, id);
-    }
-    way.first = part.end;
-    way.inside = part.inside;
 }
 
 /// Decides the gaps of the next part of a window, where they are open, or passes over parts that are noted in a row.
@@ -428,56 +271,6 @@ fn lay_out_next<'k>(
     )?;
     pass_part(arena, id, part, &mut known.ends, way);
     Ok(Some(part))
-}
-
-/// Notes where parts end that begin at this place, if a later run follows.
-fn note_bound<'k>(
-    arena: &TokenArena<'_, '_>,
-    window: &Window<'_>,
-    begins: Option<BodyPlace<'k>>,
-    first: u32,
-    parts: PartsEnd<'k>,
-    bounds: &mut Vec<KnownBound<'k>, &'k Bump>,
-    way: &mut Way<'_>,
-) -> Result<(), NoMemory>
-    requires within { AreWithin arena.now window.now.view }
-    requires window { IsWindow arena.now window.now.number window.now.view window.now.first window.now.end }
-    requires some { first < parts.end }
-    requires told { ForSome parts.told
-        (λ told. AreToldIn arena.now window.now.view (place_in begins) first parts.end (place_in parts.inside) told) }
-    requires whole { ForNone parts.told (parts.end ≡ length window.now.view) }
-    requires begin { IsTrue window.now.later →
-        BeginTold arena.now (items_between 0 way.old.told (seen_by arena.now window.now.number))
-        (place_before arena.now window.now.number window.now.first + first) (place_in begins) }
-    requires bounds { AreBounds arena.now (seen_by arena.now window.now.number) bounds.old.items way.old.told }
-    ensures first { OnOk result (way.new.first ≡ way.old.first) }
-    ensures inside { OnOk result (way.new.inside ≡ way.old.inside) }
-    ensures begin { OnOk result (IsTrue window.now.later → parts.entry.end < length window.now.view →
-        BeginTold arena.now (items_between 0 way.new.told (seen_by arena.now window.now.number))
-        (place_before arena.now window.now.number window.now.first + parts.entry.end)
-        (place_in parts.entry.inside)) }
-    ensures bounds { OnOk result
-        (AreBounds arena.now (seen_by arena.now window.now.number) bounds.new.items way.new.told) }
-{
-    if !window.later {
-        return Ok(());
-    }
-    let Some(told) = parts.told else {
-        return Ok(());
-    };
-    let items = arena.len();
-    let mut near = way.segment;
-    let last = window.view.at_near(told - 1, &mut near);
-    prove!(last.0 < items);
-    // The next part begins there, and its segment is found then.
-    let item = window.view.at_near(parts.end, &mut way.segment);
-    way.told = way.told.max(last.0 + 1);
-    bounds.push(KnownBound {
-        item: item.0,
-        told: way.told,
-        inside: parts.inside,
-    })?;
-    Ok(())
 }
 
 /// Empties the room of a part or a run for the next one.
@@ -672,33 +465,6 @@ fn note_from(spans: &mut KnownSpans<'_>, least: Option<u32>)
     spans.least = least;
 }
 
-/// How the view of a run differs from that of the run before it: all that the first run sees is new.
-fn change_of(context: &Context<'_>, tree: &CondTree<'_>, number: u32) -> Change
-    requires tree { IsTreeOf context.now.arena.now tree.now }
-    requires number { number < runs_of context.now.arena.now }
-    ensures end { result.end ≤ length context.now.arena.now.tokens }
-    ensures first { number ≡ 0 → result.first ≡ 0 }
-    ensures before { 0 < number →
-        items_between 0 result.first (seen_by context.now.arena.now number)
-        ≡ items_between 0 result.first (seen_by context.now.arena.now (number - 1)) }
-    ensures behind { 0 < number → (id : ℕ) → result.end ≤ id → Contains (seen_by context.now.arena.now number) id →
-        Contains (seen_by context.now.arena.now (number - 1)) id }
-    ensures all { number ≡ 0 → result.end ≡ length context.now.arena.now.tokens }
-{
-    let items = context.arena.len();
-    if number == 0 {
-        return Change {
-            first: 0,
-            end: items,
-        };
-    }
-    let change = tree.change(number);
-    Change {
-        first: change.first,
-        end: change.end.min(items),
-    }
-}
-
 /// Decides the gaps of all items of texts, run by run. A run that sees nothing new is passed over. What a run takes of
 /// memory serves the next one too.
 fn lay_out_runs(
@@ -727,7 +493,7 @@ fn lay_out_runs(
     let mut run = Bump::new(context.alloc);
     let mut ahead = LEAST_AHEAD;
     for number in 0..count {
-        let change = change_of(context, tree, number);
+        let change = change_of(context.arena, tree, number);
         let bound = last_bound(&mut known.bounds, change.first);
         if change.end == 0 {
             continue;

@@ -2,7 +2,7 @@ use Rattle.std.proofs.Common.{◌∙◌, ◌-◌, ◌≤◌, Bool, List, length,
 use Rattle.std.proofs.lemmas.Result.{on_ok_weaker}
 use Rattle.item_classes.proofs.Lists.{few_below}
 use Rattle.replacements.specs.Decisions.{decided_all}
-use Rattle.format_core.specs.KeptGaps.{kept_decisions}
+use Rattle.run_parts.specs.KeptGaps.{kept_decisions}
 use Rattle.format_core.proofs.RunsTold.{items_from}
 use Rattle.format_core.proofs.runs.lay_out_items.Goals as goal
 

@@ -4,19 +4,21 @@ use Rattle.part_walk.specs.declared.bodies.BodyPlace.{BodyPlace}
 use Rattle.part_walk.specs.Places.{place_in}
 use Rattle.view_parts.specs.Parts.{items_before, laid_items}
 use Rattle.replacements.specs.Decisions.{slot_of}
-use Rattle.format_core.specs.Runs.{AreDecided, AreRowsDecided, seen_by}
+use Rattle.run_parts.specs.Runs.{AreDecided, AreRowsDecided, seen_by}
 use Rattle.format_core.specs.PartByPart.{GoesOnFrom}
 use Rattle.format_core.specs.RunsTold.{AreItemsTold}
-use Rattle.format_core.specs.Windows.{AreToldIn, place_before}
-use Rattle.format_core.proofs.FirstParts.{stop_at}
+use Rattle.run_parts.specs.Windows.{AreToldIn, place_before}
+use Rattle.run_parts.proofs.FirstParts.{stop_at}
 use Rattle.format_core.proofs.PartsTold.{from_part}
-use Rattle.format_core.proofs.PlacesStand.{never_none, next_has, none_before, none_stands, rest_have}
+use Rattle.run_parts.proofs.PlacesStand.{never_none, next_has, none_before, none_stands, rest_have}
 use Rattle.format_core.proofs.RowsPassed.{from_row}
 use Rattle.format_core.proofs.RowsStay.{place_decided, rows_behind}
-use Rattle.format_core.proofs.SeenInOrder.{seen_increases}
-use Rattle.format_core.proofs.WindowParts.{isnt_told, stop_is, window_increases, window_inside, window_laid, window_part, window_row, window_slice}
+use Rattle.run_parts.proofs.SeenInOrder.{seen_increases}
+use Rattle.run_parts.proofs.WindowParts.{isnt_told, stop_is, window_increases, window_inside, window_laid, window_part}
+use Rattle.run_parts.proofs.WindowParts.{window_row, window_slice}
 use Rattle.format_core.proofs.runs.lay_out_next.Goals as goal
-use Rattle.format_core.proofs.runs.lay_out_next.Goals.{else-is_none-via-then-is_none+else-window-len, else-is_none-via-else-is_none}
+use Rattle.format_core.proofs.runs.lay_out_next.Goals.{else-is_none-via-then-is_none+else-window-len}
+use Rattle.format_core.proofs.runs.lay_out_next.Goals.{else-is_none-via-else-is_none}
 
 pub returns-in-Some-clause-on : goal.returns-in-Some-clause-on
 returns-in-Some-clause-on c = λ plan before from.

@@ -6,9 +6,9 @@ use Rattle.line_gaps.specs.OpenGaps.{IsRowDecided}
 use Rattle.view_parts.specs.Parts.{items_before, laid_items}
 use Rattle.part_walk.specs.Places.{place_in}
 use Rattle.format_core.specs.RunsTold.{AreItemsTold}
-use Rattle.format_core.proofs.Parts.{all_decided_of, laid_decided, laid_have, part_within}
-use Rattle.format_core.proofs.PlacesStand.{laid_few}
-use Rattle.format_core.proofs.RowsDecided.{own_items, own_segment, row_decided}
+use Rattle.run_parts.proofs.Parts.{all_decided_of, laid_decided, laid_have, part_within}
+use Rattle.run_parts.proofs.PlacesStand.{laid_few}
+use Rattle.run_parts.proofs.RowsDecided.{own_items, own_segment, row_decided}
 use Rattle.format_core.proofs.RunsTold.{items_told_nothing}
 use Rattle.format_core.proofs.runs.lay_out_part.Goals as goal
 

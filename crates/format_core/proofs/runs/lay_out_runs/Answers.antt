@@ -4,14 +4,15 @@ use Rattle.branch_runs.specs.Reading.{read}
 use Rattle.branch_runs.specs.Runs.{need}
 use Rattle.view_parts.specs.declared.known.KnownSpan.{KnownSpan}
 use Rattle.part_walk.specs.Places.{place_in}
-use Rattle.format_core.specs.Bounds.{AreBounds}
-use Rattle.format_core.specs.Runs.{runs_of, seen_by}
+use Rattle.run_parts.specs.Bounds.{AreBounds}
+use Rattle.run_parts.specs.Runs.{runs_of, seen_by}
 use Rattle.format_core.specs.RunsTold.{AreRunsTold}
-use Rattle.format_core.specs.Windows.{AreInStep}
-use Rattle.format_core.specs.declared.bounds.KnownBound.{KnownBound}
-use Rattle.format_core.proofs.RunsFew.{runs_few}
+use Rattle.format_core.specs.InStep.{AreInStep}
+use Rattle.run_parts.specs.declared.bounds.KnownBound.{KnownBound}
+use Rattle.run_parts.proofs.RunsFew.{runs_few}
 use Rattle.format_core.proofs.RunsTold.{runs_begin, run_done, runs_end}
-use Rattle.format_core.proofs.SeenBefore.{none_seen, run_seen, behind_change, before_change, nothing_new_told, run_bounds}
+use Rattle.run_parts.proofs.SeenEarlier.{none_seen, behind_change, before_change, run_bounds}
+use Rattle.format_core.proofs.SeenBefore.{run_seen, nothing_new_told}
 use Rattle.format_core.proofs.runs.lay_out_runs.Goals as goal
 
 pub loop-number-init : goal.loop-number-init

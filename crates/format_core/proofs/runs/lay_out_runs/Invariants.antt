@@ -1,9 +1,9 @@
 use Rattle.std.proofs.Common.{◌≡◌, ◌≤◌, ◌<◌, ◌-◌, ◌*◌, ℕ, length}
-use Rattle.format_core.specs.Bounds.{AreBounds}
-use Rattle.format_core.specs.Runs.{seen_by}
-use Rattle.format_core.specs.Windows.{AreInStep}
+use Rattle.run_parts.specs.Bounds.{AreBounds}
+use Rattle.run_parts.specs.Runs.{seen_by}
+use Rattle.format_core.specs.InStep.{AreInStep}
 use Rattle.format_core.proofs.RunsTold.{GoesOnRuns}
-use Rattle.format_core.proofs.SeenBefore.{AreSeenDecided}
+use Rattle.run_parts.proofs.SeenEarlier.{AreSeenDecided}
 use Rattle.format_core.proofs.runs.lay_out_runs.Given as goal
 
 abbrev pub invariant-loop-number : goal.invariant-loop-number

@@ -9,14 +9,15 @@ use Rattle.branch_runs.specs.Runs.{view_of}
 use Rattle.part_walk.specs.declared.bodies.BodyPlace.{BodyPlace}
 use Rattle.part_walk.specs.Places.{place_in}
 use Rattle.view_parts.specs.Parts.{StandsBefore}
-use Rattle.format_core.specs.Bounds.{BeginTold}
+use Rattle.run_parts.specs.Bounds.{BeginTold}
 use Rattle.format_core.specs.PartByPart.{GoesOnFrom}
-use Rattle.format_core.specs.Runs.{seen_by}
-use Rattle.format_core.proofs.FromBound.{behind_new, bound_decided, bound_placed, from_bound}
-use Rattle.format_core.proofs.PlacesStand.{placed_has}
-use Rattle.format_core.proofs.Seen.{seen_within}
-use Rattle.format_core.proofs.SeenInOrder.{seen_increases, seen_few}
-use Rattle.format_core.proofs.Stretches.{front_short, window_fits, next_window}
+use Rattle.run_parts.specs.Runs.{seen_by}
+use Rattle.format_core.proofs.FromBound.{behind_new, from_bound}
+use Rattle.run_parts.proofs.BoundsDecided.{bound_decided, bound_placed}
+use Rattle.run_parts.proofs.PlacesStand.{placed_has}
+use Rattle.run_parts.proofs.Seen.{seen_within}
+use Rattle.run_parts.proofs.SeenInOrder.{seen_increases, seen_few}
+use Rattle.run_parts.proofs.Stretches.{front_short, window_fits, next_window}
 use Rattle.format_core.proofs.runs.lay_out_seen.Goals as goal
 
 pub loop-window-init : goal.loop-window-init

@@ -5,10 +5,11 @@ use Rattle.branch_runs.specs.Anew.{items_between}
 use Rattle.view_parts.specs.Parts.{StandsBefore, items_before}
 use Rattle.part_walk.specs.Places.{place_in}
 use Rattle.replacements.specs.Decisions.{slot_of}
-use Rattle.format_core.specs.Bounds.{AreBounds, BeginTold}
+use Rattle.run_parts.specs.Bounds.{AreBounds, BeginTold}
 use Rattle.format_core.specs.PartByPart.{GoesOnFrom}
-use Rattle.format_core.specs.Runs.{seen_by}
-use Rattle.format_core.specs.Windows.{AreInStep, place_before}
+use Rattle.run_parts.specs.Runs.{seen_by}
+use Rattle.format_core.specs.InStep.{AreInStep}
+use Rattle.run_parts.specs.Windows.{place_before}
 use Rattle.format_core.proofs.runs.lay_out_seen.Given as goal
 
 abbrev pub invariant-loop-window : goal.invariant-loop-window

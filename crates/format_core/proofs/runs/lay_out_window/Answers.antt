@@ -8,15 +8,15 @@ use Rattle.part_walk.specs.declared.bodies.BodyPlace.{BodyPlace}
 use Rattle.part_walk.specs.Places.{place_in}
 use Rattle.view_parts.specs.Parts.{StandsBefore, items_before}
 use Rattle.replacements.specs.Decisions.{slot_of}
-use Rattle.format_core.specs.Bounds.{AreBounds, BeginTold}
-use Rattle.format_core.specs.declared.bounds.KnownBound.{KnownBound}
+use Rattle.run_parts.specs.Bounds.{AreBounds, BeginTold}
+use Rattle.run_parts.specs.declared.bounds.KnownBound.{KnownBound}
 use Rattle.format_core.specs.PartByPart.{GoesOnFrom}
-use Rattle.format_core.specs.Runs.{seen_by}
-use Rattle.format_core.specs.Windows.{AreToldIn, place_before}
-use Rattle.format_core.proofs.Between.{in_order}
-use Rattle.format_core.proofs.PlacesStand.{never_none}
-use Rattle.format_core.proofs.SeenInOrder.{seen_increases}
-use Rattle.format_core.proofs.WindowParts.{seen_item, behind_window, stands_in_seen}
+use Rattle.run_parts.specs.Runs.{seen_by}
+use Rattle.run_parts.specs.Windows.{AreToldIn, place_before}
+use Rattle.run_parts.proofs.Between.{in_order}
+use Rattle.run_parts.proofs.PlacesStand.{never_none}
+use Rattle.run_parts.proofs.SeenInOrder.{seen_increases}
+use Rattle.run_parts.proofs.WindowParts.{seen_item, behind_window, stands_in_seen}
 use Rattle.format_core.proofs.runs.lay_out_window.Goals as goal
 
 pub prove-unreachable-requires : goal.prove-unreachable-requires

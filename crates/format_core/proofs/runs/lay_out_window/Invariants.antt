@@ -7,10 +7,11 @@ use Rattle.part_walk.specs.Places.{place_in}
 use Rattle.replacements.specs.Decisions.{slot_of}
 use Rattle.replacements.specs.declared.slot.Slot.{Slot}
 use Rattle.run_layout.specs.declared.report.Tally.{Tally}
-use Rattle.format_core.specs.Bounds.{AreBounds, BeginTold}
+use Rattle.run_parts.specs.Bounds.{AreBounds, BeginTold}
 use Rattle.format_core.specs.PartByPart.{GoesOnFrom}
-use Rattle.format_core.specs.Runs.{seen_by}
-use Rattle.format_core.specs.Windows.{AreInStep, place_before}
+use Rattle.run_parts.specs.Runs.{seen_by}
+use Rattle.format_core.specs.InStep.{AreInStep}
+use Rattle.run_parts.specs.Windows.{place_before}
 use Rattle.format_core.proofs.runs.lay_out_window.Given as goal
 
 abbrev pub invariant-loop-way : goal.invariant-loop-way

@@ -1,0 +1,5 @@
+pub mod Bounds
+pub mod Windows
+pub mod KeptGaps
+pub mod Read
+pub mod Runs
