@@ -1,3 +1,4 @@
+pub mod MadeSo
 pub mod LineCounts
 pub mod Opens
 pub mod PartsTold

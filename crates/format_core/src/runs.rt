@@ -1,8 +1,8 @@
 //! The plan of a text, run by run over one store of items.
 
-ghost use Rattle.std.specs.Prelude.{◌≡◌, ◌<◌, ◌≤◌, ◌+◌, ◌*◌, ◌^◌, ◌-◌, ℕ, All, List, Option, None, Some, IfOk, IfSome};
+ghost use Rattle.std.specs.Prelude.{◌≡◌, ◌<◌, ◌≤◌, ◌+◌, ◌*◌, ◌^◌, ◌-◌, ℕ, List, Option, None, Some, IfOk, IfSome};
 ghost use Rattle.std.specs.Prelude.{IsTrue, OnOk, get_or, length, option_map, IsSome};
-ghost use Rattle.std.specs.Option.{ForNone, ForSome};
+ghost use Rattle.std.specs.Option.{ForNone};
 ghost use Rattle.c_chars.specs.declared.TheConstants.{LIMIT};
 ghost use Rattle.style_table.specs.Range.{IsInRange};
 ghost use Rattle.item_classes.specs.Viewed.{AreWithin, item_classes};
@@ -11,15 +11,14 @@ ghost use Rattle.early_gaps.specs.Dead.{IsTreeOf};
 ghost use Rattle.branch_runs.specs.Anew.{items_between};
 ghost use Rattle.run_layout.specs.declared.report.Tally.{Tally};
 ghost use Rattle.replacements.specs.declared.slot.Slot.{Slot};
-ghost use Rattle.line_gaps.specs.Counted.{IsCounted};
-ghost use Rattle.view_parts.specs.Parts.{StandsBefore, items_before, laid_items};
+ghost use Rattle.view_parts.specs.Parts.{laid_items};
 ghost use Rattle.part_walk.specs.Places.{place_in};
 ghost use Rattle.run_parts.specs.Runs.{runs_of, seen_by};
 ghost use Rattle.std.specs.List.{Contains};
 ghost use Rattle.replacements.specs.Decisions.{slot_of};
 ghost use Rattle.run_parts.specs.Bounds.{AreBounds, BeginTold, IsBound};
-ghost use Rattle.format_core.specs.InStep.{AreInStep};
-ghost use Rattle.run_parts.specs.Windows.{AreToldIn, IsWindow, place_before};
+ghost use Rattle.format_core.specs.InStep.{AreInStep, AreNext, IsBegun, IsMade, IsReady};
+ghost use Rattle.run_parts.specs.Windows.{IsWindow, place_before};
 ghost use Rattle.format_core.specs.PartByPart.{GoesOnFrom};
 ghost use Rattle.format_core.specs.RunsTold.{AreItemsTold, AreRunsTold, AreSeenTold, IsPlanned};
 
@@ -74,20 +73,14 @@ fn lay_out_items(
     made: &mut Made<'_>,
     run: &Bump,
 ) -> Result<(), NoMemory>
-    requires range { IsInRange context.now.style.now }
-    requires budget { context.now.budget ≤ 16000000 }
-    requires all { context.now.classes.now ≡ item_classes context.now.arena.now }
+    requires ready { IsReady context.now }
     requires within { AreWithin context.now.arena.now view.now }
-    requires whole { length made.old.plan ≡ length context.now.arena.now.tokens + 1 }
+    requires made { IsMade context.now.arena.now made.old }
     requires room { made.old.tally.searched + length view.now < 2 ^ 60 }
-    requires cheap { made.old.tally.cost ≤ made.old.tally.searched * 18446744073709551615 }
-    requires counted { IsCounted context.now.arena.now made.old.tally.lines }
     ensures told { OnOk result (AreItemsTold context.now.style.now context.now.budget context.now.arena.now number
         made.old.plan view.now made.new.plan made.old.tally made.new.tally) }
-    ensures len { OnOk result (length made.new.plan ≡ length made.old.plan) }
+    ensures made { OnOk result (IsMade context.now.arena.now made.new) }
     ensures room { OnOk result (made.new.tally.searched ≤ made.old.tally.searched + length view.now) }
-    ensures cheap { OnOk result (made.new.tally.cost ≤ made.new.tally.searched * 18446744073709551615) }
-    ensures counted { OnOk result (IsCounted context.now.arena.now made.new.tally.lines) }
 {
     let style = context.style;
     let arena = context.arena;
@@ -129,27 +122,19 @@ fn lay_out_part(
     segment: usize,
     room: &Bump,
 ) -> Result<(), NoMemory>
-    requires range { IsInRange context.now.style.now }
-    requires budget { context.now.budget ≤ 16000000 }
-    requires all { context.now.classes.now ≡ item_classes context.now.arena.now }
+    requires ready { IsReady context.now }
     requires within { AreWithin context.now.arena.now window.now.view }
     requires some { first < end }
     requires inside { end ≤ length window.now.view }
     requires item { (d : ℕ) → get_or window.now.view first d ≡ id.0 }
-    requires whole { length made.old.plan ≡ length context.now.arena.now.tokens + 1 }
-    requires begins { ForSome (place_in inside) (λ place. StandsBefore place (get_or window.now.view first 0)) }
-    requires items { All (λ id. id < length context.now.arena.now.tokens) (items_before (place_in inside)) }
-    requires decided { All (λ id. IsSome (slot_of made.old.plan id)) (items_before (place_in inside)) }
+    requires made { IsMade context.now.arena.now made.old }
+    requires begun { IsBegun context.now.arena.now made.old.plan window.now.view (place_in inside) first }
     requires room { made.old.tally.searched + 67 * (end - first) < 2 ^ 60 }
-    requires cheap { made.old.tally.cost ≤ made.old.tally.searched * 18446744073709551615 }
-    requires counted { IsCounted context.now.arena.now made.old.tally.lines }
     ensures told { OnOk result (AreItemsTold context.now.style.now context.now.budget context.now.arena.now
         window.now.number made.old.plan (laid_items (place_in inside.entry) window.now.view first end) made.new.plan
         made.old.tally made.new.tally) }
-    ensures len { OnOk result (length made.new.plan ≡ length made.old.plan) }
+    ensures made { OnOk result (IsMade context.now.arena.now made.new) }
     ensures room { OnOk result (made.new.tally.searched ≤ made.old.tally.searched + 67 * (end - first)) }
-    ensures cheap { OnOk result (made.new.tally.cost ≤ made.new.tally.searched * 18446744073709551615) }
-    ensures counted { OnOk result (IsCounted context.now.arena.now made.new.tally.lines) }
 {
     let arena = context.arena;
     let number = window.number;
@@ -194,17 +179,13 @@ fn lay_out_next<'k>(
     way: &mut Way<'k>,
     room: &Bump,
 ) -> Result<Option<PartsEnd<'k>>, NoMemory>
-    requires range { IsInRange context.now.style.now }
-    requires budget { context.now.budget ≤ 16000000 }
-    requires all { context.now.classes.now ≡ item_classes context.now.arena.now }
+    requires ready { IsReady context.now }
     requires within { AreWithin context.now.arena.now window.now.view }
     requires window { IsWindow context.now.arena.now window.now.number window.now.view window.now.first window.now.end }
     requires here { way.old.first < length window.now.view }
     requires item { (d : ℕ) → get_or window.now.view way.old.first d ≡ id.0 }
-    requires begins { ForSome (place_in way.old.inside)
-        (λ place. StandsBefore place (get_or window.now.view way.old.first 0)) }
-    requires items { All (λ id. id < length context.now.arena.now.tokens) (items_before (place_in way.old.inside)) }
-    requires decided { All (λ id. IsSome (slot_of made.old.plan id)) (items_before (place_in way.old.inside)) }
+    requires begun { IsBegun context.now.arena.now made.old.plan window.now.view (place_in way.old.inside)
+        way.old.first }
     requires room { made.old.tally.searched + 67 * (length window.now.view - way.old.first) < 2 ^ 60 }
     requires state { AreInStep context.now.arena.now made.old known.old.ends known.old.spans.spans.items }
     ensures state { OnOk result (AreInStep context.now.arena.now made.new known.new.ends known.new.spans.spans.items) }
@@ -220,24 +201,15 @@ fn lay_out_next<'k>(
     ensures within { OnOk result (way.new.first ≤ length window.now.view) }
     ensures end { IfOk result (λ found. IfSome found (λ parts. way.new.first ≡ parts.end)) }
     ensures inside { IfOk result (λ found. IfSome found (λ parts. way.new.inside ≡ parts.inside)) }
-    ensures place { IfOk result (λ found.
+    ensures begun { IfOk result (λ found.
         IfSome found (λ parts.
-        ForSome (place_in parts.inside) (λ place. StandsBefore place (get_or window.now.view parts.end 0)))) }
-    ensures items { OnOk result
-        (All (λ id. id < length context.now.arena.now.tokens) (items_before (place_in way.new.inside))) }
-    ensures decided { OnOk result
-        (All (λ id. IsSome (slot_of made.new.plan id)) (items_before (place_in way.new.inside))) }
-    ensures some { IfOk result (λ found. IfSome found (λ parts. way.old.first < parts.end)) }
-    ensures told { IfOk result (λ found.
-        IfSome found (λ parts.
-        ForSome parts.told (λ told.
-        AreToldIn context.now.arena.now window.now.view (place_in way.old.inside) way.old.first parts.end
-        (place_in parts.inside) told))) }
-    ensures whole { IfOk result
-        (λ found. IfSome found (λ parts. ForNone parts.told (parts.end ≡ length window.now.view))) }
+        IsBegun context.now.arena.now made.new.plan window.now.view (place_in parts.inside) parts.end)) }
+    ensures next { IfOk result (λ found.
+        IfSome found (AreNext context.now.arena.now window.now.view (place_in way.old.inside) way.old.first)) }
     ensures none { IfOk result (λ found. ForNone found (window.now.end < length context.now.arena.now.tokens)) }
-    ensures stays { IfOk result
-        (λ found. ForNone found ((way.new.first ≡ way.old.first) × (way.new.inside ≡ way.old.inside))) }
+    ensures stays { IfOk result (λ found.
+        ForNone found
+        ((way.new.first ≡ way.old.first) × (way.new.inside ≡ way.old.inside) × (made.new.plan ≡ made.old.plan))) }
     ensures bounds { OnOk result (known.new.bounds.items ≡ known.old.bounds.items) }
     ensures same { OnOk result (way.new.told ≡ way.old.told) }
 {
@@ -291,18 +263,13 @@ fn lay_out_window<'k>(
     made: &mut Made<'_>,
     way: &mut Way<'k>,
 ) -> Result<Option<TokenId>, NoMemory>
-    requires range { IsInRange context.now.style.now }
-    requires budget { context.now.budget ≤ 16000000 }
-    requires all { context.now.classes.now ≡ item_classes context.now.arena.now }
+    requires ready { IsReady context.now }
     requires within { AreWithin context.now.arena.now window.now.view }
     requires window { IsWindow context.now.arena.now window.now.number window.now.view window.now.first window.now.end }
     requires new { window.now.new_end ≤ window.now.end }
     requires start { way.old.first ≡ 0 }
-    requires begins { ForSome (place_in way.old.inside) (λ place.
-        StandsBefore place (get_or (seen_by context.now.arena.now window.now.number)
-        (place_before context.now.arena.now window.now.number window.now.first) 0)) }
-    requires items { All (λ id. id < length context.now.arena.now.tokens) (items_before (place_in way.old.inside)) }
-    requires decided { All (λ id. IsSome (slot_of made.old.plan id)) (items_before (place_in way.old.inside)) }
+    requires begun { IsBegun context.now.arena.now made.old.plan (seen_by context.now.arena.now window.now.number)
+        (place_in way.old.inside) (place_before context.now.arena.now window.now.number window.now.first) }
     requires room { made.old.tally.searched ≤ 2 ^ 59 + 4294967296 }
     requires state { AreInStep context.now.arena.now made.old known.old.ends known.old.spans.spans.items }
     requires begin { IsTrue window.now.later →
@@ -332,13 +299,9 @@ fn lay_out_window<'k>(
         (place_in way.new.inside))) }
     ensures stopped { IfOk result (λ found. IfSome found (λ id. id.0 ≡ get_or window.now.view way.new.first 0)) }
     ensures here { IfOk result (λ found. IfSome found (λ id. way.new.first < length window.now.view)) }
-    ensures place { OnOk result (ForSome (place_in way.new.inside) (λ place.
-        StandsBefore place (get_or (seen_by context.now.arena.now window.now.number)
-        (place_before context.now.arena.now window.now.number window.now.first + way.new.first) 0))) }
-    ensures items { OnOk result
-        (All (λ id. id < length context.now.arena.now.tokens) (items_before (place_in way.new.inside))) }
-    ensures decided { OnOk result
-        (All (λ id. IsSome (slot_of made.new.plan id)) (items_before (place_in way.new.inside))) }
+    ensures begun { OnOk result (IsBegun context.now.arena.now made.new.plan
+        (seen_by context.now.arena.now window.now.number) (place_in way.new.inside)
+        (place_before context.now.arena.now window.now.number window.now.first + way.new.first)) }
     ensures short { IfOk result (λ found. IfSome found (λ id. window.now.end < length context.now.arena.now.tokens)) }
     ensures done { IfOk result (λ found.
         ForNone found ((k : ℕ) →
@@ -389,9 +352,7 @@ fn lay_out_seen<'k>(
     ahead: &mut u32,
     run: &Bump,
 ) -> Result<(), NoMemory>
-    requires range { IsInRange context.now.style.now }
-    requires budget { context.now.budget ≤ 16000000 }
-    requires all { context.now.classes.now ≡ item_classes context.now.arena.now }
+    requires ready { IsReady context.now }
     requires tree { IsTreeOf context.now.arena.now tree.now }
     requires number { turn.now.number < runs_of context.now.arena.now }
     requires room { made.old.tally.searched ≤ 2 ^ 59 }
@@ -473,17 +434,13 @@ fn lay_out_runs(
     keep: &Bump,
     made: &mut Made<'_>,
 ) -> Result<(), NoMemory>
-    requires range { IsInRange context.now.style.now }
-    requires budget { context.now.budget ≤ 16000000 }
-    requires all { context.now.classes.now ≡ item_classes context.now.arena.now }
+    requires ready { IsReady context.now }
     requires tree { IsTreeOf context.now.arena.now tree.now }
-    requires whole { length made.old.plan ≡ length context.now.arena.now.tokens + 1 }
+    requires made { IsMade context.now.arena.now made.old }
     requires none { made.old.tally.searched ≡ 0 }
-    requires free { made.old.tally.cost ≡ 0 }
-    requires counted { IsCounted context.now.arena.now made.old.tally.lines }
     ensures told { OnOk result (AreRunsTold context.now.style.now context.now.budget context.now.arena.now
         made.old.plan 0 (runs_of context.now.arena.now) made.new.plan made.old.tally made.new.tally) }
-    ensures len { OnOk result (length made.new.plan ≡ length made.old.plan) }
+    ensures made { OnOk result (IsMade context.now.arena.now made.new) }
 {
     let count = tree.runs();
     let items = context.arena.len();

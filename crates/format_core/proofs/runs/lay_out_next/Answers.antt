@@ -1,8 +1,8 @@
 use Rattle.std.proofs.Common.{◌≡◌, ◌∙◌, ◌+◌, ◌<◌, ◌≤◌, ℕ, Some, None, Option, List, length, refl, sym, ap, subst, arith}
-use Rattle.std.specs.Prelude.{All, IsSome, slice_range}
+use Rattle.std.specs.Prelude.{IsSome, slice_range}
 use Rattle.part_walk.specs.declared.bodies.BodyPlace.{BodyPlace}
 use Rattle.part_walk.specs.Places.{place_in}
-use Rattle.view_parts.specs.Parts.{items_before, laid_items}
+use Rattle.view_parts.specs.Parts.{laid_items}
 use Rattle.replacements.specs.Decisions.{slot_of}
 use Rattle.run_parts.specs.Runs.{AreDecided, AreRowsDecided, seen_by}
 use Rattle.format_core.specs.PartByPart.{GoesOnFrom}
@@ -51,9 +51,7 @@ pub returns-in-Some-clause-state : goal.returns-in-Some-clause-state
 returns-in-Some-clause-state c =
     let state = c.requires.state in
     record {
-      whole = state.whole;
-      cheap = state.cheap;
-      counted = state.counted;
+      made_is = state.made_is;
       known = c.pass_row.ensures.known;
       rows = c.pass_row.ensures.rows c.args.made.now.plan state.rows;
       spans = state.spans;
@@ -71,31 +69,6 @@ returns-in-Some-clause-end c = c.in-Some.ensures.end
 pub returns-in-Some-clause-inside : goal.returns-in-Some-clause-inside
 returns-in-Some-clause-inside c = c.pass_row.ensures.place ∙ (c.in-Some.ensures.begins ∙ sym c.in-Some.ensures.outside)
 
-pub returns-in-Some-clause-place : goal.returns-in-Some-clause-place
-returns-in-Some-clause-place c = none_stands (place_in c.in-Some.parts.inside) _ (ap place_in c.in-Some.ensures.outside)
-
-pub returns-in-Some-clause-items : goal.returns-in-Some-clause-items
-returns-in-Some-clause-items c = none_before (λ id. id < length c.args.context.now.arena.now.tokens) (place_in c.pass_row.new.way.inside) (ap place_in (c.pass_row.ensures.place ∙ c.in-Some.ensures.begins))
-
-pub returns-in-Some-clause-decided : goal.returns-in-Some-clause-decided
-returns-in-Some-clause-decided c = none_before (λ id. IsSome (slot_of c.args.made.now.plan id)) (place_in c.pass_row.new.way.inside) (ap place_in (c.pass_row.ensures.place ∙ c.in-Some.ensures.begins))
-
-pub returns-in-Some-clause-some : goal.returns-in-Some-clause-some
-returns-in-Some-clause-some c = c.in-Some.ensures.some
-
-pub returns-in-Some-clause-told : goal.returns-in-Some-clause-told
-returns-in-Some-clause-told c = λ told is.
-    let passed = c.in-Some.ensures in
-    let arena = c.args.context.now.arena.now in
-    let view = c.args.window.now.view in
-    let first = c.args.way.now.first in
-    let end = c.in-Some.parts.end in
-    subst (λ (b : Option BodyPlace). AreToldIn arena view (place_in b) first end (place_in c.in-Some.parts.inside) told) (sym passed.begins)
-    (subst (λ (b : Option BodyPlace). AreToldIn arena view None first end (place_in b) told) (sym passed.outside) (passed.told told is))
-
-pub returns-in-Some-clause-whole : goal.returns-in-Some-clause-whole
-returns-in-Some-clause-whole c = c.in-Some.ensures.whole
-
 pub returns-in-Some-clause-none : goal.returns-in-Some-clause-none
 returns-in-Some-clause-none c = never_none c.in-Some.parts _
 
@@ -111,9 +84,9 @@ returns-in-Some-clause-same c = c.pass_row.ensures.same
 pub known_part_end-requires : goal.known_part_end-requires
 known_part_end-requires c = record {
   within = c.requires.within;
-  all = c.requires.all;
+  all = c.requires.ready.all;
   here = c.requires.here;
-  begins = c.requires.begins;
+  begins = c.requires.begun.before;
   known = c.pass_row.ensures.known;
   spans = c.requires.state.spans;
 }
@@ -123,18 +96,6 @@ returns-then-window-len-clause-end c = tt
 
 pub returns-then-window-len-clause-inside : goal.returns-then-window-len-clause-inside
 returns-then-window-len-clause-inside c = tt
-
-pub returns-then-window-len-clause-place : goal.returns-then-window-len-clause-place
-returns-then-window-len-clause-place c = tt
-
-pub returns-then-window-len-clause-some : goal.returns-then-window-len-clause-some
-returns-then-window-len-clause-some c = tt
-
-pub returns-then-window-len-clause-told : goal.returns-then-window-len-clause-told
-returns-then-window-len-clause-told c = tt
-
-pub returns-then-window-len-clause-whole : goal.returns-then-window-len-clause-whole
-returns-then-window-len-clause-whole c = tt
 
 pub returns-then-window-len-clause-bounds : goal.returns-then-window-len-clause-bounds
 returns-then-window-len-clause-bounds c = refl
@@ -147,20 +108,14 @@ lay_out_part-requires c =
     let state = c.requires.state in
     let part = c.in_ok-part.ensures in
     record {
-      range = c.requires.range;
-      budget = c.requires.budget;
-      all = c.requires.all;
+      ready = c.requires.ready;
       within = c.requires.within;
       some = part.some;
       inside = part.inside;
       item = c.requires.item;
-      whole = state.whole;
-      begins = c.requires.begins;
-      items = c.requires.items;
-      decided = c.requires.decided;
+      made = state.made_is;
+      begun = c.requires.begun;
       room = omega (arith, c.requires.room, part.inside);
-      cheap = state.cheap;
-      counted = state.counted;
     }
 
 pub pass_part-requires : goal.pass_part-requires
@@ -175,11 +130,9 @@ returns-clause-state c =
     let laid = c.in_ok-lay_out_part.ensures in
     let behind : AreRowsDecided plan c.known_part_end.new.known =
     rows_behind c.args.context.now.style.now c.args.context.now.budget arena c.args.window.now.number c.args.made.now.plan plan c.args.window.now.view (place_in c.args.way.now.inside) c.args.way.now.first c.in_ok-part.part.end c.pass_row.new.known c.known_part_end.new.known
-    c.args.made.now.tally c.lay_out_part.new.made.tally state.whole c.requires.within c.requires.items part.inside part.rows laid.told (c.pass_row.ensures.rows c.args.made.now.plan state.rows) in
+    c.args.made.now.tally c.lay_out_part.new.made.tally state.made_is.whole c.requires.within c.requires.begun.items part.inside part.rows laid.told (c.pass_row.ensures.rows c.args.made.now.plan state.rows) in
     record {
-      whole = laid.len ∙ state.whole;
-      cheap = laid.cheap;
-      counted = laid.counted;
+      made_is = laid.made;
       known = c.pass_part.ensures.known;
       rows = c.pass_part.ensures.rows plan behind;
       spans = part.spans;
@@ -231,37 +184,6 @@ returns-clause-end c = c.pass_part.ensures.end
 pub returns-clause-inside : goal.returns-clause-inside
 returns-clause-inside c = c.pass_part.ensures.inside
 
-pub returns-clause-place : goal.returns-clause-place
-returns-clause-place c = c.in_ok-part.ensures.place
-
-pub returns-clause-items : goal.returns-clause-items
-returns-clause-items c =
-    let arena = c.args.context.now.arena.now in
-    let window = c.args.window.now in
-    let first = c.args.way.now.first in
-    let within = λ (id : ℕ). id < length arena.tokens in
-    next_has within arena window.view (place_in c.args.way.now.inside) (place_in c.pass_part.new.way.inside) first (window_increases arena window.number window.first window.end window.view c.requires.window) c.requires.begins c.requires.items
-    (rest_have within window.view first c.requires.within) (ap place_in c.pass_part.ensures.inside ∙ c.in_ok-part.ensures.begun)
-
-pub returns-clause-decided : goal.returns-clause-decided
-returns-clause-decided c =
-    let part = c.in_ok-part.ensures in
-    let plan = c.lay_out_part.new.made.plan in
-    subst (λ (b : Option BodyPlace). All (λ id. IsSome (slot_of plan id)) (items_before (place_in b))) (sym c.pass_part.ensures.inside)
-    (place_decided c.args.context.now.style.now c.args.context.now.budget c.args.context.now.arena.now c.args.window.now.number c.args.made.now.plan plan c.args.window.now.view (place_in c.args.way.now.inside) (place_in c.in_ok-part.part.inside) c.args.way.now.first
-    c.in_ok-part.part.end c.args.made.now.tally c.lay_out_part.new.made.tally c.requires.state.whole (window_increases c.args.context.now.arena.now c.args.window.now.number c.args.window.now.first c.args.window.now.end c.args.window.now.view c.requires.window) c.requires.within c.requires.items c.requires.begins part.inside part.begun part.place c.in_ok-lay_out_part.ensures.told)
-
-pub returns-clause-some : goal.returns-clause-some
-returns-clause-some c = c.in_ok-part.ensures.some
-
-pub returns-clause-told : goal.returns-clause-told
-returns-clause-told c = λ told is.
-    let part = c.in_ok-part.ensures in
-    record { tell = part.told told is; later = part.later told is; below = part.below told is }
-
-pub returns-clause-whole : goal.returns-clause-whole
-returns-clause-whole c = c.in_ok-part.ensures.whole
-
 pub returns-clause-none : goal.returns-clause-none
 returns-clause-none c = never_none c.in_ok-part.part _
 
@@ -273,3 +195,62 @@ returns-clause-bounds c = refl
 
 pub returns-clause-same : goal.returns-clause-same
 returns-clause-same c = c.pass_part.ensures.same ∙ c.pass_row.ensures.same
+
+pub returns-in-Some-clause-begun : goal.returns-in-Some-clause-begun
+returns-in-Some-clause-begun c =
+    let outside = ap place_in c.in-Some.ensures.outside in
+    record {
+      before = none_stands (place_in c.in-Some.parts.inside) _ outside;
+      items = none_before (λ id. id < length c.args.context.now.arena.now.tokens) (place_in c.in-Some.parts.inside) outside;
+      decided = none_before (λ id. IsSome (slot_of c.args.made.now.plan id)) (place_in c.in-Some.parts.inside) outside;
+    }
+
+pub returns-in-Some-clause-next : goal.returns-in-Some-clause-next
+returns-in-Some-clause-next c =
+    let passed = c.in-Some.ensures in
+    let arena = c.args.context.now.arena.now in
+    let view = c.args.window.now.view in
+    let first = c.args.way.now.first in
+    let end = c.in-Some.parts.end in
+    record {
+      some = passed.some;
+      told = λ told is.
+          subst (λ (b : Option BodyPlace). AreToldIn arena view (place_in b) first end (place_in c.in-Some.parts.inside) told) (sym passed.begins)
+          (subst (λ (b : Option BodyPlace). AreToldIn arena view None first end (place_in b) told) (sym passed.outside) (passed.told told is));
+      whole = passed.whole;
+    }
+
+pub returns-then-window-len-clause-begun : goal.returns-then-window-len-clause-begun
+returns-then-window-len-clause-begun c = tt
+
+pub returns-then-window-len-clause-next : goal.returns-then-window-len-clause-next
+returns-then-window-len-clause-next c = tt
+
+pub returns-clause-begun : goal.returns-clause-begun
+returns-clause-begun c =
+    let arena = c.args.context.now.arena.now in
+    let window = c.args.window.now in
+    let view = window.view in
+    let begins = place_in c.args.way.now.inside in
+    let first = c.args.way.now.first in
+    let part = c.in_ok-part.ensures in
+    let inside = place_in c.in_ok-part.part.inside in
+    let plan = c.lay_out_part.new.made.plan in
+    let begun = c.requires.begun in
+    let within = λ (id : ℕ). id < length arena.tokens in
+    let increase = window_increases arena window.number window.first window.end view c.requires.window in
+    record {
+      before = part.place;
+      items = next_has within arena view begins inside first increase begun.before begun.items (rest_have within view first c.requires.within) part.begun;
+      decided = place_decided c.args.context.now.style.now c.args.context.now.budget arena window.number c.args.made.now.plan plan view begins inside first c.in_ok-part.part.end c.args.made.now.tally c.lay_out_part.new.made.tally
+          c.requires.state.made_is.whole increase c.requires.within begun.items begun.before part.inside part.begun part.place c.in_ok-lay_out_part.ensures.told;
+    }
+
+pub returns-clause-next : goal.returns-clause-next
+returns-clause-next c =
+    let part = c.in_ok-part.ensures in
+    record {
+      some = part.some;
+      told = λ told is. record { tell = part.told told is; later = part.later told is; below = part.below told is };
+      whole = part.whole;
+    }

@@ -1,4 +1,4 @@
-use Rattle.std.proofs.Common.{◌∙◌, ◌<◌, ℕ, Bool, List, length, refl, subst, sym, ap, arith}
+use Rattle.std.proofs.Common.{◌∙◌, ◌<◌, ℕ, Bool, List, length, subst, sym, ap, arith}
 use Rattle.std.specs.Prelude.{All, slice_range}
 use Rattle.std.specs.Bool.{OnTrue}
 use Rattle.std.proofs.lemmas.Result.{on_ok_weaker}
@@ -16,7 +16,7 @@ pub returns-then-is_part_decided-clause-told : goal.returns-then-is_part_decided
 returns-then-is_part_decided-clause-told c =
     let plan = c.args.made.now.plan in
     items_told_nothing c.args.context.now.style.now c.args.context.now.budget c.args.context.now.arena.now c.args.window.now.number plan (laid_items (place_in c.args.inside) c.args.window.now.view c.args.first c.args.end) c.args.made.now.tally
-    (laid_decided plan c.args.window.now.view (place_in c.args.inside) c.args.first c.args.end (all_decided_of plan (items_before (place_in c.args.inside)) c.requires.decided) (c.is_part_decided.ensures.0 c.if-is_part_decided.true))
+    (laid_decided plan c.args.window.now.view (place_in c.args.inside) c.args.first c.args.end (all_decided_of plan (items_before (place_in c.args.inside)) c.requires.begun.decided) (c.is_part_decided.ensures.0 c.if-is_part_decided.true))
 
 pub returns-then-is_row_decided-clause-told : goal.returns-then-is_row_decided-clause-told
 returns-then-is_row_decided-clause-told c =
@@ -24,7 +24,7 @@ returns-then-is_row_decided-clause-told c =
     let row = c.in-Some.row in
     let all : IsRowDecided plan row.first row.end = subst (λ (b : Bool). OnTrue b (IsRowDecided plan row.first row.end)) c.if-is_row_decided.true c.is_row_decided.ensures.yes in
     items_told_nothing c.args.context.now.style.now c.args.context.now.budget c.args.context.now.arena.now c.args.window.now.number plan (laid_items (place_in c.args.inside) c.args.window.now.view c.args.first c.args.end) c.args.made.now.tally
-    (laid_decided plan c.args.window.now.view (place_in c.args.inside) c.args.first c.args.end (all_decided_of plan (items_before (place_in c.args.inside)) c.requires.decided) (row_decided plan row.first row.end (slice_range c.args.window.now.view c.args.first c.args.end) c.in-Some.ensures.items all))
+    (laid_decided plan c.args.window.now.view (place_in c.args.inside) c.args.first c.args.end (all_decided_of plan (items_before (place_in c.args.inside)) c.requires.begun.decided) (row_decided plan row.first row.end (slice_range c.args.window.now.view c.args.first c.args.end) c.in-Some.ensures.items all))
 
 pub from_segments-own-requires : goal.from_segments-own-requires
 from_segments-own-requires c = own_segment c.in-Some.row c.in-Some.ensures.some c.in-Some.ensures.before
@@ -39,11 +39,11 @@ pub lay_out_items-requires-2-clause-within : goal.lay_out_items-requires-2-claus
 lay_out_items-requires-2-clause-within c =
     let tokens = length c.args.context.now.arena.now.tokens in
     subst (λ (ids : List ℕ). All (λ id. id < tokens) ids) (sym c.in_ok-laid.ensures.items)
-    (laid_have (λ id. id < tokens) c.args.window.now.view (place_in c.args.inside) c.args.first c.args.end c.requires.items c.requires.within)
+    (laid_have (λ id. id < tokens) c.args.window.now.view (place_in c.args.inside) c.args.first c.args.end c.requires.begun.items c.requires.within)
 
 pub lay_out_items-requires-2-clause-room : goal.lay_out_items-requires-2-clause-room
 lay_out_items-requires-2-clause-room c =
-    let few = laid_few (place_in c.args.inside) c.args.window.now.view c.args.first c.args.end c.requires.some c.requires.inside c.requires.begins in
+    let few = laid_few (place_in c.args.inside) c.args.window.now.view c.args.first c.args.end c.requires.some c.requires.inside c.requires.begun.before in
     omega (arith, few, ap (λ (ids : List ℕ). length ids) c.in_ok-laid.ensures.items, c.requires.room)
 
 pub returns-clause-told : goal.returns-clause-told
@@ -54,92 +54,44 @@ returns-clause-told c =
 
 pub returns-clause-room : goal.returns-clause-room
 returns-clause-room c =
-    let few = laid_few (place_in c.args.inside) c.args.window.now.view c.args.first c.args.end c.requires.some c.requires.inside c.requires.begins in
+    let few = laid_few (place_in c.args.inside) c.args.window.now.view c.args.first c.args.end c.requires.some c.requires.inside c.requires.begun.before in
     on_ok_weaker c.lay_out_items-2.result (λ room. omega (arith, room, few, ap (λ (ids : List ℕ). length ids) c.in_ok-laid.ensures.items)) c.lay_out_items-2.ensures.room
 
 pub row_of_part-requires : goal.row_of_part-requires
 row_of_part-requires c = record { within = c.requires.within; some = c.requires.some; inside = c.requires.inside; item = c.requires.item }
 
 pub is_part_decided-requires : goal.is_part_decided-requires
-is_part_decided-requires c = record { within = c.requires.within; inside = c.requires.inside; whole = c.requires.whole }
+is_part_decided-requires c = record { within = c.requires.within; inside = c.requires.inside; whole = c.requires.made.whole }
 
 pub laid_view-requires : goal.laid_view-requires
-laid_view-requires c = record { some = c.requires.some; within = c.requires.inside; begins = c.requires.begins }
+laid_view-requires c = record { some = c.requires.some; within = c.requires.inside; begins = c.requires.begun.before }
 
-pub lay_out_items-requires-clause-range : goal.lay_out_items-requires-clause-range
-lay_out_items-requires-clause-range c = c.requires.range
+pub lay_out_items-requires-clause-ready : goal.lay_out_items-requires-clause-ready
+lay_out_items-requires-clause-ready c = c.requires.ready
 
-pub lay_out_items-requires-clause-budget : goal.lay_out_items-requires-clause-budget
-lay_out_items-requires-clause-budget c = c.requires.budget
+pub lay_out_items-requires-clause-made : goal.lay_out_items-requires-clause-made
+lay_out_items-requires-clause-made c = c.requires.made
 
-pub lay_out_items-requires-clause-all : goal.lay_out_items-requires-clause-all
-lay_out_items-requires-clause-all c = c.requires.all
+pub lay_out_items-requires-2-clause-ready : goal.lay_out_items-requires-2-clause-ready
+lay_out_items-requires-2-clause-ready c = c.requires.ready
 
-pub lay_out_items-requires-clause-whole : goal.lay_out_items-requires-clause-whole
-lay_out_items-requires-clause-whole c = c.requires.whole
+pub lay_out_items-requires-2-clause-made : goal.lay_out_items-requires-2-clause-made
+lay_out_items-requires-2-clause-made c = c.requires.made
 
-pub lay_out_items-requires-clause-cheap : goal.lay_out_items-requires-clause-cheap
-lay_out_items-requires-clause-cheap c = c.requires.cheap
-
-pub lay_out_items-requires-clause-counted : goal.lay_out_items-requires-clause-counted
-lay_out_items-requires-clause-counted c = c.requires.counted
-
-pub lay_out_items-requires-2-clause-range : goal.lay_out_items-requires-2-clause-range
-lay_out_items-requires-2-clause-range c = c.requires.range
-
-pub lay_out_items-requires-2-clause-budget : goal.lay_out_items-requires-2-clause-budget
-lay_out_items-requires-2-clause-budget c = c.requires.budget
-
-pub lay_out_items-requires-2-clause-all : goal.lay_out_items-requires-2-clause-all
-lay_out_items-requires-2-clause-all c = c.requires.all
-
-pub lay_out_items-requires-2-clause-whole : goal.lay_out_items-requires-2-clause-whole
-lay_out_items-requires-2-clause-whole c = c.requires.whole
-
-pub lay_out_items-requires-2-clause-cheap : goal.lay_out_items-requires-2-clause-cheap
-lay_out_items-requires-2-clause-cheap c = c.requires.cheap
-
-pub lay_out_items-requires-2-clause-counted : goal.lay_out_items-requires-2-clause-counted
-lay_out_items-requires-2-clause-counted c = c.requires.counted
-
-pub returns-then-is_row_decided-clause-len : goal.returns-then-is_row_decided-clause-len
-returns-then-is_row_decided-clause-len c = refl
+pub returns-then-is_row_decided-clause-made : goal.returns-then-is_row_decided-clause-made
+returns-then-is_row_decided-clause-made c = c.requires.made
 
 pub returns-then-is_row_decided-clause-room : goal.returns-then-is_row_decided-clause-room
 returns-then-is_row_decided-clause-room c = omega arith
 
-pub returns-then-is_row_decided-clause-cheap : goal.returns-then-is_row_decided-clause-cheap
-returns-then-is_row_decided-clause-cheap c = c.requires.cheap
-
-pub returns-then-is_row_decided-clause-counted : goal.returns-then-is_row_decided-clause-counted
-returns-then-is_row_decided-clause-counted c = c.requires.counted
-
-pub returns-then-is_part_decided-clause-len : goal.returns-then-is_part_decided-clause-len
-returns-then-is_part_decided-clause-len c = refl
+pub returns-then-is_part_decided-clause-made : goal.returns-then-is_part_decided-clause-made
+returns-then-is_part_decided-clause-made c = c.requires.made
 
 pub returns-then-is_part_decided-clause-room : goal.returns-then-is_part_decided-clause-room
 returns-then-is_part_decided-clause-room c = omega arith
 
-pub returns-then-is_part_decided-clause-cheap : goal.returns-then-is_part_decided-clause-cheap
-returns-then-is_part_decided-clause-cheap c = c.requires.cheap
+pub returns-then-is_none-clause-made : goal.returns-then-is_none-clause-made
+returns-then-is_none-clause-made c = c.lay_out_items.ensures.made
 
-pub returns-then-is_part_decided-clause-counted : goal.returns-then-is_part_decided-clause-counted
-returns-then-is_part_decided-clause-counted c = c.requires.counted
-
-pub returns-then-is_none-clause-len : goal.returns-then-is_none-clause-len
-returns-then-is_none-clause-len c = c.lay_out_items.ensures.len
-
-pub returns-clause-len : goal.returns-clause-len
-returns-clause-len c = c.lay_out_items-2.ensures.len
-
-pub returns-then-is_none-clause-cheap : goal.returns-then-is_none-clause-cheap
-returns-then-is_none-clause-cheap c = c.lay_out_items.ensures.cheap
-
-pub returns-clause-cheap : goal.returns-clause-cheap
-returns-clause-cheap c = c.lay_out_items-2.ensures.cheap
-
-pub returns-then-is_none-clause-counted : goal.returns-then-is_none-clause-counted
-returns-then-is_none-clause-counted c = c.lay_out_items.ensures.counted
-
-pub returns-clause-counted : goal.returns-clause-counted
-returns-clause-counted c = c.lay_out_items-2.ensures.counted
+pub returns-clause-made : goal.returns-clause-made
+returns-clause-made c = c.lay_out_items-2.ensures.made

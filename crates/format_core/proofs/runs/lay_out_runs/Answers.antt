@@ -19,9 +19,7 @@ pub loop-number-init : goal.loop-number-init
 loop-number-init c = record {
   room = omega (arith, c.requires.none);
   state = record {
-    whole = c.requires.whole;
-    cheap = omega (arith, c.requires.none, c.requires.free);
-    counted = c.requires.counted;
+    made_is = c.requires.made;
     known = c.in_ok-known.ensures.known c.args.context.now.arena.now;
     rows = c.in_ok-known.ensures.rows c.args.made.now.plan;
     spans = c.in_ok-known.ensures.spans c.args.context.now.arena.now;
@@ -50,7 +48,7 @@ loop-number-preserved-then-change-eq0 c =
       state = v.state;
       bounds = λ later. (c.last_bound-bound.result.told, subst (λ r. AreBounds arena (seen_by arena r) c.last_bound-bound.new.bounds.items c.last_bound-bound.result.told) here left.bounds);
       none = λ first. absurd (omega (arith, first));
-      seen = run_seen c.args.context.now.style.now c.args.context.now.budget arena c.loop-number.made.plan c.loop-number.made.plan number c.loop-number.made.tally c.loop-number.made.tally v.state.whole v.seen told;
+      seen = run_seen c.args.context.now.style.now c.args.context.now.budget arena c.loop-number.made.plan c.loop-number.made.plan number c.loop-number.made.tally c.loop-number.made.tally v.state.made_is.whole v.seen told;
       on = run_done c.args.context.now.style.now c.args.context.now.budget arena c.args.made.now.plan count c.args.made.now.tally c.loop-number.made.tally c.loop-number.made.tally c.loop-number.made.plan c.loop-number.made.plan number (count - (number + 1)) (count - number) more v.on told;
     }
 
@@ -113,7 +111,7 @@ loop-number-preserved c =
       state = made.state;
       bounds = λ later. (made.bounds.0, subst (λ r. AreBounds arena (seen_by arena r) c.lay_out_seen.new.known.bounds.items made.bounds.0) here made.bounds.1);
       none = λ first. absurd (omega (arith, first));
-      seen = run_seen c.args.context.now.style.now c.args.context.now.budget arena c.loop-number.made.plan c.lay_out_seen.new.made.plan number c.loop-number.made.tally c.lay_out_seen.new.made.tally v.state.whole v.seen made.told;
+      seen = run_seen c.args.context.now.style.now c.args.context.now.budget arena c.loop-number.made.plan c.lay_out_seen.new.made.plan number c.loop-number.made.tally c.lay_out_seen.new.made.tally v.state.made_is.whole v.seen made.told;
       on = run_done c.args.context.now.style.now c.args.context.now.budget arena c.args.made.now.plan count c.args.made.now.tally c.loop-number.made.tally c.lay_out_seen.new.made.tally c.loop-number.made.plan c.lay_out_seen.new.made.plan number (count - (number + 1)) (count - number) more v.on made.told;
     }
 
@@ -124,3 +122,6 @@ returns-clause-told c =
     let all : count ≡ runs_of c.args.context.now.arena.now = c.runs-count.ensures.need ∙ ap (λ (tree : List Mark). need (read tree)) c.requires.tree.marks in
     subst (λ n. AreRunsTold c.args.context.now.style.now c.args.context.now.budget c.args.context.now.arena.now c.args.made.now.plan 0 n c.loop-number.made.plan c.args.made.now.tally c.loop-number.made.tally) all
     (runs_end c.args.context.now.style.now c.args.context.now.budget c.args.context.now.arena.now c.args.made.now.plan count number (count - number) c.args.made.now.tally c.loop-number.made.tally c.loop-number.made.plan (omega (arith, c.loop-number-test.false)) c.loop-number.invariant.on)
+
+pub returns-clause-made : goal.returns-clause-made
+returns-clause-made c = c.loop-number.invariant.state.made_is

@@ -1,6 +1,5 @@
 use Rattle.std.proofs.Common.{◌≡◌, ◌∙◌, ◌+◌, ◌<◌, ◌≤◌, ℕ, Option, List, length, get_or, sym, ap, subst, arith}
 use Rattle.std.specs.Prelude.{IfSome, IsTrue}
-use Rattle.std.specs.Option.{ForSome}
 use Rattle.line_tokens.specs.declared.TokenId.{TokenId}
 use Rattle.branch_runs.specs.declared.mark.Mark.{Mark}
 use Rattle.branch_runs.specs.Anew.{items_between}
@@ -8,8 +7,8 @@ use Rattle.branch_runs.specs.Reading.{read}
 use Rattle.branch_runs.specs.Runs.{view_of}
 use Rattle.part_walk.specs.declared.bodies.BodyPlace.{BodyPlace}
 use Rattle.part_walk.specs.Places.{place_in}
-use Rattle.view_parts.specs.Parts.{StandsBefore}
 use Rattle.run_parts.specs.Bounds.{BeginTold}
+use Rattle.format_core.specs.InStep.{IsBegun}
 use Rattle.format_core.specs.PartByPart.{GoesOnFrom}
 use Rattle.run_parts.specs.Runs.{seen_by}
 use Rattle.format_core.proofs.FromBound.{behind_new, from_bound}
@@ -36,17 +35,20 @@ loop-window-init c =
       room = omega arith;
       state = c.requires.state;
       begin = λ later. c.requires.bound.begin;
-      begins = placed.before;
-      items = placed_has (λ id. id < length arena.tokens) seen 0 (place_in bound.inside) (length (items_between 0 bound.item seen)) (seen_within arena number) placed;
-      decided = bound_decided arena c.args.made.now.plan seen bound.item bound.told (place_in bound.inside) increase c.requires.bound.begin c.requires.before;
+      begun = record {
+        before = placed.before;
+        items = placed_has (λ id. id < length arena.tokens) seen 0 (place_in bound.inside) (length (items_between 0 bound.item seen)) (seen_within arena number) placed;
+        decided = bound_decided arena c.args.made.now.plan seen bound.item bound.told (place_in bound.inside) increase c.requires.bound.begin c.requires.before;
+      };
       bounds = c.requires.bounds;
       on = from_bound c.args.context.now.style.now c.args.context.now.budget arena number c.args.made.now.plan seen c.args.made.now.tally bound.item bound.told (place_in bound.inside) increase c.requires.bound.begin c.requires.before;
     }
 
-pub lay_out_window-requires-clause-begins : goal.lay_out_window-requires-clause-begins
-lay_out_window-requires-clause-begins c =
-    let seen = seen_by c.args.context.now.arena.now c.args.turn.now.number in
-    subst (λ (b : Option BodyPlace). ForSome (place_in b) (λ place. StandsBefore place (get_or seen (length (items_between 0 c.loop-window.first seen)) 0))) (sym c.start-way.ensures.inside) c.loop-window.invariant.begins
+pub lay_out_window-requires-clause-begun : goal.lay_out_window-requires-clause-begun
+lay_out_window-requires-clause-begun c =
+    let arena = c.args.context.now.arena.now in
+    let seen = seen_by arena c.args.turn.now.number in
+    subst (λ (b : Option BodyPlace). IsBegun arena c.loop-window.made.plan seen (place_in b) (length (items_between 0 c.loop-window.first seen))) (sym c.start-way.ensures.inside) c.loop-window.invariant.begun
 
 pub lay_out_window-requires-clause-room : goal.lay_out_window-requires-clause-room
 lay_out_window-requires-clause-room c =
@@ -70,7 +72,7 @@ returns-in_default-clause-told c =
     subst (λ (b : Option BodyPlace). GoesOnFrom c.args.context.now.style.now c.args.context.now.budget arena number c.args.made.now.plan seen c.args.made.now.tally c.loop-window.made.plan (place_in b) (length (items_between 0 first seen)) c.loop-window.made.tally)
     (sym c.start-way.ensures.inside) v.on in
     behind_new c.args.context.now.style.now c.args.context.now.budget arena number c.args.made.now.plan seen c.args.made.now.tally c.lay_out_window.new.made.tally c.lay_out_window.new.made.plan
-    (place_in c.lay_out_window.new.way.inside) (length (items_between 0 first seen) + c.lay_out_window.new.way.first) c.args.turn.now.new_end inside (laid.done c.in_default.is) c.requires.behind laid.decided laid.place (seen_increases arena number) (laid.on c.args.made.now.plan c.args.made.now.tally on)
+    (place_in c.lay_out_window.new.way.inside) (length (items_between 0 first seen) + c.lay_out_window.new.way.first) c.args.turn.now.new_end inside (laid.done c.in_default.is) c.requires.behind laid.begun.decided laid.begun.before (seen_increases arena number) (laid.on c.args.made.now.plan c.args.made.now.tally on)
 
 pub returns-in_default-clause-room : goal.returns-in_default-clause-room
 returns-in_default-clause-room c =
@@ -136,9 +138,7 @@ loop-window-preserved c =
       room = omega (arith, v.room, laid.room, next.stands);
       state = laid.state;
       begin = λ later. subst (λ k. BeginTold arena (items_between 0 c.lay_out_window.new.way.told seen) k (place_in c.lay_out_window.new.way.inside)) (sym next.stands) (begin later);
-      begins = subst (λ k. ForSome (place_in c.lay_out_window.new.way.inside) (λ place. StandsBefore place (get_or seen k 0))) (sym next.stands) laid.place;
-      items = laid.items;
-      decided = laid.decided;
+      begun = subst (λ k. IsBegun arena c.lay_out_window.new.made.plan seen (place_in c.lay_out_window.new.way.inside) k) (sym next.stands) laid.begun;
       bounds = laid.bounds;
       on = subst (λ k. GoesOnFrom c.args.context.now.style.now c.args.context.now.budget arena number c.args.made.now.plan seen c.args.made.now.tally c.lay_out_window.new.made.plan (place_in c.lay_out_window.new.way.inside) k c.lay_out_window.new.made.tally) (sym next.stands)
           (laid.on c.args.made.now.plan c.args.made.now.tally on);

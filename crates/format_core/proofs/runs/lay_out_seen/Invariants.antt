@@ -1,14 +1,11 @@
-use Rattle.std.proofs.Common.{◌<◌, ◌≤◌, ◌+◌, ◌*◌, ◌-◌, get_or, length}
-use Rattle.std.specs.Prelude.{All, IsSome, IsTrue}
-use Rattle.std.specs.Option.{ForSome}
+use Rattle.std.proofs.Common.{◌≤◌, ◌+◌, ◌*◌, ◌-◌, length}
+use Rattle.std.specs.Prelude.{IsTrue}
 use Rattle.branch_runs.specs.Anew.{items_between}
-use Rattle.view_parts.specs.Parts.{StandsBefore, items_before}
 use Rattle.part_walk.specs.Places.{place_in}
-use Rattle.replacements.specs.Decisions.{slot_of}
 use Rattle.run_parts.specs.Bounds.{AreBounds, BeginTold}
 use Rattle.format_core.specs.PartByPart.{GoesOnFrom}
 use Rattle.run_parts.specs.Runs.{seen_by}
-use Rattle.format_core.specs.InStep.{AreInStep}
+use Rattle.format_core.specs.InStep.{AreInStep, IsBegun}
 use Rattle.run_parts.specs.Windows.{place_before}
 use Rattle.format_core.proofs.runs.lay_out_seen.Given as goal
 
@@ -20,9 +17,7 @@ invariant-loop-window l = record {
   room : l.made.tally.searched ≤ l.initial.made.tally.searched + 67 * place_before l.context.arena.now l.turn.number l.first;
   state : AreInStep l.context.arena.now l.made l.known.ends l.known.spans.spans.items;
   begin : IsTrue l.turn.later → BeginTold l.context.arena.now (items_between 0 l.told (seen_by l.context.arena.now l.turn.number)) (place_before l.context.arena.now l.turn.number l.first) (place_in l.inside);
-  begins : ForSome (place_in l.inside) (λ place. StandsBefore place (get_or (seen_by l.context.arena.now l.turn.number) (place_before l.context.arena.now l.turn.number l.first) 0));
-  items : All (λ id. id < length l.context.arena.now.tokens) (items_before (place_in l.inside));
-  decided : All (λ id. IsSome (slot_of l.made.plan id)) (items_before (place_in l.inside));
+  begun : IsBegun l.context.arena.now l.made.plan (seen_by l.context.arena.now l.turn.number) (place_in l.inside) (place_before l.context.arena.now l.turn.number l.first);
   bounds : AreBounds l.context.arena.now (seen_by l.context.arena.now l.turn.number) l.known.bounds.items l.told;
   on : GoesOnFrom l.context.style.now l.context.budget l.context.arena.now l.turn.number l.initial.made.plan (seen_by l.context.arena.now l.turn.number) l.initial.made.tally l.made.plan (place_in l.inside) (place_before l.context.arena.now l.turn.number l.first) l.made.tally;
 }

@@ -1,18 +1,19 @@
 use Rattle.std.proofs.Common.{◌≡◌, ◌∙◌, ◌+◌, ◌-◌, ◌<◌, ◌≤◌, List, Option, get_or, length, sym, ap, subst, arith}
-use Rattle.std.specs.Prelude.{All, IfSome, IsSome}
-use Rattle.std.specs.Option.{ForNone, ForSome}
+use Rattle.std.specs.Prelude.{IfSome}
+use Rattle.std.specs.Option.{ForSome}
 use Rattle.branch_runs.specs.Anew.{items_between}
 use Rattle.item_classes.proofs.Lists.{few_below}
 use Rattle.view_parts.specs.declared.known.PartsEnd.{PartsEnd}
 use Rattle.part_walk.specs.declared.bodies.BodyPlace.{BodyPlace}
 use Rattle.part_walk.specs.Places.{place_in}
-use Rattle.view_parts.specs.Parts.{StandsBefore, items_before}
-use Rattle.replacements.specs.Decisions.{slot_of}
+use Rattle.view_parts.specs.Parts.{StandsBefore}
 use Rattle.run_parts.specs.Bounds.{AreBounds, BeginTold}
 use Rattle.run_parts.specs.declared.bounds.KnownBound.{KnownBound}
+use Rattle.format_core.specs.InStep.{AreNext, IsBegun}
 use Rattle.format_core.specs.PartByPart.{GoesOnFrom}
+use Rattle.replacements.specs.declared.slot.Slot.{Slot}
 use Rattle.run_parts.specs.Runs.{seen_by}
-use Rattle.run_parts.specs.Windows.{AreToldIn, place_before}
+use Rattle.run_parts.specs.Windows.{place_before}
 use Rattle.run_parts.proofs.Between.{in_order}
 use Rattle.run_parts.proofs.PlacesStand.{never_none}
 use Rattle.run_parts.proofs.SeenInOrder.{seen_increases}
@@ -40,9 +41,7 @@ loop-way-init c =
       room = omega arith;
       state = c.requires.state;
       begin = λ later short. subst (λ k. BeginTold arena (items_between 0 way.told seen) k (place_in way.inside)) here (c.requires.begin later);
-      begins = subst (λ k. ForSome (place_in way.inside) (λ p. StandsBefore p (get_or seen k 0))) here c.requires.begins;
-      items = c.requires.items;
-      decided = c.requires.decided;
+      begun = subst (λ k. IsBegun arena made.plan seen (place_in way.inside) k) here c.requires.begun;
       bounds = c.requires.bounds;
       on = λ plan before from. subst (λ k. GoesOnFrom c.args.context.now.style.now c.args.context.now.budget arena window.number plan seen before made.plan (place_in way.inside) k made.tally) here from;
     }
@@ -67,9 +66,7 @@ returns-then-id-window c =
       begin = tt;
       stopped = tt;
       here = tt;
-      place = v.begins;
-      items = v.items;
-      decided = v.decided;
+      begun = v.begun;
       short = tt;
       done = λ none k low high.
           let order = in_order 0 (seen_by arena window.number) (place_before arena window.number window.first + first) k (seen_increases arena window.number) low high in
@@ -86,16 +83,16 @@ lay_out_next-requires c =
     let item = seen_item arena window.number window.first window.end window.view first c.requires.window here in
     let most : c.len-items.result ≤ 8388608 = c.len-items.ensures.most in
     record {
-      range = c.requires.range;
-      budget = c.requires.budget;
-      all = c.requires.all;
+      ready = c.requires.ready;
       within = c.requires.within;
       window = c.requires.window;
       here = here;
       item = c.at_near-id.ensures;
-      begins = subst (λ id. ForSome (place_in c.loop-way.way.inside) (λ place. StandsBefore place id)) item v.begins;
-      items = v.items;
-      decided = v.decided;
+      begun = record {
+        before = subst (λ id. ForSome (place_in c.loop-way.way.inside) (λ place. StandsBefore place id)) item v.begun.before;
+        items = v.begun.items;
+        decided = v.begun.decided;
+      };
       room = omega (arith, v.room, c.requires.room, c.len-count.ensures.count, here, most, c.if-prove.false);
       state = v.state;
     }
@@ -138,22 +135,18 @@ returns-in_default-clause-stopped c = let stays = c.in_ok-found.ensures.stays c.
 pub returns-in_default-clause-here : goal.returns-in_default-clause-here
 returns-in_default-clause-here c = let stays = c.in_ok-found.ensures.stays c.in_default.is in omega (arith, stays.0, c.loop-way-test.true, c.len-count.ensures.count)
 
-pub returns-in_default-clause-place : goal.returns-in_default-clause-place
-returns-in_default-clause-place c =
+pub returns-in_default-clause-begun : goal.returns-in_default-clause-begun
+returns-in_default-clause-begun c =
     let arena = c.args.context.now.arena.now in
     let window = c.args.window.now in
     let seen = seen_by arena window.number in
     let place = place_before arena window.number window.first in
     let way = c.lay_out_next.new.way in
+    let was = c.loop-way.made.plan in
     let stays = c.in_ok-found.ensures.stays c.in_default.is in
-    subst (λ (b : Option BodyPlace). ForSome (place_in b) (λ p. StandsBefore p (get_or seen (place + way.first) 0))) (sym stays.1)
-    (subst (λ k. ForSome (place_in c.loop-way.way.inside) (λ p. StandsBefore p (get_or seen (place + k) 0))) (sym stays.0) c.loop-way.invariant.begins)
-
-pub returns-in_default-clause-items : goal.returns-in_default-clause-items
-returns-in_default-clause-items c = c.in_ok-found.ensures.items
-
-pub returns-in_default-clause-decided : goal.returns-in_default-clause-decided
-returns-in_default-clause-decided c = c.in_ok-found.ensures.decided
+    subst (λ (plan : List (Option Slot)). IsBegun arena plan seen (place_in way.inside) (place + way.first)) (sym stays.2)
+    (subst (λ (b : Option BodyPlace). IsBegun arena was seen (place_in b) (place + way.first)) (sym stays.1)
+    (subst (λ k. IsBegun arena was seen (place_in c.loop-way.way.inside) (place + k)) (sym stays.0) c.loop-way.invariant.begun))
 
 pub returns-in_default-clause-short : goal.returns-in_default-clause-short
 returns-in_default-clause-short c = c.in_ok-found.ensures.none c.in_default.is
@@ -169,12 +162,13 @@ note_bound-requires c =
     let begins = place_in c.loop-way.way.inside in
     let next = c.in_ok-found.ensures in
     let here : first < length window.view = omega (arith, c.loop-way-test.true, c.len-count.ensures.count) in
+    let parts = subst (λ (found : Option PartsEnd). IfSome found (AreNext arena window.view begins first)) c.in-Some.is next.next in
     record {
       within = c.requires.within;
       window = c.requires.window;
-      some = subst (λ (found : Option PartsEnd). IfSome found (λ parts. first < parts.end)) c.in-Some.is next.some;
-      told = subst (λ (found : Option PartsEnd). IfSome found (λ parts. ForSome parts.told (λ told. AreToldIn arena window.view begins first parts.end (place_in parts.inside) told))) c.in-Some.is next.told;
-      whole = subst (λ (found : Option PartsEnd). IfSome found (λ parts. ForNone parts.told (parts.end ≡ length window.view))) c.in-Some.is next.whole;
+      some = parts.some;
+      told = parts.told;
+      whole = parts.whole;
       begin = λ later. subst (λ k. BeginTold arena (items_between 0 k (seen_by arena window.number)) (place_before arena window.number window.first + first) begins) (sym next.same) (c.loop-way.invariant.begin later here);
       bounds =
           subst (λ k. AreBounds arena (seen_by arena window.number) c.lay_out_next.new.known.bounds.items k) (sym next.same)
@@ -197,22 +191,24 @@ loop-way-preserved c =
     let noted = c.note_bound.new.way in
     let made = c.lay_out_next.new.made in
     let end : way.first ≡ parts.end = subst (λ (found : Option PartsEnd). IfSome found (λ parts. way.first ≡ parts.end)) c.in-Some.is next.end in
-    let begun : noted.inside ≡ parts.inside = note.inside ∙ subst (λ (found : Option PartsEnd). IfSome found (λ parts. way.inside ≡ parts.inside)) c.in-Some.is next.inside in
-    let placed = subst (λ (found : Option PartsEnd). IfSome found (λ parts. ForSome (place_in parts.inside) (λ place. StandsBefore place (get_or window.view parts.end 0)))) c.in-Some.is next.place in
-    let some : c.loop-way.way.first < parts.end = subst (λ (found : Option PartsEnd). IfSome found (λ parts. c.loop-way.way.first < parts.end)) c.in-Some.is next.some in
+    let entered : noted.inside ≡ parts.inside = note.inside ∙ subst (λ (found : Option PartsEnd). IfSome found (λ parts. way.inside ≡ parts.inside)) c.in-Some.is next.inside in
+    let placed = subst (λ (found : Option PartsEnd). IfSome found (λ parts. IsBegun arena made.plan window.view (place_in parts.inside) parts.end)) c.in-Some.is next.begun in
+    let told = subst (λ (found : Option PartsEnd). IfSome found (AreNext arena window.view (place_in c.loop-way.way.inside) c.loop-way.way.first)) c.in-Some.is next.next in
+    let some : c.loop-way.way.first < parts.end = told.some in
     record {
       inside = omega (arith, note.first, next.within);
       room = omega (arith, next.room, v.room, some, end, note.first);
       state = next.state;
       begin = λ later short.
-          subst (λ (b : Option BodyPlace). BeginTold arena (items_between 0 noted.told seen) (place + noted.first) (place_in b)) (sym begun)
+          subst (λ (b : Option BodyPlace). BeginTold arena (items_between 0 noted.told seen) (place + noted.first) (place_in b)) (sym entered)
           (subst (λ k. BeginTold arena (items_between 0 noted.told seen) (place + k) (place_in parts.inside)) (sym (note.first ∙ end)) (note.begin later (omega (arith, short, note.first, end))));
-      begins =
-          subst (λ (b : Option BodyPlace). ForSome (place_in b) (λ p. StandsBefore p (get_or seen (place + noted.first) 0))) (sym begun)
-          (subst (λ k. ForSome (place_in parts.inside) (λ p. StandsBefore p (get_or seen (place + k) 0))) (sym (note.first ∙ end))
-          (stands_in_seen arena window.number window.first window.end window.view (place_in parts.inside) parts.end c.requires.window placed));
-      items = subst (λ (b : Option BodyPlace). All (λ id. id < length arena.tokens) (items_before (place_in b))) (sym note.inside) next.items;
-      decided = subst (λ (b : Option BodyPlace). All (λ id. IsSome (slot_of made.plan id)) (items_before (place_in b))) (sym note.inside) next.decided;
+      begun =
+          subst (λ (b : Option BodyPlace). IsBegun arena made.plan seen (place_in b) (place + noted.first)) (sym entered)
+          (subst (λ k. IsBegun arena made.plan seen (place_in parts.inside) (place + k)) (sym (note.first ∙ end)) (record {
+            before = stands_in_seen arena window.number window.first window.end window.view (place_in parts.inside) parts.end c.requires.window placed.before;
+            items = placed.items;
+            decided = placed.decided;
+          }));
       bounds = note.bounds;
       on = λ plan before from.
           subst (λ (b : Option BodyPlace). GoesOnFrom style budget arena window.number plan seen before made.plan (place_in b) (place + noted.first) made.tally) (sym note.inside)
@@ -234,9 +230,7 @@ returns c =
       begin = tt;
       stopped = tt;
       here = tt;
-      place = v.begins;
-      items = v.items;
-      decided = v.decided;
+      begun = v.begun;
       short = tt;
       done = λ none k low high.
           let past : place + length window.view ≤ k = omega (arith, low, c.loop-way-test.false, c.len-count.ensures.count) in

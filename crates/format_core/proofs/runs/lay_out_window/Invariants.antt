@@ -1,16 +1,13 @@
-use Rattle.std.proofs.Common.{◌<◌, ◌≤◌, ◌+◌, ◌*◌, ◌-◌, List, Option, get_or, length}
-use Rattle.std.specs.Prelude.{All, IsSome, IsTrue}
-use Rattle.std.specs.Option.{ForSome}
+use Rattle.std.proofs.Common.{◌<◌, ◌≤◌, ◌+◌, ◌*◌, ◌-◌, List, Option, length}
+use Rattle.std.specs.Prelude.{IsTrue}
 use Rattle.branch_runs.specs.Anew.{items_between}
-use Rattle.view_parts.specs.Parts.{StandsBefore, items_before}
 use Rattle.part_walk.specs.Places.{place_in}
-use Rattle.replacements.specs.Decisions.{slot_of}
 use Rattle.replacements.specs.declared.slot.Slot.{Slot}
 use Rattle.run_layout.specs.declared.report.Tally.{Tally}
 use Rattle.run_parts.specs.Bounds.{AreBounds, BeginTold}
 use Rattle.format_core.specs.PartByPart.{GoesOnFrom}
 use Rattle.run_parts.specs.Runs.{seen_by}
-use Rattle.format_core.specs.InStep.{AreInStep}
+use Rattle.format_core.specs.InStep.{AreInStep, IsBegun}
 use Rattle.run_parts.specs.Windows.{place_before}
 use Rattle.format_core.proofs.runs.lay_out_window.Given as goal
 
@@ -20,9 +17,7 @@ invariant-loop-way l = record {
   room : l.made.tally.searched ≤ l.initial.made.tally.searched + 67 * l.way.first;
   state : AreInStep l.context.arena.now l.made l.known.ends l.known.spans.spans.items;
   begin : IsTrue l.window.later → l.way.first < length l.window.view → BeginTold l.context.arena.now (items_between 0 l.way.told (seen_by l.context.arena.now l.window.number)) (place_before l.context.arena.now l.window.number l.window.first + l.way.first) (place_in l.way.inside);
-  begins : ForSome (place_in l.way.inside) (λ place. StandsBefore place (get_or (seen_by l.context.arena.now l.window.number) (place_before l.context.arena.now l.window.number l.window.first + l.way.first) 0));
-  items : All (λ id. id < length l.context.arena.now.tokens) (items_before (place_in l.way.inside));
-  decided : All (λ id. IsSome (slot_of l.made.plan id)) (items_before (place_in l.way.inside));
+  begun : IsBegun l.context.arena.now l.made.plan (seen_by l.context.arena.now l.window.number) (place_in l.way.inside) (place_before l.context.arena.now l.window.number l.window.first + l.way.first);
   bounds : AreBounds l.context.arena.now (seen_by l.context.arena.now l.window.number) l.known.bounds.items l.way.told;
   on : (plan : List (Option Slot)) (before : Tally)
       → GoesOnFrom l.context.style.now l.context.budget l.context.arena.now l.window.number plan (seen_by l.context.arena.now l.window.number) before l.initial.made.plan (place_in l.initial.way.inside) (place_before l.context.arena.now l.window.number l.window.first) l.initial.made.tally

@@ -24,19 +24,18 @@ decide_early-requires c = record {
 
 pub lay_out_runs-requires : goal.lay_out_runs-requires
 lay_out_runs-requires c = record {
-  range = c.requires.range;
-  budget = c.requires.budget;
-  all = c.in_ok-item_classes.ensures;
+  ready = record { range = c.requires.range; budget = c.requires.budget; all = c.in_ok-item_classes.ensures };
   tree = record { marks = c.in_ok-tree.ensures.marks; end = c.in_ok-tree.ensures.end };
-  whole = c.in_ok-decide_early.ensures.len ∙ (ap (λ (plan : List (Option Slot)). length plan) c.in_ok-plan.ensures ∙ length-replicate (length c.args.arena.now.tokens + 1) None);
+  made = record {
+    whole = c.in_ok-decide_early.ensures.len ∙ (ap (λ (plan : List (Option Slot)). length plan) c.in_ok-plan.ensures ∙ length-replicate (length c.args.arena.now.tokens + 1) None);
+    cheap = omega (arith, c.new-tally.ensures.searched, c.new-tally.ensures.cost);
+    counted = c.new-tally.ensures.counted c.args.arena.now;
+  };
   none = c.new-tally.ensures.searched;
-  free = c.new-tally.ensures.cost;
-  counted = c.new-tally.ensures.counted c.args.arena.now;
 }
 
 pub returns-clause-len : goal.returns-clause-len
-returns-clause-len c =
-    c.in_ok-lay_out_runs.ensures.len ∙ (c.in_ok-decide_early.ensures.len ∙ (ap (λ (plan : List (Option Slot)). length plan) c.in_ok-plan.ensures ∙ length-replicate (length c.args.arena.now.tokens + 1) None))
+returns-clause-len c = c.in_ok-lay_out_runs.ensures.made.whole
 
 pub returns-clause-plan : goal.returns-clause-plan
 returns-clause-plan c =
