@@ -39,7 +39,7 @@ use run_parts::{
 use std::alloc::Global;
 use style_table::Style;
 use token_arena::{Section, TokenArena, View};
-use view_parts::{KnownSpans, PartsEnd, known_part_end, laid_view};
+use view_parts::{KnownSpans, PartSource, PartStart, PartsEnd, known_part_end, laid_view};
 
 /// How many items behind what is new in a run are looked at first at least. Most parts end within as many, and so do
 /// the items that tell it.
@@ -221,18 +221,17 @@ fn lay_out_next<'k>(
     if let Some(parts) = pass_row(arena, view, id, &mut known.ends, way) {
         return Ok(Some(parts));
     }
-    let classes = context.classes;
-    let near = &mut way.segment;
-    let part = known_part_end(
+    let source = PartSource {
         arena,
         view,
-        classes,
-        inside,
-        first,
+        classes: context.classes,
+    };
+    let part = known_part_end(
+        &source,
+        PartStart { first, inside },
         &mut known.ends,
         &mut known.spans,
-        known.keep,
-        near,
+        &mut way.segment,
         room,
     )?;
     if part.told.is_none() && window.end < arena.len() {

@@ -12,12 +12,10 @@ use crate::line_fixtures::{items_from, repeated};
 use bumpalo::Bump;
 use bumpalo::collections::into_bump_slice;
 use item_classes::item_classes;
-use part_walk::BodyPlace;
 use std::alloc::Global;
 use std::process::Abort;
 use token_arena::{Dialect, TokenArena, View, build};
-use token_classes::TokenClass;
-use view_parts::{PartEnd, laid_view, part_end};
+use view_parts::{PartSource, PartStart, PartsEnd, laid_view, part_end};
 
 /// A text, and behind how many of its items each part ends.
 const PARTS: &[(&str, &[u32])] = &[
@@ -278,22 +276,21 @@ const PARTS_OF_PIECES: &[(&[(&str, usize)], &[(u32, u32)])] = &[
 fn next_part<'r>(
     rt: &impl Abort,
     name: &str,
-    arena: &TokenArena<'_, '_>,
-    view: &View<'_>,
-    all: &[TokenClass],
-    begins: Option<BodyPlace<'r>>,
-    first: u32,
+    source: &PartSource<'_>,
+    begin: PartStart<'r>,
     run: &'r Bump,
-) -> (PartEnd<'r>, u32)
-    requires within { AreWithin arena.now view.now }
-    requires all { all.now ≡ item_classes arena.now }
-    requires here { first < length view.now }
-    requires begins { ForSome (place_in begins) (λ place. StandsBefore place (get_or view.now first 0)) }
-    ensures place { ForSome (place_in result.0.inside) (λ place. StandsBefore place (get_or view.now result.0.end 0)) }
+) -> (PartsEnd<'r>, u32)
+    requires within { AreWithin source.now.arena.now source.now.view.now }
+    requires all { source.now.classes.now ≡ item_classes source.now.arena.now }
+    requires here { begin.first < length source.now.view.now }
+    requires begins { ForSome (place_in begin.inside)
+        (λ place. StandsBefore place (get_or source.now.view.now begin.first 0)) }
+    ensures place { ForSome (place_in result.0.inside)
+        (λ place. StandsBefore place (get_or source.now.view.now result.0.end 0)) }
 {
     let mut segment = 0;
-    let part = part_end(arena, view, all, begins, first, &mut segment, run, run).expect(rt, name);
-    let laid = laid_view(begins, view, first, part.end, run).expect(rt, name);
+    let part = part_end(source, begin, &mut segment, run, run).expect(rt, name);
+    let laid = laid_view(begin.inside, source.view, begin.first, part.end, run).expect(rt, name);
     (part, laid.len())
 }
 
@@ -307,17 +304,25 @@ fn parts_of<'r>(
 ) -> &'r [(u32, u32)]
     requires { AreWithin arena.now view.now }
 {
-    let all = item_classes(arena, run).expect(rt, name);
+    let source = PartSource {
+        arena,
+        view,
+        classes: item_classes(arena, run).expect(rt, name),
+    };
     let count = view.len();
     let mut parts = Vec::new(run);
-    let mut begins = None;
-    let mut first = 0;
+    let mut begin = PartStart {
+        first: 0,
+        inside: None,
+    };
     for _ in 0..count {
-        if first < count {
-            let (part, laid) = next_part(rt, name, arena, view, all, begins, first, run);
-            begins = part.inside;
-            first = part.end;
-            parts.push((first, laid)).expect(rt, name);
+        if begin.first < count {
+            let (part, laid) = next_part(rt, name, &source, begin, run);
+            begin = PartStart {
+                first: part.end,
+                inside: part.inside,
+            };
+            parts.push((part.end, laid)).expect(rt, name);
         }
     }
     into_bump_slice(parts)

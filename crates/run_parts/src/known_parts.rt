@@ -20,8 +20,6 @@ pub struct KnownParts<'k> {
     pub spans: KnownSpans<'k>,
     /// Where parts of the view end, as its first items tell.
     pub bounds: Vec<KnownBound<'k>, &'k Bump>,
-    /// What the memory of all these is taken from.
-    pub keep: &'k Bump,
 }
 
 impl<'k> KnownParts<'k> {
@@ -37,7 +35,6 @@ impl<'k> KnownParts<'k> {
             ends: KnownEnds::none(items, keep)?,
             spans: KnownSpans::none(items / 2, keep),
             bounds: Vec::new(keep),
-            keep,
         })
     }
 }

@@ -1,6 +1,7 @@
 -- Where one part of a view ends: parts that are known, and notes of them.
 use Rattle.std.proofs.Common.{◌≡◌, inl, ℕ, ◌+◌, ◌-◌, ◌<◌, ◌≤◌, Option, Some, None, List, length, get_or, refl, sym, subst, arith}
-use Rattle.std.specs.Prelude.{false, is_some, OnOk, OnErr, Result, Ok, Err, slice_range, slice_set}
+use Rattle.std.specs.Prelude.{false, is_some, IfOk, OnOk, OnErr, Result, Ok, Err, slice_range, slice_set}
+use Rattle.std.specs.Option.{ForSome}
 use Rattle.std.proofs.lemmas.List.{length-set}
 use Rattle.token_arena.specs.Gaps.{Contents}
 use Rattle.token_arena.specs.Ids.{Increase}
@@ -11,13 +12,13 @@ use Rattle.view_parts.specs.declared.known.KnownSpan.{KnownSpan}
 use Rattle.view_parts.specs.declared.known.PartsEnd.{PartsEnd}
 use Rattle.view_parts.specs.Known.{AreKnown, AreRowsFrom, IsKnown, IsKnownRow, IsRowAt, IsSpan}
 use Rattle.view_parts.specs.Parts.{EndsBehind}
-use Rattle.part_walk.specs.Places.{place_in}
-use Rattle.view_parts.specs.Told.{IsEndOfPart}
+use Rattle.part_walk.specs.Places.{Place, place_in}
+use Rattle.view_parts.specs.Told.{IsEndOfPart, TellParts}
 use Rattle.view_parts.proofs.NotedRows.{rows_set}
 use Rattle.view_parts.proofs.RowParts.{some_is}
 use Rattle.view_parts.proofs.Rows.{noted_all, recalled_len, recalled_outside}
 use Rattle.view_parts.proofs.Spans.{recalled_so, recalled_outside as span_outside}
-use Rattle.view_parts.proofs.Told.{row_told, span_told}
+use Rattle.view_parts.proofs.Told.{part_told, row_told, span_told}
 
 pub none_some : {A : Type 0} (a : A) → None ≡ Some a → ⊥
 none_some a e = cc
@@ -66,7 +67,19 @@ from_outside arena begins view first part none is = subst (λ (b : Option BodyPl
 pub ends_outside : (arena : Contents) (ids : List ℕ) (count : ℕ) (inside : Option BodyPlace) → inside ≡ None → EndsBehind arena None ids (record { count = count; inside = place_in inside }) → EndsBehind arena None ids (record { count = count; inside = None })
 ends_outside arena ids count inside none ends = subst (λ (i : Option BodyPlace). EndsBehind arena None ids (record { count = count; inside = place_in i })) none ends
 
+-- the items that a part ends behind, whatever follows them, tell where it ends
+pub part_tells : {E : Type 0} (r : Result PartsEnd E) (arena : Contents) (begins : Option Place) (view : List ℕ) (first : ℕ) → IfOk r (λ part. first < part.end) → IfOk r (λ part. ForSome part.told (λ told. part.end < told))
+    → IfOk r (λ part. ForSome part.told (λ told. told ≤ length view))
+    → IfOk r (λ part. ForSome part.told (λ told. EndsBehind arena begins (slice_range view first told) (record { count = part.end - first; inside = place_in part.inside })))
+    → IfOk r (λ part. ForSome part.told (λ told. TellParts arena begins (slice_range view first told) (part.end - first) (place_in part.inside)))
+part_tells (Ok part) arena begins view first some later below ends = λ told is. part_told arena begins (place_in part.inside) view first part.end told some (later told is) (below told is) (ends told is)
+part_tells (Err e) arena begins view first some later below ends = tt
+
 -- ## Notes
+
+pub any_ok : {T E : Type 0} (r : Result T E) (P : T → Type 0) → ((x : T) → P x) → IfOk r P
+any_ok (Ok x) P all = all x
+any_ok (Err e) P all = tt
 
 pub on_ok : {T E : Type 0} (r : Result T E) (P : Type 0) → P → OnOk r P
 on_ok (Ok x) P p = p

@@ -1,6 +1,6 @@
 -- Which rows are noted, and which items of a view they have.
 use Rattle.std.proofs.Common.{◌≡◌, ◌∙◌, inl, inr, ℕ, ◌+◌, ◌-◌, ◌<◌, ◌≤◌, Option, Some, None, List, length, get_or, get_or-set_same, get_or-set_other, refl, sym, ap, subst, arith}
-use Rattle.std.specs.Prelude.{IfOk, Result, Ok, Err, slice_set}
+use Rattle.std.specs.Prelude.{slice_set}
 use Rattle.token_arena.specs.Ids.{Increase}
 use Rattle.view_parts.specs.declared.known.KnownEnd.{KnownEnd}
 use Rattle.view_parts.specs.declared.known.KnownEnd.TheVariants.{Unknown, InRows}
@@ -17,11 +17,6 @@ row_in_view view first id behind end row increase below at far some upto is = re
   ends = is;
   items = λ k short. row_item view first id behind increase below at far k (omega (arith, short, upto, some));
 }
-
--- what is noted for any item is noted for this one
-pub row_at_one : (E : Type 0) (view : List ℕ) (first end id : ℕ) (made : Result KnownEnd E) → IfOk made (λ known. (id : ℕ) → IsRowAt view first end id known) → IfOk made (λ known. IsRowAt view first end id known)
-row_at_one E view first end id (Ok known) all = all id
-row_at_one E view first end id (Err e) all = all
 
 pub some_row_is : (a b : KnownRow) → Some a ≡ Some b → a ≡ b
 some_row_is a b e = cc

@@ -1,12 +1,13 @@
 -- Where parts end, as it is noted for items that began one.
 use Rattle.std.specs.Prelude.{⊤, ◌≡◌, ◌<◌, ◌+◌, ◌-◌, ◌==◌, ◌⊎◌, ℕ, if◌then◌else◌, Option, Some, None, List, [], ◌∷◌}
-use Rattle.std.specs.Prelude.{All, get_or, length, max, slice_set}
+use Rattle.std.specs.Prelude.{◌≤◌, All, get_or, length, max, slice_range, slice_set}
 use Rattle.std.specs.List.{range_with_len}
 use Rattle.token_arena.specs.Gaps.{Contents}
 use Rattle.view_parts.specs.declared.known.KnownEnd.{KnownEnd}
 use Rattle.view_parts.specs.declared.known.KnownEnd.TheVariants.{Unknown, InRow, InRows, InSpan}
 use Rattle.view_parts.specs.declared.known.KnownRow.{KnownRow}
 use Rattle.view_parts.specs.declared.known.KnownSpan.{KnownSpan}
+use Rattle.view_parts.specs.declared.known.ToldPart.{ToldPart}
 use Rattle.view_parts.specs.Parts.{EndsBehind}
 
 -- a part that begins with this item, and goes on in a row, ends so
@@ -47,6 +48,15 @@ pub record IsSpan (arena : Contents) (span : KnownSpan) : Type 0 where
   pub some : 0 < span.count
   pub later : span.count < length span.told
   pub ends : EndsBehind arena None span.told (record { count = span.count; inside = None })
+
+-- the items of a view from this one on, with which a part begins outside brackets, tell so where it ends
+pub record IsToldPart (arena : Contents) (view : List ℕ) (part : ToldPart) : Type 0 where
+  pub item : get_or view part.first.place 0 ≡ part.first.id.0
+  pub some : part.first.place < part.end
+  pub later : part.end < part.told
+  pub inside : part.told ≤ length view
+  pub ends : EndsBehind arena None (slice_range view part.first.place part.told)
+      (record { count = part.end - part.first.place; inside = None })
 
 -- what is noted of parts that stand in no row is so
 abbrev pub AreSpans : Contents → List KnownSpan → Type 0

@@ -15,6 +15,7 @@ ghost use Rattle.view_parts.specs.Rows.{IsRow};
 ghost use Rattle.view_parts.specs.Quiet.{Closes, PassesQuiet, closes_group, is_quiet};
 ghost use Rattle.part_walk.specs.Steps.{ends_before_brace};
 
+use crate::known::PartsEnd;
 use crate::row::{Row, item_at};
 use bumpalo::Bump;
 use line_tokens::{NoMemory, TokenId};
@@ -25,42 +26,51 @@ use part_walk::{
 use token_arena::{TokenArena, View};
 use token_classes::TokenClass;
 
-/// Where a part ends.
+/// What parts are read from: a view of a text.
 #[derive(Clone, Copy)]
-pub struct PartEnd<'k> {
-    /// The place behind its last item.
-    pub end: u32,
-    /// The place behind the items that tell so, whatever follows them. There is none where the part ends with the view.
-    pub seen: Option<u32>,
+pub struct PartSource<'v> {
+    /// The items of the text.
+    pub arena: &'v TokenArena<'v, 'v>,
+    /// Those that the view has.
+    pub view: &'v View<'v>,
+    /// The classes of all items of the text.
+    pub classes: &'v [TokenClass],
+}
+
+/// Where a part of a view begins.
+#[derive(Clone, Copy)]
+pub struct PartStart<'k> {
+    /// The place of its first item.
+    pub first: u32,
     /// Where that is in a body, if it is in one.
     pub inside: Option<BodyPlace<'k>>,
 }
 
-impl<'k> PartEnd<'k> {
+impl<'k> PartsEnd<'k> {
     /// Behind so many items of the part that begins at `first`, as the item at this place of it tells.
-    fn told(first: u32, count: u32, place: u32, inside: Option<BodyPlace<'k>>) -> PartEnd<'k>
+    fn told(first: u32, count: u32, place: u32, inside: Option<BodyPlace<'k>>) -> PartsEnd<'k>
         requires within { first + count < 2 ^ 32 }
         requires here { first + place + 1 < 2 ^ 32 }
         ensures end { result.end ≡ first + count }
-        ensures seen { result.seen ≡ Some (first + place + 1) }
+        ensures told { result.told ≡ Some (first + place + 1) }
         ensures inside { place_in result.inside ≡ place_in inside.entry }
     {
-        PartEnd {
+        PartsEnd {
             end: first + count,
-            seen: Some(first + place + 1),
+            told: Some(first + place + 1),
             inside,
         }
     }
 
     /// With a view of so many items.
-    fn with_view(count: u32) -> PartEnd<'k>
+    fn with_view(count: u32) -> PartsEnd<'k>
         ensures end { result.end ≡ count }
-        ensures seen { result.seen ≡ None }
+        ensures told { result.told ≡ None }
         ensures inside { place_in result.inside ≡ None }
     {
-        PartEnd {
+        PartsEnd {
             end: count,
-            seen: None,
+            told: None,
             inside: None,
         }
     }
@@ -154,34 +164,34 @@ fn quiet_from(
 /// where that stands in the row too. `row` is kept from one place of a part to the next.
 #[inline(always)]
 fn pass_quiet(
-    view: &View<'_>,
+    source: &PartSource<'_>,
+    first: u32,
     walk: &mut Walk,
     around: Around,
-    all: &[TokenClass],
-    first: u32,
     row: &mut Row,
     segment: &mut usize,
 ) -> Option<TokenId>
-    requires here { first + walk.old.place < length view.now }
-    requires few { length view.now < 2 ^ 32 }
-    requires increase { Increase view.now }
-    requires row { IsRow view.now (first + walk.old.place) row.old }
-    requires items { All (λ id. id < length all.now) view.now }
-    requires fits { length all.now < 2 ^ 32 }
-    ensures row { IsRow view.now (first + walk.old.place) row.new }
+    requires here { first + walk.old.place < length source.now.view.now }
+    requires few { length source.now.view.now < 2 ^ 32 }
+    requires increase { Increase source.now.view.now }
+    requires row { IsRow source.now.view.now (first + walk.old.place) row.old }
+    requires items { All (λ id. id < length source.now.classes.now) source.now.view.now }
+    requires fits { length source.now.classes.now < 2 ^ 32 }
+    ensures row { IsRow source.now.view.now (first + walk.old.place) row.new }
     ensures some { first + walk.old.place < row.new.end }
     ensures place { walk.old.place ≤ walk.new.place }
     ensures within { first + walk.new.place ≤ row.new.end }
-    ensures quiet { PassesQuiet all.now around walk.old (first + walk.old.place + row.new.shift)
+    ensures quiet { PassesQuiet source.now.classes.now around walk.old (first + walk.old.place + row.new.shift)
         (walk.new.place - walk.old.place) walk.new }
     ensures behind { ForNone result (first + walk.new.place ≡ row.new.end) }
     ensures below { ForSome result (λ id. first + walk.new.place < row.new.end) }
     ensures item { ForSome result (λ id. id.0 ≡ first + walk.new.place + row.new.shift) }
 {
-    let id = item_at(view, first + walk.place, row, segment);
+    let id = item_at(source.view, first + walk.place, row, segment);
     if walk.may_end(around, id) {
         return Some(id);
     }
+    let all = source.classes;
     let held = walk.last.held > 0;
     let quiet = quiet_from(around, held, all, first, walk.place, row);
     if quiet == 0 {
@@ -316,51 +326,53 @@ fn passes_brace(walk: &Walk, around: Around, id: TokenId, class: TokenClass) -> 
     class.is_open_brace() && !walk.ends_before_brace(around, id)
 }
 
-/// Where the part of a view ends that begins at a place. `all` are the classes of all items of the text. `segment` is
-/// kept from one place of a view to the next, and starts at 0.
+/// Where the part of a view ends that begins there. `segment` is kept from one place of a view to the next, and starts
+/// at 0.
 ///
 /// `docs/PROFILE.md` says under "Parts" which these are. Items before the place aren't looked at, nor those behind the
 /// first token of the next part. Want of memory is the only error: in `room` for brackets that are open, and in `keep`
 /// for the heads of the bodies in which the next part begins.
 #[inline(never)]
 pub fn part_end<'k>(
-    arena: &TokenArena<'_, '_>,
-    view: &View<'_>,
-    all: &[TokenClass],
-    begins: Option<BodyPlace<'k>>,
-    first: u32,
+    source: &PartSource<'_>,
+    begin: PartStart<'k>,
     segment: &mut usize,
     keep: &'k Bump,
     room: &Bump,
-) -> Result<PartEnd<'k>, NoMemory>
-    requires within { AreWithin arena.now view.now }
-    requires all { all.now ≡ item_classes arena.now }
-    requires here { first < length view.now }
-    requires begins { ForSome (place_in begins) (λ place. StandsBefore place (get_or view.now first 0)) }
-    ensures end { IfOk result
-        (λ part. part.end ≡ first + part_len arena.now (place_in begins.entry) (drop first view.now)) }
-    ensures inside { IfOk result
-        (λ part. place_in part.inside ≡ part_inside arena.now (place_in begins.entry) (drop first view.now)) }
-    ensures place { IfOk result
-        (λ part. ForSome (place_in part.inside) (λ place. StandsBefore place (get_or view.now part.end 0))) }
-    ensures some { IfOk result (λ part. first < part.end) }
-    ensures within { IfOk result (λ part. part.end ≤ length view.now) }
-    ensures seen { IfOk result (λ part.
-        ForSome part.seen (λ seen.
-        EndsBehind arena.now (place_in begins.entry) (slice_range view.now first seen)
-        (record { count = part.end - first; inside = place_in part.inside }))) }
-    ensures later { IfOk result (λ part. ForSome part.seen (λ seen. part.end < seen)) }
-    ensures below { IfOk result (λ part. ForSome part.seen (λ seen. seen ≤ length view.now)) }
-    ensures whole { IfOk result (λ part. ForNone part.seen (part.end ≡ length view.now)) }
+) -> Result<PartsEnd<'k>, NoMemory>
+    requires within { AreWithin source.now.arena.now source.now.view.now }
+    requires all { source.now.classes.now ≡ item_classes source.now.arena.now }
+    requires here { begin.first < length source.now.view.now }
+    requires begins { ForSome (place_in begin.inside)
+        (λ place. StandsBefore place (get_or source.now.view.now begin.first 0)) }
+    ensures end { IfOk result (λ part. part.end ≡ begin.entry.first
+        + part_len source.now.arena.now (place_in begin.entry.inside) (drop begin.entry.first source.now.view.now)) }
+    ensures inside { IfOk result (λ part. place_in part.inside
+        ≡ part_inside source.now.arena.now (place_in begin.entry.inside) (drop begin.entry.first source.now.view.now)) }
+    ensures place { IfOk result (λ part.
+        ForSome (place_in part.inside) (λ place. StandsBefore place (get_or source.now.view.now part.end 0))) }
+    ensures some { IfOk result (λ part. begin.entry.first < part.end) }
+    ensures within { IfOk result (λ part. part.end ≤ length source.now.view.now) }
+    ensures told { IfOk result (λ part.
+        ForSome part.told (λ told.
+        EndsBehind source.now.arena.now (place_in begin.entry.inside)
+        (slice_range source.now.view.now begin.entry.first told)
+        (record { count = part.end - begin.entry.first; inside = place_in part.inside }))) }
+    ensures later { IfOk result (λ part. ForSome part.told (λ told. part.end < told)) }
+    ensures below { IfOk result (λ part. ForSome part.told (λ told. told ≤ length source.now.view.now)) }
+    ensures whole { IfOk result (λ part. ForNone part.told (part.end ≡ length source.now.view.now)) }
 {
-    let count = view.len();
+    let begins = begin.inside;
+    let first = begin.first;
+    let count = source.view.len();
     let mut brackets = OpenBrackets::start(begins, room)?;
     let mut walk = start(begins);
     let mut row = Row { shift: 0, end: 0 };
-    let items = arena.len();
+    let items = source.arena.len();
+    let all = source.classes;
     while walk.place < count - first {
         let stands = brackets.around;
-        let next = pass_quiet(view, &mut walk, stands, all, first, &mut row, segment);
+        let next = pass_quiet(source, first, &mut walk, stands, &mut row, segment);
         let Some(id) = next else { continue };
         prove!(id.0 < items);
         let class = all[id.0 as usize];
@@ -375,11 +387,11 @@ pub fn part_end<'k>(
             brackets.pass(&mut walk, place, opened, id, class)?;
             continue;
         }
-        match read(arena, &mut walk, stands, id, class) {
-            Outcome::EndsOutside(ended) => return Ok(PartEnd::told(first, ended, place, None)),
+        match read(source.arena, &mut walk, stands, id, class) {
+            Outcome::EndsOutside(ended) => return Ok(PartsEnd::told(first, ended, place, None)),
             Outcome::EndsInBody(ended) => {
                 let inside = place_behind(&walk, &brackets.bodies, begins, keep)?;
-                return Ok(PartEnd::told(first, ended, place, Some(inside)));
+                return Ok(PartsEnd::told(first, ended, place, Some(inside)));
             }
             Outcome::Never => break,
             Outcome::GoesOn if !class.is_bracket() => continue,
@@ -391,5 +403,5 @@ pub fn part_end<'k>(
         }
         brackets.pass(&mut walk, place, None, id, class)?;
     }
-    Ok(PartEnd::with_view(count))
+    Ok(PartsEnd::with_view(count))
 }

@@ -1,21 +1,21 @@
 //! Where parts end that earlier runs saw.
 
-ghost use Rattle.std.specs.Prelude.{◌≡◌, ◌<◌, ◌≤◌, ◌+◌, ◌-◌, ℕ, [], length, drop, get_or, slice_range, IfOk, IfSome};
+ghost use Rattle.std.specs.Prelude.{◌≡◌, ◌<◌, ◌≤◌, ◌+◌, ◌-◌, [], length, drop, get_or, slice_range, IfOk, IfSome};
 ghost use Rattle.std.specs.Prelude.{IsTrue, None, OnOk};
 ghost use Rattle.std.specs.Option.{ForNone, ForSome};
 ghost use Rattle.item_classes.specs.Viewed.{AreWithin, item_classes};
 ghost use Rattle.view_parts.specs.Known.{AreKnown, AreRowsFrom, AreSpans, HasRow, IsKnown, IsKnownRow, IsRowAt};
+ghost use Rattle.view_parts.specs.Known.{IsToldPart};
 ghost use Rattle.view_parts.specs.Parts.{part_inside, part_len, EndsBehind, StandsBefore};
 ghost use Rattle.part_walk.specs.Places.{place_in};
 ghost use Rattle.view_parts.specs.Told.{IsEndOfPart, TellParts};
 
-use crate::ends::{PartEnd, part_end};
+use crate::ends::{PartSource, PartStart, part_end};
 use crate::notes::KnownEnds;
 use bumpalo::Bump;
 use line_tokens::{NoMemory, TokenId};
 use part_walk::BodyPlace;
-use token_arena::{TokenArena, View};
-use token_classes::TokenClass;
+use token_arena::View;
 
 /// Where a part ends that goes on in a row up to what tells so, or the last of parts that follow one another in a row.
 #[derive(Clone, Copy)]
@@ -57,6 +57,8 @@ pub struct KnownSpans<'k> {
     pub left: usize,
     /// The fewest items that tell the end of a part that is noted. Where there is none, none is.
     pub least: Option<u32>,
+    /// What the memory of these is taken from, and that of the heads of bodies in which parts begin.
+    pub keep: &'k Bump,
 }
 
 impl<'k> KnownSpans<'k> {
@@ -68,6 +70,7 @@ impl<'k> KnownSpans<'k> {
             spans: Vec::new(keep),
             left: segments,
             least: None,
+            keep,
         }
     }
 }
@@ -83,64 +86,52 @@ pub struct PartsEnd<'k> {
     pub inside: Option<BodyPlace<'k>>,
 }
 
-/// The end of the part that begins at a place with this item, where a view has the items in a row that tell it.
+/// The item with which a part begins.
+#[derive(Clone, Copy)]
+pub(crate) struct FirstItem {
+    /// Its place in the view.
+    pub place: u32,
+    /// The item.
+    pub id: TokenId,
+    /// The number of its segment.
+    pub segment: usize,
+}
+
+/// A part outside brackets, where items of its view tell where it ends.
+#[derive(Clone, Copy)]
+pub(crate) struct ToldPart {
+    /// The item with which it begins.
+    pub first: FirstItem,
+    /// The place behind its last item.
+    pub end: u32,
+    /// The place behind the items that tell so.
+    pub told: u32,
+}
+
+/// The end of the part that begins with this item, where the view has the items in a row that tell it.
 fn recalled_row(
-    arena: &TokenArena<'_, '_>,
-    view: &View<'_>,
-    first: u32,
-    id: TokenId,
+    source: &PartSource<'_>,
+    first: FirstItem,
     known: KnownRow,
     segment: &mut usize,
 ) -> Option<PartsEnd<'static>>
-    requires here { first < length view.now }
-    requires item { (d : ℕ) → get_or view.now first d ≡ id.0 }
-    requires known { IsKnownRow arena.now id.0 known }
-    ensures { IfSome result (λ part. IsEndOfPart arena.now None view.now first part) }
+    requires here { first.place < length source.now.view.now }
+    requires item { get_or source.now.view.now first.place 0 ≡ first.id.0 }
+    requires known { IsKnownRow source.now.arena.now first.id.0 known }
+    ensures { IfSome result (λ part. IsEndOfPart source.now.arena.now None source.now.view.now first.place part) }
 {
+    let view = source.view;
     let count = view.len();
+    let place = first.place;
     let last = known.seen - 1;
-    let behind = last - id.0;
-    if behind >= count - first || view.at_near(first + behind, segment).0 != last {
+    let behind = last - first.id.0;
+    if behind >= count - place || view.at_near(place + behind, segment).0 != last {
         return None;
     }
     Some(PartsEnd {
-        end: first + (known.end - id.0),
-        told: Some(first + behind + 1),
+        end: place + (known.end - first.id.0),
+        told: Some(place + behind + 1),
         inside: None,
-    })
-}
-
-/// What is known of a part that begins at a place with this item, where its items and those that tell its end stand in
-/// a row.
-fn noted_row(
-    arena: &TokenArena<'_, '_>,
-    view: &View<'_>,
-    first: u32,
-    id: TokenId,
-    end: u32,
-    seen: u32,
-    segment: &mut usize,
-) -> Option<KnownRow>
-    requires within { AreWithin arena.now view.now }
-    requires item { (d : ℕ) → get_or view.now first d ≡ id.0 }
-    requires some { first < end }
-    requires later { end < seen }
-    requires inside { seen ≤ length view.now }
-    requires ends { EndsBehind arena.now None (slice_range view.now first seen)
-        (record { count = end - first; inside = None }) }
-    ensures known { IfSome result (λ known. IsKnownRow arena.now id.0 known) }
-    ensures row { IfSome result (λ known. HasRow view.now first end id.0 known) }
-{
-    let count = view.len();
-    let items = arena.len();
-    let last = view.at_near(seen - 1, segment);
-    prove!(last.0 < items);
-    if last.0 < id.0 || last.0 - id.0 != seen - 1 - first {
-        return None;
-    }
-    Some(KnownRow {
-        end: id.0 + (end - first),
-        seen: last.0 + 1,
     })
 }
 
@@ -170,17 +161,17 @@ fn has_items(view: &View<'_>, first: u32, items: &View<'_>, segment: &mut usize)
 
 /// The end of the part that begins at a place, where the view has the items of the span with this number.
 fn recalled_span(
-    arena: &TokenArena<'_, '_>,
-    view: &View<'_>,
+    source: &PartSource<'_>,
     first: u32,
     number: u32,
     spans: &KnownSpans<'_>,
     segment: &mut usize,
 ) -> Option<PartsEnd<'static>>
-    requires here { first < length view.now }
-    requires known { AreSpans arena.now spans.now.spans.items }
-    ensures { IfSome result (λ part. IsEndOfPart arena.now None view.now first part) }
+    requires here { first < length source.now.view.now }
+    requires known { AreSpans source.now.arena.now spans.now.spans.items }
+    ensures { IfSome result (λ part. IsEndOfPart source.now.arena.now None source.now.view.now first part) }
 {
+    let view = source.view;
     let count = view.len();
     prove!(first < count);
     let number = number as usize;
@@ -198,240 +189,230 @@ fn recalled_span(
     })
 }
 
-/// The end of the part that begins at a place with this item, of which this is known, where the view has the items that
-/// tell it.
+/// The end of the part that begins with this item, of which this is known, where the view has the items that tell it.
 fn recalled(
-    arena: &TokenArena<'_, '_>,
-    view: &View<'_>,
-    first: u32,
-    id: TokenId,
+    source: &PartSource<'_>,
+    first: FirstItem,
     known: KnownEnd,
     spans: &KnownSpans<'_>,
     segment: &mut usize,
 ) -> Option<PartsEnd<'static>>
-    requires here { first < length view.now }
-    requires item { (d : ℕ) → get_or view.now first d ≡ id.0 }
-    requires known { IsKnown arena.now id.0 known }
-    requires spans { AreSpans arena.now spans.now.spans.items }
-    ensures { IfSome result (λ part. IsEndOfPart arena.now None view.now first part) }
+    requires here { first.place < length source.now.view.now }
+    requires item { get_or source.now.view.now first.place 0 ≡ first.id.0 }
+    requires known { IsKnown source.now.arena.now first.id.0 known }
+    requires spans { AreSpans source.now.arena.now spans.now.spans.items }
+    ensures { IfSome result (λ part. IsEndOfPart source.now.arena.now None source.now.view.now first.place part) }
 {
     match known {
         KnownEnd::Unknown | KnownEnd::InRows(_) => None,
-        KnownEnd::InRow(row) => recalled_row(arena, view, first, id, row, segment),
-        KnownEnd::InSpan(number) => recalled_span(arena, view, first, number, spans, segment),
+        KnownEnd::InRow(row) => recalled_row(source, first, row, segment),
+        KnownEnd::InSpan(number) => recalled_span(source, first.place, number, spans, segment),
     }
 }
 
-/// Notes a part that stands in no row, where there is room.
+/// What is known of a part whose items, and those that tell its end, stand in a row.
+fn noted_row(source: &PartSource<'_>, part: &ToldPart, segment: &mut usize) -> Option<KnownRow>
+    requires within { AreWithin source.now.arena.now source.now.view.now }
+    requires told { IsToldPart source.now.arena.now source.now.view.now part.now }
+    ensures known { IfSome result (λ known. IsKnownRow source.now.arena.now part.now.first.id.0 known) }
+    ensures row { IfSome result
+        (λ known. HasRow source.now.view.now part.now.first.place part.now.end part.now.first.id.0 known) }
+{
+    let view = source.view;
+    let first = part.first;
+    let count = view.len();
+    let items = source.arena.len();
+    let last = view.at_near(part.told - 1, segment);
+    prove!(last.0 < items);
+    if last.0 < first.id.0 || last.0 - first.id.0 != part.told - 1 - first.place {
+        return None;
+    }
+    Some(KnownRow {
+        end: first.id.0 + (part.end - first.place),
+        seen: last.0 + 1,
+    })
+}
+
+/// Notes a part that stands in so many segments, where there is room.
 fn noted_span<'k>(
-    arena: &TokenArena<'_, '_>,
-    view: &View<'_>,
-    first: u32,
-    end: u32,
-    seen: u32,
+    source: &PartSource<'_>,
+    part: &ToldPart,
     segments: usize,
     spans: &mut KnownSpans<'k>,
-    keep: &'k Bump,
 ) -> Result<KnownEnd, NoMemory>
-    requires some { first < end }
-    requires later { end < seen }
-    requires inside { seen ≤ length view.now }
-    requires ends { EndsBehind arena.now None (slice_range view.now first seen)
-        (record { count = end - first; inside = None }) }
-    requires known { AreSpans arena.now spans.old.spans.items }
-    ensures end { IfOk result (λ known. (id : ℕ) → IsKnown arena.now id known) }
-    ensures row { IfOk result (λ known. (id : ℕ) → IsRowAt view.now first end id known) }
-    ensures known { OnOk result (AreSpans arena.now spans.new.spans.items) }
+    requires told { IsToldPart source.now.arena.now source.now.view.now part.now }
+    requires known { AreSpans source.now.arena.now spans.old.spans.items }
+    ensures end { IfOk result (λ known. IsKnown source.now.arena.now part.now.first.id.0 known) }
+    ensures row { IfOk result
+        (λ known. IsRowAt source.now.view.now part.now.first.place part.now.end part.now.first.id.0 known) }
+    ensures known { OnOk result (AreSpans source.now.arena.now spans.new.spans.items) }
 {
     let number = spans.spans.len();
     if segments > spans.left || number > u32::MAX as usize {
         return Ok(KnownEnd::Unknown);
     }
-    let told = view.part(first, seen, keep)?;
+    let first = part.first.place;
+    let told = source.view.part(first, part.told, spans.keep)?;
     spans.left -= segments;
     spans.spans.push(KnownSpan {
-        count: end - first,
+        count: part.end - first,
         told,
     })?;
     Ok(KnownEnd::InSpan(number as u32))
 }
 
-/// What is known of a part that begins at a place with this item, in the segment with the number `begun`. A part that
-/// stands in no row is noted.
+/// What is known of a part. One that stands in no row is noted.
 fn noted_part<'k>(
-    arena: &TokenArena<'_, '_>,
-    view: &View<'_>,
-    first: u32,
-    id: TokenId,
-    end: u32,
-    seen: u32,
-    begun: usize,
+    source: &PartSource<'_>,
+    part: &ToldPart,
     spans: &mut KnownSpans<'k>,
-    keep: &'k Bump,
     segment: &mut usize,
 ) -> Result<KnownEnd, NoMemory>
-    requires within { AreWithin arena.now view.now }
-    requires item { (d : ℕ) → get_or view.now first d ≡ id.0 }
-    requires some { first < end }
-    requires later { end < seen }
-    requires inside { seen ≤ length view.now }
-    requires ends { EndsBehind arena.now None (slice_range view.now first seen)
-        (record { count = end - first; inside = None }) }
-    requires known { AreSpans arena.now spans.old.spans.items }
-    ensures end { IfOk result (λ known. IsKnown arena.now id.0 known) }
-    ensures row { IfOk result (λ known. IsRowAt view.now first end id.0 known) }
-    ensures known { OnOk result (AreSpans arena.now spans.new.spans.items) }
+    requires within { AreWithin source.now.arena.now source.now.view.now }
+    requires told { IsToldPart source.now.arena.now source.now.view.now part.now }
+    requires known { AreSpans source.now.arena.now spans.old.spans.items }
+    ensures end { IfOk result (λ known. IsKnown source.now.arena.now part.now.first.id.0 known) }
+    ensures row { IfOk result
+        (λ known. IsRowAt source.now.view.now part.now.first.place part.now.end part.now.first.id.0 known) }
+    ensures known { OnOk result (AreSpans source.now.arena.now spans.new.spans.items) }
 {
-    if let Some(row) = noted_row(arena, view, first, id, end, seen, segment) {
+    if let Some(row) = noted_row(source, part, segment) {
         return Ok(KnownEnd::InRow(row));
     }
     match spans.least {
-        Some(least) if seen - first >= least => {
-            let segments = segment.saturating_sub(begun);
-            noted_span(arena, view, first, end, seen, segments, spans, keep)
+        Some(least) if part.told - part.first.place >= least => {
+            let segments = segment.saturating_sub(part.first.segment);
+            noted_span(source, part, segments, spans)
         }
         _ => Ok(KnownEnd::Unknown),
     }
 }
 
-/// Notes a part that begins at a place with this item, in the segment with the number `begun`, where it ends outside
-/// brackets and items tell so.
+/// Notes a part that begins with this item, where it ends outside brackets and items tell so.
 fn note_part<'k>(
-    arena: &TokenArena<'_, '_>,
-    view: &View<'_>,
-    first: u32,
-    id: TokenId,
-    part: &PartEnd<'k>,
-    begun: usize,
+    source: &PartSource<'_>,
+    first: FirstItem,
+    part: &PartsEnd<'k>,
     known: &mut KnownEnds<'_>,
     spans: &mut KnownSpans<'k>,
-    keep: &'k Bump,
     segment: &mut usize,
 ) -> Result<(), NoMemory>
-    requires within { AreWithin arena.now view.now }
-    requires item { (d : ℕ) → get_or view.now first d ≡ id.0 }
-    requires stored { id.0 < length known.old }
-    requires some { first < part.now.end }
-    requires later { ForSome part.now.seen (λ seen. part.now.end < seen) }
-    requires below { ForSome part.now.seen (λ seen. seen ≤ length view.now) }
-    requires ends { ForSome part.now.seen (λ seen.
-        EndsBehind arena.now None (slice_range view.now first seen)
-        (record { count = part.now.end - first; inside = place_in part.now.inside })) }
-    requires known { AreKnown arena.now known.old }
-    requires spans { AreSpans arena.now spans.old.spans.items }
-    ensures untold { ForNone part.now.seen (known.new ≡ known.old) }
-    ensures known { AreKnown arena.now known.new }
-    ensures rows { AreRowsFrom known.old view.now first part.now.end known.new }
-    ensures spans { OnOk result (AreSpans arena.now spans.new.spans.items) }
+    requires within { AreWithin source.now.arena.now source.now.view.now }
+    requires item { get_or source.now.view.now first.place 0 ≡ first.id.0 }
+    requires stored { first.id.0 < length known.old }
+    requires some { first.place < part.now.end }
+    requires later { ForSome part.now.told (λ told. part.now.end < told) }
+    requires below { ForSome part.now.told (λ told. told ≤ length source.now.view.now) }
+    requires ends { ForSome part.now.told (λ told.
+        EndsBehind source.now.arena.now None (slice_range source.now.view.now first.place told)
+        (record { count = part.now.end - first.place; inside = place_in part.now.inside })) }
+    requires known { AreKnown source.now.arena.now known.old }
+    requires spans { AreSpans source.now.arena.now spans.old.spans.items }
+    ensures untold { ForNone part.now.told (known.new ≡ known.old) }
+    ensures known { AreKnown source.now.arena.now known.new }
+    ensures rows { AreRowsFrom known.old source.now.view.now first.place part.now.end known.new }
+    ensures spans { OnOk result (AreSpans source.now.arena.now spans.new.spans.items) }
 {
-    let Some(seen) = part.seen else {
+    let Some(told) = part.told else {
         return Ok(());
     };
     if part.inside.is_some() {
         return Ok(());
     }
-    let end = noted_part(
-        arena, view, first, id, part.end, seen, begun, spans, keep, segment,
-    )?;
-    known.set(id, end)
+    let end = part.end;
+    let noted = noted_part(source, &ToldPart { first, end, told }, spans, segment)?;
+    known.set(first.id, noted)
 }
 
-/// Where the part ends that begins at a place with this item, outside brackets, for which there is a place for what is
-/// known of it. Where nothing is known yet it is noted.
+/// Where the part ends that begins with this item, outside brackets, for which there is a place for what is known of
+/// it. Where nothing is known yet it is noted.
 fn noted_part_end<'k>(
-    arena: &TokenArena<'_, '_>,
-    view: &View<'_>,
-    all: &[TokenClass],
-    first: u32,
-    id: TokenId,
+    source: &PartSource<'_>,
+    first: FirstItem,
     known: &mut KnownEnds<'_>,
     spans: &mut KnownSpans<'k>,
-    keep: &'k Bump,
     segment: &mut usize,
     room: &Bump,
 ) -> Result<PartsEnd<'k>, NoMemory>
-    requires within { AreWithin arena.now view.now }
-    requires all { all.now ≡ item_classes arena.now }
-    requires here { first < length view.now }
-    requires item { (d : ℕ) → get_or view.now first d ≡ id.0 }
-    requires stored { id.0 < length known.old }
-    requires known { AreKnown arena.now known.old }
-    requires spans { AreSpans arena.now spans.old.spans.items }
-    ensures part { IfOk result (λ part. IsEndOfPart arena.now None view.now first part) }
+    requires within { AreWithin source.now.arena.now source.now.view.now }
+    requires all { source.now.classes.now ≡ item_classes source.now.arena.now }
+    requires here { first.place < length source.now.view.now }
+    requires item { get_or source.now.view.now first.place 0 ≡ first.id.0 }
+    requires stored { first.id.0 < length known.old }
+    requires known { AreKnown source.now.arena.now known.old }
+    requires spans { AreSpans source.now.arena.now spans.old.spans.items }
+    ensures part { IfOk result
+        (λ part. IsEndOfPart source.now.arena.now None source.now.view.now first.place part) }
     ensures untold { IfOk result (λ part. ForNone part.told (known.new ≡ known.old)) }
-    ensures known { AreKnown arena.now known.new }
-    ensures rows { IfOk result (λ part. AreRowsFrom known.old view.now first part.end known.new) }
-    ensures spans { OnOk result (AreSpans arena.now spans.new.spans.items) }
+    ensures known { AreKnown source.now.arena.now known.new }
+    ensures rows { IfOk result
+        (λ part. AreRowsFrom known.old source.now.view.now first.place part.end known.new) }
+    ensures spans { OnOk result (AreSpans source.now.arena.now spans.new.spans.items) }
 {
-    let begun = *segment;
-    if let Some(part) = recalled(arena, view, first, id, known.get(id), spans, segment) {
+    let id = first.id;
+    if let Some(part) = recalled(source, first, known.get(id), spans, segment) {
         return Ok(part);
     }
-    let part = part_end(arena, view, all, None, first, segment, keep, room)?;
-    note_part(
-        arena, view, first, id, &part, begun, known, spans, keep, segment,
-    )?;
-    let PartEnd { end, seen, inside } = part;
-    Ok(PartsEnd {
-        end,
-        told: seen,
-        inside,
-    })
+    let start = PartStart {
+        first: first.place,
+        inside: None,
+    };
+    let part = part_end(source, start, segment, spans.keep, room)?;
+    note_part(source, first, &part, known, spans, segment)?;
+    Ok(part)
 }
 
-/// Where the part of a view ends that begins at a place, as [`part_end`](crate::part_end) says, and which items tell
-/// so. Where it is known, that takes one step. Want of memory is the only error.
+/// Where the part of a view ends that begins there, as [`part_end`](crate::part_end) says, and which items tell so.
+/// Where it is known, that takes one step. Want of memory is the only error.
 ///
 /// `known` has what is known for each item of the text, or for none where nothing is to be kept. `segment` is kept from
 /// one place of a view to the next, and starts at 0.
 pub fn known_part_end<'k>(
-    arena: &TokenArena<'_, '_>,
-    view: &View<'_>,
-    all: &[TokenClass],
-    begins: Option<BodyPlace<'k>>,
-    first: u32,
+    source: &PartSource<'_>,
+    begin: PartStart<'k>,
     known: &mut KnownEnds<'_>,
     spans: &mut KnownSpans<'k>,
-    keep: &'k Bump,
     segment: &mut usize,
     room: &Bump,
 ) -> Result<PartsEnd<'k>, NoMemory>
-    requires within { AreWithin arena.now view.now }
-    requires all { all.now ≡ item_classes arena.now }
-    requires here { first < length view.now }
-    requires begins { ForSome (place_in begins) (λ place. StandsBefore place (get_or view.now first 0)) }
-    requires known { AreKnown arena.now known.old }
-    requires spans { AreSpans arena.now spans.old.spans.items }
-    ensures end { IfOk result
-        (λ part. part.end ≡ first + part_len arena.now (place_in begins.entry) (drop first view.now)) }
-    ensures begun { IfOk result
-        (λ part. place_in part.inside ≡ part_inside arena.now (place_in begins.entry) (drop first view.now)) }
-    ensures place { IfOk result
-        (λ part. ForSome (place_in part.inside) (λ place. StandsBefore place (get_or view.now part.end 0))) }
-    ensures some { IfOk result (λ part. first < part.end) }
-    ensures inside { IfOk result (λ part. part.end ≤ length view.now) }
+    requires within { AreWithin source.now.arena.now source.now.view.now }
+    requires all { source.now.classes.now ≡ item_classes source.now.arena.now }
+    requires here { begin.first < length source.now.view.now }
+    requires begins { ForSome (place_in begin.inside)
+        (λ place. StandsBefore place (get_or source.now.view.now begin.first 0)) }
+    requires known { AreKnown source.now.arena.now known.old }
+    requires spans { AreSpans source.now.arena.now spans.old.spans.items }
+    ensures end { IfOk result (λ part. part.end ≡ begin.entry.first
+        + part_len source.now.arena.now (place_in begin.entry.inside) (drop begin.entry.first source.now.view.now)) }
+    ensures begun { IfOk result (λ part. place_in part.inside
+        ≡ part_inside source.now.arena.now (place_in begin.entry.inside) (drop begin.entry.first source.now.view.now)) }
+    ensures place { IfOk result (λ part.
+        ForSome (place_in part.inside) (λ place. StandsBefore place (get_or source.now.view.now part.end 0))) }
+    ensures some { IfOk result (λ part. begin.entry.first < part.end) }
+    ensures inside { IfOk result (λ part. part.end ≤ length source.now.view.now) }
     ensures told { IfOk result (λ part.
         ForSome part.told (λ told.
-        TellParts arena.now (place_in begins.entry) (slice_range view.now first told) (part.end - first)
+        TellParts source.now.arena.now (place_in begin.entry.inside)
+        (slice_range source.now.view.now begin.entry.first told) (part.end - begin.entry.first)
         (place_in part.inside))) }
     ensures later { IfOk result (λ part. ForSome part.told (λ told. part.end < told)) }
-    ensures below { IfOk result (λ part. ForSome part.told (λ told. told ≤ length view.now)) }
-    ensures whole { IfOk result (λ part. ForNone part.told (part.end ≡ length view.now)) }
+    ensures below { IfOk result (λ part. ForSome part.told (λ told. told ≤ length source.now.view.now)) }
+    ensures whole { IfOk result (λ part. ForNone part.told (part.end ≡ length source.now.view.now)) }
     ensures untold { IfOk result (λ part. ForNone part.told (known.new ≡ known.old)) }
-    ensures known { AreKnown arena.now known.new }
-    ensures rows { IfOk result (λ part. AreRowsFrom known.old view.now first part.end known.new) }
-    ensures spans { OnOk result (AreSpans arena.now spans.new.spans.items) }
+    ensures known { AreKnown source.now.arena.now known.new }
+    ensures rows { IfOk result
+        (λ part. AreRowsFrom known.old source.now.view.now begin.entry.first part.end known.new) }
+    ensures spans { OnOk result (AreSpans source.now.arena.now spans.new.spans.items) }
 {
-    let id = view.at_near(first, segment);
-    if begins.is_none() && known.has_place(id) {
-        return noted_part_end(
-            arena, view, all, first, id, known, spans, keep, segment, room,
-        );
+    let place = begin.first;
+    let id = source.view.at_near(place, segment);
+    if begin.inside.is_none() && known.has_place(id) {
+        let first = FirstItem {
+            place,
+            id,
+            segment: *segment,
+        };
+        return noted_part_end(source, first, known, spans, segment, room);
     }
-    let part = part_end(arena, view, all, begins, first, segment, keep, room)?;
-    Ok(PartsEnd {
-        end: part.end,
-        told: part.seen,
-        inside: part.inside,
-    })
+    part_end(source, begin, segment, spans.keep, room)
 }

@@ -13,7 +13,7 @@ mod notes;
 mod row;
 
 pub use body::laid_view;
-pub use ends::{PartEnd, part_end};
+pub use ends::{PartSource, PartStart, part_end};
 pub use joined::{join_rows, known_parts_end};
 pub use known::{KnownEnd, KnownRow, KnownSpan, KnownSpans, PartsEnd, known_part_end};
 pub use line_tokens::NoMemory;

@@ -58,36 +58,36 @@ no_body arena walk next stands bodies id class passes told is goes = sym (opened
 
 pub loop-walk-init : goal.loop-walk-init
 loop-walk-init c =
-    let begins = place_in c.args.begins in
+    let begins = place_in c.args.begin.inside in
     let heads = heads_at begins in
     let opens = c.in_ok-brackets.ensures in
     let bodies_are = ap (λ (hs : List Head). reverse hs) opens.bodies in
     let waits = ap (λ (os : List Opener). reverse os) opens.waiting ∙ braces_turned heads in
     record {
-      read = read_first c.args.arena.now begins c.args.view.now c.args.first _ _ _ _ c.start-walk.ensures bodies_are waits opens.braces c.requires.begins;
+      read = read_first c.args.source.now.arena.now begins c.args.source.now.view.now c.args.begin.first _ _ _ _ c.start-walk.ensures bodies_are waits opens.braces c.requires.begins;
       stands = opens.around;
       row = record { inside = omega arith; fits = omega arith; items = λ k after before. absurd (omega (arith, before)) };
     }
 
 pub pass_quiet-next-requires : goal.pass_quiet-next-requires
 pass_quiet-next-requires c =
-    let whole : length c.args.all.now ≡ length c.args.arena.now.tokens = ap (λ (cs : List TokenClass). length cs) c.requires.all ∙ length-map c.args.arena.now.tokens (class_of c.args.arena.now.dialect) in
+    let whole : length c.args.source.now.classes.now ≡ length c.args.source.now.arena.now.tokens = ap (λ (cs : List TokenClass). length cs) c.requires.all ∙ length-map c.args.source.now.arena.now.tokens (class_of c.args.source.now.arena.now.dialect) in
     record {
-      here = stands_here c.args.first c.loop-walk.walk.place c.len-count.result (length c.args.view.now) c.loop-walk-test.true c.len-count.ensures.count;
+      here = stands_here c.args.begin.first c.loop-walk.walk.place c.len-count.result (length c.args.source.now.view.now) c.loop-walk-test.true c.len-count.ensures.count;
       few = omega (arith, c.len-count.ensures.count);
       increase = c.len-count.ensures.increase;
       row = c.loop-walk.invariant.row;
-      items = subst (λ n. All (λ id. id < n) c.args.view.now) (sym whole) c.requires.within;
+      items = subst (λ n. All (λ id. id < n) c.args.source.now.view.now) (sym whole) c.requires.within;
       fits = omega (arith, whole, c.len-items.ensures.count);
     }
 
 pub loop-walk-preserved-in_default : goal.loop-walk-preserved-in_default
 loop-walk-preserved-in_default c =
-    let arena = c.args.arena.now in
-    let view = c.args.view.now in
-    let begins = place_in c.args.begins in
-    let first = c.args.first in
-    let all = c.args.all.now in
+    let arena = c.args.source.now.arena.now in
+    let view = c.args.source.now.view.now in
+    let begins = place_in c.args.begin.inside in
+    let first = c.args.begin.first in
+    let all = c.args.source.now.classes.now in
     let walk = c.pass_quiet-next.new.walk in
     let row = c.pass_quiet-next.new.row in
     let bodies = reverse c.loop-walk.brackets.bodies.items in
@@ -103,14 +103,14 @@ loop-walk-preserved-in_default c =
 
 pub prove-unreachable-requires : goal.prove-unreachable-requires
 prove-unreachable-requires c =
-    let stored = row_stored c.args.view.now (c.args.first + c.loop-walk.walk.place) (length c.args.arena.now.tokens) c.pass_quiet-next.new.row c.requires.within c.pass_quiet-next.ensures.some c.pass_quiet-next.ensures.row in
+    let stored = row_stored c.args.source.now.view.now (c.args.begin.first + c.loop-walk.walk.place) (length c.args.source.now.arena.now.tokens) c.pass_quiet-next.new.row c.requires.within c.pass_quiet-next.ensures.some c.pass_quiet-next.ensures.row in
     (let below = c.pass_quiet-next.ensures.below _ c.in-Some.is in let item = c.pass_quiet-next.ensures.item _ c.in-Some.is in omega (arith, stored, below, item, c.if-prove.true, c.len-items.ensures.count))
 
 pub pass_open_brace-requires : goal.pass_open_brace-requires
 pass_open_brace-requires c =
-    let arena = c.args.arena.now in
-    let view = c.args.view.now in
-    let first = c.args.first in
+    let arena = c.args.source.now.arena.now in
+    let view = c.args.source.now.view.now in
+    let first = c.args.begin.first in
     let walk = c.pass_quiet-next.new.walk in
     let row = c.pass_quiet-next.new.row in
     let quiet = c.pass_quiet-next.ensures in
@@ -121,9 +121,9 @@ pass_open_brace-requires c =
 
 pub read-requires : goal.read-requires
 read-requires c =
-    let arena = c.args.arena.now in
-    let view = c.args.view.now in
-    let first = c.args.first in
+    let arena = c.args.source.now.arena.now in
+    let view = c.args.source.now.view.now in
+    let first = c.args.begin.first in
     let walk = c.pass_quiet-next.new.walk in
     let row = c.pass_quiet-next.new.row in
     let quiet = c.pass_quiet-next.ensures in
@@ -134,11 +134,11 @@ read-requires c =
 
 pub pass-requires : goal.pass-requires
 pass-requires c =
-    let arena = c.args.arena.now in
-    let view = c.args.view.now in
-    let begins = place_in c.args.begins in
-    let first = c.args.first in
-    let all = c.args.all.now in
+    let arena = c.args.source.now.arena.now in
+    let view = c.args.source.now.view.now in
+    let begins = place_in c.args.begin.inside in
+    let first = c.args.begin.first in
+    let all = c.args.source.now.classes.now in
     let walk = c.pass_quiet-next.new.walk in
     let row = c.pass_quiet-next.new.row in
     let bodies = reverse c.loop-walk.brackets.bodies.items in
@@ -161,11 +161,11 @@ pass-requires c =
 
 pub pass-requires-in-loop-walk : goal.pass-requires-in-loop-walk
 pass-requires-in-loop-walk c =
-    let arena = c.args.arena.now in
-    let view = c.args.view.now in
-    let begins = place_in c.args.begins in
-    let first = c.args.first in
-    let all = c.args.all.now in
+    let arena = c.args.source.now.arena.now in
+    let view = c.args.source.now.view.now in
+    let begins = place_in c.args.begin.inside in
+    let first = c.args.begin.first in
+    let all = c.args.source.now.classes.now in
     let walk = c.pass_quiet-next.new.walk in
     let row = c.pass_quiet-next.new.row in
     let bodies = reverse c.loop-walk.brackets.bodies.items in
@@ -188,9 +188,9 @@ pass-requires-in-loop-walk c =
 
 pub opened_head-opened-requires : goal.opened_head-opened-requires
 opened_head-opened-requires c =
-    let arena = c.args.arena.now in
-    let view = c.args.view.now in
-    let first = c.args.first in
+    let arena = c.args.source.now.arena.now in
+    let view = c.args.source.now.view.now in
+    let first = c.args.begin.first in
     let walk = c.pass_quiet-next.new.walk in
     let row = c.pass_quiet-next.new.row in
     let quiet = c.pass_quiet-next.ensures in
@@ -204,11 +204,11 @@ opened_head-opened-requires c =
 
 pub told-requires-clause-within : goal.told-requires-clause-within
 told-requires-clause-within c =
-    let arena = c.args.arena.now in
-    let view = c.args.view.now in
-    let begins = place_in c.args.begins in
-    let first = c.args.first in
-    let all = c.args.all.now in
+    let arena = c.args.source.now.arena.now in
+    let view = c.args.source.now.view.now in
+    let begins = place_in c.args.begin.inside in
+    let first = c.args.begin.first in
+    let all = c.args.source.now.classes.now in
     let walk = c.pass_quiet-next.new.walk in
     let row = c.pass_quiet-next.new.row in
     let bodies = reverse c.loop-walk.brackets.bodies.items in
@@ -227,11 +227,11 @@ told-requires-clause-within c =
 
 pub returns-in-EndsOutside : goal.returns-in-EndsOutside
 returns-in-EndsOutside c =
-    let arena = c.args.arena.now in
-    let view = c.args.view.now in
-    let begins = place_in c.args.begins in
-    let first = c.args.first in
-    let all = c.args.all.now in
+    let arena = c.args.source.now.arena.now in
+    let view = c.args.source.now.view.now in
+    let begins = place_in c.args.begin.inside in
+    let first = c.args.begin.first in
+    let all = c.args.source.now.classes.now in
     let walk = c.pass_quiet-next.new.walk in
     let row = c.pass_quiet-next.new.row in
     let bodies = reverse c.loop-walk.brackets.bodies.items in
@@ -246,16 +246,16 @@ returns-in-EndsOutside c =
     let ended = outside_at c.in-EndsOutside.ended in
     let told : told_by walk bodies read ≡ Some ended = ap (λ (o : Outcome). told_by walk bodies (read_so o c.read.new.walk)) c.in-EndsOutside.is in
     let ends = ends_item arena begins view all first walk bodies waiting c.loop-walk.brackets.braces id row read stands _ ended c.requires.within c.requires.all c.requires.begins here c.read.ensures.read told item in
-    let at = ends_at arena begins view first walk.place ended _ _ _ c.len-count.ensures.increase c.requires.begins c.told.ensures.end c.told.ensures.seen c.told.ensures.inside ends in
-    record { end = at.end_is; inside = at.inside_is; place = at.place; some = at.some; within = at.within; seen = at.told; later = at.later; below = at.below; whole = at.whole }
+    let at = ends_at arena begins view first walk.place ended _ _ _ c.len-count.ensures.increase c.requires.begins c.told.ensures.end c.told.ensures.told c.told.ensures.inside ends in
+    record { end = at.end_is; inside = at.inside_is; place = at.place; some = at.some; within = at.within; told = at.told; later = at.later; below = at.below; whole = at.whole }
 
 pub told-requires-in-EndsInBody-clause-within : goal.told-requires-in-EndsInBody-clause-within
 told-requires-in-EndsInBody-clause-within c =
-    let arena = c.args.arena.now in
-    let view = c.args.view.now in
-    let begins = place_in c.args.begins in
-    let first = c.args.first in
-    let all = c.args.all.now in
+    let arena = c.args.source.now.arena.now in
+    let view = c.args.source.now.view.now in
+    let begins = place_in c.args.begin.inside in
+    let first = c.args.begin.first in
+    let all = c.args.source.now.classes.now in
     let walk = c.pass_quiet-next.new.walk in
     let row = c.pass_quiet-next.new.row in
     let bodies = reverse c.loop-walk.brackets.bodies.items in
@@ -274,11 +274,11 @@ told-requires-in-EndsInBody-clause-within c =
 
 pub returns-in-EndsInBody : goal.returns-in-EndsInBody
 returns-in-EndsInBody c =
-    let arena = c.args.arena.now in
-    let view = c.args.view.now in
-    let begins = place_in c.args.begins in
-    let first = c.args.first in
-    let all = c.args.all.now in
+    let arena = c.args.source.now.arena.now in
+    let view = c.args.source.now.view.now in
+    let begins = place_in c.args.begin.inside in
+    let first = c.args.begin.first in
+    let all = c.args.source.now.classes.now in
     let walk = c.pass_quiet-next.new.walk in
     let row = c.pass_quiet-next.new.row in
     let bodies = reverse c.loop-walk.brackets.bodies.items in
@@ -296,16 +296,16 @@ returns-in-EndsInBody c =
     let same : place_of c.in_ok-inside-in-EndsInBody.inside ≡ place_behind walk bodies =
     c.in_ok-inside-in-EndsInBody.ensures ∙ (ap (λ (hs : List Head). place_behind c.read.new.walk (reverse hs)) c.deref-in-EndsInBody.ensures.value ∙ ap (λ (w : Walk). place_behind w bodies) c.in-EndsInBody.ensures.stays) in
     let inside = c.told-in-EndsInBody.ensures.inside ∙ ap (λ (p : Place). Some p) same in
-    let at = ends_at arena begins view first walk.place ended _ _ _ c.len-count.ensures.increase c.requires.begins c.told-in-EndsInBody.ensures.end c.told-in-EndsInBody.ensures.seen inside ends in
-    record { end = at.end_is; inside = at.inside_is; place = at.place; some = at.some; within = at.within; seen = at.told; later = at.later; below = at.below; whole = at.whole }
+    let at = ends_at arena begins view first walk.place ended _ _ _ c.len-count.ensures.increase c.requires.begins c.told-in-EndsInBody.ensures.end c.told-in-EndsInBody.ensures.told inside ends in
+    record { end = at.end_is; inside = at.inside_is; place = at.place; some = at.some; within = at.within; told = at.told; later = at.later; below = at.below; whole = at.whole }
 
 pub loop-walk-smaller : goal.loop-walk-smaller
 loop-walk-smaller c =
-    let arena = c.args.arena.now in
-    let view = c.args.view.now in
-    let begins = place_in c.args.begins in
-    let first = c.args.first in
-    let all = c.args.all.now in
+    let arena = c.args.source.now.arena.now in
+    let view = c.args.source.now.view.now in
+    let begins = place_in c.args.begin.inside in
+    let first = c.args.begin.first in
+    let all = c.args.source.now.classes.now in
     let walk = c.pass_quiet-next.new.walk in
     let row = c.pass_quiet-next.new.row in
     let bodies = reverse c.loop-walk.brackets.bodies.items in
@@ -328,11 +328,11 @@ loop-walk-smaller c =
 
 pub loop-walk-preserved : goal.loop-walk-preserved
 loop-walk-preserved c =
-    let arena = c.args.arena.now in
-    let view = c.args.view.now in
-    let begins = place_in c.args.begins in
-    let first = c.args.first in
-    let all = c.args.all.now in
+    let arena = c.args.source.now.arena.now in
+    let view = c.args.source.now.view.now in
+    let begins = place_in c.args.begin.inside in
+    let first = c.args.begin.first in
+    let all = c.args.source.now.classes.now in
     let walk = c.pass_quiet-next.new.walk in
     let row = c.pass_quiet-next.new.row in
     let bodies = reverse c.loop-walk.brackets.bodies.items in
@@ -360,11 +360,11 @@ loop-walk-preserved c =
 
 pub loop-walk-smaller-then-passes_brace : goal.loop-walk-smaller-then-passes_brace
 loop-walk-smaller-then-passes_brace c =
-    let arena = c.args.arena.now in
-    let view = c.args.view.now in
-    let begins = place_in c.args.begins in
-    let first = c.args.first in
-    let all = c.args.all.now in
+    let arena = c.args.source.now.arena.now in
+    let view = c.args.source.now.view.now in
+    let begins = place_in c.args.begin.inside in
+    let first = c.args.begin.first in
+    let all = c.args.source.now.classes.now in
     let walk = c.pass_quiet-next.new.walk in
     let row = c.pass_quiet-next.new.row in
     let bodies = reverse c.loop-walk.brackets.bodies.items in
@@ -387,11 +387,11 @@ loop-walk-smaller-then-passes_brace c =
 
 pub loop-walk-preserved-then-passes_brace : goal.loop-walk-preserved-then-passes_brace
 loop-walk-preserved-then-passes_brace c =
-    let arena = c.args.arena.now in
-    let view = c.args.view.now in
-    let begins = place_in c.args.begins in
-    let first = c.args.first in
-    let all = c.args.all.now in
+    let arena = c.args.source.now.arena.now in
+    let view = c.args.source.now.view.now in
+    let begins = place_in c.args.begin.inside in
+    let first = c.args.begin.first in
+    let all = c.args.source.now.classes.now in
     let walk = c.pass_quiet-next.new.walk in
     let row = c.pass_quiet-next.new.row in
     let bodies = reverse c.loop-walk.brackets.bodies.items in
@@ -420,24 +420,24 @@ loop-walk-preserved-then-passes_brace c =
 
 pub passed_body-requires : goal.passed_body-requires
 passed_body-requires c =
-    let arena = c.args.arena.now in
-    let view = c.args.view.now in
-    let first = c.args.first in
+    let arena = c.args.source.now.arena.now in
+    let view = c.args.source.now.view.now in
+    let first = c.args.begin.first in
     let walk = c.pass_quiet-next.new.walk in
     let row = c.pass_quiet-next.new.row in
     let quiet = c.pass_quiet-next.ensures in
-    let all = c.args.all.now in
+    let all = c.args.source.now.classes.now in
     let stored = row_stored view (first + c.loop-walk.walk.place) (length arena.tokens) row c.requires.within quiet.some quiet.row in
     let whole : length all ≡ length arena.tokens = ap (λ (cs : List TokenClass). length cs) c.requires.all ∙ length-map arena.tokens (class_of arena.dialect) in
     record { here = quiet.below _ c.in-Some.is; within = within_kept _ _ _ stored whole }
 
 pub loop-walk-smaller-in-GoesOn : goal.loop-walk-smaller-in-GoesOn
 loop-walk-smaller-in-GoesOn c =
-    let arena = c.args.arena.now in
-    let view = c.args.view.now in
-    let begins = place_in c.args.begins in
-    let first = c.args.first in
-    let all = c.args.all.now in
+    let arena = c.args.source.now.arena.now in
+    let view = c.args.source.now.view.now in
+    let begins = place_in c.args.begin.inside in
+    let first = c.args.begin.first in
+    let all = c.args.source.now.classes.now in
     let walk = c.pass_quiet-next.new.walk in
     let row = c.pass_quiet-next.new.row in
     let bodies = reverse c.loop-walk.brackets.bodies.items in
@@ -457,11 +457,11 @@ loop-walk-smaller-in-GoesOn c =
 
 pub loop-walk-preserved-in-GoesOn : goal.loop-walk-preserved-in-GoesOn
 loop-walk-preserved-in-GoesOn c =
-    let arena = c.args.arena.now in
-    let view = c.args.view.now in
-    let begins = place_in c.args.begins in
-    let first = c.args.first in
-    let all = c.args.all.now in
+    let arena = c.args.source.now.arena.now in
+    let view = c.args.source.now.view.now in
+    let begins = place_in c.args.begin.inside in
+    let first = c.args.begin.first in
+    let all = c.args.source.now.classes.now in
     let walk = c.pass_quiet-next.new.walk in
     let row = c.pass_quiet-next.new.row in
     let bodies = reverse c.loop-walk.brackets.bodies.items in
@@ -485,7 +485,7 @@ loop-walk-preserved-in-GoesOn c =
 
 pub loop-walk-smaller-in-Some-passed_body : goal.loop-walk-smaller-in-Some-passed_body
 loop-walk-smaller-in-Some-passed_body c =
-    let first = c.args.first in
+    let first = c.args.begin.first in
     let walk = c.pass_quiet-next.new.walk in
     let quiet = c.pass_quiet-next.ensures in
     let later : c.pass_body.new.self.place ≡ walk.place + 1 + c.in-Some-passed_body.len = ap (λ (w : Walk). w.place) c.pass_body.ensures in
@@ -493,11 +493,11 @@ loop-walk-smaller-in-Some-passed_body c =
 
 pub loop-walk-preserved-in-Some-passed_body : goal.loop-walk-preserved-in-Some-passed_body
 loop-walk-preserved-in-Some-passed_body c =
-    let arena = c.args.arena.now in
-    let view = c.args.view.now in
-    let begins = place_in c.args.begins in
-    let first = c.args.first in
-    let all = c.args.all.now in
+    let arena = c.args.source.now.arena.now in
+    let view = c.args.source.now.view.now in
+    let begins = place_in c.args.begin.inside in
+    let first = c.args.begin.first in
+    let all = c.args.source.now.classes.now in
     let walk = c.pass_quiet-next.new.walk in
     let row = c.pass_quiet-next.new.row in
     let bodies = reverse c.loop-walk.brackets.bodies.items in
@@ -529,27 +529,27 @@ loop-walk-preserved-in-Some-passed_body c =
 
 pub passed_group-requires : goal.passed_group-requires
 passed_group-requires c =
-    let arena = c.args.arena.now in
-    let view = c.args.view.now in
-    let first = c.args.first in
+    let arena = c.args.source.now.arena.now in
+    let view = c.args.source.now.view.now in
+    let first = c.args.begin.first in
     let walk = c.pass_quiet-next.new.walk in
     let row = c.pass_quiet-next.new.row in
     let quiet = c.pass_quiet-next.ensures in
-    let all = c.args.all.now in
+    let all = c.args.source.now.classes.now in
     let stored = row_stored view (first + c.loop-walk.walk.place) (length arena.tokens) row c.requires.within quiet.some quiet.row in
     let whole : length all ≡ length arena.tokens = ap (λ (cs : List TokenClass). length cs) c.requires.all ∙ length-map arena.tokens (class_of arena.dialect) in
     record { here = quiet.below _ c.in-Some.is; within = within_kept _ _ _ stored whole }
 
 pub pass_group-requires : goal.pass_group-requires
 pass_group-requires c =
-    let stored = row_stored c.args.view.now (c.args.first + c.loop-walk.walk.place) (length c.args.arena.now.tokens) c.pass_quiet-next.new.row c.requires.within c.pass_quiet-next.ensures.some c.pass_quiet-next.ensures.row in
+    let stored = row_stored c.args.source.now.view.now (c.args.begin.first + c.loop-walk.walk.place) (length c.args.source.now.arena.now.tokens) c.pass_quiet-next.new.row c.requires.within c.pass_quiet-next.ensures.some c.pass_quiet-next.ensures.row in
     let inside = c.in-Some-passed_group.ensures.within in
     let item = c.pass_quiet-next.ensures.item _ c.in-Some.is in
     omega (arith, stored, item, inside, c.len-items.ensures.count)
 
 pub loop-walk-smaller-in-Some-passed_group : goal.loop-walk-smaller-in-Some-passed_group
 loop-walk-smaller-in-Some-passed_group c =
-    let first = c.args.first in
+    let first = c.args.begin.first in
     let walk = c.pass_quiet-next.new.walk in
     let quiet = c.pass_quiet-next.ensures in
     let later : c.pass_group.new.self.place ≡ walk.place + 1 + c.in-Some-passed_group.len = ap (λ (w : Walk). w.place) c.pass_group.ensures in
@@ -557,11 +557,11 @@ loop-walk-smaller-in-Some-passed_group c =
 
 pub loop-walk-preserved-in-Some-passed_group : goal.loop-walk-preserved-in-Some-passed_group
 loop-walk-preserved-in-Some-passed_group c =
-    let arena = c.args.arena.now in
-    let view = c.args.view.now in
-    let begins = place_in c.args.begins in
-    let first = c.args.first in
-    let all = c.args.all.now in
+    let arena = c.args.source.now.arena.now in
+    let view = c.args.source.now.view.now in
+    let begins = place_in c.args.begin.inside in
+    let first = c.args.begin.first in
+    let all = c.args.source.now.classes.now in
     let walk = c.pass_quiet-next.new.walk in
     let row = c.pass_quiet-next.new.row in
     let bodies = reverse c.loop-walk.brackets.bodies.items in
@@ -600,7 +600,7 @@ returns-in_err-brackets c =
       place = no_value result _ err;
       some = no_value result _ err;
       within = no_value result _ err;
-      seen = no_value result _ err;
+      told = no_value result _ err;
       later = no_value result _ err;
       below = no_value result _ err;
       whole = no_value result _ err;
@@ -616,7 +616,7 @@ returns-in_err-pass c =
       place = no_value result _ err;
       some = no_value result _ err;
       within = no_value result _ err;
-      seen = no_value result _ err;
+      told = no_value result _ err;
       later = no_value result _ err;
       below = no_value result _ err;
       whole = no_value result _ err;
@@ -632,7 +632,7 @@ returns-in_err-pass-2 c =
       place = no_value result _ err;
       some = no_value result _ err;
       within = no_value result _ err;
-      seen = no_value result _ err;
+      told = no_value result _ err;
       later = no_value result _ err;
       below = no_value result _ err;
       whole = no_value result _ err;
@@ -648,7 +648,7 @@ returns-in_err-inside-in-EndsInBody c =
       place = no_value result _ err;
       some = no_value result _ err;
       within = no_value result _ err;
-      seen = no_value result _ err;
+      told = no_value result _ err;
       later = no_value result _ err;
       below = no_value result _ err;
       whole = no_value result _ err;
@@ -656,23 +656,23 @@ returns-in_err-inside-in-EndsInBody c =
 
 pub returns : goal.returns
 returns c =
-    let arena = c.args.arena.now in
-    let view = c.args.view.now in
-    let begins = place_in c.args.begins in
+    let arena = c.args.source.now.arena.now in
+    let view = c.args.source.now.view.now in
+    let begins = place_in c.args.begin.inside in
     let walk = c.loop-walk.walk in
     let bodies = reverse c.loop-walk.brackets.bodies.items in
     let waiting = reverse c.loop-walk.brackets.waiting.items in
-    let none : end_of_part arena begins (drop c.args.first view) ≡ None = elim c.loop-walk-test.branch [
-      | else-loop-walk-test w ↦ all_read arena begins (drop c.args.first view) walk bodies waiting (omega (arith, length-drop c.args.first view, w.loop-walk-test.false, c.len-count.ensures.count)) c.loop-walk.invariant.read.on
+    let none : end_of_part arena begins (drop c.args.begin.first view) ≡ None = elim c.loop-walk-test.branch [
+      | else-loop-walk-test w ↦ all_read arena begins (drop c.args.begin.first view) walk bodies waiting (omega (arith, length-drop c.args.begin.first view, w.loop-walk-test.false, c.len-count.ensures.count)) c.loop-walk.invariant.read.on
       | then-loop-walk-test+in-Some+else-prove+else-passes_brace+in-Never w ↦
           let here = c.loop-walk.invariant.stands in
           let walk = w.pass_quiet-next.new.walk in
           let quiet = w.pass_quiet-next.ensures in
-          let item = at_item arena begins view c.args.first c.loop-walk.walk walk bodies waiting c.loop-walk.brackets.braces c.loop-walk.brackets.around c.args.all.now w.in-Some.id.0 w.pass_quiet-next.new.row c.len-count.ensures.increase c.requires.within c.requires.all quiet.row quiet.place (quiet.below _ w.in-Some.is) (quiet.item _ w.in-Some.is) here quiet.quiet c.loop-walk.invariant.read in
+          let item = at_item arena begins view c.args.begin.first c.loop-walk.walk walk bodies waiting c.loop-walk.brackets.braces c.loop-walk.brackets.around c.args.source.now.classes.now w.in-Some.id.0 w.pass_quiet-next.new.row c.len-count.ensures.increase c.requires.within c.requires.all quiet.row quiet.place (quiet.below _ w.in-Some.is) (quiet.item _ w.in-Some.is) here quiet.quiet c.loop-walk.invariant.read in
           let read = read_so w.read.result w.read.new.walk in
-          let next = reads_item arena begins view c.args.all.now c.args.first walk bodies waiting c.loop-walk.brackets.braces w.in-Some.id.0 w.pass_quiet-next.new.row read c.loop-walk.brackets.around _ c.requires.within c.requires.all here w.read.ensures.read item in
-          never_ends arena begins (drop c.args.first view) walk bodies waiting read next.below (ap (λ (o : Outcome). read_so o w.read.new.walk) w.in-Never.is) next.read_is item.was.on
+          let next = reads_item arena begins view c.args.source.now.classes.now c.args.begin.first walk bodies waiting c.loop-walk.brackets.braces w.in-Some.id.0 w.pass_quiet-next.new.row read c.loop-walk.brackets.around _ c.requires.within c.requires.all here w.read.ensures.read item in
+          never_ends arena begins (drop c.args.begin.first view) walk bodies waiting read next.below (ap (λ (o : Outcome). read_so o w.read.new.walk) w.in-Never.is) next.read_is item.was.on
     ] in
-    let nowhere = ends_nowhere arena begins view c.args.first c.len-count.result c.requires.here c.len-count.ensures.count none in
-    let at = ends_with_view arena begins view c.args.first c.len-count.result _ _ _ c.requires.here c.len-count.ensures.count c.with_view.ensures.end c.with_view.ensures.seen c.with_view.ensures.inside nowhere in
-    record { end = at.end_is; inside = at.inside_is; place = at.place; some = at.some; within = at.within; seen = at.told; later = at.later; below = at.below; whole = at.whole }
+    let nowhere = ends_nowhere arena begins view c.args.begin.first c.len-count.result c.requires.here c.len-count.ensures.count none in
+    let at = ends_with_view arena begins view c.args.begin.first c.len-count.result _ _ _ c.requires.here c.len-count.ensures.count c.with_view.ensures.end c.with_view.ensures.told c.with_view.ensures.inside nowhere in
+    record { end = at.end_is; inside = at.inside_is; place = at.place; some = at.some; within = at.within; told = at.told; later = at.later; below = at.below; whole = at.whole }

@@ -7,9 +7,9 @@ use Rattle.view_parts.proofs.ends.part_end.Given as goal
 
 abbrev pub invariant-loop-walk : goal.invariant-loop-walk
 invariant-loop-walk l = record {
-  read : IsRead l.arena (place_in l.fn.begins) l.view l.first l.walk (reverse l.brackets.bodies.items) (reverse l.brackets.waiting.items) l.brackets.braces;
+  read : IsRead l.source.arena.now (place_in l.begins) l.source.view.now l.first l.walk (reverse l.brackets.bodies.items) (reverse l.brackets.waiting.items) l.brackets.braces;
   stands : l.brackets.around ≡ around_of (reverse l.brackets.bodies.items) (reverse l.brackets.waiting.items);
-  row : IsRow l.view (l.first + l.walk.place) l.row;
+  row : IsRow l.source.view.now (l.first + l.walk.place) l.row;
 }
 
 abbrev pub decreases-loop-walk : goal.decreases-loop-walk

@@ -8,21 +8,21 @@ use Rattle.view_parts.proofs.Rows.{row_stored}
 use Rattle.view_parts.proofs.ends.pass_quiet.Goals as goal
 
 pub quiet_from-quiet-requires-clause-within : goal.quiet_from-quiet-requires-clause-within
-quiet_from-quiet-requires-clause-within c = row_stored c.args.view.now (c.args.first + c.args.walk.now.place) (length c.args.all.now) c.item_at-id.new.row c.requires.items c.item_at-id.ensures.some c.item_at-id.ensures.row
+quiet_from-quiet-requires-clause-within c = row_stored c.args.source.now.view.now (c.args.first + c.args.walk.now.place) (length c.args.source.now.classes.now) c.item_at-id.new.row c.requires.items c.item_at-id.ensures.some c.item_at-id.ensures.row
 
 pub overflow_add-last : goal.overflow_add-last
 overflow_add-last c =
-    let stored = row_stored c.args.view.now (c.args.first + c.args.walk.now.place) (length c.args.all.now) c.item_at-id.new.row c.requires.items c.item_at-id.ensures.some c.item_at-id.ensures.row in
+    let stored = row_stored c.args.source.now.view.now (c.args.first + c.args.walk.now.place) (length c.args.source.now.classes.now) c.item_at-id.new.row c.requires.items c.item_at-id.ensures.some c.item_at-id.ensures.row in
     omega (arith, stored, c.requires.fits, c.item_at-id.ensures.shift, c.quiet_from-quiet.ensures.within, c.if-quiet-eq0.false)
 
 pub bounds-all-last : goal.bounds-all-last
 bounds-all-last c =
-    let stored = row_stored c.args.view.now (c.args.first + c.args.walk.now.place) (length c.args.all.now) c.item_at-id.new.row c.requires.items c.item_at-id.ensures.some c.item_at-id.ensures.row in
+    let stored = row_stored c.args.source.now.view.now (c.args.first + c.args.walk.now.place) (length c.args.source.now.classes.now) c.item_at-id.new.row c.requires.items c.item_at-id.ensures.some c.item_at-id.ensures.row in
     omega (arith, stored, c.item_at-id.ensures.shift, c.quiet_from-quiet.ensures.within, c.if-quiet-eq0.false)
 
 pub pass_quiet-requires : goal.pass_quiet-requires
 pass_quiet-requires c =
-    let stored = row_stored c.args.view.now (c.args.first + c.args.walk.now.place) (length c.args.all.now) c.item_at-id.new.row c.requires.items c.item_at-id.ensures.some c.item_at-id.ensures.row in
+    let stored = row_stored c.args.source.now.view.now (c.args.first + c.args.walk.now.place) (length c.args.source.now.classes.now) c.item_at-id.new.row c.requires.items c.item_at-id.ensures.some c.item_at-id.ensures.row in
     omega (arith, stored, c.requires.fits, c.item_at-id.ensures.shift, c.quiet_from-quiet.ensures.within, c.if-quiet-eq0.false)
 
 none_id : (id : TokenId) → Some id ≡ None → ⊥
@@ -36,7 +36,7 @@ returns-then-may_end c =
       some = at.some;
       place = omega arith;
       within = omega (arith, at.some);
-      quiet = none_passed c.args.all.now c.args.around c.args.walk.now _;
+      quiet = none_passed c.args.source.now.classes.now c.args.around c.args.walk.now _;
       behind = λ none. absurd (none_id _ none);
       below = λ next is. at.some;
       item = λ next is. ap (λ (id : TokenId). id.0) (sym (some_is _ _ is)) ∙ at.shift;
@@ -50,7 +50,7 @@ returns-then-quiet-eq0 c =
       some = at.some;
       place = omega arith;
       within = omega (arith, at.some);
-      quiet = none_passed c.args.all.now c.args.around c.args.walk.now _;
+      quiet = none_passed c.args.source.now.classes.now c.args.around c.args.walk.now _;
       behind = λ none. absurd (none_id _ none);
       below = λ next is. at.some;
       item = λ next is. ap (λ (id : TokenId). id.0) (sym (some_is _ _ is)) ∙ at.shift;
@@ -60,7 +60,7 @@ pub returns-then-first-walk : goal.returns-then-first-walk
 returns-then-first-walk c =
     let walk = c.args.walk.now in
     let around = c.args.around in
-    let all = c.args.all.now in
+    let all = c.args.source.now.classes.now in
     let id = c.item_at-id.result.0 in
     let row = c.item_at-id.new.row in
     let at = c.item_at-id.ensures in
@@ -68,7 +68,7 @@ returns-then-first-walk c =
     let n = c.quiet_from-quiet.result in
     let next = c.pass_quiet.new.self in
     let some : 0 < n = omega (arith, c.if-quiet-eq0.false) in
-    let stored = row_stored c.args.view.now (c.args.first + walk.place) (length all) row c.requires.items at.some at.row in
+    let stored = row_stored c.args.source.now.view.now (c.args.first + walk.place) (length all) row c.requires.items at.some at.row in
     let place : next.place ≡ walk.place + n = ap (λ (w : Walk). w.place) c.pass_quiet.ensures ∙ placed walk around _ _ _ in
     let behind = behind_so c.args.first walk.place n next.place row.end place told.within in
     let never = sym c.may_end.ensures ∙ c.if-may_end.false in
@@ -89,7 +89,7 @@ pub returns : goal.returns
 returns c =
     let walk = c.args.walk.now in
     let around = c.args.around in
-    let all = c.args.all.now in
+    let all = c.args.source.now.classes.now in
     let id = c.item_at-id.result.0 in
     let row = c.item_at-id.new.row in
     let at = c.item_at-id.ensures in
@@ -97,7 +97,7 @@ returns c =
     let n = c.quiet_from-quiet.result in
     let next = c.pass_quiet.new.self in
     let some : 0 < n = omega (arith, c.if-quiet-eq0.false) in
-    let stored = row_stored c.args.view.now (c.args.first + walk.place) (length all) row c.requires.items at.some at.row in
+    let stored = row_stored c.args.source.now.view.now (c.args.first + walk.place) (length all) row c.requires.items at.some at.row in
     let place : next.place ≡ walk.place + n = ap (λ (w : Walk). w.place) c.pass_quiet.ensures ∙ placed walk around _ _ _ in
     let behind = behind_so c.args.first walk.place n next.place row.end place told.within in
     let never = sym c.may_end.ensures ∙ c.if-may_end.false in

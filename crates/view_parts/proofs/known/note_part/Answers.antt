@@ -13,23 +13,30 @@ returns-then-is_some c = record { untold = λ none. refl; known = c.requires.kno
 pub noted_part-requires : goal.noted_part-requires
 noted_part-requires c =
     let part = c.args.part.now in
+    let first = c.args.first.place in
     record {
       within = c.requires.within;
-      item = c.requires.item;
-      some = c.requires.some;
-      later = c.requires.later _ c.in-Some.is;
-      inside = c.requires.below _ c.in-Some.is;
-      ends = ends_outside c.args.arena.now (slice_range c.args.view.now c.args.first c.in-Some.seen) (part.end - c.args.first) part.inside (none_of part.inside (sym c.is_some.ensures ∙ c.if-is_some.false)) (c.requires.ends _ c.in-Some.is);
+      told = record {
+        item = c.requires.item;
+        some = c.requires.some;
+        later = c.requires.later _ c.in-Some.is;
+        inside = c.requires.below _ c.in-Some.is;
+        ends = ends_outside c.args.source.now.arena.now (slice_range c.args.source.now.view.now first c.in-Some.told) (part.end - first) part.inside (none_of part.inside (sym c.is_some.ensures ∙ c.if-is_some.false)) (c.requires.ends _ c.in-Some.is);
+      };
       known = c.requires.spans;
     }
 
-pub returns-in_err-end : goal.returns-in_err-end
-returns-in_err-end c = record { untold = λ none. refl; known = c.requires.known; rows = same_rows _ _ _ _; spans = no_value c.from_residual.result _ c.from_residual.ensures.0 }
+pub returns-in_err-noted : goal.returns-in_err-noted
+returns-in_err-noted c = record { untold = λ none. refl; known = c.requires.known; rows = same_rows _ _ _ _; spans = no_value c.from_residual.result _ c.from_residual.ensures.0 }
 
 pub returns : goal.returns
-returns c = record {
-  untold = λ none. absurd (none_some _ (sym none ∙ c.in-Some.is));
-  known = set_known c.set.result c.args.arena.now c.args.known.now c.set.new.self c.args.id.0 c.in_ok-end.end c.set.ensures.set c.set.ensures.same c.in_ok-end.ensures.end c.requires.stored c.requires.known;
-  rows = set_rows c.set.result c.args.known.now c.set.new.self c.args.view.now c.args.first c.args.part.now.end c.args.id.0 c.in_ok-end.end c.set.ensures.set c.set.ensures.same c.requires.stored c.in_ok-end.ensures.row;
-  spans = on_ok c.set.result _ c.in_ok-end.ensures.known;
-}
+returns c =
+    let first = c.args.first in
+    let known = c.args.known.now in
+    let noted = c.in_ok-noted.noted in
+    record {
+      untold = λ none. absurd (none_some _ (sym none ∙ c.in-Some.is));
+      known = set_known c.set.result c.args.source.now.arena.now known c.set.new.self first.id.0 noted c.set.ensures.set c.set.ensures.same c.in_ok-noted.ensures.end c.requires.stored c.requires.known;
+      rows = set_rows c.set.result known c.set.new.self c.args.source.now.view.now first.place c.args.part.now.end first.id.0 noted c.set.ensures.set c.set.ensures.same c.requires.stored c.in_ok-noted.ensures.row;
+      spans = on_ok c.set.result _ c.in_ok-noted.ensures.known;
+    }

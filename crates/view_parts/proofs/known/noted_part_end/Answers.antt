@@ -7,14 +7,19 @@ use Rattle.view_parts.proofs.EndsOfParts.{none_some, same_rows}
 use Rattle.view_parts.proofs.Told.{part_told}
 use Rattle.view_parts.proofs.known.noted_part_end.Goals as goal
 
-pub recalled-requires-clause-known : goal.recalled-requires-clause-known
-recalled-requires-clause-known c = subst (λ (known : KnownEnd). IsKnown c.args.arena.now c.args.id.0 known) (sym c.get.ensures) (c.requires.known c.args.id.0 c.requires.stored)
+pub recalled-requires : goal.recalled-requires
+recalled-requires c = record {
+  here = c.requires.here;
+  item = c.requires.item;
+  known = subst (λ (known : KnownEnd). IsKnown c.args.source.now.arena.now c.args.first.id.0 known) (sym c.get.ensures) (c.requires.known c.args.first.id.0 c.requires.stored);
+  spans = c.requires.spans;
+}
 
 pub returns-in-Some : goal.returns-in-Some
 returns-in-Some c = record { part = c.in-Some.ensures; untold = λ none. refl; known = c.requires.known; rows = same_rows _ _ _ _; spans = c.requires.spans }
 
-pub part_end-requires-clause-begins : goal.part_end-requires-clause-begins
-part_end-requires-clause-begins c = λ place none. absurd (none_some place none)
+pub part_end-requires : goal.part_end-requires
+part_end-requires c = record { within = c.requires.within; all = c.requires.all; here = c.requires.here; begins = λ place none. absurd (none_some place none) }
 
 pub returns-in_err-part : goal.returns-in_err-part
 returns-in_err-part c =
@@ -32,7 +37,7 @@ note_part-requires c =
       some = part.some;
       later = part.later;
       below = part.below;
-      ends = part.seen;
+      ends = part.told;
       known = c.requires.known;
       spans = c.requires.spans;
     }
@@ -46,6 +51,7 @@ returns-in_err-note_part c =
 pub returns : goal.returns
 returns c =
     let part = c.in_ok-part.ensures in
+    let first = c.args.first.place in
     record {
       part = record {
         end = part.end;
@@ -53,7 +59,7 @@ returns c =
         place = part.place;
         some = part.some;
         inside = part.within;
-        told = λ told is. part_told c.args.arena.now None (place_in c.in_ok-part.part.inside) c.args.view.now c.args.first c.in_ok-part.part.end told part.some (part.later told is) (part.below told is) (part.seen told is);
+        told = λ told is. part_told c.args.source.now.arena.now None (place_in c.in_ok-part.part.inside) c.args.source.now.view.now first c.in_ok-part.part.end told part.some (part.later told is) (part.below told is) (part.told told is);
         later = part.later;
         below = part.below;
         whole = part.whole;

@@ -7,7 +7,7 @@ use Rattle.view_parts.proofs.known.recalled_span.Goals as goal
 
 pub overflow_add-result : goal.overflow_add-result
 overflow_add-result c =
-    let arena = c.args.arena.now in
+    let arena = c.args.source.now.arena.now in
     let spans = c.args.spans.now.spans in
     let many : vec_len spans ≡ length spans.items = first_of (omega (arith), search (rules), grind (arith, rules)) in
     let here : c.args.number < length spans.items = omega (arith, c.if-number-len.false, c.len.ensures, many) in
@@ -17,8 +17,8 @@ overflow_add-result c =
 
 pub returns : goal.returns
 returns c =
-    let arena = c.args.arena.now in
-    let view = c.args.view.now in
+    let arena = c.args.source.now.arena.now in
+    let view = c.args.source.now.view.now in
     let spans = c.args.spans.now.spans in
     let span = c.index-span.result.now in
     let many : vec_len spans ≡ length spans.items = first_of (omega (arith), search (rules), grind (arith, rules)) in
