@@ -362,19 +362,18 @@ pub fn part_end<'k>(
     ensures below { IfOk result (λ part. ForSome part.told (λ told. told ≤ length source.now.view.now)) }
     ensures whole { IfOk result (λ part. ForNone part.told (part.end ≡ length source.now.view.now)) }
 {
-    let begins = begin.inside;
-    let first = begin.first;
     let count = source.view.len();
-    let mut brackets = OpenBrackets::start(begins, room)?;
-    let mut walk = start(begins);
-    let mut row = Row { shift: 0, end: 0 };
-    let items = source.arena.len();
     let all = source.classes;
+    let items = source.arena.len();
+    prove!(all.len() <= items as usize);
+    let first = begin.first;
+    let mut brackets = OpenBrackets::start(begin.inside, room)?;
+    let mut walk = start(begin.inside);
+    let mut row = Row { shift: 0, end: 0 };
     while walk.place < count - first {
         let stands = brackets.around;
         let next = pass_quiet(source, first, &mut walk, stands, &mut row, segment);
         let Some(id) = next else { continue };
-        prove!(id.0 < items);
         let class = all[id.0 as usize];
         let place = walk.place;
         if passes_brace(&walk, stands, id, class) {
@@ -390,7 +389,7 @@ pub fn part_end<'k>(
         match read(source.arena, &mut walk, stands, id, class) {
             Outcome::EndsOutside(ended) => return Ok(PartsEnd::told(first, ended, place, None)),
             Outcome::EndsInBody(ended) => {
-                let inside = place_behind(&walk, &brackets.bodies, begins, keep)?;
+                let inside = place_behind(&walk, &brackets.bodies, begin.inside, keep)?;
                 return Ok(PartsEnd::told(first, ended, place, Some(inside)));
             }
             Outcome::Never => break,

@@ -36,7 +36,7 @@ use Rattle.view_parts.proofs.Rows.{row_later, row_stored}
 use Rattle.view_parts.proofs.Waits.{braces_turned}
 use Rattle.view_parts.proofs.Walked.{all_read, behind_place, inside_at, never_ends, next_place, outside_at, told_by}
 use Rattle.view_parts.proofs.ends.part_end.Goals.{else-loop-walk-test}
-use Rattle.view_parts.proofs.ends.part_end.Goals.{then-loop-walk-test+in-Some+else-prove+else-passes_brace+in-Never}
+use Rattle.view_parts.proofs.ends.part_end.Goals.{then-loop-walk-test+in-Some+else-passes_brace+in-Never}
 use Rattle.view_parts.proofs.ends.part_end.Goals as goal
 
 -- behind a token that goes on and isn't passed as a `{` no `{` stands
@@ -103,8 +103,79 @@ loop-walk-preserved-in_default c =
 
 pub prove-unreachable-requires : goal.prove-unreachable-requires
 prove-unreachable-requires c =
+    let whole : length c.args.source.now.classes.now ≡ length c.args.source.now.arena.now.tokens = ap (λ (cs : List TokenClass). length cs) c.requires.all ∙ length-map c.args.source.now.arena.now.tokens (class_of c.args.source.now.arena.now.dialect) in
+    omega (arith, whole, c.if-prove.true, c.len-items.ensures.count)
+
+pub overflow_sub-count : goal.overflow_sub-count
+overflow_sub-count c = omega (arith, c.requires.here, c.len-count.ensures.count)
+
+pub loop-walk-smaller-in_default : goal.loop-walk-smaller-in_default
+loop-walk-smaller-in_default c =
+    let quiet = c.pass_quiet-next.ensures in
+    let end = quiet.behind c.in_default.is in
+    omega (arith, c.loop-walk-test.true, quiet.some, end)
+
+pub bounds-all-id : goal.bounds-all-id
+bounds-all-id c =
+    let whole : length c.args.source.now.classes.now ≡ length c.args.source.now.arena.now.tokens = ap (λ (cs : List TokenClass). length cs) c.requires.all ∙ length-map c.args.source.now.arena.now.tokens (class_of c.args.source.now.arena.now.dialect) in
     let stored = row_stored c.args.source.now.view.now (c.args.begin.first + c.loop-walk.walk.place) (length c.args.source.now.arena.now.tokens) c.pass_quiet-next.new.row c.requires.within c.pass_quiet-next.ensures.some c.pass_quiet-next.ensures.row in
-    (let below = c.pass_quiet-next.ensures.below _ c.in-Some.is in let item = c.pass_quiet-next.ensures.item _ c.in-Some.is in omega (arith, stored, below, item, c.if-prove.true, c.len-items.ensures.count))
+    let below = c.pass_quiet-next.ensures.below _ c.in-Some.is in
+    let item = c.pass_quiet-next.ensures.item _ c.in-Some.is in
+    omega (arith, stored, below, item, whole)
+
+pub overflow_add-place : goal.overflow_add-place
+overflow_add-place c =
+    let stored = row_stored c.args.source.now.view.now (c.args.begin.first + c.loop-walk.walk.place) (length c.args.source.now.arena.now.tokens) c.pass_quiet-next.new.row c.requires.within c.pass_quiet-next.ensures.some c.pass_quiet-next.ensures.row in
+    let item = c.pass_quiet-next.ensures.item _ c.in-Some.is in
+    omega (arith, stored, item, c.in-Some-passed_body.ensures.within, c.len-items.ensures.count)
+
+pub overflow_add-place-in-Some-passed_body : goal.overflow_add-place-in-Some-passed_body
+overflow_add-place-in-Some-passed_body c =
+    let stored = row_stored c.args.source.now.view.now (c.args.begin.first + c.loop-walk.walk.place) (length c.args.source.now.arena.now.tokens) c.pass_quiet-next.new.row c.requires.within c.pass_quiet-next.ensures.some c.pass_quiet-next.ensures.row in
+    let item = c.pass_quiet-next.ensures.item _ c.in-Some.is in
+    omega (arith, stored, item, c.in-Some-passed_body.ensures.within, c.len-items.ensures.count)
+
+pub overflow_add-id : goal.overflow_add-id
+overflow_add-id c =
+    let stored = row_stored c.args.source.now.view.now (c.args.begin.first + c.loop-walk.walk.place) (length c.args.source.now.arena.now.tokens) c.pass_quiet-next.new.row c.requires.within c.pass_quiet-next.ensures.some c.pass_quiet-next.ensures.row in
+    let item = c.pass_quiet-next.ensures.item _ c.in-Some.is in
+    omega (arith, stored, item, c.in-Some-passed_body.ensures.within, c.len-items.ensures.count)
+
+pub pass_body-requires : goal.pass_body-requires
+pass_body-requires c =
+    let stored = row_stored c.args.source.now.view.now (c.args.begin.first + c.loop-walk.walk.place) (length c.args.source.now.arena.now.tokens) c.pass_quiet-next.new.row c.requires.within c.pass_quiet-next.ensures.some c.pass_quiet-next.ensures.row in
+    let item = c.pass_quiet-next.ensures.item _ c.in-Some.is in
+    omega (arith, stored, item, c.in-Some-passed_body.ensures.within, c.len-items.ensures.count)
+
+pub overflow_add-place-in-Some-passed_group : goal.overflow_add-place-in-Some-passed_group
+overflow_add-place-in-Some-passed_group c =
+    let stored = row_stored c.args.source.now.view.now (c.args.begin.first + c.loop-walk.walk.place) (length c.args.source.now.arena.now.tokens) c.pass_quiet-next.new.row c.requires.within c.pass_quiet-next.ensures.some c.pass_quiet-next.ensures.row in
+    let item = c.pass_quiet-next.ensures.item _ c.in-Some.is in
+    omega (arith, stored, item, c.in-Some-passed_group.ensures.within, c.len-items.ensures.count)
+
+pub overflow_add-place-in-Some-passed_group-2 : goal.overflow_add-place-in-Some-passed_group-2
+overflow_add-place-in-Some-passed_group-2 c =
+    let stored = row_stored c.args.source.now.view.now (c.args.begin.first + c.loop-walk.walk.place) (length c.args.source.now.arena.now.tokens) c.pass_quiet-next.new.row c.requires.within c.pass_quiet-next.ensures.some c.pass_quiet-next.ensures.row in
+    let item = c.pass_quiet-next.ensures.item _ c.in-Some.is in
+    omega (arith, stored, item, c.in-Some-passed_group.ensures.within, c.len-items.ensures.count)
+
+pub overflow_add-id-in-Some-passed_group : goal.overflow_add-id-in-Some-passed_group
+overflow_add-id-in-Some-passed_group c =
+    let stored = row_stored c.args.source.now.view.now (c.args.begin.first + c.loop-walk.walk.place) (length c.args.source.now.arena.now.tokens) c.pass_quiet-next.new.row c.requires.within c.pass_quiet-next.ensures.some c.pass_quiet-next.ensures.row in
+    let item = c.pass_quiet-next.ensures.item _ c.in-Some.is in
+    omega (arith, stored, item, c.in-Some-passed_group.ensures.within, c.len-items.ensures.count)
+
+pub told-requires-clause-here : goal.told-requires-clause-here
+told-requires-clause-here c =
+    let stored = row_stored c.args.source.now.view.now (c.args.begin.first + c.loop-walk.walk.place) (length c.args.source.now.arena.now.tokens) c.pass_quiet-next.new.row c.requires.within c.pass_quiet-next.ensures.some c.pass_quiet-next.ensures.row in
+    let below = c.pass_quiet-next.ensures.below _ c.in-Some.is in
+    omega (arith, stored, below, c.len-items.ensures.count)
+
+pub told-requires-in-EndsInBody-clause-here : goal.told-requires-in-EndsInBody-clause-here
+told-requires-in-EndsInBody-clause-here c =
+    let stored = row_stored c.args.source.now.view.now (c.args.begin.first + c.loop-walk.walk.place) (length c.args.source.now.arena.now.tokens) c.pass_quiet-next.new.row c.requires.within c.pass_quiet-next.ensures.some c.pass_quiet-next.ensures.row in
+    let below = c.pass_quiet-next.ensures.below _ c.in-Some.is in
+    omega (arith, stored, below, c.len-items.ensures.count)
 
 pub pass_open_brace-requires : goal.pass_open_brace-requires
 pass_open_brace-requires c =
@@ -664,7 +735,7 @@ returns c =
     let waiting = reverse c.loop-walk.brackets.waiting.items in
     let none : end_of_part arena begins (drop c.args.begin.first view) ≡ None = elim c.loop-walk-test.branch [
       | else-loop-walk-test w ↦ all_read arena begins (drop c.args.begin.first view) walk bodies waiting (omega (arith, length-drop c.args.begin.first view, w.loop-walk-test.false, c.len-count.ensures.count)) c.loop-walk.invariant.read.on
-      | then-loop-walk-test+in-Some+else-prove+else-passes_brace+in-Never w ↦
+      | then-loop-walk-test+in-Some+else-passes_brace+in-Never w ↦
           let here = c.loop-walk.invariant.stands in
           let walk = w.pass_quiet-next.new.walk in
           let quiet = w.pass_quiet-next.ensures in
