@@ -5,9 +5,28 @@ use Rattle.token_arena.specs.Segments.{ids_of, AscendFrom, bounds_of}
 use Rattle.part_walk.specs.declared.bodies.BodyPlace.{BodyPlace}
 use Rattle.view_parts.specs.Parts.{head_items, items_of_place, laid_items, opened_items}
 use Rattle.part_walk.specs.Places.{place_in, place_of}
+use Rattle.part_walk.proofs.Failed.{no_value}
 use Rattle.view_parts.proofs.Laid.{first_of, laid_so, no_head, opened_none, opened_one, outermost, stands_so}
 use Rattle.view_parts.proofs.body.laid_view.Goals.{in-Some-opened+in_ok-push_stretch, in_default-opened}
 use Rattle.view_parts.proofs.body.laid_view.Goals as goal
+
+pub returns-in_err-own : goal.returns-in_err-own
+returns-in_err-own c = record { items = no_value c.from_residual.result _ c.from_residual.ensures.0; increase = no_value c.from_residual.result _ c.from_residual.ensures.0 }
+
+pub returns-in_err-push_heads : goal.returns-in_err-push_heads
+returns-in_err-push_heads c = record { items = no_value c.from_residual-in_err-push_heads.result _ c.from_residual-in_err-push_heads.ensures.0; increase = no_value c.from_residual-in_err-push_heads.result _ c.from_residual-in_err-push_heads.ensures.0 }
+
+pub returns-in_err-push_stretch : goal.returns-in_err-push_stretch
+returns-in_err-push_stretch c = record { items = no_value c.from_residual-in_err-push_stretch.result _ c.from_residual-in_err-push_stretch.ensures.0; increase = no_value c.from_residual-in_err-push_stretch.result _ c.from_residual-in_err-push_stretch.ensures.0 }
+
+pub returns-in_err-push_stretch-2 : goal.returns-in_err-push_stretch-2
+returns-in_err-push_stretch-2 c = record { items = no_value c.from_residual-in_err-push_stretch-2.result _ c.from_residual-in_err-push_stretch-2.ensures.0; increase = no_value c.from_residual-in_err-push_stretch-2.result _ c.from_residual-in_err-push_stretch-2.ensures.0 }
+
+pub returns-in_err-push_view : goal.returns-in_err-push_view
+returns-in_err-push_view c = record { items = no_value c.from_residual-in_err-push_view.result _ c.from_residual-in_err-push_view.ensures.0; increase = no_value c.from_residual-in_err-push_view.result _ c.from_residual-in_err-push_view.ensures.0 }
+
+pub returns-in_err-push : goal.returns-in_err-push
+returns-in_err-push c = record { items = no_value c.from_residual-in_err-push.result _ c.from_residual-in_err-push.ensures.0; increase = no_value c.from_residual-in_err-push.result _ c.from_residual-in_err-push.ensures.0 }
 
 pub prove-unreachable-requires : goal.prove-unreachable-requires
 prove-unreachable-requires c =

@@ -2,6 +2,7 @@ use Rattle.std.proofs.Common.{◌≡◌, ◌∙◌, ◌-◌, ◌++◌, ◌∷◌
 use Rattle.std.specs.List.{range_with_len}
 use Rattle.token_arena.specs.declared.view.Stretch.{Stretch}
 use Rattle.token_arena.specs.Segments.{ids_of, AscendFrom, bounds_of}
+use Rattle.part_walk.proofs.Failed.{no_value}
 use Rattle.view_parts.proofs.Laid.{added_ascend, added_items, last_some, longer_ascend, longer_items}
 use Rattle.view_parts.proofs.body.push_stretch.Goals as goal
 
@@ -14,6 +15,12 @@ returns-then-last-first-clause-items c =
     let at : last.end ≡ c.args.first = omega (arith, c.if-last-first.true) in
     longer_items c.args.done.now.items last _ refl (last_some 0 c.args.done.now.items last c.requires.ascend) (omega (arith, at, c.requires.some))
     ∙ ap (λ n. ids_of (map bounds_of (c.args.done.now.items ++ last ∷ [])) ++ range_with_len n (c.args.end - n)) at
+
+pub returns-in_err-push : goal.returns-in_err-push
+returns-in_err-push c =
+    let result = c.from_residual.result in
+    let err = c.from_residual.ensures.0 in
+    record { ascend = no_value result _ err; items = no_value result _ err; end = no_value result _ err }
 
 pub returns-in_ok-push-clause-ascend : goal.returns-in_ok-push-clause-ascend
 returns-in_ok-push-clause-ascend c =

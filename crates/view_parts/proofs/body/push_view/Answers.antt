@@ -2,6 +2,7 @@ use Rattle.std.proofs.Common.{◌∙◌, ◌++◌, ◌∷◌, [], ℕ, List, app
 use Rattle.std.proofs.lemmas.List.{take_all}
 use Rattle.token_arena.specs.declared.view.Segment.{Segment}
 use Rattle.token_arena.specs.Segments.{ids_of, bounds_of, segment_bounds}
+use Rattle.part_walk.proofs.Failed.{no_value}
 use Rattle.view_parts.proofs.Laid.{first_item, more_items, segment_next, segment_some}
 use Rattle.view_parts.proofs.body.push_view.Goals as goal
 
@@ -16,6 +17,12 @@ loop-segment-init c =
 
 pub push_stretch-requires-clause-some : goal.push_stretch-requires-clause-some
 push_stretch-requires-clause-some c = segment_some 0 c.loop-segment.segment-index c.segments-segment-items.result.now c.segments-segment-items.ensures.rule.order c.loop-segment-test.true
+
+pub returns-in_err-push_stretch : goal.returns-in_err-push_stretch
+returns-in_err-push_stretch c =
+    let result = c.from_residual.result in
+    let err = c.from_residual.ensures.0 in
+    record { ascend = no_value result _ err; items = no_value result _ err }
 
 pub loop-segment-preserved : goal.loop-segment-preserved
 loop-segment-preserved c =
