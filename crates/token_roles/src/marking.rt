@@ -18,8 +18,9 @@ use crate::table::{partner_at, role_of};
 use bumpalo::Bump;
 use line_tokens::{LineKind, Role};
 use token_classes::TokenClass::{
-    Ampersand, Arrow, Bar, CapitalWord, CloseRound, Comma, Equality, Equals, Hash, If, Literal,
-    OpenRound, PlainWord, Point, Semicolon, Star, Text, TypeWord,
+    Ampersand, Arrow, Bar, BlockComment, CapitalWord, CloseBrace, CloseRound, CloseSquare, Comma,
+    Equality, Equals, Hash, If, LineComment, Literal, OpenBrace, OpenRound, OpenSquare, PlainWord,
+    Point, Semicolon, Star, Text, TypeWord,
 };
 use token_classes::{Partner, TokenClass};
 
@@ -166,6 +167,7 @@ pub fn mark_comment(marks: &mut Vec<Mark, &Bump>, left: &mut Left, seen: Seen)
 ///
 /// `first` is the place where its line begins, `before` is the last token before the line that is no comment, and
 /// `after` is the rest of the line. The caller has room for the token.
+// Of a class that has an arm of its own the tables keep one row, so the most frequent do.
 #[inline(always)]
 pub fn mark_token(
     partners: &[Partner],
@@ -199,16 +201,11 @@ pub fn mark_token(
         }) after.now) }
 {
     match class {
-        TokenClass::LineComment | TokenClass::BlockComment => return false,
+        LineComment | BlockComment => return false,
         OpenRound => mark_opener(partners, kind, before, marks, left, OpenRound, after),
-        TokenClass::OpenSquare | TokenClass::OpenBrace => {
-            mark_opener(partners, kind, before, marks, left, class, after)
-        }
+        OpenSquare | OpenBrace => mark_opener(partners, kind, before, marks, left, class, after),
         CloseRound => mark_closer(partners, first, marks, left, CloseRound),
-        TokenClass::CloseSquare | TokenClass::CloseBrace => {
-            mark_closer(partners, first, marks, left, class)
-        }
-        // Of a class that is named here the tables keep one row, so the most frequent are.
+        CloseSquare | CloseBrace => mark_closer(partners, first, marks, left, class),
         PlainWord => mark_code(partners, kind, before, marks, left, PlainWord, after),
         CapitalWord => mark_code(partners, kind, before, marks, left, CapitalWord, after),
         TypeWord => mark_code(partners, kind, before, marks, left, TypeWord, after),
