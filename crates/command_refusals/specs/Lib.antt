@@ -2,3 +2,4 @@ pub mod Notes
 pub mod Counts
 pub mod InForce
 pub mod Order
+pub mod Rows

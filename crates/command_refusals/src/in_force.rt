@@ -12,7 +12,8 @@ ghost use Rattle.command_refusals.specs.InForce.{Configures, IsConfigurationRefu
 ghost use Rattle.command_refusals.specs.InForce.{lacking_refusal};
 ghost use Rattle.command_refusals.specs.Notes.{skipped_row, skipped_rows};
 
-use crate::refusal::{Refusal, write_number, write_two};
+use crate::refusal::Refusal;
+use crate::rows::{write_number, write_two};
 use command_words::StyleChoice;
 use fmt_ports::{Failed, FileFault, Files, Sink, Stream, write_in_pieces};
 use std::alloc::Global;

@@ -1,13 +1,14 @@
 //! Refusals, and how they are told.
 
-ghost use Rattle.std.specs.Prelude.{◌≡◌, ◌++◌, [], OnOk, codes, decimal};
+ghost use Rattle.std.specs.Prelude.{◌≡◌, ◌++◌, OnOk, codes};
 ghost use Rattle.std.specs.Io.KnownBytes.{Appends};
 ghost use Rattle.fmt_ports.specs.Causes.{AppendsPart, Counts};
-ghost use Rattle.command_refusals.specs.Notes.{fault_row, numbered_row, range_row, row_of, status_of};
+ghost use Rattle.command_refusals.specs.Notes.{fault_row, range_row, row_of, status_of};
+ghost use Rattle.command_refusals.specs.Rows.{bytes_of};
 
+use crate::rows::{LINES, Row};
 use command_words::USAGE;
-use fmt_ports::{Failed, Sink, Stream, write_all, write_in_pieces};
-use itoa::Buffer;
+use fmt_ports::{Failed, Sink, write_in_pieces};
 use off_regions::RangeFault;
 use std::alloc::Global;
 use style_config::ConfigFault;
@@ -17,6 +18,21 @@ pub const STANDARD_INPUT: &str = "<stdin>";
 
 /// The name of the input that `--generate` makes.
 pub const GENERATED: &str = "<generated>";
+
+/// What the row of a value of `--states` begins with.
+const STATES: &str = "clang_format: --states ";
+
+/// What the row of a value of `--generate` begins with.
+const GENERATE: &str = "clang_format: --generate ";
+
+/// The row that tells what `--generate` can't stand beside.
+const GENERATE_BESIDE: &str = "clang_format: --generate takes no file, -i or --dump-config\n";
+
+/// What is told of an input or a file that can't be read or written.
+const FAILED: &str = ": failed\n";
+
+/// The row that tells want of memory.
+const NO_MEMORY: &str = "clang_format: no memory\n";
 
 /// Why the command ends early. A name is that of an input, a configuration or a style.
 #[derive(Clone, Copy)]
@@ -84,166 +100,74 @@ pub fn status_of(refusal: Refusal) -> u8
     }
 }
 
-impl Stream for Refusal<'_> {
-    /// Its row, nothing where the notes have failed.
-    ghost bytes = { row_of };
-
-    fn write<E: Sink>(&self, notes: &mut E) -> Result<(), Failed> {
-        write_row(*self, notes)
-    }
-}
-
 /// Writes the row that tells a refusal, nothing where the notes have failed: in one write, if there is memory for it.
 pub fn tell<E: Sink>(alloc: Global, refusal: Refusal, notes: &mut E) -> Result<(), Failed>
     ensures part { AppendsPart (E.taken notes.old) (E.taken notes.new) (row_of refusal.entry) }
     ensures ok { OnOk result (Appends (E.taken notes.old) (E.taken notes.new) (row_of refusal.entry)) }
     ensures counts { Counts (E.faults notes.old) (E.faults notes.new) result }
 {
-    write_in_pieces(alloc, &refusal, notes)
+    let row = row_of(refusal);
+    write_in_pieces(alloc, &row, notes)
 }
 
-/// Writes the row of a refusal.
-fn write_row<E: Sink>(refusal: Refusal, notes: &mut E) -> Result<(), Failed>
-    ensures part { AppendsPart (E.taken notes.old) (E.taken notes.new) (row_of refusal.entry) }
-    ensures ok { OnOk result (Appends (E.taken notes.old) (E.taken notes.new) (row_of refusal.entry)) }
-    ensures counts { Counts (E.faults notes.old) (E.faults notes.new) result }
+/// The row of a refusal, nothing where the notes have failed.
+fn row_of<'w>(refusal: Refusal<'w>) -> Row<'w>
+    ensures { bytes_of result ≡ row_of refusal.entry }
 {
     match refusal {
-        Refusal::BadWords => write_two(USAGE, "\n", notes),
-        Refusal::BadLines { word, fault } => tell_lines(word, fault, notes),
-        Refusal::BadStates(word) => write_three(
-            "clang_format: --states ",
-            word,
-            ": not 1 to 16000000\n",
-            notes,
+        Refusal::BadWords => Row::Named(USAGE, "\n"),
+        Refusal::BadLines { word, fault } => lines_row(word, fault),
+        Refusal::BadStates(word) => Row::Quoted(STATES, word, ": not 1 to 16000000\n"),
+        Refusal::NoInput => Row::Plain("clang_format: -i needs a file\n"),
+        Refusal::ManyFiles => Row::Plain("clang_format: --lines takes one file\n"),
+        Refusal::BadGenerate(word) => Row::Quoted(GENERATE, word, ": not N:COUNT\n"),
+        Refusal::GenerateBeside => Row::Plain(GENERATE_BESIDE),
+        Refusal::UnknownStyle(name) => Row::Quoted(
+            "clang_format: style ",
+            name,
+            ": unknown name\n",
         ),
-        Refusal::NoInput => write_all(notes, b"clang_format: -i needs a file\n"),
-        Refusal::ManyFiles => write_all(notes, b"clang_format: --lines takes one file\n"),
-        Refusal::BadGenerate(word) => {
-            write_three("clang_format: --generate ", word, ": not N:COUNT\n", notes)
-        }
-        Refusal::GenerateBeside => write_all(
-            notes,
-            b"clang_format: --generate takes no file, -i or --dump-config\n",
+        Refusal::LongConfiguration(file) => Row::Named(file, ": more than 1048576 bytes\n"),
+        Refusal::BadConfiguration { file, fault } => fault_row(file, fault),
+        Refusal::TooLarge(input) => Row::Named(input, ": more than 8388608 bytes\n"),
+        Refusal::OpenComment { input, at } => Row::AtByte(
+            input,
+            ": comment without an end at byte ",
+            at,
         ),
-        Refusal::UnknownStyle(name) => {
-            write_three("clang_format: style ", name, ": unknown name\n", notes)
-        }
-        Refusal::LongConfiguration(file) => write_two(file, ": more than 1048576 bytes\n", notes),
-        Refusal::BadConfiguration { file, fault } => tell_fault(file, fault, notes),
-        Refusal::TooLarge(input) => write_two(input, ": more than 8388608 bytes\n", notes),
-        Refusal::OpenComment { input, at } => {
-            write_number(input, ": comment without an end at byte ", at, "\n", notes)
-        }
-        Refusal::SourceFailed => write_two(STANDARD_INPUT, ": failed\n", notes),
-        Refusal::FileFailed(file) => write_two(file, ": failed\n", notes),
-        Refusal::OutFailed => write_all(notes, b"standard output: failed\n"),
-        Refusal::NotesFailed => write_all(notes, b""),
-        Refusal::Missing(file) => write_two(file, ": missing\n", notes),
-        Refusal::NoMemory => write_all(notes, b"clang_format: no memory\n"),
+        Refusal::SourceFailed => Row::Named(STANDARD_INPUT, FAILED),
+        Refusal::FileFailed(file) => Row::Named(file, FAILED),
+        Refusal::OutFailed => Row::Plain("standard output: failed\n"),
+        Refusal::NotesFailed => Row::Plain(""),
+        Refusal::Missing(file) => Row::Named(file, ": missing\n"),
+        Refusal::NoMemory => Row::Plain(NO_MEMORY),
     }
 }
 
-/// Writes the row that tells the fault of a value of `--lines`.
-fn tell_lines<E: Sink>(word: &str, fault: RangeFault, notes: &mut E) -> Result<(), Failed>
-    ensures part { AppendsPart (E.taken notes.old) (E.taken notes.new)
-        (codes "clang_format: --lines " ++ word.now ++ range_row fault) }
-    ensures ok { OnOk result (Appends (E.taken notes.old) (E.taken notes.new)
-        (codes "clang_format: --lines " ++ word.now ++ range_row fault)) }
-    ensures counts { Counts (E.faults notes.old) (E.faults notes.new) result }
-{
-    write_two("clang_format: --lines ", word, notes)?;
-    tell_range(fault, notes)
-}
-
-/// Writes why a value of `--lines` is no list of ranges.
-fn tell_range<E: Sink>(fault: RangeFault, notes: &mut E) -> Result<(), Failed>
-    ensures part { AppendsPart (E.taken notes.old) (E.taken notes.new) (range_row fault) }
-    ensures ok { OnOk result (Appends (E.taken notes.old) (E.taken notes.new) (range_row fault)) }
-    ensures counts { Counts (E.faults notes.old) (E.faults notes.new) result }
+/// The row that tells the fault of a value of `--lines`.
+fn lines_row<'w>(word: &'w str, fault: RangeFault) -> Row<'w>
+    ensures { bytes_of result ≡ codes "clang_format: --lines " ++ word.entry.now ++ range_row fault }
 {
     match fault {
-        RangeFault::BadText { place } => write_place(": bad text at ", place, notes),
-        RangeFault::Reversed { place } => write_place(": reversed at ", place, notes),
-        RangeFault::ZeroLine { place } => write_place(": line zero at ", place, notes),
-        RangeFault::TooMany => write_all(notes, b": too many ranges\n"),
-        RangeFault::NoMemory => write_all(notes, b": no memory\n"),
+        RangeFault::BadText { place } => Row::AtPlace(word, ": bad text at ", place),
+        RangeFault::Reversed { place } => Row::AtPlace(word, ": reversed at ", place),
+        RangeFault::ZeroLine { place } => Row::AtPlace(word, ": line zero at ", place),
+        RangeFault::TooMany => Row::Quoted(LINES, word, ": too many ranges\n"),
+        RangeFault::NoMemory => Row::Quoted(LINES, word, ": no memory\n"),
     }
 }
 
-/// Writes a text, a number and a new-line.
-fn write_place<E: Sink>(before: &str, place: u64, notes: &mut E) -> Result<(), Failed>
-    ensures part { AppendsPart (E.taken notes.old) (E.taken notes.new) (numbered_row [] before.now place (codes "\n")) }
-    ensures ok { OnOk result
-        (Appends (E.taken notes.old) (E.taken notes.new) (numbered_row [] before.now place (codes "\n"))) }
-    ensures counts { Counts (E.faults notes.old) (E.faults notes.new) result }
-{
-    let mut buffer = Buffer::new();
-    write_three(before, buffer.format(place), "\n", notes)
-}
-
-/// Writes the row that tells the fault of a configuration.
-fn tell_fault<E: Sink>(file: &str, fault: ConfigFault, notes: &mut E) -> Result<(), Failed>
-    ensures part { AppendsPart (E.taken notes.old) (E.taken notes.new) (fault_row file.now fault) }
-    ensures ok { OnOk result (Appends (E.taken notes.old) (E.taken notes.new) (fault_row file.now fault)) }
-    ensures counts { Counts (E.faults notes.old) (E.faults notes.new) result }
+/// The row that tells the fault of a configuration.
+fn fault_row<'w>(file: &'w str, fault: ConfigFault) -> Row<'w>
+    ensures { bytes_of result ≡ fault_row file.entry.now fault }
 {
     match fault {
-        ConfigFault::NotUtf8 { offset } => {
-            write_number(file, ": not UTF-8 at byte ", offset, "\n", notes)
-        }
-        ConfigFault::BadLine { line } => write_number(file, ":", line, ": bad line\n", notes),
-        ConfigFault::UnknownStyle { line } => {
-            write_number(file, ":", line, ": unknown style\n", notes)
-        }
-        ConfigFault::BadValue { line } => write_number(file, ":", line, ": bad value\n", notes),
-        ConfigFault::OutOfRange { line } => write_number(
-            file,
-            ":",
-            line,
-            ": out of range\n",
-            notes,
-        ),
-        ConfigFault::Repeated { line } => write_number(file, ":", line, ": repeated key\n", notes),
-        ConfigFault::NoMemory => write_all(notes, b"clang_format: no memory\n"),
+        ConfigFault::NotUtf8 { offset } => Row::AtByte(file, ": not UTF-8 at byte ", offset),
+        ConfigFault::BadLine { line } => Row::AtLine(file, line, ": bad line\n"),
+        ConfigFault::UnknownStyle { line } => Row::AtLine(file, line, ": unknown style\n"),
+        ConfigFault::BadValue { line } => Row::AtLine(file, line, ": bad value\n"),
+        ConfigFault::OutOfRange { line } => Row::AtLine(file, line, ": out of range\n"),
+        ConfigFault::Repeated { line } => Row::AtLine(file, line, ": repeated key\n"),
+        ConfigFault::NoMemory => Row::Plain(NO_MEMORY),
     }
-}
-
-/// Writes a text, a second text, a number and a third text.
-pub fn write_number<E: Sink>(
-    name: &str,
-    before: &str,
-    number: u32,
-    end: &str,
-    notes: &mut E,
-) -> Result<(), Failed>
-    ensures part { AppendsPart (E.taken notes.old) (E.taken notes.new)
-        (name.now ++ before.now ++ decimal number ++ end.now) }
-    ensures ok { OnOk result
-        (Appends (E.taken notes.old) (E.taken notes.new) (name.now ++ before.now ++ decimal number ++ end.now)) }
-    ensures counts { Counts (E.faults notes.old) (E.faults notes.new) result }
-{
-    let mut buffer = Buffer::new();
-    write_three(name, before, buffer.format(number), notes)?;
-    write_all(notes, end.as_bytes())
-}
-
-/// Writes three texts.
-fn write_three<E: Sink>(first: &str, second: &str, third: &str, notes: &mut E) -> Result<(), Failed>
-    ensures part { AppendsPart (E.taken notes.old) (E.taken notes.new) (first.now ++ second.now ++ third.now) }
-    ensures ok { OnOk result (Appends (E.taken notes.old) (E.taken notes.new) (first.now ++ second.now ++ third.now)) }
-    ensures counts { Counts (E.faults notes.old) (E.faults notes.new) result }
-{
-    write_two(first, second, notes)?;
-    write_all(notes, third.as_bytes())
-}
-
-/// Writes two texts.
-pub fn write_two<E: Sink>(first: &str, second: &str, notes: &mut E) -> Result<(), Failed>
-    ensures part { AppendsPart (E.taken notes.old) (E.taken notes.new) (first.now ++ second.now) }
-    ensures ok { OnOk result (Appends (E.taken notes.old) (E.taken notes.new) (first.now ++ second.now)) }
-    ensures counts { Counts (E.faults notes.old) (E.faults notes.new) result }
-{
-    write_all(notes, first.as_bytes())?;
-    write_all(notes, second.as_bytes())
 }

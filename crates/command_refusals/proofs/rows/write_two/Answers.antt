@@ -1,6 +1,6 @@
 use Rattle.std.proofs.Common.{refl}
 use Rattle.fmt_ports.proofs.Parts.{part_of_front, part_of_rest}
-use Rattle.command_refusals.proofs.refusal.write_two.Goals as goal
+use Rattle.command_refusals.proofs.rows.write_two.Goals as goal
 
 pub returns-in_err-write_all-clause-part : goal.returns-in_err-write_all-clause-part
 returns-in_err-write_all-clause-part g c =
