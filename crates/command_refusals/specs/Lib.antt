@@ -3,3 +3,4 @@ pub mod Counts
 pub mod InForce
 pub mod Order
 pub mod Rows
+pub mod Words

@@ -8,7 +8,9 @@
 mod in_force;
 mod refusal;
 mod rows;
+mod words;
 
 pub use in_force::style_in_force;
 pub use refusal::{GENERATED, Refusal, STANDARD_INPUT, status_of, tell};
 pub use rows::{write_number, write_two};
+pub use words::refusal_of;

@@ -1,5 +1,5 @@
 -- Whether some text changes, over several FILEs and in a whole call.
-use Rattle.std.proofs.Common.{◌≡◌, ◌⊎◌, ◌↔◌, ◌||◌, ◌&&◌, ℕ, Bool, true, false, List, [], ◌∷◌, IsTrue, refl, subst, sym, inl, inr}
+use Rattle.std.proofs.Common.{◌≡◌, ◌⊎◌, ◌∙◌, ◌↔◌, ◌||◌, ◌&&◌, ℕ, Bool, true, false, List, [], ◌∷◌, IsTrue, refl, subst, sym, inl, inr}
 use Rattle.std.proofs.lemmas.Bool.{false≢true}
 use Rattle.command_words.specs.declared.read.Words.{Words}
 use Rattle.format_cli.specs.declared.input.Options.{Options}
@@ -7,6 +7,10 @@ use Rattle.format_cli.specs.declared.input.Place.{Place}
 use Rattle.format_cli.specs.Account.{Answers, WouldFail, outcome_of, outcome_status}
 use Rattle.format_cli.specs.Inputs.{AreDoneWith, Ends, IsDoneWith}
 use Rattle.format_cli.proofs.Ends.{keeps_self, keeps_all_self}
+
+-- where nothing changes
+pub none_changes : (changes : Bool) → changes ≡ false → IsTrue changes ↔ ⊥
+none_changes changes is = (λ t. false≢true (sym is ∙ t), λ never. absurd never)
 
 or_iff : (a b : Bool) (P Q : Type 0) → (IsTrue a ↔ P) → (IsTrue b ↔ Q) → IsTrue (a || b) ↔ (P ⊎ Q)
 or_iff true b P Q h k = (λ t. inl (h.0 refl), λ s. refl)

@@ -16,6 +16,7 @@ use Rattle.command_refusals.specs.declared.refusal.Refusal.{Refusal}
 use Rattle.command_refusals.specs.declared.refusal.Refusal.TheVariants.{BadWords, BadLines, BadStates, NoInput, ManyFiles, BadGenerate, GenerateBeside, UnknownStyle, LongConfiguration, BadConfiguration, TooLarge, OpenComment, SourceFailed, FileFailed, OutFailed, NotesFailed, Missing, NoMemory}
 use Rattle.command_refusals.specs.InForce.{IsHeld, IsMissing}
 use Rattle.command_refusals.specs.Notes.{status_of}
+use Rattle.command_refusals.specs.Words.{AreWordsRefused}
 use Rattle.command_refusals.proofs.Statuses.{style_not}
 use Rattle.format_cli.specs.declared.input.Options.{Options}
 use Rattle.std.specs.Borrow.{Bor}
@@ -23,7 +24,7 @@ use Rattle.command_words.specs.declared.read.StyleChoice.{StyleChoice}
 use Rattle.command_words.specs.declared.read.StyleChoice.TheVariants.{FileAt}
 use Rattle.format_cli.specs.declared.input.Place.{Place}
 use Rattle.format_cli.specs.declared.input.Place.TheVariants.{Output, Itself, Nowhere}
-use Rattle.format_cli.specs.Account.{Answers, TextChanges, World, WouldFail, IsRefused, AreWordsRefused, EndsWell, IsPerformed, IsNotPerformed, IsBegun, IsSourceNotWritten, IsSourceWritten, files_of, options_of, place_of}
+use Rattle.format_cli.specs.Account.{Answers, TextChanges, World, WouldFail, IsRefused, EndsWell, IsPerformed, IsNotPerformed, IsBegun, IsSourceNotWritten, IsSourceWritten, files_of, options_of, place_of}
 use Rattle.format_cli.specs.Generated.{IsGeneratedRefused, text_of}
 use Rattle.format_cli.specs.Inputs.{Ends, IsDone, IsFileCause, IsSourceCause, IsSourceRefused, IsTextCause, AreDone, AreRefused, PutFails, Puts, SourcePutFails, SourcePuts}
 use Rattle.format_cli.specs.Statuses.{AsksWhetherChanged, HasRefusedInput, IsOneOf, IsPath, LacksName, LeavesFiles, LeavesOutput}

@@ -15,10 +15,11 @@ use Rattle.command_refusals.specs.declared.refusal.Refusal.TheVariants.{BadWords
 use Rattle.command_refusals.specs.Counts.{Faults, Raises}
 use Rattle.command_refusals.specs.Notes.{row_of, status_of}
 use Rattle.command_refusals.specs.Order.{HasStyle, IsThere, StyleStops}
+use Rattle.command_refusals.specs.Words.{AreWordsRefused}
 use Rattle.command_refusals.proofs.OneChoice.{has_same, in_force_same, stops_same}
 use Rattle.command_refusals.proofs.Statuses.{notes_rose}
 use Rattle.command_refusals.proofs.StyleOrder.{EndsSo, goes_on, style_ends, style_fails}
-use Rattle.format_cli.specs.Account.{AreWordsRefused, EndsWell, IsBegun, IsNotPerformed, IsPerformed, IsRefused, World, files_of, options_of, place_of}
+use Rattle.format_cli.specs.Account.{EndsWell, IsBegun, IsNotPerformed, IsPerformed, IsRefused, World, files_of, options_of, place_of}
 use Rattle.format_cli.specs.Generated.{text_of}
 use Rattle.format_cli.specs.Order.{AreDifferent, FilesStop, InputsStop, IsBadText, LacksRows, StopsWith}
 use Rattle.format_cli.proofs.Choice.{made_alone, made_by, one_dry, one_dump, one_list, one_made, one_place, one_style}

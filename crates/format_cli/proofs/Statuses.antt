@@ -1,5 +1,5 @@
 -- What follows from a refusal and its status.
-use Rattle.std.proofs.Common.{◌≡◌, ◌∙◌, ◌⊎◌, ℕ, List, [], ◌∷◌, Ok, Err, Some, None, refl, sym, ap, subst, inl, inr}
+use Rattle.std.proofs.Common.{◌≡◌, ◌∙◌, ◌<◌, ◌⊎◌, ℕ, List, [], ◌∷◌, Ok, Err, Some, None, refl, sym, ap, subst, inl, inr, arith}
 use Rattle.std.specs.Prelude.{⊤}
 use Rattle.std.specs.declared.option.Option.{Option}
 use Rattle.style_table.specs.declared.style.Style.{Style}
@@ -13,10 +13,11 @@ use Rattle.fmt_ports.specs.Files.{Held}
 use Rattle.command_refusals.specs.declared.refusal.Refusal.{Refusal}
 use Rattle.command_refusals.specs.declared.refusal.Refusal.TheVariants.{BadWords, BadLines, BadStates, NoInput, ManyFiles, BadGenerate, GenerateBeside, UnknownStyle, LongConfiguration, BadConfiguration, TooLarge, OpenComment, SourceFailed, FileFailed, OutFailed, NotesFailed, Missing, NoMemory}
 use Rattle.command_refusals.specs.Notes.{status_of}
+use Rattle.command_refusals.specs.Words.{AreWordsRefused}
 use Rattle.format_cli.specs.declared.input.Options.{Options}
 use Rattle.format_cli.specs.declared.input.Place.{Place}
 use Rattle.format_cli.specs.declared.input.Place.TheVariants.{Output, Itself, Nowhere}
-use Rattle.format_cli.specs.Account.{World, IsRefused, IsNotPerformed, AreWordsRefused, options_of}
+use Rattle.format_cli.specs.Account.{World, IsRefused, IsNotPerformed, options_of}
 use Rattle.format_cli.specs.Generated.{IsGeneratedRefused, text_of}
 use Rattle.format_cli.specs.Inputs.{Ends, IsFileRefused, AreRefused, IsSourceRefused, IsFileCause, IsTextCause, PutFails}
 use Rattle.format_cli.specs.Statuses.{IsStatus, AreBadWords, HasNoStyle}
@@ -235,6 +236,10 @@ no_budget words word said bad says = let e : Some said.budget ≡ None = sym say
 pub no_lines : (words : List (List ℕ)) (word : List ℕ) (fault : RangeFault) (said : Words) → HasBadLines (rows_of_words words) word fault → Says (rows_of_words words) said → ⊥
 no_lines words word fault said bad says =
     let e : Ok said.lines ≡ asked_by (Err fault) = sym says.lines ∙ (ap lines_of bad.given ∙ ap asked_by bad.bad) in cc
+
+-- a count that stays didn't rise
+pub not_risen : (a b : ℕ) → b ≡ a → a < b → ⊥
+not_risen a b same more = omega (arith, same, more)
 
 -- bad words say nothing
 pub not_read : (words : List (List ℕ)) (said : Words) → AreBadWords words → Reads words (Ok said) → ⊥

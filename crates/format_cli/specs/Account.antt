@@ -1,5 +1,5 @@
 -- What a call did, from the words to its last input.
-use Rattle.std.specs.Prelude.{◌≡◌, ◌≢◌, ◌⊎◌, ◌↔◌, ℕ, Bool, true, false, List, [], Option, Some, None, Ok, Err, IsTrue}
+use Rattle.std.specs.Prelude.{◌≡◌, ◌≢◌, ◌⊎◌, ◌↔◌, ℕ, Bool, true, false, List, [], Option, Some, None, Ok, IsTrue}
 use Rattle.std.specs.Prelude.{IsFalse, ◌&&◌, if◌then◌else◌, map}
 use Rattle.std.proofs.Common.{inl, inr}
 use Rattle.std.specs.Io.KnownBytes.{Appends, Keeps}
@@ -9,14 +9,12 @@ use Rattle.style_table.specs.declared.style.Style.{Style}
 use Rattle.style_config.specs.Dump.{dump_text}
 use Rattle.command_words.specs.declared.pieces.Generate.{Generate}
 use Rattle.command_words.specs.declared.read.Words.{Words}
-use Rattle.command_words.specs.declared.fault.WordsFault.TheVariants as Fault
 use Rattle.command_words.specs.Said.{Reads}
 use Rattle.command_refusals.specs.declared.refusal.Refusal.{Refusal}
-use Rattle.command_refusals.specs.declared.refusal.Refusal.TheVariants.{BadWords, BadLines, BadStates, NoInput}
-use Rattle.command_refusals.specs.declared.refusal.Refusal.TheVariants.{ManyFiles, BadGenerate, GenerateBeside}
-use Rattle.command_refusals.specs.declared.refusal.Refusal.TheVariants.{OutFailed, NoMemory}
+use Rattle.command_refusals.specs.declared.refusal.Refusal.TheVariants.{OutFailed}
 use Rattle.command_refusals.specs.InForce.{IsInForce, IsStyleRefused}
 use Rattle.command_refusals.specs.Notes.{row_of, status_of}
+use Rattle.command_refusals.specs.Words.{AreWordsRefused}
 use Rattle.format_cli.specs.declared.command.Outcome.{Outcome}
 use Rattle.format_cli.specs.declared.command.Outcome.TheVariants.{Done, WouldChange}
 use Rattle.format_cli.specs.declared.input.Options.{Options}
@@ -148,18 +146,6 @@ pub record IsUntouched (before now : World) : Type 0 where
   pub taken : Keeps before.ends.taken now.ends.taken
   pub held : KeepsAll before.ends.held now.ends.held
   pub left : now.left ≡ before.left
-
--- why words are refused
-abbrev pub AreWordsRefused : List (List ℕ) → Refusal → Type 0
-AreWordsRefused words BadWords = Reads words (Err Fault.Form)
-AreWordsRefused words (BadLines word fault) = Reads words (Err (Fault.BadLines word fault))
-AreWordsRefused words (BadStates word) = Reads words (Err (Fault.BadStates word))
-AreWordsRefused words NoInput = Reads words (Err Fault.NoInput)
-AreWordsRefused words ManyFiles = Reads words (Err Fault.ManyFiles)
-AreWordsRefused words (BadGenerate word) = Reads words (Err (Fault.BadGenerate word))
-AreWordsRefused words GenerateBeside = Reads words (Err Fault.GenerateBeside)
-AreWordsRefused words NoMemory = Reads words (Err Fault.NoMemory)
-AreWordsRefused words refusal = ⊥
 
 -- a call was refused for its words: nothing else happened
 pub record EndsAtWords (words : List (List ℕ)) (before now : World) (refusal : Refusal) : Type 0 where

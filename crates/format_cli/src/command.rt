@@ -1,22 +1,22 @@
 //! The top call.
 
-ghost use Rattle.std.specs.Prelude.{◌≡◌, ◌&&◌, ◌≢◌, ◌⊎◌, ◌<◌, ◌≤◌, ℕ, List, Err, IfErr, IfOk, map, string_bytes};
-ghost use Rattle.std.specs.Io.KnownBytes.{Keeps};
-ghost use Rattle.fmt_ports.specs.Causes.{Rose};
+ghost use Rattle.std.specs.Prelude.{◌≡◌, ◌&&◌, ◌≢◌, ◌⊎◌, ◌<◌, ◌≤◌, ℕ, IfErr, IfOk, false, map, string_bytes};
+ghost use Rattle.std.specs.Io.KnownBytes.{Appends, Keeps};
+ghost use Rattle.fmt_ports.specs.Causes.{AppendsPart, Rose};
 ghost use Rattle.fmt_ports.specs.Files.{KeepsAll};
 ghost use Rattle.style_table.specs.Range.{IsInRange};
-ghost use Rattle.command_words.specs.Said.{Reads};
-ghost use Rattle.format_cli.specs.Account.{AreWordsRefused, EndsWell, IsNotPerformed, IsPerformedWith, IsRefused};
+ghost use Rattle.style_config.specs.Dump.{dump_text};
+ghost use Rattle.format_cli.specs.Account.{EndsWell, IsNotPerformed, IsPerformedWith, IsRefused};
 ghost use Rattle.format_cli.specs.Account.{outcome_of, outcome_status, place_of, world};
 ghost use Rattle.format_cli.specs.Causes.{IsRefusedFor};
-ghost use Rattle.command_refusals.specs.Counts.{Counted, Faults, Raises};
+ghost use Rattle.command_refusals.specs.Counts.{Counted, Faults};
 ghost use Rattle.format_cli.specs.Statuses.{AreBadWords, AsksWhetherChanged, HasNoStyle, HasRefusedInput, IsStatus};
 ghost use Rattle.format_cli.specs.Statuses.{LacksName, LeavesFiles, LeavesOutput};
 ghost use Rattle.format_cli.specs.Order.{LacksRows, StopsWith};
 
 use crate::input::{Options, Place, format_files, format_generated, format_source};
-use command_refusals::{Refusal, status_of, style_in_force, tell};
-use command_words::{Words, WordsFault, read_words};
+use command_refusals::{Refusal, refusal_of, status_of, style_in_force, tell};
+use command_words::{Words, read_words};
 use fmt_ports::{Failed, Files, Sink, Source};
 use std::alloc::Global;
 use style_config::dump;
@@ -41,6 +41,21 @@ fn place_of(dry_run: bool, in_place: bool) -> Place
         Place::Itself
     } else {
         Place::Output
+    }
+}
+
+/// Writes the style to the output. No text changes by it.
+fn dump_style<K: Sink>(style: &Style, out: &mut K) -> Result<bool, Refusal<'static>>
+    ensures done { IfOk result (λ changes.
+        (changes ≡ false) × Appends (K.taken out.old) (K.taken out.new) (dump_text style.now)) }
+    ensures refused { IfErr result (λ refusal.
+        (refusal ≡ Refusal.OutFailed) × AppendsPart (K.taken out.old) (K.taken out.new) (dump_text style.now)) }
+    ensures counts { (f : Faults) →
+        Counted (record f { out = K.faults out.old }) (record f { out = K.faults out.new }) result }
+{
+    match dump(style, out) {
+        Ok(()) => Ok(false),
+        Err(Failed) => Err(Refusal::OutFailed),
     }
 }
 
@@ -80,10 +95,7 @@ fn perform<'w, S: Source, K: Sink, E: Sink, F: Files>(
         }) result }
 {
     if said.dump_config {
-        return match dump(style, out) {
-            Ok(()) => Ok(false),
-            Err(Failed) => Err(Refusal::OutFailed),
-        };
+        return dump_style(style, out);
     }
     let options = Options {
         style: *style,
@@ -117,23 +129,6 @@ fn asks_for_changes(said: &Words) -> bool
     ensures { result ≡ (said.now.dry_run && said.now.werror) }
 {
     said.dry_run && said.werror
-}
-
-/// The refusal of words that are at fault.
-fn refusal_of<'w>(fault: WordsFault<'w>) -> Refusal<'w>
-    ensures cause { (words : List (List ℕ)) → Reads words (Err fault.entry) → AreWordsRefused words result }
-    ensures counts { (f : Faults) → Raises result f f }
-{
-    match fault {
-        WordsFault::Form => Refusal::BadWords,
-        WordsFault::BadLines { word, fault } => Refusal::BadLines { word, fault },
-        WordsFault::BadStates(word) => Refusal::BadStates(word),
-        WordsFault::NoInput => Refusal::NoInput,
-        WordsFault::ManyFiles => Refusal::ManyFiles,
-        WordsFault::BadGenerate(word) => Refusal::BadGenerate(word),
-        WordsFault::GenerateBeside => Refusal::GenerateBeside,
-        WordsFault::NoMemory => Refusal::NoMemory,
-    }
 }
 
 /// Reads the words and the style, and does what they ask for.

@@ -27,12 +27,10 @@ pub fn tell_input<'a, 's, E: Sink>(
         (input_rows place name.now budget formatted.now.reports.now formatted.now.counts formatted.now.changed) }
     ensures counts { Counts (E.faults notes.old) (E.faults notes.new) result }
 {
+    tell_reports(alloc, name, budget, formatted.reports, notes)?;
     match place {
-        Place::Output => tell_reports(alloc, name, budget, formatted.reports, notes),
-        Place::Itself => tell_reports(alloc, name, budget, formatted.reports, notes),
-        Place::Nowhere => {
-            tell_reports(alloc, name, budget, formatted.reports, notes)?;
-            tell_summary(alloc, name, &formatted.counts, formatted.changed, notes)
-        }
+        Place::Output => Ok(()),
+        Place::Itself => Ok(()),
+        Place::Nowhere => tell_summary(alloc, name, &formatted.counts, formatted.changed, notes),
     }
 }

@@ -3,6 +3,7 @@ use Rattle.std.specs.declared.option.Option.{Option}
 use Rattle.std.specs.Borrow.{Bor}
 use Rattle.command_refusals.proofs.Results.{err_map, ok_follows}
 use Rattle.format_cli.specs.Account.{files_of}
+use Rattle.format_cli.proofs.Changes.{none_changes}
 use Rattle.format_cli.proofs.Ends.{keeps_all_self, keeps_self}
 use Rattle.format_cli.proofs.Rest.{none_of, some_of}
 use Rattle.format_cli.proofs.command.perform.Goals as goal
@@ -11,6 +12,22 @@ use Rattle.format_cli.proofs.command.perform.Goals as goal
 not_some : {A : Type 0} (o : Option A) → ((x : A) → o ≡ Some x → ⊥) → o ≡ None
 not_some None h = refl
 not_some (Some x) h = absurd (h x refl)
+
+pub returns-then-said-clause-done : goal.returns-then-said-clause-done
+returns-then-said-clause-done g c =
+    ok_follows _ _ c.dump_style.result
+    (λ changes k. (inl (c.if-said.true, record { text = k.1; held = keeps_all_self _; told = keeps_self _; left = refl }), none_changes changes k.0))
+    c.dump_style.ensures.done
+
+pub returns-then-said-clause-refused : goal.returns-then-said-clause-refused
+returns-then-said-clause-refused g c =
+    err_map _ _ c.dump_style.result
+    (λ refusal k. inl (c.if-said.true, record { cause = k.0; text = k.1; held = keeps_all_self _; told = keeps_self _; left = refl }))
+    c.dump_style.ensures.refused
+
+pub returns-then-said-clause-counts : goal.returns-then-said-clause-counts
+returns-then-said-clause-counts g c = λ f.
+    c.dump_style.ensures.counts (record f { source = g.S.Source.faults c.args.source.now; notes = g.E.Sink.faults c.args.notes.now; files = g.F.Files.faults c.args.files.now; misses = g.F.Files.misses c.args.files.now })
 
 pub returns-in-Some-clause-done : goal.returns-in-Some-clause-done
 returns-in-Some-clause-done g c =
@@ -55,3 +72,10 @@ returns-clause-done g c =
     ok_follows _ _ c.format_files.result
     (λ changes k. (inr (inr (inl (c.if-said.false, record { some = some; done = k.0; left = refl }))), k.1))
     (rw c.deref.ensures.value at (rw c.place_of-place.ensures at c.format_files.ensures.done))
+
+pub returns-clause-refused : goal.returns-clause-refused
+returns-clause-refused g c =
+    let some : files_of c.args.said ≢ [] = some_of c.args.said.files.items c.args.said.files.len _ c.args.said.files.ok.0 (sym c.is_empty.ensures ∙ c.if-is_empty.false) in
+    err_map _ _ c.format_files.result
+    (λ refusal k. inr (inr (inl (c.if-said.false, record { some = some; refused = k; left = refl }))))
+    (rw c.deref.ensures.value at (rw c.place_of-place.ensures at c.format_files.ensures.refused))

@@ -1,5 +1,5 @@
 use Rattle.std.proofs.Common.{refl}
-use Rattle.format_cli.proofs.command.refusal_of.Goals as goal
+use Rattle.command_refusals.proofs.words.refusal_of.Goals as goal
 
 pub returns-in-Form-clause-cause : goal.returns-in-Form-clause-cause
 returns-in-Form-clause-cause c = rw c.in-Form.is (λ words k. k)
