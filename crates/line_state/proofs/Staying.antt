@@ -5,6 +5,8 @@ use Rattle.std.specs.Bool.{OnTrue}
 use Rattle.std.proofs.lemmas.List.{set-get_or}
 use Rattle.line_tokens.specs.Columns.{columns, end_of}
 use Rattle.line_tokens.specs.Roles.{is_comma}
+use Rattle.line_tokens.specs.declared.role.Role.{Role}
+use Rattle.line_tokens.specs.declared.role.Role.TheVariants.{CallOpen, DeclOpen, ListOpen}
 use Rattle.line_tokens.specs.declared.LineTok.{LineTok}
 use Rattle.line_tokens.specs.declared.Fixed.{Fixed}
 use Rattle.layout_tables.specs.declared.penalties.GapRule.{GapRule}
@@ -22,7 +24,7 @@ use Rattle.frame_store.specs.Frames.{topmost, with_topmost}
 use Rattle.frame_store.specs.declared.node.NodeState.{NodeState}
 use Rattle.frame_store.specs.Store.{FrameList, list_at}
 use Rattle.line_state.specs.StoredStates.{layout_in}
-use Rattle.line_state.specs.Beside.{IsPlain, excess_beside}
+use Rattle.line_state.specs.Beside.{IsBeside, excess_beside}
 use Rattle.frame_store.proofs.Lists.{all_taken}
 
 past_false : (a c : Bool) → (a && false && c) ≡ false
@@ -37,30 +39,55 @@ no_comma true true free new e = absurd (true-false e)
 no_comma true false free new e = refl
 no_comma false comma free new e = refl
 
-module _ (style : Style) (layout : Layout) (gap : Gap) (brk : Bool) (shallow : length layout.frames ≤ gap.right.depth) (left_opens : opens_frame gap.left.role ≡ false) (right_opens : opens_frame gap.right.role ≡ false)
-    (unbound : (is_comma gap.left.role && binds_commas style (topmost layout.base layout.frames).opener) ≡ false) where
-  all_open : open_frames layout gap ≡ layout.frames
-  all_open = sym (ap (λ (l : FrameList). l.frames) (all_taken (record { base = layout.base; frames = layout.frames }) gap.right.depth shallow))
+-- a style that binds no arguments and no parameters binds no commas
+packed_binds : (style : Style) → style.bin_pack_arguments ≡ true → style.bin_pack_parameters ≡ true → (opener : Role) → binds_commas style opener ≡ false
+packed_binds style arguments parameters CallOpen = ap not arguments
+packed_binds style arguments parameters ListOpen = ap not arguments
+packed_binds style arguments parameters DeclOpen = ap not parameters
+packed_binds style arguments parameters _ = refl
 
+-- .. so no comma binds gaps there
+pub binds_none : (style : Style) (comma : Bool) → style.bin_pack_arguments ≡ true → OnTrue style.bin_pack_parameters ((opener : Role) → (comma && binds_commas style opener) ≡ false)
+binds_none style comma arguments = by_flag style.bin_pack_parameters refl
+  where
+    neither : (b : Bool) → (b && false) ≡ false
+    neither true = refl
+    neither false = refl
+
+    by_flag : (p : Bool) → style.bin_pack_parameters ≡ p → OnTrue p ((opener : Role) → (comma && binds_commas style opener) ≡ false)
+    by_flag true parameters = λ opener. ap (λ (b : Bool). comma && b) (packed_binds style arguments parameters opener) ∙ neither comma
+    by_flag false parameters = tt
+
+module _ (style : Style) (layout : Layout) (gap : Gap) (brk : Bool) (left_opens : opens_frame gap.left.role ≡ false) (right_opens : opens_frame gap.right.role ≡ false)
+    (unbound : (is_comma gap.left.role && binds_commas style (topmost layout.base (open_frames layout gap)).opener) ≡ false) where
   abbrev top : Frame
   top = topmost layout.base (open_frames layout gap)
 
   not_after_opener : is_after_opener layout gap ≡ false
   not_after_opener = ap (λ (b : Bool). not gap.first && b && nat_le (length layout.frames) gap.right.depth) left_opens ∙ past_false (not gap.first) (nat_le (length layout.frames) gap.right.depth)
 
-  unbound_there : (is_comma gap.left.role && binds_commas style top.opener) ≡ false
-  unbound_there = ap (λ (fs : List Frame). is_comma gap.left.role && binds_commas style (topmost layout.base fs).opener) all_open ∙ unbound
-
   same_frame : comma_frame style gap brk top ≡ top
-  same_frame = ap (λ (b : Bool). let f : Frame = record top { comma = if b then (if brk then 2 else 1) else top.comma } in f) (no_comma (binds_commas style top.opener) (is_comma gap.left.role) (is_free style gap) (top.comma == 0) unbound_there)
+  same_frame = ap (λ (b : Bool). let f : Frame = record top { comma = if b then (if brk then 2 else 1) else top.comma } in f) (no_comma (binds_commas style top.opener) (is_comma gap.left.role) (is_free style gap) (top.comma == 0) unbound)
 
   same_placed : placed_frame style (spot_of layout gap) gap brk ≡ top
   same_placed = ap (λ (b : Bool). let f : Frame = if b then opened_frame style gap brk (start_at style (spot_of layout gap) gap brk) top else comma_frame style gap brk top in f) not_after_opener ∙ same_frame
 
-  pub frames_stay : frames_after style layout gap brk ≡ layout.frames
-  frames_stay =
+  -- the frames that are open stay
+  pub open_stay : frames_after style layout gap brk ≡ open_frames layout gap
+  open_stay =
       ap (λ (b : Bool). let fs : List Frame = if b then placed_frames style layout gap brk ++ new_frame style (topmost layout.base (placed_frames style layout gap brk)) gap.right.role ∷ [] else placed_frames style layout gap brk in fs) right_opens
-      ∙ ap (λ (f : Frame). with_topmost (open_frames layout gap) f) same_placed ∙ set-get_or (open_frames layout gap) (length (open_frames layout gap) - 1) layout.base ∙ all_open
+      ∙ ap (λ (f : Frame). with_topmost (open_frames layout gap) f) same_placed ∙ set-get_or (open_frames layout gap) (length (open_frames layout gap) - 1) layout.base
+
+module _ (style : Style) (layout : Layout) (gap : Gap) (brk : Bool) (shallow : length layout.frames ≤ gap.right.depth) (left_opens : opens_frame gap.left.role ≡ false) (right_opens : opens_frame gap.right.role ≡ false)
+    (unbound : (is_comma gap.left.role && binds_commas style (topmost layout.base layout.frames).opener) ≡ false) where
+  all_open : open_frames layout gap ≡ layout.frames
+  all_open = sym (ap (λ (l : FrameList). l.frames) (all_taken (record { base = layout.base; frames = layout.frames }) gap.right.depth shallow))
+
+  unbound_there : (is_comma gap.left.role && binds_commas style (topmost layout.base (open_frames layout gap)).opener) ≡ false
+  unbound_there = ap (λ (fs : List Frame). is_comma gap.left.role && binds_commas style (topmost layout.base fs).opener) all_open ∙ unbound
+
+  pub frames_stay : frames_after style layout gap brk ≡ layout.frames
+  frames_stay = open_stay style layout gap brk left_opens right_opens unbound_there ∙ all_open
 
 -- .. as a test tells them
 pub stay_on : (style : Style) (layout : Layout) (left right : LineTok) → length layout.frames ≤ right.depth → opens_frame left.role ≡ false → opens_frame right.role ≡ false → (is_comma left.role && binds_commas style (topmost layout.base layout.frames).opener) ≡ false →
@@ -93,21 +120,21 @@ module _ (style : Style) (layout : Layout) (left right : LineTok) (fixed : Optio
 -- what a step by such a token tells
 pub record StepsBeside (style : Style) (layout : Layout) (gap : Gap) (brk : Bool) : Type 0 where
   pub allowed : is_allowed style layout gap brk ≡ true
-  pub frames : frames_after style layout gap brk ≡ layout.frames
+  pub frames : frames_after style layout gap brk ≡ open_frames layout gap
   pub start : start_of style layout gap brk ≡ columns layout.column (spaces_before style gap.left gap.right)
   pub cost : cost_of style layout gap brk ≡ style.penalty_excess_character * excess_beside style layout.column (columns layout.column (spaces_before style gap.left gap.right)) gap.right
 
-keeps_bool : (binds comma one two opening zero : Bool) → comma ≡ false → (not ((binds && comma) && one && false) && not ((binds && comma) && two && not false) && not (opening && zero && false)) ≡ true
-keeps_bool binds true one two opening zero e = absurd (true-false e)
+keeps_bool : (binds comma one two opening zero : Bool) → (comma && binds) ≡ false → (not ((binds && comma) && one && false) && not ((binds && comma) && two && not false) && not (opening && zero && false)) ≡ true
+keeps_bool true true one two opening zero e = absurd (true-false e)
   where
     true-false : true ≡ false → ⊥
     true-false e = cc
 keeps_bool true false one two true true e = refl
 keeps_bool true false one two true false e = refl
 keeps_bool true false one two false zero e = refl
-keeps_bool false false one two true true e = refl
-keeps_bool false false one two true false e = refl
-keeps_bool false false one two false zero e = refl
+keeps_bool false comma one two true true e = refl
+keeps_bool false comma one two true false e = refl
+keeps_bool false comma one two false zero e = refl
 
 either_true : (b x : Bool) → x ≡ true → (if b then x else not false) ≡ true
 either_true true x e = e
@@ -120,7 +147,7 @@ no_break : (free : Bool) (cost : ℕ) → (if free && false then cost else 0) �
 no_break true cost = refl
 no_break false cost = refl
 
-module _ (style : Style) (layout : Layout) (left right : LineTok) (may : (gap_rule style left right).must ≡ false) (left_opens : opens_frame left.role ≡ false) (right_opens : opens_frame right.role ≡ false) (comma : is_comma left.role ≡ false) (shallow : length layout.frames ≤ right.depth) where
+module _ (style : Style) (layout : Layout) (left right : LineTok) (may : (gap_rule style left right).must ≡ false) (left_opens : opens_frame left.role ≡ false) (right_opens : opens_frame right.role ≡ false) (unbound : (opener : Role) → (is_comma left.role && binds_commas style opener) ≡ false) where
   abbrev here : Gap
   here = record { left = left; right = right; fixed = None; first = false }
 
@@ -128,7 +155,7 @@ module _ (style : Style) (layout : Layout) (left right : LineTok) (may : (gap_ru
   spot = spot_of layout here
 
   keeps : keeps_rules_at style spot here false ≡ true
-  keeps = keeps_bool (binds_commas style spot.top.opener) (is_comma left.role) (spot.top.comma == 1) (spot.top.comma == 2) (binds_opening style spot.top.opener && not spot.opened) (spot.top.opening == 0) comma
+  keeps = keeps_bool (binds_commas style spot.top.opener) (is_comma left.role) (spot.top.comma == 1) (spot.top.comma == 2) (binds_opening style spot.top.opener && not spot.opened) (spot.top.opening == 0) (unbound spot.top.opener)
 
   allowed_here : is_allowed style layout here false ≡ true
   allowed_here = ap (λ (b : Bool). if b then false else (if (gap_rule style left right).can then keeps_rules_at style spot here false else not false)) may ∙ either_true (gap_rule style left right).can (keeps_rules_at style spot here false) keeps
@@ -141,25 +168,27 @@ module _ (style : Style) (layout : Layout) (left right : LineTok) (may : (gap_ru
   steps_here : StepsBeside style layout here false
   steps_here = record {
     allowed = allowed_here;
-    frames = frames_stay style layout here false shallow left_opens right_opens (ap (λ (b : Bool). b && binds_commas style (topmost layout.base layout.frames).opener) comma);
+    frames = open_stay style layout here false left_opens right_opens (unbound (topmost layout.base (open_frames layout here)).opener);
     start = refl;
     cost = cost_here;
   }
 
-pub steps_beside : (style : Style) (layout : Layout) (gap : Gap) (rule : GapRule) (brk : Bool) → rule ≡ gap_rule style gap.left gap.right → IsPlain layout gap rule brk → StepsBeside style layout gap brk
-steps_beside style layout gap rule brk is plain =
-    let may : (gap_rule style gap.left gap.right).must ≡ false = ap (λ (r : GapRule). r.must) (sym is) ∙ plain.may in
-    let steps = steps_here style layout gap.left gap.right may plain.left plain.right plain.comma plain.shallow in
-    let inside : StepsBeside style layout (record { left = gap.left; right = gap.right; fixed = None; first = gap.first }) false = subst (λ (b : Bool). StepsBeside style layout (record { left = gap.left; right = gap.right; fixed = None; first = b }) false) (sym plain.inside) steps in
-    let free : StepsBeside style layout gap false = subst (λ (f : Option Fixed). StepsBeside style layout (record { left = gap.left; right = gap.right; fixed = f; first = gap.first }) false) (sym plain.free) inside in
-    subst (λ (b : Bool). StepsBeside style layout gap b) (sym plain.stays) free
+pub steps_beside : (style : Style) (layout : Layout) (gap : Gap) (rule : GapRule) (brk : Bool) → rule ≡ gap_rule style gap.left gap.right → IsBeside style gap rule brk → StepsBeside style layout gap brk
+steps_beside style layout gap rule brk is beside =
+    let may : (gap_rule style gap.left gap.right).must ≡ false = ap (λ (r : GapRule). r.must) (sym is) ∙ beside.may in
+    let steps = steps_here style layout gap.left gap.right may beside.left beside.right beside.unbound in
+    let inside : StepsBeside style layout (record { left = gap.left; right = gap.right; fixed = None; first = gap.first }) false = subst (λ (b : Bool). StepsBeside style layout (record { left = gap.left; right = gap.right; fixed = None; first = b }) false) (sym beside.inside) steps in
+    let free : StepsBeside style layout gap false = subst (λ (f : Option Fixed). StepsBeside style layout (record { left = gap.left; right = gap.right; fixed = f; first = gap.first }) false) (sym beside.free) inside in
+    subst (λ (b : Bool). StepsBeside style layout gap b) (sym beside.stays) free
 
 -- the layout of such a step, in a store
-pub beside_in : (style : Style) (lists : List FrameList) (state next : NodeState) (gap : Gap) (brk : Bool) → StepsBeside style (layout_in lists state) gap brk → (spaces : ℕ) → spaces ≡ spaces_before style gap.left gap.right → next.index ≡ state.index + 1 → next.node ≡ state.node →
+pub beside_in : (style : Style) (lists : List FrameList) (state next : NodeState) (gap : Gap) (brk : Bool) → StepsBeside style (layout_in lists state) gap brk → (spaces : ℕ) → spaces ≡ spaces_before style gap.left gap.right → next.index ≡ state.index + 1 → (low : ℕ) → next.node ≡ low →
+    list_at lists low ≡ record { base = (list_at lists state.node).base; frames = open_frames (layout_in lists state) gap } →
     next.column ≡ end_of gap.right (columns state.column spaces) → layout_in lists next ≡ layout_after style (layout_in lists state) gap brk
-beside_in style lists state next gap brk steps spaces told index node column =
+beside_in style lists state next gap brk steps spaces told index low node list column =
     let start : columns state.column spaces ≡ start_of style (layout_in lists state) gap brk = ap (λ (n : ℕ). columns state.column n) told ∙ sym steps.start in
     ap (λ (i : ℕ). let l : Layout = record { index = i; column = next.column; base = (list_at lists next.node).base; frames = (list_at lists next.node).frames } in l) index
     ∙ ap (λ (n : ℕ). let l : Layout = record { index = state.index + 1; column = next.column; base = (list_at lists n).base; frames = (list_at lists n).frames } in l) node
-    ∙ ap (λ (k : ℕ). let l : Layout = record { index = state.index + 1; column = k; base = (list_at lists state.node).base; frames = (list_at lists state.node).frames } in l) (column ∙ ap (λ (k : ℕ). end_of gap.right k) start)
+    ∙ ap (λ (e : FrameList). let l : Layout = record { index = state.index + 1; column = next.column; base = e.base; frames = e.frames } in l) list
+    ∙ ap (λ (k : ℕ). let l : Layout = record { index = state.index + 1; column = k; base = (list_at lists state.node).base; frames = open_frames (layout_in lists state) gap } in l) (column ∙ ap (λ (k : ℕ). end_of gap.right k) start)
     ∙ ap (λ (fs : List Frame). let l : Layout = record { index = state.index + 1; column = end_of gap.right (start_of style (layout_in lists state) gap brk); base = (list_at lists state.node).base; frames = fs } in l) (sym steps.frames)

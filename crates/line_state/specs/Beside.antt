@@ -1,24 +1,24 @@
 -- Tokens that stand beside the one before them and leave the frames as they are.
-use Rattle.std.specs.Prelude.{◌≡◌, ◌≤◌, ℕ, ◌-◌, Bool, false, if◌then◌else◌, None, length}
+use Rattle.std.specs.Prelude.{◌≡◌, ℕ, ◌-◌, Bool, false, ◌&&◌, if◌then◌else◌, None}
 use Rattle.line_tokens.specs.Roles.{is_comma, is_trailing}
+use Rattle.line_tokens.specs.declared.role.Role.{Role}
 use Rattle.line_tokens.specs.declared.LineTok.{LineTok}
 use Rattle.line_tokens.specs.Columns.{columns}
 use Rattle.style_table.specs.declared.style.Style.{Style}
 use Rattle.layout_tables.specs.declared.penalties.GapRule.{GapRule}
 use Rattle.line_state.specs.declared.gap.Gap.{Gap}
-use Rattle.line_state.specs.Brackets.{opens_frame}
-use Rattle.line_state.specs.Layout.{Layout, excess}
+use Rattle.line_state.specs.Brackets.{opens_frame, binds_commas}
+use Rattle.line_state.specs.Layout.{excess}
 
--- a token that may stay whatever the frames are, and leaves them as they are
-pub record IsPlain (layout : Layout) (gap : Gap) (rule : GapRule) (brk : Bool) : Type 0 where
+-- a token that may stay whatever the frames are, and leaves those as they are that are open before it
+pub record IsBeside (style : Style) (gap : Gap) (rule : GapRule) (brk : Bool) : Type 0 where
   pub stays : brk ≡ false
   pub inside : gap.first ≡ false
   pub free : gap.fixed ≡ None
   pub may : rule.must ≡ false
   pub left : opens_frame gap.left.role ≡ false
   pub right : opens_frame gap.right.role ≡ false
-  pub comma : is_comma gap.left.role ≡ false
-  pub shallow : length layout.frames ≤ gap.right.depth
+  pub unbound : (opener : Role) → (is_comma gap.left.role && binds_commas style opener) ≡ false
 
 -- the columns past the limit that a token adds to the row of the token before it
 abbrev pub excess_beside : Style → ℕ → ℕ → LineTok → ℕ

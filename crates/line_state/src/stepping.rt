@@ -2,14 +2,16 @@
 
 ghost use Rattle.std.specs.Prelude.{◌≡◌, ◌+◌, ◌*◌, ◌^◌, ◌<◌, ◌≤◌, ◌&&◌, not, nat_le, true, false, length, IfOk, IsTrue};
 ghost use Rattle.std.specs.Prelude.{IfNone, IfSome, OnSome};
-ghost use Rattle.line_state.specs.Brackets.{opens_frame};
+ghost use Rattle.line_tokens.specs.Roles.{is_comma};
+ghost use Rattle.line_tokens.specs.declared.role.Role.{Role};
+ghost use Rattle.line_state.specs.Brackets.{opens_frame, binds_commas};
 ghost use Rattle.style_table.specs.Range.{IsInRange};
 ghost use Rattle.line_state.specs.Layout.{AreRules, gap_before, is_allowed, spot_of, open_frames, with_opened};
 ghost use Rattle.line_state.specs.Layout.{layout_after, cost_of, cells_of, start_layout};
 ghost use Rattle.frame_store.specs.Frames.{with_topmost};
 ghost use Rattle.frame_store.specs.Store.{list_at, IsIn, IsGrown};
 ghost use Rattle.line_state.specs.StoredStates.{layout_in};
-ghost use Rattle.line_state.specs.Beside.{IsPlain, excess_beside};
+ghost use Rattle.line_state.specs.Beside.{IsBeside, excess_beside};
 ghost use Rattle.line_tokens.specs.Columns.{columns, end_of};
 ghost use Rattle.std.specs.Bool.{OnTrue};
 
@@ -211,20 +213,27 @@ pub fn step_in<'r>(
     step_from(store, style, state, &gap, &rules, left_open, &spot, brk)
 }
 
-/// Whether a token leaves the frames as they are and may stay whatever they tell: neither it nor the one before it
-/// opens one, and the one before it closes none and is no comma.
+/// Whether a token is no comma by which gaps behind other commas are bound, in whatever bracket it stands.
 #[inline(always)]
-fn is_plain(store: &FrameStore<'_>, state: &NodeState, gap: &Gap, rule: &GapRule, brk: bool) -> bool
-    requires { IsIn store.now state.now }
-    ensures { OnTrue result (IsPlain (layout_in store.now state.now) gap.now rule.now brk) }
+fn binds_no_gaps(style: &Style, role: Role) -> bool
+    ensures { OnTrue result ((opener : Role) → (is_comma role && binds_commas style.now opener) ≡ false) }
+{
+    !role.is_comma() || style.bin_pack_arguments && style.bin_pack_parameters
+}
+
+/// Whether a token leaves the open frames as they are and may stay whatever they tell: neither it nor the one before it
+/// opens one, and no comma before it binds others.
+#[inline(always)]
+fn is_beside(style: &Style, gap: &Gap, rule: &GapRule, brk: bool) -> bool
+    ensures { OnTrue result (IsBeside style.now gap.now rule.now brk) }
 {
     if brk || gap.first || gap.fixed.is_some() || rule.must {
         return false;
     }
-    if opens(gap.left.role) || opens(gap.right.role) || gap.left.role.is_comma() {
+    if opens(gap.left.role) || opens(gap.right.role) {
         return false;
     }
-    store.node(state.node).depth <= gap.right.depth
+    binds_no_gaps(style, gap.left.role)
 }
 
 /// The columns past the limit that a token's first row adds to the row of the token before it.
@@ -242,13 +251,19 @@ fn excess_beside(style: &Style, column: u32, start: u32, token: &LineTok) -> u32
     after.saturating_sub(before)
 }
 
-/// The state with the gap's token more, which stays and leaves the frames as they are.
+/// The state with the gap's token more, which stays and leaves the open frames as they are. These are the node's.
 #[inline(always)]
-fn step_beside(style: &Style, state: &NodeState, gap: &Gap, rules: &GapRules) -> NodeState
+fn step_beside(
+    style: &Style,
+    state: &NodeState,
+    gap: &Gap,
+    rules: &GapRules,
+    left_open: u32,
+) -> NodeState
     requires index { state.now.index < 4294967295 }
     requires cost { state.now.cost ≤ state.now.index * 18446744073709551615 }
     ensures index { result.index ≡ state.now.index + 1 }
-    ensures node { result.node ≡ state.now.node }
+    ensures node { result.node ≡ left_open }
     ensures column { result.column ≡ end_of gap.now.right (columns state.now.column rules.now.spaces) }
     ensures cost { result.cost
         ≡ state.now.cost + style.now.penalty_excess_character
@@ -262,7 +277,7 @@ fn step_beside(style: &Style, state: &NodeState, gap: &Gap, rules: &GapRules) ->
         index: state.index + 1,
         column: end_column(&gap.right, start),
         cost: state.cost + u128::from(cost),
-        node: state.node,
+        node: left_open,
     }
 }
 
@@ -313,10 +328,10 @@ pub fn try_step_by<'r>(
     if is_refused(style, &gap, &rules.rule, brk) {
         return Ok(None);
     }
-    if is_plain(store, state, &gap, &rules.rule, brk) {
-        return Ok(Some(step_beside(style, state, &gap, rules)));
-    }
     let left_open = store.lowest(state.node, gap.right.depth);
+    if is_beside(style, &gap, &rules.rule, brk) {
+        return Ok(Some(step_beside(style, state, &gap, rules, left_open)));
+    }
     let spot = spot_in(store, state, &gap, left_open);
     if !allows(style, &spot, &gap, &rules.rule, brk) {
         return Ok(None);

@@ -13,20 +13,20 @@ returns-then-is_refused-clause-none c =
     let layout = layout_in c.args.store.now c.args.state.now in
     on_true_at _ _ c.if-is_refused.true c.is_refused.ensures (spot_of layout (gap_before layout c.args.left.now c.args.right.now c.args.fixed))
 
-pub returns-then-is_plain-clause-some : goal.returns-then-is_plain-clause-some
-returns-then-is_plain-clause-some c = (steps_beside c.args.style.now (layout_in c.args.store.now c.args.state.now) _ _ _ c.requires.rules.rule (on_true_at _ _ c.if-is_plain.true c.is_plain.ensures)).allowed
+pub returns-then-is_beside-clause-some : goal.returns-then-is_beside-clause-some
+returns-then-is_beside-clause-some c = (steps_beside c.args.style.now (layout_in c.args.store.now c.args.state.now) _ _ _ c.requires.rules.rule (on_true_at _ _ c.if-is_beside.true c.is_beside.ensures)).allowed
 
-pub returns-then-is_plain-clause-layout : goal.returns-then-is_plain-clause-layout
-returns-then-is_plain-clause-layout c =
+pub returns-then-is_beside-clause-layout : goal.returns-then-is_beside-clause-layout
+returns-then-is_beside-clause-layout c =
     let layout = layout_in c.args.store.now c.args.state.now in
-    let steps = steps_beside c.args.style.now layout (gap_before layout c.args.left.now c.args.right.now c.args.fixed) _ _ c.requires.rules.rule (on_true_at _ _ c.if-is_plain.true c.is_plain.ensures) in
-    beside_in c.args.style.now c.args.store.now c.args.state.now c.step_beside.result _ _ steps _ c.requires.rules.spaces c.step_beside.ensures.index c.step_beside.ensures.node c.step_beside.ensures.column
+    let steps = steps_beside c.args.style.now layout (gap_before layout c.args.left.now c.args.right.now c.args.fixed) _ _ c.requires.rules.rule (on_true_at _ _ c.if-is_beside.true c.is_beside.ensures) in
+    beside_in c.args.style.now c.args.store.now c.args.state.now c.step_beside.result _ _ steps _ c.requires.rules.spaces c.step_beside.ensures.index _ c.step_beside.ensures.node c.lowest-left_open.ensures.list c.step_beside.ensures.column
 
-pub returns-then-is_plain-clause-cost : goal.returns-then-is_plain-clause-cost
-returns-then-is_plain-clause-cost c =
+pub returns-then-is_beside-clause-cost : goal.returns-then-is_beside-clause-cost
+returns-then-is_beside-clause-cost c =
     let style = c.args.style.now in
     let column = c.args.state.now.column in
-    let steps = steps_beside style (layout_in c.args.store.now c.args.state.now) _ _ _ c.requires.rules.rule (on_true_at _ _ c.if-is_plain.true c.is_plain.ensures) in
+    let steps = steps_beside style (layout_in c.args.store.now c.args.state.now) _ _ _ c.requires.rules.rule (on_true_at _ _ c.if-is_beside.true c.is_beside.ensures) in
     c.step_beside.ensures.cost
     ∙ ap (λ (spaces : ℕ). c.args.state.now.cost + style.penalty_excess_character * excess_beside style column (columns column spaces) c.args.right.now) c.requires.rules.spaces
     ∙ ap (λ (cost : ℕ). c.args.state.now.cost + cost) (sym steps.cost)
