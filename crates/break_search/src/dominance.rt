@@ -10,7 +10,7 @@ use crate::table::Table;
 use crate::ties::is_before;
 use searched_line::Saturation;
 
-/// With how many of the layouts of as many tokens that were met last a layout is compared.
+/// With how many of the layouts of as many tokens that were settled last a layout is compared.
 const MOST_COMPARED: usize = 8;
 
 /// Whether the first node is another one that is settled, stands ahead of the second and has a better way.
@@ -33,7 +33,7 @@ fn passes(table: &Table<'_>, first: usize, second: usize) -> bool
     cost < other
 }
 
-/// Whether one of the nodes that were met last passes a node.
+/// Whether one of the nodes that were settled last before a node passes it.
 fn is_passed(table: &Table<'_>, at: usize) -> bool
     requires parents { HaveParents table.now }
     requires apart { HavePaths table.now }
@@ -41,20 +41,15 @@ fn is_passed(table: &Table<'_>, at: usize) -> bool
     requires at { at < length table.now }
     ensures { OnTrue result ((v : ℕ) × Passes table.now v at) }
 {
-    let last = table.last_end(at);
-    let before = table.end_before(at);
-    // Most nodes are the last of their number of tokens, and aren't compared with themselves. (0 wraps to a number that
-    // no node has.)
-    let is_last = last.wrapping_sub(1) == at;
-    let mut end = if is_last { before } else { last };
-    'back: for compared in usize::from(is_last)..MOST_COMPARED {
+    let mut end = table.settled_before(at);
+    'back: for compared in 0..MOST_COMPARED {
         if end == 0 || end > table.len() {
             return false;
         }
         if passes(table, end - 1, at) {
             return true;
         }
-        end = table.end_before(end - 1);
+        end = table.settled_before(end - 1);
     }
     false
 }

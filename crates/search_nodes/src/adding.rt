@@ -1,6 +1,7 @@
 //! Adds nodes, and lists those of long chains.
 
 ghost use Rattle.std.specs.Prelude.{◌≡◌, ◌≢◌, ℕ, ◌+◌, ◌<◌, ◌≤◌, [], ◌∷◌, ◌++◌, Some, length, slice_get, OnOk, OnErr};
+ghost use Rattle.std.specs.Vec.{vec_len, vec_capacity};
 ghost use Rattle.frame_store.specs.Store.{state_digest};
 ghost use Rattle.search_nodes.specs.Groups.{IsGrouped, IsPlaced, AreListed};
 
@@ -139,6 +140,28 @@ fn reserve_place(ends: &mut Vec<usize, &Bump>, index: u32) -> Result<(), NoMemor
     make_places(ends, index)
 }
 
+/// Makes room for nodes. It is a call of its own, since it is seldom needed.
+#[inline(never)]
+fn make_room(nodes: &mut Vec<Node>) -> Result<(), NoMemory>
+    ensures items { nodes.new.items ≡ nodes.old.items }
+    ensures room { OnOk result (vec_len nodes.new < vec_capacity nodes.new) }
+{
+    nodes.reserve(1)?;
+    Ok(())
+}
+
+/// Sees that there is room for a node.
+#[inline(always)]
+fn reserve_room(nodes: &mut Vec<Node>) -> Result<(), NoMemory>
+    ensures items { nodes.new.items ≡ nodes.old.items }
+    ensures room { OnOk result (vec_len nodes.new < vec_capacity nodes.new) }
+{
+    if nodes.len() < nodes.capacity() {
+        return Ok(());
+    }
+    make_room(nodes)
+}
+
 /// Adds a node, with which the chain of its number of tokens ends. It is written to its place at once: the vector's
 /// `push` would hold it ready to be handed back. Want of memory is the only error.
 #[inline(always)]
@@ -153,8 +176,8 @@ pub fn add(nodes: &mut Vec<Node>, ends: &mut Vec<usize, &Bump>, node: Node) -> R
 {
     let index = node.state.index;
     reserve_place(ends, index)?;
-    nodes.reserve(1)?;
-    ends[index as usize] = nodes.len() + 1;
+    reserve_room(nodes)?;
     nodes.push_reserved(node);
+    ends[index as usize] = nodes.len();
     Ok(())
 }

@@ -28,6 +28,9 @@ pub struct Node {
     pub brk: bool,
     /// No better way to it is left.
     pub settled: bool,
+    /// Once it is settled: behind the node that was settled before it with as many tokens, or 0. It is told in 32 bits,
+    /// so that a node fills a line of a processor's cache and no more; who reads it looks whether it can be.
+    pub settled_before: u32,
 }
 
 /// A node that isn't settled, on a chain of so many others.
@@ -44,6 +47,7 @@ pub fn open_node(state: NodeState, parent: usize, brk: bool, before: usize, rank
         height: 0,
         brk,
         settled: false,
+        settled_before: 0,
     }
 }
 
