@@ -1,6 +1,6 @@
 -- Tokens that leave the frames as they are.
-use Rattle.std.proofs.Common.{◌≡◌, ℕ, ◌+◌, ◌-◌, ◌*◌, ◌≤◌, Bool, true, false, ◌&&◌, ◌==◌, not, nat_le, if◌then◌else◌}
-use Rattle.std.proofs.Common.{Option, None, List, [], ◌∷◌, ◌++◌, length, refl, arith, ap, sym, ◌∙◌, subst}
+use Rattle.std.proofs.Common.{◌≡◌, ℕ, ◌+◌, ◌-◌, ◌*◌, Bool, true, false, ◌&&◌, ◌==◌, not, nat_le, if◌then◌else◌}
+use Rattle.std.proofs.Common.{Option, None, List, [], ◌∷◌, ◌++◌, length, take, refl, arith, ap, sym, ◌∙◌, subst}
 use Rattle.std.specs.Bool.{OnTrue}
 use Rattle.std.proofs.lemmas.List.{set-get_or}
 use Rattle.line_tokens.specs.Columns.{columns, end_of}
@@ -25,11 +25,14 @@ use Rattle.frame_store.specs.declared.node.NodeState.{NodeState}
 use Rattle.frame_store.specs.Store.{FrameList, list_at}
 use Rattle.line_state.specs.StoredStates.{layout_in}
 use Rattle.line_state.specs.Beside.{IsBeside, excess_beside}
-use Rattle.frame_store.proofs.Lists.{all_taken}
 
 past_false : (a c : Bool) → (a && false && c) ≡ false
 past_false true c = refl
 past_false false c = refl
+
+and_false : (b : Bool) → (b && false) ≡ false
+and_false true = refl
+and_false false = refl
 
 no_comma : (binds comma free new : Bool) → (comma && binds) ≡ false → (binds && comma && free && new) ≡ false
 no_comma true true free new e = absurd (true-false e)
@@ -50,12 +53,8 @@ packed_binds style arguments parameters _ = refl
 pub binds_none : (style : Style) (comma : Bool) → style.bin_pack_arguments ≡ true → OnTrue style.bin_pack_parameters ((opener : Role) → (comma && binds_commas style opener) ≡ false)
 binds_none style comma arguments = by_flag style.bin_pack_parameters refl
   where
-    neither : (b : Bool) → (b && false) ≡ false
-    neither true = refl
-    neither false = refl
-
     by_flag : (p : Bool) → style.bin_pack_parameters ≡ p → OnTrue p ((opener : Role) → (comma && binds_commas style opener) ≡ false)
-    by_flag true parameters = λ opener. ap (λ (b : Bool). comma && b) (packed_binds style arguments parameters opener) ∙ neither comma
+    by_flag true parameters = λ opener. ap (λ (b : Bool). comma && b) (packed_binds style arguments parameters opener) ∙ and_false comma
     by_flag false parameters = tt
 
 module _ (style : Style) (layout : Layout) (gap : Gap) (brk : Bool) (left_opens : opens_frame gap.left.role ≡ false) (right_opens : opens_frame gap.right.role ≡ false)
@@ -78,44 +77,18 @@ module _ (style : Style) (layout : Layout) (gap : Gap) (brk : Bool) (left_opens 
       ap (λ (b : Bool). let fs : List Frame = if b then placed_frames style layout gap brk ++ new_frame style (topmost layout.base (placed_frames style layout gap brk)) gap.right.role ∷ [] else placed_frames style layout gap brk in fs) right_opens
       ∙ ap (λ (f : Frame). with_topmost (open_frames layout gap) f) same_placed ∙ set-get_or (open_frames layout gap) (length (open_frames layout gap) - 1) layout.base
 
-module _ (style : Style) (layout : Layout) (gap : Gap) (brk : Bool) (shallow : length layout.frames ≤ gap.right.depth) (left_opens : opens_frame gap.left.role ≡ false) (right_opens : opens_frame gap.right.role ≡ false)
-    (unbound : (is_comma gap.left.role && binds_commas style (topmost layout.base layout.frames).opener) ≡ false) where
-  all_open : open_frames layout gap ≡ layout.frames
-  all_open = sym (ap (λ (l : FrameList). l.frames) (all_taken (record { base = layout.base; frames = layout.frames }) gap.right.depth shallow))
-
-  unbound_there : (is_comma gap.left.role && binds_commas style (topmost layout.base (open_frames layout gap)).opener) ≡ false
-  unbound_there = ap (λ (fs : List Frame). is_comma gap.left.role && binds_commas style (topmost layout.base fs).opener) all_open ∙ unbound
-
-  pub frames_stay : frames_after style layout gap brk ≡ layout.frames
-  frames_stay = open_stay style layout gap brk left_opens right_opens unbound_there ∙ all_open
-
 -- .. as a test tells them
-pub stay_on : (style : Style) (layout : Layout) (left right : LineTok) → length layout.frames ≤ right.depth → opens_frame left.role ≡ false → opens_frame right.role ≡ false → (is_comma left.role && binds_commas style (topmost layout.base layout.frames).opener) ≡ false →
-    (fixed : Option Fixed) (brk : Bool) → frames_after style layout (gap_before layout left right fixed) brk ≡ layout.frames
-stay_on style layout left right shallow left_opens right_opens unbound fixed brk = frames_stay style layout (gap_before layout left right fixed) brk shallow left_opens right_opens unbound
+pub stay_on : (style : Style) (layout : Layout) (left right : LineTok) → opens_frame left.role ≡ false → opens_frame right.role ≡ false → (is_comma left.role && binds_commas style (topmost layout.base (take right.depth layout.frames)).opener) ≡ false →
+    (fixed : Option Fixed) (brk : Bool) → frames_after style layout (gap_before layout left right fixed) brk ≡ take right.depth layout.frames
+stay_on style layout left right left_opens right_opens unbound fixed brk = open_stay style layout (gap_before layout left right fixed) brk left_opens right_opens unbound
 
 -- .. where a comma stands before the token
-pub stay_behind_comma : (style : Style) (layout : Layout) (left right : LineTok) → length layout.frames ≤ right.depth → opens_frame left.role ≡ false → opens_frame right.role ≡ false → (frame : Frame) → frame ≡ topmost layout.base layout.frames → (binds : Bool) → binds ≡ binds_commas style frame.opener →
-    OnTrue (not binds) ((fixed : Option Fixed) (brk : Bool) → frames_after style layout (gap_before layout left right fixed) brk ≡ layout.frames)
-stay_behind_comma style layout left right shallow left_opens right_opens frame is true binds = tt
-stay_behind_comma style layout left right shallow left_opens right_opens frame is false binds =
-    let free : binds_commas style (topmost layout.base layout.frames).opener ≡ false = ap (λ (f : Frame). binds_commas style f.opener) (sym is) ∙ sym binds in
-    stay_on style layout left right shallow left_opens right_opens (ap (λ (b : Bool). is_comma left.role && b) free ∙ and_false (is_comma left.role))
-  where
-    and_false : (b : Bool) → (b && false) ≡ false
-    and_false true = refl
-    and_false false = refl
-
--- a token beside the one before it
-module _ (style : Style) (layout : Layout) (left right : LineTok) (fixed : Option Fixed) (brk : Bool) (free : fixed ≡ None) (stays : brk ≡ false) (start : ℕ) (is : start ≡ columns layout.column (spaces_before style left right)) where
-  pub beside_start : start ≡ start_of style layout (gap_before layout left right fixed) brk
-  beside_start = is ∙ sym (ap (λ (f : Option Fixed). start_of style layout (gap_before layout left right f) brk) free ∙ ap (λ (b : Bool). start_of style layout (gap_before layout left right None) b) stays)
-
-  pub beside_layout : frames_after style layout (gap_before layout left right fixed) brk ≡ layout.frames → (new : Layout) → new ≡ record { index = layout.index + 1; column = end_of right start; base = layout.base; frames = layout.frames } →
-      new ≡ layout_after style layout (gap_before layout left right fixed) brk
-  beside_layout same new e =
-      e ∙ ap (λ (s : ℕ). let l : Layout = record { index = layout.index + 1; column = end_of right s; base = layout.base; frames = layout.frames } in l) beside_start
-      ∙ ap (λ (fs : List Frame). let l : Layout = record { index = layout.index + 1; column = end_of right (start_of style layout (gap_before layout left right fixed) brk); base = layout.base; frames = fs } in l) (sym same)
+pub stay_behind_comma : (style : Style) (layout : Layout) (left right : LineTok) → opens_frame left.role ≡ false → opens_frame right.role ≡ false → (frame : Frame) → frame ≡ topmost layout.base (take right.depth layout.frames) → (binds : Bool) → binds ≡ binds_commas style frame.opener →
+    OnTrue (not binds) ((fixed : Option Fixed) (brk : Bool) → frames_after style layout (gap_before layout left right fixed) brk ≡ take right.depth layout.frames)
+stay_behind_comma style layout left right left_opens right_opens frame is true binds = tt
+stay_behind_comma style layout left right left_opens right_opens frame is false binds =
+    let free : binds_commas style (topmost layout.base (take right.depth layout.frames)).opener ≡ false = ap (λ (f : Frame). binds_commas style f.opener) (sym is) ∙ sym binds in
+    stay_on style layout left right left_opens right_opens (ap (λ (b : Bool). is_comma left.role && b) free ∙ and_false (is_comma left.role))
 
 -- what a step by such a token tells
 pub record StepsBeside (style : Style) (layout : Layout) (gap : Gap) (brk : Bool) : Type 0 where
