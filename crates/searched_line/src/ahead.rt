@@ -1,6 +1,6 @@
 //! What the breakings of a line cost at least beyond a layout.
 
-ghost use Rattle.std.specs.Prelude.{◌≡◌, ℕ, ◌+◌, ◌<◌, Some, length, slice_get, IfOk};
+ghost use Rattle.std.specs.Prelude.{◌≡◌, ℕ, ◌+◌, ◌<◌, Some, length, slice_get, IfOk, if◌then◌else◌, min};
 ghost use Rattle.style_table.specs.declared.style.Style.{Style};
 ghost use Rattle.searched_line.specs.Ahead.{can_stay, stretch_with, no_stretch, HaveStretches};
 ghost use Rattle.searched_line.specs.Searched.{line_of};
@@ -42,6 +42,15 @@ fn stays(rules: &GapRules, token: &LineTok, decision: Option<Fixed>) -> bool
         && token.first_width == token.last_width
 }
 
+/// The lesser of two costs where the first one counts, and otherwise the second. Which gaps can break can't be foreseen,
+/// so that isn't asked.
+#[inline(always)]
+fn least_where(counts: bool, cost: u64, other: u64) -> u64
+    ensures { result ≡ (if counts then min cost other else other) }
+{
+    other - u64::from(counts) * other.saturating_sub(cost)
+}
+
 /// The stretch of a gap's token and the tokens behind it.
 fn stretch_with(
     rules: &GapRules,
@@ -55,14 +64,9 @@ fn stretch_with(
         return no_stretch();
     }
     let width = u32::from(rules.spaces).saturating_add(token.first_width);
-    let least = if rules.rule.can {
-        rules.rule.cost.min(next.least)
-    } else {
-        next.least
-    };
     Stretch {
         width: width.saturating_add(next.width),
-        least,
+        least: least_where(rules.rule.can, rules.rule.cost, next.least),
     }
 }
 
