@@ -42,8 +42,8 @@ fn stays(rules: &GapRules, token: &LineTok, decision: Option<Fixed>) -> bool
         && token.first_width == token.last_width
 }
 
-/// The lesser of two costs where the first one counts, and otherwise the second. Which gaps can break can't be foreseen,
-/// so that isn't asked.
+/// The lesser of two costs where the first one counts, and otherwise the second. Which gaps can break can't be
+/// foreseen, so that isn't asked.
 #[inline(always)]
 fn least_where(counts: bool, cost: u64, other: u64) -> u64
     ensures { result ≡ (if counts then min cost other else other) }
