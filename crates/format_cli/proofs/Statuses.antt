@@ -1,5 +1,6 @@
 -- What follows from a refusal and its status.
-use Rattle.std.proofs.Common.{◌≡◌, ◌∙◌, ◌<◌, ◌⊎◌, ℕ, List, [], ◌∷◌, Ok, Err, Some, None, refl, sym, ap, subst, inl, inr, arith}
+use Rattle.std.proofs.Common.{◌≡◌, ◌∙◌, ◌<◌, ◌==◌, ◌⊎◌, ℕ, false, List, [], ◌∷◌, Ok, Err, Some, None, refl, sym, ap, subst, inl, inr, arith}
+use Rattle.std.proofs.lemmas.Bool.{both_ways, eq-eqb}
 use Rattle.std.specs.Prelude.{⊤}
 use Rattle.std.specs.declared.option.Option.{Option}
 use Rattle.style_table.specs.declared.style.Style.{Style}
@@ -236,6 +237,10 @@ no_budget words word said bad says = let e : Some said.budget ≡ None = sym say
 pub no_lines : (words : List (List ℕ)) (word : List ℕ) (fault : RangeFault) (said : Words) → HasBadLines (rows_of_words words) word fault → Says (rows_of_words words) said → ⊥
 no_lines words word fault said bad says =
     let e : Ok said.lines ≡ asked_by (Err fault) = sym says.lines ∙ (ap lines_of bad.given ∙ ap asked_by bad.bad) in cc
+
+-- two numbers that differ
+pub apart : (a b : ℕ) → (a == b) ≡ false → a ≡ b → ⊥
+apart a b differs is = both_ways (a == b) differs (eq-eqb a b is)
 
 -- a count that stays didn't rise
 pub not_risen : (a b : ℕ) → b ≡ a → a < b → ⊥

@@ -1,7 +1,7 @@
 use Rattle.std.proofs.Common.{◌∙◌, inl, inr, map, refl, rules, string_bytes, sym}
 use Rattle.command_refusals.proofs.Statuses.{not_one, not_zero, failed, source_fault, out_fault, files_fault, missing, misses}
 use Rattle.format_cli.specs.Account.{EndsWell, world}
-use Rattle.format_cli.proofs.Statuses.{known, bad_words, form, no_style, not_read, not_risen}
+use Rattle.format_cli.proofs.Statuses.{known, bad_words, form, no_style, apart, not_read, not_risen}
 use Rattle.format_cli.proofs.Kept.{asks, out_kept_well, out_kept, files_kept_well, files_kept, missing_name, refused_input}
 use Rattle.format_cli.proofs.Order.{ends_not_well, ends_so, lacks_not_well, lacks_so, row_told}
 use Rattle.format_cli.proofs.command.format_command.Goals as goal
@@ -121,22 +121,22 @@ pub returns-in-Ok-Done-clause-known : goal.returns-in-Ok-Done-clause-known
 returns-in-Ok-Done-clause-known g c = inl refl
 
 pub returns-in-Ok-Done-clause-changed : goal.returns-in-Ok-Done-clause-changed
-returns-in-Ok-Done-clause-changed g c is = absurd (cc)
+returns-in-Ok-Done-clause-changed g c is = absurd (apart 0 1 refl is)
 
 pub returns-in-Ok-Done-clause-usage : goal.returns-in-Ok-Done-clause-usage
-returns-in-Ok-Done-clause-usage g c is = absurd (cc)
+returns-in-Ok-Done-clause-usage g c is = absurd (apart 0 2 refl is)
 
 pub returns-in-Ok-Done-clause-form : goal.returns-in-Ok-Done-clause-form
 returns-in-Ok-Done-clause-form g c bad = absurd (not_read _ _ bad c.in-Ok-Done.ensures.done.begins.reads)
 
 pub returns-in-Ok-Done-clause-style : goal.returns-in-Ok-Done-clause-style
-returns-in-Ok-Done-clause-style g c is = absurd (cc)
+returns-in-Ok-Done-clause-style g c is = absurd (apart 0 3 refl is)
 
 pub returns-in-Ok-Done-clause-input : goal.returns-in-Ok-Done-clause-input
-returns-in-Ok-Done-clause-input g c is forth = absurd (cc)
+returns-in-Ok-Done-clause-input g c is forth = absurd (apart 0 4 refl is)
 
 pub returns-in-Ok-Done-clause-failed : goal.returns-in-Ok-Done-clause-failed
-returns-in-Ok-Done-clause-failed g c is = absurd (cc)
+returns-in-Ok-Done-clause-failed g c is = absurd (apart 0 5 refl is)
 
 pub returns-in-Ok-Done-clause-source_fault : goal.returns-in-Ok-Done-clause-source_fault
 returns-in-Ok-Done-clause-source_fault g c more = absurd (not_risen _ _ c.in-Ok-Done.ensures.counts.source more)
@@ -154,10 +154,10 @@ pub returns-in-Ok-Done-clause-misses : goal.returns-in-Ok-Done-clause-misses
 returns-in-Ok-Done-clause-misses g c more = absurd (not_risen _ _ c.in-Ok-Done.ensures.counts.misses more)
 
 pub returns-in-Ok-Done-clause-missing_name : goal.returns-in-Ok-Done-clause-missing_name
-returns-in-Ok-Done-clause-missing_name g c is = absurd (cc)
+returns-in-Ok-Done-clause-missing_name g c is = absurd (apart 0 6 refl is)
 
 pub returns-in-Ok-Done-clause-missing : goal.returns-in-Ok-Done-clause-missing
-returns-in-Ok-Done-clause-missing g c is = absurd (cc)
+returns-in-Ok-Done-clause-missing g c is = absurd (apart 0 6 refl is)
 
 pub returns-in-Ok-WouldChange-clause-refused : goal.returns-in-Ok-WouldChange-clause-refused
 returns-in-Ok-WouldChange-clause-refused g c some more = absurd (more refl)
@@ -166,19 +166,19 @@ pub returns-in-Ok-WouldChange-clause-known : goal.returns-in-Ok-WouldChange-clau
 returns-in-Ok-WouldChange-clause-known g c = inr (inl refl)
 
 pub returns-in-Ok-WouldChange-clause-usage : goal.returns-in-Ok-WouldChange-clause-usage
-returns-in-Ok-WouldChange-clause-usage g c is = absurd (cc)
+returns-in-Ok-WouldChange-clause-usage g c is = absurd (apart 1 2 refl is)
 
 pub returns-in-Ok-WouldChange-clause-form : goal.returns-in-Ok-WouldChange-clause-form
 returns-in-Ok-WouldChange-clause-form g c bad = absurd (not_read _ _ bad c.in-Ok-WouldChange.ensures.done.begins.reads)
 
 pub returns-in-Ok-WouldChange-clause-style : goal.returns-in-Ok-WouldChange-clause-style
-returns-in-Ok-WouldChange-clause-style g c is = absurd (cc)
+returns-in-Ok-WouldChange-clause-style g c is = absurd (apart 1 3 refl is)
 
 pub returns-in-Ok-WouldChange-clause-input : goal.returns-in-Ok-WouldChange-clause-input
-returns-in-Ok-WouldChange-clause-input g c is forth = absurd (cc)
+returns-in-Ok-WouldChange-clause-input g c is forth = absurd (apart 1 4 refl is)
 
 pub returns-in-Ok-WouldChange-clause-failed : goal.returns-in-Ok-WouldChange-clause-failed
-returns-in-Ok-WouldChange-clause-failed g c is = absurd (cc)
+returns-in-Ok-WouldChange-clause-failed g c is = absurd (apart 1 5 refl is)
 
 pub returns-in-Ok-WouldChange-clause-source_fault : goal.returns-in-Ok-WouldChange-clause-source_fault
 returns-in-Ok-WouldChange-clause-source_fault g c more = absurd (not_risen _ _ c.in-Ok-WouldChange.ensures.counts.source more)
@@ -196,7 +196,7 @@ pub returns-in-Ok-WouldChange-clause-misses : goal.returns-in-Ok-WouldChange-cla
 returns-in-Ok-WouldChange-clause-misses g c more = absurd (not_risen _ _ c.in-Ok-WouldChange.ensures.counts.misses more)
 
 pub returns-in-Ok-WouldChange-clause-missing_name : goal.returns-in-Ok-WouldChange-clause-missing_name
-returns-in-Ok-WouldChange-clause-missing_name g c is = absurd (cc)
+returns-in-Ok-WouldChange-clause-missing_name g c is = absurd (apart 1 6 refl is)
 
 pub returns-in-Ok-WouldChange-clause-missing : goal.returns-in-Ok-WouldChange-clause-missing
-returns-in-Ok-WouldChange-clause-missing g c is = absurd (cc)
+returns-in-Ok-WouldChange-clause-missing g c is = absurd (apart 1 6 refl is)
