@@ -1,5 +1,5 @@
 -- The gaps of parts that are noted in a row are decided behind items that were laid out.
-use Rattle.std.proofs.Common.{◌≡◌, ◌∙◌, inl, inr, ℕ, ◌+◌, ◌-◌, ◌<◌, ◌≤◌, Option, List, length, length-append, drop}
+use Rattle.std.proofs.Common.{◌≡◌, ◌∙◌, inl, inr, ℕ, ◌+◌, ◌<◌, ◌≤◌, Option, List, length, length-append, drop}
 use Rattle.std.proofs.Common.{get_or, sym, subst, arith}
 use Rattle.std.specs.Prelude.{All, IsSome, slice_range}
 use Rattle.std.specs.Option.{ForSome}
