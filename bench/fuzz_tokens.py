@@ -22,8 +22,8 @@ ON = re.compile(rb"clang-format on(?::.*)?", re.S)
 OTHERWISE = re.compile(rb"(?:\\|\?\?/)[ \t\v\f\0]+\r?\n|\r(?!\n)|\n\r")
 # The marks of other encodings than UTF-8, with which clang reads no text.
 MARKED = re.compile(rb"\xfe\xff|\xff\xfe|\0\0\xfe\xff|\+/v|\xf7dL|\xddsfs|\x0e\xfe\xff|\xfb\xee\(|\x841\x953")
-# The beginning of a comment in a header name, which C11 leaves open (6.4.7p3): compilers take it for a part of the name,
-# and clang's cut, which reads no directives, for a comment.
+# The beginning of a comment in a header name, which C11 leaves open (6.4.7p3): compilers take it for a part of the
+# name, and clang's cut, which reads no directives, for a comment.
 COMMENT_IN_NAME = re.compile(rb"#[ \t]*include[ \t]*<[^>\n]*/[*/]")
 # What keeps bytes of the input, so that a column of it counts.
 STAYS = re.compile(rb"clang-|#[ \t]*if[ \t]+0")
