@@ -24,6 +24,7 @@ pub enum Staying {
 }
 
 /// Whether it is the name of a directive or an item behind it.
+#[inline(always)]
 fn is_behind_name(part: HeadPart) -> bool
     ensures { result ≡ is_behind_name part }
 {
@@ -44,6 +45,7 @@ fn is_behind_name(part: HeadPart) -> bool
 
 /// Whether the gap before an item, behind one of a definition that is this part, is the one before a body or stands in
 /// it.
+#[inline(always)]
 fn is_body_gap(dialect: Dialect, part: HeadPart, token: &Token<'_>) -> bool
     ensures { result ≡ is_body_gap dialect part (told_by token.now) }
 {
@@ -63,6 +65,7 @@ fn is_body_gap(dialect: Dialect, part: HeadPart, token: &Token<'_>) -> bool
 }
 
 /// Whether the gap before an item, behind one that is this part, keeps the input's bytes.
+#[inline(always)]
 pub(crate) fn stays(dialect: Dialect, staying: Staying, part: HeadPart, token: &Token<'_>) -> bool
     ensures { result ≡ stays dialect staying part (told_by token.now) }
 {
