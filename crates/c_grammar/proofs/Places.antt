@@ -1,8 +1,9 @@
 -- How far a word reaches, and the place behind an item.
-use Rattle.std.proofs.Common.{◌≡◌, ◌==◌, not, Bool, true, false, ℕ, suc, zero, ◌≤◌, ◌<◌, List, [], ◌∷◌, length, take, nat_eq, refl, sym, ◌∙◌, ap, subst, arith}
+use Rattle.std.proofs.Common.{◌≡◌, ◌==◌, not, Bool, true, false, ℕ, suc, zero, ◌≤◌, ◌<◌, ◌-◌, List, [], ◌∷◌, length, take, drop, nat_eq, refl, sym, ◌∙◌, ap, subst, arith}
 use Rattle.std.specs.Prelude.{IfSome, None, Option, Some, slice_get}
 use Rattle.std.specs.List.{starts_with}
 use Rattle.std.proofs.lemmas.Bool.{and_parts, eqb-true, eq-eqb, false_from_ne_true, not-false}
+use Rattle.std.proofs.lemmas.List.{drop_all}
 use Rattle.c_chars.specs.Characters.{bytes_of}
 use Rattle.c_chars.specs.Coming.{Coming, AreBetween, passed, behind}
 use Rattle.c_chars.specs.declared.Dialect.{Dialect}
@@ -72,6 +73,14 @@ pub spelled_no : (x y left : Coming) (w : List ℕ) (n : ℕ) → y ≡ behind x
 spelled_no x y left w n e at i l = sym (false_from_ne_true (is_same (take n (bytes_of x.chars)) w) (λ z.
     let same : n ≡ length w = (take_front n x.chars w i z).1 in
     at (ap (λ k. k.at) (e ∙ (ap (λ k. behind x k) (sym same) ∙ sym l)))))
+
+-- The whole word was read: the text begins with it, and this is what stands behind it.
+pub word_read : (x y : Coming) (w : List ℕ) (i : ℕ) → length w ≤ i → starts_with nat_eq (bytes_of y.chars) (drop i w) ≡ starts_with nat_eq (bytes_of x.chars) w
+    → behind y (length w - i) ≡ behind x (length w) → (starts_with nat_eq (bytes_of x.chars) w ≡ true) × (y ≡ behind x (length w))
+word_read x y w i all begins reaches =
+    let none : length w - i ≡ 0 = omega (arith, all) in
+    let read : drop i w ≡ [] = drop_all i w all in
+    (sym begins ∙ ap (λ z. starts_with nat_eq (bytes_of y.chars) z) read, sym (ap (behind y) none) ∙ reaches)
 
 pub mark_place : (d : Dialect) (p : Place) (s : List ℕ) → past_mark p s ≡ past_item d p Punct s
 mark_place d LineStart s = refl

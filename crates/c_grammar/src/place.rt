@@ -6,7 +6,7 @@ ghost use Rattle.c_chars.specs.Coming.{behind};
 ghost use Rattle.c_chars.specs.declared.Dialect.{Dialect};
 ghost use Rattle.c_grammar.specs.Grammar.{is_same};
 ghost use Rattle.c_grammar.specs.Touch.{starts};
-ghost use Rattle.c_grammar.specs.Items.{LineStart, past_item, past_name, past_comment, is_hash, is_include};
+ghost use Rattle.c_grammar.specs.Items.{LineStart, AfterHash, past_item, past_name, past_comment, is_hash, is_include};
 ghost use Rattle.item_kinds.specs.declared.ItemKind.TheVariants.{Identifier, Punct, Other, BlockComment};
 ghost use Rattle.c_grammar.specs.Bytes.{IsFirst};
 ghost use Rattle.c_grammar.specs.Place.{place_of, past_plain, past_mark, past_word, IsSpanned, SpelledBy};
@@ -51,7 +51,18 @@ fn spells(text: &Chars, left: &Chars, word: &[u8]) -> bool
     requires { IsSpanned text.now }
     ensures { SpelledBy text.now left.now (λ s. result ≡ is_same s word.now) }
 {
-    c_chars::begins_with(text, word) && c_chars::behind(text, word.len()).at() == left.at()
+    let mut rest = text.ahead();
+    for byte in word {
+        match rest.next() {
+            Some(c) => {
+                if c.byte != *byte {
+                    return false;
+                }
+            }
+            None => return false,
+        }
+    }
+    rest.at() == left.at()
 }
 
 /// Whether they are `#` or its digraph.
@@ -260,8 +271,46 @@ fn past_hash(standing: Standing, kind: ItemKind, text: &Chars, left: &Chars) -> 
     }
 }
 
+/// Whether an item stands behind the `#` of a directive.
+#[inline(always)]
+fn is_behind_hash(standing: Standing) -> bool
+    ensures { IsTrue result → place_of standing ≡ AfterHash }
+{
+    matches!(standing, Standing::BehindHash)
+}
+
+/// Whether it is a word.
+#[inline(always)]
+fn is_word(kind: ItemKind) -> bool
+    ensures { IsTrue result → kind ≡ Identifier }
+{
+    matches!(kind, ItemKind::Identifier)
+}
+
+/// Behind an item of this kind that is the name of a directive, or a `#` first in its line; none elsewhere.
+#[inline(always)]
+fn past_spelled(
+    dialect: Dialect,
+    standing: Standing,
+    kind: ItemKind,
+    text: &Chars,
+    left: &Chars,
+) -> Option<Standing>
+    requires { IsSpanned text.now }
+    ensures { IfSome result
+        (λ past. SpelledBy text.now left.now (λ s. place_of past ≡ past_item dialect (place_of standing) kind s)) }
+{
+    if is_behind_hash(standing) && is_word(kind) {
+        // Second readers, so that the first ones need no place in memory.
+        let text = text.ahead();
+        let left = left.ahead();
+        return Some(past_name(dialect, &text, &left));
+    }
+    past_hash(standing, kind, text, left)
+}
+
 /// Behind an item of this kind that begins with this byte, whose characters are those of the text up to
-/// what is left of it. They are not read again, and none is told where they would have to be.
+/// what is left of it. Only the name of a directive is read again, and none is told where others would have to be.
 #[inline(always)]
 pub fn past_begun(
     dialect: Dialect,
@@ -278,6 +327,6 @@ pub fn past_begun(
 {
     match past_plain(dialect, standing, kind, first) {
         Some(past) => Some(past),
-        None => past_hash(standing, kind, text, left),
+        None => past_spelled(dialect, standing, kind, text, left),
     }
 }

@@ -160,7 +160,7 @@ impl<'s> Lexer<'s> {
 
     /// The next item, with what it and its gap tell, where it is a word, a number or a punctuator that plain bytes
     /// tell at once, each of them a printable character of ASCII that nothing behind it can change; none elsewhere,
-    /// where the reader stays. It calls nothing.
+    /// where the reader stays. It calls nothing but what tells the name of a directive.
     #[inline(always)]
     pub fn next_plain_lexeme(&mut self) -> Option<Lexeme<'s>>
         ensures text { self.new.text ≡ self.old.text }
