@@ -2,7 +2,6 @@
 
 ghost use Rattle.std.specs.Prelude.{◌≡◌, ◌==◌, not, ℕ, List, if◌then◌else◌, IfSome, IsFalse, IsTrue};
 ghost use Rattle.c_chars.specs.Characters.{bytes_of};
-ghost use Rattle.c_chars.specs.Coming.{behind};
 ghost use Rattle.c_chars.specs.declared.Dialect.{Dialect};
 ghost use Rattle.c_grammar.specs.Grammar.{is_same};
 ghost use Rattle.c_grammar.specs.Touch.{starts};

@@ -17,7 +17,7 @@ use Rattle.c_grammar.specs.Place.{IsSpanned}
 use Rattle.c_chars.proofs.Steps.{onwards}
 use Rattle.c_lexer.specs.Class.{is_lone_mark}
 use Rattle.c_lexer.specs.Reading.{AreOwnBytes, AreRaw, BeforeLeft, ends_in_backslash, is_own_byte}
-use Rattle.c_lexer.specs.Run.{begins_long, is_pair_mark}
+use Rattle.c_lexer.specs.Run.{begins_long, is_pair_mark, is_shift_mark}
 use Rattle.c_lexer.proofs.Backslashes.{by_test}
 use Rattle.c_lexer.proofs.Stepping.{behind_chars}
 
@@ -178,6 +178,14 @@ second_of b p q r h = grind (arith, nat_tests)
 pub second_item : (a b : ℕ) → is_pair_mark a b ≡ true → is_own_byte b ≡ true
 unfolding is_pair_mark
 second_item a b h = second_of b (is_of (codes "=!+<>-|&*/%^") a) (a == 45) (a == b) h
+
+pub shift_item : (a b : ℕ) → is_shift_mark a b ≡ true → is_own_byte b ≡ true
+unfolding is_shift_mark is_own_byte
+shift_item a b h = grind (arith, nat_tests)
+
+pub shift_mark : (a b : ℕ) → is_shift_mark a b ≡ true → begins_long a ≡ true
+unfolding is_shift_mark begins_long
+shift_mark a b h = grind (arith, nat_tests)
 
 word_item : (b : ℕ) → is_word_byte b ≡ true → is_own_byte b ≡ true
 unfolding is_word_byte is_own_byte

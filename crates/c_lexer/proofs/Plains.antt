@@ -6,7 +6,7 @@ use Rattle.std.proofs.lemmas.Bool.{and_parts, and_right, cases_Bool, eq-eqb, or_
 use Rattle.std.proofs.lemmas.Bool.Decides.{nat_tests}
 use Rattle.unicode_ident.specs.Ident.{is_xid_continue}
 use Rattle.c_chars.specs.Characters.{bytes_of, is_word_byte}
-use Rattle.c_chars.specs.Coming.{Coming, ArePassed, behind}
+use Rattle.c_chars.specs.Coming.{Coming, ArePassed, behind, passed}
 use Rattle.c_chars.specs.declared.Dialect.{Dialect}
 use Rattle.c_chars.specs.declared.Dialect.TheVariants.{C11, C23}
 use Rattle.c_chars.specs.declared.LogicalChar.{LogicalChar}
@@ -17,7 +17,7 @@ use Rattle.c_grammar.specs.Bytes.{begins_punctuator, is_beyond, is_quote_mark, I
 use Rattle.c_lexer.specs.Class.{ends_mark, ends_word, is_lone_mark}
 use Rattle.c_lexer.specs.Cut.{IsCutOff}
 use Rattle.c_lexer.specs.Reading.{IsBegun}
-use Rattle.c_lexer.specs.Run.{begins_long, begins_number, first_front, goes_on_long, is_pair_mark, long}
+use Rattle.c_lexer.specs.Run.{begins_long, begins_number, first_front, goes_on_long, is_alone_mark, is_pair_mark, is_shift_mark, long}
 use Rattle.c_lexer.proofs.CutOffs.{behind_again}
 use Rattle.c_lexer.proofs.FirstBytes.{stands_alone, starts_so, two_apart}
 use Rattle.c_lexer.proofs.MarksOff.{mark_off}
@@ -179,3 +179,57 @@ pair_off x y left d c e same begun next mark pair left_is =
     let len : first_front (long d) (bytes_of x.chars) ≡ 2 = ap (first_front (long d)) (whole ∙ ap (λ z. c.byte ∷ z) rest) ∙ pair_len d c.byte e.byte (drop 1 (bytes_of y.chars)) pair in
     begun_off x left d c.byte 2 (bytes_of y.chars) same whole mark (first_is is_digit y.chars e next ∙ second.0) (first_is (λ b. 42 == b) y.chars e next ∙ second.1)
     (first_is (λ b. 47 == b) y.chars e next ∙ second.2) (sym len) (left_is ∙ (ap (λ z. behind z 1) (one_behind x y c begun) ∙ behind_again x 1 1))
+
+-- Shifts.
+
+shift_len : (d : Dialect) (a : ℕ) (s : List ℕ) → is_of (codes "<>") a ≡ true → starts (λ e. 61 == e) s ≡ false → first_front (long d) (a ∷ a ∷ s) ≡ 2
+shift_len d a s shift stops = of_one (λ z. first_front (long d) (z ∷ z ∷ s) ≡ 2) (codes "<>") a shift (both d s stops)
+  where
+    both : (d : Dialect) (s : List ℕ) → starts (λ e. 61 == e) s ≡ false → OfEach (λ z. first_front (long d) (z ∷ z ∷ s) ≡ 2) (codes "<>")
+    both C11 [] h = (refl, (refl, tt))
+    both C23 [] h = (refl, (refl, tt))
+    both C11 (e ∷ s) h = (rw h refl, (rw h refl, tt))
+    both C23 (e ∷ s) h = (rw h refl, (rw h refl, tt))
+
+shift_second : (a b : ℕ) → is_shift_mark a b ≡ true → (is_digit b ≡ false) × ((42 == b) ≡ false) × ((47 == b) ≡ false)
+unfolding is_shift_mark is_digit
+shift_second a b h = (grind (arith, nat_tests), grind (arith, nat_tests), grind (arith, nat_tests))
+
+shift_parts : (a b : ℕ) → is_shift_mark a b ≡ true → (is_of (codes "<>") a ≡ true) × (a ≡ b)
+unfolding is_shift_mark
+shift_parts a b h = let parts = and_parts (is_of (codes "<>") a) (a == b) h in (parts.0, eqb-true a b parts.1)
+
+left_bytes : (d : Dialect) (at : ℕ) (s : List LogicalChar) (e : LogicalChar) → slice_get s 0 ≡ Some e → bytes_of s ≡ e.byte ∷ bytes_of ((passed d at s 1).chars)
+left_bytes d at [] e h = cc
+left_bytes d at (f ∷ s) e h = let same : f ≡ e = cc in ap (λ (z : LogicalChar). z.byte ∷ bytes_of s) same
+
+pub shift_off : (x y left : Coming) (d : Dialect) (c e t : LogicalChar) → d ≡ x.dialect → IsBegun x c y → slice_get y.chars 0 ≡ Some e → begins_punctuator c.byte ≡ true → is_shift_mark c.byte e.byte ≡ true
+    → slice_get left.chars 0 ≡ Some t → (t.byte == 61) ≡ false → left ≡ behind y 1 → IsCutOff x left Punct
+shift_off x y left d c e t same begun next mark shift third ends left_is =
+    let whole : bytes_of x.chars ≡ c.byte ∷ bytes_of y.chars = ap bytes_of begun.chars_are in
+    let second = shift_second c.byte e.byte shift in
+    let parts = shift_parts c.byte e.byte shift in
+    let rest : bytes_of y.chars ≡ c.byte ∷ bytes_of left.chars = left_bytes y.dialect y.at y.chars e next ∙ (ap (λ z. e.byte ∷ bytes_of z.chars) (sym left_is) ∙ ap (λ b. b ∷ bytes_of left.chars) (sym parts.1)) in
+    let stops : starts (λ b. 61 == b) (bytes_of left.chars) ≡ false = first_is (λ b. 61 == b) left.chars t third ∙ apart 61 t.byte ends in
+    let len : first_front (long d) (bytes_of x.chars) ≡ 2 = ap (first_front (long d)) (whole ∙ ap (λ z. c.byte ∷ z) rest) ∙ shift_len d c.byte (bytes_of left.chars) parts.0 stops in
+    begun_off x left d c.byte 2 (bytes_of y.chars) same whole mark (first_is is_digit y.chars e next ∙ second.0) (first_is (λ b. 42 == b) y.chars e next ∙ second.1)
+    (first_is (λ b. 47 == b) y.chars e next ∙ second.2) (sym len) (left_is ∙ (ap (λ z. behind z 1) (one_behind x y c begun) ∙ behind_again x 1 1))
+
+-- Punctuators of one byte, whatever begins behind them.
+
+alone_parts : (a b : ℕ) → is_alone_mark a b ≡ true → (goes_on_long b ≡ false) × ((a == 46) ≡ false) × ((a == 47) ≡ false)
+unfolding is_alone_mark
+alone_parts a b h =
+    let parts = or_parts (goes_on_long b) (is_of (codes "./") a) (not-true _ h) in
+    let other : is_of (codes "./") a ≡ false = parts.1 in
+    (parts.0, grind (arith, nat_tests), grind (arith, nat_tests))
+
+pub alone_off : (x y : Coming) (d : Dialect) (c e : LogicalChar) → d ≡ x.dialect → IsBegun x c y → slice_get y.chars 0 ≡ Some e → begins_punctuator c.byte ≡ true → is_alone_mark c.byte e.byte ≡ true → IsCutOff x y Punct
+alone_off x y d c e same begun next mark alone =
+    let first = begun_first x y c begun in
+    let parts = alone_parts c.byte e.byte alone in
+    let point : (c.byte == 46 && starts is_digit first.rest) ≡ false = let no = parts.1 in rw no refl in
+    let other : c.byte ≡ 47 → ⊥ = λ z. both_ways (c.byte == 47) parts.2 (eq-eqb c.byte 47 z) in
+    let short = short_there c.byte (bytes_of x.chars) (bytes_of y.chars) (ap bytes_of begun.chars_are) (first_is goes_on_long y.chars e next ∙ parts.0) in
+    mark_off x y d 1 same (starts_so begins_punctuator c.byte (bytes_of x.chars) true first mark) (no_number c.byte (bytes_of x.chars) first.rest first.whole (mark_no_digit c.byte mark) point)
+    (sym (two_apart 47 42 c.byte (bytes_of x.chars) first other)) (sym (two_apart 47 47 c.byte (bytes_of x.chars) first other)) (sym (not_long d (bytes_of x.chars) short)) (one_behind x y c begun)

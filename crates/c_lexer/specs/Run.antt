@@ -1,5 +1,5 @@
 -- How far the lexer reads on.
-use Rattle.std.specs.Prelude.{◌==◌, ◌||◌, ◌&&◌, ℕ, Bool, false, List, [], ◌∷◌, if◌then◌else◌, take, drop, length, codes}
+use Rattle.std.specs.Prelude.{◌==◌, ◌||◌, ◌&&◌, not, ℕ, Bool, false, List, [], ◌∷◌, if◌then◌else◌, take, drop, length, codes}
 use Rattle.std.specs.Prelude.{nat_eq}
 use Rattle.std.specs.List.{starts_with}
 use Rattle.c_grammar.specs.Grammar.{is_of, is_digit, Shape}
@@ -50,3 +50,11 @@ unfoldable pub is_pair_mark : ℕ → ℕ → Bool
 is_pair_mark a b =
     if b == 61 then is_of (codes "=!+<>-|&*/%^") a
     else (if b == 62 then a == 45 else (is_of (codes "&+|-#") b && a == b))
+
+-- these two characters are a shift, and only an equals sign behind them makes it longer
+unfoldable pub is_shift_mark : ℕ → ℕ → Bool
+is_shift_mark a b = is_of (codes "<>") a && a == b
+
+-- a punctuator is the first of these characters alone where the second comes behind it, whatever that begins
+unfoldable pub is_alone_mark : ℕ → ℕ → Bool
+is_alone_mark a b = not (goes_on_long b || is_of (codes "./") a)

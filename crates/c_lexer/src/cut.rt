@@ -1,7 +1,7 @@
 //! Cuts off the item that a text begins with.
 
 ghost use Rattle.std.specs.Prelude.{◌≡◌, ◌∷◌, ◌||◌, ◌<◌, length, [], nat_eq, IsTrue, IsFalse, IfSome, MatchOption};
-ghost use Rattle.std.specs.Prelude.{MatchResult};
+ghost use Rattle.std.specs.Prelude.{MatchResult, ◌+◌, Some, slice_get};
 ghost use Rattle.std.specs.List.{starts_with};
 ghost use Rattle.c_chars.specs.Characters.{bytes_of};
 ghost use Rattle.c_chars.specs.Coming.{behind};
@@ -12,13 +12,13 @@ ghost use Rattle.item_kinds.specs.declared.ItemKind.TheVariants.{Number, Punct, 
 ghost use Rattle.c_lexer.specs.Cut.{IsCutOff, IsStop};
 ghost use Rattle.c_grammar.specs.Bytes.{begins_punctuator, is_quote_mark, IsFirst};
 ghost use Rattle.c_lexer.specs.Reading.{AreOwnBytes, IsBegun};
-ghost use Rattle.c_lexer.specs.Run.{begins_number};
+ghost use Rattle.c_lexer.specs.Run.{begins_number, is_shift_mark};
 ghost use Rattle.c_lexer.specs.Unit.{BeginsUnit, is_rare_unit};
 ghost use Rattle.unicode_ident.specs.Ident.{is_xid_start};
 
 use crate::line::Begun;
 use crate::{class, comment, front, line, punctuator, quote, unit, utf8, word};
-use c_chars::{Chars, Dialect};
+use c_chars::{Chars, Dialect, LogicalChar};
 use c_grammar::{ItemKind, bytes};
 
 /// Why no item is cut off.
@@ -117,7 +117,36 @@ fn cut_quoted<'s>(text: &Chars<'s>, first: u8) -> (ItemKind, Chars<'s>)
     }
 }
 
-/// The punctuator that is begun and what stands behind it, where its first byte and a plain byte behind it
+/// The shift that is begun, whose second byte is this one, and what stands behind it, where a plain byte ends it;
+/// none elsewhere.
+#[inline(always)]
+fn cut_plain_shift<'s>(
+    dialect: Dialect,
+    begun: &Begun<'s>,
+    second: LogicalChar,
+) -> Option<(ItemKind, Chars<'s>)>
+    requires dialect { dialect ≡ begun.now.text.dialect }
+    requires begun { IsBegun begun.now.text begun.now.first begun.now.behind }
+    requires second { slice_get begun.now.behind.chars 0 ≡ Some second }
+    requires plain { (second.from ≡ begun.now.behind.at) × (second.to ≡ begun.now.behind.at + 1) }
+    requires shift { IsTrue (is_shift_mark begun.now.first.byte second.byte) }
+    ensures off { IfSome result (λ r. IsCutOff begun.now.text r.1 r.0) }
+    ensures plain { IfSome result (λ r. AreOwnBytes begun.now.first begun.now.behind r.1) }
+{
+    let left = front::behind(&begun.behind, 1);
+    match left.peek_plain() {
+        Some(third) => {
+            if third.byte == b'=' {
+                None
+            } else {
+                Some((ItemKind::Punct, left))
+            }
+        }
+        None => None,
+    }
+}
+
+/// The punctuator that is begun and what stands behind it, where its first byte and plain bytes behind it
 /// tell how long it is; none elsewhere.
 #[inline(always)]
 fn cut_plain_mark<'s>(dialect: Dialect, begun: &Begun<'s>) -> Option<(ItemKind, Chars<'s>)>
@@ -140,7 +169,13 @@ fn cut_plain_mark<'s>(dialect: Dialect, begun: &Begun<'s>) -> Option<(ItemKind, 
                 return Some((ItemKind::Punct, left));
             }
             if punctuator::is_pair(first, second.byte) {
-                Some((ItemKind::Punct, front::behind(&left, 1)))
+                return Some((ItemKind::Punct, front::behind(&left, 1)));
+            }
+            if punctuator::is_shift(first, second.byte) {
+                return cut_plain_shift(dialect, begun, second);
+            }
+            if punctuator::is_alone(first, second.byte) {
+                Some((ItemKind::Punct, left))
             } else {
                 None
             }

@@ -2,7 +2,8 @@
 
 ghost use Rattle.std.specs.Prelude.{◌≡◌};
 ghost use Rattle.c_chars.specs.Characters.{bytes_of};
-ghost use Rattle.c_lexer.specs.Run.{long, first_front, begins_long, goes_on_long, is_pair_mark};
+ghost use Rattle.c_lexer.specs.Run.{long, first_front, begins_long, goes_on_long, is_pair_mark, is_shift_mark};
+ghost use Rattle.c_lexer.specs.Run.{is_alone_mark};
 
 use crate::front;
 use c_chars::{Chars, Dialect};
@@ -116,6 +117,25 @@ pub(crate) fn is_pair(first: u8, second: u8) -> bool
         return first == b'-';
     }
     matches!(second, b'&' | b'+' | b'|' | b'-' | b'#') && first == second
+}
+
+/// Whether the two bytes are a shift, and only an equals sign behind them makes it longer.
+#[tactic(auto, unfolding(crate::specs::Run::is_shift_mark))]
+#[inline(always)]
+pub(crate) fn is_shift(first: u8, second: u8) -> bool
+    ensures { result ≡ is_shift_mark first second }
+{
+    matches!(first, b'<' | b'>') && first == second
+}
+
+/// Whether a punctuator is this first byte alone where that second one comes behind it, whatever the second
+/// begins.
+#[tactic(auto, unfolding(crate::specs::Run::is_alone_mark))]
+#[inline(always)]
+pub(crate) fn is_alone(first: u8, second: u8) -> bool
+    ensures { result ≡ is_alone_mark first second }
+{
+    !goes_on_long(second) && !matches!(first, b'.' | b'/')
 }
 
 /// The length of the longest punctuator that the text begins with, otherwise 1.

@@ -1,4 +1,4 @@
-use Rattle.std.proofs.Common.{◌∙◌, sym}
+use Rattle.std.proofs.Common.{◌∙◌}
 use Rattle.c_grammar.specs.Place.{place_of}
 use Rattle.c_grammar.proofs.Places.{hash_place}
 use Rattle.c_grammar.proofs.place.past_hash.Goals as goal

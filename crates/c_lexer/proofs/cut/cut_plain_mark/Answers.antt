@@ -5,7 +5,7 @@ use Rattle.item_kinds.specs.declared.ItemKind.TheVariants.{Punct}
 use Rattle.c_lexer.specs.Cut.{IsCutOff}
 use Rattle.c_lexer.specs.Reading.{is_own_byte}
 use Rattle.c_lexer.proofs.PlainBytes.{lone_item, long_mark, mark_item, next_one, none_passed, second_item}
-use Rattle.c_lexer.proofs.Plains.{ended_off, lone_off, pair_off}
+use Rattle.c_lexer.proofs.Plains.{alone_off, ended_off, lone_off, pair_off}
 use Rattle.c_lexer.proofs.cut.cut_plain_mark.Goals as goal
 
 pub returns-then-is_lone_mark-clause-off : goal.returns-then-is_lone_mark-clause-off
@@ -43,6 +43,21 @@ returns-then-ends_mark-clause-off c =
 
 pub returns-then-ends_mark-clause-plain : goal.returns-then-ends_mark-clause-plain
 returns-then-ends_mark-clause-plain c = record {
+  first_is = mark_item c.args.begun.now.first.byte (sym c.begins_long.ensures ∙ c.if-not-begins_long.false);
+  rest_are = subst (λ z. AreBytesPassed is_own_byte c.args.begun.now.behind z) (sym c.ahead-left.ensures) (none_passed is_own_byte c.args.begun.now.behind);
+}
+
+pub returns-then-is_shift-clause-off : goal.returns-then-is_shift-clause-off
+returns-then-is_shift-clause-off c = c.cut_plain_shift.ensures.off
+
+pub returns-then-is_alone-clause-off : goal.returns-then-is_alone-clause-off
+returns-then-is_alone-clause-off c =
+    subst (λ z. IsCutOff c.args.begun.now.text z Punct) (sym c.ahead-left.ensures)
+    (alone_off c.args.begun.now.text c.args.begun.now.behind c.args.dialect c.args.begun.now.first c.in-Some.second c.requires.dialect c.requires.begun
+    (sym (ap (λ z. slice_get z.chars 0) c.ahead-left.ensures) ∙ c.in-Some.ensures.some) (long_mark c.args.begun.now.first.byte (sym c.begins_long.ensures ∙ c.if-not-begins_long.false)) (sym c.is_alone.ensures ∙ c.if-is_alone.true))
+
+pub returns-then-is_alone-clause-plain : goal.returns-then-is_alone-clause-plain
+returns-then-is_alone-clause-plain c = record {
   first_is = mark_item c.args.begun.now.first.byte (sym c.begins_long.ensures ∙ c.if-not-begins_long.false);
   rest_are = subst (λ z. AreBytesPassed is_own_byte c.args.begun.now.behind z) (sym c.ahead-left.ensures) (none_passed is_own_byte c.args.begun.now.behind);
 }
