@@ -2,7 +2,7 @@
 use Rattle.std.proofs.Common.{◌≡◌, ◌==◌, not, Bool, true, false, ℕ, suc, zero, ◌≤◌, ◌<◌, ◌-◌, List, [], ◌∷◌, length, take, drop, nat_eq, refl, sym, ◌∙◌, ap, subst, arith}
 use Rattle.std.specs.Prelude.{IfSome, None, Option, Some, slice_get}
 use Rattle.std.specs.List.{starts_with}
-use Rattle.std.proofs.lemmas.Bool.{and_parts, eqb-true, eq-eqb, false_from_ne_true, not-false}
+use Rattle.std.proofs.lemmas.Bool.{and_parts, eqb-true, eq-eqb, false_from_ne_true}
 use Rattle.std.proofs.lemmas.List.{drop_all}
 use Rattle.c_chars.specs.Characters.{bytes_of}
 use Rattle.c_chars.specs.Coming.{Coming, AreBetween, passed, behind}
@@ -99,20 +99,6 @@ word_place d AfterDefine s = refl
 word_place d AfterMacroName s = refl
 word_place d InDirective s = refl
 word_place d InText s = refl
-
--- a punctuator that begins with another byte is no `#`
-no_hash : (f : ℕ) (s : List ℕ) → (f == 35) ≡ false → (f == 37) ≡ false → starts (λ c. not (c == f)) s ≡ false → is_hash s ≡ false
-no_hash f [] hash percent first = refl
-no_hash f (c ∷ s) hash percent first = let same : c ≡ f = eqb-true c f (not-false (c == f) first) in rw (same, hash, percent) refl
-
-pub plain_mark : (p : Place) (f : ℕ) (s : List ℕ) → (f == 35) ≡ false → (f == 37) ≡ false → starts (λ c. not (c == f)) s ≡ false → past_plain p ≡ past_mark p s
-plain_mark LineStart f s hash percent first = let other = no_hash f s hash percent first in rw other refl
-plain_mark AfterHash f s hash percent first = refl
-plain_mark AfterInclude f s hash percent first = refl
-plain_mark AfterDefine f s hash percent first = refl
-plain_mark AfterMacroName f s hash percent first = refl
-plain_mark InDirective f s hash percent first = refl
-plain_mark InText f s hash percent first = refl
 
 -- Behind an item of this kind that begins so, the place is this one, if any is told.
 abbrev pub IsToldPlace : Dialect → Place → ItemKind → ℕ → Option Standing → Type 0

@@ -202,6 +202,15 @@ fn past_plain_word(standing: Standing) -> Option<Standing>
     }
 }
 
+/// Whether an item stands first in its line.
+#[inline(always)]
+fn is_first_in_line(standing: Standing) -> bool
+    ensures first { IsTrue result → place_of standing ≡ LineStart }
+    ensures other { IsFalse result → place_of standing ≡ LineStart → ⊥ }
+{
+    matches!(standing, Standing::FirstInLine)
+}
+
 /// Behind a punctuator that begins with this byte, whose spelling tells nothing more; none where it may
 /// tell something.
 #[inline(always)]
@@ -209,7 +218,7 @@ fn past_plain_mark(standing: Standing, first: u8) -> Option<Standing>
     ensures { IfSome result (λ past.
         (s : List ℕ) → IsFalse (starts (λ c. not (c == first)) s) → place_of past ≡ past_mark (place_of standing) s) }
 {
-    if first == b'#' || first == b'%' {
+    if (first == b'#' || first == b'%') && is_first_in_line(standing) {
         return None;
     }
     Some(past_other(standing))
@@ -234,14 +243,6 @@ fn past_plain(dialect: Dialect, standing: Standing, kind: ItemKind, first: u8) -
         | ItemKind::BlockComment
         | ItemKind::LineComment => None,
     }
-}
-
-/// Whether an item stands first in its line.
-#[inline(always)]
-fn is_first_in_line(standing: Standing) -> bool
-    ensures { IsTrue result → place_of standing ≡ LineStart }
-{
-    matches!(standing, Standing::FirstInLine)
 }
 
 /// Whether it is a punctuator.
