@@ -8,7 +8,7 @@ use Rattle.std.proofs.lemmas.List.Sorted.{Contains-permutation, IsPermutation-sy
 use Rattle.std.proofs.lemmas.Option.{slice_get-get_or}
 use Rattle.search_frontier.specs.declared.frontier.Top.{Top}
 use Rattle.search_frontier.specs.declared.frontier.Top.TheVariants.{Waits, CameOff}
-use Rattle.search_frontier.specs.Frontier.{Entry, order, IsUpTo, ComesFirst, IsQueue, left_of, waiting, Pushes, Pops}
+use Rattle.search_frontier.specs.Frontier.{Entry, order, IsUpTo, ComesFirst, IsQueue, left_of, waiting, Pushes, Pops, Exchanges}
 use Rattle.search_frontier.proofs.Heaps.{Contains-cons, Contains-cons_cases, first_below, pops, pushes, topmost_first, up_to_more}
 
 -- an entry that isn't after the first one
@@ -167,3 +167,20 @@ one_less first after x old entries one other same at = subst (λ (f : Option (�
         none_some : None ≡ Some x → ⊥
         none_some h = cc
     fewer (z ∷ es) e l = omega (arith, l)
+
+-- an entry that comes first is what comes off after it was added
+pub goes_nowhere : (x : Entry) (old : List Entry) → ComesFirst x old → Exchanges old old x x
+goes_nowhere x old least = (
+  x ∷ old,
+  record {
+    kept = λ e c. Contains-cons x old e c;
+    added = (zero, omega arith, refl);
+    only = λ e c. elim (Contains-cons_cases x old e c) [ inl same ↦ inr same | inr was ↦ inl was ];
+  },
+  record {
+    was = (zero, omega arith, refl);
+    kept = λ e c. Contains-cons_cases x old e c;
+    only = λ e c. Contains-cons x old e c;
+    first = least;
+  },
+)
