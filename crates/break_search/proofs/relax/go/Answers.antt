@@ -1,5 +1,5 @@
 use Rattle.break_search.specs.declared.table.Way.TheVariants.{Nowhere, There, New}
-use Rattle.break_search.proofs.Following.{can_go_on, at_way, nowhere_follows, there_search, there_inner, there_followed, new_follows, comes_off, fewer_by_one}
+use Rattle.break_search.proofs.Following.{can_go_on, at_way, nowhere_follows, there_search, there_inner, there_followed, new_follows, comes_off}
 use Rattle.break_search.proofs.relax.go.Goals as goal
 
 pub reach-requires-clause-on : goal.reach-requires-clause-on

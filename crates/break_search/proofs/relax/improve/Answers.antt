@@ -1,5 +1,5 @@
 use Rattle.std.proofs.Common.{◌≡◌, true, false, refl, rules}
-use Rattle.break_search.proofs.Following.{there_within, there_below, there_small, there_parents, there_paths, there_settled, there_worse, there_better}
+use Rattle.break_search.proofs.Following.{there_within, there_below, there_small, there_paths, there_settled, there_worse, there_better}
 use Rattle.break_search.proofs.relax.improve.Goals as goal
 
 pub is_settled-requires : goal.is_settled-requires

@@ -1,5 +1,5 @@
 use Rattle.std.proofs.Common.{arith, ap, length}
-use Rattle.search_frontier.specs.Frontier.{Entry, entry}
+use Rattle.search_frontier.specs.Frontier.{entry}
 use Rattle.search_frontier.proofs.Queue.{queue_more, pushed_behind, one_more, goes_nowhere}
 use Rattle.search_frontier.proofs.frontier.Frontier.exchange.Goals as goal
 
