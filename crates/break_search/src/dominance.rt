@@ -43,13 +43,15 @@ fn is_passed(table: &Table<'_>, at: usize) -> bool
 {
     let mut end = table.settled_before(at);
     'back: for compared in 0..MOST_COMPARED {
-        if end == 0 || end > table.len() {
+        // Where none was settled before, this is the largest number.
+        let before = end.wrapping_sub(1);
+        if before >= table.len() {
             return false;
         }
-        if passes(table, end - 1, at) {
+        if passes(table, before, at) {
             return true;
         }
-        end = table.settled_before(end - 1);
+        end = table.settled_before(before);
     }
     false
 }
