@@ -1,6 +1,6 @@
 -- How far the lexer reads on.
-use Rattle.std.specs.Prelude.{◌==◌, ◌||◌, ◌&&◌, not, ℕ, Bool, false, List, [], ◌∷◌, if◌then◌else◌, take, drop, length, codes}
-use Rattle.std.specs.Prelude.{nat_eq}
+use Rattle.std.specs.Prelude.{◌==◌, ◌||◌, ◌&&◌, not, ℕ, Bool, false, List, [], ◌∷◌, if◌then◌else◌, take, drop}
+use Rattle.std.specs.Prelude.{length, codes, nat_eq}
 use Rattle.std.specs.List.{starts_with}
 use Rattle.c_grammar.specs.Grammar.{is_of, is_digit, Shape}
 use Rattle.c_grammar.specs.Items.{IsLongest}
