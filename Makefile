@@ -1,6 +1,7 @@
 # make build: the stand-alone program, build/clang_format.  make test: the gate.
 # make install, make uninstall: the program and its pages.  make install-pages: the pages alone, with no proof.
 # make dist: a tarball.  make deb: a Debian package.  Both stand in build/ then.
+# make bench: bench/throughput.  make clean: takes away what was built.
 # With PROGRAM=PATH the program at PATH is taken, and none is proved or built.
 # No rule of make's own: it would link that program anew from an object file beside it.
 MAKEFLAGS += --no-builtin-rules

@@ -1,8 +1,9 @@
 """What docs/DEFINITIONS.md says of the definitions: which files a section names and how many lines these have; that the
-sections name every file of definitions on which the contract of `format_command` stands, each behind those that it takes
-words from; and that the page lists the words of the contract.
+sections name every file of definitions on which the contract of `format_command` stands, each behind those that it
+takes words from; and that the page lists the words of the contract.
 
-A section names its files in a paragraph such as "**357 lines:** `c_grammar`: `Grammar`, `Items`; `touching`: `Spelling`."
+A section names its files in a paragraph such as "**357 lines:** `c_grammar`: `Grammar`, `Items`; `touching`:
+`Spelling`".
 """
 import os
 import re

@@ -1,7 +1,7 @@
 // Put before the C library (LD_PRELOAD), refuses one call of a program. FAULT is `NAME:N:ERROR`: the Nth call of NAME,
 // counted from 1, answers this error number; or `NAME:0:1`: each read or write of NAME does one byte at most. `memory`
-// stands for malloc and realloc. What came of it goes to descriptor 9, a byte each: R for a call that was refused, W for
-// each write behind a refusal that isn't to standard error.
+// stands for malloc and realloc. What came of it goes to descriptor 9, a byte each: R for a call that was refused, W
+// for each write behind a refusal that isn't to standard error.
 #define _GNU_SOURCE
 #include <dlfcn.h>
 #include <errno.h>
