@@ -4,6 +4,7 @@ pub mod Spans
 pub mod Splits
 pub mod Ends
 pub mod Runs
+pub mod Rests
 pub mod Tables
 pub mod Moved
 pub mod Steps

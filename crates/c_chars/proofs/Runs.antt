@@ -1,7 +1,7 @@
 -- Runs of bytes that are characters by themselves.
-use Rattle.std.proofs.Common.{◌≡◌, ◌==◌, ◌&&◌, not, ℕ, suc, ◌+◌, ◌-◌, ◌≤◌, ◌<◌, add-one, arith, drop-cons, length, get_or, Bool, true, false, List, [], ◌∷◌, ◌++◌, take, drop, refl, sym, ◌∙◌, ap, subst, inl, inr}
+use Rattle.std.proofs.Common.{◌≡◌, ◌==◌, ◌&&◌, not, cond, ℕ, suc, ◌+◌, ◌-◌, ◌≤◌, ◌<◌, add-one, arith, drop-cons, length, get_or, Bool, true, false, List, [], ◌∷◌, ◌++◌, take, drop, refl, sym, ◌∙◌, ap, subst, inl, inr}
 use Rattle.std.specs.List.{list_all, prefix_len}
-use Rattle.std.proofs.lemmas.List.{take_all}
+use Rattle.std.proofs.lemmas.List.{length-drop, take_all}
 use Rattle.std.proofs.lemmas.List.Folds.{length-prefix_len}
 use Rattle.std.proofs.lemmas.Bool.{and_parts, and_from, and_right, cases_Bool, not-true}
 use Rattle.std.proofs.lemmas.Bool.Decides.{nat_tests}
@@ -9,7 +9,7 @@ use Rattle.c_chars.specs.Characters.{bytes_of, chars, placed, IsUnit, begins_tri
 use Rattle.c_chars.specs.Coming.{Coming, AreBytesPassed, ArePassed, AreSpacesPassed}
 use Rattle.c_chars.specs.declared.Dialect.{Dialect}
 use Rattle.c_chars.specs.declared.LogicalChar.{LogicalChar}
-use Rattle.c_chars.proofs.FirstUnits.{at_plain, char_is, step_plain}
+use Rattle.c_chars.proofs.FirstUnits.{at_plain, char_is, no_chars, step_plain}
 use Rattle.c_chars.proofs.Moved.{bytes_at}
 
 no_trigraph : (d : Dialect) (b : ℕ) (s : List ℕ) → (b == 63) ≡ false → (has_trigraphs d && begins_trigraph (b ∷ s)) ≡ false
@@ -148,19 +148,49 @@ plain_byte d (b ∷ s) some h =
     ap bytes_of (plain_first d 0 b s h) ∙ (ap (λ z. b ∷ z) (bytes_at d (0 + 1) s) ∙ sym (ap (λ z. b ∷ bytes_of (chars d 0 z)) (take_all (length (b ∷ s) - 1) s few)))
 
 -- A reader that took such a byte stands behind the first character.
-pub plain_taken : (d d2 : Dialect) (at at2 : ℕ) (s rest : List ℕ) (r : LogicalChar) → 1 ≤ length s → is_plain (get_or s 0 0) ≡ true → r.byte ≡ get_or s 0 0 → r.from ≡ at → r.to ≡ at + 1 → d2 ≡ d → at2 ≡ at + 1 → rest ≡ take (length s - 1) (drop 1 s) →
-    chars d at s ≡ r ∷ chars d2 at2 rest
-plain_taken d d2 at at2 [] rest r some h byte from to dd aa rr = absurd (omega (arith, some))
-plain_taken d d2 at at2 (b ∷ s) rest r some h byte from to dd aa rr =
-    let few : length s ≤ length (b ∷ s) - 1 = omega arith in
-    let made = char_is r b at (at + 1) byte from to in
-    let left : rest ≡ s = rr ∙ take_all (length (b ∷ s) - 1) s few in
-    plain_first d at b s h ∙ rw (made, dd, aa, left) refl
+pub plain_taken : (d d2 : Dialect) (at at2 : ℕ) (text text2 : List ℕ) (r : LogicalChar) → at < length text → is_plain (get_or text at 0) ≡ true → r.byte ≡ get_or text at 0 → r.from ≡ at → r.to ≡ at + 1 → d2 ≡ d → at2 ≡ at + 1 → text2 ≡ text →
+    chars d at (drop at text) ≡ r ∷ chars d2 at2 (drop at2 text2)
+plain_taken d d2 at at2 text text2 r room h byte from to dd aa tt =
+    let one = add-one at in
+    let front : drop at text ≡ get_or text at 0 ∷ drop (at + 1) text = drop-cons text at 0 room ∙ ap (λ k. get_or text at 0 ∷ drop k text) (sym one) in
+    let made = char_is r (get_or text at 0) at (at + 1) byte from to in
+    ap (λ s. chars d at s) front ∙ (plain_first d at (get_or text at 0) (drop (at + 1) text) h ∙ rw (made, dd, aa, tt) refl)
 
--- The run of a class from one place on.
+-- a reader at the end of its text
+pub at_end : (d : Dialect) (at : ℕ) (text : List ℕ) → at ≡ length text → chars d at (drop at text) ≡ []
+at_end d at text e = let len = length-drop at text in no_chars d at (drop at text) (omega (arith, e, len))
 
-pub stops_there : (p : ℕ → Bool) (s : List ℕ) (i : ℕ) → i < length s → p (get_or s i 0) ≡ false → prefix_len p (drop i s) ≡ 0
-stops_there p s i room other = rw (drop-cons s i 0, other) refl
+-- A reader that passed the space that comes next, where one does.
 
-pub goes_on : (p : ℕ → Bool) (s : List ℕ) (i : ℕ) → i < length s → p (get_or s i 0) ≡ true → prefix_len p (drop i s) ≡ 1 + prefix_len p (drop (i + 1) s)
-goes_on p s i room same = rw (add-one, drop-cons s i 0, same) refl
+none_spaces : (d d2 : Dialect) (at at2 n : ℕ) (s rest : List ℕ) → n ≡ 0 → d2 ≡ d → at2 ≡ at + n → rest ≡ drop n s →
+    AreSpacesPassed (record { dialect = d; at = at; chars = chars d at s }) (record { dialect = d2; at = at2; chars = chars d2 at2 rest }) n
+none_spaces d d2 at at2 n s rest e dd aa rr =
+    let far : at2 ≡ at = omega (arith, aa, e) in
+    let left : rest ≡ s = rr ∙ ap (λ k. drop k s) e in
+    let same : chars d at s ≡ chars d2 at2 rest = rw (dd, far, left) refl in
+    record { bytes = []; count = e; all = refl; chars_are = same; at_is = aa; dialect_is = dd }
+
+one_space : (d d2 : Dialect) (at at2 n b : ℕ) (s rest : List ℕ) → (b == 32) ≡ true → n ≡ 1 → d2 ≡ d → at2 ≡ at + n → rest ≡ drop n (b ∷ s) →
+    AreSpacesPassed (record { dialect = d; at = at; chars = chars d at (b ∷ s) }) (record { dialect = d2; at = at2; chars = chars d2 at2 rest }) n
+unfolding is_space_byte
+one_space d d2 at at2 n b s rest y e dd aa rr =
+    let far : at2 ≡ at + 1 = omega (arith, aa, e) in
+    let left : rest ≡ s = rr ∙ ap (λ k. drop k (b ∷ s)) e in
+    let same : chars d (at + 1) s ≡ chars d2 at2 rest = rw (dd, far, left) refl in
+    let space : is_space_byte b ≡ true = rw y refl in
+    record {
+      bytes = b ∷ [];
+      count = e;
+      all = and_from (is_space_byte b) true space refl;
+      chars_are = plain_first d at b s (space_plain b space) ∙ ap (λ z. record { byte = b; from = at; to = at + 1 } ∷ z) same;
+      at_is = aa;
+      dialect_is = dd;
+    }
+
+pub first_space_passed : (d d2 : Dialect) (at at2 n : ℕ) (s rest : List ℕ) → n ≡ cond (get_or s 0 0 == 32) 1 0 → d2 ≡ d → at2 ≡ at + n → rest ≡ drop n s →
+    AreSpacesPassed (record { dialect = d; at = at; chars = chars d at s }) (record { dialect = d2; at = at2; chars = chars d2 at2 rest }) n
+first_space_passed d d2 at at2 n [] rest e dd aa rr = none_spaces d d2 at at2 n [] rest (e ∙ refl) dd aa rr
+first_space_passed d d2 at at2 n (b ∷ s) rest e dd aa rr = elim (cases_Bool (b == 32)) [
+  | inl y ↦ one_space d d2 at at2 n b s rest y (e ∙ ap (λ z. cond z 1 0) y) dd aa rr
+  | inr m ↦ none_spaces d d2 at at2 n (b ∷ s) rest (e ∙ ap (λ z. cond z 1 0) m) dd aa rr
+]

@@ -1,10 +1,10 @@
 //! Classes of bytes, and how many of a class some bytes begin with.
 
-ghost use Rattle.std.specs.Prelude.{◌≡◌, ◌<◌, ◌≤◌, false, get_or, length, take, IsTrue};
+ghost use Rattle.std.specs.Prelude.{◌≡◌, ◌==◌, ◌<◌, ◌≤◌, false, get_or, length, take, if◌then◌else◌, IsTrue};
 ghost use Rattle.std.specs.List.{prefix_len};
 ghost use Rattle.c_chars.specs.Characters.{are_words, is_plain, is_space_byte, is_word_byte};
 
-use crate::lanes::{ByteClass, CommentBytes, WordBytes};
+use crate::lanes::{ByteClass, CommentBytes, SpaceBytes, WordBytes};
 use std::simd::prelude::*;
 
 /// What a table tells of a byte.
@@ -136,17 +136,37 @@ fn is_space_byte(byte: u8) -> bool
     byte == b' ' || byte == b'\t'
 }
 
-/// How many spaces and tabs the bytes begin with.
+/// How many of a first space there are: one or none.
+#[inline(always)]
+pub(crate) fn first_space_len(bytes: &[u8]) -> usize
+    ensures { result ≡ if get_or bytes.now 0 0 == 32 then 1 else 0 }
+{
+    match bytes {
+        [first, ..] => (*first == b' ') as usize,
+        _ => 0,
+    }
+}
+
+/// How many spaces and tabs the bytes begin with, however many.
+#[inline(never)]
+fn long_space_len(bytes: &[u8]) -> usize
+    ensures { result ≡ prefix_len is_space_byte bytes.now }
+{
+    run_len::<SpaceBytes>(bytes)
+}
+
+/// How many spaces and tabs the bytes begin with. Most runs end within sixteen bytes, and are told without a loop.
 #[inline(always)]
 pub(crate) fn space_len(bytes: &[u8]) -> usize
     ensures { result ≡ prefix_len is_space_byte bytes.now }
 {
-    for i in 0..bytes.len() {
-        if !is_space_byte(bytes[i]) {
-            return i;
+    if let Some((sixteen, _)) = bytes.split_first_chunk::<16>() {
+        let stops = SpaceBytes::stops(u8x16::from_array(*sixteen));
+        if stops != 0 {
+            return stops.trailing_zeros() as usize;
         }
     }
-    bytes.len()
+    long_space_len(bytes)
 }
 
 /// How many bytes of comments these begin with, up to the last that is no space or tab.

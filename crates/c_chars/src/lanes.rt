@@ -2,7 +2,7 @@
 
 ghost use Rattle.std.specs.Prelude.{◌≡◌, ℕ, Bool, map, not};
 ghost use Rattle.std.specs.Simd.Lanes.{mask_l};
-ghost use Rattle.c_chars.specs.Characters.{is_comment_byte, is_text_byte, is_word_byte};
+ghost use Rattle.c_chars.specs.Characters.{is_comment_byte, is_space_byte, is_text_byte, is_word_byte};
 
 use std::simd::prelude::*;
 
@@ -29,6 +29,20 @@ impl ByteClass for WordBytes {
         let no_letter = from_letter.simd_ge(u8x16::splat(26));
         let no_digit = from_digit.simd_ge(u8x16::splat(10));
         (no_letter & no_digit & no_mark).to_bitmask()
+    }
+}
+
+/// Spaces and tabs.
+pub(crate) struct SpaceBytes;
+
+impl ByteClass for SpaceBytes {
+    ghost holds = { is_space_byte };
+
+    #[inline(always)]
+    fn stops(sixteen: u8x16) -> u64 {
+        let no_space = sixteen.simd_ne(u8x16::splat(b' '));
+        let no_tab = sixteen.simd_ne(u8x16::splat(b'\t'));
+        (no_space & no_tab).to_bitmask()
     }
 }
 

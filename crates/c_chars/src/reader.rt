@@ -6,7 +6,7 @@ ghost use Rattle.c_chars.specs.Characters.{logical, mark_len, is_comment_byte, i
 ghost use Rattle.c_chars.specs.Coming.{AreBetween, AreBytesPassed, ArePassed, AreSpacesPassed, AreWordsPassed};
 
 use crate::alone::first_character;
-use crate::classes::{is_plain, run_len, space_len, word_len, words_len};
+use crate::classes::{first_space_len, is_plain, run_len, space_len, word_len, words_len};
 use crate::front::behind;
 use crate::lanes::{CommentBytes, TextBytes};
 use crate::{Dialect, LIMIT, LogicalChar};
@@ -15,10 +15,11 @@ use std::marker::Model;
 /// A place in a text, and what stands behind it.
 #[derive(Clone, Copy)]
 struct Cursor<'s> {
-    rest: &'s [u8],
+    text: &'s [u8],
     at: usize,
     dialect: Dialect,
-    ghost fits: { at + length rest.now < 2 ^ 32 },
+    ghost within: { at ≤ length text.now },
+    ghost fits: { length text.now < 2 ^ 32 },
 }
 
 impl<'s> Cursor<'s> {
@@ -30,11 +31,12 @@ impl<'s> Cursor<'s> {
         ensures dialect { self.new.dialect ≡ self.old.dialect }
         ensures next { IsPastNext self.old result self.new }
     {
-        let [byte, behind @ ..] = self.rest else {
+        if self.at == self.text.len() {
             return None;
-        };
-        if is_plain(*byte) {
-            return Some(self.take_unit(*byte, self.at, 1, behind));
+        }
+        let byte = self.text[self.at];
+        if is_plain(byte) {
+            return Some(self.take_unit(byte, self.at, 1));
         }
         self.step_any()
     }
@@ -45,15 +47,16 @@ impl<'s> Cursor<'s> {
     fn next_plain(&mut self) -> Option<LogicalChar>
         ensures dialect { self.new.dialect ≡ self.old.dialect }
         ensures next { MatchOption result
-            ((self.new.at ≡ self.old.at) × (self.new.rest.now ≡ self.old.rest.now))
+            ((self.new.at ≡ self.old.at) × (self.new.text.now ≡ self.old.text.now))
             (λ c. (chars_behind self.old ≡ c ∷ chars_behind self.new) × (self.new.at ≡ c.to)) }
         ensures plain { IfSome result (λ c. (c.from ≡ self.old.at) × (c.to ≡ self.old.at + 1)) }
     {
-        let [byte, behind @ ..] = self.rest else {
+        if self.at == self.text.len() {
             return None;
-        };
-        if is_plain(*byte) {
-            return Some(self.take_unit(*byte, self.at, 1, behind));
+        }
+        let byte = self.text[self.at];
+        if is_plain(byte) {
+            return Some(self.take_unit(byte, self.at, 1));
         }
         None
     }
@@ -77,25 +80,31 @@ impl<'s> Cursor<'s> {
         ensures dialect { result.1.dialect ≡ self.entry.dialect }
         ensures next { IsPastNext self.entry result.0 result.1 }
     {
-        let Some(first) = first_character(self.dialect, self.rest) else {
+        let Some(first) = first_character(self.dialect, self.rest()) else {
             return (None, self);
         };
-        let (_, behind) = self.rest.split_at(first.before + first.len);
         let mut left = self;
-        let next = left.take_unit(first.byte, self.at + first.before, first.len, behind);
+        let next = left.take_unit(first.byte, self.at + first.before, first.len);
         (Some(next), left)
+    }
+
+    /// What stands behind it.
+    #[inline(always)]
+    fn rest(&self) -> &'s [u8]
+        ensures { result.now ≡ drop self.now.at self.now.text.now }
+    {
+        &self.text[self.at..]
     }
 
     /// Steps behind a character of this byte, that so many bytes at this offset are.
     #[inline(always)]
-    fn take_unit(&mut self, byte: u8, at: usize, len: usize, behind: &'s [u8]) -> LogicalChar
-        requires { at + len + length behind.now < 2 ^ 32 }
+    fn take_unit(&mut self, byte: u8, at: usize, len: usize) -> LogicalChar
+        requires { at + len ≤ length self.old.text.now }
         ensures dialect { self.new.dialect ≡ self.old.dialect }
-        ensures rest { self.new.rest.now ≡ behind.now }
+        ensures text { self.new.text.now ≡ self.old.text.now }
         ensures at { self.new.at ≡ at + len }
         ensures made { (result.byte ≡ byte) × (result.from ≡ at) × (result.to ≡ at + len) }
     {
-        self.rest = behind;
         self.at = at + len;
         LogicalChar {
             byte,
@@ -107,25 +116,23 @@ impl<'s> Cursor<'s> {
     /// Steps behind the next n bytes.
     #[inline(always)]
     fn pass(&mut self, count: usize)
-        requires { count ≤ length self.old.rest.now }
+        requires { self.old.at + count ≤ length self.old.text.now }
         ensures dialect { self.new.dialect ≡ self.old.dialect }
-        ensures rest { self.new.rest.now ≡ drop count self.old.rest.now }
+        ensures text { self.new.text.now ≡ self.old.text.now }
         ensures at { self.new.at ≡ self.old.at + count }
     {
-        self.rest = &self.rest[count..];
         self.at += count;
     }
 }
 
-/// What stands behind a byte order mark, and at which offset.
-fn behind_mark(text: &[u8]) -> (usize, &[u8])
-    ensures at { result.0 ≡ mark_len text.now }
-    ensures rest { result.1.now ≡ drop (mark_len text.now) text.now }
-    ensures len { result.0 + length result.1.now ≡ length text.now }
+/// How many bytes a byte order mark takes that the text begins with.
+fn mark_len(text: &[u8]) -> usize
+    ensures len { result ≡ mark_len text.now }
+    ensures within { result ≤ length text.now }
 {
     match text.strip_prefix(b"\xef\xbb\xbf") {
-        Some(rest) => (3, rest),
-        None => (0, text),
+        Some(_) => 3,
+        None => 0,
     }
 }
 
@@ -139,6 +146,7 @@ pub struct Chars<'s> {
 }
 
 impl<'s> Model for Chars<'s> {
+    ghost use Rattle.std.specs.Prelude.{drop};
     ghost use Rattle.c_chars.specs.Characters.{chars};
     ghost use Rattle.c_chars.specs.Coming.{Coming};
 
@@ -147,7 +155,7 @@ impl<'s> Model for Chars<'s> {
     ghost view = { λ a. record {
       dialect = a.cursor.dialect;
       at = a.cursor.at;
-      chars = chars a.cursor.dialect a.cursor.at a.cursor.rest.now;
+      chars = chars a.cursor.dialect a.cursor.at (drop a.cursor.at a.cursor.text.now);
     } };
 }
 
@@ -159,9 +167,9 @@ impl<'s> Chars<'s> {
             ≡ record { dialect = dialect; at = mark_len text.now; chars = logical dialect text.now } }
         ensures spans { AreBetween result.at result.chars (length text.now) }
     {
-        let (at, rest) = behind_mark(text);
+        let at = mark_len(text);
         Chars {
-            cursor: Cursor { rest, at, dialect },
+            cursor: Cursor { text, at, dialect },
         }
     }
 
@@ -208,7 +216,7 @@ impl<'s> Chars<'s> {
         ensures passed { ArePassed is_word_byte self.old self.new }
         ensures bytes { AreBytesPassed is_word_byte self.old self.new }
     {
-        let len = word_len(self.cursor.rest);
+        let len = word_len(self.cursor.rest());
         self.cursor.pass(len);
     }
 
@@ -220,7 +228,19 @@ impl<'s> Chars<'s> {
         ensures passed { AreSpacesPassed self.old self.new result }
         ensures fits { self.new.at < 2 ^ 32 }
     {
-        let len = space_len(self.cursor.rest);
+        let len = space_len(self.cursor.rest());
+        self.cursor.pass(len);
+        len as u32
+    }
+
+    /// Steps behind the space that comes next, where one does. How many they are: one or none.
+    #[inline(always)]
+    pub fn pass_space(&mut self) -> u32
+        ensures passed { AreSpacesPassed self.old self.new result }
+        ensures most { result ≤ 1 }
+        ensures fits { self.new.at < 2 ^ 32 }
+    {
+        let len = first_space_len(self.cursor.rest());
         self.cursor.pass(len);
         len as u32
     }
@@ -233,7 +253,7 @@ impl<'s> Chars<'s> {
     pub fn pass_text(&mut self)
         ensures { ArePassed is_text_byte self.old self.new }
     {
-        let len = run_len::<TextBytes>(self.cursor.rest);
+        let len = run_len::<TextBytes>(self.cursor.rest());
         self.cursor.pass(len);
     }
 
@@ -245,7 +265,7 @@ impl<'s> Chars<'s> {
     pub fn pass_comment(&mut self)
         ensures { ArePassed is_comment_byte self.old self.new }
     {
-        let len = run_len::<CommentBytes>(self.cursor.rest);
+        let len = run_len::<CommentBytes>(self.cursor.rest());
         self.cursor.pass(len);
     }
 
@@ -254,7 +274,7 @@ impl<'s> Chars<'s> {
     pub fn pass_words(&mut self)
         ensures { AreWordsPassed self.old self.new }
     {
-        let len = words_len(self.cursor.rest);
+        let len = words_len(self.cursor.rest());
         self.cursor.pass(len);
     }
 

@@ -194,11 +194,7 @@ fn past_plain_word(standing: Standing) -> Option<Standing>
     match standing {
         Standing::BehindHash => None,
         Standing::BehindDefine => Some(Standing::BehindMacroName),
-        Standing::FirstInLine
-        | Standing::BehindInclude
-        | Standing::BehindMacroName
-        | Standing::WithinDirective
-        | Standing::WithinText => Some(past_other(standing)),
+        _ => Some(past_other(standing)),
     }
 }
 

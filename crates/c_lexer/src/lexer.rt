@@ -111,6 +111,19 @@ impl<'s> Lexer<'s> {
         }
     }
 
+    /// A second reader that stands at the same place.
+    #[inline(always)]
+    pub fn ahead(&self) -> Lexer<'s>
+        ensures { result ≡ self.now }
+    {
+        Lexer {
+            text: self.text,
+            chars: self.chars.ahead(),
+            dialect: self.dialect,
+            standing: self.standing,
+        }
+    }
+
     /// Where what is left of the text stands: behind the last item that was read, or at the text's start.
     pub fn standing(&self) -> Standing
         ensures { place_of result ≡ self.now.left.place }

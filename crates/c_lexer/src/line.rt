@@ -113,7 +113,7 @@ pub(crate) struct Begun<'s> {
 }
 
 /// The gap that the text begins with and the first character of the item behind it, where plain bytes are
-/// all of them; none elsewhere. It looks at each byte once.
+/// all of them; none elsewhere. Most gaps are one space or none, which are told without a jump.
 #[inline(always)]
 pub(crate) fn begin_plain<'s>(text: &Chars<'s>) -> Option<Begun<'s>>
     requires { IsSpanned text.now }
@@ -123,21 +123,21 @@ pub(crate) fn begin_plain<'s>(text: &Chars<'s>) -> Option<Begun<'s>>
     ensures plain { IfSome result (λ begun. (begun.first.from ≡ begun.text.at) × (begun.first.to ≡ begun.text.at + 1)) }
 {
     let mut rest = text.ahead();
-    let mut behind = text.ahead();
     let mut lines = 0;
-    let mut bytes = 0;
+    rest.pass_space();
+    let mut behind = rest.ahead();
     while let Some(first) = behind.next_plain() {
         if !bytes::is_blank(first.byte) {
             return Some(Begun {
                 lines,
-                bytes,
+                bytes: (rest.at() - text.at()) as u32,
                 text: rest,
                 first,
                 behind,
             });
         }
         lines += lines_of(first.byte);
-        bytes += first.to - first.from;
+        behind.pass_spaces();
         rest = behind.ahead();
     }
     None

@@ -6,6 +6,7 @@ pub mod KeptLemmas
 pub mod NextLemmas
 pub mod Spans
 pub mod Eights
+pub mod Feeds
 pub mod RowsKept
 pub mod SegmentLemmas
 pub mod IncreaseLemmas

@@ -10,14 +10,30 @@ ghost use Rattle.token_arena.specs.Entries.{IsTold, entry_of, spelled};
 
 use crate::arena::{Entry, Spelled};
 use c_lexer::Lexeme;
+use std::simd::prelude::*;
 use std::str::from_utf8;
 use unicode_width::UnicodeWidthStr;
 
-/// How many new-lines there are among these bytes.
+/// How many new-lines there are among sixteen bytes.
+#[inline(always)]
+fn line_feeds_in(sixteen: &[u8; 16]) -> usize
+    ensures { result ≡ count_by is_line_feed sixteen.now }
+{
+    let feeds = u8x16::from_array(*sixteen).simd_eq(u8x16::splat(b'\n'));
+    feeds.to_bitmask().count_ones() as usize
+}
+
+/// How many new-lines there are among these bytes, told sixteen at a time.
 pub(crate) fn line_feeds(bytes: &[u8]) -> usize
     ensures { result ≡ count_by is_line_feed bytes.now }
 {
-    bytes.iter().filter(|b| **b == b'\n').count()
+    let mut rest = bytes;
+    let mut feeds = 0;
+    while let Some((sixteen, behind)) = rest.split_first_chunk::<16>() {
+        feeds += line_feeds_in(sixteen);
+        rest = behind;
+    }
+    feeds + rest.iter().filter(|b| **b == b'\n').count()
 }
 
 /// A row without the carriage return at its end.

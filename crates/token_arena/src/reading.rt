@@ -41,11 +41,14 @@ fn entries_of<'a>(bump: &'a Bump, text: &[u8], dialect: Dialect) -> Result<&'a [
             at = entry.start + entry.len;
             continue;
         }
-        match lexer.next_any() {
+        // By a second reader, so that the first needs no place in memory.
+        let mut other = lexer.ahead();
+        match other.next_any() {
             Ok(Some(lexeme)) => {
                 let entry = entry_of(&lexeme, at, told_by_bytes(lexeme.item.raw));
                 entries.push(entry)?;
                 at = entry.start + entry.len;
+                lexer = other;
             }
             Ok(None) => return Ok(into_bump_slice(entries)),
             Err(LexFault::UnterminatedComment { start }) => {

@@ -1,14 +1,14 @@
-use Rattle.std.proofs.Common.{◌∙◌, sym, arith}
+use Rattle.std.proofs.Common.{◌∙◌, ◌<◌, not, map, ap, subst, arith}
+use lib.Lanes.{mask_l}
+use lib.Count.{count_trailing_zeros}
 use Rattle.c_chars.specs.Characters.{is_space_byte}
-use Rattle.c_chars.proofs.Runs.{goes_on, stops_there}
+use Rattle.c_chars.proofs.Sixteen.{run_stops}
 use Rattle.c_chars.proofs.classes.space_len.Goals as goal
 
-pub returns-then-not-is_space_byte : goal.returns-then-not-is_space_byte
-returns-then-not-is_space_byte c =
-    let none = stops_there is_space_byte c.args.bytes.now c.loop-i.i c.loop-i-test.true (sym c.is_space_byte.ensures ∙ c.if-not-is_space_byte.true) in
-    omega (arith, none, c.loop-i.invariant)
-
-pub loop-i-preserved : goal.loop-i-preserved
-loop-i-preserved c =
-    let more = goes_on is_space_byte c.args.bytes.now c.loop-i.i c.loop-i-test.true (sym c.is_space_byte.ensures ∙ c.if-not-is_space_byte.false) in
-    omega (arith, more, c.loop-i.invariant)
+pub returns-then-stops-ne0 : goal.returns-then-stops-ne0
+returns-then-stops-ne0 c =
+    let cases = c.in-Some.ensures.cases in
+    let mask = c.stops-stops.ensures ∙ ap (λ z. mask_l (map (λ b. not (is_space_byte b)) z)) cases.0 in
+    let run = run_stops is_space_byte c.args.bytes.now 16 (omega (arith, cases.2)) (omega arith) (subst (λ m. 0 < m) mask (omega arith)) in
+    let zeros = ap (count_trailing_zeros 64) mask in
+    omega (arith, run, zeros)

@@ -1,4 +1,4 @@
-use Rattle.std.proofs.Common.{◌≡◌, ◌+◌, ◌≤◌, ◌||◌, length}
+use Rattle.std.proofs.Common.{◌≡◌, ◌+◌, ◌-◌, ◌^◌, ◌<◌, ◌≤◌, ◌||◌, length}
 use Rattle.std.specs.List.{prefix_len}
 use Rattle.c_chars.specs.Characters.{bytes_of}
 use Rattle.c_chars.specs.Coming.{behind}
@@ -12,9 +12,10 @@ invariant-loop-first l = record {
   behind_is : l.behind ≡ l.rest;
   spans : IsSpanned l.rest;
   few_lines : l.lines ≤ l.rest.at;
-  few_bytes : l.bytes ≤ l.rest.at;
+  later : l.text.at ≤ l.rest.at;
+  fits : l.rest.at < 2 ^ 32;
   lines_are : l.lines + new_lines (first_gap l.rest.chars) ≡ new_lines (first_gap l.text.chars);
-  bytes_are : l.bytes + bytes_in (first_gap l.rest.chars) ≡ bytes_in (first_gap l.text.chars);
+  bytes_are : (l.rest.at - l.text.at) + bytes_in (first_gap l.rest.chars) ≡ bytes_in (first_gap l.text.chars);
   rest_is : behind l.rest (prefix_len (λ x. is_white x || is_new_line x) (bytes_of l.rest.chars)) ≡ behind l.text (prefix_len (λ x. is_white x || is_new_line x) (bytes_of l.text.chars));
 }
 

@@ -46,7 +46,7 @@ loop-lexeme-preserved-in-Some c = record {
 
 pub entry_of-entry-requires-in-Ok-Some-clause-fits : goal.entry_of-entry-requires-in-Ok-Some-clause-fits
 entry_of-entry-requires-in-Ok-Some-clause-fits c =
-    let same : c.next_plain_lexeme.new.self ≡ c.loop-lexeme.lexer = c.in_default.ensures.none in
+    let same = c.ahead-other.ensures ∙ c.in_default.ensures.none in
     let text_is = ap (λ (r : Reading). r.text) same ∙ c.loop-lexeme.invariant.text_stays in
     let kept = subst (λ (r : Reading). IsKeptUpTo c.args.dialect c.args.text.now r.left c.loop-lexeme.entries.items c.loop-lexeme.at) (sym same) c.loop-lexeme.invariant.kept in
     let next = at_some _ _ _ _ c.in-Ok-Some.field-0-is c.in-Ok-Some.ensures.some in
@@ -54,7 +54,7 @@ entry_of-entry-requires-in-Ok-Some-clause-fits c =
 
 pub entry_of-entry-requires-in-Ok-Some-clause-order : goal.entry_of-entry-requires-in-Ok-Some-clause-order
 entry_of-entry-requires-in-Ok-Some-clause-order c =
-    let same : c.next_plain_lexeme.new.self ≡ c.loop-lexeme.lexer = c.in_default.ensures.none in
+    let same = c.ahead-other.ensures ∙ c.in_default.ensures.none in
     let text_is = ap (λ (r : Reading). r.text) same ∙ c.loop-lexeme.invariant.text_stays in
     let kept = subst (λ (r : Reading). IsKeptUpTo c.args.dialect c.args.text.now r.left c.loop-lexeme.entries.items c.loop-lexeme.at) (sym same) c.loop-lexeme.invariant.kept in
     let next = at_some _ _ _ _ c.in-Ok-Some.field-0-is c.in-Ok-Some.ensures.some in
@@ -62,7 +62,7 @@ entry_of-entry-requires-in-Ok-Some-clause-order c =
 
 pub overflow_add-at-in-Ok-Some : goal.overflow_add-at-in-Ok-Some
 overflow_add-at-in-Ok-Some c =
-    let same : c.next_plain_lexeme.new.self ≡ c.loop-lexeme.lexer = c.in_default.ensures.none in
+    let same = c.ahead-other.ensures ∙ c.in_default.ensures.none in
     let text_is = ap (λ (r : Reading). r.text) same ∙ c.loop-lexeme.invariant.text_stays in
     let kept = subst (λ (r : Reading). IsKeptUpTo c.args.dialect c.args.text.now r.left c.loop-lexeme.entries.items c.loop-lexeme.at) (sym same) c.loop-lexeme.invariant.kept in
     let next = at_some _ _ _ _ c.in-Ok-Some.field-0-is c.in-Ok-Some.ensures.some in
@@ -71,13 +71,13 @@ overflow_add-at-in-Ok-Some c =
 
 pub loop-lexeme-smaller : goal.loop-lexeme-smaller
 loop-lexeme-smaller c =
-    let same : c.next_plain_lexeme.new.self ≡ c.loop-lexeme.lexer = c.in_default.ensures.none in
+    let same = c.ahead-other.ensures ∙ c.in_default.ensures.none in
     let next = at_some _ _ _ _ c.in-Ok-Some.field-0-is c.in-Ok-Some.ensures.some in
     subst (λ (r : Reading). length c.next_any.new.self.left.chars < length r.left.chars) same (step_shorter _ _ _ _ next.next.step).1
 
 pub loop-lexeme-preserved : goal.loop-lexeme-preserved
 loop-lexeme-preserved c =
-    let same : c.next_plain_lexeme.new.self ≡ c.loop-lexeme.lexer = c.in_default.ensures.none in
+    let same = c.ahead-other.ensures ∙ c.in_default.ensures.none in
     let text_is = ap (λ (r : Reading). r.text) same ∙ c.loop-lexeme.invariant.text_stays in
     let dialect_is = ap (λ (r : Reading). r.dialect) same ∙ c.loop-lexeme.invariant.dialect_stays in
     let kept = subst (λ (r : Reading). IsKeptUpTo c.args.dialect c.args.text.now r.left c.loop-lexeme.entries.items c.loop-lexeme.at) (sym same) c.loop-lexeme.invariant.kept in
@@ -90,8 +90,8 @@ loop-lexeme-preserved c =
 
 pub returns-in-Ok-None-clause-entries : goal.returns-in-Ok-None-clause-entries
 returns-in-Ok-None-clause-entries c =
-    let same : c.next_plain_lexeme.new.self ≡ c.loop-lexeme.lexer = c.in_default.ensures.none in
+    let same = c.ahead-other.ensures ∙ c.in_default.ensures.none in
     let kept = subst (λ (r : Reading). IsKeptUpTo c.args.dialect c.args.text.now r.left c.loop-lexeme.entries.items c.loop-lexeme.at) (sym same) c.loop-lexeme.invariant.kept in
     rw c.into_bump_slice.ensures
-    (kept_ended c.args.dialect c.args.text.now c.next_plain_lexeme.new.self.left c.loop-lexeme.entries.items c.loop-lexeme.at c.requires.fits kept
+    (kept_ended c.args.dialect c.args.text.now c.ahead-other.result.left c.loop-lexeme.entries.items c.loop-lexeme.at c.requires.fits kept
     (at_none _ _ _ c.in-Ok-None.field-0-is c.in-Ok-None.ensures.some))

@@ -1,4 +1,5 @@
-use Rattle.std.proofs.Common.{subst}
+use Rattle.std.proofs.Common.{◌+◌, ◌-◌, length, drop, arith, subst}
+use Rattle.std.proofs.lemmas.List.{length-drop}
 use Rattle.c_chars.specs.Characters.{chars}
 use Rattle.c_chars.specs.Coming.{AreBetween}
 use Rattle.c_chars.proofs.Spans.{between_chars}
@@ -6,5 +7,7 @@ use Rattle.c_chars.proofs.reader.Chars.new.Goals as goal
 
 pub returns-clause-spans : goal.returns-clause-spans
 returns-clause-spans c =
-    subst (λ high. AreBetween c.behind_mark-at.result.0 (chars c.args.dialect c.behind_mark-at.result.0 c.behind_mark-at.result.1.now) high) c.behind_mark-at.ensures.len
-    (between_chars c.args.dialect c.behind_mark-at.result.0 c.behind_mark-at.result.1.now)
+    let at = c.mark_len-at.result in
+    let rest = drop at c.args.text.now in
+    let len = length-drop at c.args.text.now in
+    subst (λ high. AreBetween at (chars c.args.dialect at rest) high) (omega (arith, len, c.mark_len-at.ensures.within)) (between_chars c.args.dialect at rest)

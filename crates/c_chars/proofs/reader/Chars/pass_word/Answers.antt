@@ -1,25 +1,25 @@
-use Rattle.std.proofs.Common.{◌≤◌, length, subst, sym}
-use Rattle.std.proofs.lemmas.List.Sums.{prefix_len-le-length}
+use Rattle.std.proofs.Common.{drop, subst}
 use Rattle.c_chars.specs.Characters.{chars, is_word_byte}
 use Rattle.c_chars.specs.Coming.{AreBytesPassed, ArePassed}
 use Rattle.c_chars.proofs.Runs.{bytes_passed, run_passed, word_plain}
+use Rattle.c_chars.proofs.Rests.{left_behind, run_is, run_within}
 use Rattle.c_chars.proofs.reader.Chars.pass_word.Goals as goal
 
 pub pass-requires : goal.pass-requires
-pass-requires c = subst (λ n. n ≤ length c.self.inside.cursor.rest.now) (sym c.word_len-len.ensures) (prefix_len-le-length is_word_byte c.self.inside.cursor.rest.now)
+pass-requires c = run_within is_word_byte c.self.inside.cursor.at c.word_len-len.result c.self.inside.cursor.text.now c.rest.result.now c.self.inside.cursor.within c.rest.ensures c.word_len-len.ensures
 
 pub returns-clause-passed : goal.returns-clause-passed
 returns-clause-passed c =
-    subst
-    (λ v. ArePassed is_word_byte v (record { dialect = c.pass.new.self.dialect; at = c.pass.new.self.at; chars = chars c.pass.new.self.dialect c.pass.new.self.at c.pass.new.self.rest.now }))
-    c.self.view_is
-    (run_passed is_word_byte c.self.inside.cursor.dialect c.pass.new.self.dialect c.self.inside.cursor.at c.pass.new.self.at c.word_len-len.result c.self.inside.cursor.rest.now c.pass.new.self.rest.now
-    word_plain c.word_len-len.ensures c.pass.ensures.dialect c.pass.ensures.at c.pass.ensures.rest)
+    let old = c.self.inside.cursor in
+    let new = c.pass.new.self in
+    subst (λ v. ArePassed is_word_byte v (record { dialect = new.dialect; at = new.at; chars = chars new.dialect new.at (drop new.at new.text.now) })) c.self.view_is
+    (run_passed is_word_byte old.dialect new.dialect old.at new.at c.word_len-len.result (drop old.at old.text.now) (drop new.at new.text.now) word_plain (run_is is_word_byte c.word_len-len.result _ _ c.rest.ensures c.word_len-len.ensures)
+    c.pass.ensures.dialect c.pass.ensures.at (left_behind old.at new.at c.word_len-len.result old.text.now new.text.now c.pass.ensures.at c.pass.ensures.text))
 
 pub returns-clause-bytes : goal.returns-clause-bytes
 returns-clause-bytes c =
-    subst
-    (λ v. AreBytesPassed is_word_byte v (record { dialect = c.pass.new.self.dialect; at = c.pass.new.self.at; chars = chars c.pass.new.self.dialect c.pass.new.self.at c.pass.new.self.rest.now }))
-    c.self.view_is
-    (bytes_passed is_word_byte c.self.inside.cursor.dialect c.pass.new.self.dialect c.self.inside.cursor.at c.pass.new.self.at c.word_len-len.result c.self.inside.cursor.rest.now c.pass.new.self.rest.now
-    word_plain c.word_len-len.ensures c.pass.ensures.dialect c.pass.ensures.at c.pass.ensures.rest)
+    let old = c.self.inside.cursor in
+    let new = c.pass.new.self in
+    subst (λ v. AreBytesPassed is_word_byte v (record { dialect = new.dialect; at = new.at; chars = chars new.dialect new.at (drop new.at new.text.now) })) c.self.view_is
+    (bytes_passed is_word_byte old.dialect new.dialect old.at new.at c.word_len-len.result (drop old.at old.text.now) (drop new.at new.text.now) word_plain (run_is is_word_byte c.word_len-len.result _ _ c.rest.ensures c.word_len-len.ensures)
+    c.pass.ensures.dialect c.pass.ensures.at (left_behind old.at new.at c.word_len-len.result old.text.now new.text.now c.pass.ensures.at c.pass.ensures.text))

@@ -1,7 +1,0 @@
-use Rattle.std.proofs.Common.{◌≡◌, ◌+◌, drop}
-use Rattle.std.specs.List.{prefix_len}
-use Rattle.c_chars.specs.Characters.{is_space_byte}
-use Rattle.c_chars.proofs.classes.space_len.Given as goal
-
-abbrev pub invariant-loop-i : goal.invariant-loop-i
-invariant-loop-i l = l.i + prefix_len is_space_byte (drop l.i l.bytes) ≡ prefix_len is_space_byte l.bytes
