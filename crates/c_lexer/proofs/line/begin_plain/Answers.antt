@@ -70,7 +70,8 @@ pub returns-then-not-is_blank-clause-gap : goal.returns-then-not-is_blank-clause
 returns-then-not-is_blank-clause-gap c =
     let chars = sym (ap (λ z. z.chars) c.loop-first.invariant.behind_is) ∙ c.in-Some.ensures.some.0 in
     let stops = ap (λ s. starts (λ x. is_white x || is_new_line x) (bytes_of s)) chars ∙ (sym c.is_blank.ensures ∙ c.if-not-is_blank.true) in
-    gap_ended c.args.text.now c.loop-first.rest c.loop-first.lines c.loop-first.bytes stops c.loop-first.invariant.lines_are c.loop-first.invariant.bytes_are c.loop-first.invariant.rest_is
+    let invariant = c.loop-first.invariant in
+    gap_ended c.args.text.now c.loop-first.rest c.loop-first.lines _ stops invariant.lines_are (omega (arith, c.at.ensures, c.at-then-not-is_blank.ensures, invariant.later, invariant.fits, invariant.bytes_are)) invariant.rest_is
 
 pub returns-then-not-is_blank-clause-begun : goal.returns-then-not-is_blank-clause-begun
 returns-then-not-is_blank-clause-begun c = record {
