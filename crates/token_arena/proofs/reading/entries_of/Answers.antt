@@ -1,4 +1,4 @@
-use Rattle.std.proofs.Common.{◌≡◌, ◌∙◌, ◌<◌, length, sym, subst, ap, arith}
+use Rattle.std.proofs.Common.{◌∙◌, ◌<◌, length, sym, subst, ap, arith}
 use Rattle.c_lexer.specs.Reading.{Reading}
 use Rattle.token_arena.specs.declared.facts.Told.{Told}
 use Rattle.token_arena.proofs.KeptLemmas.{IsKeptUpTo, kept_begun, kept_ended}

@@ -1,4 +1,4 @@
-use Rattle.std.proofs.Common.{◌+◌, ◌-◌, length, drop, arith, subst}
+use Rattle.std.proofs.Common.{drop, arith, subst}
 use Rattle.std.proofs.lemmas.List.{length-drop}
 use Rattle.c_chars.specs.Characters.{chars}
 use Rattle.c_chars.specs.Coming.{AreBetween}

@@ -1,5 +1,5 @@
 use Rattle.std.proofs.Common.{◌∙◌, refl, sym, arith}
-use Rattle.c_chars.proofs.Runs.{at_end, plain_taken}
+use Rattle.c_chars.proofs.Runs.{plain_taken}
 use Rattle.c_chars.proofs.reader.Cursor.next_plain.Goals as goal
 
 pub returns-then-self-clause-next : goal.returns-then-self-clause-next

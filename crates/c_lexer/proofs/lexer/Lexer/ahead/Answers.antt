@@ -1,4 +1,4 @@
-use Rattle.std.proofs.Common.{sym, ap, subst}
+use Rattle.std.proofs.Common.{sym, subst}
 use Rattle.c_lexer.specs.Fault.{IsAt}
 use Rattle.c_lexer.specs.Reading.{AreRaw, AreSlashed}
 use Rattle.c_lexer.proofs.lexer.Lexer.ahead.Goals as goal
