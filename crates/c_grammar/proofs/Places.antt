@@ -56,6 +56,16 @@ take_front (suc n) (c ∷ s) (b ∷ w) i h =
     let there = rest.0 in
     (rw (e, there) refl, ap suc rest.1)
 
+-- behind a word whose spelling tells nothing
+pub other_word : (d : Dialect) (place : Place) (s : List ℕ) → (place ≡ AfterHash → ⊥) → (place ≡ AfterDefine → ⊥) → past_word d place s ≡ past_plain place
+other_word d LineStart s hash define = refl
+other_word d AfterHash s hash define = absurd (hash refl)
+other_word d AfterInclude s hash define = refl
+other_word d AfterDefine s hash define = absurd (define refl)
+other_word d AfterMacroName s hash define = refl
+other_word d InDirective s hash define = refl
+other_word d InText s hash define = refl
+
 -- the text begins with the word, and they reach as far
 pub spelled_yes : (x y left : Coming) (w : List ℕ) (n : ℕ) → IsSpanned x → starts_with nat_eq (bytes_of x.chars) w ≡ true → y ≡ behind x (length w) → y.at ≡ left.at → n ≤ length x.chars → left ≡ behind x n
     → true ≡ is_same (take n (bytes_of x.chars)) w

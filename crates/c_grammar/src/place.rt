@@ -5,7 +5,8 @@ ghost use Rattle.c_chars.specs.Characters.{bytes_of};
 ghost use Rattle.c_chars.specs.declared.Dialect.{Dialect};
 ghost use Rattle.c_grammar.specs.Grammar.{is_same};
 ghost use Rattle.c_grammar.specs.Touch.{starts};
-ghost use Rattle.c_grammar.specs.Items.{LineStart, AfterHash, past_item, past_name, past_comment, is_hash, is_include};
+ghost use Rattle.c_grammar.specs.Items.{LineStart, AfterHash, AfterDefine, past_item, past_name, past_comment, is_hash};
+ghost use Rattle.c_grammar.specs.Items.{is_include};
 ghost use Rattle.item_kinds.specs.declared.ItemKind.TheVariants.{Identifier, Punct, Other, BlockComment};
 ghost use Rattle.c_grammar.specs.Bytes.{IsFirst};
 ghost use Rattle.c_grammar.specs.Place.{place_of, past_plain, past_mark, past_word, IsSpanned, SpelledBy};
@@ -186,16 +187,36 @@ pub fn past_item(
     }
 }
 
+/// Whether an item stands behind the `#` of a directive.
+#[inline(always)]
+fn is_behind_hash(standing: Standing) -> bool
+    ensures hash { IsTrue result → place_of standing ≡ AfterHash }
+    ensures other { IsFalse result → place_of standing ≡ AfterHash → ⊥ }
+{
+    matches!(standing, Standing::BehindHash)
+}
+
+/// Whether an item stands behind the `define` of a directive.
+#[inline(always)]
+fn is_behind_define(standing: Standing) -> bool
+    ensures define { IsTrue result → place_of standing ≡ AfterDefine }
+    ensures other { IsFalse result → place_of standing ≡ AfterDefine → ⊥ }
+{
+    matches!(standing, Standing::BehindDefine)
+}
+
 /// Behind a word whose spelling tells nothing; none where it may tell something.
 #[inline(always)]
 fn past_plain_word(standing: Standing) -> Option<Standing>
     ensures { IfSome result (λ past. (d : Dialect) (s : List ℕ) → place_of past ≡ past_word d (place_of standing) s) }
 {
-    match standing {
-        Standing::BehindHash => None,
-        Standing::BehindDefine => Some(Standing::BehindMacroName),
-        _ => Some(past_other(standing)),
+    if is_behind_hash(standing) {
+        return None;
     }
+    if is_behind_define(standing) {
+        return Some(Standing::BehindMacroName);
+    }
+    Some(past_other(standing))
 }
 
 /// Whether an item stands first in its line.
@@ -265,14 +286,6 @@ fn past_hash(standing: Standing, kind: ItemKind, text: &Chars, left: &Chars) -> 
     } else {
         None
     }
-}
-
-/// Whether an item stands behind the `#` of a directive.
-#[inline(always)]
-fn is_behind_hash(standing: Standing) -> bool
-    ensures { IsTrue result → place_of standing ≡ AfterHash }
-{
-    matches!(standing, Standing::BehindHash)
 }
 
 /// Whether it is a word.

@@ -3,6 +3,7 @@ use Rattle.std.proofs.Common.{◌≡◌, ◌||◌, Bool, true, false, ℕ, suc, 
 use Rattle.std.specs.Prelude.{Some, None, slice_get, if◌then◌else◌}
 use Rattle.std.specs.List.{list_any, list_all, prefix_len}
 use Rattle.std.proofs.lemmas.Bool.{cases_Bool}
+use Rattle.std.proofs.lemmas.List.{length-drop, length-take-le}
 use Rattle.c_chars.specs.Characters.{bytes_of}
 use Rattle.c_chars.specs.Coming.{Coming, AreBetween, passed, behind}
 use Rattle.c_chars.specs.declared.Dialect.{Dialect}
@@ -86,8 +87,14 @@ bounds text d place y left kind first a h c =
       at_within left.at (length text) left.chars (at_rest text d y left c.n a c.left_is).spans,
     )
 
+-- how many bytes stand between two offsets
+pub length-between : (from to : ℕ) (text : List ℕ) → from ≤ to → to ≤ length text → length (take (to - from) (drop from text)) ≡ to - from
+length-between from to text order within =
+    let behind = length-drop from text in
+    length-take-le (to - from) (drop from text) (omega (arith, behind, order, within))
+
 pub fault_there : (text : List ℕ) (d : Dialect) (place : Place) (x y : Coming) (first : LogicalChar) (stop : Stop) → IsAt text d x → y ≡ behind x (gap_of x) → slice_get y.chars 0 ≡ Some first → IsStop y stop →
-    IsFault (record { text = text; dialect = d; left = record { place = place; chars = x.chars } }) (fault_of stop first.from)
+    IsFault (record { text = text; dialect = d; left = record { place = place; chars = x.chars }; at = x.at }) (fault_of stop first.from)
 fault_there text d place x y first Unterminated a e h s =
     let rest : y.chars ≡ past_blank x.chars = rest_chars x y (gap_of x) e in
     let same : y.dialect ≡ d = (at_rest text d x y (gap_of x) a e).dialect_is in (
@@ -98,9 +105,9 @@ fault_there text d place x y first Unterminated a e h s =
 pub next_there : (text : List ℕ) (d : Dialect) (place here past : Place) (x y left : Coming) (b : Bool) (first : LogicalChar) (kind : ItemKind) (raw : List ℕ) → IsAt text d x →
     b ≡ list_any is_new_line (take (gap_of x) (bytes_of x.chars)) → y ≡ behind x (gap_of x) → slice_get y.chars 0 ≡ Some first → here ≡ (if b then LineStart else place) → IsCutNext here y left kind →
     SpelledBy y left (λ s. past ≡ past_item d here kind s) → raw ≡ take (left.at - first.from) (drop first.from text) →
-    IsNextItem (record { text = text; dialect = d; left = record { place = place; chars = x.chars } }) (record { text = text; dialect = d; left = record { place = past; chars = left.chars } }) kind first.from raw
+    IsNextItem (record { text = text; dialect = d; left = record { place = place; chars = x.chars }; at = x.at }) (record { text = text; dialect = d; left = record { place = past; chars = left.chars }; at = left.at }) kind first.from raw
 next_there text d place here past x y left b first kind raw a line e h p c spelled r =
-    let old : Reading = record { text = text; dialect = d; left = record { place = place; chars = x.chars } } in
+    let old : Reading = record { text = text; dialect = d; left = record { place = place; chars = x.chars }; at = x.at } in
     let some : y.chars ≡ first ∷ drop 1 y.chars = first_of_some y.chars first h in
     let same : y.dialect ≡ d = (at_rest text d x y (gap_of x) a e).dialect_is in
     let gap_place : here ≡ past_gap place (take (gap_of x) (bytes_of x.chars)) = p ∙ ap (λ z. if z then LineStart else place) line in
@@ -108,7 +115,7 @@ next_there text d place here past x y left b first kind raw a line e h p c spell
     subst (λ z. IsNext d (past_gap place (take (gap_of x) (bytes_of x.chars))) kind (take c.n (bytes_of z)) (drop c.n (bytes_of z))) some
     (subst (λ z. IsNext d z kind (take c.n (bytes_of y.chars)) (drop c.n (bytes_of y.chars))) gap_place
     (subst (λ z. IsNext z here kind (take c.n (bytes_of y.chars)) (drop c.n (bytes_of y.chars))) same c.next)) in
-    let step = step_of d text place y.at (gap_of x) c.n (length text) x.chars first (drop 1 y.chars) kind refl (sym (rest_chars x y (gap_of x) e) ∙ some) c.some
+    let step = step_of d text place x.at left.at y.at (gap_of x) c.n (length text) x.chars first (drop 1 y.chars) kind refl (sym (rest_chars x y (gap_of x) e) ∙ some) c.some
     (subst (λ z. c.n ≤ length z) some c.within) next in
     let left_chars : drop c.n (first ∷ drop 1 y.chars) ≡ left.chars = sym (rest_chars y left c.n c.left_is ∙ ap (λ z. drop c.n z) some) in
     let left_at : (passed d y.at (first ∷ drop 1 y.chars) c.n).at ≡ left.at =
@@ -116,7 +123,7 @@ next_there text d place here past x y left b first kind raw a line e h p c spell
     let place_is : past_item d (past_gap place (take (gap_of x) (bytes_of x.chars))) kind (take c.n (bytes_of (first ∷ drop 1 y.chars))) ≡ past =
     sym (spelled c.n c.within c.left_is ∙ (ap (λ z. past_item d z kind (take c.n (bytes_of y.chars))) gap_place ∙ ap (λ z. past_item d (past_gap place (take (gap_of x) (bytes_of x.chars))) kind (take c.n (bytes_of z))) some)) in
     let raw_is : take ((passed d y.at (first ∷ drop 1 y.chars) c.n).at - first.from) (drop first.from text) ≡ raw = ap (λ k. take (k - first.from) (drop first.from text)) left_at ∙ sym r in
-    subst (λ z. IsNextItem old (record { text = text; dialect = d; left = record { place = past; chars = left.chars } }) kind first.from z) raw_is
-    (subst (λ z. IsNextItem old (record { text = text; dialect = d; left = record { place = z; chars = left.chars } }) kind first.from (take ((passed d y.at (first ∷ drop 1 y.chars) c.n).at - first.from) (drop first.from text))) place_is
-    (subst (λ z. IsNextItem old (record { text = text; dialect = d; left = record { place = past_item d (past_gap place (take (gap_of x) (bytes_of x.chars))) kind (take c.n (bytes_of (first ∷ drop 1 y.chars))); chars = z } }) kind first.from
+    subst (λ z. IsNextItem old (record { text = text; dialect = d; left = record { place = past; chars = left.chars }; at = left.at }) kind first.from z) raw_is
+    (subst (λ z. IsNextItem old (record { text = text; dialect = d; left = record { place = z; chars = left.chars }; at = left.at }) kind first.from (take ((passed d y.at (first ∷ drop 1 y.chars) c.n).at - first.from) (drop first.from text))) place_is
+    (subst (λ z. IsNextItem old (record { text = text; dialect = d; left = record { place = past_item d (past_gap place (take (gap_of x) (bytes_of x.chars))) kind (take c.n (bytes_of (first ∷ drop 1 y.chars))); chars = z }; at = left.at }) kind first.from
     (take ((passed d y.at (first ∷ drop 1 y.chars) c.n).at - first.from) (drop first.from text))) left_chars step))

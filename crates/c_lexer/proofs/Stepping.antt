@@ -74,13 +74,13 @@ abbrev is_blank : ℕ → Bool
 is_blank c = is_white c || is_new_line c
 
 -- A gap of n characters, and then an item of m, that is next: the text's next item.
-pub step_of : (d : Dialect) (text : List ℕ) (place : Place) (at n m high : ℕ) (x : List LogicalChar) (c : LogicalChar) (s : List LogicalChar) (kind : ItemKind) →
+pub step_of : (d : Dialect) (text : List ℕ) (place : Place) (from to at n m high : ℕ) (x : List LogicalChar) (c : LogicalChar) (s : List LogicalChar) (kind : ItemKind) →
     n ≡ prefix_len is_blank (bytes_of x) → drop n x ≡ c ∷ s → 0 < m → m ≤ length (c ∷ s) →
     IsNext d (past_gap place (take n (bytes_of x))) kind (take m (bytes_of (c ∷ s))) (drop m (bytes_of (c ∷ s))) →
-    IsNextItem (record { text = text; dialect = d; left = record { place = place; chars = x } })
-    (record { text = text; dialect = d; left = record { place = past_item d (past_gap place (take n (bytes_of x))) kind (take m (bytes_of (c ∷ s))); chars = drop m (c ∷ s) } })
+    IsNextItem (record { text = text; dialect = d; left = record { place = place; chars = x }; at = from })
+    (record { text = text; dialect = d; left = record { place = past_item d (past_gap place (take n (bytes_of x))) kind (take m (bytes_of (c ∷ s))); chars = drop m (c ∷ s) }; at = to })
     kind c.from (take ((passed d at (c ∷ s) m).at - c.from) (drop c.from text))
-step_of d text place at n m high x c s kind n_is rest some within next =
+step_of d text place from to at n m high x c s kind n_is rest some within next =
     let gap_bytes : bytes_of (take n x) ≡ take n (bytes_of x) = bytes_take n x in
     let spelled : bytes_of (take m (c ∷ s)) ≡ take m (bytes_of (c ∷ s)) = bytes_take m (c ∷ s) in
     let left : bytes_of (drop m (c ∷ s)) ≡ drop m (bytes_of (c ∷ s)) = bytes_drop m (c ∷ s) in

@@ -12,11 +12,12 @@ use Rattle.item_kinds.specs.declared.ItemKind.{ItemKind}
 use Rattle.c_grammar.specs.Text.{Left, ReadItem, IsStep, start_of, raw_of}
 use Rattle.c_lexer.specs.declared.item.Lexeme.{Lexeme}
 
--- a text, the dialect that it is read in, and what is left of it
+-- a text, the dialect that it is read in, what is left of it, and the offset behind the last item that was read
 pub record Reading : Type 0 where
   pub text : List ℕ
   pub dialect : Dialect
   pub left : Left
+  pub at : ℕ
 
 -- The next item of the text has this kind, starts at this offset and has these bytes; `new` is what is left behind it.
 pub record IsNextItem (old new : Reading) (kind : ItemKind) (start : ℕ) (raw : List ℕ) : Type 0 where

@@ -1,11 +1,11 @@
 //! Reads the items of a text one after another.
 
-ghost use Rattle.std.specs.Prelude.{◌≡◌, ◌≤◌, ◌<◌, ◌-◌, length, take, drop, get_or, IsTrue, IfSome, IfNone, IfOk};
+ghost use Rattle.std.specs.Prelude.{◌≡◌, ◌≤◌, ◌<◌, ◌+◌, ◌-◌, length, take, drop, get_or, IsTrue, IfSome, IfNone, IfOk};
 ghost use Rattle.std.specs.Prelude.{IfErr, MatchOption, ⊤};
 ghost use Rattle.std.specs.Int.{is_in_range};
 ghost use Rattle.std.specs.List.{list_all};
 ghost use Rattle.c_grammar.specs.Items.{is_gap, LineStart};
-ghost use Rattle.c_chars.specs.Characters.{logical, bytes_of, is_plain};
+ghost use Rattle.c_chars.specs.Characters.{logical, bytes_of, is_plain, mark_len};
 ghost use Rattle.c_grammar.specs.Place.{IsSpanned, place_of};
 ghost use Rattle.c_lexer.specs.Reading.{IsNextItem, IsNextLexeme, AreSlashed, BeforeLeft, ends_backslash};
 ghost use Rattle.c_lexer.specs.Reading.{ends_in_backslash};
@@ -89,6 +89,7 @@ impl<'s> Model for Lexer<'s> {
           text = a.text.now;
           dialect = a.dialect;
           left = record { place = place_of a.standing; chars = a.chars.chars };
+          at = a.chars.at;
         } };
 
     ghost invariant = { λ a.
@@ -102,6 +103,7 @@ impl<'s> Lexer<'s> {
         ensures text { result.text ≡ text.now }
         ensures dialect { result.dialect ≡ dialect }
         ensures left { result.left ≡ record { place = LineStart; chars = logical dialect text.now } }
+        ensures at { result.at ≡ mark_len text.now }
     {
         Lexer {
             text,
@@ -124,6 +126,14 @@ impl<'s> Lexer<'s> {
         }
     }
 
+    /// The offset behind the last item that was read; where none was, the one behind the text's byte order mark.
+    #[inline(always)]
+    pub fn at(&self) -> usize
+        ensures { result ≡ self.now.at }
+    {
+        self.chars.at()
+    }
+
     /// Where what is left of the text stands: behind the last item that was read, or at the text's start.
     pub fn standing(&self) -> Standing
         ensures { place_of result ≡ self.now.left.place }
@@ -141,6 +151,8 @@ impl<'s> Lexer<'s> {
             MatchOption next (IsTrue (is_gap (bytes_of self.old.left.chars)))
             (λ lexeme. IsNextLexeme self.old self.new lexeme)) }
         ensures end { IfOk result (λ next. MatchOption next (self.new ≡ self.old) (λ lexeme. ⊤)) }
+        ensures behind { IfOk result (λ next.
+            MatchOption next ⊤ (λ lexeme. self.new.at ≡ lexeme.item.start + length lexeme.item.raw.now)) }
         ensures fault { IfErr result (λ fault. IsFault self.old fault) }
         ensures stays { IfErr result (λ fault. self.new ≡ self.old) }
     {
@@ -179,6 +191,9 @@ impl<'s> Lexer<'s> {
         ensures text { self.new.text ≡ self.old.text }
         ensures dialect { self.new.dialect ≡ self.old.dialect }
         ensures some { IfSome result (λ lexeme. IsNextLexeme self.old self.new lexeme) }
+        ensures gap { IfSome result (λ lexeme. lexeme.item.start ≡ self.old.at + lexeme.bytes) }
+        ensures behind { IfSome result (λ lexeme.
+            self.new.at ≡ lexeme.item.start + length lexeme.item.raw.now) }
         ensures plain { IfSome result (λ lexeme. IsTrue (list_all (is_in_range 0x20 0x7E) lexeme.item.raw.now)) }
         ensures itself { IfSome result (λ lexeme. IsTrue (list_all is_plain lexeme.item.raw.now)) }
         ensures none { IfNone result (self.new ≡ self.old) }

@@ -119,6 +119,7 @@ pub(crate) fn begin_plain<'s>(text: &Chars<'s>) -> Option<Begun<'s>>
     requires { IsSpanned text.now }
     ensures gap { IfSome result (λ begun. IsGap text.now begun.lines begun.bytes begun.text) }
     ensures begun { IfSome result (λ begun. IsBegun begun.text begun.first begun.behind) }
+    ensures at { IfSome result (λ begun. begun.text.at ≡ text.now.at + begun.bytes) }
     ensures ink { IfSome result (λ begun. IsFalse (is_white begun.first.byte || is_new_line begun.first.byte)) }
     ensures plain { IfSome result (λ begun. (begun.first.from ≡ begun.text.at) × (begun.first.to ≡ begun.text.at + 1)) }
 {
@@ -130,7 +131,7 @@ pub(crate) fn begin_plain<'s>(text: &Chars<'s>) -> Option<Begun<'s>>
         if !bytes::is_blank(first.byte) {
             return Some(Begun {
                 lines,
-                bytes: (rest.at() - text.at()) as u32,
+                bytes: first.from - text.at() as u32,
                 text: rest,
                 first,
                 behind,

@@ -2,7 +2,9 @@
 use Rattle.std.proofs.Common.{◌≡◌, ◌==◌, ◌∙◌, ℕ, ◌+◌, ◌-◌, ◌≤◌, List, [], ◌∷◌, ◌++◌, length, take, drop, sym, ap, subst, arith}
 use Rattle.std.specs.Prelude.{Option, Some, None, MatchOption}
 use Rattle.c_chars.specs.declared.Dialect.{Dialect}
-use Rattle.c_grammar.specs.Text.{IsStep, start_of, end_of, raw_of}
+use Rattle.c_grammar.specs.Text.{IsStep, Left, start_of, end_of, raw_of}
+use Rattle.c_chars.specs.declared.LogicalChar.{LogicalChar}
+use Rattle.c_chars.proofs.Spans.{Ascend}
 use Rattle.c_chars.specs.Characters.{bytes_of}
 use Rattle.c_grammar.specs.Grammar.{Unended}
 use Rattle.c_grammar.specs.Items.{IsLongest}
@@ -65,6 +67,30 @@ next_kept d text old new entries at lexeme text_is dialect_is before next told h
     let all : IsKeptUpTo d text new.left (entries ++ made ∷ []) (made.start + made.len) =
     kept_step d text old.left new.left entries made at (made.start + made.len) next.next.read before (step_of d old new lexeme dialect_is next) span same behind.within plain stops in
     subst (λ (e : Entry). IsKeptUpTo d text new.left (entries ++ e ∷ []) (e.start + e.len)) (sym entry_is) all
+
+-- the same, where the lexer tells the offsets
+pub next_kept_behind : (d : Dialect) (text : List ℕ) (old new : Reading) (entries : List Entry) (lexeme : Lexeme)
+    → old.text ≡ text → old.dialect ≡ d → IsKeptUpTo d text old.left entries old.at → IsNextLexeme old new lexeme
+    → new.at ≡ lexeme.item.start + length lexeme.item.raw.now
+    → (told : Told) → IsTold told lexeme.item.raw.now
+    → (gap : ℕ) → gap ≡ old.at
+    → (entry : Entry) → entry ≡ entry_of lexeme gap told
+    → IsKeptUpTo d text new.left (entries ++ entry ∷ []) new.at
+next_kept_behind d text old new entries lexeme text_is dialect_is before next behind told holds gap gap_is entry entry_is =
+    let same : entry ≡ entry_of lexeme old.at told = entry_is ∙ ap (λ k. entry_of lexeme k told) gap_is in
+    let stop : entry.start + entry.len ≡ new.at = ap (λ (e : Entry). e.start + e.len) same ∙ sym behind in
+    subst (λ k. IsKeptUpTo d text new.left (entries ++ entry ∷ []) k) stop
+    (next_kept d text old new entries old.at lexeme text_is dialect_is before next told holds entry same)
+
+ascend_within : (at stop : ℕ) (s : List LogicalChar) → Ascend at stop s → at ≤ stop
+ascend_within at stop [] up = up
+ascend_within at stop (c ∷ s) up =
+    let more = ascend_within c.to stop s up.2 in
+    omega (arith, up.0, up.1, more)
+
+-- the items that were read end within the text
+pub kept_within : (d : Dialect) (text : List ℕ) (left : Left) (entries : List Entry) (at : ℕ) → IsKeptUpTo d text left entries at → at ≤ length text
+kept_within d text left entries at kept = ascend_within at (length text) left.chars kept.up
 
 -- an open comment behind the items that were read
 pub kept_open : (d : Dialect) (text : List ℕ) (old : Reading) (entries : List Entry) (at start : ℕ) → old.dialect ≡ d → IsKeptUpTo d text old.left entries at

@@ -1,28 +1,16 @@
 //! Reads a text into an arena.
 
 ghost use Rattle.std.specs.Prelude.{◌≡◌, ◌<◌, ◌≤◌, ◌+◌, length, IfOk, IfErr};
-ghost use Rattle.c_chars.specs.Characters.{mark_len};
 ghost use Rattle.c_chars.specs.declared.TheConstants.{LIMIT};
 ghost use Rattle.token_arena.specs.Building.{IsArenaOf, IsCause};
 ghost use Rattle.token_arena.specs.Entries.{AreEntries};
 
-use crate::arena::{Entry, MARK, TokenArena};
+use crate::arena::{Entry, TokenArena};
 use crate::facts::{Told, entry_of, told_by_bytes};
 use crate::fault::ArenaFault;
 use bumpalo::Bump;
 use bumpalo::collections::into_bump_slice;
 use c_lexer::{Dialect, LIMIT, LexFault, Lexer};
-
-/// How many bytes a byte order mark takes that the text begins with.
-fn mark_len(text: &[u8]) -> u32
-    ensures { result ≡ mark_len text.now }
-{
-    if text.starts_with(&MARK) {
-        MARK.len() as u32
-    } else {
-        0
-    }
-}
 
 /// The entries of all items of a text.
 fn entries_of<'a>(bump: &'a Bump, text: &[u8], dialect: Dialect) -> Result<&'a [Entry], ArenaFault>
@@ -33,21 +21,17 @@ fn entries_of<'a>(bump: &'a Bump, text: &[u8], dialect: Dialect) -> Result<&'a [
     // Few texts have more items than this, and memory that holds none is never touched.
     let mut entries = Vec::with_capacity(bump, text.len() / 2)?;
     let mut lexer = Lexer::new(text, dialect);
-    let mut at = mark_len(text);
     loop {
+        let gap = lexer.at() as u32;
         if let Some(lexeme) = lexer.next_plain_lexeme() {
-            let entry = entry_of(&lexeme, at, Told::Itself);
-            entries.push(entry)?;
-            at = entry.start + entry.len;
+            entries.push(entry_of(&lexeme, gap, Told::Itself))?;
             continue;
         }
         // By a second reader, so that the first needs no place in memory.
         let mut other = lexer.ahead();
         match other.next_any() {
             Ok(Some(lexeme)) => {
-                let entry = entry_of(&lexeme, at, told_by_bytes(lexeme.item.raw));
-                entries.push(entry)?;
-                at = entry.start + entry.len;
+                entries.push(entry_of(&lexeme, gap, told_by_bytes(lexeme.item.raw)))?;
                 lexer = other;
             }
             Ok(None) => return Ok(into_bump_slice(entries)),

@@ -71,7 +71,8 @@ returns-then-not-is_blank-clause-gap c =
     let chars = sym (ap (λ z. z.chars) c.loop-first.invariant.behind_is) ∙ c.in-Some.ensures.some.0 in
     let stops = ap (λ s. starts (λ x. is_white x || is_new_line x) (bytes_of s)) chars ∙ (sym c.is_blank.ensures ∙ c.if-not-is_blank.true) in
     let invariant = c.loop-first.invariant in
-    gap_ended c.args.text.now c.loop-first.rest c.loop-first.lines _ stops invariant.lines_are (omega (arith, c.at.ensures, c.at-then-not-is_blank.ensures, invariant.later, invariant.fits, invariant.bytes_are)) invariant.rest_is
+    let at_is = ap (λ z. z.at) invariant.behind_is in
+    gap_ended c.args.text.now c.loop-first.rest c.loop-first.lines _ stops invariant.lines_are (omega (arith, at_is, c.in-Some.ensures.plain.0, c.at.ensures, invariant.later, invariant.fits, invariant.bytes_are)) invariant.rest_is
 
 pub returns-then-not-is_blank-clause-begun : goal.returns-then-not-is_blank-clause-begun
 returns-then-not-is_blank-clause-begun c = record {
@@ -84,3 +85,8 @@ pub returns-then-not-is_blank-clause-plain : goal.returns-then-not-is_blank-clau
 returns-then-not-is_blank-clause-plain c =
     let at_is = ap (λ z. z.at) c.loop-first.invariant.behind_is in
     (c.in-Some.ensures.plain.0 ∙ at_is, c.in-Some.ensures.plain.1 ∙ ap (λ k. k + 1) at_is)
+
+pub returns-then-not-is_blank-clause-at : goal.returns-then-not-is_blank-clause-at
+returns-then-not-is_blank-clause-at c =
+    let at_is = ap (λ z. z.at) c.loop-first.invariant.behind_is in
+    omega (arith, at_is, c.in-Some.ensures.plain.0, c.at.ensures, c.loop-first.invariant.later, c.loop-first.invariant.fits)

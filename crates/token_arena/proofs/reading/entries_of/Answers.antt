@@ -1,97 +1,96 @@
 use Rattle.std.proofs.Common.{◌∙◌, ◌<◌, length, sym, subst, ap, arith}
+use Rattle.c_chars.specs.Characters.{mark_len}
 use Rattle.c_lexer.specs.Reading.{Reading}
 use Rattle.token_arena.specs.declared.facts.Told.{Told}
 use Rattle.token_arena.proofs.KeptLemmas.{IsKeptUpTo, kept_begun, kept_ended}
-use Rattle.token_arena.proofs.NextLemmas.{next_behind, next_kept, at_some, at_none}
+use Rattle.token_arena.proofs.NextLemmas.{next_behind, next_kept_behind, kept_within, at_some, at_none}
 use Rattle.token_arena.proofs.Spans.{step_shorter}
 use Rattle.token_arena.proofs.reading.entries_of.Goals as goal
 
-pub loop-lexeme-init : goal.loop-lexeme-init
-loop-lexeme-init c = record {
+pub loop-gap-init : goal.loop-gap-init
+loop-gap-init c = record {
   text_stays = c.new-lexer.ensures.text;
   dialect_stays = c.new-lexer.ensures.dialect;
   kept =
-      subst (λ left. IsKeptUpTo c.args.dialect c.args.text.now left c.in_ok-entries.entries.items c.mark_len-at.result) (sym c.new-lexer.ensures.left)
-      (rw (c.in_ok-entries.ensures.items, c.mark_len-at.ensures) (kept_begun c.args.dialect c.args.text.now));
+      subst (λ k. IsKeptUpTo c.args.dialect c.args.text.now c.new-lexer.result.left c.in_ok-entries.entries.items k) (sym c.new-lexer.ensures.at)
+      (subst (λ left. IsKeptUpTo c.args.dialect c.args.text.now left c.in_ok-entries.entries.items (mark_len c.args.text.now)) (sym c.new-lexer.ensures.left)
+      (rw c.in_ok-entries.ensures.items (kept_begun c.args.dialect c.args.text.now)));
 }
 
 -- an item that plain bytes tell
 
-pub entry_of-entry-requires-clause-fits : goal.entry_of-entry-requires-clause-fits
-entry_of-entry-requires-clause-fits c =
-    omega (arith, (next_behind _ _ _ _ _ _ c.in-Some.lexeme c.loop-lexeme.invariant.text_stays c.loop-lexeme.invariant.kept c.in-Some.ensures.some).within, c.requires.fits)
+pub entry_of-requires-clause-fits : goal.entry_of-requires-clause-fits
+entry_of-requires-clause-fits c =
+    omega (arith, (next_behind _ _ _ _ _ _ c.in-Some.lexeme c.loop-gap.invariant.text_stays c.loop-gap.invariant.kept c.in-Some.ensures.some).within, c.requires.fits)
 
-pub entry_of-entry-requires-clause-order : goal.entry_of-entry-requires-clause-order
-entry_of-entry-requires-clause-order c =
-    (next_behind _ _ _ _ _ _ c.in-Some.lexeme c.loop-lexeme.invariant.text_stays c.loop-lexeme.invariant.kept c.in-Some.ensures.some).later
+pub entry_of-requires-clause-order : goal.entry_of-requires-clause-order
+entry_of-requires-clause-order c =
+    let within = kept_within c.args.dialect c.args.text.now c.loop-gap.lexer.left c.loop-gap.entries.items c.loop-gap.lexer.at c.loop-gap.invariant.kept in
+    omega (arith, within, c.requires.fits, c.at-gap.ensures, (next_behind _ _ _ _ _ _ c.in-Some.lexeme c.loop-gap.invariant.text_stays c.loop-gap.invariant.kept c.in-Some.ensures.some).later)
 
-pub overflow_add-at : goal.overflow_add-at
-overflow_add-at c =
-    let within = (next_behind _ _ _ _ _ _ c.in-Some.lexeme c.loop-lexeme.invariant.text_stays c.loop-lexeme.invariant.kept c.in-Some.ensures.some).within in
-    rw c.entry_of-entry.ensures (omega (arith, within, c.requires.fits))
+pub loop-gap-smaller-in-Some : goal.loop-gap-smaller-in-Some
+loop-gap-smaller-in-Some c = (step_shorter _ _ _ _ c.in-Some.ensures.some.next.step).1
 
-pub loop-lexeme-smaller-in-Some : goal.loop-lexeme-smaller-in-Some
-loop-lexeme-smaller-in-Some c = (step_shorter _ _ _ _ c.in-Some.ensures.some.next.step).1
-
-pub loop-lexeme-preserved-in-Some : goal.loop-lexeme-preserved-in-Some
-loop-lexeme-preserved-in-Some c = record {
-  text_stays = c.in-Some.ensures.text ∙ c.loop-lexeme.invariant.text_stays;
-  dialect_stays = c.in-Some.ensures.dialect ∙ c.loop-lexeme.invariant.dialect_stays;
-  kept =
-      rw c.in_ok-push.ensures.items
-      (next_kept _ _ _ _ _ _ c.in-Some.lexeme c.loop-lexeme.invariant.text_stays c.loop-lexeme.invariant.dialect_stays c.loop-lexeme.invariant.kept c.in-Some.ensures.some Told.Itself (c.in-Some.ensures.plain, c.in-Some.ensures.itself) _ c.entry_of-entry.ensures);
-}
+pub loop-gap-preserved-in-Some : goal.loop-gap-preserved-in-Some
+loop-gap-preserved-in-Some c =
+    let within = kept_within c.args.dialect c.args.text.now c.loop-gap.lexer.left c.loop-gap.entries.items c.loop-gap.lexer.at c.loop-gap.invariant.kept in
+    record {
+      text_stays = c.in-Some.ensures.text ∙ c.loop-gap.invariant.text_stays;
+      dialect_stays = c.in-Some.ensures.dialect ∙ c.loop-gap.invariant.dialect_stays;
+      kept =
+          rw c.in_ok-push.ensures.items
+          (next_kept_behind _ _ _ _ _ c.in-Some.lexeme c.loop-gap.invariant.text_stays c.loop-gap.invariant.dialect_stays c.loop-gap.invariant.kept c.in-Some.ensures.some c.in-Some.ensures.behind Told.Itself (c.in-Some.ensures.plain, c.in-Some.ensures.itself) _
+          (omega (arith, within, c.requires.fits, c.at-gap.ensures)) _ c.entry_of.ensures);
+    }
 
 -- any other item: the reader stands where it stood
 
-pub entry_of-entry-requires-in-Ok-Some-clause-fits : goal.entry_of-entry-requires-in-Ok-Some-clause-fits
-entry_of-entry-requires-in-Ok-Some-clause-fits c =
+pub entry_of-requires-in-Ok-Some-clause-fits : goal.entry_of-requires-in-Ok-Some-clause-fits
+entry_of-requires-in-Ok-Some-clause-fits c =
     let same = c.ahead-other.ensures ∙ c.in_default.ensures.none in
-    let text_is = ap (λ (r : Reading). r.text) same ∙ c.loop-lexeme.invariant.text_stays in
-    let kept = subst (λ (r : Reading). IsKeptUpTo c.args.dialect c.args.text.now r.left c.loop-lexeme.entries.items c.loop-lexeme.at) (sym same) c.loop-lexeme.invariant.kept in
+    let text_is = ap (λ (r : Reading). r.text) same ∙ c.loop-gap.invariant.text_stays in
+    let kept = subst (λ (r : Reading). IsKeptUpTo c.args.dialect c.args.text.now r.left c.loop-gap.entries.items r.at) (sym same) c.loop-gap.invariant.kept in
     let next = at_some _ _ _ _ c.in-Ok-Some.field-0-is c.in-Ok-Some.ensures.some in
     omega (arith, (next_behind _ _ _ _ _ _ c.in-Ok-Some.lexeme text_is kept next).within, c.requires.fits)
 
-pub entry_of-entry-requires-in-Ok-Some-clause-order : goal.entry_of-entry-requires-in-Ok-Some-clause-order
-entry_of-entry-requires-in-Ok-Some-clause-order c =
+pub entry_of-requires-in-Ok-Some-clause-order : goal.entry_of-requires-in-Ok-Some-clause-order
+entry_of-requires-in-Ok-Some-clause-order c =
     let same = c.ahead-other.ensures ∙ c.in_default.ensures.none in
-    let text_is = ap (λ (r : Reading). r.text) same ∙ c.loop-lexeme.invariant.text_stays in
-    let kept = subst (λ (r : Reading). IsKeptUpTo c.args.dialect c.args.text.now r.left c.loop-lexeme.entries.items c.loop-lexeme.at) (sym same) c.loop-lexeme.invariant.kept in
+    let text_is = ap (λ (r : Reading). r.text) same ∙ c.loop-gap.invariant.text_stays in
+    let kept = subst (λ (r : Reading). IsKeptUpTo c.args.dialect c.args.text.now r.left c.loop-gap.entries.items r.at) (sym same) c.loop-gap.invariant.kept in
     let next = at_some _ _ _ _ c.in-Ok-Some.field-0-is c.in-Ok-Some.ensures.some in
-    (next_behind _ _ _ _ _ _ c.in-Ok-Some.lexeme text_is kept next).later
+    let within = kept_within c.args.dialect c.args.text.now c.loop-gap.lexer.left c.loop-gap.entries.items c.loop-gap.lexer.at c.loop-gap.invariant.kept in
+    let at_is = ap (λ (r : Reading). r.at) same in
+    omega (arith, at_is, within, c.requires.fits, c.at-gap.ensures, (next_behind _ _ _ _ _ _ c.in-Ok-Some.lexeme text_is kept next).later)
 
-pub overflow_add-at-in-Ok-Some : goal.overflow_add-at-in-Ok-Some
-overflow_add-at-in-Ok-Some c =
-    let same = c.ahead-other.ensures ∙ c.in_default.ensures.none in
-    let text_is = ap (λ (r : Reading). r.text) same ∙ c.loop-lexeme.invariant.text_stays in
-    let kept = subst (λ (r : Reading). IsKeptUpTo c.args.dialect c.args.text.now r.left c.loop-lexeme.entries.items c.loop-lexeme.at) (sym same) c.loop-lexeme.invariant.kept in
-    let next = at_some _ _ _ _ c.in-Ok-Some.field-0-is c.in-Ok-Some.ensures.some in
-    let within = (next_behind _ _ _ _ _ _ c.in-Ok-Some.lexeme text_is kept next).within in
-    rw c.entry_of-entry-in-Ok-Some.ensures (omega (arith, within, c.requires.fits))
-
-pub loop-lexeme-smaller : goal.loop-lexeme-smaller
-loop-lexeme-smaller c =
+pub loop-gap-smaller : goal.loop-gap-smaller
+loop-gap-smaller c =
     let same = c.ahead-other.ensures ∙ c.in_default.ensures.none in
     let next = at_some _ _ _ _ c.in-Ok-Some.field-0-is c.in-Ok-Some.ensures.some in
     subst (λ (r : Reading). length c.next_any.new.self.left.chars < length r.left.chars) same (step_shorter _ _ _ _ next.next.step).1
 
-pub loop-lexeme-preserved : goal.loop-lexeme-preserved
-loop-lexeme-preserved c =
+pub loop-gap-preserved : goal.loop-gap-preserved
+loop-gap-preserved c =
     let same = c.ahead-other.ensures ∙ c.in_default.ensures.none in
-    let text_is = ap (λ (r : Reading). r.text) same ∙ c.loop-lexeme.invariant.text_stays in
-    let dialect_is = ap (λ (r : Reading). r.dialect) same ∙ c.loop-lexeme.invariant.dialect_stays in
-    let kept = subst (λ (r : Reading). IsKeptUpTo c.args.dialect c.args.text.now r.left c.loop-lexeme.entries.items c.loop-lexeme.at) (sym same) c.loop-lexeme.invariant.kept in
+    let text_is = ap (λ (r : Reading). r.text) same ∙ c.loop-gap.invariant.text_stays in
+    let dialect_is = ap (λ (r : Reading). r.dialect) same ∙ c.loop-gap.invariant.dialect_stays in
+    let kept = subst (λ (r : Reading). IsKeptUpTo c.args.dialect c.args.text.now r.left c.loop-gap.entries.items r.at) (sym same) c.loop-gap.invariant.kept in
     let next = at_some _ _ _ _ c.in-Ok-Some.field-0-is c.in-Ok-Some.ensures.some in
+    let within = kept_within c.args.dialect c.args.text.now c.loop-gap.lexer.left c.loop-gap.entries.items c.loop-gap.lexer.at c.loop-gap.invariant.kept in
+    let at_is = ap (λ (r : Reading). r.at) same in
     record {
       text_stays = c.in-Ok-Some.ensures.text ∙ text_is;
       dialect_stays = c.in-Ok-Some.ensures.dialect ∙ dialect_is;
-      kept = rw c.in_ok-push-in-Ok-Some.ensures.items (next_kept _ _ _ _ _ _ c.in-Ok-Some.lexeme text_is dialect_is kept next c.told_by_bytes.result c.told_by_bytes.ensures _ c.entry_of-entry-in-Ok-Some.ensures);
+      kept =
+          rw c.in_ok-push-in-Ok-Some.ensures.items
+          (next_kept_behind _ _ _ _ _ c.in-Ok-Some.lexeme text_is dialect_is kept next (at_some _ _ _ _ c.in-Ok-Some.field-0-is c.in-Ok-Some.ensures.behind) c.told_by_bytes.result c.told_by_bytes.ensures _
+          (omega (arith, at_is, within, c.requires.fits, c.at-gap.ensures)) _ c.entry_of-in-Ok-Some.ensures);
     }
 
 pub returns-in-Ok-None-clause-entries : goal.returns-in-Ok-None-clause-entries
 returns-in-Ok-None-clause-entries c =
     let same = c.ahead-other.ensures ∙ c.in_default.ensures.none in
-    let kept = subst (λ (r : Reading). IsKeptUpTo c.args.dialect c.args.text.now r.left c.loop-lexeme.entries.items c.loop-lexeme.at) (sym same) c.loop-lexeme.invariant.kept in
+    let kept = subst (λ (r : Reading). IsKeptUpTo c.args.dialect c.args.text.now r.left c.loop-gap.entries.items r.at) (sym same) c.loop-gap.invariant.kept in
     rw c.into_bump_slice.ensures
-    (kept_ended c.args.dialect c.args.text.now c.ahead-other.result.left c.loop-lexeme.entries.items c.loop-lexeme.at c.requires.fits kept
+    (kept_ended c.args.dialect c.args.text.now c.ahead-other.result.left c.loop-gap.entries.items c.ahead-other.result.at c.requires.fits kept
     (at_none _ _ _ c.in-Ok-None.field-0-is c.in-Ok-None.ensures.some))

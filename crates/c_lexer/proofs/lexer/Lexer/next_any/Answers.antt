@@ -1,4 +1,4 @@
-use Rattle.std.proofs.Common.{◌==◌, ◌∙◌, ◌-◌, not, refl, sym, subst, ap, take, drop}
+use Rattle.std.proofs.Common.{◌==◌, ◌∙◌, ◌-◌, not, refl, sym, subst, ap, arith, length, take, drop}
 use Rattle.std.specs.Prelude.{IsTrue}
 use Rattle.c_chars.specs.Characters.{bytes_of}
 use Rattle.c_grammar.specs.Items.{is_gap}
@@ -10,7 +10,7 @@ use Rattle.c_lexer.proofs.Backslashes.{slashed_rest}
 use Rattle.c_lexer.proofs.FirstBytes.{first_there}
 use Rattle.c_lexer.proofs.Gaps.{gap_lines}
 use Rattle.c_lexer.proofs.Lexemes.{lexeme_there, some_before}
-use Rattle.c_lexer.proofs.NextItems.{gap_of, at_rest, spanned, begins_item, only_gap, bounds, fault_there, next_there}
+use Rattle.c_lexer.proofs.NextItems.{gap_of, at_rest, spanned, begins_item, only_gap, bounds, fault_there, length-between, next_there}
 use Rattle.c_lexer.proofs.PlainBytes.{raw_rest}
 use Rattle.c_lexer.proofs.lexer.Lexer.next_any.Goals as goal
 
@@ -75,8 +75,8 @@ invariant_of-self c = (
 
 pub returns-in-Ok-clause-some : goal.returns-in-Ok-clause-some
 returns-in-Ok-clause-some c =
-    let old : Reading = record { text = c.self.inside.text.now; dialect = c.self.inside.dialect; left = record { place = place_of c.self.inside.standing; chars = c.self.inside.chars.chars } } in
-    let new : Reading = record { text = c.self.inside.text.now; dialect = c.self.inside.dialect; left = record { place = place_of c.past_item-self-inside.result; chars = c.in-Ok.left.chars } } in
+    let old : Reading = record { text = c.self.inside.text.now; dialect = c.self.inside.dialect; left = record { place = place_of c.self.inside.standing; chars = c.self.inside.chars.chars }; at = c.self.inside.chars.at } in
+    let new : Reading = record { text = c.self.inside.text.now; dialect = c.self.inside.dialect; left = record { place = place_of c.past_item-self-inside.result; chars = c.in-Ok.left.chars }; at = c.in-Ok.left.at } in
     let new_line = ap (λ k. not (k == 0)) c.behind_gap-gap.ensures.lines ∙ gap_lines c.self.inside.chars.chars in
     let next : IsNextItem old new c.in-Ok.kind c.in-Some.first.from c.between-raw.result.now =
     next_there c.self.inside.text.now c.self.inside.dialect (place_of c.self.inside.standing) (place_of c.past_gap-standing.result) (place_of c.past_item-self-inside.result)
@@ -94,9 +94,18 @@ returns-in-Ok-clause-some c =
     (lexeme_there old new c.self.inside.chars c.behind_gap-gap.result.rest c.in-Ok.left (place_of c.past_gap-standing.result) c.in-Ok.kind lexeme c.self.invariant.0 refl c.behind_gap-gap.ensures.rest
     c.in-Ok.ensures refl c.behind_gap-gap.ensures.lines c.behind_gap-gap.ensures.bytes refl c.is_backslash_last-back.ensures next)
 
+pub returns-in-Ok-clause-behind : goal.returns-in-Ok-clause-behind
+returns-in-Ok-clause-behind c =
+    let rest = at_rest c.self.inside.text.now c.self.inside.dialect c.self.inside.chars c.behind_gap-gap.result.rest (gap_of c.self.inside.chars) c.self.invariant.0 c.behind_gap-gap.ensures.rest in
+    let within =
+    bounds c.self.inside.text.now c.self.inside.dialect (place_of c.past_gap-standing.result) c.behind_gap-gap.result.rest c.in-Ok.left c.in-Ok.kind c.in-Some.first rest (sym c.peek.ensures ∙ c.in-Some.is) c.in-Ok.ensures in
+    let len = length-between c.in-Some.first.from c.in-Ok.left.at c.self.inside.text.now within.0 within.1 in
+    let same = ap length (c.between-raw.ensures ∙ ap (λ k. take (k - c.in-Some.first.from) (drop c.in-Some.first.from c.self.inside.text.now)) c.at.ensures) in
+    omega (arith, len, same, within.0)
+
 pub returns-in-Err-clause-fault : goal.returns-in-Err-clause-fault
 returns-in-Err-clause-fault c =
     subst (λ v. IsFault v c.fault_of.result) c.self.view_is
-    (subst (λ f. IsFault (record { text = c.self.inside.text.now; dialect = c.self.inside.dialect; left = record { place = place_of c.self.inside.standing; chars = c.self.inside.chars.chars } }) f) (sym c.fault_of.ensures)
+    (subst (λ f. IsFault (record { text = c.self.inside.text.now; dialect = c.self.inside.dialect; left = record { place = place_of c.self.inside.standing; chars = c.self.inside.chars.chars }; at = c.self.inside.chars.at }) f) (sym c.fault_of.ensures)
     (fault_there c.self.inside.text.now c.self.inside.dialect (place_of c.self.inside.standing) c.self.inside.chars c.behind_gap-gap.result.rest c.in-Some.first c.in-Err.stop c.self.invariant.0
     c.behind_gap-gap.ensures.rest (sym c.peek.ensures ∙ c.in-Some.is) c.in-Err.ensures))

@@ -1,4 +1,4 @@
-use Rattle.std.proofs.Common.{◌==◌, ◌∙◌, ◌-◌, false, not, refl, sym, subst, ap, take, drop}
+use Rattle.std.proofs.Common.{◌==◌, ◌∙◌, ◌+◌, ◌-◌, false, not, refl, sym, subst, ap, arith, length, take, drop}
 use Rattle.std.specs.Prelude.{slice_get}
 use Rattle.std.specs.Int.{is_in_range}
 use Rattle.std.specs.List.{list_all}
@@ -11,7 +11,7 @@ use Rattle.c_lexer.proofs.Gaps.{gap_lines}
 use Rattle.c_lexer.proofs.Lexemes.{lexeme_there}
 use Rattle.c_lexer.proofs.Plains.{begun_first}
 use Rattle.c_lexer.proofs.PlainBytes.{item_plain, item_printable, items_told, raw_each, raw_rest}
-use Rattle.c_lexer.proofs.NextItems.{spanned, gap_of, at_rest, bounds, next_there}
+use Rattle.c_lexer.proofs.NextItems.{spanned, gap_of, at_rest, bounds, length-between, next_there}
 use Rattle.c_lexer.proofs.lexer.Lexer.next_plain_lexeme.Goals as goal
 
 pub cut_begun-requires-clause-dialect : goal.cut_begun-requires-clause-dialect
@@ -41,8 +41,8 @@ invariant_of-self c =
 
 pub returns-clause-some : goal.returns-clause-some
 returns-clause-some c =
-    let old : Reading = record { text = c.self.inside.text.now; dialect = c.self.inside.dialect; left = record { place = place_of c.self.inside.standing; chars = c.self.inside.chars.chars } } in
-    let new : Reading = record { text = c.self.inside.text.now; dialect = c.self.inside.dialect; left = record { place = place_of c.in-Some-past_begun.past; chars = c.in-Some-cut_begun.left.chars } } in
+    let old : Reading = record { text = c.self.inside.text.now; dialect = c.self.inside.dialect; left = record { place = place_of c.self.inside.standing; chars = c.self.inside.chars.chars }; at = c.self.inside.chars.at } in
+    let new : Reading = record { text = c.self.inside.text.now; dialect = c.self.inside.dialect; left = record { place = place_of c.in-Some-past_begun.past; chars = c.in-Some-cut_begun.left.chars }; at = c.in-Some-cut_begun.left.at } in
     let gap = c.in-Some.ensures.gap in
     let rest = at_rest c.self.inside.text.now c.self.inside.dialect c.self.inside.chars c.in-Some.begun.text (gap_of c.self.inside.chars) c.self.invariant.0 gap.rest_is in
     let told = items_told c.in-Some.begun.text c.in-Some.begun.behind c.in-Some-cut_begun.left c.in-Some.begun.first (spanned c.self.inside.text.now c.self.inside.dialect c.in-Some.begun.text rest)
@@ -64,6 +64,18 @@ returns-clause-some c =
     subst (λ v. IsNextLexeme v new lexeme) c.self.view_is
     (lexeme_there old new c.self.inside.chars c.in-Some.begun.text c.in-Some-cut_begun.left (place_of c.past_gap-standing.result) c.in-Some-cut_begun.kind lexeme c.self.invariant.0 refl gap.rest_is
     c.in-Some-cut_begun.ensures.next refl gap.lines_are gap.bytes_are refl (λ n within e. sym (told n within e)) next)
+
+pub returns-clause-gap : goal.returns-clause-gap
+returns-clause-gap c = c.in-Some.ensures.plain.0 ∙ (c.in-Some.ensures.at ∙ ap (λ r. r.at + c.in-Some.begun.bytes) c.self.view_is)
+
+pub returns-clause-behind : goal.returns-clause-behind
+returns-clause-behind c =
+    let rest = at_rest c.self.inside.text.now c.self.inside.dialect c.self.inside.chars c.in-Some.begun.text (gap_of c.self.inside.chars) c.self.invariant.0 c.in-Some.ensures.gap.rest_is in
+    let within =
+    bounds c.self.inside.text.now c.self.inside.dialect (place_of c.past_gap-standing.result) c.in-Some.begun.text c.in-Some-cut_begun.left c.in-Some-cut_begun.kind c.in-Some.begun.first rest (ap (λ z. slice_get z 0) c.in-Some.ensures.begun.chars_are) c.in-Some-cut_begun.ensures.next in
+    let len = length-between c.in-Some.begun.first.from c.in-Some-cut_begun.left.at c.self.inside.text.now within.0 within.1 in
+    let same = ap length (c.between-raw.ensures ∙ ap (λ k. take (k - c.in-Some.begun.first.from) (drop c.in-Some.begun.first.from c.self.inside.text.now)) c.at.ensures) in
+    omega (arith, len, same, within.0)
 
 pub returns-clause-plain : goal.returns-clause-plain
 returns-clause-plain c =
