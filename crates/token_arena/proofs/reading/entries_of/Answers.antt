@@ -7,8 +7,8 @@ use Rattle.token_arena.proofs.NextLemmas.{next_behind, next_kept_behind, kept_wi
 use Rattle.token_arena.proofs.Spans.{step_shorter}
 use Rattle.token_arena.proofs.reading.entries_of.Goals as goal
 
-pub loop-gap-init : goal.loop-gap-init
-loop-gap-init c = record {
+pub loop-lexeme-init : goal.loop-lexeme-init
+loop-lexeme-init c = record {
   text_stays = c.new-lexer.ensures.text;
   dialect_stays = c.new-lexer.ensures.dialect;
   kept =
@@ -21,25 +21,25 @@ loop-gap-init c = record {
 
 pub entry_of-requires-clause-fits : goal.entry_of-requires-clause-fits
 entry_of-requires-clause-fits c =
-    omega (arith, (next_behind _ _ _ _ _ _ c.in-Some.lexeme c.loop-gap.invariant.text_stays c.loop-gap.invariant.kept c.in-Some.ensures.some).within, c.requires.fits)
+    omega (arith, (next_behind _ _ _ _ _ _ c.in-Some.lexeme c.loop-lexeme.invariant.text_stays c.loop-lexeme.invariant.kept c.in-Some.ensures.some).within, c.requires.fits)
 
 pub entry_of-requires-clause-order : goal.entry_of-requires-clause-order
 entry_of-requires-clause-order c =
-    let within = kept_within c.args.dialect c.args.text.now c.loop-gap.lexer.left c.loop-gap.entries.items c.loop-gap.lexer.at c.loop-gap.invariant.kept in
-    omega (arith, within, c.requires.fits, c.at-gap.ensures, (next_behind _ _ _ _ _ _ c.in-Some.lexeme c.loop-gap.invariant.text_stays c.loop-gap.invariant.kept c.in-Some.ensures.some).later)
+    let within = kept_within c.args.dialect c.args.text.now c.loop-lexeme.lexer.left c.loop-lexeme.entries.items c.loop-lexeme.lexer.at c.loop-lexeme.invariant.kept in
+    omega (arith, within, c.requires.fits, c.at-gap.ensures, (next_behind _ _ _ _ _ _ c.in-Some.lexeme c.loop-lexeme.invariant.text_stays c.loop-lexeme.invariant.kept c.in-Some.ensures.some).later)
 
-pub loop-gap-smaller-in-Some : goal.loop-gap-smaller-in-Some
-loop-gap-smaller-in-Some c = (step_shorter _ _ _ _ c.in-Some.ensures.some.next.step).1
+pub loop-lexeme-smaller-in-Some : goal.loop-lexeme-smaller-in-Some
+loop-lexeme-smaller-in-Some c = (step_shorter _ _ _ _ c.in-Some.ensures.some.next.step).1
 
-pub loop-gap-preserved-in-Some : goal.loop-gap-preserved-in-Some
-loop-gap-preserved-in-Some c =
-    let within = kept_within c.args.dialect c.args.text.now c.loop-gap.lexer.left c.loop-gap.entries.items c.loop-gap.lexer.at c.loop-gap.invariant.kept in
+pub loop-lexeme-preserved-in-Some : goal.loop-lexeme-preserved-in-Some
+loop-lexeme-preserved-in-Some c =
+    let within = kept_within c.args.dialect c.args.text.now c.loop-lexeme.lexer.left c.loop-lexeme.entries.items c.loop-lexeme.lexer.at c.loop-lexeme.invariant.kept in
     record {
-      text_stays = c.in-Some.ensures.text ∙ c.loop-gap.invariant.text_stays;
-      dialect_stays = c.in-Some.ensures.dialect ∙ c.loop-gap.invariant.dialect_stays;
+      text_stays = c.in-Some.ensures.text ∙ c.loop-lexeme.invariant.text_stays;
+      dialect_stays = c.in-Some.ensures.dialect ∙ c.loop-lexeme.invariant.dialect_stays;
       kept =
           rw c.in_ok-push.ensures.items
-          (next_kept_behind _ _ _ _ _ c.in-Some.lexeme c.loop-gap.invariant.text_stays c.loop-gap.invariant.dialect_stays c.loop-gap.invariant.kept c.in-Some.ensures.some c.in-Some.ensures.behind Told.Itself (c.in-Some.ensures.plain, c.in-Some.ensures.itself) _
+          (next_kept_behind _ _ _ _ _ c.in-Some.lexeme c.loop-lexeme.invariant.text_stays c.loop-lexeme.invariant.dialect_stays c.loop-lexeme.invariant.kept c.in-Some.ensures.some c.in-Some.ensures.behind Told.Itself (c.in-Some.ensures.plain, c.in-Some.ensures.itself) _
           (omega (arith, within, c.requires.fits, c.at-gap.ensures)) _ c.entry_of.ensures);
     }
 
@@ -48,35 +48,35 @@ loop-gap-preserved-in-Some c =
 pub entry_of-requires-in-Ok-Some-clause-fits : goal.entry_of-requires-in-Ok-Some-clause-fits
 entry_of-requires-in-Ok-Some-clause-fits c =
     let same = c.ahead-other.ensures ∙ c.in_default.ensures.none in
-    let text_is = ap (λ (r : Reading). r.text) same ∙ c.loop-gap.invariant.text_stays in
-    let kept = subst (λ (r : Reading). IsKeptUpTo c.args.dialect c.args.text.now r.left c.loop-gap.entries.items r.at) (sym same) c.loop-gap.invariant.kept in
+    let text_is = ap (λ (r : Reading). r.text) same ∙ c.loop-lexeme.invariant.text_stays in
+    let kept = subst (λ (r : Reading). IsKeptUpTo c.args.dialect c.args.text.now r.left c.loop-lexeme.entries.items r.at) (sym same) c.loop-lexeme.invariant.kept in
     let next = at_some _ _ _ _ c.in-Ok-Some.field-0-is c.in-Ok-Some.ensures.some in
     omega (arith, (next_behind _ _ _ _ _ _ c.in-Ok-Some.lexeme text_is kept next).within, c.requires.fits)
 
 pub entry_of-requires-in-Ok-Some-clause-order : goal.entry_of-requires-in-Ok-Some-clause-order
 entry_of-requires-in-Ok-Some-clause-order c =
     let same = c.ahead-other.ensures ∙ c.in_default.ensures.none in
-    let text_is = ap (λ (r : Reading). r.text) same ∙ c.loop-gap.invariant.text_stays in
-    let kept = subst (λ (r : Reading). IsKeptUpTo c.args.dialect c.args.text.now r.left c.loop-gap.entries.items r.at) (sym same) c.loop-gap.invariant.kept in
+    let text_is = ap (λ (r : Reading). r.text) same ∙ c.loop-lexeme.invariant.text_stays in
+    let kept = subst (λ (r : Reading). IsKeptUpTo c.args.dialect c.args.text.now r.left c.loop-lexeme.entries.items r.at) (sym same) c.loop-lexeme.invariant.kept in
     let next = at_some _ _ _ _ c.in-Ok-Some.field-0-is c.in-Ok-Some.ensures.some in
-    let within = kept_within c.args.dialect c.args.text.now c.loop-gap.lexer.left c.loop-gap.entries.items c.loop-gap.lexer.at c.loop-gap.invariant.kept in
+    let within = kept_within c.args.dialect c.args.text.now c.loop-lexeme.lexer.left c.loop-lexeme.entries.items c.loop-lexeme.lexer.at c.loop-lexeme.invariant.kept in
     let at_is = ap (λ (r : Reading). r.at) same in
     omega (arith, at_is, within, c.requires.fits, c.at-gap.ensures, (next_behind _ _ _ _ _ _ c.in-Ok-Some.lexeme text_is kept next).later)
 
-pub loop-gap-smaller : goal.loop-gap-smaller
-loop-gap-smaller c =
+pub loop-lexeme-smaller : goal.loop-lexeme-smaller
+loop-lexeme-smaller c =
     let same = c.ahead-other.ensures ∙ c.in_default.ensures.none in
     let next = at_some _ _ _ _ c.in-Ok-Some.field-0-is c.in-Ok-Some.ensures.some in
     subst (λ (r : Reading). length c.next_any.new.self.left.chars < length r.left.chars) same (step_shorter _ _ _ _ next.next.step).1
 
-pub loop-gap-preserved : goal.loop-gap-preserved
-loop-gap-preserved c =
+pub loop-lexeme-preserved : goal.loop-lexeme-preserved
+loop-lexeme-preserved c =
     let same = c.ahead-other.ensures ∙ c.in_default.ensures.none in
-    let text_is = ap (λ (r : Reading). r.text) same ∙ c.loop-gap.invariant.text_stays in
-    let dialect_is = ap (λ (r : Reading). r.dialect) same ∙ c.loop-gap.invariant.dialect_stays in
-    let kept = subst (λ (r : Reading). IsKeptUpTo c.args.dialect c.args.text.now r.left c.loop-gap.entries.items r.at) (sym same) c.loop-gap.invariant.kept in
+    let text_is = ap (λ (r : Reading). r.text) same ∙ c.loop-lexeme.invariant.text_stays in
+    let dialect_is = ap (λ (r : Reading). r.dialect) same ∙ c.loop-lexeme.invariant.dialect_stays in
+    let kept = subst (λ (r : Reading). IsKeptUpTo c.args.dialect c.args.text.now r.left c.loop-lexeme.entries.items r.at) (sym same) c.loop-lexeme.invariant.kept in
     let next = at_some _ _ _ _ c.in-Ok-Some.field-0-is c.in-Ok-Some.ensures.some in
-    let within = kept_within c.args.dialect c.args.text.now c.loop-gap.lexer.left c.loop-gap.entries.items c.loop-gap.lexer.at c.loop-gap.invariant.kept in
+    let within = kept_within c.args.dialect c.args.text.now c.loop-lexeme.lexer.left c.loop-lexeme.entries.items c.loop-lexeme.lexer.at c.loop-lexeme.invariant.kept in
     let at_is = ap (λ (r : Reading). r.at) same in
     record {
       text_stays = c.in-Ok-Some.ensures.text ∙ text_is;
@@ -90,7 +90,12 @@ loop-gap-preserved c =
 pub returns-in-Ok-None-clause-entries : goal.returns-in-Ok-None-clause-entries
 returns-in-Ok-None-clause-entries c =
     let same = c.ahead-other.ensures ∙ c.in_default.ensures.none in
-    let kept = subst (λ (r : Reading). IsKeptUpTo c.args.dialect c.args.text.now r.left c.loop-gap.entries.items r.at) (sym same) c.loop-gap.invariant.kept in
+    let kept = subst (λ (r : Reading). IsKeptUpTo c.args.dialect c.args.text.now r.left c.loop-lexeme.entries.items r.at) (sym same) c.loop-lexeme.invariant.kept in
     rw c.into_bump_slice.ensures
-    (kept_ended c.args.dialect c.args.text.now c.ahead-other.result.left c.loop-gap.entries.items c.ahead-other.result.at c.requires.fits kept
+    (kept_ended c.args.dialect c.args.text.now c.ahead-other.result.left c.loop-lexeme.entries.items c.ahead-other.result.at c.requires.fits kept
     (at_none _ _ _ c.in-Ok-None.field-0-is c.in-Ok-None.ensures.some))
+
+pub overflow_cast-gap : goal.overflow_cast-gap
+overflow_cast-gap c =
+    let within = kept_within c.args.dialect c.args.text.now c.loop-lexeme.lexer.left c.loop-lexeme.entries.items c.loop-lexeme.lexer.at c.loop-lexeme.invariant.kept in
+    record { fits = omega (arith, within, c.requires.fits, c.at-gap.ensures) }
